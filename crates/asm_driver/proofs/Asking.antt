@@ -1,0 +1,28 @@
+-- What the matches of a subcommand ask for.
+use Rattle.std.proofs.Common.{◌≡◌, ◌∙◌, ◌<◌, ◌^◌, ℕ, List, Option, Some, None, Result, Ok, Err, ap, codes, option_map}
+use Rattle.std.specs.Prelude.{unwrap_or}
+use Rattle.std.specs.Str.Parse.{ParsesUnsigned, IsNumeral, digits_value, without_leading_plus}
+use Rattle.clap.specs.Words.{Row, Text, one_of, one_text, rows_of}
+use Rattle.clap.specs.Matches.{ReadsOne}
+use Rattle.clap.specs.declared.parser.matches.Found.{Found}
+use Rattle.clap.proofs.WalkLemmas.{one_text-rows}
+use Rattle.asm_driver.specs.Words.{Asks}
+
+-- the number that was read is the one that the digits write
+digits : {E : Type 0} (gives : Text → Result ℕ E → Type 0) (t : Text) (found : Option ℕ)
+    → ((r : Result ℕ E) → gives t r → ParsesUnsigned 32 10 t r) → ReadsOne gives t found
+    → IsNumeral 10 (without_leading_plus t) → digits_value 10 (without_leading_plus t) < 2 ^ 32
+    → unwrap_or found 4096 ≡ digits_value 10 (without_leading_plus t)
+digits gives t (Some n) reads read numeral small = (reads (Ok n) read).1
+digits gives t None reads read numeral small = absurd (reads (Err read.0) read.1 (numeral, small))
+
+pub asks_run : {E : Type 0} (gives : Text → Result ℕ E → Type 0) (s : Option (Text × List Row)) (f : Found) (found : Option ℕ)
+    → ((t : Text) (r : Result ℕ E) → gives t r → ParsesUnsigned 32 10 t r)
+    → Some (rows_of f) ≡ option_map (λ p. p.1) s
+    → ((t : Text) → one_text f (codes "capacity") ≡ Some t → ReadsOne gives t found)
+    → Asks s (unwrap_or found 4096)
+asks_run gives None f found reads r number = tt
+asks_run gives (Some p) f found reads r number =
+    let rows : rows_of f ≡ p.1 = cc (r) in
+    let here : (id : Text) → one_text f id ≡ one_of id p.1 = λ id. one_text-rows f id ∙ ap (one_of id) rows in
+    λ t e numeral small. digits gives t found (reads t) (number t (here (codes "capacity") ∙ e)) numeral small

@@ -1,0 +1,15 @@
+pub mod Lists
+pub mod Reading
+pub mod Arrays
+pub mod Unique
+pub mod Locations
+pub mod States
+pub mod Plans
+pub mod Moves
+pub mod Legal
+pub mod Playing
+pub mod Lines
+pub mod Floats
+pub mod Outcomes
+pub mod Pieces
+pub mod Asking

@@ -1,0 +1,12 @@
+use Rattle.std.proofs.Common.{sym, ◌∙◌, subst}
+use Rattle.serde_json.specs.View.{view}
+use Rattle.asm_driver.specs.Form.{IsValueForm}
+use Rattle.asm_driver.proofs.Reading.{Reads-none}
+use Rattle.asm_driver.proofs.Arrays.{same_two}
+use Rattle.asm_driver.proofs.form.PairFromJson.from_json.Goals as goal
+
+pub returns-in_default-3 : goal.returns-in_default-3
+returns-in_default-3 c = λ p h.
+    let value = view c.in-Some.value.now in
+    let parts = same_two _ _ _ _ (sym h.2 ∙ c.in-Some.ensures.some) in
+    Reads-none IsValueForm value _ c.in_default-3.is c.in_ok-value.ensures p.1 (subst (IsValueForm p.1) parts.1 h.4)

@@ -1,0 +1,11 @@
+pub mod Form
+pub mod History
+pub mod Plan
+pub mod Script
+pub mod Play
+pub mod Player
+pub mod Report
+pub mod Input
+pub mod Output
+pub mod Words
+pub mod Run

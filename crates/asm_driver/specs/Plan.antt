@@ -1,0 +1,21 @@
+-- What a script says: the opening state, and each agent's moves, one for each of its steps.
+use Rattle.std.specs.Prelude.{List, IsTrue, refl}
+use Rattle.std.specs.List.{list_all}
+use Rattle.std.specs.Coded.{Coded, code_by, coded×, coded_list}
+use Rattle.asm_update.specs.Action.{is_regular}
+use Rattle.asm_update.specs.Move.{Move}
+use Rattle.asm_update.specs.State.{State}
+use Rattle.asm_update.specs.declared.action.Instruction.{Instruction}
+
+pub record Plan : Type 0 where
+  pub init : State
+  pub agents : List (List Move)
+
+-- a move of regular updates
+abbrev pub IsRegular : Move → Type 0
+IsRegular M = IsTrue (list_all (λ i. is_regular i.action) M)
+
+-- a plan is stored as a pair
+abbrev pub plan_code : Coded State → Coded Instruction → Coded Plan
+plan_code s i =
+    code_by (State × List (List Move)) (coded× s (coded_list (coded_list (coded_list i)))) (λ p. (p.init, p.agents)) (λ p. record { init = p.0; agents = p.1 }) (λ _. refl)

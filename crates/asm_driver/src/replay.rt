@@ -1,0 +1,39 @@
+//! The state that a history leaves.
+ghost use Rattle.std.specs.Prelude.{◌≡◌, OnOk, IfOk};
+ghost use Rattle.asm_update.specs.Fire.{Part, fire, state_or, state_of};
+ghost use Rattle.asm_driver.specs.History.{moves};
+ghost use Rattle.asm_driver.specs.Plan.{IsRegular};
+
+use crate::history::History;
+use asm_update::{AggError, Instructions, PlainState, fire_plain};
+use std::alloc::{AllocError, Global};
+
+/// Fires a move, unless it clashes.
+fn fire_or_keep(
+    alloc: Global,
+    state: &mut PlainState,
+    instructions: &Instructions,
+) -> Result<(), AllocError>
+    requires { IsRegular instructions.now }
+    ensures { OnOk result ((part : Part)
+        → state.new ≡ state_or state.old (fire part state.old instructions.now)) }
+{
+    match fire_plain(alloc, state, instructions) {
+        Ok(()) | Err(AggError::Clash(_)) => Ok(()),
+        Err(AggError::Memory) => Err(AllocError),
+    }
+}
+
+/// The opening state with the fired moves in order; a move that clashes changes nothing.
+pub fn replay(alloc: Global, history: &History) -> Result<PlainState, AllocError>
+    ensures { IfOk result (λ state. (part : Part)
+        → state ≡ state_of part history.now.init (moves history.now.events)) }
+{
+    let mut state = history.init.copy(alloc)?;
+    for event in history.events.as_slice() {
+        if let Some(instructions) = event.fired_move() {
+            fire_or_keep(alloc, &mut state, instructions)?;
+        }
+    }
+    Ok(state)
+}

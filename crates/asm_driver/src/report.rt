@@ -1,0 +1,145 @@
+//! The report of a played script.
+ghost use Rattle.std.specs.Prelude.{◌≡◌, ◌++◌, false, IfOk, OnOk, string_bytes};
+ghost use Rattle.std.specs.List.{flat_map, enumerate_from};
+ghost use Rattle.serde_json.specs.View.{view};
+ghost use Rattle.serde_json.specs.Written.{has_float, compact_text};
+ghost use Rattle.asm_update.specs.Fire.{Part};
+ghost use Rattle.asm_driver.specs.Form.{location_json_of};
+ghost use Rattle.asm_driver.specs.Report.{line, state_lines, cause_name as name_of_cause, outcome_line, agent_lines, outcome_lines, reason, report_of};
+
+use crate::form::{location_json, pair_json};
+use crate::play::{Outcome, Played};
+use crate::replay::replay;
+use asm_element::{Items, Location};
+use asm_update::{Cause, PlainState};
+use serde_json::Value as Json;
+use std::alloc::{AllocError, Global};
+
+/// Puts the compact text of the JSON at the end.
+fn push_json(alloc: Global, text: &mut String, json: &Json) -> Result<(), AllocError>
+    requires { has_float (view json.now) ≡ false }
+    ensures { OnOk result (string_bytes text.new ≡ string_bytes text.old ++ compact_text (view json.now)) }
+{
+    let compact = json.to_string(alloc)?;
+    text.push_str(compact.as_str())?;
+    Ok(())
+}
+
+fn push_location(alloc: Global, text: &mut String, location: &Location) -> Result<(), AllocError>
+    ensures { OnOk result
+        (string_bytes text.new ≡ string_bytes text.old ++ compact_text (location_json_of location.now)) }
+{
+    push_json(alloc, text, &location_json(alloc, location)?)
+}
+
+/// One line for each location of the state.
+fn push_state(alloc: Global, text: &mut String, state: &PlainState) -> Result<(), AllocError>
+    ensures { OnOk result (string_bytes text.new ≡ string_bytes text.old ++ state_lines state.now) }
+{
+    for (location, value) in state.iter() {
+        push_json(alloc, text, &pair_json(alloc, location, value)?)?;
+        text.push_str("\n")?;
+    }
+    Ok(())
+}
+
+fn cause_name(cause: Cause) -> &'static str
+    ensures { result.now ≡ name_of_cause cause }
+{
+    match cause {
+        Cause::Two => "Two",
+        Cause::Mixed => "Mixed",
+        Cause::Kind => "Kind",
+        Cause::Both => "Both",
+        Cause::Against => "Against",
+        Cause::Short => "Short",
+        Cause::Large => "Large",
+    }
+}
+
+/// The line of a step that didn't fire.
+fn push_outcome(
+    alloc: Global,
+    text: &mut String,
+    agent: usize,
+    step: usize,
+    outcome: &Outcome,
+) -> Result<(), AllocError>
+    ensures { OnOk result
+        (string_bytes text.new ≡ string_bytes text.old ++ outcome_line agent step outcome.now) }
+{
+    if let Outcome::Fired(_) = outcome {
+        return Ok(());
+    }
+    text.push_str(format!(in alloc; "agent {agent} step {step}")?.as_str())?;
+    push_reason(alloc, text, outcome)?;
+    text.push_str("\n")?;
+    Ok(())
+}
+
+/// Why the step didn't fire.
+fn push_reason(alloc: Global, text: &mut String, outcome: &Outcome) -> Result<(), AllocError>
+    ensures { OnOk result (string_bytes text.new ≡ string_bytes text.old ++ reason outcome.now) }
+{
+    match outcome {
+        Outcome::Fired(_) => {}
+        Outcome::Clash(clash) => {
+            text.push_str(" clash ")?;
+            push_location(alloc, text, &clash.at)?;
+            text.push_str(" ")?;
+            text.push_str(cause_name(clash.cause))?;
+        }
+        Outcome::Full => text.push_str(" full")?,
+        Outcome::Term => text.push_str(" term")?,
+        Outcome::Large(at) => {
+            text.push_str(" large ")?;
+            push_location(alloc, text, at)?;
+        }
+        Outcome::Many => text.push_str(" many")?,
+        Outcome::GaveUp => text.push_str(" gave up")?,
+    }
+    Ok(())
+}
+
+fn push_agent(
+    alloc: Global,
+    text: &mut String,
+    agent: usize,
+    outcomes: &[Outcome],
+) -> Result<(), AllocError>
+    ensures { OnOk result
+        (string_bytes text.new ≡ string_bytes text.old ++ agent_lines (agent, outcomes.now)) }
+{
+    for (step, outcome) in outcomes.iter().enumerate() {
+        push_outcome(alloc, text, agent, step, outcome)?;
+    }
+    Ok(())
+}
+
+fn push_outcomes(
+    alloc: Global,
+    text: &mut String,
+    agents: &[Items<Outcome>],
+) -> Result<(), AllocError>
+    ensures { OnOk result
+        (string_bytes text.new ≡ string_bytes text.old ++ outcome_lines agents.now) }
+{
+    for (agent, outcomes) in agents.iter().enumerate() {
+        push_agent(alloc, text, agent, outcomes.as_slice())?;
+    }
+    Ok(())
+}
+
+/// The text that `run` prints: a line for each location of the final state, in ascending order; the
+/// number of fired moves; and a line for each step that didn't fire, agent by agent.
+pub fn report(alloc: Global, played: &Played) -> Result<String, AllocError>
+    ensures { IfOk result (λ text. (part : Part) → string_bytes text ≡ report_of part played.now) }
+{
+    let mut text = String::new(alloc);
+    let state = replay(alloc, &played.history)?;
+    push_state(alloc, &mut text, &state)?;
+    let moves = played.history.moves();
+    text.push_str(format!(in alloc; "moves {moves}\n")?.as_str())?;
+    push_outcomes(alloc, &mut text, played.outcomes.as_slice())?;
+    Ok(text)
+}

@@ -1,0 +1,23 @@
+use Rattle.std.proofs.Common.{sym, ◌∙◌, ◌+◌, arith}
+use Rattle.std.specs.FinMap as map
+use Rattle.std.proofs.lemmas.Map.Views.{All-keys-insert_entry, All-values-insert_entry}
+use Rattle.asm_element.specs.Bag as bag
+use Rattle.asm_element.specs.Element.{IsProper, element_cmp, element_cmp_total, element_cmp-IsAntisymmetric}
+use Rattle.asm_element.proofs.BagTree.{set_count-positive}
+use Rattle.asm_element.proofs.Ordered.{insert-from_tree}
+use Rattle.asm_element.proofs.elem_bag.ElemBag.put.Goals as goal
+
+pub returns-clause-ok : goal.returns-clause-ok
+returns-clause-ok c =
+    let total = bag.count c.args.self.now c.args.element + c.args.n in
+    insert-from_tree element_cmp_total element_cmp-IsAntisymmetric c.self.inside.counts c.insert.new.self c.args.element (c.count-count.result + c.args.n) c.in_ok-insert.ensures.updates.0
+    ∙ (λ i. map.insert (c.self.view_is i) c.args.element (c.count-count.ensures i + c.args.n))
+    ∙ sym (set_count-positive c.args.self.now c.args.element total (omega arith))
+
+pub invariant_of-self-2 : goal.invariant_of-self-2
+invariant_of-self-2 c = (
+  c.insert.ensures.ordered,
+  rw c.in_ok-insert.ensures.entries (All-keys-insert_entry element_cmp c.args.element (c.count-count.result + c.args.n) IsProper c.self.inside.counts.entries c.self.invariant.1 c.proper.ensures),
+  rw c.in_ok-insert.ensures.entries (All-values-insert_entry element_cmp c.args.element (c.count-count.result + c.args.n) bag.IsCount c.self.inside.counts.entries c.self.invariant.2
+      (omega (arith, c.requires.positive), omega (arith, c.requires.fits, c.count-count.ensures))),
+)

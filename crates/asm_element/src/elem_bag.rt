@@ -1,0 +1,133 @@
+ghost use Rattle.std.specs.Prelude.{◌≡◌, ◌↔◌, IsTrue, ◌+◌, ◌-◌, ◌<◌, ◌≤◌, ◌^◌, OnOk, OnErr, IfOk, All};
+ghost use Rattle.std.specs.Cmp.{partial_equiv_from_equiv};
+ghost use Rattle.std.specs.List.Sorted.{IsStrictlySortedBy};
+ghost use Rattle.asm_element.specs.Element.{element_cmp};
+ghost use Rattle.asm_element.specs.Bag as bag;
+ghost use Rattle.asm_element.specs.Same.{bag_eq-equiv};
+
+use crate::element::Element;
+use std::alloc::{AllocError, Global};
+use std::collections::BTreeMap;
+use std::collections::btree_map::Iter;
+use std::marker::Model;
+
+/// A finite bag of elements: how often each is there (CoreASM's bags; here their members are
+/// elements alone). A count is 1 to 4,294,967,295. An element with no count is not there.
+#[derive(Debug, Drop)]
+pub struct ElemBag {
+    counts: BTreeMap<Element, u32>,
+}
+
+impl Model for ElemBag {
+    ghost use Rattle.std.specs.Coded.{coded_ℕ};
+    ghost use Rattle.std.specs.FinMap as map;
+    ghost use Rattle.std.specs.List.Sorted.{IsStrictlySortedBy};
+    ghost use Rattle.std.specs.Prelude.{All};
+    ghost use Rattle.std.specs.Map.{keys_of, values_of};
+    ghost use Rattle.asm_element.specs.Element.{element_cmp, IsProper};
+    ghost use Rattle.asm_element.specs.Bag as bag;
+    ghost use Rattle.asm_element.specs.contracts.element.Element.{the_row as element_row};
+
+    ghost Value = { bag.ElementBag };
+
+    ghost coded = { map.code element_row.coded coded_ℕ };
+
+    ghost view = { λ b. map.from_entries b.counts.entries };
+
+    ghost invariant = { λ b. IsStrictlySortedBy element_cmp (keys_of b.counts.entries)
+        × All IsProper (keys_of b.counts.entries)
+        × All bag.IsCount (values_of b.counts.entries) };
+}
+
+impl ElemBag {
+    /// The bag of no element. It takes no memory.
+    pub fn new(alloc: Global) -> Self
+        ensures { result ≡ bag.empty }
+    {
+        ElemBag {
+            counts: BTreeMap::new(alloc),
+        }
+    }
+
+    /// How often the element is there, which is 0 where it isn't.
+    pub fn count(&self, element: &Element) -> u32
+        ensures { result ≡ bag.count self.now element.now }
+    {
+        self.counts.get(element).copied().unwrap_or(0)
+    }
+
+    /// Adds the element `n` times. `n` is at least 1, and the new count fits `u32`.
+    ///
+    /// After an error, which is want of memory, the bag is unchanged.
+    pub fn put(&mut self, element: Element, n: u32) -> Result<(), AllocError>
+        requires positive { 1 ≤ n }
+        requires fits { bag.count self.old element + n < 2 ^ 32 }
+        ensures ok { OnOk result
+            (self.new ≡ bag.set_count self.old element (bag.count self.old element + n)) }
+        ensures err { OnErr result (self.new ≡ self.old) }
+    {
+        element.proper();
+        let count = self.count(&element);
+        self.counts.insert(element, count + n)?;
+        Ok(())
+    }
+
+    /// Takes the element out `n` times. `n` is at least 1, and at most the count.
+    pub fn take(&mut self, element: &Element, n: u32)
+        requires positive { 1 ≤ n }
+        requires enough { n ≤ bag.count self.old element.now }
+        ensures { let left = bag.count self.old element.now - n in
+            self.new ≡ bag.set_count self.old element.now left }
+    {
+        let count = self.count(element);
+        if count == n {
+            self.counts.remove(element);
+        } else if let Some(held) = self.counts.get_mut(element) {
+            *held = count - n;
+        }
+    }
+
+    /// The elements that are there with their counts, in ascending order.
+    pub fn iter(&self) -> Iter<'_, Element, u32>
+        ensures entries { result ≡ bag.entries self.now }
+        ensures ascending { IsStrictlySortedBy element_cmp (bag.elements self.now) }
+        ensures counts { All bag.IsCount (bag.counts self.now) }
+    {
+        self.counts.iter()
+    }
+
+    /// Does nothing. Its contract tells that the bag is one that a program can hold.
+    pub(crate) fn proper(&self)
+        ensures { bag.IsProper self.now }
+    {
+        let _ = &self.counts;
+    }
+
+    /// The same bag, in memory of its own. The error is want of memory.
+    pub fn copy(&self, alloc: Global) -> Result<ElemBag, AllocError>
+        ensures { IfOk result (λ copy. copy ≡ self.now) }
+    {
+        let mut counts = BTreeMap::new(alloc);
+        for (element, count) in &self.counts {
+            counts.insert(element.copy(alloc)?, *count)?;
+        }
+        Ok(ElemBag { counts })
+    }
+}
+
+impl PartialEq for ElemBag {
+    ghost eq = { bag.bag_eq };
+
+    ghost laws = { partial_equiv_from_equiv bag_eq-equiv };
+
+    fn eq(&self, other: &ElemBag) -> bool
+        ensures eq { result ≡ bag.bag_eq self.now other.now }
+        ensures same { IsTrue result ↔ (self.now ≡ other.now) }
+    {
+        self.counts == other.counts
+    }
+}
+
+impl Eq for ElemBag {
+    ghost laws = { bag_eq-equiv };
+}

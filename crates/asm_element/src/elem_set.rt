@@ -1,0 +1,123 @@
+ghost use Rattle.std.specs.Prelude.{◌≡◌, ◌↔◌, IsTrue, IfOk, OnErr, not, All};
+ghost use Rattle.std.specs.Cmp.{partial_equiv_from_equiv};
+ghost use Rattle.std.specs.List.Sorted.{IsStrictlySortedBy};
+ghost use Rattle.asm_element.specs.Element.{element_cmp, IsProper};
+ghost use Rattle.asm_element.specs.Set as set;
+ghost use Rattle.asm_element.specs.Same.{set_eq-equiv};
+
+use crate::element::Element;
+use std::alloc::{AllocError, Global};
+use std::collections::BTreeSet;
+use std::collections::btree_set::Iter;
+use std::marker::Model;
+
+/// A finite set of elements (CoreASM's sets; here their members are elements alone).
+#[derive(Debug, Drop)]
+pub struct ElemSet {
+    elements: BTreeSet<Element>,
+}
+
+impl Model for ElemSet {
+    ghost use Rattle.std.specs.FinSet as std_set;
+    ghost use Rattle.std.specs.Prelude.{All};
+    ghost use Rattle.std.specs.List.Sorted.{IsStrictlySortedBy};
+    ghost use Rattle.asm_element.specs.Element.{element_cmp, IsProper};
+    ghost use Rattle.asm_element.specs.Set as set;
+    ghost use Rattle.asm_element.specs.contracts.element.Element.{the_row as element_row};
+
+    ghost Value = { set.ElementSet };
+
+    ghost coded = { std_set.code element_row.coded };
+
+    ghost view = { λ s. set.from_list s.elements.keys };
+
+    ghost invariant = { λ s. IsStrictlySortedBy element_cmp s.elements.keys
+        × All IsProper s.elements.keys };
+}
+
+impl ElemSet {
+    /// The set of no element. It takes no memory.
+    pub fn new(alloc: Global) -> Self
+        ensures { result ≡ set.empty }
+    {
+        ElemSet {
+            elements: BTreeSet::new(alloc),
+        }
+    }
+
+    /// Whether the set has the element.
+    pub fn contains(&self, element: &Element) -> bool
+        ensures { result ≡ set.contains self.now element.now }
+    {
+        self.elements.contains(element)
+    }
+
+    /// How many elements the set has.
+    pub fn len(&self) -> usize
+        ensures { result ≡ set.len self.now }
+    {
+        self.elements.len()
+    }
+
+    /// Adds the element, and answers whether it was new. After an error, which is want of memory,
+    /// the set is unchanged.
+    pub fn insert(&mut self, element: Element) -> Result<bool, AllocError>
+        ensures added { IfOk result (λ added. added ≡ not (set.contains self.old element)) }
+        ensures ok { IfOk result (λ _. self.new ≡ set.insert self.old element) }
+        ensures err { OnErr result (self.new ≡ self.old) }
+    {
+        element.proper();
+        Ok(self.elements.insert(element)?)
+    }
+
+    /// Takes the element out, and answers whether it was there.
+    pub fn remove(&mut self, element: &Element) -> bool
+        ensures removed { result ≡ set.contains self.old element.now }
+        ensures new { self.new ≡ set.remove self.old element.now }
+    {
+        self.elements.remove(element)
+    }
+
+    /// The elements in ascending order.
+    pub fn iter(&self) -> Iter<'_, Element>
+        ensures elements { result ≡ set.elements self.now }
+        ensures ascending { IsStrictlySortedBy element_cmp (set.elements self.now) }
+    {
+        self.elements.iter()
+    }
+
+    /// Does nothing. Its contract tells that each element is one that a program can hold.
+    pub(crate) fn proper(&self)
+        ensures { All IsProper (set.elements self.now) }
+    {
+        let _ = &self.elements;
+    }
+
+    /// The same set, in memory of its own. The error is want of memory.
+    pub fn copy(&self, alloc: Global) -> Result<ElemSet, AllocError>
+        ensures { IfOk result (λ copy. copy ≡ self.now) }
+    {
+        let mut copy = ElemSet::new(alloc);
+        for element in self.iter() {
+            copy.insert(element.copy(alloc)?)?;
+        }
+        Ok(copy)
+    }
+}
+
+impl PartialEq for ElemSet {
+    ghost eq = { set.set_eq };
+
+    ghost laws = { partial_equiv_from_equiv set_eq-equiv };
+
+    fn eq(&self, other: &ElemSet) -> bool
+        ensures eq { result ≡ set.set_eq self.now other.now }
+        ensures same { IsTrue result ↔ (self.now ≡ other.now) }
+    {
+        self.elements == other.elements
+    }
+}
+
+impl Eq for ElemSet {
+    ghost laws = { set_eq-equiv };
+}

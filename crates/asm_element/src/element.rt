@@ -1,0 +1,113 @@
+ghost use Rattle.std.specs.Prelude.{◌≡◌, ◌↔◌, IsTrue, IfOk, refl};
+ghost use Rattle.std.specs.Cmp.{partial_order_from_total, partial_equiv_from_equiv, eq_by_cmp_equiv};
+ghost use Rattle.std.specs.Ordering.{as_partial_cmp, eq_by_cmp};
+ghost use Rattle.asm_element.specs.Element.{element_cmp, rank_of, element_cmp_total, IsProper};
+
+use crate::text::ElemText;
+use std::alloc::{AllocError, Global};
+use std::cmp::Ordering;
+
+/// An element of the base set of a state (Börger and Stärk; CoreASM's elements): what arguments,
+/// sets and bags are made of, and the plain values. Its order is this project's own: undef, false,
+/// true, then numbers by value, then texts by their bytes.
+#[derive(Debug, Drop)]
+pub enum Element {
+    /// What a location has that holds nothing else.
+    Undef,
+    /// A truth value.
+    Bool(bool),
+    /// A whole number.
+    Num(i64),
+    /// A text.
+    Text(ElemText),
+}
+
+impl Element {
+    /// The same element, in memory of its own. The error is want of memory.
+    pub fn copy(&self, alloc: Global) -> Result<Element, AllocError>
+        ensures { IfOk result (λ copy. copy ≡ self.now) }
+    {
+        Ok(match self {
+            Element::Undef => Element::Undef,
+            Element::Bool(value) => Element::Bool(*value),
+            Element::Num(value) => Element::Num(*value),
+            Element::Text(text) => {
+                Element::Text(ElemText::new(String::from_str(alloc, text.as_str())?))
+            }
+        })
+    }
+
+    /// Does nothing. Its contract tells that the element is one that a program can hold: a number
+    /// is in the range of `i64`, and a text is UTF-8.
+    pub fn proper(&self)
+        ensures { IsProper self.now }
+    {
+        match self {
+            Element::Num(value) => {
+                let _value = *value;
+            }
+            Element::Text(text) => {
+                let _text = text.as_str();
+            }
+            _ => {}
+        }
+    }
+}
+
+/// The place of an element's kind in the order.
+fn rank(element: &Element) -> u8
+    ensures { result ≡ rank_of element.now }
+{
+    match element {
+        Element::Undef => 0,
+        Element::Bool(false) => 1,
+        Element::Bool(true) => 2,
+        Element::Num(_) => 3,
+        Element::Text(_) => 4,
+    }
+}
+
+impl PartialEq for Element {
+    ghost eq = { eq_by_cmp element_cmp };
+
+    ghost laws = { partial_equiv_from_equiv (eq_by_cmp_equiv element_cmp_total) };
+
+    fn eq(&self, other: &Element) -> bool
+        ensures eq { result ≡ eq_by_cmp element_cmp self.now other.now }
+        ensures same { IsTrue result ↔ (self.now ≡ other.now) }
+    {
+        self.cmp(other) == Ordering::Equal
+    }
+}
+
+impl Eq for Element {
+    ghost laws = { eq_by_cmp_equiv element_cmp_total };
+}
+
+impl PartialOrd for Element {
+    ghost partial_cmp = { as_partial_cmp element_cmp };
+
+    ghost laws = { partial_order_from_total element_cmp_total };
+
+    fn partial_cmp(&self, other: &Element) -> Option<Ordering> {
+        Some(self.cmp(other))
+    }
+}
+
+impl Ord for Element {
+    ghost cmp = { element_cmp };
+
+    ghost total = { element_cmp_total };
+
+    ghost matches_partial_cmp = { λ _ _. refl };
+
+    ghost matches_eq = { λ _ _. refl };
+
+    fn cmp(&self, other: &Element) -> Ordering {
+        match (self, other) {
+            (Element::Num(a), Element::Num(b)) => a.cmp(b),
+            (Element::Text(a), Element::Text(b)) => a.as_str().cmp(b.as_str()),
+            _ => rank(self).cmp(&rank(other)),
+        }
+    }
+}

@@ -1,0 +1,21 @@
+//! Elements, locations and values of an abstract state, with their orders, and finite sets and bags
+//! of elements.
+#![tactic(auto)]
+
+mod elem_bag;
+mod elem_set;
+mod element;
+mod items;
+mod location;
+#[cfg(test)]
+mod tests;
+mod text;
+mod value;
+
+pub use elem_bag::ElemBag;
+pub use elem_set::ElemSet;
+pub use element::Element;
+pub use items::Items;
+pub use location::{Location, LocationError};
+pub use text::ElemText;
+pub use value::Value;

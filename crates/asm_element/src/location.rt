@@ -1,0 +1,186 @@
+ghost use Rattle.std.specs.Prelude.{◌≡◌, ◌↔◌, ◌<◌, ◌≤◌, IfOk, IsTrue, false, length, string_bytes, vec_len, refl};
+ghost use Rattle.std.specs.List.{list_all};
+ghost use Rattle.std.specs.Cmp.{partial_order_from_total, partial_equiv_from_equiv, eq_by_cmp_equiv};
+ghost use Rattle.std.specs.Ordering.{as_partial_cmp, eq_by_cmp};
+ghost use Rattle.asm_element.specs.Place as place;
+
+use crate::element::Element;
+use std::alloc::{AllocError, Global};
+use std::cmp::Ordering;
+use std::marker::Model;
+use thiserror::Error;
+
+/// The most bytes that a location's name may have.
+const NAME_LIMIT: usize = 64;
+
+/// The most arguments that a location may have.
+const ARGS_LIMIT: usize = 8;
+
+/// Why a name and arguments are no location. Where both reasons hold, the first is given.
+#[derive(Debug, Drop, PartialEq, Eq, Error)]
+pub enum LocationError {
+    /// The name isn't 1 to 64 bytes, first an ASCII letter or `_`, then ASCII letters, digits or
+    /// `_`.
+    #[error("not a name")]
+    BadName,
+    /// There are more than 8 arguments.
+    #[error("more than 8 arguments")]
+    ManyArgs,
+}
+
+/// A location of a state: the name of a function, and the arguments at which it is looked up
+/// (Börger and Stärk). The rule of names, the limit of 8 arguments and the order are this project's
+/// own. Locations are ordered by the name's bytes, then the number of arguments, then the arguments
+/// from left to right.
+#[derive(Debug, Drop)]
+pub struct Location {
+    name: String,
+    args: Vec<Element>,
+}
+
+impl Model for Location {
+    ghost use Rattle.std.specs.Prelude.{string_bytes};
+    ghost use Rattle.asm_element.specs.Place.{Place, IsProper, place_code};
+
+    ghost Value = { Place };
+
+    ghost coded = { place_code };
+
+    ghost view = { λ l. record { name = string_bytes l.name; args = l.args.items } };
+
+    ghost invariant = { λ l.
+        IsProper (record { name = string_bytes l.name; args = l.args.items }) };
+}
+
+/// Whether a name may begin with the byte.
+fn is_name_start(byte: u8) -> bool
+    ensures { result ≡ place.is_name_start byte }
+{
+    byte.is_ascii_alphabetic() || byte == b'_'
+}
+
+/// Whether a name may go on with the byte.
+fn is_name_byte(byte: u8) -> bool
+    ensures { result ≡ place.is_name_byte byte }
+{
+    byte.is_ascii_alphanumeric() || byte == b'_'
+}
+
+/// Whether a name may go on with the bytes.
+fn are_name_bytes(bytes: &[u8]) -> bool
+    ensures { result ≡ list_all place.is_name_byte bytes.now }
+{
+    bytes.iter().all(|byte| is_name_byte(*byte))
+}
+
+/// Whether the text meets the rule of names.
+fn is_name(name: &str) -> bool
+    ensures { result ≡ place.is_name name.now }
+{
+    let Some((first, rest)) = name.as_bytes().split_first() else {
+        return false;
+    };
+    name.len() <= NAME_LIMIT && is_name_start(*first) && are_name_bytes(rest)
+}
+
+impl Location {
+    ghost use Rattle.std.specs.Prelude.{All};
+    ghost use Rattle.asm_element.specs.Element.{IsProper};
+    ghost use Rattle.asm_element.specs.Place.{is_name};
+
+    /// The location of this name and these arguments. It takes no memory.
+    ///
+    /// `BadName` comes exactly where the name breaks the rule of names, `ManyArgs` exactly where it
+    /// doesn't and there are more than 8 arguments. After an error both are dropped.
+    pub fn new(name: String, args: Vec<Element>) -> Result<Location, LocationError>
+        ensures ok { IfOk result (λ l. l ≡ record { name = string_bytes name; args = args.items }) }
+        ensures bad_name { (result ≡ Err LocationError.BadName)
+            ↔ (is_name (string_bytes name) ≡ false) }
+        ensures many_args { (result ≡ Err LocationError.ManyArgs)
+            ↔ (IsTrue (is_name (string_bytes name)) × (8 < vec_len args)) }
+    {
+        if !is_name(name.as_str()) {
+            return Err(LocationError::BadName);
+        }
+        if args.len() > ARGS_LIMIT {
+            return Err(LocationError::ManyArgs);
+        }
+        for arg in &args {
+            arg.proper();
+        }
+        Ok(Location { name, args })
+    }
+
+    /// The function's name, which meets the rule of names.
+    pub fn name(&self) -> &str
+        ensures name { result.now ≡ self.now.name }
+        ensures valid { IsTrue (is_name self.now.name) }
+    {
+        self.name.as_str()
+    }
+
+    /// The arguments from left to right: at most 8, each one that a program can hold.
+    pub fn args(&self) -> &[Element]
+        ensures args { result.now ≡ self.now.args }
+        ensures few { length self.now.args ≤ 8 }
+        ensures proper { All IsProper self.now.args }
+    {
+        self.args.as_slice()
+    }
+
+    /// The same location, in memory of its own. The error is want of memory.
+    pub fn copy(&self, alloc: Global) -> Result<Location, AllocError>
+        ensures { IfOk result (λ copy. copy ≡ self.now) }
+    {
+        let name = self.name.clone()?;
+        let mut args = Vec::new(alloc);
+        for arg in &self.args {
+            args.push(arg.copy(alloc)?)?;
+        }
+        Ok(Location { name, args })
+    }
+}
+
+impl PartialEq for Location {
+    ghost eq = { eq_by_cmp place.location_cmp };
+
+    ghost laws = { partial_equiv_from_equiv (eq_by_cmp_equiv place.location_cmp_total) };
+
+    fn eq(&self, other: &Location) -> bool
+        ensures eq { result ≡ eq_by_cmp place.location_cmp self.now other.now }
+        ensures same { IsTrue result ↔ (self.now ≡ other.now) }
+    {
+        self.cmp(other) == Ordering::Equal
+    }
+}
+
+impl Eq for Location {
+    ghost laws = { eq_by_cmp_equiv place.location_cmp_total };
+}
+
+impl PartialOrd for Location {
+    ghost partial_cmp = { as_partial_cmp place.location_cmp };
+
+    ghost laws = { partial_order_from_total place.location_cmp_total };
+
+    fn partial_cmp(&self, other: &Location) -> Option<Ordering> {
+        Some(self.cmp(other))
+    }
+}
+
+impl Ord for Location {
+    ghost cmp = { place.location_cmp };
+
+    ghost total = { place.location_cmp_total };
+
+    ghost matches_partial_cmp = { λ _ _. refl };
+
+    ghost matches_eq = { λ _ _. refl };
+
+    fn cmp(&self, other: &Location) -> Ordering {
+        self.name
+            .cmp(&other.name)
+            .then_with(|| self.args.len().cmp(&other.args.len()))
+            .then_with(|| self.args.cmp(&other.args))
+    }
+}

@@ -1,0 +1,5 @@
+pub mod Known
+pub mod Mark
+pub mod Offer
+pub mod Row
+pub mod Seat

@@ -1,0 +1,19 @@
+//! A row of cells that are set once, on whose entries threads agree one by one without locks.
+//!
+//! Each thread follows the row through a seat of its own, which touches cells in three ways: a look
+//! at a cell, a set of the first unseen cell if that is empty, and, where that set came too late, a
+//! get-or-set of the same cell with the same box, which gives the entry that stands there. Whatever
+//! else a seat does moves what is known of cells and touches none. A cell that is set keeps its
+//! entry, so what the seats of one row have seen are prefixes of one list.
+#![tactic(auto)]
+
+mod known;
+mod mark;
+mod row;
+mod seat;
+#[cfg(test)]
+mod tests;
+
+pub use mark::Mark;
+pub use row::{Row, RowError};
+pub use seat::{Offer, Seat};

@@ -1,0 +1,109 @@
+ghost use Rattle.std.specs.Prelude.{◌≡◌, ◌<◌, ◌≤◌, ◌↔◌, ◌⊎◌, [], length, slice_get, IfOk, IsOk, IsErrOf};
+ghost use Rattle.once_cell.specs.Once.{cell_name};
+ghost use Rattle.asm_row.specs.declared.row.RowError.TheVariants.{Memory};
+
+use crate::seat::Seat;
+use once_cell::race::OnceBox;
+use std::alloc::{AllocError, Global};
+use std::marker::Model;
+use thiserror::Error;
+
+const MAX_CAPACITY: u32 = 1 << 20;
+
+/// Why a row was not made.
+#[derive(Debug, Drop, PartialEq, Eq, Error)]
+pub enum RowError {
+    /// The capacity is 0 or above 1,048,576. This is found before any memory is asked for.
+    #[error("the capacity is not in 1 to 1,048,576")]
+    BadCapacity,
+    /// The memory for the cells was refused.
+    #[error("out of memory")]
+    Memory,
+}
+
+impl From<AllocError> for RowError {
+    ghost from_gives = { λ _ e. e ≡ Memory };
+
+    fn from(_error: AllocError) -> RowError {
+        RowError::Memory
+    }
+}
+
+/// A row of cells, each set at most once, which threads share: it is `Sync` where `T` is `Send` and `Sync`.
+///
+/// It is the list of consensus objects of a universal construction (Herlihy and Shavit, "The Art of
+/// Multiprocessor Programming"): threads that look at it and offer to it agree on one list of
+/// entries. The number of cells is fixed (this project's profile). An entry stands for as long as
+/// the row, and is dropped with it. Contracts see a row as the names of its cells, which tell it
+/// from other rows; what stands in the cells is told by the seats alone.
+#[derive(Drop)]
+pub struct Row<T> {
+    cells: Vec<OnceBox<T>>,
+}
+
+impl<T> Model for Row<T> {
+    ghost use Rattle.std.specs.Prelude.{ℕ, List, ◌<◌, ◌≤◌, length};
+    ghost use Rattle.asm_row.specs.declared.row.TheConstants.{MAX_CAPACITY};
+    ghost use Rattle.asm_row.specs.Row.{cell_names};
+
+    ghost Value = { List ℕ };
+
+    ghost view = { λ r. cell_names r.cells.items };
+
+    ghost invariant = { λ r. (0 < length r.cells.items) × (length r.cells.items ≤ MAX_CAPACITY) };
+}
+
+impl<T: Drop> Row<T> {
+    /// A row of `capacity` empty cells, from 1 to 1,048,576.
+    ///
+    /// `RowError::BadCapacity` comes exactly for another capacity, and `Memory` only where the
+    /// memory for the cells was refused.
+    #[tactic(auto, using(crate::proofs::Cells::names))]
+    pub fn new(alloc: Global, capacity: u32) -> Result<Row<T>, RowError>
+        ensures ok { IfOk result (λ row. length row ≡ capacity) }
+        ensures bad { IsErrOf result RowError.BadCapacity ↔
+            ((capacity ≡ 0) ⊎ (MAX_CAPACITY < capacity)) }
+    {
+        if capacity == 0 || capacity > MAX_CAPACITY {
+            return Err(RowError::BadCapacity);
+        }
+        let mut cells = Vec::with_capacity(alloc, capacity as usize)?;
+        for _ in 0..capacity {
+            cells.push(OnceBox::new(alloc)).unwrap();
+        }
+        Ok(Row { cells })
+    }
+}
+
+impl<T> Row<T> {
+    /// How many cells the row has: the capacity that it was made with, 1 to 1,048,576.
+    #[tactic(auto, using(crate::proofs::Cells::names))]
+    pub fn capacity(&self) -> u32
+        ensures value { result ≡ length self.now }
+        ensures within { (0 < length self.now) × (length self.now ≤ MAX_CAPACITY) }
+    {
+        self.cells.len() as u32
+    }
+
+    /// A seat at this row that has seen nothing, with no win and no miss.
+    ///
+    /// The answer is always `Ok`: a seat keeps no copy of what it has seen, so neither this call nor
+    /// `next`, `offer` and `learn` asks for memory.
+    pub fn seat(&self, alloc: Global) -> Result<Seat<'_, T>, AllocError>
+        ensures made { IsOk result }
+        ensures fresh { IfOk result (λ seat.
+            seat ≡ record { row = self.now; seen = []; won = 0; misses = 0 }) }
+    {
+        let _ = alloc;
+        Ok(Seat::at_start(self))
+    }
+
+    /// The cell at place `at`, counted from 0.
+    #[tactic(auto, using(crate::proofs::Cells::names))]
+    pub(crate) fn cell(&self, at: usize) -> &OnceBox<T>
+        requires { at < length self.now }
+        ensures { slice_get self.now at ≡ Some (cell_name result.now) }
+    {
+        &self.cells[at]
+    }
+}

@@ -1,0 +1,239 @@
+ghost use Rattle.std.specs.Prelude.{◌≡◌, ◌+◌, ◌-◌, ◌^◌, ◌<◌, ◌≤◌, ◌∷◌, ◌++◌, [], length, map, max, min, slice_get, All, Contains, IfOk, IsOk, IfSome, IfNone, IsNone, IsSome, MatchBool};
+ghost use mathlib.Core.List.{IsPrefix};
+ghost use Rattle.asm_row.specs.Offer.{IfWon, IfLost};
+
+use crate::known::Known;
+use crate::mark::Mark;
+use crate::row::Row;
+use once_cell::race::Note;
+use std::alloc::{AllocError, Global};
+use std::marker::Model;
+
+/// What became of an offer.
+#[derive(Debug, Drop, PartialEq, Eq)]
+pub enum Offer<'r, T> {
+    /// The cell was empty, and the passed entry stands there from now on.
+    Won,
+    /// This entry stands in the cell. The passed one was dropped.
+    Lost(&'r T),
+}
+
+/// One thread's place at a row: it follows the row from its first cell, and has seen a prefix of its entries.
+///
+/// It is the thread's view of the list that the threads agree on in a universal construction
+/// (Herlihy and Shavit). Contracts see it as the row that it sits at, the list of entries that it
+/// has seen, how many of its offers won, and how many of its looks found an empty cell. A seat is
+/// `Send` where `T` is `Send` and `Sync`. No call waits, takes a lock or asks for memory.
+#[derive(Drop)]
+pub struct Seat<'r, T> {
+    row: &'r Row<T>,
+    capacity: u32,
+    len: u32,
+    known: Known<T>,
+    won: u32,
+    misses: u64,
+}
+
+impl<'r, T> Model for Seat<'r, T> {
+    ghost use Rattle.asm_row.specs.Seat.{SeatView, IsSeat};
+
+    ghost Value = { SeatView T };
+
+    ghost view = { λ s. record { row = s.known.row; seen = s.known.seen; won = s.won; misses = s.misses } };
+
+    ghost invariant = { λ s. IsSeat s.row.now s.capacity s.len s.won s.known.row s.known.seen };
+}
+
+impl<'r, T> Seat<'r, T> {
+    /// A seat that has seen nothing.
+    pub(crate) fn at_start(row: &'r Row<T>) -> Seat<'r, T>
+        ensures { result ≡ record { row = row.now; seen = []; won = 0; misses = 0 } }
+    {
+        Seat {
+            row,
+            capacity: row.capacity(),
+            len: 0,
+            known: Known::nothing(row),
+            won: 0,
+            misses: 0,
+        }
+    }
+
+    /// How many entries this seat has seen: at most the row's capacity.
+    pub fn seen_len(&self) -> u32
+        ensures value { result ≡ length self.now.seen }
+        ensures within { length self.now.seen ≤ length self.now.row }
+    {
+        self.len
+    }
+
+    /// Whether this seat has seen an entry in each cell of the row.
+    pub fn is_full(&self) -> bool
+        ensures { MatchBool result
+            (length self.now.seen ≡ length self.now.row)
+            (length self.now.seen < length self.now.row) }
+    {
+        self.len == self.capacity
+    }
+
+    /// The entry at place `k`, counted from 0, of those that this seat has seen.
+    pub fn at(&self, k: u32) -> &'r T
+        requires { k < length self.now.seen }
+        ensures { slice_get self.now.seen k ≡ Some result.now }
+    {
+        let cell = self.row.cell(k as usize);
+        let mut note = cell.note();
+        self.known.tell(k as usize, &mut note);
+        match cell.get_as(&mut note) {
+            Some(entry) => entry,
+            None => unreachable!(),
+        }
+    }
+
+    /// How many of this seat's offers won: at most as many as the entries that it has seen.
+    pub fn won(&self) -> u32
+        ensures value { result ≡ self.now.won }
+        ensures within { self.now.won ≤ length self.now.seen }
+    {
+        self.won
+    }
+
+    /// How many of this seat's looks found an empty cell, counted up to 18,446,744,073,709,551,615.
+    pub fn misses(&self) -> u64
+        ensures { result ≡ self.now.misses }
+    {
+        self.misses
+    }
+
+    // Takes in what the note knows of the first cell that was not seen yet.
+    fn see(&mut self, note: &mut Note<T>)
+        requires cell { slice_get self.old.row (length self.old.seen) ≡ Some note.old.cell }
+        requires known { IsSome note.old.known }
+        ensures { IfSome note.old.known (λ entry.
+            self.new ≡ record self.old { seen = self.old.seen ++ entry ∷ [] }) }
+    {
+        self.known.add(note);
+        self.len += 1;
+    }
+
+    /// Looks once at the first cell that this seat has not seen.
+    ///
+    /// An entry found there is returned, and is the next of those that the seat has seen. `None` is
+    /// one miss, counted up to 18,446,744,073,709,551,615. A seat that is full looks at no cell: it
+    /// answers `None`, and nothing changes.
+    pub fn next(&mut self) -> Option<&'r T>
+        ensures row { self.new.row ≡ self.old.row }
+        ensures found { IfSome result (λ entry.
+            self.new ≡ record self.old { seen = self.old.seen ++ entry.now ∷ [] }) }
+        ensures miss { length self.old.seen < length self.old.row →
+            IfNone result (self.new ≡ record self.old { misses = min (self.old.misses + 1) (2 ^ 64 - 1) }) }
+        ensures full { length self.old.seen ≡ length self.old.row →
+            IsNone result × (self.new ≡ self.old) }
+    {
+        if self.is_full() {
+            return None;
+        }
+        let row = self.row;
+        let cell = row.cell(self.len as usize);
+        let mut note = cell.note();
+        match cell.get_as(&mut note) {
+            Some(entry) => {
+                self.see(&mut note);
+                Some(entry)
+            }
+            None => {
+                self.misses = self.misses.saturating_add(1);
+                None
+            }
+        }
+    }
+
+    // A mark, for which no memory is needed.
+    fn to_mark(&self) -> Mark<T>
+        ensures { result ≡ record { row = self.now.row; seen = self.now.seen } }
+    {
+        Mark {
+            len: self.len,
+            known: self.known.copy(),
+        }
+    }
+
+    /// A mark of what this seat has seen, which another seat of the row can learn.
+    ///
+    /// The answer is always `Ok`: a mark takes no memory of its own.
+    pub fn mark(&self, alloc: Global) -> Result<Mark<T>, AllocError>
+        ensures made { IsOk result }
+        ensures holds { IfOk result (λ mark.
+            mark ≡ record { row = self.now.row; seen = self.now.seen }) }
+    {
+        let _ = alloc;
+        Ok(self.to_mark())
+    }
+
+    /// Takes in what a mark of the same row holds, without a look at the row.
+    ///
+    /// Afterwards what is seen begins with what the mark holds and with what was seen before, and is
+    /// as long as the longer of the two. Wins and misses stay as they are.
+    pub fn learn(&mut self, mark: &Mark<T>)
+        requires { mark.now.row ≡ self.old.row }
+        ensures kept { self.new ≡ record self.old { seen = self.new.seen } }
+        ensures mine { IsPrefix self.old.seen self.new.seen }
+        ensures theirs { IsPrefix mark.now.seen self.new.seen }
+        ensures longest { length self.new.seen ≡ max (length self.old.seen) (length mark.now.seen) }
+    {
+        self.known.agrees(&mark.known);
+        if self.len < mark.len {
+            self.len = mark.len;
+            self.known = mark.known.copy();
+        }
+    }
+
+    /// Takes in what each of the seats of the same row has seen, by their marks.
+    ///
+    /// This is the law of a row: what its seats have seen are prefixes of one list. That list is
+    /// what this seat has seen afterwards, and is the list of the one of them that had seen most.
+    /// Wins and misses stay as they are.
+    pub fn learn_all(&mut self, seats: &[Seat<'_, T>])
+        requires { All (λ seat. seat.row ≡ self.old.row) seats.now }
+        ensures kept { self.new ≡ record self.old { seen = self.new.seen } }
+        ensures mine { IsPrefix self.old.seen self.new.seen }
+        ensures theirs { All (λ seat. IsPrefix seat.seen self.new.seen) seats.now }
+        ensures longest { Contains (self.old.seen ∷ map (λ seat. seat.seen) seats.now) self.new.seen }
+    {
+        for seat in seats {
+            self.learn(&seat.to_mark());
+        }
+    }
+}
+
+impl<'r, T: Drop> Seat<'r, T> {
+    /// Offers `value` for the first cell that this seat has not seen: one set where the cell is empty.
+    ///
+    /// Either way the seat has then seen one entry more, the one that stands in the cell: on `Won`
+    /// the passed one, and `won` grows by one; on `Lost` the returned one, and `value` is dropped.
+    pub fn offer(&mut self, value: Box<T>) -> Offer<'r, T>
+        requires { length self.old.seen < length self.old.row }
+        ensures row { self.new.row ≡ self.old.row }
+        ensures won { IfWon result
+            (self.new ≡ record self.old { seen = self.old.seen ++ value.value ∷ []; won = self.old.won + 1 }) }
+        ensures lost { IfLost result (λ entry.
+            self.new ≡ record self.old { seen = self.old.seen ++ entry.now ∷ [] }) }
+    {
+        let row = self.row;
+        let cell = row.cell(self.len as usize);
+        let mut note = cell.note();
+        match cell.set_as(value, &mut note) {
+            Ok(()) => {
+                self.see(&mut note);
+                self.won += 1;
+                Offer::Won
+            }
+            Err(value) => {
+                // The cell is full, so this gives the entry that stands there and drops `value`.
+                let entry = cell.get_or_init_as(move || value, &mut note);
+                self.see(&mut note);
+                Offer::Lost(entry)
+            }
+        }
+    }
+}

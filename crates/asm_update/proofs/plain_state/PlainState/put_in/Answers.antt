@@ -1,0 +1,22 @@
+use Rattle.std.proofs.Common.{ap, ◌∙◌}
+use Rattle.std.specs.FinMap as map
+use Rattle.asm_element.specs.Place.{location_cmp, location_cmp_total, location_cmp-IsAntisymmetric}
+use Rattle.asm_element.specs.Place as place
+use Rattle.asm_element.specs.Value as held
+use Rattle.std.proofs.Common.{◌≡◌, false}
+use Rattle.std.proofs.lemmas.Map.Views.{All-keys-insert_entry, All-values-insert_entry}
+use Rattle.asm_element.proofs.Ordered.{insert-from_tree}
+use Rattle.asm_update.proofs.plain_state.PlainState.put_in.Goals as goal
+
+pub returns-clause-ok : goal.returns-clause-ok
+returns-clause-ok c =
+    insert-from_tree location_cmp_total location_cmp-IsAntisymmetric c.self.inside.values c.insert.new.self c.args.at c.args.value c.in_ok-insert.ensures.updates.0
+    ∙ ap (λ s. map.insert s c.args.at c.args.value) c.self.view_is
+
+pub invariant_of-self-2 : goal.invariant_of-self-2
+invariant_of-self-2 c = (
+  c.insert.ensures.ordered,
+  rw c.in_ok-insert.ensures.entries (All-values-insert_entry location_cmp c.args.at c.args.value (λ v. held.is_undef v ≡ false) c.self.inside.values.entries c.self.invariant.1 c.requires),
+  rw c.in_ok-insert.ensures.entries (All-keys-insert_entry location_cmp c.args.at c.args.value place.IsProper c.self.inside.values.entries c.self.invariant.2 c.proper_location.ensures),
+  rw c.in_ok-insert.ensures.entries (All-values-insert_entry location_cmp c.args.at c.args.value held.IsProper c.self.inside.values.entries c.self.invariant.3 c.proper.ensures),
+)

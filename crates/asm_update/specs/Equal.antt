@@ -1,0 +1,112 @@
+-- `==` of actions, instructions, lists of them and states tells whether they are the same.
+use Rattle.std.specs.Prelude.{◌≡◌, ◌&&◌, ◌==◌, Bool, true, List, refl}
+use Rattle.std.proofs.Common.{sym, ap, ◌∙◌}
+use Rattle.std.specs.Cmp.{IsEquivalence, decided, unsigned_Decides}
+use Rattle.std.specs.Cmp.Lexicographic.{pointwise}
+use Rattle.std.specs.Ordering.{on, eq_by_cmp}
+use Rattle.std.specs.FinMap as map
+use Rattle.asm_element.specs.Element.{element_cmp}
+use Rattle.asm_element.specs.Items.{IsIdentity}
+use Rattle.asm_element.specs.Place.{Place, location_cmp}
+use Rattle.asm_element.specs.Same.{both, element_eq-same, location_eq-same, value_eq-same, pointwise-IsIdentity}
+use Rattle.asm_element.specs.Value.{value_eq}
+use Rattle.asm_element.specs.declared.value.Value.{Value}
+use Rattle.asm_update.specs.Action.{action_eq, instruction_eq}
+use Rattle.asm_update.specs.State.{State}
+use Rattle.asm_update.specs.declared.action.Action.{Action}
+use Rattle.asm_update.specs.declared.action.Action.TheVariants.{Regular, SetAdd, SetRemove, BagAdd, BagRemove}
+use Rattle.asm_update.specs.declared.action.Instruction.{Instruction}
+
+same_action : (a b : Action) → action_eq a b ≡ true → a ≡ b
+same_action (Regular v) (Regular w) h = ap Regular ((value_eq-same v w).0 h)
+same_action (SetAdd a) (SetAdd b) h = ap SetAdd ((element_eq-same a b).0 h)
+same_action (SetRemove a) (SetRemove b) h = ap SetRemove ((element_eq-same a b).0 h)
+same_action (BagAdd a n) (BagAdd b m) h =
+    let parts = both (eq_by_cmp element_cmp a b) (n == m) h in
+    λ i. BagAdd ((element_eq-same a b).0 parts.0 i) ((unsigned_Decides n m).0 parts.1 i)
+same_action (BagRemove a n) (BagRemove b m) h =
+    let parts = both (eq_by_cmp element_cmp a b) (n == m) h in
+    λ i. BagRemove ((element_eq-same a b).0 parts.0 i) ((unsigned_Decides n m).0 parts.1 i)
+same_action (Regular v) (SetAdd b) h = cc
+same_action (Regular v) (SetRemove b) h = cc
+same_action (Regular v) (BagAdd b m) h = cc
+same_action (Regular v) (BagRemove b m) h = cc
+same_action (SetAdd a) (Regular w) h = cc
+same_action (SetAdd a) (SetRemove b) h = cc
+same_action (SetAdd a) (BagAdd b m) h = cc
+same_action (SetAdd a) (BagRemove b m) h = cc
+same_action (SetRemove a) (Regular w) h = cc
+same_action (SetRemove a) (SetAdd b) h = cc
+same_action (SetRemove a) (BagAdd b m) h = cc
+same_action (SetRemove a) (BagRemove b m) h = cc
+same_action (BagAdd a n) (Regular w) h = cc
+same_action (BagAdd a n) (SetAdd b) h = cc
+same_action (BagAdd a n) (SetRemove b) h = cc
+same_action (BagAdd a n) (BagRemove b m) h = cc
+same_action (BagRemove a n) (Regular w) h = cc
+same_action (BagRemove a n) (SetAdd b) h = cc
+same_action (BagRemove a n) (SetRemove b) h = cc
+same_action (BagRemove a n) (BagAdd b m) h = cc
+
+action_itself : (a : Action) → action_eq a a ≡ true
+action_itself (Regular v) = (value_eq-same v v).1 refl
+action_itself (SetAdd a) = (element_eq-same a a).1 refl
+action_itself (SetRemove a) = (element_eq-same a a).1 refl
+action_itself (BagAdd a n) = (λ i. (element_eq-same a a).1 refl i && n == n) ∙ (unsigned_Decides n n).1 refl
+action_itself (BagRemove a n) = (λ i. (element_eq-same a a).1 refl i && n == n) ∙ (unsigned_Decides n n).1 refl
+
+pub action_eq-same : IsIdentity action_eq
+action_eq-same a b = (same_action a b, λ e. ap (action_eq a) (sym e) ∙ action_itself a)
+
+pub action_eq-equiv : IsEquivalence action_eq
+action_eq-equiv = decided action_eq action_eq-same
+
+pub instruction_eq-same : IsIdentity instruction_eq
+instruction_eq-same i k = (
+  λ h.
+      let parts = both (eq_by_cmp location_cmp i.at k.at) (action_eq i.action k.action) h in
+      let at = (location_eq-same i.at k.at).0 parts.0 in
+      let action = same_action i.action k.action parts.1 in
+      λ j. record { at = at j; action = action j },
+  λ e.
+      (λ j. (location_eq-same i.at k.at).1 (λ n. (e n).at) j && action_eq i.action k.action)
+      ∙ (action_eq-same i.action k.action).1 (λ n. (e n).action),
+)
+
+pub instruction_eq-equiv : IsEquivalence instruction_eq
+instruction_eq-equiv = decided instruction_eq instruction_eq-same
+
+-- whether two moves have equal instructions, one by one
+abbrev pub move_eq : List Instruction → List Instruction → Bool
+move_eq = pointwise instruction_eq
+
+pub move_eq-same : IsIdentity move_eq
+move_eq-same = pointwise-IsIdentity instruction_eq instruction_eq-same
+
+pub move_eq-equiv : IsEquivalence move_eq
+move_eq-equiv = decided move_eq move_eq-same
+
+-- whether two locations with their values are equal
+abbrev pub entry_eq : Place × Value → Place × Value → Bool
+entry_eq p q = eq_by_cmp location_cmp p.0 q.0 && value_eq p.1 q.1
+
+-- whether two states have equal entries, in order
+abbrev pub state_eq : State → State → Bool
+state_eq = on map.entries (pointwise entry_eq)
+
+entry_eq-same : IsIdentity entry_eq
+entry_eq-same p q = (
+  λ h.
+      let parts = both (eq_by_cmp location_cmp p.0 q.0) (value_eq p.1 q.1) h in
+      λ i. ((location_eq-same p.0 q.0).0 parts.0 i, (value_eq-same p.1 q.1).0 parts.1 i),
+  λ e. (λ i. (location_eq-same p.0 q.0).1 (λ n. (e n).0) i && value_eq p.1 q.1) ∙ (value_eq-same p.1 q.1).1 (λ n. (e n).1),
+)
+
+pub state_eq-same : IsIdentity state_eq
+state_eq-same A B = (
+  λ h. map.same_entries_map A B ((pointwise-IsIdentity entry_eq entry_eq-same (map.entries A) (map.entries B)).0 h),
+  λ e. (pointwise-IsIdentity entry_eq entry_eq-same (map.entries A) (map.entries B)).1 (ap map.entries e),
+)
+
+pub state_eq-equiv : IsEquivalence state_eq
+state_eq-equiv = decided state_eq state_eq-same

@@ -1,0 +1,181 @@
+ghost use Rattle.std.specs.Prelude.{◌≡◌, ◌≤◌, ◌↔◌, IfSome, IsNone, IfOk, IsTrue};
+ghost use Rattle.std.specs.Cmp.{partial_equiv_from_equiv};
+ghost use Rattle.asm_update.specs.Action as action;
+ghost use Rattle.asm_update.specs.Equal.{action_eq-equiv, instruction_eq-equiv};
+
+use asm_element::{Element, Location, Value};
+use std::alloc::{AllocError, Global};
+use std::marker::Model;
+
+/// How many of an element a partial update of a bag adds or removes: 1 to 4,294,967,295.
+///
+/// Contracts see it as its number. Source: this project's profile.
+#[derive(Clone, Copy, Debug, PartialEq, Eq)]
+pub struct Amount {
+    n: u32,
+}
+
+impl Model for Amount {
+    ghost use Rattle.std.specs.Prelude.{ℕ, ◌≤◌};
+
+    ghost Value = { ℕ };
+
+    ghost view = { λ a. a.n };
+
+    ghost inverse = { λ n. record { n = n } };
+
+    ghost invariant = { λ a. 1 ≤ a.n };
+}
+
+impl Amount {
+    /// The amount n, or None where n is 0.
+    pub fn new(n: u32) -> Option<Amount>
+        ensures zero { IsNone result ↔ (n ≡ 0) }
+        ensures value { IfSome result (λ amount. amount ≡ n) }
+    {
+        if n == 0 { None } else { Some(Amount { n }) }
+    }
+
+    /// The number, which is at least 1.
+    pub fn get(self) -> u32
+        ensures value { result ≡ self }
+        ensures positive { 1 ≤ self }
+    {
+        self.n
+    }
+}
+
+/// The kinds of value that partial updates change.
+///
+/// Source: sets as in CoreASM; bags are of this project's profile.
+#[derive(Clone, Copy, Debug, PartialEq, Eq)]
+pub enum Family {
+    /// Partial updates of sets.
+    Set,
+    /// Partial updates of bags.
+    Bag,
+}
+
+/// What an update instruction does at its location.
+///
+/// Source: regular updates as in Börger and Stärk; partial updates of sets as in CoreASM; those of
+/// bags are of this project's profile.
+#[derive(Debug, Drop)]
+pub enum Action {
+    /// Writes the value; undef leaves nothing there.
+    Regular(Value),
+    /// Adds the element to a set, also where it is there already.
+    SetAdd(Element),
+    /// Removes the element from a set, also where it isn't there.
+    SetRemove(Element),
+    /// Raises the count of the element in a bag by the amount.
+    BagAdd(Element, Amount),
+    /// Lowers the count of the element in a bag by the amount.
+    BagRemove(Element, Amount),
+}
+
+impl Action {
+    ghost use Rattle.asm_update.specs.Action.{family_of};
+
+    /// The family of a partial update; None for a regular one.
+    pub fn family(&self) -> Option<Family>
+        ensures { result ≡ family_of self.now }
+    {
+        match self {
+            Action::Regular(_) => None,
+            Action::SetAdd(_) | Action::SetRemove(_) => Some(Family::Set),
+            Action::BagAdd(..) | Action::BagRemove(..) => Some(Family::Bag),
+        }
+    }
+
+    /// The same action, in memory of its own.
+    pub(crate) fn copy(&self, alloc: Global) -> Result<Action, AllocError>
+        ensures { IfOk result (λ copy. copy ≡ self.now) }
+    {
+        Ok(match self {
+            Action::Regular(value) => Action::Regular(value.copy(alloc)?),
+            Action::SetAdd(element) => Action::SetAdd(element.copy(alloc)?),
+            Action::SetRemove(element) => Action::SetRemove(element.copy(alloc)?),
+            Action::BagAdd(element, amount) => Action::BagAdd(element.copy(alloc)?, *amount),
+            Action::BagRemove(element, amount) => Action::BagRemove(element.copy(alloc)?, *amount),
+        })
+    }
+
+    /// Does nothing; its contract tells that the action is proper.
+    pub fn proper(&self)
+        ensures { action.IsProper self.now }
+    {
+        match self {
+            Action::Regular(value) => value.proper(),
+            Action::SetAdd(element) | Action::SetRemove(element) => element.proper(),
+            Action::BagAdd(element, amount) | Action::BagRemove(element, amount) => {
+                element.proper();
+                let _amount = amount.get();
+            }
+        }
+    }
+}
+
+impl PartialEq for Action {
+    ghost eq = { action.action_eq };
+
+    ghost laws = { partial_equiv_from_equiv action_eq-equiv };
+
+    fn eq(&self, other: &Action) -> bool
+        ensures eq { result ≡ action.action_eq self.now other.now }
+        ensures same { IsTrue result ↔ (self.now ≡ other.now) }
+    {
+        match (self, other) {
+            (Action::Regular(a), Action::Regular(b)) => a == b,
+            (Action::SetAdd(a), Action::SetAdd(b)) => a == b,
+            (Action::SetRemove(a), Action::SetRemove(b)) => a == b,
+            (Action::BagAdd(a, n), Action::BagAdd(b, m)) => a == b && n == m,
+            (Action::BagRemove(a, n), Action::BagRemove(b, m)) => a == b && n == m,
+            _ => false,
+        }
+    }
+}
+
+impl Eq for Action {
+    ghost laws = { action_eq-equiv };
+}
+
+/// An update instruction: an action at a location.
+///
+/// Source: CoreASM, whose instructions are a location, a value and an action.
+#[derive(Debug, Drop)]
+pub struct Instruction {
+    /// The location that is written.
+    pub at: Location,
+    /// What is done there.
+    pub action: Action,
+}
+
+impl Instruction {
+    /// The same instruction, in memory of its own.
+    pub(crate) fn copy(&self, alloc: Global) -> Result<Instruction, AllocError>
+        ensures { IfOk result (λ copy. copy ≡ self.now) }
+    {
+        Ok(Instruction {
+            at: self.at.copy(alloc)?,
+            action: self.action.copy(alloc)?,
+        })
+    }
+}
+
+impl PartialEq for Instruction {
+    ghost eq = { action.instruction_eq };
+
+    ghost laws = { partial_equiv_from_equiv instruction_eq-equiv };
+
+    fn eq(&self, other: &Instruction) -> bool
+        ensures eq { result ≡ action.instruction_eq self.now other.now }
+        ensures same { IsTrue result ↔ (self.now ≡ other.now) }
+    {
+        self.at == other.at && self.action == other.action
+    }
+}
+
+impl Eq for Instruction {
+    ghost laws = { instruction_eq-equiv };
+}

@@ -1,0 +1,67 @@
+ghost use Rattle.std.specs.Prelude.{◌≡◌};
+ghost use Rattle.asm_update.specs.declared.clash.AggError.TheVariants as agg_error;
+
+use asm_element::Location;
+use std::alloc::{AllocError, AllocFailed};
+use thiserror::Error;
+
+/// Why the updates of a location have no result; the first that holds, in this order.
+///
+/// The base is the regular value if there is one, else the old value. Source: this project's
+/// profile; `Two` is inconsistency as in Börger and Stärk.
+#[derive(Clone, Copy, Debug, PartialEq, Eq)]
+pub enum Cause {
+    /// Two different regular values.
+    Two,
+    /// Partial updates of two families, or of one that the aggregator doesn't own.
+    Mixed,
+    /// Partial updates whose base is no value of their kind.
+    Kind,
+    /// One element both added to a set and removed from it.
+    Both,
+    /// A regular value beside partial updates: a set that lacks an added element or has a removed
+    /// one, or any bag.
+    Against,
+    /// More of an element removed than the old bag has of it.
+    Short,
+    /// A new count of a bag above 4,294,967,295.
+    Large,
+}
+
+/// A location whose updates have no result, with the cause.
+///
+/// Source: an inconsistent update set, in Börger and Stärk; the causes are of this project's profile.
+#[derive(Debug, Drop, PartialEq, Eq)]
+pub struct Clash {
+    /// The location.
+    pub at: Location,
+    /// Why its updates have no result.
+    pub cause: Cause,
+}
+
+/// Why instructions don't become a state or an update set.
+#[derive(Debug, Drop, PartialEq, Eq, Error)]
+pub enum AggError {
+    /// The instructions clash: the least location whose updates have no result, with its first cause.
+    #[error("the updates clash")]
+    Clash(Clash),
+    /// The memory that the call asked for was refused.
+    #[error("out of memory")]
+    Memory,
+}
+
+impl From<AllocError> for AggError {
+    ghost from_gives = { λ _ e. e ≡ agg_error.Memory };
+
+    fn from(_error: AllocError) -> AggError {
+        AggError::Memory
+    }
+}
+
+impl<T: Drop> From<AllocFailed<T>> for AggError {
+    ghost from_gives = { λ _ e. e ≡ agg_error.Memory };
+
+    fn from(_error: AllocFailed<T>) -> AggError {
+        AggError::Memory
+    }
+}

@@ -1,0 +1,160 @@
+ghost use Rattle.std.specs.Prelude.{◌≡◌, ◌<◌, ◌≤◌, ◌++◌, ◌∷◌, [], ◌↔◌, length, All, IsTrue, OnOk, OnErr, IfOk, Some, Err, slice_get};
+ghost use Rattle.std.specs.Cmp.{partial_equiv_from_equiv};
+ghost use Rattle.asm_update.specs.Action.{IsProperInstruction};
+ghost use Rattle.asm_update.specs.Move as move_spec;
+ghost use Rattle.asm_update.specs.Equal.{move_eq, move_eq-equiv};
+ghost use Rattle.asm_update.specs.declared.instructions.InstructionsError.TheVariants as instructions_error;
+
+use crate::action::{Action, Instruction};
+use crate::proper::proper_location;
+use std::alloc::{AllocError, AllocFailed, Global};
+use std::marker::Model;
+use thiserror::Error;
+
+/// The most instructions of one move.
+pub const INSTRUCTIONS_LIMIT: usize = 4096;
+
+/// Why an instruction isn't appended.
+#[derive(Clone, Copy, Debug, PartialEq, Eq, Error)]
+pub enum InstructionsError {
+    /// There are 4,096 instructions already; this is found before memory is asked for.
+    #[error("more than 4096 instructions")]
+    ManyInstructions,
+    /// The memory that the call asked for was refused.
+    #[error("out of memory")]
+    Memory,
+}
+
+impl From<AllocError> for InstructionsError {
+    ghost from_gives = { λ _ e. e ≡ instructions_error.Memory };
+
+    fn from(_error: AllocError) -> InstructionsError {
+        InstructionsError::Memory
+    }
+}
+
+impl<T: Drop> From<AllocFailed<T>> for InstructionsError {
+    ghost from_gives = { λ _ e. e ≡ instructions_error.Memory };
+
+    fn from(_error: AllocFailed<T>) -> InstructionsError {
+        InstructionsError::Memory
+    }
+}
+
+/// The update instructions of one move, at most 4,096, in the order in which they were appended.
+///
+/// Contracts see them as their list. Source: the multiset of update instructions that a rule
+/// yields, in CoreASM; the limit is of this project's profile.
+#[derive(Debug, Drop)]
+pub struct Instructions {
+    items: Vec<Instruction>,
+}
+
+impl Model for Instructions {
+    ghost use Rattle.std.specs.Prelude.{List, length, ◌≤◌, All};
+    ghost use Rattle.asm_update.specs.Action.{IsProperInstruction};
+    ghost use Rattle.asm_update.specs.declared.action.Instruction.{Instruction};
+    ghost use Rattle.std.specs.Coded.{coded_list};
+    ghost use Rattle.asm_update.specs.contracts.action.Instruction.{the_row as instruction_row};
+
+    ghost Value = { List Instruction };
+
+    ghost coded = { coded_list instruction_row.coded };
+
+    ghost view = { λ m. m.items.items };
+
+    ghost invariant = { λ m. (length m.items.items ≤ 4096) × All IsProperInstruction m.items.items };
+}
+
+impl Instructions {
+    /// No instructions.
+    pub fn new(alloc: Global) -> Self
+        ensures { result ≡ [] }
+    {
+        Instructions {
+            items: Vec::new(alloc),
+        }
+    }
+
+    /// How many instructions there are, at most 4,096.
+    pub fn len(&self) -> usize
+        ensures len { result ≡ length self.now }
+        ensures few { length self.now ≤ INSTRUCTIONS_LIMIT }
+    {
+        self.items.len()
+    }
+
+    /// Appends an instruction.
+    ///
+    /// `ManyInstructions` comes exactly where there are 4,096 already, before memory is asked for,
+    /// and `Memory` only where memory was refused. After an error the list is unchanged.
+    pub fn push(&mut self, instruction: Instruction) -> Result<(), InstructionsError>
+        ensures ok { OnOk result (self.new ≡ self.old ++ instruction ∷ []) }
+        ensures many { (result ≡ Err InstructionsError.ManyInstructions) ↔ (length self.old ≡ INSTRUCTIONS_LIMIT) }
+        ensures err { OnErr result (self.new ≡ self.old) }
+    {
+        if self.items.len() == INSTRUCTIONS_LIMIT {
+            return Err(InstructionsError::ManyInstructions);
+        }
+        proper_location(&instruction.at);
+        instruction.action.proper();
+        self.items.push(instruction)?;
+        Ok(())
+    }
+
+    /// The instruction at a place, counted from 0.
+    pub fn get(&self, i: usize) -> &Instruction
+        requires { i < length self.now }
+        ensures { slice_get self.now i ≡ Some result.now }
+    {
+        &self.items[i]
+    }
+
+    /// Whether no instruction is partial; true of the empty list.
+    pub fn all_regular(&self) -> bool
+        ensures { result ≡ move_spec.all_regular self.now }
+    {
+        self.items.iter().all(|instruction| matches!(&instruction.action, Action::Regular(_)))
+    }
+
+    /// Does nothing; its contract tells that each instruction is proper.
+    pub fn proper(&self)
+        ensures { All IsProperInstruction self.now }
+    {
+        let _ = &self.items;
+    }
+
+    /// The same instructions, in memory of their own.
+    pub fn copy(&self, alloc: Global) -> Result<Instructions, AllocError>
+        ensures { IfOk result (λ copy. copy ≡ self.now) }
+    {
+        let mut items = Vec::new(alloc);
+        for instruction in &self.items {
+            items.push(instruction.copy(alloc)?)?;
+        }
+        Ok(Instructions { items })
+    }
+
+    pub(crate) fn as_slice(&self) -> &[Instruction]
+        ensures { result.now ≡ self.now }
+    {
+        self.items.as_slice()
+    }
+}
+
+impl PartialEq for Instructions {
+    ghost eq = { move_eq };
+
+    ghost laws = { partial_equiv_from_equiv move_eq-equiv };
+
+    fn eq(&self, other: &Instructions) -> bool
+        ensures eq { result ≡ move_eq self.now other.now }
+        ensures same { IsTrue result ↔ (self.now ≡ other.now) }
+    {
+        self.items == other.items
+    }
+}
+
+impl Eq for Instructions {
+    ghost laws = { move_eq-equiv };
+}

@@ -1,0 +1,30 @@
+// Moves of an abstract state machine: update instructions, consistency and firing.
+#![tactic(auto)]
+
+mod action;
+mod aggregator;
+mod clash;
+mod consistency;
+mod errors;
+mod fire;
+mod group;
+mod instructions;
+mod lookup;
+mod plain_state;
+mod proper;
+mod update_set;
+
+pub use action::{Action, Amount, Family, Instruction};
+pub use aggregator::Aggregator;
+pub use clash::{AggError, Cause, Clash};
+pub use consistency::consistent;
+pub use errors::{JoinError, ResultError};
+pub use fire::fire_plain;
+pub use group::Group;
+pub use instructions::{Instructions, InstructionsError};
+pub use lookup::Lookup;
+pub use plain_state::PlainState;
+pub use update_set::UpdateSet;
+
+#[cfg(test)]
+mod tests;

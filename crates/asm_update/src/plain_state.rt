@@ -1,0 +1,160 @@
+ghost use Rattle.std.specs.Prelude.{◌≡◌, ◌↔◌, IsNone, IsTrue, OnOk, OnErr, IfOk, false};
+ghost use Rattle.std.specs.Option.{option_copied};
+ghost use Rattle.std.specs.FinMap as map;
+ghost use Rattle.std.specs.BTreeMap.{insert_entry};
+ghost use Rattle.asm_element.specs.Place.{location_cmp};
+ghost use Rattle.asm_element.specs.Value as held;
+ghost use Rattle.asm_update.specs.State as state;
+ghost use Rattle.std.specs.Cmp.{partial_equiv_from_equiv};
+ghost use Rattle.asm_update.specs.Equal.{state_eq, state_eq-equiv};
+
+use crate::proper::proper_location;
+use asm_element::{Location, Value};
+use std::alloc::{AllocError, Global};
+use std::collections::BTreeMap;
+use std::collections::btree_map::Iter;
+use std::marker::Model;
+
+/// A state, as one map from its locations to their values, of which none is undef.
+///
+/// Contracts see it as that finite map. Source: Börger and Stärk, where a state gives each location
+/// a value and `undef` is the value of a location that holds nothing else.
+#[derive(Debug, Drop)]
+pub struct PlainState {
+    values: BTreeMap<Location, Value>,
+}
+
+impl Model for PlainState {
+    ghost use Rattle.std.specs.Prelude.{◌≡◌, false, All};
+    ghost use Rattle.std.specs.FinMap as map;
+    ghost use Rattle.std.specs.List.Sorted.{IsStrictlySortedBy};
+    ghost use Rattle.std.specs.Map.{keys_of, values_of};
+    ghost use Rattle.asm_element.specs.Place as place;
+    ghost use Rattle.asm_element.specs.Place.{location_cmp};
+    ghost use Rattle.asm_element.specs.Value as value;
+    ghost use Rattle.asm_element.specs.contracts.location.Location.{the_row as location_row};
+    ghost use Rattle.asm_element.specs.contracts.value.Value.{the_row as value_row};
+    ghost use Rattle.asm_update.specs.State as state;
+
+    ghost Value = { state.State };
+
+    ghost coded = { map.code location_row.coded value_row.coded };
+
+    ghost view = { λ s. map.from_entries s.values.entries };
+
+    ghost invariant = { λ s. IsStrictlySortedBy location_cmp (keys_of s.values.entries)
+        × All (λ v. value.is_undef v ≡ false) (values_of s.values.entries)
+        × All place.IsProper (keys_of s.values.entries)
+        × All value.IsProper (values_of s.values.entries) };
+}
+
+/// Writes a value, and drops the one that it replaces.
+fn put_entry(
+    values: &mut BTreeMap<Location, Value>,
+    at: Location,
+    value: Value,
+) -> Result<(), AllocError>
+    ensures { OnOk result (values.new.entries ≡ insert_entry location_cmp values.old.entries at value) }
+{
+    values.insert(at, value)?;
+    Ok(())
+}
+
+impl PlainState {
+    /// The state in which each location is undef.
+    pub fn new(alloc: Global) -> Self
+        ensures { result ≡ state.empty }
+    {
+        PlainState {
+            values: BTreeMap::new(alloc),
+        }
+    }
+
+    /// How many locations aren't undef.
+    pub fn len(&self) -> usize
+        ensures { result ≡ map.len self.now }
+    {
+        self.values.len()
+    }
+
+    /// The value at a location; None exactly where it is undef.
+    pub fn get(&self, at: &Location) -> Option<&Value>
+        ensures value { option_copied result ≡ map.get self.now at.now }
+        ensures none { IsNone result ↔ (state.val self.now at.now ≡ held.undef) }
+    {
+        self.values.get(at)
+    }
+
+    /// Gives a location this value; undef takes the location out.
+    ///
+    /// `AllocError` comes only where memory was refused; the state is then unchanged.
+    pub fn set(&mut self, at: Location, value: Value) -> Result<(), AllocError>
+        ensures ok { OnOk result (self.new ≡ state.write self.old at value) }
+        ensures err { OnErr result (self.new ≡ self.old) }
+    {
+        if value.is_undef() {
+            self.take_out(&at);
+            return Ok(());
+        }
+        self.put_in(at, value)
+    }
+
+    fn take_out(&mut self, at: &Location)
+        ensures { self.new ≡ map.remove self.old at.now }
+    {
+        self.values.remove(at);
+    }
+
+    fn put_in(&mut self, at: Location, value: Value) -> Result<(), AllocError>
+        requires { held.is_undef value ≡ false }
+        ensures ok { OnOk result (self.new ≡ map.insert self.old at value) }
+        ensures err { OnErr result (self.new ≡ self.old) }
+    {
+        proper_location(&at);
+        value.proper();
+        self.values.insert(at, value)?;
+        Ok(())
+    }
+
+    /// The locations that aren't undef with their values, in ascending order of locations.
+    pub fn iter(&self) -> Iter<'_, Location, Value>
+        ensures { result ≡ map.entries self.now }
+    {
+        self.values.iter()
+    }
+
+    /// The same state, in memory of its own.
+    pub fn copy(&self, alloc: Global) -> Result<PlainState, AllocError>
+        ensures { IfOk result (λ copy. copy ≡ self.now) }
+    {
+        let mut values = BTreeMap::new(alloc);
+        for (at, value) in &self.values {
+            put_entry(&mut values, at.copy(alloc)?, value.copy(alloc)?)?;
+        }
+        Ok(PlainState { values })
+    }
+
+    /// Does nothing; its contract tells that the state is proper.
+    pub fn proper(&self)
+        ensures { state.IsProper self.now }
+    {
+        let _ = &self.values;
+    }
+}
+
+impl PartialEq for PlainState {
+    ghost eq = { state_eq };
+
+    ghost laws = { partial_equiv_from_equiv state_eq-equiv };
+
+    fn eq(&self, other: &PlainState) -> bool
+        ensures eq { result ≡ state_eq self.now other.now }
+        ensures same { IsTrue result ↔ (self.now ≡ other.now) }
+    {
+        self.values == other.values
+    }
+}
+
+impl Eq for PlainState {
+    ghost laws = { state_eq-equiv };
+}

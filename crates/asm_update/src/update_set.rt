@@ -1,0 +1,97 @@
+ghost use Rattle.std.specs.Prelude.{◌≡◌, ◌↔◌, IsTrue, OnOk, OnErr};
+ghost use Rattle.std.specs.Option.{option_copied};
+ghost use Rattle.std.specs.Cmp.{partial_equiv_from_equiv};
+ghost use Rattle.std.specs.FinMap as map;
+ghost use Rattle.asm_update.specs.Equal.{state_eq, state_eq-equiv};
+
+use asm_element::{Location, Value};
+use std::alloc::{AllocError, Global};
+use std::collections::BTreeMap;
+use std::collections::btree_map::Iter;
+use std::marker::Model;
+
+/// One value for each of some locations, undef among them.
+///
+/// Contracts see it as a finite map. Source: a consistent set of updates, in Börger and Stärk.
+#[derive(Debug, Drop)]
+pub struct UpdateSet {
+    values: BTreeMap<Location, Value>,
+}
+
+impl Model for UpdateSet {
+    ghost use Rattle.std.specs.FinMap as map;
+    ghost use Rattle.std.specs.List.Sorted.{IsStrictlySortedBy};
+    ghost use Rattle.std.specs.Map.{keys_of};
+    ghost use Rattle.asm_element.specs.Place.{location_cmp};
+    ghost use Rattle.asm_element.specs.contracts.location.Location.{the_row as location_row};
+    ghost use Rattle.asm_element.specs.contracts.value.Value.{the_row as value_row};
+    ghost use Rattle.asm_update.specs.State.{Updates};
+
+    ghost Value = { Updates };
+
+    ghost coded = { map.code location_row.coded value_row.coded };
+
+    ghost view = { λ s. map.from_entries s.values.entries };
+
+    ghost invariant = { λ s. IsStrictlySortedBy location_cmp (keys_of s.values.entries) };
+}
+
+impl UpdateSet {
+    /// No updates.
+    pub fn new(alloc: Global) -> Self
+        ensures { result ≡ map.empty }
+    {
+        UpdateSet {
+            values: BTreeMap::new(alloc),
+        }
+    }
+
+    /// How many locations are written.
+    pub fn len(&self) -> usize
+        ensures { result ≡ map.len self.now }
+    {
+        self.values.len()
+    }
+
+    /// The value that is written at a location; None where none is.
+    pub fn get(&self, at: &Location) -> Option<&Value>
+        ensures { option_copied result ≡ map.get self.now at.now }
+    {
+        self.values.get(at)
+    }
+
+    /// Writes the value of a location, in place of the one that it had.
+    ///
+    /// `AllocError` comes only where memory was refused; the updates are then unchanged.
+    pub fn put(&mut self, at: Location, value: Value) -> Result<(), AllocError>
+        ensures ok { OnOk result (self.new ≡ map.insert self.old at value) }
+        ensures err { OnErr result (self.new ≡ self.old) }
+    {
+        self.values.insert(at, value)?;
+        Ok(())
+    }
+
+    /// The locations with their values, in ascending order of locations.
+    pub fn iter(&self) -> Iter<'_, Location, Value>
+        ensures { result ≡ map.entries self.now }
+    {
+        self.values.iter()
+    }
+}
+
+impl PartialEq for UpdateSet {
+    ghost eq = { state_eq };
+
+    ghost laws = { partial_equiv_from_equiv state_eq-equiv };
+
+    fn eq(&self, other: &UpdateSet) -> bool
+        ensures eq { result ≡ state_eq self.now other.now }
+        ensures same { IsTrue result ↔ (self.now ≡ other.now) }
+    {
+        self.values == other.values
+    }
+}
+
+impl Eq for UpdateSet {
+    ghost laws = { state_eq-equiv };
+}
