@@ -1,0 +1,5 @@
+pub mod SetSteps
+pub mod BagSteps
+pub mod ScanLemmas
+pub mod Exits
+pub mod BagTables

@@ -1,0 +1,7 @@
+use Rattle.std.proofs.Common.{take}
+use Rattle.asm_aggregate.proofs.BagSteps.{Put}
+use Rattle.asm_aggregate.proofs.bag_agg.with.Given as goal
+
+-- what the actions so far add is put in
+abbrev pub invariant-loop-action : goal.invariant-loop-action
+invariant-loop-action l = Put l.bag (take l.action-index l.actions) l.initial.bag

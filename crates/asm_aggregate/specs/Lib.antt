@@ -1,0 +1,17 @@
+pub mod Table
+pub mod Families
+pub mod Sets
+pub mod SetMeaning
+pub mod BagMeaning
+pub mod PairMeaning
+pub mod Answer
+pub mod Scan
+pub mod Steps
+pub mod FamilyLemmas
+pub mod TableLemmas
+pub mod SetAlgebra
+pub mod SetLaws
+pub mod BagAlgebra
+pub mod BagLaws
+pub mod PairLaws
+pub mod Nobody

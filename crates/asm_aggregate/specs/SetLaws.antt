@@ -1,0 +1,172 @@
+-- The aggregator of sets keeps the laws.
+use Rattle.std.proofs.Common.{◌≡◌, ◌≢◌, Bool, true, false, cond, not, ◌&&◌, ◌||◌, List, [], ◌∷◌, ◌++◌, refl, sym, ap, subst, ◌∙◌, arith}
+use Rattle.std.specs.Prelude.{Result, Ok, Err, Option, None, Some, unwrap_or, is_some, All, IsPermutation}
+use Rattle.std.specs.List.{list_any, list_all}
+use Rattle.asm_element.specs.Element as element
+use Rattle.asm_element.specs.declared.element.Element.{Element}
+use Rattle.asm_element.specs.Set.{ElementSet, empty, contains, elements, same_set}
+use Rattle.asm_element.specs.Value as value
+use Rattle.asm_element.specs.declared.value.Value.{Value}
+use Rattle.asm_element.specs.declared.value.Value.TheVariants as values
+use Rattle.asm_update.specs.Action.{is_of, kind_of, AllProper}
+use Rattle.asm_update.specs.Aggregator.{AggregatorLaws, Refusal, Refused, after}
+use Rattle.asm_update.specs.declared.action.Action.{Action}
+use Rattle.asm_update.specs.declared.action.Action.TheVariants.{Regular, SetAdd, SetRemove, BagAdd, BagRemove}
+use Rattle.asm_update.specs.declared.action.Family.{Family}
+use Rattle.asm_update.specs.declared.action.Family.TheVariants.{Set}
+use Rattle.asm_update.specs.declared.clash.Cause.TheVariants.{Mixed, Kind, Both, Against}
+use Rattle.asm_aggregate.specs.Families.{is_kind}
+use Rattle.asm_aggregate.specs.FamilyLemmas.{family_is, all_of_one, all-IsPermutation, all_partial, joined_family, nil_parts}
+use Rattle.asm_aggregate.specs.TableLemmas.{passed, not_false, ok_is}
+use Rattle.asm_aggregate.specs.SetMeaning.{owns_sets, members, added, removed, adds_and_removes, updated, additions, removals, set_actions, set_result, set_joins, set_meaning}
+use Rattle.asm_aggregate.specs.SetAlgebra.{added-IsPermutation, removed-IsPermutation, added-set_actions, removed-set_actions, all-set_actions, contains-empty, apart, not_meeting, contains_updated, one_step, never_both, unchanged, some_remain, none_from_none, updated_proper}
+
+any_order : (old : Value) (regular : Option Value) (xs ys : List Action) → IsPermutation xs ys → set_result old regular ys ≡ set_result old regular xs
+any_order old regular xs ys p = rw (all-IsPermutation (is_of Set) xs ys p, added-IsPermutation xs ys p, removed-IsPermutation xs ys p) refl
+
+mixed : (old : Value) (regular : Option Value) (partials : List Action) → ((f : Family) → owns_sets f ≡ true → list_all (is_of f) partials ≡ false) → set_result old regular partials ≡ Err Mixed
+mixed old regular partials h = let none = h Set refl in rw none refl
+
+-- a list of set actions that adds and removes no element at once
+record Fair (actions : List Action) : Type 0 where
+  sets : list_all (is_of Set) actions ≡ true
+  parted : adds_and_removes actions ≡ false
+
+-- what a group that has a result tells of its list and base
+record HadResult (old : Value) (regular : Option Value) (partials : List Action) (w : Value) : Type 0 where
+  fair : Fair partials
+  on_set : is_kind Set (unwrap_or regular old) ≡ true
+  gave : unwrap_or regular (values.Set (updated (members (unwrap_or regular old)) partials)) ≡ w
+
+had_result : (old w : Value) (regular : Option Value) (partials : List Action) → set_result old regular partials ≡ Ok w → HadResult old regular partials w
+had_result old w regular partials h =
+    let sets = passed _ _ _ _ h in
+    let kind = passed _ _ _ _ sets.1 in
+    let parted = passed _ _ _ _ kind.1 in
+    let agrees = passed _ _ _ _ parted.1 in
+    record { fair = record { sets = not_false _ sets.0; parted = parted.0 }; on_set = not_false _ kind.0; gave = ok_is _ _ agrees.1 }
+
+no_actions_fair : Fair []
+no_actions_fair = record { sets = refl; parted = not_meeting empty empty (λ e. ap (λ b. b && contains empty e) (contains-empty e)) }
+
+after_fair : (v w : Value) (actions : List Action) → after set_meaning v actions ≡ Ok w → Fair actions
+after_fair v w [] h = no_actions_fair
+after_fair v w (x ∷ xs) h = (had_result v w None (x ∷ xs) h).fair
+
+after_on_set : (s : ElementSet) (actions : List Action) → Fair actions → after set_meaning (values.Set s) actions ≡ Ok (values.Set (updated s actions))
+after_on_set s [] fair = ap (λ t. Ok (values.Set t)) (unchanged s)
+after_on_set s (x ∷ xs) fair = rw (fair.sets, fair.parted) refl
+
+after_off_set : (v : Value) (actions : List Action) → is_kind Set v ≡ false → Fair actions → actions ≢ [] → after set_meaning v actions ≡ Err Kind
+after_off_set v [] off fair ne = absurd (ne refl)
+after_off_set v (x ∷ xs) off fair ne = rw (fair.sets, off) refl
+
+joined_fair : (first second : List Action) → Fair first → Fair second → Fair (set_actions (additions first second) (removals first second))
+joined_fair first second fair1 fair2 = record {
+  sets = all-set_actions _ _;
+  parted = rw (added-set_actions, removed-set_actions) (not_meeting _ _ (λ e. rw (contains_updated, contains_updated)
+      (never_both (contains (added first) e) (contains (removed first) e) (contains (added second) e) (contains (removed second) e) (apart _ _ fair1.parted e) (apart _ _ fair2.parted e))));
+}
+
+off_set_empty : (v w : Value) (first : List Action) → is_kind Set v ≡ false → after set_meaning v first ≡ Ok w → (first ≡ []) × (v ≡ w)
+off_set_empty v w [] off h = (refl, ok_is _ _ h)
+off_set_empty v w (x ∷ xs) off h = let on = (had_result v w None (x ∷ xs) h).on_set in cc
+
+off_set : (v w : Value) (first second : List Action) → is_kind Set v ≡ false → Fair first → Fair second → first ++ second ≢ [] → after set_meaning v first ≡ Ok w →
+    after set_meaning v (set_actions (additions first second) (removals first second)) ≡ after set_meaning w second
+off_set v w first second off fair1 fair2 ne h =
+    let start = off_set_empty v w first off h in
+    let some : second ≢ [] = λ none. ne (ap (λ xs. xs ++ second) start.0 ∙ none) in
+    after_off_set v _ off (joined_fair first second fair1 fair2) (some_remain first second fair2.sets some)
+    ∙ sym (ap (λ u. after set_meaning u second) (sym start.1) ∙ after_off_set v second off fair2 some)
+
+-- the joined list leaves the members that the second leaves after the first
+one_after_other : (s : ElementSet) (first second : List Action) (e : Element) → contains (updated s (set_actions (additions first second) (removals first second))) e ≡ contains (updated (updated s first) second) e
+one_after_other s first second e =
+    let a = additions first second in
+    let r = removals first second in
+    contains_updated s (added (set_actions a r)) (removed (set_actions a r)) e
+    ∙ (λ i. (contains s e && not (contains (removed-set_actions a r i) e)) || contains (added-set_actions a r i) e)
+    ∙ (λ i. (contains s e && not (contains_updated (removed first) (removed second) (added second) e i)) || contains_updated (added first) (added second) (removed second) e i)
+    ∙ one_step (contains s e) (contains (added first) e) (contains (removed first) e) (contains (added second) e) (contains (removed second) e)
+    ∙ sym (contains_updated (updated s first) (added second) (removed second) e ∙ (λ i. (contains_updated s (added first) (removed first) e i && not (contains (removed second) e)) || contains (added second) e))
+
+on_set : (s : ElementSet) (w : Value) (first second : List Action) → Fair first → Fair second → after set_meaning (values.Set s) first ≡ Ok w →
+    after set_meaning (values.Set s) (set_actions (additions first second) (removals first second)) ≡ after set_meaning w second
+on_set s w first second fair1 fair2 h =
+    let between : values.Set (updated s first) ≡ w = ok_is _ _ (sym (after_on_set s first fair1) ∙ h) in
+    after_on_set s _ (joined_fair first second fair1 fair2)
+    ∙ ap (λ t. Ok (values.Set t)) (same_set _ _ (λ e. one_after_other s first second e))
+    ∙ sym (ap (λ u. after set_meaning u second) (sym between) ∙ after_on_set (updated s first) second fair2)
+
+in_sequence : (v w : Value) (first second : List Action) → Fair first → Fair second → first ++ second ≢ [] → after set_meaning v first ≡ Ok w →
+    after set_meaning v (set_actions (additions first second) (removals first second)) ≡ after set_meaning w second
+in_sequence (values.Set s) w first second fair1 fair2 ne h = on_set s w first second fair1 fair2 h
+in_sequence v w first second fair1 fair2 ne h = off_set v w first second refl fair1 fair2 ne h
+
+-- what two lists that have a join tell
+record HadJoin (first second joined : List Action) : Type 0 where
+  fair_first : Fair first
+  fair_second : Fair second
+  gave : set_actions (additions first second) (removals first second) ≡ joined
+
+had_join : (first second joined : List Action) → set_joins first second ≡ Ok joined → HadJoin first second joined
+had_join first second joined h =
+    let sets1 = passed _ _ _ _ h in
+    let parted1 = passed _ _ _ _ sets1.1 in
+    let sets2 = passed _ _ _ _ parted1.1 in
+    let parted2 = passed _ _ _ _ sets2.1 in
+    record {
+      fair_first = record { sets = not_false _ sets1.0; parted = parted1.0 };
+      fair_second = record { sets = not_false _ sets2.0; parted = parted2.0 };
+      gave = ok_is _ _ parted2.1;
+    }
+
+join_is_sequence : (v w : Value) (first second joined : List Action) → value.IsProper v → AllProper first → AllProper second → first ++ second ≢ [] → set_joins first second ≡ Ok joined → after set_meaning v first ≡ Ok w → after set_meaning v joined ≡ after set_meaning w second
+join_is_sequence v w first second joined _ _ _ ne join h =
+    let had = had_join first second joined join in
+    ap (after set_meaning v) (sym had.gave) ∙ in_sequence v w first second had.fair_first had.fair_second ne h
+
+refused_join : (v w x : Value) (first second : List Action) (refusal : Refusal) → value.IsProper v → AllProper first → AllProper second → first ++ second ≢ [] → set_joins first second ≡ Err refusal → after set_meaning v first ≡ Ok w → after set_meaning w second ≢ Ok x
+refused_join v w x first second refusal _ _ _ ne join h k =
+    let fair1 = after_fair v w first h in
+    let fair2 = after_fair w x second k in
+    let had = rw (fair1.sets, fair1.parted, fair2.sets, fair2.parted) at join in
+    cc
+
+gave_set : (old w : Value) (regular : Option Value) (partials : List Action) → HadResult old regular partials w → is_kind Set w ≡ true
+gave_set old w (Some v) partials had = ap (is_kind Set) (sym had.gave) ∙ had.on_set
+gave_set old w None partials had = ap (is_kind Set) (sym had.gave)
+
+kind_kept : (f : Family) (old w : Value) (regular : Option Value) (partials : List Action) → partials ≢ [] → list_all (is_of f) partials ≡ true → set_result old regular partials ≡ Ok w → (kind_of (unwrap_or regular old) ≡ Some f) × (kind_of w ≡ Some f)
+kind_kept f old w regular partials ne all h =
+    let had = had_result old w regular partials h in
+    let same : Set ≡ f = all_of_one Set f partials ne had.fair.sets all in
+    (family_is Set _ had.on_set ∙ ap Some same, family_is Set _ (gave_set old w regular partials had) ∙ ap Some same)
+
+proper_kept : (old w : Value) (partials : List Action) → value.IsProper old → AllProper partials → set_result old None partials ≡ Ok w → value.IsProper w
+proper_kept (values.Set s) w partials po pp h = subst value.IsProper (had_result (values.Set s) w None partials h).gave (updated_proper s partials po pp)
+proper_kept old w partials po pp h = let on = (had_result old w None partials h).on_set in cc
+
+join_all : (first second joined : List Action) → set_joins first second ≡ Ok joined → list_all (is_of Set) joined ≡ true
+join_all first second joined h = ap (list_all (is_of Set)) (sym (had_join first second joined h).gave) ∙ all-set_actions _ _
+
+join_family : (f : Family) (first second joined : List Action) → set_joins first second ≡ Ok joined → list_any (is_of f) joined ≡ true → list_any (is_of f) (first ++ second) ≡ true
+join_family f first second joined join h =
+    let had = had_join first second joined join in
+    joined_family Set f first second joined had.fair_first.sets had.fair_second.sets (join_all first second joined join)
+    (λ none. let parts = nil_parts first second none in sym had.gave ∙ (λ i. set_actions (additions (parts.0 i) (parts.1 i)) (removals (parts.0 i) (parts.1 i))) ∙ none_from_none) h
+
+pub set_laws : AggregatorLaws set_meaning
+set_laws = record {
+  any_order = any_order;
+  mixed = mixed;
+  join_is_sequence = join_is_sequence;
+  refused_join = refused_join;
+  regular_result = λ old v w partials h. sym (had_result old w (Some v) partials h).gave;
+  regular_decides = λ old other v partials. refl;
+  kind_kept = kind_kept;
+  proper_kept = proper_kept;
+  join_is_partial = λ first second joined h. all_partial Set joined (join_all first second joined h);
+  join_family = join_family;
+}

@@ -1,0 +1,84 @@
+ghost use Rattle.std.specs.Prelude.{◌≡◌, ◌++◌, unwrap_or, IfOk};
+ghost use Rattle.std.specs.Option.{option_copied};
+ghost use Rattle.std.specs.List.{list_all};
+ghost use Rattle.asm_element.specs.Value.{undef};
+ghost use Rattle.asm_update.specs.Action.{is_of};
+ghost use Rattle.asm_aggregate.specs.Families as families;
+
+use asm_element::Value;
+use asm_update::{Action, Family, Group};
+use std::alloc::{AllocError, Global};
+
+fn belongs_to(action: &Action, family: Family) -> bool
+    ensures { result ≡ is_of family action.now }
+{
+    match action {
+        Action::Regular(_) => false,
+        Action::SetAdd(_) | Action::SetRemove(_) => matches!(family, Family::Set),
+        Action::BagAdd(..) | Action::BagRemove(..) => matches!(family, Family::Bag),
+    }
+}
+
+/// Whether the actions are all partial updates of the family.
+pub(crate) fn are_all_of(family: Family, actions: &[Action]) -> bool
+    ensures { result ≡ list_all (is_of family) actions.now }
+{
+    actions.iter().all(|action| belongs_to(action, family))
+}
+
+/// The family of all the actions, if there is one.
+pub(crate) fn common_family(actions: &[Action]) -> Option<Family>
+    ensures { result ≡ families.common_family actions.now }
+{
+    let Some((first, rest)) = actions.split_first() else {
+        return None;
+    };
+    let Some(family) = first.family() else {
+        return None;
+    };
+    if are_all_of(family, rest) {
+        Some(family)
+    } else {
+        None
+    }
+}
+
+/// The family of all the actions of both lists, if there is one.
+pub(crate) fn family_of_both(first: &[Action], second: &[Action]) -> Option<Family>
+    ensures { result ≡ families.common_family (first.now ++ second.now) }
+{
+    if first.is_empty() {
+        return common_family(second);
+    }
+    let Some(family) = common_family(first) else {
+        return None;
+    };
+    if are_all_of(family, second) {
+        Some(family)
+    } else {
+        None
+    }
+}
+
+/// The value that a group's partial updates change: the regular value, or else the old one.
+pub(crate) fn base_of<'a>(old: Option<&'a Value>, group: &'a Group) -> Option<&'a Value>
+    ensures { unwrap_or (option_copied result) undef ≡ unwrap_or group.now.regular (unwrap_or (option_copied old.entry) undef) }
+{
+    match group.regular() {
+        Some(value) => Some(value),
+        None => old,
+    }
+}
+
+/// The same action, in memory of its own.
+pub(crate) fn copy_of(alloc: Global, action: &Action) -> Result<Action, AllocError>
+    ensures { IfOk result (λ copy. copy ≡ action.now) }
+{
+    Ok(match action {
+        Action::Regular(value) => Action::Regular(value.copy(alloc)?),
+        Action::SetAdd(element) => Action::SetAdd(element.copy(alloc)?),
+        Action::SetRemove(element) => Action::SetRemove(element.copy(alloc)?),
+        Action::BagAdd(element, amount) => Action::BagAdd(element.copy(alloc)?, *amount),
+        Action::BagRemove(element, amount) => Action::BagRemove(element.copy(alloc)?, *amount),
+    })
+}

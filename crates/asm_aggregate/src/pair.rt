@@ -1,0 +1,127 @@
+ghost use Rattle.std.specs.Prelude.{◌≡◌, ◌≢◌, ◌++◌, true, false, []};
+ghost use Rattle.std.specs.List.{list_all};
+ghost use Rattle.asm_update.specs.Action.{is_partial};
+ghost use Rattle.asm_update.specs.declared.action.Family as family;
+ghost use Rattle.asm_aggregate.specs.BagMeaning.{bag_meaning};
+ghost use Rattle.asm_aggregate.specs.PairLaws.{pair_laws};
+ghost use Rattle.asm_aggregate.specs.PairMeaning.{pair_meaning, refused, own_cause};
+ghost use Rattle.asm_aggregate.specs.SetMeaning.{set_meaning};
+ghost use Rattle.asm_aggregate.specs.Steps.{IsOwnCause};
+
+use crate::bag_agg::BagAgg;
+use crate::families::{common_family, family_of_both};
+use crate::set_agg::SetAgg;
+use asm_element::Value;
+use asm_update::{Action, Aggregator, Cause, Family, Group, JoinError, ResultError};
+use std::alloc::Global;
+
+/// Two aggregators as one: it owns what either of them owns, and leaves each group to the one that
+/// owns its family. Partial updates of two families, or of one that neither owns, are `Mixed`
+/// (this project's profile).
+#[derive(Debug, Drop)]
+pub struct Pair<A, B> {
+    a: A,
+    b: B,
+}
+
+/// The cause for which the aggregator refuses the actions with nothing after them, if it does so.
+fn own_cause_by<A: Aggregator>(
+    aggregator: &A,
+    alloc: Global,
+    actions: &[Action],
+) -> Result<(), JoinError>
+    requires some { actions.now ++ [] ≢ [] }
+    requires partial { list_all is_partial (actions.now ++ []) ≡ true }
+    ensures { IsOwnCause result (refused ((A.meaning aggregator.now).joins actions.now [])) }
+{
+    match aggregator.join(alloc, actions, &[]) {
+        Ok(_) => Ok(()),
+        Err(JoinError::Cause(cause)) => Err(JoinError::Cause(cause)),
+        Err(JoinError::Large) => Ok(()),
+        Err(JoinError::Memory) => Err(JoinError::Memory),
+    }
+}
+
+impl<A: Aggregator, B: Aggregator> Pair<A, B> {
+    /// The two as one. No family may be owned by both.
+    pub fn new(a: A, b: B) -> Pair<A, B>
+        requires { (f : family.Family) → (A.meaning a).owns f ≡ true → (B.meaning b).owns f ≡ false }
+        ensures { ⟦<Pair<A, B> as Aggregator>⟧.meaning result ≡ pair_meaning (A.meaning a) (B.meaning b) }
+    {
+        Pair { a, b }
+    }
+
+    /// The cause for which the actions have no result on any value, if there is one.
+    fn own_cause_of(&self, alloc: Global, actions: &[Action]) -> Result<(), JoinError>
+        ensures { IsOwnCause result (own_cause (A.meaning self.now.a) (B.meaning self.now.b) actions.now) }
+    {
+        if actions.is_empty() {
+            return Ok(());
+        }
+        let Some(family) = common_family(actions) else {
+            return Err(JoinError::Cause(Cause::Mixed));
+        };
+        if self.a.owns(family) {
+            own_cause_by(&self.a, alloc, actions)
+        } else if self.b.owns(family) {
+            own_cause_by(&self.b, alloc, actions)
+        } else {
+            Err(JoinError::Cause(Cause::Mixed))
+        }
+    }
+}
+
+impl<A: Aggregator, B: Aggregator> Aggregator for Pair<A, B> {
+    ghost meaning = { λ p. pair_meaning (A.meaning p.a) (B.meaning p.b) };
+
+    ghost laws = { λ p. pair_laws (A.laws p.a) (B.laws p.b) };
+
+    fn owns(&self, family: Family) -> bool {
+        self.a.owns(family) || self.b.owns(family)
+    }
+
+    fn result(
+        &self,
+        alloc: Global,
+        old: Option<&Value>,
+        group: &Group,
+    ) -> Result<Value, ResultError> {
+        let Some(family) = common_family(group.partials()) else {
+            return Err(ResultError::Cause(Cause::Mixed));
+        };
+        if self.a.owns(family) {
+            self.a.result(alloc, old, group)
+        } else if self.b.owns(family) {
+            self.b.result(alloc, old, group)
+        } else {
+            Err(ResultError::Cause(Cause::Mixed))
+        }
+    }
+
+    fn join(
+        &self,
+        alloc: Global,
+        first: &[Action],
+        second: &[Action],
+    ) -> Result<Vec<Action>, JoinError> {
+        self.own_cause_of(alloc, first)?;
+        self.own_cause_of(alloc, second)?;
+        let Some(family) = family_of_both(first, second) else {
+            return Err(JoinError::Cause(Cause::Kind));
+        };
+        if self.a.owns(family) {
+            self.a.join(alloc, first, second)
+        } else if self.b.owns(family) {
+            self.b.join(alloc, first, second)
+        } else {
+            Err(JoinError::Cause(Cause::Kind))
+        }
+    }
+}
+
+/// The aggregator of sets and bags.
+pub fn standard() -> Pair<SetAgg, BagAgg>
+    ensures { ⟦<Pair<SetAgg, BagAgg> as Aggregator>⟧.meaning result ≡ pair_meaning set_meaning bag_meaning }
+{
+    Pair::new(SetAgg, BagAgg)
+}
