@@ -1,9 +1,9 @@
 -- Bags, sums of amounts and lists of actions, one step of a loop at a time.
-use Rattle.std.proofs.Common.{◌≡◌, ℕ, ◌+◌, ◌-◌, ◌*◌, ◌<◌, ◌≤◌, ◌^◌, Bool, true, false, cond, not, ◌&&◌, ◌||◌, List, [], ◌∷◌, ◌++◌, map, length, take, get_or, refl, sym, ap, subst, ◌∙◌, arith, nat_lt, append_assoc}
-use Rattle.std.specs.Prelude.{sum_by, filter, Result, Ok, Err, All}
+use Rattle.std.proofs.Common.{◌≡◌, ℕ, ◌+◌, ◌-◌, ◌*◌, ◌<◌, ◌≤◌, ◌^◌, Bool, true, false, cond, ◌||◌, List, [], ◌∷◌, ◌++◌, length, take, get_or, refl, sym, ap, subst, ◌∙◌, arith, nat_lt, append_assoc}
+use Rattle.std.specs.Prelude.{sum_by, Ok, Err}
 use Rattle.std.specs.List.{list_any, filter_map}
 use Rattle.std.specs.Ordering.{eq_by_cmp}
-use Rattle.std.proofs.lemmas.List.{take_more, take_all}
+use Rattle.std.proofs.lemmas.List.{take_all}
 use Rattle.std.proofs.lemmas.List.Folds.{list_any-append}
 use Rattle.std.proofs.lemmas.List.Sums.{sum_by_more, sum_by-take-le}
 use Rattle.std.proofs.lemmas.Bool.Decides.{nat_tests}
@@ -11,16 +11,14 @@ use Rattle.asm_element.specs.Element.{element_cmp}
 use Rattle.asm_element.specs.declared.element.Element.{Element}
 use Rattle.asm_element.specs.declared.value.Value.TheVariants as values
 use Rattle.asm_element.specs.Set as set
-use Rattle.asm_element.specs.Bag as bag
 use Rattle.asm_element.specs.Bag.{ElementBag, count, set_count}
-use Rattle.asm_update.specs.Fire.{Outcome}
 use Rattle.asm_update.specs.declared.action.Action.{Action}
 use Rattle.asm_update.specs.declared.action.Action.TheVariants.{Regular, SetAdd, SetRemove, BagAdd, BagRemove}
 use Rattle.asm_update.specs.declared.clash.Cause.TheVariants.{Short, Large}
-use Rattle.asm_aggregate.specs.Steps.{with_named, one_addition, one_removal}
+use Rattle.asm_aggregate.specs.Steps.{with_named}
 use Rattle.asm_aggregate.specs.SetAlgebra.{same_element, itself, contains-empty, contains-insert, contains-elements, found}
-use Rattle.asm_aggregate.specs.BagMeaning.{addition, removal, added_count, removed_count, element_of, named, is_large, new_count, all_additions, all_removals}
-use Rattle.asm_aggregate.specs.BagAlgebra.{has, names, has-names, has-named, Small, held, renewed, unnamed, count-set_count, get-renewed, small_held, small_below, small_bag, same_counts}
+use Rattle.asm_aggregate.specs.BagMeaning.{addition, removal, added_count, removed_count, element_of, named, is_large, new_count}
+use Rattle.asm_aggregate.specs.BagAlgebra.{has, names, has-names, Small, held, renewed, unnamed, count-set_count, get-renewed, small_held, small_below, same_counts}
 use Rattle.asm_aggregate.specs.BagLaws.{short, large, tabled, none_short, none_large}
 use Rattle.asm_aggregate.proofs.SetSteps.{any_more}
 
@@ -196,25 +194,10 @@ named_both none one both first second empty h k = ap set.elements (set.same_set 
 large_more : (f : Element → ℕ) (left rest : List Element) (x : Element) → left ≡ x ∷ rest → list_any (λ e. is_large (f e)) left ≡ (is_large (f x) || list_any (λ e. is_large (f e)) rest)
 large_more f left rest x is = ap (list_any (λ e. is_large (f e))) is
 
-pub additions-cons : (f : Element → ℕ) (x : Element) (rest : List Element) → all_additions f (x ∷ rest) ≡ one_addition x (f x) ++ all_additions f rest
-additions-cons f x rest = at (nat_lt 0 (f x)) where
-  at : (b : Bool) → map (λ e. BagAdd e (f e)) (cond b (x ∷ filter (λ e. nat_lt 0 (f e)) rest) (filter (λ e. nat_lt 0 (f e)) rest)) ≡ cond b (BagAdd x (f x) ∷ []) [] ++ all_additions f rest
-  at true = refl
-  at false = refl
-
-pub removals-cons : (f : Element → ℕ) (x : Element) (rest : List Element) → all_removals f (x ∷ rest) ≡ one_removal x (f x) ++ all_removals f rest
-removals-cons f x rest = at (nat_lt 0 (f x)) where
-  at : (b : Bool) → map (λ e. BagRemove e (f e)) (cond b (x ∷ filter (λ e. nat_lt 0 (f e)) rest) (filter (λ e. nat_lt 0 (f e)) rest)) ≡ cond b (BagRemove x (f x) ∷ []) [] ++ all_removals f rest
-  at true = refl
-  at false = refl
-
 -- a list of actions to which those of the elements that are left are still to be added
 pub record Pushed (f : Element → ℕ) (make : List Element → List Action) (items : List Action) (left : List Element) (before : List Action) (all : List Element) : Type 0 where
   pub list : items ++ make left ≡ before ++ make all
   pub small : list_any (λ e. is_large (f e)) left ≡ list_any (λ e. is_large (f e)) all
-
-pub pushed_start : (f : Element → ℕ) (make : List Element → List Action) (items : List Action) (all : List Element) → Pushed f make items all items all
-pushed_start f make items all = record { list = refl; small = refl }
 
 pub pushed_more : (f : Element → ℕ) (make : List Element → List Action) (one : Element → ℕ → List Action) (items new before : List Action) (left rest all : List Element) (x : Element) (n : ℕ) → ((x : Element) (rest : List Element) → make (x ∷ rest) ≡ one x (f x) ++ make rest) →
     left ≡ x ∷ rest → n ≡ f x → is_large n ≡ false → new ≡ items ++ one x n → Pushed f make items left before all → Pushed f make new rest before all
@@ -226,14 +209,3 @@ pushed_more f make one items new before left rest all x n cons is got low pushed
 append_none : {X : Type 0} (xs : List X) → xs ++ [] ≡ xs
 append_none [] = refl
 append_none (x ∷ xs) = ap (λ ys. x ∷ ys) (append_none xs)
-
-pub pushed_items : (f : Element → ℕ) (make : List Element → List Action) (items before : List Action) (left all whole : List Element) → make [] ≡ [] → left ≡ [] → all ≡ whole → Pushed f make items left before all → items ≡ before ++ make whole
-pushed_items f make items before left all whole nothing none is had =
-    sym (ap (λ l. items ++ make l) none ∙ ap (λ l. items ++ l) nothing ∙ append_none items) ∙ had.list ∙ ap (λ l. before ++ make l) is
-
-pub pushed_small : (f : Element → ℕ) (make : List Element → List Action) (items before : List Action) (left all whole : List Element) → left ≡ [] → all ≡ whole → Pushed f make items left before all → list_any (λ e. is_large (f e)) whole ≡ false
-pushed_small f make items before left all whole none is had = ap (list_any (λ e. is_large (f e))) (sym is) ∙ sym had.small ∙ ap (list_any (λ e. is_large (f e))) none
-
-pub pushed_large : (f : Element → ℕ) (make : List Element → List Action) (items before : List Action) (left rest all whole : List Element) (x : Element) (n : ℕ) → left ≡ x ∷ rest → n ≡ f x → is_large n ≡ true → all ≡ whole → Pushed f make items left before all → list_any (λ e. is_large (f e)) whole ≡ true
-pushed_large f make items before left rest all whole x n is got high start had =
-    ap (list_any (λ e. is_large (f e))) (sym start) ∙ sym had.small ∙ large_more f left rest x is ∙ ap (λ b. b || list_any (λ e. is_large (f e)) rest) (ap is_large (sym got) ∙ high)

@@ -1,6 +1,6 @@
 -- The tables of bags, from what the calls on the way to them tell.
-use Rattle.std.proofs.Common.{◌≡◌, ℕ, ◌+◌, ◌<◌, Bool, true, false, cond, not, ◌||◌, List, [], ◌∷◌, ◌++◌, refl, sym, ap, subst, ◌∙◌}
-use Rattle.std.specs.Prelude.{Result, Ok, Err, Option, None, Some, unwrap_or, is_some}
+use Rattle.std.proofs.Common.{◌≡◌, ◌+◌, ◌<◌, Bool, true, false, cond, not, ◌||◌, List, [], ◌∷◌, ◌++◌, refl, sym, ap, subst, ◌∙◌}
+use Rattle.std.specs.Prelude.{Ok, Err, Option, None, Some, unwrap_or, is_some}
 use Rattle.std.specs.Borrow.{Bor}
 use Rattle.std.specs.Option.{option_copied}
 use Rattle.std.specs.List.{list_any, list_all}
@@ -22,7 +22,7 @@ use Rattle.asm_update.specs.declared.clash.Cause.TheVariants.{Mixed, Kind, Again
 use Rattle.asm_aggregate.specs.Families.{is_kind}
 use Rattle.asm_aggregate.specs.BagMeaning.{counts, added_count, removed_count, named, is_large, additions, removals, all_additions, all_removals, bag_result, bag_joins}
 use Rattle.asm_aggregate.specs.BagAlgebra.{Small, renewed, small_bag}
-use Rattle.asm_aggregate.specs.BagLaws.{short, large, tabled}
+use Rattle.asm_aggregate.specs.BagLaws.{large, tabled}
 use Rattle.asm_aggregate.proofs.BagSteps.{is_short, not_short, is_above, result_is}
 
 abbrev outcome_by : Bool → Value → Bool → List Action → Outcome

@@ -1,6 +1,6 @@
 -- What a call answers where a step of it has an error.
 use Rattle.std.proofs.Common.{◌≡◌, ℕ, ◌<◌, Bool, true, sym, subst}
-use Rattle.std.specs.Prelude.{Result, Ok, Err}
+use Rattle.std.specs.Prelude.{Result, Err}
 use Rattle.asm_element.specs.declared.element.Element.{Element}
 use Rattle.asm_update.specs.Aggregator.{Joined, TooLarge}
 use Rattle.asm_update.specs.Answer.{IsOutcome, IsJoined}

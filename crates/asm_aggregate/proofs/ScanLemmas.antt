@@ -1,15 +1,15 @@
 -- A scan of a move's instructions, one more at a time.
-use Rattle.std.proofs.Common.{◌≡◌, ◌≢◌, ℕ, ◌+◌, ◌<◌, ◌≤◌, Bool, true, false, cond, not, ◌&&◌, ◌||◌, List, [], ◌∷◌, ◌++◌, map, length, take, drop, get_or, refl, sym, ap, subst, ◌∙◌, arith}
-use Rattle.std.specs.Prelude.{Result, Ok, Err, Option, None, Some, is_some, IsSomeAnd, IfSome, IsOk, slice_get, filter}
+use Rattle.std.proofs.Common.{◌≡◌, ◌≢◌, ℕ, ◌+◌, ◌≤◌, Bool, true, false, cond, not, ◌||◌, List, [], ◌∷◌, ◌++◌, map, length, take, drop, refl, sym, ap, subst, ◌∙◌, arith}
+use Rattle.std.specs.Prelude.{Ok, Err, Option, None, Some, is_some, IsSomeAnd, IfSome, slice_get, filter}
 use Rattle.std.specs.declared.cmp.Ordering.{Ordering}
 use Rattle.std.specs.declared.cmp.Ordering.TheVariants.{Less, Equal, Greater}
-use Rattle.std.specs.Ordering.{eq_by_cmp, is_lt, is_eq}
+use Rattle.std.specs.Ordering.{eq_by_cmp, is_lt}
 use Rattle.std.specs.Cmp.{Equal-is, eq_by_cmp_equiv}
 use Rattle.std.specs.List.{list_any, list_all, filter_map}
 use Rattle.std.specs.FinMap as finite
 use Rattle.std.proofs.lemmas.List.{take_more, take_all, take-append-drop, map-append}
 use Rattle.std.proofs.lemmas.List.Elements.{filter-append, filter_map-append}
-use Rattle.std.proofs.lemmas.List.Folds.{list_all-append, list_any-append}
+use Rattle.std.proofs.lemmas.List.Folds.{list_any-append}
 use Rattle.std.proofs.lemmas.Option.{slice_get_within, get_or_from_slice_get}
 use Rattle.asm_element.specs.Place.{Place, location_cmp, location_cmp_total, same_location}
 use Rattle.asm_element.specs.Value.{value_eq}
@@ -17,7 +17,7 @@ use Rattle.asm_element.specs.declared.value.Value.{Value}
 use Rattle.asm_update.specs.Action.{is_partial, regular_value}
 use Rattle.asm_update.specs.Move.{Move, actions_at, writes, are_different}
 use Rattle.asm_update.specs.State.{Updates}
-use Rattle.asm_update.specs.Fire.{Part, Old, Outcome, first, group_result, res, outcome_at, IsUpdateSet, IsLeastClash}
+use Rattle.asm_update.specs.Fire.{Part, Old, first, group_result, outcome_at}
 use Rattle.asm_update.specs.declared.action.Action.{Action}
 use Rattle.asm_update.specs.declared.action.Action.TheVariants.{Regular, SetAdd, SetRemove, BagAdd, BagRemove}
 use Rattle.asm_update.specs.declared.action.Instruction.{Instruction}
@@ -174,22 +174,6 @@ partials_partial (BagRemove e n ∷ xs) = partials_partial xs
 pub gathered_partials : (seen : Move) (at : Place) (regular : Option Value) (partials : List Action) → IsGathered seen at regular partials → list_all is_partial partials ≡ true
 gathered_partials seen at regular partials had = ap (list_all is_partial) had.rest ∙ partials_partial (actions_at seen at)
 
--- the outcome of what a whole scan gathered
-pub result_alone : (part : Part) (old : Old) (move : Move) (at : Place) (v : Value) (partials : List Action) → partials ≡ [] → IsGathered move at (Some v) partials → outcome_at part old move at ≡ Ok v
-result_alone part old move at v partials none had =
-    (λ j. cond (are_different (had.alike.1 j)) (Err Two) (group_result part (old at) (first (had.alike.1 j)) ((sym had.rest ∙ none) j)))
-    ∙ ap (λ b. cond b (Err Two) (Ok v)) had.alike.2
-
-pub result_of_group : (part : Part) (old : Old) (move : Move) (at : Place) (regular : Option Value) (partials : List Action) → partials ≢ [] → IsGathered move at regular partials → outcome_at part old move at ≡ part (old at) regular partials
-result_of_group part old move at None partials some had =
-    λ j. cond (are_different (had.alike j)) (Err Two) (group_result part (old at) (first (had.alike j)) (sym had.rest j))
-result_of_group part old move at (Some v) partials some had =
-    (λ j. cond (are_different (had.alike.1 j)) (Err Two) (group_result part (old at) (first (had.alike.1 j)) (sym had.rest j)))
-    ∙ ap (λ b. cond b (Err Two) (group_result part (old at) (Some v) partials)) had.alike.2 ∙ grouped partials some where
-      grouped : (ps : List Action) → ps ≢ [] → group_result part (old at) (Some v) ps ≡ part (old at) (Some v) ps
-      grouped [] ne = absurd (ne refl)
-      grouped (p ∷ ps) ne = refl
-
 -- what a scan of some instructions of a move has settled
 pub record IsScanned (part : Part) (old : Old) (move seen : Move) (updates : Updates) (clash : Option Clash) : Type 0 where
   pub results : (l : Place) → writes seen l ≡ true → stands_by clash l ≡ false → IsSomeAnd (finite.get updates l) (λ v. outcome_at part old move l ≡ Ok v)
@@ -280,25 +264,6 @@ module _ (part : Part) (old : Old) (move : Move) (i : ℕ) (x : Instruction) (re
         let same : location_cmp l x.at ≡ Equal = ap (λ k. location_cmp k x.at) (sym (same_location x.at l e)) ∙ (Equal-is (location_cmp x.at x.at)).0 (itself x.at) in
         let lt = less l below in cc
     by_test l false e below h = sym (or_false (writes (take i move) l)) ∙ h
-
-pub all_scanned : (part : Part) (old : Old) (move : Move) (i : ℕ) (updates : Updates) → length move ≤ i → IsScanned part old move (take i move) updates None → IsUpdateSet part old move updates
-all_scanned part old move i updates whole had =
-    let all : take i move ≡ move = take_all i move whole in record {
-      written = λ l h. had.results l (ap (λ m. writes m l) all ∙ h) refl;
-      others = λ l h. had.others l (ap (λ m. writes m l) all ∙ h);
-    }
-
-has_result : (held : Option Value) (outcome : Outcome) → IsSomeAnd held (λ v. outcome ≡ Ok v) → IsOk outcome
-has_result (Some v) outcome h = subst IsOk (sym h) refl
-has_result None outcome h = absurd h
-
-pub clash_scanned : (part : Part) (old : Old) (move : Move) (i : ℕ) (updates : Updates) (clash : Clash) → length move ≤ i → IsScanned part old move (take i move) updates (Some clash) → IsLeastClash part old move clash
-clash_scanned part old move i updates clash whole had =
-    let all : take i move ≡ move = take_all i move whole in record {
-      written = had.standing.0;
-      cause = had.standing.1;
-      least = λ l below h. has_result (finite.get updates l) _ (had.results l (ap (λ m. writes m l) all ∙ h) (ap (λ o. not (is_lt o)) below));
-    }
 
 pub partial_unless : (x : Action) → ((v : Value) → x ≡ Regular v → ⊥) → is_partial x ≡ true
 partial_unless (Regular v) h = absurd (h v refl)

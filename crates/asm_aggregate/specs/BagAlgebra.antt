@@ -1,6 +1,6 @@
 -- Counts of the bags and lists that the definitions of bag updates make.
-use Rattle.std.proofs.Common.{◌≡◌, ◌≢◌, ℕ, zero, suc, ◌+◌, ◌-◌, ◌<◌, ◌≤◌, ◌^◌, Bool, true, false, cond, not, ◌&&◌, ◌||◌, List, [], ◌∷◌, ◌++◌, map, refl, sym, ap, subst, ◌∙◌, arith, add-zero, zero-add, nat_lt}
-use Rattle.std.specs.Prelude.{Option, None, Some, unwrap_or, IfSome, is_some, sum_by, filter, All, IsPermutation, T}
+use Rattle.std.proofs.Common.{◌≡◌, ℕ, zero, suc, ◌+◌, ◌<◌, ◌^◌, Bool, true, false, cond, ◌&&◌, ◌||◌, List, [], ◌∷◌, ◌++◌, map, refl, sym, ap, subst, ◌∙◌, arith, add-zero, zero-add, nat_lt}
+use Rattle.std.specs.Prelude.{Option, None, Some, unwrap_or, IfSome, is_some, sum_by, All, IsPermutation, T}
 use Rattle.std.specs.declared.cmp.Ordering.{Ordering}
 use Rattle.std.specs.declared.cmp.Ordering.TheVariants.{Less, Equal, Greater}
 use Rattle.std.specs.Ordering.{eq_by_cmp, is_lt, is_eq}

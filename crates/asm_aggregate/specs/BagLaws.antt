@@ -1,19 +1,18 @@
 -- The aggregator of bags keeps the laws.
-use Rattle.std.proofs.Common.{◌≡◌, ◌≢◌, ℕ, ◌+◌, ◌-◌, ◌<◌, ◌≤◌, ◌^◌, Bool, true, false, cond, not, ◌&&◌, ◌||◌, List, [], ◌∷◌, ◌++◌, refl, sym, ap, subst, ◌∙◌, arith, nat_lt}
-use Rattle.std.specs.Prelude.{Result, Ok, Err, Option, None, Some, unwrap_or, is_some, All, IsPermutation}
+use Rattle.std.proofs.Common.{◌≡◌, ◌≢◌, ℕ, ◌+◌, ◌-◌, ◌<◌, ◌≤◌, ◌^◌, Bool, true, false, cond, not, ◌||◌, List, [], ◌∷◌, ◌++◌, refl, sym, ap, subst, ◌∙◌, arith, nat_lt}
+use Rattle.std.specs.Prelude.{Ok, Err, Option, None, Some, unwrap_or, is_some, IsPermutation}
 use Rattle.std.specs.List.{list_any, list_all}
 use Rattle.std.proofs.lemmas.Bool.Decides.{nat_tests}
 use Rattle.std.proofs.lemmas.List.Elements.{All-head}
 use Rattle.std.proofs.lemmas.List.Sums.{sum_by-append}
 use Rattle.std.proofs.lemmas.List.Sorted.{sum_by-IsPermutation}
-use Rattle.asm_element.specs.Element.{element_cmp}
 use Rattle.asm_element.specs.declared.element.Element.{Element}
 use Rattle.asm_element.specs.Bag.{ElementBag, count}
 use Rattle.asm_element.specs.Value as value
 use Rattle.asm_element.specs.declared.value.Value.{Value}
 use Rattle.asm_element.specs.declared.value.Value.TheVariants as values
 use Rattle.asm_update.specs.Action.{is_of, kind_of, IsProper, AllProper}
-use Rattle.asm_update.specs.Aggregator.{AggregatorLaws, Refusal, Refused, TooLarge, after}
+use Rattle.asm_update.specs.Aggregator.{AggregatorLaws, Refusal, after}
 use Rattle.asm_update.specs.Fire.{Outcome}
 use Rattle.asm_update.specs.declared.action.Action.{Action}
 use Rattle.asm_update.specs.declared.action.Action.TheVariants.{Regular, SetAdd, SetRemove, BagAdd, BagRemove}

@@ -5,7 +5,7 @@ use Rattle.std.specs.Option.{option_map_or, option_and_then}
 use Rattle.std.specs.List.{list_any, list_all}
 use Rattle.std.proofs.lemmas.List.Folds.{list_all-append}
 use Rattle.std.proofs.lemmas.List.Sorted.{list_any-IsPermutation}
-use Rattle.asm_update.specs.Action.{family_of, family_eq, is_of, is_partial, kind_of}
+use Rattle.asm_update.specs.Action.{family_of, family_eq, is_of, is_partial}
 use Rattle.asm_update.specs.declared.action.Action.{Action}
 use Rattle.asm_update.specs.declared.action.Family.{Family}
 use Rattle.asm_update.specs.declared.action.Family.TheVariants.{Set, Bag}

@@ -1,6 +1,6 @@
 -- Two aggregators that keep the laws keep them as one.
-use Rattle.std.proofs.Common.{◌≡◌, ◌≢◌, Bool, true, false, cond, not, ◌&&◌, ◌||◌, List, [], ◌∷◌, ◌++◌, refl, sym, ap, subst, ◌∙◌, inl, inr, ◌⊎◌}
-use Rattle.std.specs.Prelude.{Result, Ok, Err, Option, None, Some, unwrap_or, All, IsPermutation}
+use Rattle.std.proofs.Common.{◌≡◌, ◌≢◌, Bool, true, false, cond, ◌&&◌, ◌||◌, List, [], ◌∷◌, ◌++◌, refl, sym, ap, subst, ◌∙◌, inl, inr, ◌⊎◌}
+use Rattle.std.specs.Prelude.{Result, Ok, Err, Option, None, Some, unwrap_or, IsPermutation}
 use Rattle.std.specs.List.{list_any, list_all}
 use Rattle.std.proofs.lemmas.List.Folds.{list_all-append}
 use Rattle.std.proofs.lemmas.List.Sorted.{list_any-IsPermutation}
@@ -9,13 +9,12 @@ use Rattle.asm_element.specs.Value as value
 use Rattle.asm_element.specs.declared.value.Value.{Value}
 use Rattle.asm_update.specs.Action.{is_of, kind_of, AllProper, IsProper}
 use Rattle.asm_update.specs.Aggregator.{Meaning, AggregatorLaws, Joined, Refusal, Refused, TooLarge, after}
-use Rattle.asm_update.specs.Fire.{Outcome}
 use Rattle.asm_update.specs.declared.action.Action.{Action}
 use Rattle.asm_update.specs.declared.action.Family.{Family}
 use Rattle.asm_update.specs.declared.clash.Cause.{Cause}
-use Rattle.asm_update.specs.declared.clash.Cause.TheVariants.{Mixed, Kind}
+use Rattle.asm_update.specs.declared.clash.Cause.TheVariants.{Mixed}
 use Rattle.asm_aggregate.specs.Families.{common_family}
-use Rattle.asm_aggregate.specs.FamilyLemmas.{both_true, none_true, one_family, all-IsPermutation, all_of_rest, all_of_one, among_all, common_is, common_all, common_some, cons_some}
+use Rattle.asm_aggregate.specs.FamilyLemmas.{both_true, one_family, all-IsPermutation, all_of_rest, among_all, common_is, common_all, common_some, cons_some}
 use Rattle.asm_aggregate.specs.TableLemmas.{ok_is}
 use Rattle.asm_aggregate.specs.PairMeaning.{pair_owns, by_owner, pair_result, refused, own_cause, unless, pair_joins, pair_meaning}
 

@@ -1,5 +1,5 @@
 -- Two aggregators as one.
-use Rattle.std.specs.Prelude.{Bool, ◌||◌, List, [], ◌∷◌, ◌++◌, if◌then◌else◌, Result, Ok, Err, Option, None, Some}
+use Rattle.std.specs.Prelude.{Bool, ◌||◌, List, [], ◌∷◌, ◌++◌, if◌then◌else◌, Ok, Err, Option, None, Some}
 use Rattle.asm_element.specs.declared.value.Value.{Value}
 use Rattle.asm_update.specs.Aggregator.{Meaning, Joined, Refused, TooLarge}
 use Rattle.asm_update.specs.Fire.{Outcome}

@@ -1,11 +1,11 @@
 -- Members of the sets that the definitions of set updates make.
 use Rattle.std.proofs.Common.{◌≡◌, ◌≢◌, Bool, true, false, cond, not, ◌&&◌, ◌||◌, List, [], ◌∷◌, ◌++◌, map, refl, sym, ap, subst, ◌∙◌, arith, length}
 use Rattle.std.specs.Prelude.{Option, None, Some, is_some, All, IsPermutation}
-use Rattle.std.specs.Cmp.{Equal-is, tied_itself}
+use Rattle.std.specs.Cmp.{Equal-is}
 use Rattle.std.specs.Ordering.{eq_by_cmp}
 use Rattle.std.specs.List.{list_any, list_all}
 use Rattle.std.specs.FinMap as finite
-use Rattle.std.proofs.lemmas.List.Elements.{All-nil, All-head, All-tail}
+use Rattle.std.proofs.lemmas.List.Elements.{All-head, All-tail}
 use Rattle.std.proofs.lemmas.List.Sorted.{list_any-IsPermutation}
 use Rattle.std.proofs.lemmas.Map.Views.{All-from_any}
 use Rattle.asm_element.specs.Element as element

@@ -1,20 +1,18 @@
 -- The aggregator of sets keeps the laws.
-use Rattle.std.proofs.Common.{◌≡◌, ◌≢◌, Bool, true, false, cond, not, ◌&&◌, ◌||◌, List, [], ◌∷◌, ◌++◌, refl, sym, ap, subst, ◌∙◌, arith}
-use Rattle.std.specs.Prelude.{Result, Ok, Err, Option, None, Some, unwrap_or, is_some, All, IsPermutation}
+use Rattle.std.proofs.Common.{◌≡◌, ◌≢◌, true, false, not, ◌&&◌, ◌||◌, List, [], ◌∷◌, ◌++◌, refl, sym, ap, subst, ◌∙◌}
+use Rattle.std.specs.Prelude.{Ok, Err, Option, None, Some, unwrap_or, IsPermutation}
 use Rattle.std.specs.List.{list_any, list_all}
-use Rattle.asm_element.specs.Element as element
 use Rattle.asm_element.specs.declared.element.Element.{Element}
-use Rattle.asm_element.specs.Set.{ElementSet, empty, contains, elements, same_set}
+use Rattle.asm_element.specs.Set.{ElementSet, empty, contains, same_set}
 use Rattle.asm_element.specs.Value as value
 use Rattle.asm_element.specs.declared.value.Value.{Value}
 use Rattle.asm_element.specs.declared.value.Value.TheVariants as values
 use Rattle.asm_update.specs.Action.{is_of, kind_of, AllProper}
-use Rattle.asm_update.specs.Aggregator.{AggregatorLaws, Refusal, Refused, after}
+use Rattle.asm_update.specs.Aggregator.{AggregatorLaws, Refusal, after}
 use Rattle.asm_update.specs.declared.action.Action.{Action}
-use Rattle.asm_update.specs.declared.action.Action.TheVariants.{Regular, SetAdd, SetRemove, BagAdd, BagRemove}
 use Rattle.asm_update.specs.declared.action.Family.{Family}
 use Rattle.asm_update.specs.declared.action.Family.TheVariants.{Set}
-use Rattle.asm_update.specs.declared.clash.Cause.TheVariants.{Mixed, Kind, Both, Against}
+use Rattle.asm_update.specs.declared.clash.Cause.TheVariants.{Mixed, Kind}
 use Rattle.asm_aggregate.specs.Families.{is_kind}
 use Rattle.asm_aggregate.specs.FamilyLemmas.{family_is, all_of_one, all-IsPermutation, all_partial, joined_family, nil_parts}
 use Rattle.asm_aggregate.specs.TableLemmas.{passed, not_false, ok_is}

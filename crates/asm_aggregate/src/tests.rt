@@ -1,15 +1,17 @@
 ghost use Rattle.std.specs.Prelude.{◌≡◌};
 ghost use Rattle.std.specs.List.{list_all};
 ghost use Rattle.asm_update.specs.Action.{is_partial};
+ghost use Rattle.asm_update.specs.State.{val};
 ghost use Rattle.asm_aggregate.specs.Nobody.{nobody_meaning, nobody_laws};
 
 use crate::*;
 use asm_element::{ElemBag, ElemSet, ElemText, Element, Location, Value};
 use asm_update::{
     Action, AggError, Aggregator, Amount, Cause, Clash, Family, Group, Instruction, Instructions,
-    JoinError, PlainState, ResultError, UpdateSet,
+    JoinError, Lookup, PlainState, ResultError, UpdateSet,
 };
 use std::alloc::Global;
+use std::cell::Cell;
 use std::process::Abort;
 use std::test::Fail;
 
@@ -385,6 +387,28 @@ fn joins_of_bags(rt: HostRuntime) -> Result<(), Fail> {
     check_join(rt, alloc, agg, (&all, &one, Err(JoinError::Large)))
 }
 
+#[test]
+fn joins_that_cancel(rt: HostRuntime) -> Result<(), Fail> {
+    let (rt, alloc, agg) = (&rt, rt.alloc(), &standard());
+    let more = [BagAdd("e", 1)];
+    let less = [BagRemove("e", 1)];
+    let both = [BagAdd("e", 1), BagRemove("e", 1)];
+    check_join(rt, alloc, agg, (&less, &more, Ok(&both)))?;
+    check_join(rt, alloc, agg, (&more, &less, Ok(&[])))?;
+    let first = [Add(1), Remove(2)];
+    let second = [Add(2), Remove(1)];
+    check_join(rt, alloc, agg, (&first, &second, Ok(&second)))
+}
+
+#[test]
+fn joins_with_nothing_after(rt: HostRuntime) -> Result<(), Fail> {
+    let (rt, alloc, agg) = (&rt, rt.alloc(), &standard());
+    let twice = [BagAdd("e", 1), BagAdd("e", 1)];
+    check_join(rt, alloc, agg, (&twice, &[], Ok(&[BagAdd("e", 2)])))?;
+    let both = JoinError::Cause(Cause::Both);
+    check_join(rt, alloc, agg, (&[Add(1), Remove(1)], &[], Err(both)))
+}
+
 /// An aggregator that owns no family.
 #[derive(Debug, Drop)]
 struct Nobody;
@@ -464,5 +488,47 @@ fn the_least_clash_is_answered(rt: HostRuntime) -> Result<(), Fail> {
         aggregate(alloc, &standard(), &state, &list),
         Err(AggError::Clash(clash))
     );
+    Ok(())
+}
+
+/// A look-up that counts how often it is asked.
+#[derive(Drop)]
+struct Counting {
+    state: PlainState,
+    asked: Cell<u32>,
+}
+
+impl Lookup for Counting {
+    ghost value_at = { λ c. val c.state };
+
+    fn get(&self, at: &Location) -> Option<&Value> {
+        self.asked.set(self.asked.get().saturating_add(1));
+        self.state.get(at)
+    }
+}
+
+#[test]
+fn old_values_of_partial_updates_alone_are_asked_for(rt: HostRuntime) -> Result<(), Fail> {
+    let alloc = rt.alloc();
+    let mut list = Instructions::new(alloc);
+    push_at(
+        alloc,
+        &mut list,
+        "a",
+        Action::Regular(Value::Plain(Element::Num(1))),
+    )?;
+    push_at(alloc, &mut list, "x", Action::SetAdd(Element::Num(1)))?;
+    push_at(
+        alloc,
+        &mut list,
+        "z",
+        Action::Regular(Value::Plain(Element::Num(2))),
+    )?;
+    let lookup = Counting {
+        state: state_of(alloc, Set(&[]))?,
+        asked: Cell::new(0),
+    };
+    assert!(rt; aggregate(alloc, &standard(), &lookup, &list).is_ok());
+    assert_eq!(rt; lookup.asked.get(), 1);
     Ok(())
 }

@@ -1,6 +1,6 @@
-use Rattle.std.proofs.Common.{◌≡◌, ◌≢◌, ◌≤◌, [], true, refl, sym, ap, ◌∙◌, length, arith}
+use Rattle.std.proofs.Common.{◌≡◌, ◌≢◌, ◌≤◌, [], refl, sym, ap, ◌∙◌, length, arith}
 use Rattle.std.proofs.lemmas.Bool.Decides.{nat_tests}
-use Rattle.std.specs.Prelude.{Some, None}
+use Rattle.std.specs.Prelude.{Some}
 use Rattle.asm_aggregate.proofs.ScanLemmas.{two_values, gathered_elsewhere, gathered_partial, gathered_first, gathered_again, gathered_as, gathered_partials, some_partial, partial_unless, no_length, true_from_not, false_from_not}
 use Rattle.asm_aggregate.proofs.aggregation.result_at.Goals as goal
 use Rattle.asm_aggregate.proofs.aggregation.result_at.Goals.{then-eq+in-Regular+in-Some+else-ne, then-eq+in-Regular+in-None+in_ok-copy-in-None, then-eq+in_default+in_ok-copy_of-in_default+in_ok-push-in_default, else-eq}
