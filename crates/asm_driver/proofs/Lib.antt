@@ -3,7 +3,13 @@ pub mod Reading
 pub mod Arrays
 pub mod Unique
 pub mod Locations
-pub mod States
+pub mod Gathered
+pub mod Made
+pub mod Pairs
+pub mod Values
+pub mod ActionForms
+pub mod Updates
+pub mod Fired
 pub mod Plans
 pub mod Moves
 pub mod Legal

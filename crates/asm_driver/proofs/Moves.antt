@@ -1,8 +1,10 @@
 -- The moves of a history, one event at a time.
-use Rattle.std.proofs.Common.{◌≡◌, ◌+◌, ◌<◌, ℕ, zero, suc, List, [], ◌∷◌, ◌++◌, length, get_or, true, false, Option, Some, None, refl, sym, ap, subst, ◌∙◌, append-nil, arith, length-append}
-use Rattle.std.specs.Prelude.{All, is_some, min}
+use Rattle.std.proofs.Common.{◌≡◌, ◌+◌, ℕ, List, [], ◌∷◌, ◌++◌, length, true, false, Option, Some, None, refl, sym, ap, ◌∙◌, append-nil, arith, length-append}
+use Rattle.std.specs.Prelude.{is_some, min}
+use Rattle.std.specs.Borrow.{Bor}
 use Rattle.std.specs.List.{cons_option}
-use Rattle.std.proofs.lemmas.List.Elements.{filter_map-append, All-head, All-tail}
+use Rattle.std.specs.Option.{option_copied}
+use Rattle.std.proofs.lemmas.List.Elements.{filter_map-append}
 use Rattle.asm_update.specs.Move.{Move}
 use Rattle.asm_update.specs.State.{State}
 use Rattle.asm_update.specs.Fire.{Part, fire, state_or, state_of}
@@ -18,6 +20,10 @@ moves-push_fired h e M is = filter_map-append move_of h (e ∷ []) ∙ ap (λ o.
 
 pub moves-push_quiet : (h : List Event) (e : Event) → move_of e ≡ None → moves (h ++ e ∷ []) ≡ moves h
 moves-push_quiet h e is = filter_map-append move_of h (e ∷ []) ∙ ap (λ o. moves h ++ cons_option o []) is ∙ append-nil (moves h)
+
+pub some_copied : {X : Type 0} (o : Option (Bor X)) → is_some (option_copied o) ≡ is_some o
+some_copied None = refl
+some_copied (Some x) = refl
 
 some_value : (o : Option Move) → is_some o ≡ true → (M : Move) × (o ≡ Some M)
 some_value (Some M) e = (M, refl)
@@ -35,12 +41,3 @@ count_fired h e n is fired =
 
 pub count_quiet : (h : List Event) (e : Event) (n : ℕ) → n ≡ min (length (moves h)) 4294967295 → is_some (move_of e) ≡ false → n ≡ min (length (moves (h ++ e ∷ []))) 4294967295
 count_quiet h e n is quiet = is ∙ ap (λ q. min (length q) 4294967295) (sym (moves-push_quiet h e (none_value (move_of e) quiet)))
-
--- what holds of each move of a history holds of the move of each of its events
-pub each_move : (P : Move → Type 0) (h : List Event) (i : ℕ) (d : Event) (M : Move) → i < length h → All P (moves h) → move_of (get_or h i d) ≡ Some M → P M
-each_move P [] i d M low all is = absurd (omega arith)
-each_move P (e ∷ h) zero d M low all is = All-head P M (moves h) (subst (λ o. All P (cons_option o (moves h))) is all)
-each_move P (e ∷ h) (suc i) d M low all is = each_move P h i d M (omega arith) (others (move_of e) all) is where
-  others : (o : Option Move) → All P (cons_option o (moves h)) → All P (moves h)
-  others None rest = rest
-  others (Some N) rest = All-tail P N (moves h) rest

@@ -1,19 +1,16 @@
 -- From what is written in a script to its plan.
-use Rattle.std.proofs.Common.{◌≡◌, ◌<◌, ◌≤◌, ◌+◌, ℕ, suc, List, [], ◌∷◌, ◌++◌, length, Bool, true, false, None, refl, sym, ap, ap₂, subst, ◌∙◌, append_assoc, append-nil, arith, length-append, inr}
-use Rattle.std.specs.Prelude.{All, nat_lt, if◌then◌else◌, ◌&&◌}
+use Rattle.std.proofs.Common.{◌≡◌, ◌<◌, ◌≤◌, ◌+◌, ℕ, suc, List, [], ◌∷◌, ◌++◌, length, Bool, true, false, None, refl, sym, ap, ap₂, ◌∙◌, append_assoc, append-nil, arith, length-append, inr}
+use Rattle.std.specs.Prelude.{nat_lt, if◌then◌else◌}
 use Rattle.std.proofs.lemmas.Bool.Decides.{nat_tests}
-use Rattle.std.specs.List.{filter_map, flat_map, cons_option, AllByRecursion}
-use Rattle.std.proofs.lemmas.List.Elements.{filter_map-append, All-from_recursion}
-use Rattle.serde_json.specs.Data.{Data, Items, no_items, item, object, member, no_members}
-use Rattle.asm_update.specs.Action.{is_regular}
+use Rattle.std.specs.List.{filter_map, flat_map, cons_option}
+use Rattle.std.proofs.lemmas.List.Elements.{filter_map-append}
+use Rattle.serde_json.specs.Data.{Data, object, member, no_members}
 use Rattle.asm_update.specs.Move.{Move}
-use Rattle.asm_driver.specs.Form.{AreForms, IsListForm, IsInstructionForm}
-use Rattle.asm_driver.specs.Plan.{IsRegular}
 use Rattle.asm_driver.specs.declared.script.Written.{Written}
 use Rattle.asm_driver.specs.declared.script.ScriptCause.TheVariants.{Agents}
 use Rattle.asm_driver.specs.declared.script.ScriptError.{ScriptError}
 use Rattle.asm_driver.specs.declared.script.ScriptError.TheVariants.{BadScript, Memory}
-use Rattle.asm_driver.specs.Script.{Block, Step, step_fault, step_faults, faults, AreBlocks, AreAgents, AreRegularAgents, IsFirst, IsStepFault, IsScriptForm, HasForm, IsRefused}
+use Rattle.asm_driver.specs.Script.{Step, step_fault, step_faults, faults, AreBlocks, AreAgents, IsFirst, IsStepFault, HasForm, IsRefused}
 
 -- ---- one more instruction
 
@@ -90,56 +87,6 @@ many_faults agents many = first (nat_lt 1 (length agents)) (above (length agents
   first : (t : Bool) → t ≡ true → (if t then Agents ∷ [] else []) ++ step_faults agents ≡ Agents ∷ step_faults agents
   first true e = refl
   first false e = cc
-
--- ---- regular moves
-
-regular_block : (M : Move) (ds : Items) → AreForms IsInstructionForm M ds → IsRegular M
-regular_block [] no_items h = refl
-regular_block [] (item d ds) h = absurd h
-regular_block (i ∷ M) no_items h = absurd h
-regular_block (i ∷ M) (item d ds) h = ap₂ (λ a b. a && b) (ap is_regular h.0.4) (regular_block M ds h.1)
-
-each_form : {X : Type 0} (F : X → Data → Type 0) (P : X → Type 0) → ((x : X) (d : Data) → F x d → P x) → (xs : List X) (ds : Items) → AreForms F xs ds → AllByRecursion P xs
-each_form F P each [] no_items h = tt
-each_form F P each [] (item d ds) h = absurd h
-each_form F P each (x ∷ xs) no_items h = absurd h
-each_form F P each (x ∷ xs) (item d ds) h = (each x d h.0, each_form F P each xs ds h.1)
-
-each_list : {X : Type 0} (F : X → Data → Type 0) (P : X → Type 0) → ((x : X) (d : Data) → F x d → P x) → (xs : List X) (d : Data) → IsListForm F xs d → AllByRecursion P xs
-each_list F P each xs d h = each_form F P each xs h.0 h.2
-
-regular_list : (M : Move) (d : Data) → IsListForm IsInstructionForm M d → IsRegular M
-regular_list M d h = regular_block M h.0 h.2
-
-abbrev BlockForm : Block → Data → Type 0
-BlockForm = IsListForm IsInstructionForm
-
-abbrev StepForm : Step → Data → Type 0
-StepForm = IsListForm BlockForm
-
-abbrev StepsForm : List Step → Data → Type 0
-StepsForm = IsListForm StepForm
-
--- what has the form of a script has regular updates alone
-pub regular_written : (w : Written) (d : Data) → IsScriptForm w d → AreRegularAgents w.agents
-regular_written w d h =
-    each_list StepsForm _ (each_list StepForm _ (each_list BlockForm IsRegular regular_list)) w.agents h.0 h.3
-
-regular_blocks : (ss : List Step) (ms : List Move) → AreBlocks ss ms → AllByRecursion (AllByRecursion IsRegular) ss → AllByRecursion IsRegular ms
-regular_blocks [] [] h r = tt
-regular_blocks [] (M ∷ ms) h r = absurd h
-regular_blocks (s ∷ ss) [] h r = absurd h
-regular_blocks (s ∷ ss) (M ∷ ms) h r = ((subst (AllByRecursion IsRegular) h.0 r.0).0, regular_blocks ss ms h.1 r.1)
-
-regular_agents : (ss : List (List Step)) (ms : List (List Move)) → AreAgents ss ms → AreRegularAgents ss → AllByRecursion (All IsRegular) ms
-regular_agents [] [] h r = tt
-regular_agents [] (m ∷ ms) h r = absurd h
-regular_agents (s ∷ ss) [] h r = absurd h
-regular_agents (s ∷ ss) (m ∷ ms) h r = (All-from_recursion IsRegular m (regular_blocks s m h.0 r.0), regular_agents ss ms h.1 r.1)
-
--- the plan of regular steps is regular
-pub regular_plan : (ss : List (List Step)) (ms : List (List Move)) → AreAgents ss ms → AreRegularAgents ss → All (All IsRegular) ms
-regular_plan ss ms h r = All-from_recursion (All IsRegular) ms (regular_agents ss ms h r)
 
 pub same_members : (k l : List ℕ) (a b x y : Data) → object (member k a (member l b no_members)) ≡ object (member k x (member l y no_members)) → (a ≡ x) × (b ≡ y)
 same_members k l a b x y e = (cc, cc)

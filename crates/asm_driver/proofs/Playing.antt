@@ -1,10 +1,9 @@
 -- Playing steps: what is kept, and the events that come.
 use Rattle.std.proofs.Common.{◌≡◌, ◌≤◌, ◌+◌, ℕ, suc, List, [], ◌∷◌, ◌++◌, length, refl, sym, ap, ap₂, subst, ◌∙◌, append_assoc, append-nil, arith, length-append, add-zero}
-use Rattle.std.specs.Prelude.{All, None}
-use Rattle.std.proofs.lemmas.List.Elements.{All-push}
+use Rattle.std.specs.Prelude.{None}
 use Rattle.asm_update.specs.Move.{Move}
-use Rattle.asm_update.specs.Fire.{Part, fire, state_or, state_of}
-use Rattle.asm_driver.specs.Plan.{IsRegular}
+use Rattle.asm_update.specs.Fire.{fire, state_or, state_of}
+use Rattle.asm_driver.specs.Standard.{standard_part}
 use Rattle.asm_driver.specs.History.{reply_to, firing_reply, moves, move_of, fired_move}
 use Rattle.asm_driver.specs.Play.{IsStepOf, AreSteps, AreTurns, outcome_of}
 use Rattle.asm_driver.specs.Player.{IsLegalFrom, IsKept, IsSame, Replies, PlaysStep, PlaysSteps, PlaysAgents, machine}
@@ -36,11 +35,11 @@ move_is : (agent : ℕ) (M : Move) (r : Reply) (e : Event) → IsEventOf agent M
 move_is agent M r e is = ap₂ fired_move is.call_is is.answer_is
 
 -- the answer is the storage's
-answer_legal : (part : Part) (p q : Player) (agent : ℕ) (M : Move) (r : Reply) (e : Event) → IsKept p → Replies p q M r → IsEventOf agent M r e → e.answer ≡ reply_to (machine part p) (moves p.events.items) e.call
-answer_legal part p q agent M r e kept replies is =
+answer_legal : (p q : Player) (agent : ℕ) (M : Move) (r : Reply) (e : Event) → IsKept p → Replies p q M r → IsEventOf agent M r e → e.answer ≡ reply_to (machine p) (moves p.events.items) e.call
+answer_legal p q agent M r e kept replies is =
     is.answer_is
-    ∙ ap answer.Fire (replies.reply part ∙ ap₂ (λ n A. firing_reply p.capacity n (fire part A M)) kept.number (kept.state part))
-    ∙ ap (reply_to (machine part p) (moves p.events.items)) (sym is.call_is)
+    ∙ ap answer.Fire (replies.reply ∙ ap₂ (λ n A. firing_reply p.capacity n (fire standard_part A M)) kept.number kept.state)
+    ∙ ap (reply_to (machine p) (moves p.events.items)) (sym is.call_is)
 
 events_are : (p q z : Player) (M : Move) (r : Reply) (e : Event) → Replies p q M r → AddsEvent q z e → z.events.items ≡ p.events.items ++ e ∷ []
 events_are p q z M r e replies adds = adds.events ∙ ap (λ h. h ++ e ∷ []) replies.events
@@ -48,17 +47,17 @@ events_are p q z M r e replies adds = adds.events ∙ ap (λ h. h ++ e ∷ []) r
 same_of : (p q z : Player) (M : Move) (r : Reply) (e : Event) → Replies p q M r → AddsEvent q z e → IsSame p z
 same_of p q z M r e replies adds = record { init = adds.init ∙ replies.same.init; capacity = adds.capacity ∙ replies.same.capacity }
 
-legal_of : (part : Part) (p q z : Player) (agent : ℕ) (M : Move) (r : Reply) (e : Event) → IsKept p → Replies p q M r → IsEventOf agent M r e → AddsEvent q z e → IsLegalFrom (machine part z) [] z.events.items
-legal_of part p q z agent M r e kept replies is adds =
+legal_of : (p q z : Player) (agent : ℕ) (M : Move) (r : Reply) (e : Event) → IsKept p → Replies p q M r → IsEventOf agent M r e → AddsEvent q z e → IsLegalFrom (machine z) [] z.events.items
+legal_of p q z agent M r e kept replies is adds =
     let same = same_of p q z M r e replies adds in
     let events = events_are p q z M r e replies adds in
-    let opened : machine part z ≡ machine part p = λ i. record { part = part; init = same.init i; capacity = same.capacity i } in
-    let legal = legal-append (machine part p) [] p.events.items (e ∷ []) (kept.legal part) (answer_legal part p q agent M r e kept replies is, tt) in
-    subst (λ m. IsLegalFrom m [] z.events.items) (sym opened) (subst (IsLegalFrom (machine part p) []) (sym events) legal)
+    let opened : machine z ≡ machine p = λ i. record { part = standard_part; init = same.init i; capacity = same.capacity i } in
+    let legal = legal-append (machine p) [] p.events.items (e ∷ []) kept.legal (answer_legal p q agent M r e kept replies is, tt) in
+    subst (λ m. IsLegalFrom m [] z.events.items) (sym opened) (subst (IsLegalFrom (machine p) []) (sym events) legal)
 
 -- a fired move is kept
-kept_fired : (p q z : Player) (agent : ℕ) (M : Move) (k : ℕ) (e : Event) → IsKept p → IsRegular M → Replies p q M (reply.Fired k) → IsEventOf agent M (reply.Fired k) e → AddsEvent q z e → IsKept z
-kept_fired p q z agent M k e kept regular replies is adds =
+kept_fired : (p q z : Player) (agent : ℕ) (M : Move) (k : ℕ) (e : Event) → IsKept p → Replies p q M (reply.Fired k) → IsEventOf agent M (reply.Fired k) e → AddsEvent q z e → IsKept z
+kept_fired p q z agent M k e kept replies is adds =
     let same = same_of p q z M (reply.Fired k) e replies adds in
     let events = events_are p q z M (reply.Fired k) e replies adds in
     let fired : moves z.events.items ≡ moves p.events.items ++ M ∷ [] = ap moves events ∙ moves-push_fired p.events.items e M (move_is agent M (reply.Fired k) e is) in
@@ -66,12 +65,11 @@ kept_fired p q z agent M k e kept regular replies is adds =
     record {
       number = adds.number ∙ replies.leaves.1 ∙ ap (λ n. n + 1) kept.number ∙ sym count;
       room = subst (λ n. n ≤ z.capacity) (sym adds.number) (subst (λ c. q.number ≤ c) (sym adds.capacity) replies.leaves.2);
-      state = λ part.
-          let before : p.state ≡ state_of part z.init (moves p.events.items) = kept.state part ∙ ap (λ A. state_of part A (moves p.events.items)) (sym same.init) in
-          let pushed = ap (state_of part z.init) fired ∙ state_of-push part z.init (moves p.events.items) M ∙ ap (λ A. state_or A (fire part A M)) (sym before) in
-          adds.state ∙ sym (pushed ∙ ap (state_or p.state) (replies.leaves.0 part));
-      legal = λ part. legal_of part p q z agent M (reply.Fired k) e kept replies is adds;
-      regular = subst (All IsRegular) (sym fired) (All-push IsRegular (moves p.events.items) M kept.regular regular);
+      state =
+          let before : p.state ≡ state_of standard_part z.init (moves p.events.items) = kept.state ∙ ap (λ A. state_of standard_part A (moves p.events.items)) (sym same.init) in
+          let pushed = ap (state_of standard_part z.init) fired ∙ state_of-push standard_part z.init (moves p.events.items) M ∙ ap (λ A. state_or A (fire standard_part A M)) (sym before) in
+          adds.state ∙ sym (pushed ∙ ap (state_or p.state) replies.leaves.0);
+      legal = legal_of p q z agent M (reply.Fired k) e kept replies is adds;
     }
 
 -- an answer that fires nothing is kept
@@ -83,20 +81,19 @@ kept_quiet p q z agent M r e kept replies is adds quiet state number =
     record {
       number = adds.number ∙ number ∙ kept.number ∙ ap length (sym none);
       room = subst (λ n. n ≤ z.capacity) (sym (adds.number ∙ number)) (subst (λ c. p.number ≤ c) (sym same.capacity) kept.room);
-      state = λ part. adds.state ∙ state ∙ kept.state part ∙ ap₂ (state_of part) (sym same.init) (sym none);
-      legal = λ part. legal_of part p q z agent M r e kept replies is adds;
-      regular = subst (All IsRegular) (sym none) kept.regular;
+      state = adds.state ∙ state ∙ kept.state ∙ ap₂ (state_of standard_part) (sym same.init) (sym none);
+      legal = legal_of p q z agent M r e kept replies is adds;
     }
 
-kept_step : (p q z : Player) (agent : ℕ) (M : Move) (r : Reply) (e : Event) → IsKept p → IsRegular M → Replies p q M r → IsEventOf agent M r e → AddsEvent q z e → IsKept z
-kept_step p q z agent M (reply.Fired k) e kept regular replies is adds = kept_fired p q z agent M k e kept regular replies is adds
-kept_step p q z agent M (reply.Stale l) e kept regular replies is adds = kept_quiet p q z agent M (reply.Stale l) e kept replies is adds refl replies.leaves.0 replies.leaves.1
-kept_step p q z agent M (reply.Clash c) e kept regular replies is adds = kept_quiet p q z agent M (reply.Clash c) e kept replies is adds refl replies.leaves.0 replies.leaves.1
-kept_step p q z agent M reply.Full e kept regular replies is adds = kept_quiet p q z agent M reply.Full e kept replies is adds refl replies.leaves.0 replies.leaves.1
+kept_step : (p q z : Player) (agent : ℕ) (M : Move) (r : Reply) (e : Event) → IsKept p → Replies p q M r → IsEventOf agent M r e → AddsEvent q z e → IsKept z
+kept_step p q z agent M (reply.Fired k) e kept replies is adds = kept_fired p q z agent M k e kept replies is adds
+kept_step p q z agent M (reply.Stale l) e kept replies is adds = kept_quiet p q z agent M (reply.Stale l) e kept replies is adds refl replies.leaves.0 replies.leaves.1
+kept_step p q z agent M (reply.Clash c) e kept replies is adds = kept_quiet p q z agent M (reply.Clash c) e kept replies is adds refl replies.leaves.0 replies.leaves.1
+kept_step p q z agent M reply.Full e kept replies is adds = kept_quiet p q z agent M reply.Full e kept replies is adds refl replies.leaves.0 replies.leaves.1
 
-pub step_played : (p q z : Player) (agent : ℕ) (M : Move) (r : Reply) (o : Outcome) (e : Event) → IsKept p → IsRegular M → Replies p q M r → IsEventOf agent M r e → AddsEvent q z e → o ≡ outcome_of r → PlaysStep p z agent M o
-step_played p q z agent M r o e kept regular replies is adds out = record {
-  kept = kept_step p q z agent M r e kept regular replies is adds;
+pub step_played : (p q z : Player) (agent : ℕ) (M : Move) (r : Reply) (o : Outcome) (e : Event) → IsKept p → Replies p q M r → IsEventOf agent M r e → AddsEvent q z e → o ≡ outcome_of r → PlaysStep p z agent M o
+step_played p q z agent M r o e kept replies is adds out = record {
+  kept = kept_step p q z agent M r e kept replies is adds;
   same = same_of p q z M r e replies adds;
   event = (e, events_are p q z M r e replies adds, (r, is.agent_is, is.call_is, is.answer_is, out));
 }

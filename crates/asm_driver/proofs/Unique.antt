@@ -1,15 +1,15 @@
 -- A JSON value is the form of one thing at most.
-use Rattle.std.proofs.Common.{◌≡◌, ℕ, ℤ, pos, negsuc, List, [], ◌∷◌, map, refl, sym, ap, ap₂, subst, ◌∙◌}
-use Rattle.serde_json.specs.Data.{Data, number, string, array, Num, Items, no_items, item}
+use Rattle.std.proofs.Common.{codes, ◌≡◌, ℕ, ℤ, pos, negsuc, List, [], ◌∷◌, map, refl, sym, ap, ap₂, subst, ◌∙◌, arith}
+use Rattle.serde_json.specs.Data.{Data, number, unsigned, string, array, Num, Items, no_items, item}
 use Rattle.serde_json.specs.Find.{of_integer}
 use Rattle.serde_json.specs.View.{items_of}
 use Rattle.asm_element.specs.Place.{Place}
 use Rattle.asm_element.specs.declared.element.Element.{Element}
 use Rattle.asm_element.specs.declared.element.Element.TheVariants as elements
-use Rattle.asm_element.specs.declared.value.Value.TheVariants.{Plain}
-use Rattle.asm_update.specs.declared.action.Action.TheVariants.{Regular}
-use Rattle.asm_driver.specs.Form.{element_json_of, location_json_of, IsElementForm, IsLocationForm, IsValueForm, IsInstructionForm, IsPairForm, IsListForm, AreForms}
-use Rattle.asm_driver.proofs.Arrays.{same_two, same_three}
+use Rattle.asm_element.specs.Set as set
+use Rattle.asm_element.specs.declared.value.Value.TheVariants as values
+use Rattle.asm_driver.specs.Form.{element_json_of, location_json_of, IsElementForm, IsLocationForm, IsValueForm, IsPairForm, IsListForm, AreForms, IsAmountForm, IsCounted, IsCountForm, IsSetForm, IsBagForm, bag_of, one_of}
+use Rattle.asm_driver.proofs.Arrays.{same_two}
 
 of_integer_once : (y z : ℤ) → of_integer y ≡ of_integer z → y ≡ z
 of_integer_once (pos m) (pos n) e = cc
@@ -64,23 +64,18 @@ element_once x y d h k = element_json_once x y (sym h.1 ∙ k.1)
 pub location_once : IsOnce IsLocationForm
 location_once p q d h k = location_json_once p q (sym h.1 ∙ k.1)
 
-pub value_once : IsOnce IsValueForm
-value_once v w d h k = h.1 ∙ ap Plain (element_once h.0 k.0 d h.2 k.2) ∙ sym k.1
+same_number : (m n : ℕ) → number (unsigned m) ≡ number (unsigned n) → m ≡ n
+same_number m n e = cc
 
-pub instruction_once : IsOnce IsInstructionForm
-instruction_once i j d h k =
-    let parts = same_three _ _ _ _ _ _ (sym h.3 ∙ k.3) in
-    let at = location_once i.at j.at k.0 (subst (IsLocationForm i.at) parts.1 h.5) k.5 in
-    let value = value_once h.2 k.2 k.1 (subst (IsValueForm h.2) parts.2 h.6) k.6 in
-    let action = h.4 ∙ ap Regular value ∙ sym k.4 in
-    ap₂ (λ l a. record { at = l; action = a }) at action
+same_items_two : (a b x y : Data) → items_of (a ∷ b ∷ []) ≡ items_of (x ∷ y ∷ []) → (a ≡ x) × (b ≡ y)
+same_items_two a b x y e = (cc, cc)
 
-pub pair_once : IsOnce IsPairForm
-pair_once p q d h k =
-    let parts = same_two _ _ _ _ (sym h.2 ∙ k.2) in
-    let at = location_once p.0 q.0 k.0 (subst (IsLocationForm p.0) parts.0 h.3) k.3 in
-    let value = value_once p.1 q.1 k.1 (subst (IsValueForm p.1) parts.1 h.4) k.4 in
-    ap₂ (λ l v. (l, v)) at value
+counted_once : (p q : Element × ℕ) (ds : Items) → IsCounted p ds → IsCounted q ds → p ≡ q
+counted_once p q ds h k =
+    let parts = same_items_two _ _ _ _ (sym h.2 ∙ k.2) in
+    let element = element_once p.0 q.0 k.0 (subst (IsElementForm p.0) parts.0 h.3) k.3 in
+    let count = same_number p.1 q.1 (sym (subst (IsAmountForm p.1) parts.1 h.4).1 ∙ k.4.1) in
+    ap₂ (λ e n. (e, n)) element count
 
 pub forms_once : {X : Type 0} (F : X → Data → Type 0) → IsOnce F → IsOnce (AreForms F)
 forms_once F once [] [] ds h k = refl
@@ -96,3 +91,56 @@ same_array ds es e = cc
 
 pub list_once : {X : Type 0} (F : X → Data → Type 0) → IsOnce F → IsOnce (IsListForm F)
 list_once F once xs ys d h k = forms_once F once xs ys k.0 (subst (AreForms F xs) (same_array _ _ (sym h.1 ∙ k.1)) h.2) k.2
+
+pub count_once : IsOnce IsCountForm
+count_once p q d h k = counted_once p q k.0 (subst (IsCounted p) (same_array _ _ (sym h.1 ∙ k.1)) h.2) k.2
+
+set_once : IsOnce IsSetForm
+set_once s t d h k =
+    let same = list_once IsElementForm element_once h.0 k.0 d h.1 k.1 in
+    h.2.1 ∙ ap set.from_list same ∙ sym k.2.1
+
+bag_once : IsOnce IsBagForm
+bag_once b c d h k =
+    let same = list_once IsCountForm count_once h.0 k.0 d h.1 k.1 in
+    h.2.1 ∙ ap bag_of same ∙ sym k.2.1
+
+pub same_one : (key : List ℕ) (a b : Data) → one_of key a ≡ one_of key b → a ≡ b
+same_one key a b e = cc
+
+pub no_element : (x : Element) (key : List ℕ) (a : Data) → element_json_of x ≡ one_of key a → ⊥
+no_element elements.Undef key a e = absurd cc
+no_element (elements.Bool b) key a e = absurd cc
+no_element (elements.Num z) key a e = absurd cc
+no_element (elements.Text s) key a e = absurd cc
+
+-- the first byte of a text; none is 0
+first_byte : List ℕ → ℕ
+first_byte [] = 0
+first_byte (b ∷ bs) = b
+
+pub no_both : (a b : Data) → one_of (codes "set") a ≡ one_of (codes "bag") b → ⊥
+unfolding first_byte
+no_both a b e = absurd (omega (arith, ap first_byte (same_key _ _ _ _ e))) where
+  same_key : (k l : List ℕ) (a b : Data) → one_of k a ≡ one_of l b → k ≡ l
+  same_key k l a b e = cc
+
+pub value_once : IsOnce IsValueForm
+value_once (values.Plain x) (values.Plain y) d h k = ap values.Plain (element_once x y d h k)
+value_once (values.Plain x) (values.Set t) d h k = absurd (no_element x _ _ (sym h.1 ∙ k.1))
+value_once (values.Plain x) (values.Bag c) d h k = absurd (no_element x _ _ (sym h.1 ∙ k.1))
+value_once (values.Set s) (values.Plain y) d h k = absurd (no_element y _ _ (sym k.1 ∙ h.1))
+value_once (values.Set s) (values.Set t) d h k =
+    ap values.Set (set_once s t k.0 (subst (IsSetForm s) (same_one _ _ _ (sym h.1 ∙ k.1)) h.2) k.2)
+value_once (values.Set s) (values.Bag c) d h k = absurd (no_both _ _ (sym h.1 ∙ k.1))
+value_once (values.Bag b) (values.Plain y) d h k = absurd (no_element y _ _ (sym k.1 ∙ h.1))
+value_once (values.Bag b) (values.Set t) d h k = absurd (no_both _ _ (sym k.1 ∙ h.1))
+value_once (values.Bag b) (values.Bag c) d h k =
+    ap values.Bag (bag_once b c k.0 (subst (IsBagForm b) (same_one _ _ _ (sym h.1 ∙ k.1)) h.2) k.2)
+
+pub pair_once : IsOnce IsPairForm
+pair_once p q d h k =
+    let parts = same_two _ _ _ _ (sym h.2 ∙ k.2) in
+    let at = location_once p.0 q.0 k.0 (subst (IsLocationForm p.0) parts.0 h.3) k.3 in
+    let value = value_once p.1 q.1 k.1 (subst (IsValueForm p.1) parts.1 h.4) k.4 in
+    ap₂ (λ l v. (l, v)) at value

@@ -1,5 +1,9 @@
--- The JSON forms of elements, locations, values and regular updates, and lists of forms.
+-- The JSON forms of elements, locations, values, instructions and states, and lists of forms.
 use Rattle.std.specs.Prelude.{◌≡◌, ℕ, List, [], ◌∷◌, map, Option, Some, None, codes}
+use Rattle.std.specs.List.{IsDistinct}
+use Rattle.std.specs.Map.{keys_of}
+use Rattle.std.specs.Ordering.{eq_by_cmp}
+use Rattle.std.specs.declared.cmp.Ordering.{Ordering}
 use Rattle.serde_json.specs.Data.{Data, null, boolean, number, string, array, object, unsigned, Items, no_items, item, member, no_members}
 use Rattle.serde_json.specs.Find.{of_integer}
 use Rattle.serde_json.specs.View.{items_of}
@@ -12,10 +16,10 @@ use Rattle.asm_element.specs.declared.element.Element.{Element}
 use Rattle.asm_element.specs.declared.element.Element.TheVariants as elements
 use Rattle.asm_element.specs.declared.value.Value.{Value}
 use Rattle.asm_element.specs.declared.value.Value.TheVariants as values
-use Rattle.std.specs.FinMap as finite
 use Rattle.asm_update.specs.State as state
-use Rattle.asm_update.specs.State.{State, Updates, write}
-use Rattle.asm_update.specs.declared.action.Action.TheVariants.{Regular}
+use Rattle.asm_update.specs.State.{State, write_all}
+use Rattle.asm_update.specs.declared.action.Action.{Action}
+use Rattle.asm_update.specs.declared.action.Action.TheVariants.{Regular, SetAdd, SetRemove, BagAdd, BagRemove}
 use Rattle.asm_update.specs.declared.action.Instruction.{Instruction}
 
 -- what reading answers: the x that the value is a form of, or None where it is a form of none
@@ -33,6 +37,14 @@ AreForms IsForm (x ∷ xs) (item d ds) = IsForm x d × AreForms IsForm xs ds
 -- an array of the items' forms, in their order
 abbrev pub IsListForm : {X : Type 0} → (X → Data → Type 0) → List X → Data → Type 0
 IsListForm IsForm xs d = (ds : Items) × (d ≡ array ds) × AreForms IsForm xs ds
+
+-- no key of the list is equal to one after it
+abbrev pub AreDistinct : {K : Type 0} → (K → K → Ordering) → List K → Type 0
+AreDistinct cmp = IsDistinct (eq_by_cmp cmp)
+
+-- an array of the forms of some items, of which this is made
+abbrev pub IsMadeForm : {X Y : Type 0} → (X → Data → Type 0) → (Y → List X → Type 0) → Y → Data → Type 0
+IsMadeForm {X} IsForm IsMadeOf y d = (xs : List X) × IsListForm IsForm xs d × IsMadeOf y xs
 
 -- the array of these values
 abbrev pub list_of : List Data → Data
@@ -77,20 +89,85 @@ value_json_of (values.Plain x) = element_json_of x
 value_json_of (values.Set s) = set_json_of s
 value_json_of (values.Bag b) = bag_json_of b
 
--- a value that is read: an element
+-- ---- sets and bags that are read, in any order, of which no element stands twice
+
+-- the set of these elements
+abbrev pub IsSetOf : set.ElementSet → List Element → Type 0
+IsSetOf s es = AreDistinct element.element_cmp es × (s ≡ set.from_list es)
+
+-- [ELEMENT, ..]
+abbrev pub IsSetForm : set.ElementSet → Data → Type 0
+IsSetForm = IsMadeForm IsElementForm IsSetOf
+
+-- a count or an amount: a whole number from 1 to 4,294,967,295
+abbrev pub IsAmountForm : ℕ → Data → Type 0
+IsAmountForm n d = bag.IsCount n × (d ≡ number (unsigned n))
+
+-- an element with its count, or with an amount of it, as two items
+abbrev pub IsCounted : Element × ℕ → Items → Type 0
+IsCounted p ds =
+    (e n : Data) × (ds ≡ items_of (e ∷ n ∷ [])) × IsElementForm p.0 e × IsAmountForm p.1 n
+
+-- [ELEMENT,COUNT]
+abbrev pub IsCountForm : Element × ℕ → Data → Type 0
+IsCountForm p d = (ds : Items) × (d ≡ array ds) × IsCounted p ds
+
+-- the bag with these counts
+abbrev pub bag_of : List (Element × ℕ) → bag.ElementBag
+bag_of [] = bag.empty
+bag_of (p ∷ ps) = bag.set_count (bag_of ps) p.0 p.1
+
+-- the bag of these elements, each with its count
+abbrev pub IsBagOf : bag.ElementBag → List (Element × ℕ) → Type 0
+IsBagOf b ps = AreDistinct element.element_cmp (keys_of ps) × (b ≡ bag_of ps)
+
+-- [[ELEMENT,COUNT], ..]
+abbrev pub IsBagForm : bag.ElementBag → Data → Type 0
+IsBagForm = IsMadeForm IsCountForm IsBagOf
+
+-- ---- values that are read
+
 abbrev pub IsValueForm : Value → Data → Type 0
-IsValueForm v d = (x : Element) × (v ≡ values.Plain x) × IsElementForm x d
+IsValueForm (values.Plain x) d = IsElementForm x d
+IsValueForm (values.Set s) d = (items : Data) × (d ≡ one_of (codes "set") items) × IsSetForm s items
+IsValueForm (values.Bag b) d = (items : Data) × (d ≡ one_of (codes "bag") items) × IsBagForm b items
 
--- ---- instructions that are read: ["put",LOC,VALUE]
+-- ---- instructions that are read: [WORD,LOC,OPERAND, ..]
 
-abbrev pub put_of : Data → Data → Data
-put_of at value = list_of (string (codes "put") ∷ at ∷ value ∷ [])
+-- the word of an action
+abbrev pub word_of : Action → List ℕ
+word_of (Regular v) = codes "put"
+word_of (SetAdd e) = codes "add"
+word_of (SetRemove e) = codes "remove"
+word_of (BagAdd e n) = codes "bagadd"
+word_of (BagRemove e n) = codes "bagremove"
+
+-- one item, which is the form of x
+abbrev pub IsOnly : {X : Type 0} → (X → Data → Type 0) → X → Items → Type 0
+IsOnly IsForm x ds = (d : Data) × (ds ≡ items_of (d ∷ [])) × IsForm x d
+
+-- VALUE; ELEMENT; ELEMENT,AMOUNT
+abbrev pub AreOperands : Action → Items → Type 0
+AreOperands (Regular v) ds = IsOnly IsValueForm v ds
+AreOperands (SetAdd e) ds = IsOnly IsElementForm e ds
+AreOperands (SetRemove e) ds = IsOnly IsElementForm e ds
+AreOperands (BagAdd e n) ds = IsCounted (e, n) ds
+AreOperands (BagRemove e n) ds = IsCounted (e, n) ds
+
+-- the word names the action, and the items are its operands
+abbrev pub IsActionForm : List ℕ → Action → Items → Type 0
+IsActionForm word a ds = (word ≡ word_of a) × AreOperands a ds
+
+-- an array that begins with this word and this location
+abbrev pub instruction_of : List ℕ → Data → Items → Data
+instruction_of word at operands = array (item (string word) (item at operands))
 
 abbrev pub IsInstructionForm : Instruction → Data → Type 0
 IsInstructionForm i d =
-    (at value : Data) × (v : Value) × (d ≡ put_of at value) × (i.action ≡ Regular v) × IsLocationForm i.at at × IsValueForm v value
+    (word : List ℕ) × (at : Data) × (operands : Items) × (d ≡ instruction_of word at operands)
+    × IsLocationForm i.at at × IsActionForm word i.action operands
 
--- ---- states that are read: an array of PAIRs [LOC,VALUE] in any order, of which none stands twice
+-- ---- states that are read: PAIRs [LOC,VALUE] in any order, of which no location stands twice
 
 abbrev pub pair_of : Data → Data → Data
 pair_of at value = list_of (at ∷ value ∷ [])
@@ -101,21 +178,10 @@ pair_json_of p = pair_of (location_json_of p.0) (value_json_of p.1)
 abbrev pub IsPairForm : Place × Value → Data → Type 0
 IsPairForm p d = (at value : Data) × (d ≡ pair_of at value) × IsLocationForm p.0 at × IsValueForm p.1 value
 
--- no location of the pairs is among the updates, nor stands twice
-abbrev pub AreNew : Updates → List (Place × Value) → Type 0
-AreNew U [] = Unit {0}
-AreNew U (p ∷ ps) = (finite.get U p.0 ≡ None) × AreNew (finite.insert U p.0 p.1) ps
+-- the state with these values at their locations
+abbrev pub IsStateOf : State → List (Place × Value) → Type 0
+IsStateOf A ps = AreDistinct place.location_cmp (keys_of ps) × (A ≡ write_all state.empty ps)
 
--- the state with the pairs written, one after the other
-abbrev pub written_with : State → List (Place × Value) → State
-written_with A [] = A
-written_with A (p ∷ ps) = written_with (write A p.0 p.1) ps
-
--- the state of these pairs, or none where a location stands twice
-abbrev pub IsStateOf : List (Place × Value) → Option State → Type 0
-IsStateOf pairs (Some A) = AreNew finite.empty pairs × (A ≡ written_with state.empty pairs)
-IsStateOf pairs None = ¬ AreNew finite.empty pairs
-
+-- [PAIR, ..]
 abbrev pub IsStateForm : State → Data → Type 0
-IsStateForm A d =
-    (pairs : List (Place × Value)) × IsListForm IsPairForm pairs d × IsStateOf pairs (Some A)
+IsStateForm = IsMadeForm IsPairForm IsStateOf

@@ -1,4 +1,5 @@
 pub mod Form
+pub mod Standard
 pub mod History
 pub mod Plan
 pub mod Script

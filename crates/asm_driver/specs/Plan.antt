@@ -1,8 +1,6 @@
 -- What a script says: the opening state, and each agent's moves, one for each of its steps.
-use Rattle.std.specs.Prelude.{List, IsTrue, refl}
-use Rattle.std.specs.List.{list_all}
+use Rattle.std.specs.Prelude.{List, refl}
 use Rattle.std.specs.Coded.{Coded, code_by, coded×, coded_list}
-use Rattle.asm_update.specs.Action.{is_regular}
 use Rattle.asm_update.specs.Move.{Move}
 use Rattle.asm_update.specs.State.{State}
 use Rattle.asm_update.specs.declared.action.Instruction.{Instruction}
@@ -10,10 +8,6 @@ use Rattle.asm_update.specs.declared.action.Instruction.{Instruction}
 pub record Plan : Type 0 where
   pub init : State
   pub agents : List (List Move)
-
--- a move of regular updates
-abbrev pub IsRegular : Move → Type 0
-IsRegular M = IsTrue (list_all (λ i. is_regular i.action) M)
 
 -- a plan is stored as a pair
 abbrev pub plan_code : Coded State → Coded Instruction → Coded Plan

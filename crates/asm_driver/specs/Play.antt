@@ -1,8 +1,8 @@
 -- What playing a script leaves: its history, and the outcome of each step.
 use Rattle.std.specs.Prelude.{◌≡◌, ◌≤◌, ℕ, suc, ◌++◌, List, [], ◌∷◌, length}
 use Rattle.asm_update.specs.Move.{Move}
-use Rattle.asm_update.specs.Fire.{Part}
 use Rattle.asm_driver.specs.Plan.{Plan}
+use Rattle.asm_driver.specs.Standard.{standard_part}
 use Rattle.asm_driver.specs.History.{Machine, IsLegal}
 use Rattle.asm_driver.specs.declared.history.Call.TheVariants as call
 use Rattle.asm_driver.specs.declared.history.Reply.{Reply}
@@ -18,8 +18,8 @@ abbrev pub IsCapacity : ℕ → Type 0
 IsCapacity capacity = (1 ≤ capacity) × (capacity ≤ 1048576)
 
 -- the storage of one thread that the script opens
-abbrev pub machine_of : Part → Plan → ℕ → Machine
-machine_of part plan capacity = record { part = part; init = plan.init; capacity = capacity }
+abbrev pub machine_of : Plan → ℕ → Machine
+machine_of plan capacity = record { part = standard_part; init = plan.init; capacity = capacity }
 
 -- what the reply is for the step
 abbrev pub outcome_of : Reply → Outcome
@@ -52,5 +52,5 @@ pub record IsPlayOf (plan : Plan) (capacity : ℕ) (p : Played) : Type 0 where
   pub opened : p.history.init ≡ plan.init
   pub capacity_is : p.history.capacity ≡ capacity
   pub agents : p.history.agents ≡ length plan.agents
-  pub legal : (part : Part) → IsLegal (machine_of part plan capacity) p.history.events
+  pub legal : IsLegal (machine_of plan capacity) p.history.events
   pub turns : AreTurns 0 plan.agents p.outcomes p.history.events

@@ -1,8 +1,8 @@
 -- Playing on the storage of one thread, step by step.
-use Rattle.std.specs.Prelude.{◌≡◌, ◌≤◌, ◌+◌, ℕ, ◌++◌, List, [], ◌∷◌, length, All, Ok}
+use Rattle.std.specs.Prelude.{◌≡◌, ◌≤◌, ◌+◌, ℕ, ◌++◌, List, [], ◌∷◌, length, Ok}
 use Rattle.asm_update.specs.Move.{Move}
-use Rattle.asm_update.specs.Fire.{Part, fire, state_of}
-use Rattle.asm_driver.specs.Plan.{IsRegular}
+use Rattle.asm_update.specs.Fire.{fire, state_of}
+use Rattle.asm_driver.specs.Standard.{standard_part}
 use Rattle.asm_driver.specs.History.{Machine, reply_to, firing_reply, moves}
 use Rattle.asm_driver.specs.Play.{IsStepOf, AreSteps, AreTurns}
 use Rattle.asm_driver.specs.declared.history.Reply.{Reply}
@@ -16,16 +16,15 @@ abbrev pub IsLegalFrom : Machine → List Move → List Event → Type 0
 IsLegalFrom m q [] = Unit {0}
 IsLegalFrom m q (e ∷ h) = (e.answer ≡ reply_to m q e.call) × IsLegalFrom m (q ++ moves (e ∷ [])) h
 
-abbrev pub machine : Part → Player → Machine
-machine part p = record { part = part; init = p.init; capacity = p.capacity }
+abbrev pub machine : Player → Machine
+machine p = record { part = standard_part; init = p.init; capacity = p.capacity }
 
 -- the events so far are legal, and the state and the number are those of their moves
 pub record IsKept (p : Player) : Type 0 where
   pub number : p.number ≡ length (moves p.events.items)
   pub room : p.number ≤ p.capacity
-  pub state : (part : Part) → p.state ≡ state_of part p.init (moves p.events.items)
-  pub legal : (part : Part) → IsLegalFrom (machine part p) [] p.events.items
-  pub regular : All IsRegular (moves p.events.items)
+  pub state : p.state ≡ state_of standard_part p.init (moves p.events.items)
+  pub legal : IsLegalFrom (machine p) [] p.events.items
 
 -- what the storage was opened with stays
 pub record IsSame (p q : Player) : Type 0 where
@@ -35,14 +34,14 @@ pub record IsSame (p q : Player) : Type 0 where
 -- a fired move leaves its state and its number, and any other reply changes nothing
 abbrev pub Leaves : Player → Player → Move → Reply → Type 0
 Leaves p q M (reply.Fired k) =
-    ((part : Part) → fire part p.state M ≡ Ok q.state) × (q.number ≡ p.number + 1) × (q.number ≤ q.capacity)
+    (fire standard_part p.state M ≡ Ok q.state) × (q.number ≡ p.number + 1) × (q.number ≤ q.capacity)
 Leaves p q M _ = (q.state ≡ p.state) × (q.number ≡ p.number)
 
 -- the reply of the storage of one thread, and what it leaves
 pub record Replies (p q : Player) (M : Move) (r : Reply) : Type 0 where
   pub same : IsSame p q
   pub events : q.events.items ≡ p.events.items
-  pub reply : (part : Part) → r ≡ firing_reply p.capacity p.number (fire part p.state M)
+  pub reply : r ≡ firing_reply p.capacity p.number (fire standard_part p.state M)
   pub leaves : Leaves p q M r
 
 -- one step is played: one event more

@@ -2,7 +2,6 @@
 use Rattle.std.specs.Prelude.{◌≡◌, ◌⊎◌, ℕ, List, IfSome, Option, codes}
 use Rattle.std.specs.Io.KnownBytes.{Consumes, IsAtEnd, Appends}
 use Rattle.clap.specs.Words.{subcommand_of}
-use Rattle.asm_update.specs.Fire.{Part}
 use Rattle.asm_driver.specs.Input.{IsTooLarge}
 use Rattle.asm_driver.specs.Output.{AppendsSome}
 use Rattle.asm_driver.specs.Words.{program, Asks}
@@ -37,7 +36,7 @@ AsksFor words capacity = Asks (subcommand_of program words) capacity
 -- the text is the report of the script of these bytes, played with this capacity
 abbrev pub IsScriptReport : List ℕ → ℕ → List ℕ → Type 0
 IsScriptReport bytes capacity text =
-    (plan : Plan) × (played : Played) × ReadsAs bytes plan × IsPlayOf plan capacity played × ((part : Part) → text ≡ report_of part played)
+    (plan : Plan) × (played : Played) × ReadsAs bytes plan × IsPlayOf plan capacity played × (text ≡ report_of played)
 
 -- the text is the report of the script that was read, played with the capacity that was asked for
 abbrev pub IsReportOf : Words → Known → Known → List ℕ → Type 0

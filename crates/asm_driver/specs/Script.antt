@@ -1,11 +1,11 @@
 -- Scripts: an opening state, and the steps of each agent; how a text reads as one, and why it is refused.
 use Rattle.std.specs.Prelude.{◌≡◌, ◌<◌, ◌⊎◌, ◌++◌, ℕ, List, [], ◌∷◌, length, Option, Some, None, IsUtf8, codes, nat_lt, if◌then◌else◌}
-use Rattle.std.specs.List.{filter_map, flat_map, AllByRecursion}
+use Rattle.std.specs.List.{filter_map, flat_map}
 use Rattle.serde_json.specs.Data.{Data, object, member, no_members}
 use Rattle.serde_json.specs.Read.{read}
 use Rattle.asm_update.specs.Move.{Move}
 use Rattle.asm_update.specs.declared.action.Instruction.{Instruction}
-use Rattle.asm_driver.specs.Plan.{Plan, IsRegular}
+use Rattle.asm_driver.specs.Plan.{Plan}
 use Rattle.asm_driver.specs.Form.{IsListForm, IsInstructionForm, IsStateForm}
 use Rattle.asm_driver.specs.declared.script.Written.{Written}
 use Rattle.asm_driver.specs.declared.script.ScriptCause.{ScriptCause}
@@ -103,7 +103,3 @@ IsRefused bytes Memory = Unit {0}
 abbrev pub NotJsonUnlessMemory : List ℕ → ScriptError → Type 0
 NotJsonUnlessMemory bytes (BadScript cause) = (cause ≡ NotJson) × ((d : Data) → ¬ IsJson bytes d)
 NotJsonUnlessMemory bytes Memory = Unit {0}
-
--- the blocks of the agents' steps are regular updates
-abbrev pub AreRegularAgents : List (List Step) → Type 0
-AreRegularAgents = AllByRecursion (AllByRecursion (AllByRecursion IsRegular))

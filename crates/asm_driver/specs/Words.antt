@@ -27,7 +27,7 @@ program =
 
 -- the capacity that is asked for: the number that stands there
 abbrev pub Asks : Option (Text × List Row) → ℕ → Type 0
-Asks None capacity = Unit {0}
-Asks (Some p) capacity =
+Asks None number = Unit {0}
+Asks (Some p) number =
     (t : Text) → one_of (codes "capacity") p.1 ≡ Some t → IsNumeral 10 (without_leading_plus t)
-    → digits_value 10 (without_leading_plus t) < 2 ^ 32 → capacity ≡ digits_value 10 (without_leading_plus t)
+    → digits_value 10 (without_leading_plus t) < 2 ^ 32 → number ≡ digits_value 10 (without_leading_plus t)

@@ -1,12 +1,12 @@
-//! The JSON forms: how elements, locations, values and instructions are read and written.
+//! The JSON forms: how elements, locations, values and states are read and written.
 ghost use Rattle.std.specs.Prelude.{◌≡◌, ◌≢◌, ◌++◌, [], ◌∷◌, ℕ, IfOk, IfSome, IfNone, OnOk, map, option_map};
 ghost use Rattle.serde_json.specs.Data.{Data, Members, array, object, member, no_members};
-ghost use Rattle.serde_json.specs.View.{view, items_view, members_view};
-ghost use Rattle.asm_driver.specs.Form.{Reads, AreForms, IsListForm, list_of, one_of, count_json_of, set_json_of, bag_json_of, element_json_of, location_json_of, value_json_of, pair_json_of, IsElementForm, IsLocationForm, IsValueForm, IsInstructionForm, IsPairForm, IsStateOf, IsStateForm};
+ghost use Rattle.serde_json.specs.View.{view, items_of, items_view, members_view};
+ghost use Rattle.asm_driver.specs.Form.{Reads, AreForms, IsListForm, list_of, one_of, count_json_of, set_json_of, bag_json_of, element_json_of, location_json_of, value_json_of, pair_json_of, IsElementForm, IsLocationForm, IsValueForm, IsPairForm, IsStateOf, IsStateForm};
 
 use crate::listed::Listed;
 use asm_element::{ElemBag, ElemSet, ElemText, Element, Location, Value};
-use asm_update::{Action, Instruction, PlainState, UpdateSet};
+use asm_update::{PlainState, UpdateSet};
 use serde_json::{Map, Value as Json};
 use std::alloc::{AllocError, Global};
 use std::collections::btree_map::Iter;
@@ -93,19 +93,23 @@ impl FromJson for Value {
     ghost is_form = { IsValueForm };
 
     fn from_json(alloc: Global, json: &Json) -> Result<Option<Value>, AllocError> {
-        match Element::from_json(alloc, json)? {
-            Some(element) => Ok(Some(Value::Plain(element))),
-            None => Ok(None),
+        if let Some(items) = member_of(json, "set") {
+            return Ok(ElemSet::from_json(alloc, items)?.map(Value::Set));
         }
+        if let Some(items) = member_of(json, "bag") {
+            return Ok(ElemBag::from_json(alloc, items)?.map(Value::Bag));
+        }
+        Ok(Element::from_json(alloc, json)?.map(Value::Plain))
     }
 }
 
-/// The members of an array of two.
-fn two_items(json: &Json) -> Option<(&Json, &Json)>
-    ensures some { IfSome result (λ p. view json.now ≡ list_of (view p.0.now ∷ view p.1.now ∷ [])) }
-    ensures none { IfNone result ((a b : Data) → view json.now ≢ list_of (a ∷ b ∷ [])) }
+/// The two items, where there are just two.
+pub(crate) fn two_of(items: &[Json]) -> Option<(&Json, &Json)>
+    ensures some { IfSome result
+        (λ p. items_view items.now ≡ items_of (view p.0.now ∷ view p.1.now ∷ [])) }
+    ensures none { IfNone result ((a b : Data) → items_view items.now ≢ items_of (a ∷ b ∷ [])) }
 {
-    let mut items = json.as_array()?.iter();
+    let mut items = items.iter();
     let first = items.next()?;
     let second = items.next()?;
     match items.next() {
@@ -114,41 +118,12 @@ fn two_items(json: &Json) -> Option<(&Json, &Json)>
     }
 }
 
-/// The members of an array of three.
-fn three_items(json: &Json) -> Option<(&Json, &Json, &Json)>
-    ensures some { IfSome result
-        (λ p. view json.now ≡ list_of (view p.0.now ∷ view p.1.now ∷ view p.2.now ∷ [])) }
-    ensures none { IfNone result ((a b c : Data) → view json.now ≢ list_of (a ∷ b ∷ c ∷ [])) }
+/// The members of an array of two.
+fn two_items(json: &Json) -> Option<(&Json, &Json)>
+    ensures some { IfSome result (λ p. view json.now ≡ list_of (view p.0.now ∷ view p.1.now ∷ [])) }
+    ensures none { IfNone result ((a b : Data) → view json.now ≢ list_of (a ∷ b ∷ [])) }
 {
-    let mut items = json.as_array()?.iter();
-    let first = items.next()?;
-    let second = items.next()?;
-    let third = items.next()?;
-    match items.next() {
-        None => Some((first, second, third)),
-        Some(_) => None,
-    }
-}
-
-impl FromJson for Instruction {
-    ghost is_form = { IsInstructionForm };
-
-    fn from_json(alloc: Global, json: &Json) -> Result<Option<Instruction>, AllocError> {
-        let Some((word, at, value)) = three_items(json) else {
-            return Ok(None);
-        };
-        if word.as_str() != Some("put") {
-            return Ok(None);
-        }
-        let Some(at) = Location::from_json(alloc, at)? else {
-            return Ok(None);
-        };
-        let Some(value) = Value::from_json(alloc, value)? else {
-            return Ok(None);
-        };
-        let action = Action::Regular(value);
-        Ok(Some(Instruction { at, action }))
-    }
+    two_of(json.as_array()?)
 }
 
 /// A location with its value.
@@ -205,13 +180,26 @@ pub(crate) fn members_of<'v>(
     }
 }
 
-/// Writes the pairs, unless a location stands twice.
-fn state_of_pairs(alloc: Global, pairs: Vec<Pair>) -> Result<Option<PlainState>, AllocError>
-    ensures { IfOk result (λ o. IsStateOf (map (λ p. (p.0, p.1)) pairs.items) o) }
+/// The value of an object that has just this key.
+fn member_of<'v>(json: &'v Json, key: &str) -> Option<&'v Json>
+    ensures some { IfSome result (λ m. view json.now ≡ one_of key.now (view m.now)) }
+    ensures none { IfNone result ((d : Data) → view json.now ≢ one_of key.now d) }
+{
+    let mut members = json.as_object()?.iter();
+    let value = next_member(&mut members, key)?;
+    match members.next() {
+        None => Some(value),
+        Some(_) => None,
+    }
+}
+
+/// The state of the pairs, unless a location stands twice.
+fn state_of(alloc: Global, mut pairs: Vec<Pair>) -> Result<Option<PlainState>, AllocError>
+    ensures { IfOk result (Reads IsStateOf (map (λ p. (p.0, p.1)) pairs.items)) }
 {
     let mut state = PlainState::new(alloc);
     let mut seen = UpdateSet::new(alloc);
-    for Pair(at, value) in pairs {
+    while let Some(Pair(at, value)) = pairs.pop() {
         if seen.get(&at).is_some() {
             return Ok(None);
         }
@@ -226,7 +214,7 @@ impl FromJson for PlainState {
 
     fn from_json(alloc: Global, json: &Json) -> Result<Option<PlainState>, AllocError> {
         match Listed::<Pair>::from_json(alloc, json)? {
-            Some(pairs) => state_of_pairs(alloc, pairs.into_vec()),
+            Some(pairs) => state_of(alloc, pairs.into_vec()),
             None => Ok(None),
         }
     }

@@ -1,8 +1,7 @@
 //! Calls, their answers, and histories.
-ghost use Rattle.std.specs.Prelude.{◌≡◌, All, length, min};
+ghost use Rattle.std.specs.Prelude.{◌≡◌, length, min};
 ghost use Rattle.std.specs.Option.{option_copied};
 ghost use Rattle.asm_driver.specs.History.{move_of, moves};
-ghost use Rattle.asm_driver.specs.Plan.{IsRegular};
 
 use asm_element::{Items, Location, Value};
 use asm_update::{Clash, Instructions, PlainState};
@@ -69,8 +68,6 @@ impl Event {
 }
 
 /// What a storage answered, in one order.
-///
-/// The fired moves are regular updates.
 #[derive(Debug, Drop)]
 pub struct History {
     /// The opening state.
@@ -80,7 +77,6 @@ pub struct History {
     /// One more than the greatest agent.
     pub agents: u32,
     pub events: Items<Event>,
-    ghost regular: { All IsRegular (moves events) },
 }
 
 impl History {

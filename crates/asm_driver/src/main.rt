@@ -1,9 +1,11 @@
 //! The driver: it reads a script, plays its moves, and writes the final state.
 #![tactic(auto)]
 
+mod firing;
 pub mod form;
 pub mod history;
 pub mod input;
+mod instruction_form;
 pub mod listed;
 pub mod output;
 pub mod play;
@@ -11,6 +13,7 @@ pub mod program;
 pub mod replay;
 pub mod report;
 pub mod script;
+mod set_form;
 pub mod words;
 
 use crate::program::{Refusal, refuse, run_main};

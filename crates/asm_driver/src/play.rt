@@ -1,14 +1,14 @@
 //! Playing a script on the storage of one thread.
-ghost use Rattle.std.specs.Prelude.{◌≡◌, ◌↔◌, ◌≤◌, IfOk, All, length};
-ghost use Rattle.asm_driver.specs.Plan.{IsRegular};
+ghost use Rattle.std.specs.Prelude.{◌≡◌, ◌↔◌, ◌≤◌, IfOk, length};
 ghost use Rattle.asm_driver.specs.Play.{IsCapacity, outcome_of, IsPlayOf};
 ghost use Rattle.asm_driver.specs.Player.{IsKept, Replies, PlaysStep, PlaysSteps, PlaysAgents};
 ghost use Rattle.asm_driver.specs.declared.play.RunError.TheVariants.{BadCapacity};
 
+use crate::firing::fire_move;
 use crate::history::{Answer, Call, Event, History, Reply};
 use crate::script::{AGENTS_LIMIT, Script};
 use asm_element::{Items, Location};
-use asm_update::{AggError, Clash, Instructions, PlainState, fire_plain};
+use asm_update::{AggError, Clash, Instructions, PlainState};
 use std::alloc::{AllocError, AllocFailed, Global};
 use thiserror::Error;
 
@@ -88,11 +88,10 @@ struct Player {
 /// Fires the block if it doesn't clash and there is room.
 fn fire_block(alloc: Global, player: &mut Player, block: &Instructions) -> Result<Reply, AllocError>
     requires kept { IsKept player.old }
-    requires regular { IsRegular block.now }
     ensures { IfOk result (Replies player.old player.new block.now) }
 {
     let mut next = player.state.copy(alloc)?;
-    match fire_plain(alloc, &mut next, block) {
+    match fire_move(alloc, &mut next, block) {
         Ok(()) => {}
         Err(AggError::Clash(clash)) => return Ok(Reply::Clash(clash)),
         Err(AggError::Memory) => return Err(AllocError),
@@ -127,7 +126,6 @@ fn play_step(
     block: &Instructions,
 ) -> Result<Outcome, AllocError>
     requires kept { IsKept player.old }
-    requires regular { IsRegular block.now }
     ensures { IfOk result (PlaysStep player.old player.new agent block.now) }
 {
     let call = Call::Fire {
@@ -152,7 +150,6 @@ fn play_steps(
     steps: &[Instructions],
 ) -> Result<Items<Outcome>, AllocError>
     requires kept { IsKept player.old }
-    requires regular { All IsRegular steps.now }
     ensures { IfOk result (PlaysSteps player.old player.new agent steps.now) }
 {
     let mut outcomes = Vec::new(alloc);
@@ -169,7 +166,6 @@ fn play_agents(
     agents: &[Items<Instructions>],
 ) -> Result<Items<Items<Outcome>>, AllocError>
     requires kept { IsKept player.old }
-    requires regular { All (All IsRegular) agents.now }
     requires few { length agents.now ≤ AGENTS_LIMIT }
     ensures { IfOk result (PlaysAgents player.old player.new 0 agents.now) }
 {

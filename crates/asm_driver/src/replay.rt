@@ -1,11 +1,12 @@
 //! The state that a history leaves.
 ghost use Rattle.std.specs.Prelude.{◌≡◌, OnOk, IfOk};
-ghost use Rattle.asm_update.specs.Fire.{Part, fire, state_or, state_of};
+ghost use Rattle.asm_update.specs.Fire.{fire, state_or, state_of};
 ghost use Rattle.asm_driver.specs.History.{moves};
-ghost use Rattle.asm_driver.specs.Plan.{IsRegular};
+ghost use Rattle.asm_driver.specs.Standard.{standard_part};
 
+use crate::firing::fire_move;
 use crate::history::History;
-use asm_update::{AggError, Instructions, PlainState, fire_plain};
+use asm_update::{AggError, Instructions, PlainState};
 use std::alloc::{AllocError, Global};
 
 /// Fires a move, unless it clashes.
@@ -14,11 +15,10 @@ fn fire_or_keep(
     state: &mut PlainState,
     instructions: &Instructions,
 ) -> Result<(), AllocError>
-    requires { IsRegular instructions.now }
-    ensures { OnOk result ((part : Part)
-        → state.new ≡ state_or state.old (fire part state.old instructions.now)) }
+    ensures { OnOk result
+        (state.new ≡ state_or state.old (fire standard_part state.old instructions.now)) }
 {
-    match fire_plain(alloc, state, instructions) {
+    match fire_move(alloc, state, instructions) {
         Ok(()) | Err(AggError::Clash(_)) => Ok(()),
         Err(AggError::Memory) => Err(AllocError),
     }
@@ -26,8 +26,8 @@ fn fire_or_keep(
 
 /// The opening state with the fired moves in order; a move that clashes changes nothing.
 pub fn replay(alloc: Global, history: &History) -> Result<PlainState, AllocError>
-    ensures { IfOk result (λ state. (part : Part)
-        → state ≡ state_of part history.now.init (moves history.now.events)) }
+    ensures { IfOk result (λ state.
+        state ≡ state_of standard_part history.now.init (moves history.now.events)) }
 {
     let mut state = history.init.copy(alloc)?;
     for event in history.events.as_slice() {

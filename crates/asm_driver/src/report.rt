@@ -3,7 +3,6 @@ ghost use Rattle.std.specs.Prelude.{◌≡◌, ◌++◌, false, IfOk, OnOk, stri
 ghost use Rattle.std.specs.List.{flat_map, enumerate_from};
 ghost use Rattle.serde_json.specs.View.{view};
 ghost use Rattle.serde_json.specs.Written.{has_float, compact_text};
-ghost use Rattle.asm_update.specs.Fire.{Part};
 ghost use Rattle.asm_driver.specs.Form.{location_json_of};
 ghost use Rattle.asm_driver.specs.Report.{line, state_lines, cause_name as name_of_cause, outcome_line, agent_lines, outcome_lines, reason, report_of};
 
@@ -133,7 +132,7 @@ fn push_outcomes(
 /// The text that `run` prints: a line for each location of the final state, in ascending order; the
 /// number of fired moves; and a line for each step that didn't fire, agent by agent.
 pub fn report(alloc: Global, played: &Played) -> Result<String, AllocError>
-    ensures { IfOk result (λ text. (part : Part) → string_bytes text ≡ report_of part played.now) }
+    ensures { IfOk result (λ text. string_bytes text ≡ report_of played.now) }
 {
     let mut text = String::new(alloc);
     let state = replay(alloc, &played.history)?;

@@ -4,7 +4,7 @@ ghost use Rattle.std.specs.List.{filter_map};
 ghost use Rattle.serde_json.specs.Data.{Data};
 ghost use Rattle.serde_json.specs.View.{view};
 ghost use Rattle.asm_driver.specs.Form.{Reads as ReadsForm};
-ghost use Rattle.asm_driver.specs.Script.{IsJson, NotJsonUnlessMemory, IsScriptForm, step_fault, IsFirst, IsStepFault, IsBlockFault, AreBlocks, AreRegularAgents, IsPlanOf, faults, ReadsAs, IsRefused};
+ghost use Rattle.asm_driver.specs.Script.{IsJson, NotJsonUnlessMemory, IsScriptForm, step_fault, IsFirst, IsStepFault, IsBlockFault, AreBlocks, IsPlanOf, faults, ReadsAs, IsRefused};
 
 use crate::form::{FromJson, members_of};
 use crate::listed::Listed;
@@ -69,8 +69,6 @@ impl<T: Drop> From<AllocFailed<T>> for ScriptError {
 }
 
 /// An opening state, and the moves of each agent, one for each of its steps.
-///
-/// Its moves are regular updates.
 #[derive(Debug, Drop)]
 pub struct Script {
     init: PlainState,
@@ -78,10 +76,10 @@ pub struct Script {
 }
 
 impl Model for Script {
-    ghost use Rattle.std.specs.Prelude.{All, length, ◌≤◌};
+    ghost use Rattle.std.specs.Prelude.{length, ◌≤◌};
     ghost use Rattle.asm_update.specs.contracts.plain_state.PlainState.{the_row as state_row};
     ghost use Rattle.asm_update.specs.contracts.action.Instruction.{the_row as instruction_row};
-    ghost use Rattle.asm_driver.specs.Plan.{Plan, IsRegular, plan_code};
+    ghost use Rattle.asm_driver.specs.Plan.{Plan, plan_code};
 
     ghost Value = { Plan };
 
@@ -89,13 +87,10 @@ impl Model for Script {
 
     ghost view = { λ s. record { init = s.init; agents = s.agents } };
 
-    ghost invariant = { λ s. (length s.agents ≤ 1) × All (All IsRegular) s.agents };
+    ghost invariant = { λ s. length s.agents ≤ 1 };
 }
 
 impl Script {
-    ghost use Rattle.std.specs.Prelude.{All};
-    ghost use Rattle.asm_driver.specs.Plan.{IsRegular};
-
     pub(crate) fn init(&self) -> &PlainState
         ensures { result.now ≡ self.now.init }
     {
@@ -105,7 +100,6 @@ impl Script {
     pub(crate) fn agents(&self) -> &[Items<Instructions>]
         ensures agents { result.now ≡ self.now.agents }
         ensures few { length self.now.agents ≤ AGENTS_LIMIT }
-        ensures regular { All (All IsRegular) self.now.agents }
     {
         self.agents.as_slice()
     }
@@ -191,7 +185,6 @@ fn agent_moves(
 }
 
 fn script_of(alloc: Global, written: Written) -> Result<Script, ScriptError>
-    requires { AreRegularAgents written.agents }
     ensures ok { IfOk result (IsPlanOf written) }
     ensures err { IfErr result (IsFirst (faults written.agents)) }
 {

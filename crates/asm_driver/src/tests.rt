@@ -57,6 +57,106 @@ fn reports_of_scripts(rt: HostRuntime) -> Result<(), Fail> {
     Ok(())
 }
 
+/// Scripts of partial updates, with their reports.
+#[test]
+fn reports_of_sets_and_bags(rt: HostRuntime) -> Result<(), Fail> {
+    for (script, want) in [
+        (
+            "{\"init\":[[[\"s\"],{\"set\":[2,1]}]],\"agents\":[[[[[\"add\",[\"s\"],3],[\"remove\",[\"s\"],1],[\"remove\",[\"s\"],9]]]]]}",
+            "[[\"s\"],{\"set\":[2,3]}]\nmoves 1\n",
+        ),
+        (
+            "{\"init\":[[[\"b\"],{\"bag\":[[\"e\",1]]}]],\"agents\":[[[[[\"bagadd\",[\"b\"],\"e\",2],[\"bagremove\",[\"b\"],\"e\",2]]]]]}",
+            "[[\"b\"],{\"bag\":[[\"e\",1]]}]\nmoves 0\nagent 0 step 0 clash [\"b\"] Short\n",
+        ),
+        (
+            "{\"init\":[],\"agents\":[[[[[\"put\",[\"s\"],{\"set\":[1,2]}],[\"add\",[\"s\"],1]]],[[[\"put\",[\"s\"],{\"set\":[1,2]}],[\"add\",[\"s\"],3]]]]]}",
+            "[[\"s\"],{\"set\":[1,2]}]\nmoves 1\nagent 0 step 1 clash [\"s\"] Against\n",
+        ),
+        (
+            "{\"init\":[[[\"b\"],{\"bag\":[[\"e\",4294967295]]}]],\"agents\":[[[[[\"bagadd\",[\"b\"],\"e\",1]]],[[[\"bagremove\",[\"b\"],\"e\",1],[\"bagadd\",[\"b\"],\"e\",1]]]]]}",
+            "[[\"b\"],{\"bag\":[[\"e\",4294967295]]}]\nmoves 1\nagent 0 step 0 clash [\"b\"] Large\n",
+        ),
+        (
+            "{\"init\":[],\"agents\":[[[[[\"put\",[\"x\"],{\"set\":[10,\"a\",true,null,\"\",-1,\"B\",false,0]}]]]]]}",
+            "[[\"x\"],{\"set\":[null,false,true,-1,0,10,\"\",\"B\",\"a\"]}]\nmoves 1\n",
+        ),
+        (
+            "{\"init\":[],\"agents\":[[[[[\"put\",[\"b\"],{\"bag\":[[\"f\",2],[\"e\",1]]}]]],[[[\"bagremove\",[\"b\"],\"f\",2]]]]]}",
+            "[[\"b\"],{\"bag\":[[\"e\",1]]}]\nmoves 2\n",
+        ),
+        (
+            "{\"init\":[[[\"b\"],{\"bag\":[]}],[[\"s\"],{\"set\":[]}]],\"agents\":[[[[[\"add\",[\"s\"],1],[\"bagadd\",[\"b\"],1,2]]],[[[\"remove\",[\"s\"],1],[\"bagremove\",[\"b\"],1,2]]]]]}",
+            "[[\"b\"],{\"bag\":[]}]\n[[\"s\"],{\"set\":[]}]\nmoves 2\n",
+        ),
+        (
+            "{\"init\":[],\"agents\":[[[[[\"add\",[\"x\"],1],[\"bagadd\",[\"x\"],1,1]]]]]}",
+            "moves 0\nagent 0 step 0 clash [\"x\"] Mixed\n",
+        ),
+        (
+            "{\"init\":[],\"agents\":[[[[[\"add\",[\"x\"],1],[\"remove\",[\"x\"],1]]]]]}",
+            "moves 0\nagent 0 step 0 clash [\"x\"] Kind\n",
+        ),
+        (
+            "{\"init\":[[[\"x\"],{\"set\":[]}]],\"agents\":[[[[[\"add\",[\"x\"],1],[\"remove\",[\"x\"],1]]]]]}",
+            "[[\"x\"],{\"set\":[]}]\nmoves 0\nagent 0 step 0 clash [\"x\"] Both\n",
+        ),
+        (
+            "{\"init\":[],\"agents\":[[[[[\"put\",[\"z\"],1],[\"put\",[\"z\"],2],[\"add\",[\"a\"],1],[\"put\",[\"m\"],3]]]]]}",
+            "moves 0\nagent 0 step 0 clash [\"a\"] Kind\n",
+        ),
+    ] {
+        let (status, written) = run(rt.alloc(), &["asm_driver", "run"], script)?;
+        assert_eq!(rt; status, 0, "{script}");
+        assert!(rt; written.as_slice() == want.as_bytes(), "{script}");
+    }
+    Ok(())
+}
+
+/// Values and instructions of a wrong shape, each as the only instruction of a script.
+#[test]
+fn instructions_that_are_refused(rt: HostRuntime) -> Result<(), Fail> {
+    for instruction in [
+        "[\"put\",[\"x\"],{\"set\":[1,2,1]}]",
+        "[\"put\",[\"x\"],{\"set\":[[1]]}]",
+        "[\"put\",[\"x\"],{\"set\":1}]",
+        "[\"put\",[\"x\"],{\"set\":[],\"bag\":[]}]",
+        "[\"put\",[\"x\"],{\"sets\":[]}]",
+        "[\"put\",[\"x\"],{\"bag\":[[\"e\",1],[\"e\",2]]}]",
+        "[\"put\",[\"x\"],{\"bag\":[[\"e\",0]]}]",
+        "[\"put\",[\"x\"],{\"bag\":[[\"e\",4294967296]]}]",
+        "[\"put\",[\"x\"],{\"bag\":[[\"e\",1.0]]}]",
+        "[\"put\",[\"x\"],{\"bag\":[[\"e\"]]}]",
+        "[\"put\",[\"x\"],{\"bag\":[\"e\"]}]",
+        "[\"put\",[\"x\"]]",
+        "[\"put\",[\"x\"],1,2]",
+        "[\"add\",[\"x\"],{\"set\":[]}]",
+        "[\"add\",[\"x\"],1,2]",
+        "[\"remove\",[\"x\"],{\"bag\":[]}]",
+        "[\"remove\",[\"x\"]]",
+        "[\"bagadd\",[\"x\"],\"e\"]",
+        "[\"bagadd\",[\"x\"],\"e\",0]",
+        "[\"bagadd\",[\"x\"],\"e\",1,1]",
+        "[\"bagremove\",[\"x\"],\"e\",4294967296]",
+        "[\"bagremove\",[\"x\"],{\"set\":[]},1]",
+        "[\"Add\",[\"x\"],1]",
+        "[\"\",[\"x\"],1]",
+        "[\"add\"]",
+        "[]",
+        "{}",
+    ] {
+        let mut script = String::from_str(rt.alloc(), "{\"init\":[],\"agents\":[[[[")?;
+        script.push_str(instruction)?;
+        script.push_str("]]]]}")?;
+        let refused = parse_script(rt.alloc(), script.as_bytes()).err();
+        assert!(rt;
+            refused == Some(ScriptError::BadScript(ScriptCause::Shape)),
+            "{instruction}"
+        );
+    }
+    Ok(())
+}
+
 #[test]
 fn full_then_clash_at_capacity_one(rt: HostRuntime) -> Result<(), Fail> {
     let script =
@@ -133,14 +233,6 @@ fn scripts_that_are_refused(rt: HostRuntime) -> Result<(), Fail> {
         ),
         (
             "{\"init\":[[[\"x\",1,1,1,1,1,1,1,1,1],1]],\"agents\":[]}",
-            "bad script: shape\n",
-        ),
-        (
-            "{\"init\":[],\"agents\":[[[[[\"add\",[\"x\"],1]]]]]}",
-            "bad script: shape\n",
-        ),
-        (
-            "{\"init\":[],\"agents\":[[[[[\"put\",[\"x\"],{\"set\":[]}]]]]]}",
             "bad script: shape\n",
         ),
         (

@@ -2,6 +2,7 @@ use Rattle.std.proofs.Common.{◌≡◌, ◌++◌, length, refl, sym, ap, subst,
 use Rattle.asm_driver.specs.History.{IsLegal}
 use Rattle.asm_driver.specs.Play.{machine_of, AreTurns}
 use Rattle.asm_driver.specs.Player.{machine}
+use Rattle.asm_driver.specs.Standard.{standard_part}
 use Rattle.asm_driver.proofs.Legal.{legal_from}
 use Rattle.asm_driver.proofs.play.run_script.Goals as goal
 
@@ -17,10 +18,10 @@ returns-clause-played c =
       opened = opened;
       capacity_is = refl;
       agents = ap length c.agents-agents.ensures.agents;
-      legal = λ part.
-          let same : machine part z ≡ machine_of part c.args.script.now c.args.capacity = λ i. record { part = part; init = opened i; capacity = capacity i } in
-          subst (λ h. IsLegal (machine_of part c.args.script.now c.args.capacity) h) (sym events)
-          (subst (λ m. IsLegal m z.events.items) same (legal_from (machine part z) z.events.items (played.kept.legal part)));
+      legal =
+          let same : machine z ≡ machine_of c.args.script.now c.args.capacity = λ i. record { part = standard_part; init = opened i; capacity = capacity i } in
+          subst (λ h. IsLegal (machine_of c.args.script.now c.args.capacity) h) (sym events)
+          (subst (λ m. IsLegal m z.events.items) same (legal_from (machine z) z.events.items played.kept.legal));
       turns = subst (λ mss. AreTurns 0 mss c.in_ok-outcomes.outcomes c.new-2.result) c.agents-agents.ensures.agents
           (subst (λ h. AreTurns 0 c.agents-agents.result.now c.in_ok-outcomes.outcomes h) (sym (events ∙ turned)) played.turns.2);
     }

@@ -1,38 +1,29 @@
-use Rattle.std.proofs.Common.{◌≡◌, ◌++◌, ◌∷◌, [], get_or, sym, ap, subst, ◌∙◌}
-use Rattle.std.specs.Prelude.{take, Some, All}
+use Rattle.std.proofs.Common.{◌++◌, ◌∷◌, [], sym, ap, ◌∙◌}
+use Rattle.std.specs.Prelude.{take}
 use Rattle.std.specs.Option.{option_copied}
 use Rattle.std.proofs.lemmas.List.{take_more}
 use Rattle.asm_update.specs.Fire.{state_of, state_or, fire}
-use Rattle.asm_driver.specs.History.{moves, move_of}
-use Rattle.asm_driver.specs.Plan.{IsRegular}
-use Rattle.asm_driver.proofs.Moves.{each_move, state_of-push, moves-push_fired, moves-push_quiet}
+use Rattle.asm_driver.specs.History.{moves}
+use Rattle.asm_driver.specs.Standard.{standard_part}
+use Rattle.asm_driver.proofs.Moves.{state_of-push, moves-push_fired, moves-push_quiet}
 use Rattle.asm_driver.proofs.replay.replay.Goals as goal
 use Rattle.asm_driver.proofs.replay.replay.Goals.{in-Some+in_ok-fire_or_keep, in_default}
 
-pub fire_or_keep-requires : goal.fire_or_keep-requires
-fire_or_keep-requires c =
-    let items = c.as_slice-event-items.result.now in
-    let i = c.loop-event.event-index in
-    let e = c.event-item.result in
-    let regular : All IsRegular (moves items) = subst (λ h. All IsRegular (moves h)) (sym c.as_slice-event-items.ensures) c.args.history.now.regular in
-    let is : move_of (get_or items i e) ≡ Some c.in-Some.instructions.now = ap move_of (sym c.event-item.is) ∙ sym c.in-Some.ensures in
-    each_move IsRegular items i e c.in-Some.instructions.now c.loop-event-test.true regular is
-
 pub loop-event-preserved : goal.loop-event-preserved
-loop-event-preserved c = λ part.
+loop-event-preserved c =
     let items = c.as_slice-event-items.result.now in
     let i = c.loop-event.event-index in
     let e = c.event-item.result in
     let init = c.args.history.now.init in
     let before = take i items in
     let more = take_more items i e c.loop-event-test.true ∙ ap (λ x. take i items ++ x ∷ []) (sym c.event-item.is) in
-    let after = ap (λ h. state_of part init (moves h)) more in
+    let after = ap (λ h. state_of standard_part init (moves h)) more in
     elim c.match-fired_move.branch [
       | in-Some+in_ok-fire_or_keep w ↦
           let M = w.in-Some.instructions.now in
-          let fired = ap (state_of part init) (moves-push_fired before e M (sym w.in-Some.ensures)) ∙ state_of-push part init (moves before) M in
-          w.state-is ∙ w.in_ok-fire_or_keep.ensures part ∙ ap (λ A. state_or A (fire part A M)) (c.loop-event.invariant part) ∙ sym (after ∙ fired)
+          let fired = ap (state_of standard_part init) (moves-push_fired before e M (sym w.in-Some.ensures)) ∙ state_of-push standard_part init (moves before) M in
+          w.state-is ∙ w.in_ok-fire_or_keep.ensures ∙ ap (λ A. state_or A (fire standard_part A M)) c.loop-event.invariant ∙ sym (after ∙ fired)
       | in_default w ↦
           let quiet = moves-push_quiet before e (sym c.fired_move.ensures ∙ ap option_copied w.in_default.is) in
-          w.state-is ∙ c.loop-event.invariant part ∙ sym (after ∙ ap (state_of part init) quiet)
+          w.state-is ∙ c.loop-event.invariant ∙ sym (after ∙ ap (state_of standard_part init) quiet)
     ]

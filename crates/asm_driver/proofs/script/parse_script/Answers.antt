@@ -2,11 +2,8 @@ use Rattle.std.proofs.lemmas.Result.{IfOk-weaker, IfErr-weaker}
 use Rattle.serde_json.specs.View.{view}
 use Rattle.asm_driver.specs.Script.{IsScriptForm}
 use Rattle.asm_driver.proofs.Reading.{Reads-some}
-use Rattle.asm_driver.proofs.Plans.{regular_written, beyond}
+use Rattle.asm_driver.proofs.Plans.{beyond}
 use Rattle.asm_driver.proofs.script.parse_script.Goals as goal
-
-pub script_of-requires : goal.script_of-requires
-script_of-requires c = regular_written c.in-Some.written (view c.in_ok-json.json) (Reads-some IsScriptForm _ _ _ c.in-Some.is c.in_ok-written.ensures)
 
 pub returns-in-Some-clause-ok : goal.returns-in-Some-clause-ok
 returns-in-Some-clause-ok c =

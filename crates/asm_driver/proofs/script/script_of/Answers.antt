@@ -1,10 +1,8 @@
 use Rattle.std.proofs.lemmas.List.{nil_from_length}
-use Rattle.std.specs.Prelude.{All}
-use Rattle.asm_driver.specs.Plan.{IsRegular}
 use Rattle.std.proofs.Common.{◌≡◌, ◌≤◌, ◌<◌, length, ◌++◌, ◌∷◌, [], refl, sym, ap, subst, ◌∙◌, arith}
 use Rattle.std.proofs.lemmas.Result.{err_from_is_err_and}
 use Rattle.asm_driver.specs.Script.{AreAgents, IsFirst, step_faults}
-use Rattle.asm_driver.proofs.Plans.{first_of_agent, faults-push_agent, AreAgents-push, step_on, none_left, few_faults, many_faults, regular_plan, same_length}
+use Rattle.asm_driver.proofs.Plans.{first_of_agent, faults-push_agent, AreAgents-push, step_on, none_left, few_faults, many_faults, same_length}
 use Rattle.asm_driver.proofs.script.script_of.Goals as goal
 
 pub returns-in_err-agent_moves-clause-err : goal.returns-in_err-agent_moves-clause-err
@@ -47,5 +45,4 @@ invariant_of-result c =
     let none = nil_from_length _ (omega (arith, c.in-None.ensures.steps.0)) in
     let all = none_left l.0 c.args.written.agents c.loop-steps.steps-iterator.rest.items l.1 none in
     let planned = subst (λ agents. AreAgents agents c.loop-steps.moves.items) all l.2 in
-    let few : length c.new-agents.result ≤ 1 = omega (arith, ap length c.new-agents.ensures, ap length c.into_vec-agents.ensures, same_length c.args.written.agents c.loop-steps.moves.items planned) in
-    (few, subst (All (All IsRegular)) (sym c.new-agents.ensures) (regular_plan c.args.written.agents c.loop-steps.moves.items planned c.requires))
+    omega (arith, ap length c.new-agents.ensures, ap length c.into_vec-agents.ensures, same_length c.args.written.agents c.loop-steps.moves.items planned)

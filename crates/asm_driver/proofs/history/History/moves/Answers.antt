@@ -2,8 +2,7 @@ use Rattle.std.proofs.Common.{◌++◌, ◌∷◌, [], length, min, is_some, sym
 use Rattle.std.specs.Prelude.{take}
 use Rattle.std.proofs.lemmas.List.{take_more, take_all}
 use Rattle.asm_driver.specs.History.{moves}
-use Rattle.asm_driver.proofs.States.{some_copied}
-use Rattle.asm_driver.proofs.Moves.{count_fired, count_quiet}
+use Rattle.asm_driver.proofs.Moves.{some_copied, count_fired, count_quiet}
 use Rattle.asm_driver.proofs.history.History.moves.Goals as goal
 use Rattle.asm_driver.proofs.history.History.moves.Goals.{then-is_some, else-is_some}
 
