@@ -1,6 +1,6 @@
 //! The JSON forms: how elements, locations, values and states are read and written.
-ghost use Rattle.std.specs.Prelude.{◌≡◌, ◌≢◌, ◌++◌, [], ◌∷◌, ℕ, IfOk, IfSome, IfNone, OnOk, map, option_map};
-ghost use Rattle.serde_json.specs.Data.{Data, Members, array, object, member, no_members};
+ghost use Rattle.std.specs.Prelude.{◌≡◌, ◌≢◌, ◌++◌, [], ◌∷◌, IfOk, IfSome, IfNone, OnOk, map, option_map};
+ghost use Rattle.serde_json.specs.Data.{Data, Members, object, member, no_members};
 ghost use Rattle.serde_json.specs.View.{view, items_of, items_view, members_view};
 ghost use Rattle.asm_driver.specs.Form.{Reads, AreForms, IsListForm, list_of, one_of, count_json_of, set_json_of, bag_json_of, element_json_of, location_json_of, value_json_of, pair_json_of, IsElementForm, IsLocationForm, IsValueForm, IsPairForm, IsStateOf, IsStateForm};
 

@@ -1,5 +1,5 @@
 //! The input, read to its end.
-ghost use Rattle.std.specs.Prelude.{◌≡◌, ◌≤◌, ◌<◌, ℕ, length, IfOk, IfSome, IsErrOf};
+ghost use Rattle.std.specs.Prelude.{◌≤◌, length, IfOk, IfSome, IsErrOf};
 ghost use Rattle.std.specs.Io.KnownBytes.{Consumes, IsAtEnd};
 ghost use Rattle.asm_driver.specs.Input.{IsTooLarge};
 

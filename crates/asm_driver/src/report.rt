@@ -1,10 +1,9 @@
 //! The report of a played script.
 ghost use Rattle.std.specs.Prelude.{◌≡◌, ◌++◌, false, IfOk, OnOk, string_bytes};
-ghost use Rattle.std.specs.List.{flat_map, enumerate_from};
 ghost use Rattle.serde_json.specs.View.{view};
 ghost use Rattle.serde_json.specs.Written.{has_float, compact_text};
 ghost use Rattle.asm_driver.specs.Form.{location_json_of};
-ghost use Rattle.asm_driver.specs.Report.{line, state_lines, cause_name as name_of_cause, outcome_line, agent_lines, outcome_lines, reason, report_of};
+ghost use Rattle.asm_driver.specs.Report.{state_lines, cause_name as name_of_cause, outcome_line, agent_lines, outcome_lines, reason, report_of};
 
 use crate::form::{location_json, pair_json};
 use crate::play::{Outcome, Played};

@@ -1,7 +1,6 @@
 //! Scripts: what the agents are to do, and how a script is read.
 ghost use Rattle.std.specs.Prelude.{◌≡◌, [], ◌∷◌, ◌≤◌, None, IfOk, IfErr, length};
 ghost use Rattle.std.specs.List.{filter_map};
-ghost use Rattle.serde_json.specs.Data.{Data};
 ghost use Rattle.serde_json.specs.View.{view};
 ghost use Rattle.asm_driver.specs.Form.{Reads as ReadsForm};
 ghost use Rattle.asm_driver.specs.Script.{IsJson, NotJsonUnlessMemory, IsScriptForm, step_fault, IsFirst, IsStepFault, IsBlockFault, AreBlocks, IsPlanOf, faults, ReadsAs, IsRefused};

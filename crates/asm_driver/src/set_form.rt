@@ -1,6 +1,5 @@
 //! Sets and bags that are read from arrays, in any order.
-ghost use Rattle.std.specs.Prelude.{◌≡◌, ◌<◌, IfOk, IfSome, map, option_map};
-ghost use Rattle.serde_json.specs.Data.{Data};
+ghost use Rattle.std.specs.Prelude.{IfOk, map, option_map};
 ghost use Rattle.serde_json.specs.View.{view, items_view};
 ghost use Rattle.asm_driver.specs.Form.{Reads, IsSetOf, IsSetForm, IsAmountForm, IsCounted, IsCountForm, IsBagOf, IsBagForm};
 

@@ -1,6 +1,6 @@
 use Rattle.std.proofs.Common.{ap, ◌∙◌}
 use Rattle.std.specs.FinMap as map
-use Rattle.asm_element.specs.Place.{location_cmp, location_cmp_total, location_cmp-IsAntisymmetric}
+use Rattle.asm_element.specs.Place.{location_cmp_total, location_cmp-IsAntisymmetric}
 use Rattle.asm_element.specs.Place as place
 use Rattle.asm_element.specs.Value as held
 use Rattle.std.proofs.Common.{◌≡◌, false}
