@@ -1,5 +1,5 @@
 -- Firing by aggregation.
-use Rattle.std.proofs.Common.{◌≡◌, refl, sym, ap, subst, ◌∙◌}
+use Rattle.std.proofs.Common.{◌≡◌, subst}
 use Rattle.std.specs.Prelude.{Result, Ok, Err}
 use Rattle.asm_update.specs.Aggregator.{Meaning}
 use Rattle.asm_update.specs.Fire.{fire}
@@ -12,16 +12,11 @@ use Rattle.asm_aggregate.specs.Answer.{IsAggregate}
 use Rattle.asm_aggregate.specs.BagMeaning.{bag_meaning}
 use Rattle.asm_aggregate.specs.PairMeaning.{pair_meaning}
 use Rattle.asm_aggregate.specs.SetMeaning.{set_meaning}
-use Rattle.asm_driver.specs.Standard.{standard_part, FailsToFire}
+use Rattle.asm_driver.specs.Standard.{standard_part, FiresWith}
 
--- the clash of aggregation is that of firing
-pub fails : (a : Meaning) (A : State) (M : Move) (r : Result Updates AggError) (e : AggError) → a ≡ pair_meaning set_meaning bag_meaning → IsAggregate a.part (val A) M r → r ≡ Err e → FailsToFire A A M e
+-- what aggregation answers is what firing comes to
+pub fires_with : (a : Meaning) (A : State) (M : Move) (r : Result Updates AggError) → a ≡ pair_meaning set_meaning bag_meaning → IsAggregate a.part (val A) M r → FiresWith A M r
 unfolding standard_part
-fails a A M r (Clashes c) means h was = (subst (λ m. fire m.part A M ≡ Err c) means (fire_clash a.part A M c (subst (IsAggregate a.part (val A) M) was h)), refl)
-fails a A M r Memory means h was = tt
-
--- and its update set, written, is the state that firing leaves
-pub fired : (a : Meaning) (A B : State) (M : Move) (r : Result Updates AggError) (U : Updates) → a ≡ pair_meaning set_meaning bag_meaning → IsAggregate a.part (val A) M r → r ≡ Ok U → B ≡ overwrite A U → fire standard_part A M ≡ Ok B
-unfolding standard_part
-fired a A B M r U means h was written =
-    subst (λ m. fire m.part A M ≡ Ok B) means (fire_updates a.part A M U (subst (IsAggregate a.part (val A) M) was h) ∙ ap Ok (sym written))
+fires_with a A M (Ok U) means h = subst (λ m. fire m.part A M ≡ Ok (overwrite A U)) means (fire_updates a.part A M U h)
+fires_with a A M (Err (Clashes c)) means h = subst (λ m. fire m.part A M ≡ Err c) means (fire_clash a.part A M c h)
+fires_with a A M (Err Memory) means h = tt

@@ -4,7 +4,7 @@ ghost use Rattle.asm_driver.specs.Play.{IsCapacity, outcome_of, IsPlayOf};
 ghost use Rattle.asm_driver.specs.Player.{IsKept, Replies, PlaysStep, PlaysSteps, PlaysAgents};
 ghost use Rattle.asm_driver.specs.declared.play.RunError.TheVariants.{BadCapacity};
 
-use crate::firing::fire_move;
+use crate::firing::{updates_of, write_updates};
 use crate::history::{Answer, Call, Event, History, Reply};
 use crate::script::{AGENTS_LIMIT, Script};
 use asm_element::{Items, Location};
@@ -90,16 +90,15 @@ fn fire_block(alloc: Global, player: &mut Player, block: &Instructions) -> Resul
     requires kept { IsKept player.old }
     ensures { IfOk result (Replies player.old player.new block.now) }
 {
-    let mut next = player.state.copy(alloc)?;
-    match fire_move(alloc, &mut next, block) {
-        Ok(()) => {}
+    let updates = match updates_of(alloc, &player.state, block) {
+        Ok(updates) => updates,
         Err(AggError::Clash(clash)) => return Ok(Reply::Clash(clash)),
         Err(AggError::Memory) => return Err(AllocError),
-    }
+    };
     if player.number == player.capacity {
         return Ok(Reply::Full);
     }
-    player.state = next;
+    write_updates(alloc, &mut player.state, &updates)?;
     player.number += 1;
     Ok(Reply::Fired(player.number))
 }

@@ -4,7 +4,7 @@ ghost use Rattle.asm_update.specs.Fire.{fire, state_or, state_of};
 ghost use Rattle.asm_driver.specs.History.{moves};
 ghost use Rattle.asm_driver.specs.Standard.{standard_part};
 
-use crate::firing::fire_move;
+use crate::firing::{updates_of, write_updates};
 use crate::history::History;
 use asm_update::{AggError, Instructions, PlainState};
 use std::alloc::{AllocError, Global};
@@ -18,8 +18,9 @@ fn fire_or_keep(
     ensures { OnOk result
         (state.new ≡ state_or state.old (fire standard_part state.old instructions.now)) }
 {
-    match fire_move(alloc, state, instructions) {
-        Ok(()) | Err(AggError::Clash(_)) => Ok(()),
+    match updates_of(alloc, state, instructions) {
+        Ok(updates) => write_updates(alloc, state, &updates),
+        Err(AggError::Clash(_)) => Ok(()),
         Err(AggError::Memory) => Err(AllocError),
     }
 }
