@@ -1,5 +1,5 @@
 -- Sets of elements and lists of actions, one step of a loop at a time.
-use Rattle.std.proofs.Common.{◌≡◌, ℕ, ◌+◌, ◌<◌, ◌≤◌, Bool, true, false, not, ◌&&◌, ◌||◌, List, [], ◌∷◌, ◌++◌, map, length, take, get_or, refl, sym, ap, ◌∙◌, append_assoc}
+use Rattle.std.proofs.Common.{◌≡◌, ℕ, ◌+◌, ◌<◌, ◌≤◌, Bool, true, false, not, ◌&&◌, ◌||◌, List, [], ◌∷◌, ◌++◌, map, length, take, get_or, refl, sym, ap, ◌∙◌, append_assoc, append-nil}
 use Rattle.std.specs.List.{list_any}
 use Rattle.std.specs.Ordering.{eq_by_cmp}
 use Rattle.std.proofs.lemmas.List.{take_more, take_all}
@@ -116,10 +116,6 @@ with_all s t more left all none start had = same_set _ _ (λ e.
     ∙ ap (λ b. contains t e || b) (ap (list_any (eq_by_cmp element_cmp e)) start ∙ sym (contains-elements more e)) ∙ sym (contains-union t more e))
 
 -- actions made of elements, one more
-append_none : {X : Type 0} (xs : List X) → xs ++ [] ≡ xs
-append_none [] = refl
-append_none (x ∷ xs) = ap (λ ys. x ∷ ys) (append_none xs)
-
 pub pushed_more : (f : Element → Action) (items new all : List Action) (left rest : List Element) (x y : Element) → left ≡ x ∷ rest → y ≡ x → new ≡ items ++ f y ∷ [] → items ++ map f left ≡ all → new ++ map f rest ≡ all
 pushed_more f items new all left rest x y is copied pushed had =
     ap (λ l. l ++ map f rest) (pushed ∙ ap (λ z. items ++ f z ∷ []) copied) ∙ append_assoc items (f x ∷ []) (map f rest)
@@ -127,4 +123,4 @@ pushed_more f items new all left rest x y is copied pushed had =
 
 pub pushed_all : (f : Element → Action) (items before : List Action) (left start all : List Element) → left ≡ [] → start ≡ all → items ++ map f left ≡ before ++ map f start → items ≡ before ++ map f all
 pushed_all f items before left start all none whole had =
-    sym (ap (λ l. items ++ map f l) none ∙ append_none items) ∙ had ∙ ap (λ l. before ++ map f l) whole
+    sym (ap (λ l. items ++ map f l) none ∙ append-nil items) ∙ had ∙ ap (λ l. before ++ map f l) whole

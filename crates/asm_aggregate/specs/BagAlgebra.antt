@@ -145,11 +145,11 @@ same_counts b c h = finite.same_map element_cmp_total element_cmp-IsAntisymmetri
 abbrev first_of : {X : Type 0} → List (Element × X) → List Element
 first_of es = map (λ e. e.0) es
 
-both_T : (b c : Bool) → T (b && c) → T b × T c
+pub both_T : (b c : Bool) → T (b && c) → T b × T c
 both_T true c h = (tt, h)
 both_T false c h = absurd h
 
-less_apart : (o : Ordering) → T (is_lt o) → is_eq o ≡ false
+pub less_apart : (o : Ordering) → T (is_lt o) → is_eq o ≡ false
 less_apart Less h = refl
 less_apart Equal h = absurd h
 less_apart Greater h = refl

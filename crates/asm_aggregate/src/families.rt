@@ -12,11 +12,7 @@ use std::alloc::{AllocError, Global};
 fn belongs_to(action: &Action, family: Family) -> bool
     ensures { result ≡ is_of family action.now }
 {
-    match action {
-        Action::Regular(_) => false,
-        Action::SetAdd(_) | Action::SetRemove(_) => matches!(family, Family::Set),
-        Action::BagAdd(..) | Action::BagRemove(..) => matches!(family, Family::Bag),
-    }
+    action.family() == Some(family)
 }
 
 /// Whether the actions are all partial updates of the family.

@@ -19,7 +19,7 @@ use std::alloc::{AllocError, Global};
 /// The aggregator of sets: it owns `Family::Set` alone (CoreASM's partial updates of sets).
 ///
 /// A group's result is its base without the removed elements and with the added ones. There is none
-/// where one element is both added and removed (`Both`), where the base isn't a set (`Kind`), or
+/// where the base isn't a set (`Kind`), where one element is both added and removed (`Both`), or
 /// where a regular value lacks an added element or has a removed one (`Against`). Removing an absent
 /// element is allowed.
 #[derive(Clone, Copy, Debug)]

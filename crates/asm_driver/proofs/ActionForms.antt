@@ -1,17 +1,13 @@
 -- Reading an action by its word.
-use Rattle.std.proofs.Common.{codes, ◌≡◌, ◌+◌, ◌*◌, ℕ, List, [], ◌∷◌, length, Option, Some, None, sym, ap, ◌∙◌, arith}
+use Rattle.std.proofs.Common.{codes, ◌≡◌, ℕ, List, Option, Some, None, sym, ap, ◌∙◌, arith}
 use Rattle.std.specs.Prelude.{option_map}
 use Rattle.serde_json.specs.Data.{Items}
 use Rattle.asm_element.specs.declared.element.Element.{Element}
 use Rattle.asm_element.specs.declared.value.Value.{Value}
 use Rattle.asm_update.specs.declared.action.Action.{Action}
 use Rattle.asm_update.specs.declared.action.Action.TheVariants.{Regular, SetAdd, SetRemove, BagAdd, BagRemove}
+use Rattle.asm_driver.proofs.Arrays.{mark}
 use Rattle.asm_driver.specs.Form.{Reads, IsOnly, IsElementForm, IsValueForm, IsCounted, IsActionForm}
-
--- a number by which the five words differ
-mark : List ℕ → ℕ
-mark [] = 0
-mark (b ∷ bs) = b + 256 * length bs
 
 pub put_read : (word : List ℕ) (ds : Items) (o : Option Value) → word ≡ codes "put" → Reads (IsOnly IsValueForm) ds o → Reads (IsActionForm word) ds (option_map Regular o)
 unfolding mark

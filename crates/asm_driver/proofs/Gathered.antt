@@ -7,6 +7,7 @@ use Rattle.std.specs.Ordering.{eq_by_cmp}
 use Rattle.std.specs.declared.cmp.Ordering.{Ordering}
 use Rattle.std.specs.FinMap as finite
 use Rattle.std.proofs.lemmas.Bool.Decides.{nat_tests}
+use Rattle.std.proofs.lemmas.Map.Keys.{IsDistinct-cons, IsDistinct-head, IsDistinct-tail}
 use Rattle.asm_element.specs.Element.{element_cmp, element_cmp_total}
 use Rattle.asm_element.specs.Place.{Place, location_cmp, location_cmp_total}
 use Rattle.asm_element.specs.declared.element.Element.{Element}
@@ -14,6 +15,7 @@ use Rattle.asm_element.specs.declared.value.Value.{Value}
 use Rattle.asm_element.specs.Set as set
 use Rattle.asm_element.specs.Bag as bag
 use Rattle.asm_update.specs.State.{State, Updates, write}
+use Rattle.asm_aggregate.specs.FamilyLemmas.{none_true}
 use Rattle.asm_aggregate.specs.SetAlgebra.{contains-from_list}
 use Rattle.asm_driver.specs.Form.{AreDistinct, IsSetOf, IsBagOf, bag_of, IsStateOf}
 
@@ -25,11 +27,6 @@ keys-append : {K X : Type 0} (ps qs : List (K × X)) → keys_of (ps ++ qs) ≡ 
 keys-append [] qs = refl
 keys-append (p ∷ ps) qs = ap (λ l. p.0 ∷ l) (keys-append ps qs)
 
-both_false : (b c : Bool) → (b || c) ≡ false → (b ≡ false) × (c ≡ false)
-both_false false false e = (refl, refl)
-both_false false true e = cc
-both_false true c e = cc
-
 -- ---- keys that stand twice
 
 module _ {K : Type 0} (cmp : K → K → Ordering) where
@@ -39,7 +36,7 @@ module _ {K : Type 0} (cmp : K → K → Ordering) where
 
   others : (x : K) (ys : List K) → stands x ys ≡ false → AllByRecursion (λ y. eq_by_cmp cmp x y ≡ false) ys
   others x [] h = tt
-  others x (y ∷ ys) h = let parts = both_false _ _ h in (parts.0, others x ys parts.1)
+  others x (y ∷ ys) h = let parts = none_true _ _ h in (parts.0, others x ys parts.1)
 
   not_any : (x : K) (ys : List K) → AllByRecursion (λ y. eq_by_cmp cmp x y ≡ false) ys → stands x ys ≡ false
   not_any x [] h = refl
@@ -51,21 +48,18 @@ module _ {K : Type 0} (cmp : K → K → Ordering) where
 
   -- one key more, which isn't there yet
   more_distinct : (x : K) (ys : List K) → stands x ys ≡ false → AreDistinct cmp ys → AreDistinct cmp (x ∷ ys)
-  unfolding IsDistinct
-  more_distinct x ys new h = (others x ys new, h)
+  more_distinct x ys new h = IsDistinct-cons (eq_by_cmp cmp) x ys (others x ys new) h
 
   -- what is distinct has distinct ends
   end_distinct : (xs ys : List K) → AreDistinct cmp (xs ++ ys) → AreDistinct cmp ys
-  unfolding IsDistinct
   end_distinct [] ys h = h
-  end_distinct (x ∷ xs) ys h = end_distinct xs ys h.1
+  end_distinct (x ∷ xs) ys h = end_distinct xs ys (IsDistinct-tail (eq_by_cmp cmp) x (xs ++ ys) h)
 
   -- a key that stands further on
   twice : (xs : List K) (x : K) (ys all : List K) → xs ++ x ∷ ys ≡ all → stands x ys ≡ true → AreDistinct cmp all → ⊥
-  unfolding IsDistinct
   twice xs x ys all whole any h =
       let ended = end_distinct xs (x ∷ ys) (subst (AreDistinct cmp) (sym whole) h) in
-      true≢false (sym any ∙ not_any x ys ended.0)
+      true≢false (sym any ∙ not_any x ys (IsDistinct-head (eq_by_cmp cmp) x ys ended))
 
   twice_key : {X : Type 0} (xs : List (K × X)) (p : K × X) (ys all : List (K × X)) → xs ++ p ∷ ys ≡ all → stands p.0 (keys_of ys) ≡ true → AreDistinct cmp (keys_of all) → ⊥
   twice_key xs p ys all whole any h = twice (keys_of xs) p.0 (keys_of ys) (keys_of all) (sym (keys-append xs (p ∷ ys)) ∙ ap keys_of whole) any h

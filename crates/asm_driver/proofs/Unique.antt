@@ -9,7 +9,7 @@ use Rattle.asm_element.specs.declared.element.Element.TheVariants as elements
 use Rattle.asm_element.specs.Set as set
 use Rattle.asm_element.specs.declared.value.Value.TheVariants as values
 use Rattle.asm_driver.specs.Form.{element_json_of, location_json_of, IsElementForm, IsLocationForm, IsValueForm, IsPairForm, IsListForm, AreForms, IsAmountForm, IsCounted, IsCountForm, IsSetForm, IsBagForm, bag_of, one_of}
-use Rattle.asm_driver.proofs.Arrays.{same_two}
+use Rattle.asm_driver.proofs.Arrays.{same_two, mark}
 
 of_integer_once : (y z : ℤ) → of_integer y ≡ of_integer z → y ≡ z
 of_integer_once (pos m) (pos n) e = cc
@@ -114,14 +114,9 @@ no_element (elements.Bool b) key a e = absurd cc
 no_element (elements.Num z) key a e = absurd cc
 no_element (elements.Text s) key a e = absurd cc
 
--- the first byte of a text; none is 0
-first_byte : List ℕ → ℕ
-first_byte [] = 0
-first_byte (b ∷ bs) = b
-
 pub no_both : (a b : Data) → one_of (codes "set") a ≡ one_of (codes "bag") b → ⊥
-unfolding first_byte
-no_both a b e = absurd (omega (arith, ap first_byte (same_key _ _ _ _ e))) where
+unfolding mark
+no_both a b e = absurd (omega (arith, ap mark (same_key _ _ _ _ e))) where
   same_key : (k l : List ℕ) (a b : Data) → one_of k a ≡ one_of l b → k ≡ l
   same_key k l a b e = cc
 

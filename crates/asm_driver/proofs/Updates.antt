@@ -9,6 +9,7 @@ use Rattle.std.specs.FinMap.Entries
 use Rattle.asm_element.specs.declared.value.Value.{Value}
 use Rattle.asm_element.specs.Place.{Place, location_cmp, same_location}
 use Rattle.asm_update.specs.State.{State, Updates, write, overwrite}
+use Rattle.asm_aggregate.specs.BagAlgebra.{both_T, less_apart}
 use Rattle.asm_update.proofs.FireLemmas.{stored, stored_or, get-write, get-overwrite, same_state}
 
 abbrev Written : Type 0
@@ -19,32 +20,19 @@ abbrev pub written_with : State → Written → State
 written_with A [] = A
 written_with A (e ∷ es) = written_with (write A e.0 e.1) es
 
-first_of : (a b : Bool) → T (a && b) → T a
-first_of true b p = tt
-first_of false b p = absurd p
-
-second_of : (a b : Bool) → T (a && b) → T b
-second_of true b p = p
-second_of false b p = absurd p
-
-not_equal : (o : Ordering) → T (is_lt o) → is_eq o ≡ false
-not_equal Less p = refl
-not_equal Equal p = absurd p
-not_equal Greater p = absurd p
-
 -- a location below all those of a list isn't among them
 none_below : (l : Place) (es : Written) → T (Entries.below_all location_cmp l es) → finite.find location_cmp l es ≡ None
 none_below l [] h = refl
-none_below l (e ∷ es) h = ap (λ b. cond b (Some e.1) (finite.find location_cmp l es)) (not_equal _ (first_of _ _ h)) ∙ none_below l es (second_of _ _ h)
+none_below l (e ∷ es) h = ap (λ b. cond b (Some e.1) (finite.find location_cmp l es)) (less_apart _ (both_T _ _ h).0) ∙ none_below l es (both_T _ _ h).1
 
 get-written : (A : State) (es : Written) (q : Place) → T (finite.is_sorted location_cmp es) → finite.get (written_with A es) q ≡ stored_or (finite.find location_cmp q es) (finite.get A q)
 get-written A [] q sorted = refl
 get-written A (e ∷ es) q sorted =
-    get-written (write A e.0 e.1) es q (second_of _ _ sorted)
+    get-written (write A e.0 e.1) es q (both_T _ _ sorted).1
     ∙ ap (stored_or (finite.find location_cmp q es)) (get-write A e.0 e.1 q)
     ∙ by_test (eq_by_cmp location_cmp q e.0) refl where
       by_test : (b : Bool) → eq_by_cmp location_cmp q e.0 ≡ b → stored_or (finite.find location_cmp q es) (cond b (stored e.1) (finite.get A q)) ≡ stored_or (cond b (Some e.1) (finite.find location_cmp q es)) (finite.get A q)
-      by_test true is = ap (λ o. stored_or o (stored e.1)) (ap (λ l. finite.find location_cmp l es) (same_location q e.0 is) ∙ none_below e.0 es (first_of _ _ sorted))
+      by_test true is = ap (λ o. stored_or o (stored e.1)) (ap (λ l. finite.find location_cmp l es) (same_location q e.0 is) ∙ none_below e.0 es (both_T _ _ sorted).0)
       by_test false is = refl
 
 -- in their order

@@ -56,34 +56,42 @@ one_of key d = object (member key d no_members)
 
 -- ---- elements: null, true, false, a whole number, a string
 
+-- the JSON of an element
 abbrev pub element_json_of : Element → Data
 element_json_of elements.Undef = null
 element_json_of (elements.Bool b) = boolean b
 element_json_of (elements.Num z) = number (of_integer z)
 element_json_of (elements.Text s) = string s
 
+-- the JSON of an element that a program can hold
 abbrev pub IsElementForm : Element → Data → Type 0
 IsElementForm x d = element.IsProper x × (d ≡ element_json_of x)
 
 -- ---- locations: an array of the name and then the arguments
 
+-- the JSON of a location
 abbrev pub location_json_of : Place → Data
 location_json_of p = array (item (string p.name) (items_of (map element_json_of p.args)))
 
+-- the JSON of a location that a program can hold
 abbrev pub IsLocationForm : Place → Data → Type 0
 IsLocationForm p d = place.IsProper p × (d ≡ location_json_of p)
 
 -- ---- values: an element, {"set":[ELEMENT, ..]} or {"bag":[[ELEMENT,COUNT], ..]}, sets and bags in ascending order
 
+-- [ELEMENT,COUNT]
 abbrev pub count_json_of : Element × ℕ → Data
 count_json_of p = list_of (element_json_of p.0 ∷ number (unsigned p.1) ∷ [])
 
+-- {"set":[ELEMENT, ..]}
 abbrev pub set_json_of : set.ElementSet → Data
 set_json_of s = one_of (codes "set") (list_of (map element_json_of (set.elements s)))
 
+-- {"bag":[[ELEMENT,COUNT], ..]}
 abbrev pub bag_json_of : bag.ElementBag → Data
 bag_json_of b = one_of (codes "bag") (list_of (map count_json_of (bag.entries b)))
 
+-- the JSON of a value
 abbrev pub value_json_of : Value → Data
 value_json_of (values.Plain x) = element_json_of x
 value_json_of (values.Set s) = set_json_of s
@@ -127,6 +135,7 @@ IsBagForm = IsMadeForm IsCountForm IsBagOf
 
 -- ---- values that are read
 
+-- an element, or the one member of an object, with a set or a bag
 abbrev pub IsValueForm : Value → Data → Type 0
 IsValueForm (values.Plain x) d = IsElementForm x d
 IsValueForm (values.Set s) d = (items : Data) × (d ≡ one_of (codes "set") items) × IsSetForm s items
@@ -162,6 +171,7 @@ IsActionForm word a ds = (word ≡ word_of a) × AreOperands a ds
 abbrev pub instruction_of : List ℕ → Data → Items → Data
 instruction_of word at operands = array (item (string word) (item at operands))
 
+-- a word, a location, and the operands of the word's action
 abbrev pub IsInstructionForm : Instruction → Data → Type 0
 IsInstructionForm i d =
     (word : List ℕ) × (at : Data) × (operands : Items) × (d ≡ instruction_of word at operands)
@@ -169,12 +179,15 @@ IsInstructionForm i d =
 
 -- ---- states that are read: PAIRs [LOC,VALUE] in any order, of which no location stands twice
 
+-- [LOC,VALUE]
 abbrev pub pair_of : Data → Data → Data
 pair_of at value = list_of (at ∷ value ∷ [])
 
+-- the JSON of a location with its value
 abbrev pub pair_json_of : Place × Value → Data
 pair_json_of p = pair_of (location_json_of p.0) (value_json_of p.1)
 
+-- the form of a location, and the form of its value
 abbrev pub IsPairForm : Place × Value → Data → Type 0
 IsPairForm p d = (at value : Data) × (d ≡ pair_of at value) × IsLocationForm p.0 at × IsValueForm p.1 value
 

@@ -36,12 +36,15 @@ is_stale_from part A [] l number = false
 is_stale_from part A (M ∷ q) l zero = overwrites part A M l || is_stale_from part (state_or A (fire part A M)) q l zero
 is_stale_from part A (M ∷ q) l (suc number) = is_stale_from part (state_or A (fire part A M)) q l number
 
+-- whether the location was written after it was read
 abbrev pub is_stale : Machine → List Move → Named → Bool
 is_stale m q r = is_stale_from m.part m.init q r.at r.number
 
+-- the lesser of two locations
 abbrev pub lesser : Place → Place → Place
 lesser k l = if is_lt (location_cmp l k) then l else k
 
+-- the least location of a list
 abbrev pub least : List Place → Option Place
 least [] = None
 least (l ∷ ls) = Some (fold lesser l ls)
@@ -54,6 +57,7 @@ least_stale m q reads = least (map (λ r. r.at) (filter (is_stale m q) reads))
 abbrev pub taken_reply : ℕ → ℕ → Reply
 taken_reply capacity number = if nat_lt number capacity then reply.Fired (number + 1) else reply.Full
 
+-- taken where the move has a state, and else its clash
 abbrev pub firing_reply : ℕ → ℕ → Result State Clash → Reply
 firing_reply capacity number (Ok B) = taken_reply capacity number
 firing_reply capacity number (Err clash) = reply.Clash clash
@@ -73,6 +77,7 @@ abbrev pub fired_move : Call → Answer → Option Move
 fired_move (call.Fire reads instrs) (answer.Fire (reply.Fired k)) = Some instrs
 fired_move _ _ = None
 
+-- the move of an event that fired
 abbrev pub move_of : Event → Option Move
 move_of e = fired_move e.call e.answer
 

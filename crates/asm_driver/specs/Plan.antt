@@ -5,6 +5,7 @@ use Rattle.asm_update.specs.Move.{Move}
 use Rattle.asm_update.specs.State.{State}
 use Rattle.asm_update.specs.declared.action.Instruction.{Instruction}
 
+-- an opening state, and each agent's moves
 pub record Plan : Type 0 where
   pub init : State
   pub agents : List (List Move)

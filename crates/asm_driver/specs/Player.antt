@@ -16,6 +16,7 @@ abbrev pub IsLegalFrom : Machine → List Move → List Event → Type 0
 IsLegalFrom m q [] = Unit {0}
 IsLegalFrom m q (e ∷ h) = (e.answer ≡ reply_to m q e.call) × IsLegalFrom m (q ++ moves (e ∷ [])) h
 
+-- the storage of one thread that the player stands for
 abbrev pub machine : Player → Machine
 machine p = record { part = standard_part; init = p.init; capacity = p.capacity }
 
@@ -50,11 +51,13 @@ pub record PlaysStep (p q : Player) (agent : ℕ) (M : Move) (o : Outcome) : Typ
   pub same : IsSame p q
   pub event : (e : Event) × (q.events.items ≡ p.events.items ++ e ∷ []) × IsStepOf agent M o e
 
+-- an agent's steps are played: one event more for each
 pub record PlaysSteps (p q : Player) (agent : ℕ) (ms : List Move) (os : List Outcome) : Type 0 where
   pub kept : IsKept q
   pub same : IsSame p q
   pub steps : (es : List Event) × (q.events.items ≡ p.events.items ++ es) × AreSteps agent ms os es
 
+-- the agents' steps are played, one agent after the other
 pub record PlaysAgents (p q : Player) (agent : ℕ) (mss : List (List Move)) (oss : List (List Outcome)) : Type 0 where
   pub kept : IsKept q
   pub same : IsSame p q

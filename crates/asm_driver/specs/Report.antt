@@ -33,6 +33,7 @@ state_lines A = flat_map entry_line (finite.entries A)
 abbrev pub moves_line : ℕ → List ℕ
 moves_line n = line (codes "moves " ++ decimal n)
 
+-- the name of a cause
 abbrev pub cause_name : Cause → List ℕ
 cause_name Two = codes "Two"
 cause_name Mixed = codes "Mixed"

@@ -68,6 +68,7 @@ abbrev pub refusal_of : ScriptError → Refusal
 refusal_of (BadScript cause) = refusal.BadScript cause
 refusal_of Memory = refusal.Memory
 
+-- why a script is refused, as a line
 abbrev pub cause_line : ScriptCause → List ℕ
 cause_line NotJson = line (codes "bad script: not JSON")
 cause_line Shape = line (codes "bad script: shape")

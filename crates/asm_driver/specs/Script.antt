@@ -15,6 +15,7 @@ use Rattle.asm_driver.specs.declared.script.ScriptError.TheVariants.{BadScript, 
 
 -- ---- what is written in a script
 
+-- a block is a list of instructions
 abbrev pub Block : Type 0
 Block = List Instruction
 
@@ -76,6 +77,7 @@ AreBlocks [] (M ∷ ms) = ⊥
 AreBlocks (s ∷ ss) [] = ⊥
 AreBlocks (s ∷ ss) (M ∷ ms) = (s ≡ M ∷ []) × AreBlocks ss ms
 
+-- each agent's moves are the blocks of its written steps
 abbrev pub AreAgents : List (List Step) → List (List Move) → Type 0
 AreAgents [] [] = Unit {0}
 AreAgents [] (ms ∷ mss) = ⊥

@@ -30,6 +30,7 @@ abbrev pub after : Meaning → Value → List Action → Outcome
 after a v [] = Ok v
 after a v (p ∷ ps) = a.part v None (p ∷ ps)
 
+-- what every aggregator keeps
 pub record AggregatorLaws (a : Meaning) : Type 0 where
   -- the order of a group's partials is no matter
   pub any_order : (old : Value) (regular : Option Value) (partials reordered : List Action) → IsPermutation partials reordered → a.part old regular reordered ≡ a.part old regular partials
