@@ -74,8 +74,8 @@ fn is_settled(updates: &UpdateSet, clash: &Option<Clash>, at: &Location) -> bool
 /// `AggError::Clash` comes exactly where some location's instructions have no result: at the least
 /// such location, with the first cause of its group. `Memory` comes only where memory was refused.
 /// The lookup is asked for the old values of locations with partial updates alone. The list is
-/// scanned once for each location. Source: aggregation of partial updates in CoreASM; the choice of
-/// the clash is of this project's profile.
+/// scanned at most once for each location. Source: aggregation of partial updates in CoreASM; the
+/// choice of the clash is of this project's profile.
 pub fn aggregate<A: Aggregator, L: Lookup>(
     alloc: Global,
     aggregator: &A,
