@@ -1,3 +1,4 @@
+pub mod Tests
 pub mod Element
 pub mod Place
 pub mod Set

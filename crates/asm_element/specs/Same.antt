@@ -9,16 +9,13 @@ use Rattle.std.specs.FinMap as map
 use Rattle.asm_element.specs.declared.element.Element.{Element}
 use Rattle.asm_element.specs.declared.value.Value.{Value}
 use Rattle.asm_element.specs.declared.value.Value.TheVariants.{Plain, Set, Bag}
+use Rattle.asm_element.specs.Tests.{both}
 use Rattle.asm_element.specs.Items.{IsIdentity}
 use Rattle.asm_element.specs.Element.{element_cmp, element_cmp-IsAntisymmetric, element_eq-equiv}
 use Rattle.asm_element.specs.Place.{location_cmp, location_cmp_total, same_location}
 use Rattle.asm_element.specs.Set as set
 use Rattle.asm_element.specs.Bag as bag
 use Rattle.asm_element.specs.Value.{value_eq}
-
-pub both : (a b : Bool) → (a && b) ≡ true → (a ≡ true) × (b ≡ true)
-both true b e = (refl, e)
-both false b e = cc
 
 -- a test of lists item by item tells whether they are the same, where the test of items does
 pub same_list : {A : Type 0} (e : A → A → Bool) → ((x y : A) → e x y ≡ true → x ≡ y) → (xs ys : List A) → pointwise e xs ys ≡ true → xs ≡ ys

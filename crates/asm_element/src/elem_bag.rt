@@ -58,13 +58,15 @@ impl ElemBag {
 
     /// Adds the element `n` times. `n` is at least 1, and the new count fits `u32`.
     ///
-    /// After an error, which is want of memory, the bag is unchanged.
+    /// The error is want of memory, and comes only where the element isn't there. After it the bag
+    /// is unchanged.
     pub fn put(&mut self, element: Element, n: u32) -> Result<(), AllocError>
         requires positive { 1 ≤ n }
         requires fits { bag.count self.old element + n < 2 ^ 32 }
         ensures ok { OnOk result
             (self.new ≡ bag.set_count self.old element (bag.count self.old element + n)) }
         ensures err { OnErr result (self.new ≡ self.old) }
+        ensures absent { OnErr result (bag.count self.old element ≡ 0) }
     {
         element.proper();
         let count = self.count(&element);

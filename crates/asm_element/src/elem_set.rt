@@ -1,4 +1,4 @@
-ghost use Rattle.std.specs.Prelude.{◌≡◌, ◌↔◌, IsTrue, IfOk, OnErr, not, All};
+ghost use Rattle.std.specs.Prelude.{◌≡◌, ◌↔◌, IsTrue, IfOk, OnErr, false, not, All};
 ghost use Rattle.std.specs.Cmp.{partial_equiv_from_equiv};
 ghost use Rattle.std.specs.List.Sorted.{IsStrictlySortedBy};
 ghost use Rattle.asm_element.specs.Element.{element_cmp, IsProper};
@@ -59,12 +59,15 @@ impl ElemSet {
         self.elements.len()
     }
 
-    /// Adds the element, and answers whether it was new. After an error, which is want of memory,
-    /// the set is unchanged.
+    /// Adds the element, and answers whether it was new.
+    ///
+    /// The error is want of memory, and comes only where the element is new. After it the set is
+    /// unchanged.
     pub fn insert(&mut self, element: Element) -> Result<bool, AllocError>
         ensures added { IfOk result (λ added. added ≡ not (set.contains self.old element)) }
         ensures ok { IfOk result (λ _. self.new ≡ set.insert self.old element) }
         ensures err { OnErr result (self.new ≡ self.old) }
+        ensures absent { OnErr result (set.contains self.old element ≡ false) }
     {
         element.proper();
         Ok(self.elements.insert(element)?)

@@ -5,11 +5,9 @@ use Rattle.std.specs.List.{list_any}
 use Rattle.std.specs.declared.cmp.Ordering.{Ordering}
 use Rattle.std.specs.declared.cmp.Ordering.TheVariants.{Less, Equal, Greater}
 use Rattle.std.specs.Ordering.{eq_by_cmp, is_eq, is_lt, is_gt, ordering_reverse}
-use Rattle.std.specs.Cmp.{eq_by_cmp_equiv}
 use Rattle.std.specs.FinMap as finite
 use Rattle.std.specs.FinMap.Entries
 use Rattle.std.proofs.lemmas.Bool.{false≢true}
-use Rattle.std.proofs.lemmas.Cmp.{tied_itself}
 use Rattle.asm_element.specs.Value as held
 use Rattle.asm_element.specs.declared.value.Value.{Value}
 use Rattle.asm_element.specs.Place.{Place, location_cmp, location_cmp_total, location_cmp-IsAntisymmetric, same_location}
@@ -18,6 +16,7 @@ use Rattle.asm_update.specs.State.{State, Updates, val, write, write_all, overwr
 use Rattle.asm_update.specs.Fire.{Part, Old, Outcome, outcome_at, written, locations, gathered, aggregated, overwritten, fire, IsUpdateSet, IsLeastClash}
 use Rattle.asm_update.specs.declared.clash.Clash.{Clash}
 use Rattle.asm_element.specs.Value.{undef_is}
+use Rattle.asm_element.specs.Tests.{flipped, itself, is_some-cond, ok_is, err_is, or_right}
 
 -- what a state holds for a value
 abbrev pub stored : Value → Option Value
@@ -53,18 +52,11 @@ same_state A B is = finite.same_map location_cmp_total location_cmp-IsAntisymmet
 abbrev is_in : List Place → Place → Bool
 is_in ls q = list_any (eq_by_cmp location_cmp q) ls
 
-flipped : (k q : Place) → eq_by_cmp location_cmp k q ≡ eq_by_cmp location_cmp q k
-flipped k q = (eq_by_cmp_equiv location_cmp_total).symm k q
-
-some_cond : {X : Type 0} (b : Bool) (v : X) (x : Option X) → is_some (cond b (Some v) x) ≡ (b || is_some x)
-some_cond true v x = refl
-some_cond false v x = refl
-
 has_written : (M : Move) (q : Place) → is_some (finite.get (written M) q) ≡ writes M q
 has_written [] q = ap is_some (finite.get-empty location_cmp q)
 has_written (i ∷ M) q =
-    ap is_some (finite.get-insert location_cmp_total (written M) i.at tt q) ∙ some_cond (eq_by_cmp location_cmp q i.at) tt (finite.get (written M) q)
-    ∙ (λ j. flipped q i.at j || has_written M q j)
+    ap is_some (finite.get-insert location_cmp_total (written M) i.at tt q) ∙ is_some-cond (eq_by_cmp location_cmp q i.at) tt (finite.get (written M) q)
+    ∙ (λ j. flipped location_cmp_total q i.at j || has_written M q j)
 
 -- the locations of a move are those that it writes
 pub in_locations : (M : Move) (q : Place) → is_in (locations M) q ≡ writes M q
@@ -112,12 +104,6 @@ abbrev ok_of : Outcome → Option Value
 ok_of (Ok v) = Some v
 ok_of (Err cause) = None
 
-ok_is : {X E : Type 0} (x y : X) → ◌≡◌ {A = Result X E} (Ok x) (Ok y) → x ≡ y
-ok_is x y e = cc
-
-err_is : {X E : Type 0} (x y : E) → ◌≡◌ {A = Result X E} (Err x) (Err y) → x ≡ y
-err_is x y e = cc
-
 -- where each of the locations has a result, those are gathered
 gathered_value : (out : Place → Outcome) (ls : List Place) (U V : Updates) (q : Place) → gathered U (results out ls) ≡ Ok V → finite.get V q ≡ cond (is_in ls q) (ok_of (out q)) (finite.get U q)
 gathered_value out [] U V q h = ap (λ W. finite.get W q) (sym (ok_is U V h))
@@ -150,13 +136,6 @@ record IsFirstClash (out : Place → Outcome) (ls : List Place) (clash : Clash) 
   cause : out clash.at ≡ Err clash.cause
   least : (q : Place) → location_cmp q clash.at ≡ Less → is_in ls q ≡ true → IsOk (out q)
 
-at_itself : (l : Place) → eq_by_cmp location_cmp l l ≡ true
-at_itself l = ap is_eq (tied_itself location_cmp_total l)
-
-or_true : (b c : Bool) → c ≡ true → (b || c) ≡ true
-or_true true c h = refl
-or_true false c h = h
-
 gathered_clash : (out : Place → Outcome) (ls : List Place) (U : Updates) (clash : Clash) → Rising ls → gathered U (results out ls) ≡ Err clash → IsFirstClash out ls clash
 gathered_clash out [] U clash r h = cc
 gathered_clash out (l ∷ ls) U clash r h = by_outcome (out l) refl h (λ W. gathered_clash out ls W clash r.1) where
@@ -172,13 +151,13 @@ gathered_clash out (l ∷ ls) U clash r h = by_outcome (out l) refl h (λ W. gat
   by_outcome (Ok v) e h later =
       let rest = later (finite.insert U l v) h in
       record {
-        stands = or_true _ _ rest.stands;
+        stands = or_right _ _ rest.stands;
         cause = rest.cause;
         least = λ q lt k. by_test v q (eq_by_cmp location_cmp q l) refl e k (rest.least q lt);
       }
   by_outcome (Err cause) e h later =
       subst (IsFirstClash out (l ∷ ls)) (err_is _ _ h) (record {
-        stands = ap (λ b. b || is_in ls l) (at_itself l);
+        stands = ap (λ b. b || is_in ls l) (itself location_cmp_total l);
         cause = e;
         least = λ q lt k. above q (eq_by_cmp location_cmp q l) refl k lt;
       })
@@ -254,6 +233,17 @@ module _ (part : Part) (old : Old) (M : Move) where
   pub aggregated-clash : (clash : Clash) → (aggregated part old M ≡ Err clash) ↔ IsLeastClash part old M clash
   aggregated-clash clash = (least_clash_from clash, least_clash_to clash)
 
+-- an update set has exactly the locations that the move writes
+pub has_updated : (part : Part) (old : Old) (M : Move) (U : Updates) → IsUpdateSet part old M U → (l : Place) → is_some (finite.get U l) ≡ writes M l
+has_updated part old M U is l = by_test (writes M l) refl where
+  some_there : (o : Outcome) (x : Option Value) → IsSomeAnd x (λ v. o ≡ Ok v) → is_some x ≡ true
+  some_there o (Some v) h = refl
+  some_there o None h = absurd h
+
+  by_test : (b : Bool) → writes M l ≡ b → is_some (finite.get U l) ≡ writes M l
+  by_test true w = some_there (outcome_at part old M l) (finite.get U l) (is.written l w) ∙ sym w
+  by_test false w = ap is_some (is.others l w) ∙ sym w
+
 module _ (part : Part) (A : State) (M : Move) where
   -- the same of firing
   pub fire_updates : (U : Updates) → IsUpdateSet part (val A) M U → fire part A M ≡ Ok (overwrite A U)
@@ -290,7 +280,7 @@ module _ (part : Part) (A : State) (M : Move) where
     by_answer (Err c) e = let clash = least_clash_from part (val A) M c e in let got = here c.at clash.written in ok_no_cause _ c.cause (subst IsOk (sym got.1) refl) clash.cause
 
 -- what a stored value reads as
-stored_reads : (v : Value) → unwrap_or (stored v) held.undef ≡ v
+pub stored_reads : (v : Value) → unwrap_or (stored v) held.undef ≡ v
 stored_reads v = by_test (held.is_undef v) refl where
   by_test : (b : Bool) → held.is_undef v ≡ b → unwrap_or (cond b None (Some v)) held.undef ≡ v
   by_test true is = sym (undef_is v is)

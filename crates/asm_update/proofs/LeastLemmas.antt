@@ -6,7 +6,7 @@ use Rattle.std.specs.List.{filter_map}
 use Rattle.std.specs.Ordering.{is_gt, is_lt, eq_by_cmp, ordering_reverse}
 use Rattle.std.specs.declared.cmp.Ordering.TheVariants.{Less, Equal, Greater}
 use Rattle.std.specs.declared.cmp.Ordering.{Ordering}
-use Rattle.std.proofs.lemmas.Bool.{false≢true}
+use Rattle.std.proofs.lemmas.Bool.{false≢true, false_from_ne_true}
 use Rattle.std.proofs.lemmas.Cmp.{upto, tied_itself}
 use Rattle.std.proofs.lemmas.List.{get_or_read}
 use Rattle.asm_element.specs.Place.{Place, location_cmp, location_cmp_total, same_location}
@@ -93,12 +93,8 @@ skips M n m h e None (inr apart) all = none_more M n m h e apart all
 skips M n m h e (Some l) (inl later) all = keeps M n m h e l.now (λ _. not_below m.at l.now later) all
 skips M n m h e (Some l) (inr apart) all = keeps M n m h e l.now (λ two. absurd (false≢true (sym apart ∙ two))) all
 
-false_from : (b : Bool) → (b ≡ true → ⊥) → b ≡ false
-false_from true h = absurd (h refl)
-false_from false h = refl
-
 pub known_all : (M : Move) (n : ℕ) → length M ≤ n → (least : Option (Bor Place)) → Known n M least → MatchOption least ((l : Place) → has_two M l ≡ false) (λ l. IsLeast (has_two M) l.now)
-known_all M n h None all = λ l. false_from _ (λ two.
+known_all M n h None all = λ l. false_from_ne_true _ (λ two.
     let f = found M l two in
     absurd (false≢true (sym (all.none f.0 (omega (arith, f.1)) f.3) ∙ ap (has_two M) (f.2 f.3) ∙ two)))
 known_all M n h (Some at) all = record {

@@ -2,7 +2,6 @@
 use Rattle.std.proofs.Common.{◌≡◌, Bool, true, false, cond, not, List, [], ◌∷◌, Option, Some, None, Bor, refl, sym, ap, ◌∙◌}
 use Rattle.std.specs.Prelude as list
 use Rattle.std.specs.List.{filter_map, cons_option}
-use Rattle.std.proofs.lemmas.Bool.{false≢true}
 use Rattle.std.specs.Ordering.{eq_by_cmp}
 use Rattle.asm_element.specs.Place.{Place, location_cmp}
 use Rattle.asm_element.specs.declared.value.Value.{Value}
@@ -27,11 +26,3 @@ no_value (SetAdd e) h = refl
 no_value (SetRemove e) h = refl
 no_value (BagAdd e n) h = refl
 no_value (BagRemove e n) h = refl
-
-pub true_from_not : (b r : Bool) → r ≡ not b → r ≡ false → b ≡ true
-true_from_not true r e h = refl
-true_from_not false r e h = absurd (false≢true (sym h ∙ e))
-
-pub false_from_not : (b r : Bool) → r ≡ not b → r ≡ true → b ≡ false
-false_from_not false r e h = refl
-false_from_not true r e h = absurd (false≢true (sym e ∙ h))

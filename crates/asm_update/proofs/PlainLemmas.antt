@@ -4,11 +4,11 @@ use Rattle.std.specs.Prelude.{Ok, Err, IsOk, filter}
 use Rattle.std.specs.List.{list_any, list_all, filter_map, cons_option}
 use Rattle.std.specs.declared.cmp.Ordering.TheVariants.{Less}
 use Rattle.std.specs.Ordering.{eq_by_cmp, is_gt, ordering_reverse}
-use Rattle.std.specs.Cmp.{eq_by_cmp_equiv}
 use Rattle.std.specs.FinMap as finite
 use Rattle.std.proofs.lemmas.Bool.{false≢true}
 use Rattle.asm_element.specs.declared.value.Value.{Value}
 use Rattle.asm_element.specs.Place.{Place, location_cmp, location_cmp_total}
+use Rattle.asm_element.specs.Tests.{both, neither, flipped, true_from_not}
 use Rattle.asm_element.specs.Value.{value_eq}
 use Rattle.asm_element.proofs.Same.{same_value}
 use Rattle.asm_update.specs.Action.{regular_value, is_regular, is_partial}
@@ -44,13 +44,10 @@ module _ (q : Place) where
   abbrev actions_by : Bool → Instruction → Move → List Action
   actions_by b m M = map (λ i. i.action) (cond b (m ∷ filter (λ i. eq_by_cmp location_cmp i.at q) M) (filter (λ i. eq_by_cmp location_cmp i.at q) M))
 
-  flipped : (l : Place) → eq_by_cmp location_cmp q l ≡ eq_by_cmp location_cmp l q
-  flipped l = (eq_by_cmp_equiv location_cmp_total).symm q l
-
   one_action : (b : Bool) (A : State) (m : Instruction) (M : Move) → eq_by_cmp location_cmp m.at q ≡ b → (a : Action) →
       last_stored (finite.get (write_action A m.at a) q) (regular_values M q) ≡ last_stored (finite.get A q) (filter_map regular_value (cond b (a ∷ actions_at M q) (actions_at M q)))
-  one_action true A m M is (Regular v) = ap (λ x. last_stored x (regular_values M q)) (get-write A m.at v q ∙ ap (λ b. cond b (stored v) (finite.get A q)) (flipped m.at ∙ is))
-  one_action false A m M is (Regular v) = ap (λ x. last_stored x (regular_values M q)) (get-write A m.at v q ∙ ap (λ b. cond b (stored v) (finite.get A q)) (flipped m.at ∙ is))
+  one_action true A m M is (Regular v) = ap (λ x. last_stored x (regular_values M q)) (get-write A m.at v q ∙ ap (λ b. cond b (stored v) (finite.get A q)) (flipped location_cmp_total q m.at ∙ is))
+  one_action false A m M is (Regular v) = ap (λ x. last_stored x (regular_values M q)) (get-write A m.at v q ∙ ap (λ b. cond b (stored v) (finite.get A q)) (flipped location_cmp_total q m.at ∙ is))
   one_action true A m M is (SetAdd e) = refl
   one_action false A m M is (SetAdd e) = refl
   one_action true A m M is (SetRemove e) = refl
@@ -73,10 +70,6 @@ module _ (q : Place) where
   -- in a list of regular updates no action is partial, and a location that is written has a value
   abbrev IsRegularMove : Move → Type 0
   IsRegularMove M = list_all (λ i. is_regular i.action) M ≡ true
-
-  both : (a b : Bool) → (a && b) ≡ true → (a ≡ true) × (b ≡ true)
-  both true b h = (refl, h)
-  both false b h = cc
 
   not_partial : (a : Action) → is_regular a ≡ true → is_partial a ≡ false
   not_partial (Regular v) h = refl
@@ -110,20 +103,12 @@ module _ (q : Place) where
     by_test true later here = here
     by_test false later here = later
 
-not_true : (b : Bool) → not b ≡ false → b ≡ true
-not_true true h = refl
-not_true false h = cc
-
-neither : (a b : Bool) → (a || b) ≡ false → (a ≡ false) × (b ≡ false)
-neither false b h = (refl, h)
-neither true b h = cc
-
 -- values that don't differ leave the first
 alike_stored : (v : Value) (vs : List Value) → list_any (λ w. not (value_eq v w)) vs ≡ false → last_stored (stored v) vs ≡ stored v
 alike_stored v [] h = refl
 alike_stored v (w ∷ vs) h =
     let parts = neither (not (value_eq v w)) (list_any (λ w. not (value_eq v w)) vs) h in
-    ap (λ u. last_stored (stored u) vs) (sym (same_value v w (not_true _ parts.0))) ∙ alike_stored v vs parts.1
+    ap (λ u. last_stored (stored u) vs) (sym (same_value v w (true_from_not _ _ refl parts.0))) ∙ alike_stored v vs parts.1
 
 module _ (part : Part) (A : State) (M : Move) (regular : list_all (λ i. is_regular i.action) M ≡ true) where
   abbrev outcome_by : Place → List Value → List Action → Outcome

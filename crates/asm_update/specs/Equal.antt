@@ -8,7 +8,8 @@ use Rattle.std.specs.FinMap as map
 use Rattle.asm_element.specs.Element.{element_cmp}
 use Rattle.asm_element.specs.Items.{IsIdentity}
 use Rattle.asm_element.specs.Place.{Place, location_cmp}
-use Rattle.asm_element.specs.Same.{both, element_eq-same, location_eq-same, value_eq-same, pointwise-IsIdentity}
+use Rattle.asm_element.specs.Same.{element_eq-same, location_eq-same, value_eq-same, pointwise-IsIdentity}
+use Rattle.asm_element.specs.Tests.{both}
 use Rattle.asm_element.specs.Value.{value_eq}
 use Rattle.asm_element.specs.declared.value.Value.{Value}
 use Rattle.asm_update.specs.Action.{action_eq, instruction_eq}

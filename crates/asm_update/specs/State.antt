@@ -1,6 +1,8 @@
 -- States: finite maps from locations to values other than undef.
 use Rattle.std.specs.Prelude.{◌≡◌, false, All, List, [], ◌∷◌, unwrap_or, if◌then◌else◌}
 use Rattle.std.specs.FinMap as map
+use Rattle.std.specs.List.Sorted.{IsStrictlySortedBy}
+use Rattle.std.specs.Map.Iter.{GivesInOrder}
 use Rattle.asm_element.specs.Place as place
 use Rattle.asm_element.specs.Place.{Place, location_cmp}
 use Rattle.asm_element.specs.Value as value
@@ -40,3 +42,7 @@ pub record IsProper (A : State) : Type 0 where
   pub locations : All place.IsProper (map.keys A)
   pub values : All value.IsProper (map.values A)
   pub no_undef : All (λ v. value.is_undef v ≡ false) (map.values A)
+
+-- a walk that gives the entries of the map by value, each once, in ascending order of locations
+abbrev pub GivesAscending : Updates → List (Place × Value) → Type 0
+GivesAscending U walk = (walk ≡ map.entries U) × IsStrictlySortedBy location_cmp (map.keys U) × GivesInOrder (Place × Value)

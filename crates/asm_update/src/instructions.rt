@@ -12,7 +12,7 @@ use std::marker::Model;
 use thiserror::Error;
 
 /// The most instructions of one move.
-pub const INSTRUCTIONS_LIMIT: usize = 4096;
+const INSTRUCTIONS_LIMIT: usize = 4096;
 
 /// Why an instruction isn't appended.
 #[derive(Clone, Copy, Debug, PartialEq, Eq, Error)]
@@ -79,7 +79,7 @@ impl Instructions {
     /// How many instructions there are, at most 4,096.
     pub fn len(&self) -> usize
         ensures len { result ≡ length self.now }
-        ensures few { length self.now ≤ INSTRUCTIONS_LIMIT }
+        ensures few { length self.now ≤ 4096 }
     {
         self.items.len()
     }
@@ -90,7 +90,7 @@ impl Instructions {
     /// and `Memory` only where memory was refused. After an error the list is unchanged.
     pub fn push(&mut self, instruction: Instruction) -> Result<(), InstructionsError>
         ensures ok { OnOk result (self.new ≡ self.old ++ instruction ∷ []) }
-        ensures many { (result ≡ Err InstructionsError.ManyInstructions) ↔ (length self.old ≡ INSTRUCTIONS_LIMIT) }
+        ensures many { (result ≡ Err InstructionsError.ManyInstructions) ↔ (length self.old ≡ 4096) }
         ensures err { OnErr result (self.new ≡ self.old) }
     {
         if self.items.len() == INSTRUCTIONS_LIMIT {

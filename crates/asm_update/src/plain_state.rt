@@ -1,10 +1,12 @@
-ghost use Rattle.std.specs.Prelude.{◌≡◌, ◌↔◌, IsNone, IsTrue, OnOk, OnErr, IfOk, false};
+ghost use Rattle.std.specs.Prelude.{◌≡◌, ◌↔◌, IsNone, IsTrue, IsOk, None, OnOk, OnErr, IfOk, false};
 ghost use Rattle.std.specs.Option.{option_copied};
 ghost use Rattle.std.specs.FinMap as map;
 ghost use Rattle.std.specs.BTreeMap.{insert_entry};
 ghost use Rattle.asm_element.specs.Place.{location_cmp};
 ghost use Rattle.asm_element.specs.Value as held;
 ghost use Rattle.asm_update.specs.State as state;
+ghost use Rattle.asm_update.specs.State.{GivesAscending};
+ghost use Rattle.std.specs.List.Sorted.{IsStrictlySortedBy};
 ghost use Rattle.std.specs.Cmp.{partial_equiv_from_equiv};
 ghost use Rattle.asm_update.specs.Equal.{state_eq, state_eq-equiv};
 
@@ -12,7 +14,8 @@ use crate::proper::proper_location;
 use asm_element::{Location, Value};
 use std::alloc::{AllocError, Global};
 use std::collections::BTreeMap;
-use std::collections::btree_map::Iter;
+use std::collections::btree_map::{IntoIter, Iter};
+use std::iter::IntoIterator;
 use std::marker::Model;
 
 /// A state, as one map from its locations to their values, of which none is undef.
@@ -87,10 +90,13 @@ impl PlainState {
 
     /// Gives a location this value; undef takes the location out.
     ///
-    /// `AllocError` comes only where memory was refused; the state is then unchanged.
+    /// `AllocError` comes only where memory was refused for a value other than undef at a location
+    /// that is undef; the state is then unchanged.
     pub fn set(&mut self, at: Location, value: Value) -> Result<(), AllocError>
         ensures ok { OnOk result (self.new ≡ state.write self.old at value) }
         ensures err { OnErr result (self.new ≡ self.old) }
+        ensures absent { OnErr result (map.get self.old at ≡ None) }
+        ensures undef { IsTrue (held.is_undef value) → IsOk result }
     {
         if value.is_undef() {
             self.take_out(&at);
@@ -109,6 +115,7 @@ impl PlainState {
         requires { held.is_undef value ≡ false }
         ensures ok { OnOk result (self.new ≡ map.insert self.old at value) }
         ensures err { OnErr result (self.new ≡ self.old) }
+        ensures absent { OnErr result (map.get self.old at ≡ None) }
     {
         proper_location(&at);
         value.proper();
@@ -118,7 +125,8 @@ impl PlainState {
 
     /// The locations that aren't undef with their values, in ascending order of locations.
     pub fn iter(&self) -> Iter<'_, Location, Value>
-        ensures { result ≡ map.entries self.now }
+        ensures entries { result ≡ map.entries self.now }
+        ensures ascending { IsStrictlySortedBy location_cmp (map.keys self.now) }
     {
         self.values.iter()
     }
@@ -139,6 +147,20 @@ impl PlainState {
         ensures { state.IsProper self.now }
     {
         let _ = &self.values;
+    }
+}
+
+impl IntoIterator for PlainState {
+    type Item = (Location, Value);
+
+    type IntoIter = IntoIter<Location, Value>;
+
+    ghost into_iter_gives = { λ state walk. GivesAscending state walk };
+
+    /// The locations that aren't undef with their values, in ascending order of locations; they are
+    /// moved.
+    fn into_iter(self) -> IntoIter<Location, Value> {
+        self.values.into_iter()
     }
 }
 

@@ -1,13 +1,17 @@
-ghost use Rattle.std.specs.Prelude.{◌≡◌, ◌↔◌, IsTrue, OnOk, OnErr};
+ghost use Rattle.std.specs.Prelude.{◌≡◌, ◌↔◌, IsTrue, None, OnOk, OnErr};
 ghost use Rattle.std.specs.Option.{option_copied};
 ghost use Rattle.std.specs.Cmp.{partial_equiv_from_equiv};
 ghost use Rattle.std.specs.FinMap as map;
+ghost use Rattle.std.specs.List.Sorted.{IsStrictlySortedBy};
+ghost use Rattle.asm_element.specs.Place.{location_cmp};
+ghost use Rattle.asm_update.specs.State.{GivesAscending};
 ghost use Rattle.asm_update.specs.Equal.{state_eq, state_eq-equiv};
 
 use asm_element::{Location, Value};
 use std::alloc::{AllocError, Global};
 use std::collections::BTreeMap;
-use std::collections::btree_map::Iter;
+use std::collections::btree_map::{IntoIter, Iter};
+use std::iter::IntoIterator;
 use std::marker::Model;
 
 /// One value for each of some locations, undef among them.
@@ -62,10 +66,12 @@ impl UpdateSet {
 
     /// Writes the value of a location, in place of the one that it had.
     ///
-    /// `AllocError` comes only where memory was refused; the updates are then unchanged.
+    /// `AllocError` comes only where memory was refused for a location that has no value yet; the
+    /// updates are then unchanged.
     pub fn put(&mut self, at: Location, value: Value) -> Result<(), AllocError>
         ensures ok { OnOk result (self.new ≡ map.insert self.old at value) }
         ensures err { OnErr result (self.new ≡ self.old) }
+        ensures absent { OnErr result (map.get self.old at ≡ None) }
     {
         self.values.insert(at, value)?;
         Ok(())
@@ -73,9 +79,23 @@ impl UpdateSet {
 
     /// The locations with their values, in ascending order of locations.
     pub fn iter(&self) -> Iter<'_, Location, Value>
-        ensures { result ≡ map.entries self.now }
+        ensures entries { result ≡ map.entries self.now }
+        ensures ascending { IsStrictlySortedBy location_cmp (map.keys self.now) }
     {
         self.values.iter()
+    }
+}
+
+impl IntoIterator for UpdateSet {
+    type Item = (Location, Value);
+
+    type IntoIter = IntoIter<Location, Value>;
+
+    ghost into_iter_gives = { λ updates walk. GivesAscending updates walk };
+
+    /// The locations with their values, in ascending order of locations; they are moved.
+    fn into_iter(self) -> IntoIter<Location, Value> {
+        self.values.into_iter()
     }
 }
 

@@ -12,5 +12,5 @@ loop-at-preserved c =
 pub returns : goal.returns
 returns c =
     let l = c.loop-at in
-    let start = c.into_iter-at-iterator.ensures.into_iter_gives ∙ c.iter-at-items.ensures in
+    let start = c.into_iter-at-iterator.ensures.into_iter_gives ∙ c.iter-at-items.ensures.entries in
     sym (ap (written_with l.state) c.in-None.ensures.steps.0) ∙ l.invariant ∙ ap (written_with c.args.state.now) start ∙ written_updates c.args.state.now c.args.updates.now

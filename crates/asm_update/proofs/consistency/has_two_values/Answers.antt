@@ -3,10 +3,11 @@ use Rattle.std.specs.List.{cons_option, list_any}
 use Rattle.std.specs.Ordering.{eq_by_cmp}
 use Rattle.std.proofs.lemmas.List.{drop_more}
 use Rattle.asm_element.specs.Place.{location_cmp}
+use Rattle.asm_element.specs.Tests.{true_from_not, false_from_not}
 use Rattle.asm_element.specs.Value.{value_eq}
 use Rattle.asm_update.specs.Action.{regular_value}
 use Rattle.asm_update.specs.Move.{are_different, regular_values}
-use Rattle.asm_update.proofs.MoveLemmas.{listed, regular_values-cons, no_value, true_from_not, false_from_not}
+use Rattle.asm_update.proofs.MoveLemmas.{listed, regular_values-cons, no_value}
 use Rattle.asm_update.proofs.consistency.has_two_values.Goals as goal
 use Rattle.asm_update.proofs.consistency.has_two_values.Goals.{in-Regular+in-None, in-Regular+in-Some+else-ne-2, in_default}
 

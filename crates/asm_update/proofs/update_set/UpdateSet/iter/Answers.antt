@@ -1,9 +1,9 @@
-use Rattle.std.proofs.Common.{ap, sym, ◌∙◌}
-use Rattle.std.specs.FinMap as map
-use Rattle.asm_element.specs.Place.{location_cmp_total}
-use Rattle.asm_element.proofs.Ordered.{entries-from_tree}
+use Rattle.std.proofs.Common.{◌∙◌}
+use Rattle.asm_update.proofs.Walks.{walked, ascending}
 use Rattle.asm_update.proofs.update_set.UpdateSet.iter.Goals as goal
 
-pub returns : goal.returns
-returns c =
-    c.iter.ensures.rest ∙ sym (entries-from_tree location_cmp_total c.self.inside.values.entries c.self.invariant) ∙ ap map.entries c.self.view_is
+pub returns-clause-entries : goal.returns-clause-entries
+returns-clause-entries c = c.iter.ensures.rest ∙ walked c.self.inside.values.entries c.self.invariant c.args.self.now c.self.view_is
+
+pub returns-clause-ascending : goal.returns-clause-ascending
+returns-clause-ascending c = ascending c.self.inside.values.entries c.self.invariant c.args.self.now c.self.view_is

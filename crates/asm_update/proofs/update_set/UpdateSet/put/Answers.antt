@@ -1,10 +1,16 @@
-use Rattle.std.proofs.Common.{ap, ◌∙◌}
+use Rattle.std.proofs.Common.{ap, sym, ◌∙◌}
 use Rattle.std.specs.FinMap as map
 use Rattle.asm_element.specs.Place.{location_cmp_total, location_cmp-IsAntisymmetric}
-use Rattle.asm_element.proofs.Ordered.{insert-from_tree}
+use Rattle.asm_element.specs.Tests.{on_err}
+use Rattle.asm_element.proofs.Ordered.{insert-from_tree, get-from_tree}
 use Rattle.asm_update.proofs.update_set.UpdateSet.put.Goals as goal
 
 pub returns-clause-ok : goal.returns-clause-ok
 returns-clause-ok c =
     insert-from_tree location_cmp_total location_cmp-IsAntisymmetric c.self.inside.values c.insert.new.self c.args.at c.args.value c.in_ok-insert.ensures.updates.0
     ∙ ap (λ s. map.insert s c.args.at c.args.value) c.self.view_is
+
+pub returns-in_err-insert-clause-absent : goal.returns-in_err-insert-clause-absent
+returns-in_err-insert-clause-absent c =
+    let held = ap (λ s. map.get s c.args.at) (sym c.self.view_is) ∙ get-from_tree location_cmp_total c.self.inside.values.entries c.args.at in
+    on_err c.from_residual.result (held ∙ c.in_err-insert.ensures.absent)

@@ -1,0 +1,14 @@
+use Rattle.std.proofs.Common.{◌∙◌}
+use Rattle.asm_update.proofs.Walks.{walked, ascending}
+use Rattle.asm_update.proofs.update_set.UpdateSetIntoIterator.into_iter.Goals as goal
+
+pub returns : goal.returns
+returns c =
+    let gives = c.into_iter.ensures.into_iter_gives in
+    record {
+      into_iter_gives = (
+        gives.0 ∙ walked c.self.inside.values.entries c.self.invariant c.args.self c.self.view_is,
+        ascending c.self.inside.values.entries c.self.invariant c.args.self c.self.view_is,
+        gives.2,
+      );
+    }
