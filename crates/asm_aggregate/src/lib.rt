@@ -13,4 +13,6 @@ pub use pair::{Pair, standard};
 pub use set_agg::SetAgg;
 
 #[cfg(test)]
+mod example;
+#[cfg(test)]
 mod tests;

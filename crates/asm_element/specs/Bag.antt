@@ -3,6 +3,8 @@ use Rattle.std.specs.Prelude.{ℕ, Bool, ◌&&◌, ◌==◌, zero, suc, ◌<◌,
 use Rattle.std.specs.Cmp.Lexicographic.{pointwise}
 use Rattle.std.specs.Ordering.{on, eq_by_cmp}
 use Rattle.std.specs.FinMap as map
+use Rattle.std.specs.List.Sorted.{IsStrictlySortedBy}
+use Rattle.std.specs.Map.{keys_of, values_of}
 use Rattle.asm_element.specs.declared.element.Element.{Element}
 use Rattle.asm_element.specs.Element as element
 use Rattle.asm_element.specs.Element.{element_cmp}
@@ -39,6 +41,12 @@ counts b = map.values b
 -- a count that a bag can hold: 1 to 4,294,967,295
 abbrev pub IsCount : ℕ → Type 0
 IsCount n = (0 < n) × (n < 2 ^ 32)
+
+-- the entries of a bag as they are kept: in ascending order of elements, proper, and with counts that a bag can hold
+pub record AreBagEntries (es : List (Element × ℕ)) : Type 0 where
+  pub ordered : IsStrictlySortedBy element_cmp (keys_of es)
+  pub elements : All element.IsProper (keys_of es)
+  pub counts : All IsCount (values_of es)
 
 -- one that a program can hold: its elements are proper, and each count is one that a bag can hold
 abbrev pub IsProper : ElementBag → Type 0

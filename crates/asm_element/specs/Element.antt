@@ -5,8 +5,10 @@ use Rattle.std.proofs.Common.{sym, ◌∙◌}
 use Rattle.std.specs.declared.cmp.Ordering.{Ordering}
 use Rattle.std.specs.declared.cmp.Ordering.TheVariants.{Less, Equal, Greater}
 use Rattle.std.specs.Ordering.{nat_cmp, int_cmp, on, then_cmp, ordering_then, eq_by_cmp}
-use Rattle.std.specs.FinMap.{IsAntisymmetric, nat_cmp-IsAntisymmetric, int_cmp-IsAntisymmetric, slice_cmp-IsAntisymmetric}
-use Rattle.std.specs.Cmp.{IsTotalOrder, IsEquivalence, eq_by_cmp_equiv, nat_cmp_total, int_cmp_total, on_total, then_total}
+use Rattle.std.specs.FinMap.{IsAntisymmetric, nat_cmp-IsAntisymmetric, int_cmp-IsAntisymmetric}
+use Rattle.std.specs.FinMap.{slice_cmp-IsAntisymmetric}
+use Rattle.std.specs.Cmp.{IsTotalOrder, IsEquivalence, eq_by_cmp_equiv}
+use Rattle.std.specs.Cmp.{nat_cmp_total, int_cmp_total, on_total, then_total}
 use Rattle.std.specs.Cmp.Lexicographic.{slice_cmp, nat_list_cmp_total}
 use Rattle.asm_element.specs.declared.element.Element.{Element}
 use Rattle.asm_element.specs.declared.element.Element.TheVariants.{Undef, Bool as Truth, Num, Text}
@@ -41,7 +43,8 @@ element_cmp = then_cmp (on rank_of nat_cmp) (then_cmp (on number_of int_cmp) (on
 
 pub element_cmp_total : IsTotalOrder element_cmp
 element_cmp_total =
-    then_total (on_total rank_of nat_cmp_total) (then_total (on_total number_of int_cmp_total) (on_total bytes_of nat_list_cmp_total))
+    then_total (on_total rank_of nat_cmp_total)
+    (then_total (on_total number_of int_cmp_total) (on_total bytes_of nat_list_cmp_total))
 
 pub element_eq-equiv : IsEquivalence (eq_by_cmp element_cmp)
 element_eq-equiv = eq_by_cmp_equiv element_cmp_total

@@ -1,7 +1,7 @@
 -- `==` of elements, locations, sets, bags and values tells whether they are the same.
 use Rattle.std.specs.Prelude.{◌≡◌, ℕ, Bool, true, false, ◌&&◌, ◌==◌, List, [], ◌∷◌, refl}
 use Rattle.std.proofs.Common.{sym, ap, ◌∙◌}
-use Rattle.std.specs.Cmp.{IsEquivalence, Equal-is, eq_by_cmp_equiv, decided, unsigned_Decides}
+use Rattle.std.specs.Cmp.{IsEquivalence, Equal-is, decided, unsigned_Decides}
 use Rattle.std.specs.Cmp.Lexicographic.{pointwise}
 use Rattle.std.specs.Ordering.{eq_by_cmp}
 use Rattle.std.specs.List.{list_any}
@@ -9,7 +9,7 @@ use Rattle.std.specs.FinMap as map
 use Rattle.asm_element.specs.declared.element.Element.{Element}
 use Rattle.asm_element.specs.declared.value.Value.{Value}
 use Rattle.asm_element.specs.declared.value.Value.TheVariants.{Plain, Set, Bag}
-use Rattle.asm_element.specs.Tests.{both}
+use Rattle.asm_element.specs.Tests.{both, itself}
 use Rattle.asm_element.specs.Items.{IsIdentity}
 use Rattle.asm_element.specs.Element.{element_cmp, element_cmp-IsAntisymmetric, element_eq-equiv}
 use Rattle.asm_element.specs.Place.{location_cmp, location_cmp_total, same_location}
@@ -18,7 +18,8 @@ use Rattle.asm_element.specs.Bag as bag
 use Rattle.asm_element.specs.Value.{value_eq}
 
 -- a test of lists item by item tells whether they are the same, where the test of items does
-pub same_list : {A : Type 0} (e : A → A → Bool) → ((x y : A) → e x y ≡ true → x ≡ y) → (xs ys : List A) → pointwise e xs ys ≡ true → xs ≡ ys
+pub same_list : {A : Type 0} (e : A → A → Bool) → ((x y : A) → e x y ≡ true → x ≡ y) →
+    (xs ys : List A) → pointwise e xs ys ≡ true → xs ≡ ys
 same_list e same [] [] h = refl
 same_list e same [] (y ∷ ys) h = cc
 same_list e same (x ∷ xs) [] h = cc
@@ -32,23 +33,28 @@ list_itself e itself (x ∷ xs) = ap (λ b. b && pointwise e xs xs) (itself x) �
 
 pub pointwise-IsIdentity : {A : Type 0} (e : A → A → Bool) → IsIdentity e → IsIdentity (pointwise e)
 pointwise-IsIdentity e same xs ys =
-    (same_list e (λ x y. (same x y).0) xs ys, λ is. ap (pointwise e xs) (sym is) ∙ list_itself e (λ x. (same x x).1 refl) xs)
+    let itself = list_itself e (λ x. (same x x).1 refl) xs in
+    (same_list e (λ x y. (same x y).0) xs ys, λ is. ap (pointwise e xs) (sym is) ∙ itself)
 
 pub element_eq-same : IsIdentity (eq_by_cmp element_cmp)
 element_eq-same x y =
-    (λ h. element_cmp-IsAntisymmetric x y ((Equal-is (element_cmp x y)).0 h), λ e. ap (eq_by_cmp element_cmp x) (sym e) ∙ element_eq-equiv.refl x)
+    let tied = element_cmp-IsAntisymmetric x y in
+    (λ h. tied ((Equal-is (element_cmp x y)).0 h), λ e. ap (eq_by_cmp element_cmp x) (sym e) ∙ element_eq-equiv.refl x)
 
 pub location_eq-same : IsIdentity (eq_by_cmp location_cmp)
-location_eq-same k l = (same_location k l, λ e. ap (eq_by_cmp location_cmp k) (sym e) ∙ (eq_by_cmp_equiv location_cmp_total).refl k)
+location_eq-same k l =
+    (same_location k l, λ e. ap (eq_by_cmp location_cmp k) (sym e) ∙ itself location_cmp_total k)
 
 same_elements : (s t : set.ElementSet) → set.set_eq s t ≡ true → s ≡ t
 same_elements s t h =
     let keys = (pointwise-IsIdentity (eq_by_cmp element_cmp) element_eq-same (set.elements s) (set.elements t)).0 h in
-    set.same_set s t (λ e. map.contains_key-keys s e ∙ ap (list_any (eq_by_cmp element_cmp e)) keys ∙ sym (map.contains_key-keys t e))
+    let contained = λ (e : Element). ap (list_any (eq_by_cmp element_cmp e)) keys in
+    set.same_set s t (λ e. map.contains_key-keys s e ∙ contained e ∙ sym (map.contains_key-keys t e))
 
 pub set_eq-same : IsIdentity set.set_eq
 set_eq-same s t =
-    (same_elements s t, λ e. ap (set.set_eq s) (sym e) ∙ (pointwise-IsIdentity (eq_by_cmp element_cmp) element_eq-same (set.elements s) (set.elements s)).1 refl)
+    let lists = pointwise-IsIdentity (eq_by_cmp element_cmp) element_eq-same in
+    (same_elements s t, λ e. ap (set.set_eq s) (sym e) ∙ (lists (set.elements s) (set.elements s)).1 refl)
 
 abbrev count_eq : Element × ℕ → Element × ℕ → Bool
 count_eq p q = eq_by_cmp element_cmp p.0 q.0 && p.1 == q.1

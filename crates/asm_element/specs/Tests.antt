@@ -1,5 +1,6 @@
 -- Laws of tests and answers that the proofs of several crates share; what std has stands here under the same names.
-use Rattle.std.specs.Prelude.{◌≡◌, Bool, true, false, cond, not, ◌||◌, ◌&&◌, Option, Some, Result, Ok, Err, OnErr, is_some, refl}
+use Rattle.std.specs.Prelude.{◌≡◌, Bool, true, false, cond, not, ◌||◌, ◌&&◌, Option, Some}
+use Rattle.std.specs.Prelude.{Result, Ok, Err, OnErr, is_some, refl}
 use Rattle.std.proofs.Common.{sym, ap, ◌∙◌}
 use Rattle.std.proofs.lemmas.Bool.{false≢true}
 use Rattle.std.specs.declared.cmp.Ordering.{Ordering}
@@ -7,7 +8,8 @@ use Rattle.std.specs.Ordering.{eq_by_cmp}
 use Rattle.std.specs.Cmp.{IsTotalOrder, eq_by_cmp_equiv}
 pub use Rattle.std.proofs.Math.Bool.{or-false as or_false, or-true as or_true, and-true as and_true, or_comm, or_assoc}
 pub use Rattle.std.proofs.lemmas.Bool.{and_parts as both, or_parts as neither, or_left, or_right, and_left, and_right}
-pub use Rattle.std.proofs.lemmas.Bool.{and_from, or_from, not_from_true, not_from_false, false_from_ne_true, true_from_ne_false}
+pub use Rattle.std.proofs.lemmas.Bool.{and_from, or_from, not_from_true, not_from_false}
+pub use Rattle.std.proofs.lemmas.Bool.{false_from_ne_true, true_from_ne_false}
 
 -- the first two of three tests change places
 pub or_swap : (a b c : Bool) → (a || (b || c)) ≡ (b || (a || c))

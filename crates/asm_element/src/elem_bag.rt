@@ -21,10 +21,6 @@ pub struct ElemBag {
 impl Model for ElemBag {
     ghost use Rattle.std.specs.Coded.{coded_ℕ};
     ghost use Rattle.std.specs.FinMap as map;
-    ghost use Rattle.std.specs.List.Sorted.{IsStrictlySortedBy};
-    ghost use Rattle.std.specs.Prelude.{All};
-    ghost use Rattle.std.specs.Map.{keys_of, values_of};
-    ghost use Rattle.asm_element.specs.Element.{element_cmp, IsProper};
     ghost use Rattle.asm_element.specs.Bag as bag;
     ghost use Rattle.asm_element.specs.contracts.element.Element.{the_row as element_row};
 
@@ -34,9 +30,7 @@ impl Model for ElemBag {
 
     ghost view = { λ b. map.from_entries b.counts.entries };
 
-    ghost invariant = { λ b. IsStrictlySortedBy element_cmp (keys_of b.counts.entries)
-        × All IsProper (keys_of b.counts.entries)
-        × All bag.IsCount (values_of b.counts.entries) };
+    ghost invariant = { λ b. bag.AreBagEntries b.counts.entries };
 }
 
 impl ElemBag {
@@ -106,13 +100,18 @@ impl ElemBag {
     }
 
     /// The same bag, in memory of its own. The error is want of memory.
-    pub fn copy(&self, alloc: Global) -> Result<ElemBag, AllocError>
+    pub fn copy(&self, _alloc: Global) -> Result<ElemBag, AllocError>
         ensures { IfOk result (λ copy. copy ≡ self.now) }
     {
-        let mut counts = BTreeMap::new(alloc);
-        for (element, count) in &self.counts {
-            counts.insert(element.copy(alloc)?, *count)?;
-        }
+        self.clone()
+    }
+}
+
+impl Clone for ElemBag {
+    ghost is_clone = { λ bag copy. copy ≡ bag };
+
+    fn clone(&self) -> Result<ElemBag, AllocError> {
+        let counts = self.counts.clone()?;
         Ok(ElemBag { counts })
     }
 }

@@ -97,14 +97,19 @@ impl ElemSet {
     }
 
     /// The same set, in memory of its own. The error is want of memory.
-    pub fn copy(&self, alloc: Global) -> Result<ElemSet, AllocError>
+    pub fn copy(&self, _alloc: Global) -> Result<ElemSet, AllocError>
         ensures { IfOk result (λ copy. copy ≡ self.now) }
     {
-        let mut copy = ElemSet::new(alloc);
-        for element in self.iter() {
-            copy.insert(element.copy(alloc)?)?;
-        }
-        Ok(copy)
+        self.clone()
+    }
+}
+
+impl Clone for ElemSet {
+    ghost is_clone = { λ set copy. copy ≡ set };
+
+    fn clone(&self) -> Result<ElemSet, AllocError> {
+        let elements = self.elements.clone()?;
+        Ok(ElemSet { elements })
     }
 }
 

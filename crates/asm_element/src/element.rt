@@ -24,17 +24,10 @@ pub enum Element {
 
 impl Element {
     /// The same element, in memory of its own. The error is want of memory.
-    pub fn copy(&self, alloc: Global) -> Result<Element, AllocError>
+    pub fn copy(&self, _alloc: Global) -> Result<Element, AllocError>
         ensures { IfOk result (λ copy. copy ≡ self.now) }
     {
-        Ok(match self {
-            Element::Undef => Element::Undef,
-            Element::Bool(value) => Element::Bool(*value),
-            Element::Num(value) => Element::Num(*value),
-            Element::Text(text) => {
-                Element::Text(ElemText::new(String::from_str(alloc, text.as_str())?))
-            }
-        })
+        self.clone()
     }
 
     /// Does nothing. Its contract tells that the element is one that a program can hold: a number
@@ -51,6 +44,19 @@ impl Element {
             }
             _ => {}
         }
+    }
+}
+
+impl Clone for Element {
+    ghost is_clone = { λ element copy. copy ≡ element };
+
+    fn clone(&self) -> Result<Element, AllocError> {
+        Ok(match self {
+            Element::Undef => Element::Undef,
+            Element::Bool(value) => Element::Bool(*value),
+            Element::Num(value) => Element::Num(*value),
+            Element::Text(text) => Element::Text(text.clone()?),
+        })
     }
 }
 
@@ -76,7 +82,11 @@ impl PartialEq for Element {
         ensures eq { result ≡ eq_by_cmp element_cmp self.now other.now }
         ensures same { IsTrue result ↔ (self.now ≡ other.now) }
     {
-        self.cmp(other) == Ordering::Equal
+        match (self, other) {
+            (Element::Num(a), Element::Num(b)) => a == b,
+            (Element::Text(a), Element::Text(b)) => a == b,
+            _ => rank(self) == rank(other),
+        }
     }
 }
 

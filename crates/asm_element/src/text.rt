@@ -3,6 +3,7 @@ ghost use Rattle.std.specs.Cmp.Rules.{comparing};
 ghost use Rattle.std.specs.Cmp.Lexicographic.{pointwise};
 ghost use Rattle.std.proofs.Common.{rules};
 
+use std::alloc::AllocError;
 use std::marker::Model;
 
 /// The text of an element. Contracts see it as its list of bytes, which are UTF-8.
@@ -36,6 +37,14 @@ impl ElemText {
         ensures utf8 { IsUtf8 self.now }
     {
         self.text.as_str()
+    }
+}
+
+impl Clone for ElemText {
+    ghost is_clone = { λ text copy. copy ≡ text };
+
+    fn clone(&self) -> Result<ElemText, AllocError> {
+        Ok(ElemText::new(self.text.clone()?))
     }
 }
 

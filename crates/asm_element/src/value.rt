@@ -29,14 +29,10 @@ impl Value {
     }
 
     /// The same value, in memory of its own. The error is want of memory.
-    pub fn copy(&self, alloc: Global) -> Result<Value, AllocError>
+    pub fn copy(&self, _alloc: Global) -> Result<Value, AllocError>
         ensures { IfOk result (λ copy. copy ≡ self.now) }
     {
-        Ok(match self {
-            Value::Plain(element) => Value::Plain(element.copy(alloc)?),
-            Value::Set(set) => Value::Set(set.copy(alloc)?),
-            Value::Bag(bag) => Value::Bag(bag.copy(alloc)?),
-        })
+        self.clone()
     }
 
     /// Does nothing. Its contract tells that the value is one that a program can hold: its elements
@@ -49,6 +45,18 @@ impl Value {
             Value::Set(set) => set.proper(),
             Value::Bag(bag) => bag.proper(),
         }
+    }
+}
+
+impl Clone for Value {
+    ghost is_clone = { λ value copy. copy ≡ value };
+
+    fn clone(&self) -> Result<Value, AllocError> {
+        Ok(match self {
+            Value::Plain(element) => Value::Plain(element.clone()?),
+            Value::Set(set) => Value::Set(set.clone()?),
+            Value::Bag(bag) => Value::Bag(bag.clone()?),
+        })
     }
 }
 

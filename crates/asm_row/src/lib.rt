@@ -4,16 +4,19 @@
 //! at a cell, a set of the first unseen cell if that is empty, and, where that set came too late, a
 //! get-or-set of the same cell with the same box, which gives the entry that stands there. Whatever
 //! else a seat does moves what is known of cells and touches none. A cell that is set keeps its
-//! entry, so what the seats of one row have seen are prefixes of one list.
+//! entry, so what the seats of one row have seen are prefixes of one list. A seat borrows the row; who
+//! holds the row and follows it in one value keeps a `Progress` in place of a seat.
 #![tactic(auto)]
 
 mod known;
 mod mark;
+mod progress;
 mod row;
 mod seat;
 #[cfg(test)]
 mod tests;
 
 pub use mark::Mark;
+pub use progress::Progress;
 pub use row::{Row, RowError};
 pub use seat::{Offer, Seat};

@@ -2,13 +2,14 @@ ghost use Rattle.std.specs.Prelude.{◌≡◌, ◌<◌, ◌≤◌, ◌↔◌, �
 ghost use Rattle.once_cell.specs.Once.{cell_name};
 ghost use Rattle.asm_row.specs.declared.row.RowError.TheVariants.{Memory};
 
+use crate::progress::Progress;
 use crate::seat::Seat;
 use once_cell::race::OnceBox;
 use std::alloc::{AllocError, Global};
 use std::marker::Model;
 use thiserror::Error;
 
-const MAX_CAPACITY: u32 = 1 << 20;
+const MAX_CAPACITY: u32 = 1_048_576;
 
 /// Why a row was not made.
 #[derive(Debug, Drop, PartialEq, Eq, Error)]
@@ -43,14 +44,13 @@ pub struct Row<T> {
 
 impl<T> Model for Row<T> {
     ghost use Rattle.std.specs.Prelude.{ℕ, List, ◌<◌, ◌≤◌, length};
-    ghost use Rattle.asm_row.specs.declared.row.TheConstants.{MAX_CAPACITY};
     ghost use Rattle.asm_row.specs.Row.{cell_names};
 
     ghost Value = { List ℕ };
 
     ghost view = { λ r. cell_names r.cells.items };
 
-    ghost invariant = { λ r. (0 < length r.cells.items) × (length r.cells.items ≤ MAX_CAPACITY) };
+    ghost invariant = { λ r. (0 < length r.cells.items) × (length r.cells.items ≤ 1048576) };
 }
 
 impl<T: Drop> Row<T> {
@@ -61,8 +61,7 @@ impl<T: Drop> Row<T> {
     #[tactic(auto, using(crate::proofs::Cells::names))]
     pub fn new(alloc: Global, capacity: u32) -> Result<Row<T>, RowError>
         ensures ok { IfOk result (λ row. length row ≡ capacity) }
-        ensures bad { IsErrOf result RowError.BadCapacity ↔
-            ((capacity ≡ 0) ⊎ (MAX_CAPACITY < capacity)) }
+        ensures bad { IsErrOf result RowError.BadCapacity ↔ ((capacity ≡ 0) ⊎ (1048576 < capacity)) }
     {
         if capacity == 0 || capacity > MAX_CAPACITY {
             return Err(RowError::BadCapacity);
@@ -80,7 +79,7 @@ impl<T> Row<T> {
     #[tactic(auto, using(crate::proofs::Cells::names))]
     pub fn capacity(&self) -> u32
         ensures value { result ≡ length self.now }
-        ensures within { (0 < length self.now) × (length self.now ≤ MAX_CAPACITY) }
+        ensures within { (0 < length self.now) × (length self.now ≤ 1048576) }
     {
         self.cells.len() as u32
     }
@@ -96,6 +95,13 @@ impl<T> Row<T> {
     {
         let _ = alloc;
         Ok(Seat::at_start(self))
+    }
+
+    /// Progress at this row that has seen nothing, with no win and no miss: a seat without the borrow.
+    pub fn progress(&self) -> Progress<T>
+        ensures { result ≡ record { row = self.now; seen = []; won = 0; misses = 0 } }
+    {
+        Progress::at_start(self)
     }
 
     /// The cell at place `at`, counted from 0.

@@ -1,11 +1,10 @@
-ghost use Rattle.std.specs.Prelude.{◌≡◌, ◌+◌, ◌-◌, ◌^◌, ◌<◌, ◌≤◌, ◌∷◌, ◌++◌, [], length, map, max, min, slice_get, All, Contains, IfOk, IsOk, IfSome, IfNone, IsNone, IsSome, MatchBool};
+ghost use Rattle.std.specs.Prelude.{◌≡◌, ◌+◌, ◌-◌, ◌^◌, ◌<◌, ◌≤◌, ◌∷◌, ◌++◌, [], length, map, max, min, slice_get, All, Contains, IfOk, IsOk, IfSome, IfNone, IsNone, MatchBool};
 ghost use mathlib.Core.List.{IsPrefix};
 ghost use Rattle.asm_row.specs.Offer.{IfWon, IfLost};
 
-use crate::known::Known;
 use crate::mark::Mark;
+use crate::progress::Progress;
 use crate::row::Row;
-use once_cell::race::Note;
 use std::alloc::{AllocError, Global};
 use std::marker::Model;
 
@@ -21,27 +20,25 @@ pub enum Offer<'r, T> {
 /// One thread's place at a row: it follows the row from its first cell, and has seen a prefix of its entries.
 ///
 /// It is the thread's view of the list that the threads agree on in a universal construction
-/// (Herlihy and Shavit). Contracts see it as the row that it sits at, the list of entries that it
-/// has seen, how many of its offers won, and how many of its looks found an empty cell. A seat is
-/// `Send` where `T` is `Send` and `Sync`. No call waits, takes a lock or asks for memory.
+/// (Herlihy and Shavit): a borrow of the row beside a `Progress`, which has the work. Contracts see it
+/// as the row that it sits at, the list of entries that it has seen, how many of its offers won, and
+/// how many of its looks found an empty cell. A seat is `Send` where `T` is `Send` and `Sync`. No
+/// call waits, takes a lock or asks for memory.
 #[derive(Drop)]
 pub struct Seat<'r, T> {
     row: &'r Row<T>,
-    capacity: u32,
-    len: u32,
-    known: Known<T>,
-    won: u32,
-    misses: u64,
+    progress: Progress<T>,
 }
 
 impl<'r, T> Model for Seat<'r, T> {
-    ghost use Rattle.asm_row.specs.Seat.{SeatView, IsSeat};
+    ghost use Rattle.std.specs.Prelude.{◌≡◌};
+    ghost use Rattle.asm_row.specs.Seat.{SeatView};
 
     ghost Value = { SeatView T };
 
-    ghost view = { λ s. record { row = s.known.row; seen = s.known.seen; won = s.won; misses = s.misses } };
+    ghost view = { λ s. s.progress };
 
-    ghost invariant = { λ s. IsSeat s.row.now s.capacity s.len s.won s.known.row s.known.seen };
+    ghost invariant = { λ s. s.row.now ≡ s.progress.row };
 }
 
 impl<'r, T> Seat<'r, T> {
@@ -51,11 +48,7 @@ impl<'r, T> Seat<'r, T> {
     {
         Seat {
             row,
-            capacity: row.capacity(),
-            len: 0,
-            known: Known::nothing(row),
-            won: 0,
-            misses: 0,
+            progress: row.progress(),
         }
     }
 
@@ -64,7 +57,7 @@ impl<'r, T> Seat<'r, T> {
         ensures value { result ≡ length self.now.seen }
         ensures within { length self.now.seen ≤ length self.now.row }
     {
-        self.len
+        self.progress.seen_len()
     }
 
     /// Whether this seat has seen an entry in each cell of the row.
@@ -73,7 +66,7 @@ impl<'r, T> Seat<'r, T> {
             (length self.now.seen ≡ length self.now.row)
             (length self.now.seen < length self.now.row) }
     {
-        self.len == self.capacity
+        self.progress.is_full()
     }
 
     /// The entry at place `k`, counted from 0, of those that this seat has seen.
@@ -81,13 +74,7 @@ impl<'r, T> Seat<'r, T> {
         requires { k < length self.now.seen }
         ensures { slice_get self.now.seen k ≡ Some result.now }
     {
-        let cell = self.row.cell(k as usize);
-        let mut note = cell.note();
-        self.known.tell(k as usize, &mut note);
-        match cell.get_as(&mut note) {
-            Some(entry) => entry,
-            None => unreachable!(),
-        }
+        self.progress.at(self.row, k)
     }
 
     /// How many of this seat's offers won: at most as many as the entries that it has seen.
@@ -95,25 +82,14 @@ impl<'r, T> Seat<'r, T> {
         ensures value { result ≡ self.now.won }
         ensures within { self.now.won ≤ length self.now.seen }
     {
-        self.won
+        self.progress.won()
     }
 
     /// How many of this seat's looks found an empty cell, counted up to 18,446,744,073,709,551,615.
     pub fn misses(&self) -> u64
         ensures { result ≡ self.now.misses }
     {
-        self.misses
-    }
-
-    // Takes in what the note knows of the first cell that was not seen yet.
-    fn see(&mut self, note: &mut Note<T>)
-        requires cell { slice_get self.old.row (length self.old.seen) ≡ Some note.old.cell }
-        requires known { IsSome note.old.known }
-        ensures { IfSome note.old.known (λ entry.
-            self.new ≡ record self.old { seen = self.old.seen ++ entry ∷ [] }) }
-    {
-        self.known.add(note);
-        self.len += 1;
+        self.progress.misses()
     }
 
     /// Looks once at the first cell that this seat has not seen.
@@ -130,32 +106,7 @@ impl<'r, T> Seat<'r, T> {
         ensures full { length self.old.seen ≡ length self.old.row →
             IsNone result × (self.new ≡ self.old) }
     {
-        if self.is_full() {
-            return None;
-        }
-        let row = self.row;
-        let cell = row.cell(self.len as usize);
-        let mut note = cell.note();
-        match cell.get_as(&mut note) {
-            Some(entry) => {
-                self.see(&mut note);
-                Some(entry)
-            }
-            None => {
-                self.misses = self.misses.saturating_add(1);
-                None
-            }
-        }
-    }
-
-    // A mark, for which no memory is needed.
-    fn to_mark(&self) -> Mark<T>
-        ensures { result ≡ record { row = self.now.row; seen = self.now.seen } }
-    {
-        Mark {
-            len: self.len,
-            known: self.known.copy(),
-        }
+        self.progress.next(self.row)
     }
 
     /// A mark of what this seat has seen, which another seat of the row can learn.
@@ -166,8 +117,7 @@ impl<'r, T> Seat<'r, T> {
         ensures holds { IfOk result (λ mark.
             mark ≡ record { row = self.now.row; seen = self.now.seen }) }
     {
-        let _ = alloc;
-        Ok(self.to_mark())
+        self.progress.mark(alloc)
     }
 
     /// Takes in what a mark of the same row holds, without a look at the row.
@@ -181,11 +131,13 @@ impl<'r, T> Seat<'r, T> {
         ensures theirs { IsPrefix mark.now.seen self.new.seen }
         ensures longest { length self.new.seen ≡ max (length self.old.seen) (length mark.now.seen) }
     {
-        self.known.agrees(&mark.known);
-        if self.len < mark.len {
-            self.len = mark.len;
-            self.known = mark.known.copy();
-        }
+        self.progress.learn(mark)
+    }
+
+    fn to_mark(&self) -> Mark<T>
+        ensures { result ≡ record { row = self.now.row; seen = self.now.seen } }
+    {
+        self.progress.to_mark()
     }
 
     /// Takes in what each of the seats of the same row has seen, by their marks.
@@ -211,6 +163,8 @@ impl<'r, T: Drop> Seat<'r, T> {
     ///
     /// Either way the seat has then seen one entry more, the one that stands in the cell: on `Won`
     /// the passed one, and `won` grows by one; on `Lost` the returned one, and `value` is dropped.
+    /// Contracts speak of the cells that were seen alone: that a value which lost is put into no
+    /// other cell is shown by tests.
     pub fn offer(&mut self, value: Box<T>) -> Offer<'r, T>
         requires { length self.old.seen < length self.old.row }
         ensures row { self.new.row ≡ self.old.row }
@@ -219,21 +173,6 @@ impl<'r, T: Drop> Seat<'r, T> {
         ensures lost { IfLost result (λ entry.
             self.new ≡ record self.old { seen = self.old.seen ++ entry.now ∷ [] }) }
     {
-        let row = self.row;
-        let cell = row.cell(self.len as usize);
-        let mut note = cell.note();
-        match cell.set_as(value, &mut note) {
-            Ok(()) => {
-                self.see(&mut note);
-                self.won += 1;
-                Offer::Won
-            }
-            Err(value) => {
-                // The cell is full, so this gives the entry that stands there and drops `value`.
-                let entry = cell.get_or_init_as(move || value, &mut note);
-                self.see(&mut note);
-                Offer::Lost(entry)
-            }
-        }
+        self.progress.offer(self.row, value)
     }
 }

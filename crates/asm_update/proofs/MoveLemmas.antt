@@ -8,7 +8,7 @@ use Rattle.asm_element.specs.declared.value.Value.{Value}
 use Rattle.asm_update.specs.Action.{regular_value}
 use Rattle.asm_update.specs.Move.{Move, regular_values}
 use Rattle.asm_update.specs.declared.action.Action.{Action}
-use Rattle.asm_update.specs.declared.action.Action.TheVariants.{Regular, SetAdd, SetRemove, BagAdd, BagRemove}
+use Rattle.asm_update.specs.declared.action.Action.TheVariants.{Regular}
 use Rattle.asm_update.specs.declared.action.Instruction.{Instruction}
 
 -- the value that an option refers to, as a list
@@ -22,7 +22,4 @@ regular_values-cons m M l here =
 
 pub no_value : (a : Action) → ((v : Value) → a ≡ Regular v → ⊥) → regular_value a ≡ None
 no_value (Regular v) h = absurd (h v refl)
-no_value (SetAdd e) h = refl
-no_value (SetRemove e) h = refl
-no_value (BagAdd e n) h = refl
-no_value (BagRemove e n) h = refl
+no_value _ h = refl

@@ -16,7 +16,7 @@ use Rattle.asm_update.specs.Move.{Move, actions_at, writes, regular_values, are_
 use Rattle.asm_update.specs.State.{State, val, write}
 use Rattle.asm_update.specs.Fire.{Part, Outcome, outcome_at, group_result, first, fire}
 use Rattle.asm_update.specs.declared.action.Action.{Action}
-use Rattle.asm_update.specs.declared.action.Action.TheVariants.{Regular, SetAdd, SetRemove, BagAdd, BagRemove}
+use Rattle.asm_update.specs.declared.action.Action.TheVariants.{Regular}
 use Rattle.asm_update.specs.declared.action.Instruction.{Instruction}
 use Rattle.asm_update.specs.declared.clash.Cause.TheVariants.{Two}
 use Rattle.asm_update.proofs.FireLemmas.{stored, get-write, fires_to, fire_clash}
@@ -24,10 +24,7 @@ use Rattle.asm_update.proofs.FireLemmas.{stored, get-write, fires_to, fire_clash
 -- the state after one instruction, of which a partial one writes nothing
 abbrev pub write_action : State → Place → Action → State
 write_action A l (Regular v) = write A l v
-write_action A l (SetAdd e) = A
-write_action A l (SetRemove e) = A
-write_action A l (BagAdd e n) = A
-write_action A l (BagRemove e n) = A
+write_action A l _ = A
 
 -- the state after the writes of a list, in its order
 abbrev pub write_in_order : State → Move → State
@@ -48,14 +45,8 @@ module _ (q : Place) where
       last_stored (finite.get (write_action A m.at a) q) (regular_values M q) ≡ last_stored (finite.get A q) (filter_map regular_value (cond b (a ∷ actions_at M q) (actions_at M q)))
   one_action true A m M is (Regular v) = ap (λ x. last_stored x (regular_values M q)) (get-write A m.at v q ∙ ap (λ b. cond b (stored v) (finite.get A q)) (flipped location_cmp_total q m.at ∙ is))
   one_action false A m M is (Regular v) = ap (λ x. last_stored x (regular_values M q)) (get-write A m.at v q ∙ ap (λ b. cond b (stored v) (finite.get A q)) (flipped location_cmp_total q m.at ∙ is))
-  one_action true A m M is (SetAdd e) = refl
-  one_action false A m M is (SetAdd e) = refl
-  one_action true A m M is (SetRemove e) = refl
-  one_action false A m M is (SetRemove e) = refl
-  one_action true A m M is (BagAdd e n) = refl
-  one_action false A m M is (BagAdd e n) = refl
-  one_action true A m M is (BagRemove e n) = refl
-  one_action false A m M is (BagRemove e n) = refl
+  one_action true A m M is _ = refl
+  one_action false A m M is _ = refl
 
   actions_of : (b : Bool) (m : Instruction) (M : Move) → actions_by b m M ≡ cond b (m.action ∷ actions_at M q) (actions_at M q)
   actions_of true m M = refl
@@ -73,10 +64,7 @@ module _ (q : Place) where
 
   not_partial : (a : Action) → is_regular a ≡ true → is_partial a ≡ false
   not_partial (Regular v) h = refl
-  not_partial (SetAdd e) h = cc
-  not_partial (SetRemove e) h = cc
-  not_partial (BagAdd e n) h = cc
-  not_partial (BagRemove e n) h = cc
+  not_partial _ h = cc
 
   no_partials : (M : Move) → IsRegularMove M → filter is_partial (actions_at M q) ≡ []
   no_partials [] h = refl
@@ -91,10 +79,7 @@ module _ (q : Place) where
 
   has_value : (a : Action) (vs : List Value) → is_regular a ≡ true → has_some (cons_option (regular_value a) vs) ≡ true
   has_value (Regular v) vs h = refl
-  has_value (SetAdd e) vs h = cc
-  has_value (SetRemove e) vs h = cc
-  has_value (BagAdd e n) vs h = cc
-  has_value (BagRemove e n) vs h = cc
+  has_value _ vs h = cc
 
   writes_value : (M : Move) → IsRegularMove M → has_some (regular_values M q) ≡ writes M q
   writes_value [] h = refl

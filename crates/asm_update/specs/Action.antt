@@ -1,9 +1,9 @@
 -- Actions: regular updates, and partial updates of a family.
-use Rattle.std.specs.Prelude.{◌≤◌, ◌<◌, ◌^◌, ◌&&◌, ◌==◌, Bool, true, false, List, All, Option, Some, None, is_none, is_some}
+use Rattle.std.specs.Prelude.{ℕ, ◌≤◌, ◌<◌, ◌^◌, ◌&&◌, ◌==◌, Bool, true, false, List, All}
+use Rattle.std.specs.Prelude.{Option, Some, None, is_none, is_some}
 use Rattle.std.specs.Ordering.{eq_by_cmp}
 use Rattle.std.specs.Option.{option_map_or}
 use Rattle.asm_element.specs.Element as element
-use Rattle.asm_element.specs.Element.{element_cmp}
 use Rattle.asm_element.specs.Place as place
 use Rattle.asm_element.specs.Place.{location_cmp}
 use Rattle.asm_element.specs.Value as value
@@ -68,14 +68,32 @@ AllProper = All IsProper
 abbrev pub IsProperInstruction : Instruction → Type 0
 IsProperInstruction i = place.IsProper i.at × IsProper i.action
 
--- whether two actions are of one kind, and equal as such
+-- the number of an action's kind
+abbrev pub kind_number : Action → ℕ
+kind_number (Regular _) = 0
+kind_number (SetAdd _) = 1
+kind_number (SetRemove _) = 2
+kind_number (BagAdd _ _) = 3
+kind_number (BagRemove _ _) = 4
+
+-- the amount that is added or removed; of any other action 0
+abbrev pub amount_of : Action → ℕ
+amount_of (BagAdd _ n) = n
+amount_of (BagRemove _ n) = n
+amount_of _ = 0
+
+-- the value that is written, or the element that is added or removed
+abbrev pub content_of : Action → Value
+content_of (Regular v) = v
+content_of (SetAdd e) = values.Plain e
+content_of (SetRemove e) = values.Plain e
+content_of (BagAdd e _) = values.Plain e
+content_of (BagRemove e _) = values.Plain e
+
+-- whether two actions are of one kind, with equal amounts and equal contents
 abbrev pub action_eq : Action → Action → Bool
-action_eq (Regular v) (Regular w) = value.value_eq v w
-action_eq (SetAdd a) (SetAdd b) = eq_by_cmp element_cmp a b
-action_eq (SetRemove a) (SetRemove b) = eq_by_cmp element_cmp a b
-action_eq (BagAdd a n) (BagAdd b m) = eq_by_cmp element_cmp a b && n == m
-action_eq (BagRemove a n) (BagRemove b m) = eq_by_cmp element_cmp a b && n == m
-action_eq _ _ = false
+action_eq a b =
+    kind_number a == kind_number b && (amount_of a == amount_of b && value.value_eq (content_of a) (content_of b))
 
 -- whether two instructions have equal locations and equal actions
 abbrev pub instruction_eq : Instruction → Instruction → Bool

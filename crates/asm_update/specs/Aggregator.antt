@@ -1,5 +1,6 @@
 -- What an aggregator means: the families it owns, what a group gives, what two lists in a row join to; and its laws.
-use Rattle.std.specs.Prelude.{◌≡◌, ◌≢◌, Bool, true, false, List, [], ◌∷◌, ◌++◌, IsPermutation, Result, Ok, Err, Option, None, Some, unwrap_or}
+use Rattle.std.specs.Prelude.{◌≡◌, ◌≢◌, Bool, true, false, List, [], ◌∷◌, ◌++◌, IsPermutation}
+use Rattle.std.specs.Prelude.{Result, Ok, Err, Option, None, Some, unwrap_or}
 use Rattle.std.specs.List.{list_any, list_all}
 use Rattle.asm_element.specs.Value as value
 use Rattle.asm_element.specs.declared.value.Value.{Value}
@@ -33,22 +34,36 @@ after a v (p ∷ ps) = a.part v None (p ∷ ps)
 -- what every aggregator keeps
 pub record AggregatorLaws (a : Meaning) : Type 0 where
   -- the order of a group's partials is no matter
-  pub any_order : (old : Value) (regular : Option Value) (partials reordered : List Action) → IsPermutation partials reordered → a.part old regular reordered ≡ a.part old regular partials
+  pub any_order : (old : Value) (regular : Option Value) (partials reordered : List Action) →
+      IsPermutation partials reordered → a.part old regular reordered ≡ a.part old regular partials
   -- partials that aren't all of one family that is owned are `Mixed`
-  pub mixed : (old : Value) (regular : Option Value) (partials : List Action) → ((f : Family) → a.owns f ≡ true → list_all (is_of f) partials ≡ false) → a.part old regular partials ≡ Err Mixed
+  pub mixed : (old : Value) (regular : Option Value) (partials : List Action) →
+      ((f : Family) → a.owns f ≡ true → list_all (is_of f) partials ≡ false) →
+      a.part old regular partials ≡ Err Mixed
   -- where the first list has a result, the joined one gives what the second gives after it
-  pub join_is_sequence : (v w : Value) (first second joined : List Action) → value.IsProper v → AllProper first → AllProper second → first ++ second ≢ [] → a.joins first second ≡ Ok joined → after a v first ≡ Ok w → after a v joined ≡ after a w second
+  pub join_is_sequence : (v w : Value) (first second joined : List Action) →
+      value.IsProper v → AllProper first → AllProper second → first ++ second ≢ [] →
+      a.joins first second ≡ Ok joined → after a v first ≡ Ok w → after a v joined ≡ after a w second
   -- where the join is refused, no value lets the first and then the second have results
-  pub refused_join : (v w x : Value) (first second : List Action) (refusal : Refusal) → value.IsProper v → AllProper first → AllProper second → first ++ second ≢ [] → a.joins first second ≡ Err refusal → after a v first ≡ Ok w → after a w second ≢ Ok x
+  pub refused_join : (v w x : Value) (first second : List Action) (refusal : Refusal) →
+      value.IsProper v → AllProper first → AllProper second → first ++ second ≢ [] →
+      a.joins first second ≡ Err refusal → after a v first ≡ Ok w → after a w second ≢ Ok x
   -- a regular value is the result, or there is a cause
   pub regular_result : (old v w : Value) (partials : List Action) → a.part old (Some v) partials ≡ Ok w → w ≡ v
   -- and which of them doesn't depend on the old value
-  pub regular_decides : (old other v : Value) (partials : List Action) → a.part old (Some v) partials ≡ a.part other (Some v) partials
+  pub regular_decides : (old other v : Value) (partials : List Action) →
+      a.part old (Some v) partials ≡ a.part other (Some v) partials
   -- partials of a family have a result on a base of the family's kind alone, and it is of that kind
-  pub kind_kept : (f : Family) (old w : Value) (regular : Option Value) (partials : List Action) → partials ≢ [] → list_all (is_of f) partials ≡ true → a.part old regular partials ≡ Ok w → (kind_of (unwrap_or regular old) ≡ Some f) × (kind_of w ≡ Some f)
+  pub kind_kept : (f : Family) (old w : Value) (regular : Option Value) (partials : List Action) →
+      partials ≢ [] → list_all (is_of f) partials ≡ true → a.part old regular partials ≡ Ok w →
+      (kind_of (unwrap_or regular old) ≡ Some f) × (kind_of w ≡ Some f)
   -- what is proper stays proper
-  pub proper_kept : (old w : Value) (partials : List Action) → value.IsProper old → AllProper partials → a.part old None partials ≡ Ok w → value.IsProper w
+  pub proper_kept : (old w : Value) (partials : List Action) →
+      value.IsProper old → AllProper partials → a.part old None partials ≡ Ok w → value.IsProper w
   -- a join has partials alone
-  pub join_is_partial : (first second joined : List Action) → a.joins first second ≡ Ok joined → list_all is_partial joined ≡ true
+  pub join_is_partial : (first second joined : List Action) →
+      a.joins first second ≡ Ok joined → list_all is_partial joined ≡ true
   -- each of them of a family that stands on one of the two sides
-  pub join_family : (f : Family) (first second joined : List Action) → a.joins first second ≡ Ok joined → list_any (is_of f) joined ≡ true → list_any (is_of f) (first ++ second) ≡ true
+  pub join_family : (f : Family) (first second joined : List Action) →
+      a.joins first second ≡ Ok joined → list_any (is_of f) joined ≡ true →
+      list_any (is_of f) (first ++ second) ≡ true

@@ -1,60 +1,52 @@
 -- `==` of actions, instructions, lists of them and states tells whether they are the same.
-use Rattle.std.specs.Prelude.{◌≡◌, ◌&&◌, ◌==◌, Bool, true, List, refl}
+use Rattle.std.specs.Prelude.{◌≡◌, ◌&&◌, ◌==◌, ℕ, zero, suc, Bool, true, List, refl}
 use Rattle.std.proofs.Common.{sym, ap, ◌∙◌}
 use Rattle.std.specs.Cmp.{IsEquivalence, decided, unsigned_Decides}
 use Rattle.std.specs.Cmp.Lexicographic.{pointwise}
 use Rattle.std.specs.Ordering.{on, eq_by_cmp}
 use Rattle.std.specs.FinMap as map
-use Rattle.asm_element.specs.Element.{element_cmp}
 use Rattle.asm_element.specs.Items.{IsIdentity}
 use Rattle.asm_element.specs.Place.{Place, location_cmp}
-use Rattle.asm_element.specs.Same.{element_eq-same, location_eq-same, value_eq-same, pointwise-IsIdentity}
-use Rattle.asm_element.specs.Tests.{both}
+use Rattle.asm_element.specs.Same.{location_eq-same, value_eq-same, pointwise-IsIdentity}
+use Rattle.asm_element.specs.Tests.{both, and_from}
 use Rattle.asm_element.specs.Value.{value_eq}
 use Rattle.asm_element.specs.declared.value.Value.{Value}
-use Rattle.asm_update.specs.Action.{action_eq, instruction_eq}
+use Rattle.asm_update.specs.Action.{kind_number, amount_of, content_of, action_eq, instruction_eq}
+use Rattle.asm_element.specs.declared.value.Value.TheVariants.{Plain}
 use Rattle.asm_update.specs.State.{State}
 use Rattle.asm_update.specs.declared.action.Action.{Action}
 use Rattle.asm_update.specs.declared.action.Action.TheVariants.{Regular, SetAdd, SetRemove, BagAdd, BagRemove}
 use Rattle.asm_update.specs.declared.action.Instruction.{Instruction}
 
+-- the action of this kind, amount and content
+abbrev action_of : ℕ → ℕ → Value → Action
+action_of (suc zero) n (Plain e) = SetAdd e
+action_of (suc (suc zero)) n (Plain e) = SetRemove e
+action_of (suc (suc (suc zero))) n (Plain e) = BagAdd e n
+action_of (suc (suc (suc (suc zero)))) n (Plain e) = BagRemove e n
+action_of _ n v = Regular v
+
+action_of-parts : (a : Action) → action_of (kind_number a) (amount_of a) (content_of a) ≡ a
+action_of-parts (Regular v) = refl
+action_of-parts (SetAdd e) = refl
+action_of-parts (SetRemove e) = refl
+action_of-parts (BagAdd e n) = refl
+action_of-parts (BagRemove e n) = refl
+
 same_action : (a b : Action) → action_eq a b ≡ true → a ≡ b
-same_action (Regular v) (Regular w) h = ap Regular ((value_eq-same v w).0 h)
-same_action (SetAdd a) (SetAdd b) h = ap SetAdd ((element_eq-same a b).0 h)
-same_action (SetRemove a) (SetRemove b) h = ap SetRemove ((element_eq-same a b).0 h)
-same_action (BagAdd a n) (BagAdd b m) h =
-    let parts = both (eq_by_cmp element_cmp a b) (n == m) h in
-    λ i. BagAdd ((element_eq-same a b).0 parts.0 i) ((unsigned_Decides n m).0 parts.1 i)
-same_action (BagRemove a n) (BagRemove b m) h =
-    let parts = both (eq_by_cmp element_cmp a b) (n == m) h in
-    λ i. BagRemove ((element_eq-same a b).0 parts.0 i) ((unsigned_Decides n m).0 parts.1 i)
-same_action (Regular v) (SetAdd b) h = cc
-same_action (Regular v) (SetRemove b) h = cc
-same_action (Regular v) (BagAdd b m) h = cc
-same_action (Regular v) (BagRemove b m) h = cc
-same_action (SetAdd a) (Regular w) h = cc
-same_action (SetAdd a) (SetRemove b) h = cc
-same_action (SetAdd a) (BagAdd b m) h = cc
-same_action (SetAdd a) (BagRemove b m) h = cc
-same_action (SetRemove a) (Regular w) h = cc
-same_action (SetRemove a) (SetAdd b) h = cc
-same_action (SetRemove a) (BagAdd b m) h = cc
-same_action (SetRemove a) (BagRemove b m) h = cc
-same_action (BagAdd a n) (Regular w) h = cc
-same_action (BagAdd a n) (SetAdd b) h = cc
-same_action (BagAdd a n) (SetRemove b) h = cc
-same_action (BagAdd a n) (BagRemove b m) h = cc
-same_action (BagRemove a n) (Regular w) h = cc
-same_action (BagRemove a n) (SetAdd b) h = cc
-same_action (BagRemove a n) (SetRemove b) h = cc
-same_action (BagRemove a n) (BagAdd b m) h = cc
+same_action a b h =
+    let parts = both (kind_number a == kind_number b) _ h in
+    let others = both (amount_of a == amount_of b) _ parts.1 in
+    let kind = (unsigned_Decides (kind_number a) (kind_number b)).0 parts.0 in
+    let amount = (unsigned_Decides (amount_of a) (amount_of b)).0 others.0 in
+    let content = (value_eq-same (content_of a) (content_of b)).0 others.1 in
+    sym (action_of-parts a) ∙ (λ i. action_of (kind i) (amount i) (content i)) ∙ action_of-parts b
 
 action_itself : (a : Action) → action_eq a a ≡ true
-action_itself (Regular v) = (value_eq-same v v).1 refl
-action_itself (SetAdd a) = (element_eq-same a a).1 refl
-action_itself (SetRemove a) = (element_eq-same a a).1 refl
-action_itself (BagAdd a n) = (λ i. (element_eq-same a a).1 refl i && n == n) ∙ (unsigned_Decides n n).1 refl
-action_itself (BagRemove a n) = (λ i. (element_eq-same a a).1 refl i && n == n) ∙ (unsigned_Decides n n).1 refl
+action_itself a =
+    let amount = (unsigned_Decides (amount_of a) (amount_of a)).1 refl in
+    let content = (value_eq-same (content_of a) (content_of a)).1 refl in
+    and_from _ _ ((unsigned_Decides (kind_number a) (kind_number a)).1 refl) (and_from _ _ amount content)
 
 pub action_eq-same : IsIdentity action_eq
 action_eq-same a b = (same_action a b, λ e. ap (action_eq a) (sym e) ∙ action_itself a)
@@ -100,7 +92,7 @@ entry_eq-same p q = (
   λ h.
       let parts = both (eq_by_cmp location_cmp p.0 q.0) (value_eq p.1 q.1) h in
       λ i. ((location_eq-same p.0 q.0).0 parts.0 i, (value_eq-same p.1 q.1).0 parts.1 i),
-  λ e. (λ i. (location_eq-same p.0 q.0).1 (λ n. (e n).0) i && value_eq p.1 q.1) ∙ (value_eq-same p.1 q.1).1 (λ n. (e n).1),
+  λ e. and_from _ _ ((location_eq-same p.0 q.0).1 (λ n. (e n).0)) ((value_eq-same p.1 q.1).1 (λ n. (e n).1)),
 )
 
 pub state_eq-same : IsIdentity state_eq

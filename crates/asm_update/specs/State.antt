@@ -2,6 +2,7 @@
 use Rattle.std.specs.Prelude.{◌≡◌, false, All, List, [], ◌∷◌, unwrap_or, if◌then◌else◌}
 use Rattle.std.specs.FinMap as map
 use Rattle.std.specs.List.Sorted.{IsStrictlySortedBy}
+use Rattle.std.specs.Map.{keys_of, values_of}
 use Rattle.std.specs.Map.Iter.{GivesInOrder}
 use Rattle.asm_element.specs.Place as place
 use Rattle.asm_element.specs.Place.{Place, location_cmp}
@@ -43,6 +44,14 @@ pub record IsProper (A : State) : Type 0 where
   pub values : All value.IsProper (map.values A)
   pub no_undef : All (λ v. value.is_undef v ≡ false) (map.values A)
 
+-- the entries of a state as they are kept: in ascending order of locations, proper, and with no undef
+pub record AreStateEntries (es : List (Place × Value)) : Type 0 where
+  pub ordered : IsStrictlySortedBy location_cmp (keys_of es)
+  pub no_undef : All (λ v. value.is_undef v ≡ false) (values_of es)
+  pub locations : All place.IsProper (keys_of es)
+  pub values : All value.IsProper (values_of es)
+
 -- a walk that gives the entries of the map by value, each once, in ascending order of locations
 abbrev pub GivesAscending : Updates → List (Place × Value) → Type 0
-GivesAscending U walk = (walk ≡ map.entries U) × IsStrictlySortedBy location_cmp (map.keys U) × GivesInOrder (Place × Value)
+GivesAscending U walk =
+    (walk ≡ map.entries U) × IsStrictlySortedBy location_cmp (map.keys U) × GivesInOrder (Place × Value)

@@ -1,10 +1,10 @@
-ghost use Rattle.std.specs.Prelude.{◌≡◌, ◌≤◌, ◌↔◌, IfSome, IsNone, IfOk, IsTrue};
+ghost use Rattle.std.specs.Prelude.{◌≡◌, ◌≤◌, ◌↔◌, IfSome, IsNone, IsTrue};
 ghost use Rattle.std.specs.Cmp.{partial_equiv_from_equiv};
 ghost use Rattle.asm_update.specs.Action as action;
 ghost use Rattle.asm_update.specs.Equal.{action_eq-equiv, instruction_eq-equiv};
 
 use asm_element::{Element, Location, Value};
-use std::alloc::{AllocError, Global};
+use std::alloc::AllocError;
 use std::marker::Model;
 
 /// How many of an element a partial update of a bag adds or removes: 1 to 4,294,967,295.
@@ -88,19 +88,6 @@ impl Action {
         }
     }
 
-    /// The same action, in memory of its own.
-    pub(crate) fn copy(&self, alloc: Global) -> Result<Action, AllocError>
-        ensures { IfOk result (λ copy. copy ≡ self.now) }
-    {
-        Ok(match self {
-            Action::Regular(value) => Action::Regular(value.copy(alloc)?),
-            Action::SetAdd(element) => Action::SetAdd(element.copy(alloc)?),
-            Action::SetRemove(element) => Action::SetRemove(element.copy(alloc)?),
-            Action::BagAdd(element, amount) => Action::BagAdd(element.copy(alloc)?, *amount),
-            Action::BagRemove(element, amount) => Action::BagRemove(element.copy(alloc)?, *amount),
-        })
-    }
-
     /// Does nothing; its contract tells that the action is proper.
     pub fn proper(&self)
         ensures { action.IsProper self.now }
@@ -113,6 +100,20 @@ impl Action {
                 let _amount = amount.get();
             }
         }
+    }
+}
+
+impl Clone for Action {
+    ghost is_clone = { λ action copy. copy ≡ action };
+
+    fn clone(&self) -> Result<Action, AllocError> {
+        Ok(match self {
+            Action::Regular(value) => Action::Regular(value.clone()?),
+            Action::SetAdd(element) => Action::SetAdd(element.clone()?),
+            Action::SetRemove(element) => Action::SetRemove(element.clone()?),
+            Action::BagAdd(element, amount) => Action::BagAdd(element.clone()?, *amount),
+            Action::BagRemove(element, amount) => Action::BagRemove(element.clone()?, *amount),
+        })
     }
 }
 
@@ -129,8 +130,8 @@ impl PartialEq for Action {
             (Action::Regular(a), Action::Regular(b)) => a == b,
             (Action::SetAdd(a), Action::SetAdd(b)) => a == b,
             (Action::SetRemove(a), Action::SetRemove(b)) => a == b,
-            (Action::BagAdd(a, n), Action::BagAdd(b, m)) => a == b && n == m,
-            (Action::BagRemove(a, n), Action::BagRemove(b, m)) => a == b && n == m,
+            (Action::BagAdd(a, n), Action::BagAdd(b, m)) => n == m && a == b,
+            (Action::BagRemove(a, n), Action::BagRemove(b, m)) => n == m && a == b,
             _ => false,
         }
     }
@@ -151,14 +152,13 @@ pub struct Instruction {
     pub action: Action,
 }
 
-impl Instruction {
-    /// The same instruction, in memory of its own.
-    pub(crate) fn copy(&self, alloc: Global) -> Result<Instruction, AllocError>
-        ensures { IfOk result (λ copy. copy ≡ self.now) }
-    {
+impl Clone for Instruction {
+    ghost is_clone = { λ instruction copy. copy ≡ instruction };
+
+    fn clone(&self) -> Result<Instruction, AllocError> {
         Ok(Instruction {
-            at: self.at.copy(alloc)?,
-            action: self.action.copy(alloc)?,
+            at: self.at.clone()?,
+            action: self.action.clone()?,
         })
     }
 }

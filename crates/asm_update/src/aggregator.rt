@@ -37,7 +37,9 @@ pub trait Aggregator {
         old: Option<&Value>,
         group: &Group,
     ) -> Result<Value, ResultError>
-        ensures { IsOutcome result ((meaning self.now).part (unwrap_or (option_copied old.entry) undef) group.now.regular group.now.partials) };
+        ensures { IsOutcome result
+            ((meaning self.now).part (unwrap_or (option_copied old.entry) undef)
+            group.now.regular group.now.partials) };
 
     /// The list of partial updates that stands for the first list and then the second.
     ///

@@ -1,4 +1,5 @@
-ghost use Rattle.std.specs.Prelude.{◌≡◌, ◌<◌, ◌≤◌, ◌++◌, ◌∷◌, [], ◌↔◌, length, All, IsTrue, OnOk, OnErr, IfOk, Some, Err, slice_get};
+ghost use Rattle.std.specs.Prelude.{◌≡◌, ◌<◌, ◌≤◌, ◌++◌, ◌∷◌, [], ◌↔◌, length, All, IsTrue};
+ghost use Rattle.std.specs.Prelude.{OnOk, OnErr, IfOk, Some, Err, slice_get};
 ghost use Rattle.std.specs.Cmp.{partial_equiv_from_equiv};
 ghost use Rattle.asm_update.specs.Action.{IsProperInstruction};
 ghost use Rattle.asm_update.specs.Move as move_spec;
@@ -125,20 +126,25 @@ impl Instructions {
     }
 
     /// The same instructions, in memory of their own.
-    pub fn copy(&self, alloc: Global) -> Result<Instructions, AllocError>
+    pub fn copy(&self, _alloc: Global) -> Result<Instructions, AllocError>
         ensures { IfOk result (λ copy. copy ≡ self.now) }
     {
-        let mut items = Vec::new(alloc);
-        for instruction in &self.items {
-            items.push(instruction.copy(alloc)?)?;
-        }
-        Ok(Instructions { items })
+        self.clone()
     }
 
     pub(crate) fn as_slice(&self) -> &[Instruction]
         ensures { result.now ≡ self.now }
     {
         self.items.as_slice()
+    }
+}
+
+impl Clone for Instructions {
+    ghost is_clone = { λ instructions copy. copy ≡ instructions };
+
+    fn clone(&self) -> Result<Instructions, AllocError> {
+        let items = self.items.clone()?;
+        Ok(Instructions { items })
     }
 }
 

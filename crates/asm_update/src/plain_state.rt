@@ -1,7 +1,6 @@
 ghost use Rattle.std.specs.Prelude.{◌≡◌, ◌↔◌, IsNone, IsTrue, IsOk, None, OnOk, OnErr, IfOk, false};
 ghost use Rattle.std.specs.Option.{option_copied};
 ghost use Rattle.std.specs.FinMap as map;
-ghost use Rattle.std.specs.BTreeMap.{insert_entry};
 ghost use Rattle.asm_element.specs.Place.{location_cmp};
 ghost use Rattle.asm_element.specs.Value as held;
 ghost use Rattle.asm_update.specs.State as state;
@@ -28,16 +27,11 @@ pub struct PlainState {
 }
 
 impl Model for PlainState {
-    ghost use Rattle.std.specs.Prelude.{◌≡◌, false, All};
     ghost use Rattle.std.specs.FinMap as map;
-    ghost use Rattle.std.specs.List.Sorted.{IsStrictlySortedBy};
-    ghost use Rattle.std.specs.Map.{keys_of, values_of};
-    ghost use Rattle.asm_element.specs.Place as place;
-    ghost use Rattle.asm_element.specs.Place.{location_cmp};
-    ghost use Rattle.asm_element.specs.Value as value;
     ghost use Rattle.asm_element.specs.contracts.location.Location.{the_row as location_row};
     ghost use Rattle.asm_element.specs.contracts.value.Value.{the_row as value_row};
     ghost use Rattle.asm_update.specs.State as state;
+    ghost use Rattle.asm_update.specs.State.{AreStateEntries};
 
     ghost Value = { state.State };
 
@@ -45,22 +39,7 @@ impl Model for PlainState {
 
     ghost view = { λ s. map.from_entries s.values.entries };
 
-    ghost invariant = { λ s. IsStrictlySortedBy location_cmp (keys_of s.values.entries)
-        × All (λ v. value.is_undef v ≡ false) (values_of s.values.entries)
-        × All place.IsProper (keys_of s.values.entries)
-        × All value.IsProper (values_of s.values.entries) };
-}
-
-/// Writes a value, and drops the one that it replaces.
-fn put_entry(
-    values: &mut BTreeMap<Location, Value>,
-    at: Location,
-    value: Value,
-) -> Result<(), AllocError>
-    ensures { OnOk result (values.new.entries ≡ insert_entry location_cmp values.old.entries at value) }
-{
-    values.insert(at, value)?;
-    Ok(())
+    ghost invariant = { λ s. AreStateEntries s.values.entries };
 }
 
 impl PlainState {
@@ -132,14 +111,10 @@ impl PlainState {
     }
 
     /// The same state, in memory of its own.
-    pub fn copy(&self, alloc: Global) -> Result<PlainState, AllocError>
+    pub fn copy(&self, _alloc: Global) -> Result<PlainState, AllocError>
         ensures { IfOk result (λ copy. copy ≡ self.now) }
     {
-        let mut values = BTreeMap::new(alloc);
-        for (at, value) in &self.values {
-            put_entry(&mut values, at.copy(alloc)?, value.copy(alloc)?)?;
-        }
-        Ok(PlainState { values })
+        self.clone()
     }
 
     /// Does nothing; its contract tells that the state is proper.
@@ -147,6 +122,15 @@ impl PlainState {
         ensures { state.IsProper self.now }
     {
         let _ = &self.values;
+    }
+}
+
+impl Clone for PlainState {
+    ghost is_clone = { λ state copy. copy ≡ state };
+
+    fn clone(&self) -> Result<PlainState, AllocError> {
+        let values = self.values.clone()?;
+        Ok(PlainState { values })
     }
 }
 

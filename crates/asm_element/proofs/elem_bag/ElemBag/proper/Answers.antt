@@ -8,5 +8,5 @@ use Rattle.asm_element.proofs.elem_bag.ElemBag.proper.Goals as goal
 
 pub returns : goal.returns
 returns c =
-    let entries = sym (entries-from_tree element_cmp_total c.self.inside.counts.entries c.self.invariant.0) ∙ ap bag.entries c.self.view_is in
-    subst (λ (es : List (Element × ℕ)). All IsProper (keys_of es) × All bag.IsCount (values_of es)) entries (c.self.invariant.1, c.self.invariant.2)
+    let entries = sym (entries-from_tree element_cmp_total c.self.inside.counts.entries c.self.invariant.ordered) ∙ ap bag.entries c.self.view_is in
+    subst (λ (es : List (Element × ℕ)). All IsProper (keys_of es) × All bag.IsCount (values_of es)) entries (c.self.invariant.elements, c.self.invariant.counts)

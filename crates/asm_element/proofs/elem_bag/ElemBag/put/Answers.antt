@@ -16,12 +16,12 @@ returns-clause-ok c =
     ∙ sym (set_count-positive c.args.self.now c.args.element total (omega arith))
 
 pub invariant_of-self-2 : goal.invariant_of-self-2
-invariant_of-self-2 c = (
-  c.insert.ensures.ordered,
-  rw c.in_ok-insert.ensures.entries (All-keys-insert_entry element_cmp c.args.element (c.count-count.result + c.args.n) IsProper c.self.inside.counts.entries c.self.invariant.1 c.proper.ensures),
-  rw c.in_ok-insert.ensures.entries (All-values-insert_entry element_cmp c.args.element (c.count-count.result + c.args.n) bag.IsCount c.self.inside.counts.entries c.self.invariant.2
-      (omega (arith, c.requires.positive), omega (arith, c.requires.fits, c.count-count.ensures))),
-)
+invariant_of-self-2 c = record {
+  ordered = c.insert.ensures.ordered;
+  elements = rw c.in_ok-insert.ensures.entries (All-keys-insert_entry element_cmp c.args.element (c.count-count.result + c.args.n) IsProper c.self.inside.counts.entries c.self.invariant.elements c.proper.ensures);
+  counts = rw c.in_ok-insert.ensures.entries (All-values-insert_entry element_cmp c.args.element (c.count-count.result + c.args.n) bag.IsCount c.self.inside.counts.entries c.self.invariant.counts
+      (omega (arith, c.requires.positive), omega (arith, c.requires.fits, c.count-count.ensures)));
+}
 
 pub returns-in_err-insert-clause-absent : goal.returns-in_err-insert-clause-absent
 returns-in_err-insert-clause-absent c =

@@ -32,17 +32,18 @@ returns-in_default c =
     absurd (omega (arith, held))
 
 pub invariant_of-self : goal.invariant_of-self
-invariant_of-self c = (
-  c.remove.ensures.ordered,
-  rw c.remove.ensures.entries (All-map-remove_entry _ (λ p. p.0) IsProper c.self.inside.counts.entries c.self.invariant.1),
-  rw c.remove.ensures.entries (All-map-remove_entry _ (λ p. p.1) bag.IsCount c.self.inside.counts.entries c.self.invariant.2),
-)
+invariant_of-self c = record {
+  ordered = c.remove.ensures.ordered;
+  elements = rw c.remove.ensures.entries (All-map-remove_entry _ (λ p. p.0) IsProper c.self.inside.counts.entries c.self.invariant.elements);
+  counts = rw c.remove.ensures.entries (All-map-remove_entry _ (λ p. p.1) bag.IsCount c.self.inside.counts.entries c.self.invariant.counts);
+}
 
 pub invariant_of-self-in-Some : goal.invariant_of-self-in-Some
 invariant_of-self-in-Some c =
     let left = c.count-count.result - c.args.n in
-    let wrote = c.get_mut.follows.holds left in (
-      wrote.4,
-      rw wrote.0 (subst (λ (ks : List Element). All IsProper ks) (sym (keys-set_value _ c.self.inside.counts.entries left)) c.self.invariant.1),
-      rw wrote.0 (All-values-set_value _ bag.IsCount c.self.inside.counts.entries left c.self.invariant.2 (omega (arith, c.count-count.ensures), omega (arith, c.count-count.type_inv))),
-    )
+    let wrote = c.get_mut.follows.holds left in
+    record {
+      ordered = wrote.4;
+      elements = rw wrote.0 (subst (λ (ks : List Element). All IsProper ks) (sym (keys-set_value _ c.self.inside.counts.entries left)) c.self.invariant.elements);
+      counts = rw wrote.0 (All-values-set_value _ bag.IsCount c.self.inside.counts.entries left c.self.invariant.counts (omega (arith, c.count-count.ensures), omega (arith, c.count-count.type_inv)));
+    }

@@ -14,4 +14,4 @@ returns-clause-value c =
 pub returns-clause-none : goal.returns-clause-none
 returns-clause-none c =
     let value = c.get.ensures.value ∙ sym (get-from_tree location_cmp_total c.self.inside.values.entries c.args.at.now) ∙ ap (λ s. map.get s c.args.at.now) c.self.view_is in
-    none_from_undef c.get.result _ (values_of c.self.inside.values.entries) value c.self.invariant.1 c.get.ensures.member
+    none_from_undef c.get.result _ (values_of c.self.inside.values.entries) value c.self.invariant.no_undef c.get.ensures.member

@@ -14,9 +14,9 @@ returns c =
     ∙ ap (λ s. map.remove s c.args.at.now) c.self.view_is
 
 pub invariant_of-self : goal.invariant_of-self
-invariant_of-self c = (
-  c.remove.ensures.ordered,
-  rw c.remove.ensures.entries (All-map-remove_entry _ (λ p. p.1) (λ v. held.is_undef v ≡ false) c.self.inside.values.entries c.self.invariant.1),
-  rw c.remove.ensures.entries (All-map-remove_entry _ (λ p. p.0) place.IsProper c.self.inside.values.entries c.self.invariant.2),
-  rw c.remove.ensures.entries (All-map-remove_entry _ (λ p. p.1) held.IsProper c.self.inside.values.entries c.self.invariant.3),
-)
+invariant_of-self c = record {
+  ordered = c.remove.ensures.ordered;
+  no_undef = rw c.remove.ensures.entries (All-map-remove_entry _ (λ p. p.1) (λ v. held.is_undef v ≡ false) c.self.inside.values.entries c.self.invariant.no_undef);
+  locations = rw c.remove.ensures.entries (All-map-remove_entry _ (λ p. p.0) place.IsProper c.self.inside.values.entries c.self.invariant.locations);
+  values = rw c.remove.ensures.entries (All-map-remove_entry _ (λ p. p.1) held.IsProper c.self.inside.values.entries c.self.invariant.values);
+}

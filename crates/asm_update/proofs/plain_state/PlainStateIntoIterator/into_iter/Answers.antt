@@ -7,8 +7,8 @@ returns c =
     let gives = c.into_iter.ensures.into_iter_gives in
     record {
       into_iter_gives = (
-        gives.0 ∙ walked c.self.inside.values.entries c.self.invariant.0 c.args.self c.self.view_is,
-        ascending c.self.inside.values.entries c.self.invariant.0 c.args.self c.self.view_is,
+        gives.0 ∙ walked c.self.inside.values.entries c.self.invariant.ordered c.args.self c.self.view_is,
+        ascending c.self.inside.values.entries c.self.invariant.ordered c.args.self c.self.view_is,
         gives.2,
       );
     }

@@ -8,8 +8,8 @@ use Rattle.asm_update.proofs.plain_state.PlainStatePartialEq.eq.Goals as goal
 
 pub returns-clause-eq : goal.returns-clause-eq
 returns-clause-eq c =
-    let mine = entries-from_tree location_cmp_total c.self.inside.values.entries c.self.invariant.0 in
-    let others = entries-from_tree location_cmp_total c.other.inside.values.entries c.other.invariant.0 in
+    let mine = entries-from_tree location_cmp_total c.self.inside.values.entries c.self.invariant.ordered in
+    let others = entries-from_tree location_cmp_total c.other.inside.values.entries c.other.invariant.ordered in
     c.eq.ensures ∙ (λ i. pointwise entry_eq (sym mine i) (sym others i)) ∙ (λ i. state_eq (c.self.view_is i) (c.other.view_is i))
 
 pub returns-clause-same : goal.returns-clause-same

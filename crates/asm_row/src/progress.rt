@@ -1,0 +1,227 @@
+ghost use Rattle.std.specs.Prelude.{◌≡◌, ◌+◌, ◌-◌, ◌^◌, ◌<◌, ◌≤◌, ◌∷◌, ◌++◌, [], length, max, min, slice_get, IfOk, IsOk, IfSome, IfNone, IsNone, IsSome, MatchBool};
+ghost use mathlib.Core.List.{IsPrefix};
+ghost use Rattle.std.specs.declared.option.Option.TheVariants.{None, Some};
+ghost use Rattle.once_cell.specs.Once.{cell_name};
+ghost use Rattle.asm_row.specs.Offer.{IfWon, IfLost};
+
+use crate::known::Known;
+use crate::mark::Mark;
+use crate::row::Row;
+use crate::seat::Offer;
+use once_cell::race::{Note, OnceBox};
+use std::alloc::{AllocError, Global};
+use std::marker::Model;
+
+/// How far one thread has come at a row: what a `Seat` has beside its borrow of the row.
+///
+/// It borrows nothing, so one value may hold it beside an owner of the row, which it may outlive. Each
+/// call that touches a cell is passed the row, and has the condition that it is the one that the
+/// progress was made at; no call tests this. Contracts see the same as of a seat: the row that it is
+/// of, the entries that were seen, how many offers won, and how many looks found an empty cell. It is
+/// `Send` and `Sync` for every `T`. No call waits, takes a lock or asks for memory.
+#[derive(Drop)]
+pub struct Progress<T> {
+    capacity: u32,
+    len: u32,
+    known: Known<T>,
+    won: u32,
+    misses: u64,
+}
+
+impl<T> Model for Progress<T> {
+    ghost use Rattle.asm_row.specs.Seat.{SeatView, IsProgress};
+
+    ghost Value = { SeatView T };
+
+    ghost view = { λ s. record { row = s.known.row; seen = s.known.seen; won = s.won; misses = s.misses } };
+
+    ghost invariant = { λ s. IsProgress s.capacity s.len s.won s.known.row s.known.seen };
+}
+
+impl<T> Progress<T> {
+    /// Nothing of `row` was seen, with no win and no miss.
+    pub(crate) fn at_start(row: &Row<T>) -> Progress<T>
+        ensures { result ≡ record { row = row.now; seen = []; won = 0; misses = 0 } }
+    {
+        Progress {
+            capacity: row.capacity(),
+            len: 0,
+            known: Known::nothing(row),
+            won: 0,
+            misses: 0,
+        }
+    }
+
+    /// How many entries were seen: at most the row's capacity.
+    pub fn seen_len(&self) -> u32
+        ensures value { result ≡ length self.now.seen }
+        ensures within { length self.now.seen ≤ length self.now.row }
+    {
+        self.len
+    }
+
+    /// Whether an entry was seen in each cell of the row.
+    pub fn is_full(&self) -> bool
+        ensures { MatchBool result
+            (length self.now.seen ≡ length self.now.row)
+            (length self.now.seen < length self.now.row) }
+    {
+        self.len == self.capacity
+    }
+
+    /// The entry at place `k`, counted from 0, of those that were seen.
+    pub fn at<'r>(&self, row: &'r Row<T>, k: u32) -> &'r T
+        requires own { row.now ≡ self.now.row }
+        requires seen { k < length self.now.seen }
+        ensures { slice_get self.now.seen k ≡ Some result.now }
+    {
+        let known = &self.known;
+        let cell = row.cell(k as usize);
+        let mut note = cell.note();
+        known.tell(k as usize, &mut note);
+        match cell.get_as(&mut note) {
+            Some(entry) => entry,
+            None => unreachable!(),
+        }
+    }
+
+    /// How many offers won: at most as many as the entries that were seen.
+    pub fn won(&self) -> u32
+        ensures value { result ≡ self.now.won }
+        ensures within { self.now.won ≤ length self.now.seen }
+    {
+        self.won
+    }
+
+    /// How many looks found an empty cell, counted up to 18,446,744,073,709,551,615.
+    pub fn misses(&self) -> u64
+        ensures { result ≡ self.now.misses }
+    {
+        self.misses
+    }
+
+    // Takes in what the note knows of the first cell that was not seen yet.
+    fn see(&mut self, note: &mut Note<T>)
+        requires cell { slice_get self.old.row (length self.old.seen) ≡ Some note.old.cell }
+        requires known { IsSome note.old.known }
+        ensures { IfSome note.old.known (λ entry.
+            self.new ≡ record self.old { seen = self.old.seen ++ entry ∷ [] }) }
+    {
+        self.known.add(note);
+        self.len += 1;
+    }
+
+    /// Looks once at the first cell that was not seen.
+    ///
+    /// An entry found there is returned, and is the next of those that were seen. `None` is one
+    /// miss, counted up to 18,446,744,073,709,551,615. Where all cells were seen, none is looked
+    /// at: the answer is `None`, and nothing changes.
+    pub fn next<'r>(&mut self, row: &'r Row<T>) -> Option<&'r T>
+        requires own { row.now ≡ self.old.row }
+        ensures row { self.new.row ≡ self.old.row }
+        ensures found { IfSome result (λ entry.
+            self.new ≡ record self.old { seen = self.old.seen ++ entry.now ∷ [] }) }
+        ensures miss { length self.old.seen < length self.old.row →
+            IfNone result (self.new ≡ record self.old { misses = min (self.old.misses + 1) (2 ^ 64 - 1) }) }
+        ensures full { length self.old.seen ≡ length self.old.row →
+            IsNone result × (self.new ≡ self.old) }
+    {
+        if self.is_full() {
+            return None;
+        }
+        let cell = row.cell(self.len as usize);
+        let mut note = cell.note();
+        match cell.get_as(&mut note) {
+            Some(entry) => {
+                self.see(&mut note);
+                Some(entry)
+            }
+            None => {
+                self.misses = self.misses.saturating_add(1);
+                None
+            }
+        }
+    }
+
+    // A mark, for which no memory is needed.
+    pub(crate) fn to_mark(&self) -> Mark<T>
+        ensures { result ≡ record { row = self.now.row; seen = self.now.seen } }
+    {
+        Mark {
+            len: self.len,
+            known: self.known.copy(),
+        }
+    }
+
+    /// A mark of what was seen, which another seat or progress of the row can learn.
+    ///
+    /// The answer is always `Ok`: a mark takes no memory of its own.
+    pub fn mark(&self, alloc: Global) -> Result<Mark<T>, AllocError>
+        ensures made { IsOk result }
+        ensures holds { IfOk result (λ mark.
+            mark ≡ record { row = self.now.row; seen = self.now.seen }) }
+    {
+        let _ = alloc;
+        Ok(self.to_mark())
+    }
+
+    /// Takes in what a mark of the same row holds, without a look at the row.
+    ///
+    /// Afterwards what was seen begins with what the mark holds and with what was seen before, and is
+    /// as long as the longer of the two. Wins and misses stay as they are.
+    pub fn learn(&mut self, mark: &Mark<T>)
+        requires { mark.now.row ≡ self.old.row }
+        ensures kept { self.new ≡ record self.old { seen = self.new.seen } }
+        ensures mine { IsPrefix self.old.seen self.new.seen }
+        ensures theirs { IsPrefix mark.now.seen self.new.seen }
+        ensures longest { length self.new.seen ≡ max (length self.old.seen) (length mark.now.seen) }
+    {
+        self.known.agrees(&mark.known);
+        if self.len < mark.len {
+            self.len = mark.len;
+            self.known = mark.known.copy();
+        }
+    }
+}
+
+impl<T: Drop> Progress<T> {
+    /// Offers `value` for the first cell that was not seen: one set where the cell is empty.
+    ///
+    /// Either way one entry more was then seen, the one that stands in the cell: on `Won` the passed
+    /// one, and `won` grows by one; on `Lost` the returned one, and `value` is dropped. Contracts
+    /// speak of the cells that were seen alone: that a value which lost is put into no other cell is
+    /// shown by tests.
+    pub fn offer<'r>(&mut self, row: &'r Row<T>, value: Box<T>) -> Offer<'r, T>
+        requires own { row.now ≡ self.old.row }
+        requires room { length self.old.seen < length self.old.row }
+        ensures row { self.new.row ≡ self.old.row }
+        ensures won { IfWon result
+            (self.new ≡ record self.old { seen = self.old.seen ++ value.value ∷ []; won = self.old.won + 1 }) }
+        ensures lost { IfLost result (λ entry.
+            self.new ≡ record self.old { seen = self.old.seen ++ entry.now ∷ [] }) }
+    {
+        let cell = row.cell(self.len as usize);
+        let mut note = cell.note();
+        let offer = offer_for(cell, value, &mut note);
+        self.see(&mut note);
+        if let Offer::Won = offer {
+            self.won += 1;
+        }
+        offer
+    }
+}
+
+// Offers `value` for this one cell, and no other is within reach: a set, and where that comes too late a
+// get-or-set with the same box, which gives the entry that stands there and drops the box.
+fn offer_for<'r, T: Drop>(cell: &'r OnceBox<T>, value: Box<T>, note: &mut Note<T>) -> Offer<'r, T>
+    requires { note.old.cell ≡ cell_name cell.now }
+    ensures cell { note.new.cell ≡ note.old.cell }
+    ensures known { IsSome note.new.known }
+    ensures won { IfWon result (note.new.known ≡ Some value.value) }
+    ensures lost { IfLost result (λ entry. note.new.known ≡ Some entry.now) }
+{
+    match cell.set_as(value, note) {
+        Ok(()) => Offer::Won,
+        Err(value) => Offer::Lost(cell.get_or_init_as(move || value, note)),
+    }
+}

@@ -1,0 +1,7 @@
+pub mod Filled
+pub mod Followed
+pub mod Judged
+pub mod Opened
+pub mod Overwritten
+pub mod Room
+pub mod Writers

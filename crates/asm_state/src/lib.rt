@@ -1,0 +1,14 @@
+//! The state of an abstract state machine with the number of the move that wrote each location last.
+#![tactic(auto)]
+
+mod entries;
+mod named;
+mod state;
+mod verdict;
+
+pub use named::Named;
+pub use state::State;
+pub use verdict::Verdict;
+
+#[cfg(test)]
+mod tests;

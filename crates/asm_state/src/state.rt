@@ -1,0 +1,236 @@
+ghost use Rattle.std.specs.Prelude.{◌≡◌, ◌+◌, ◌-◌, ◌<◌, ◌^◌, ◌++◌, ◌∷◌, [], List, false, nat_lt};
+ghost use Rattle.std.specs.Prelude.{IfOk, IfSome, OnOk, OnErr};
+ghost use Rattle.std.specs.FinMap as map;
+ghost use Rattle.std.specs.Option.{option_copied};
+ghost use Rattle.asm_element.specs.Place.{Place};
+ghost use Rattle.asm_update.specs.Fire.{Part};
+ghost use Rattle.asm_update.specs.Move.{Move, comes_before};
+ghost use Rattle.asm_update.specs.State as plain;
+ghost use Rattle.asm_state.specs.View.{value_at, writer_at, holds_undef};
+ghost use Rattle.asm_state.specs.Follow.{entry_after, IsFollowed};
+ghost use Rattle.asm_state.specs.Stands.{Stands, IsLastWriter};
+ghost use Rattle.asm_state.specs.Verdict.{IsVerdict, least_named};
+
+use crate::entries::{Entries, Written};
+use crate::named::Named;
+use crate::verdict::Verdict;
+use asm_aggregate::aggregate;
+use asm_element::{Location, Value};
+use asm_update::{AggError, Aggregator, Instructions, Lookup, PlainState, UpdateSet};
+use std::alloc::{AllocError, Global};
+use std::marker::Model;
+
+/// A state that follows a list of moves: its number, which is how many they are, the values of its
+/// locations, and for each location the number of the move that wrote it last.
+///
+/// A location that was written undef keeps the number of its writer. The first move has the number 1.
+/// Source: a state after the moves of a run, by Börger and Stärk; the numbers of the writers are of
+/// this project's profile.
+#[derive(Debug, Drop)]
+pub struct State {
+    number: u32,
+    entries: Entries,
+}
+
+impl Model for State {
+    ghost use Rattle.std.specs.FinMap as map;
+    ghost use Rattle.asm_element.specs.contracts.location.Location.{the_row as location_row};
+    ghost use Rattle.asm_state.specs.contracts.entries.Written.{the_row as written_row};
+    ghost use Rattle.asm_state.specs.View.{StateView, view_code, IsStored};
+
+    ghost Value = { StateView };
+
+    ghost coded = { view_code (map.code location_row.coded written_row.coded) };
+
+    ghost view = { λ s. record { number = s.number; entries = s.entries } };
+
+    ghost invariant = { λ s. IsStored s.entries };
+}
+
+impl Lookup for State {
+    ghost value_at = { value_at };
+
+    fn get(&self, at: &Location) -> Option<&Value> {
+        match self.entry(at) {
+            Some(written) => written.value.as_ref(),
+            None => None,
+        }
+    }
+}
+
+// Whether the location is below the other one, or there is no other one.
+fn comes_before(at: &Location, other: Option<&Location>) -> bool
+    ensures { result ≡ comes_before at.now other.entry }
+{
+    match other {
+        None => true,
+        Some(other) => at < other,
+    }
+}
+
+impl State {
+    /// The opening state, at number 0, in which no location was written; the values move in.
+    ///
+    /// `AllocError` comes only where memory was refused.
+    pub fn new(alloc: Global, init: PlainState) -> Result<State, AllocError>
+        ensures { IfOk result (λ s. (part : Part) → Stands part init s []) }
+    {
+        init.proper();
+        let mut entries = Entries::new(alloc);
+        for (at, value) in init {
+            let written = Written {
+                value: Some(value),
+                number: 0,
+            };
+            entries.put(at, written)?;
+        }
+        Ok(State { number: 0, entries })
+    }
+
+    /// How many moves it has followed, those that clashed among them.
+    pub fn number(&self) -> u32
+        ensures { result ≡ self.now.number }
+    {
+        self.number
+    }
+
+    fn entry(&self, at: &Location) -> Option<&Written>
+        ensures value { option_copied result ≡ map.get self.now.entries at.now }
+        ensures held { IfSome result (λ w. holds_undef w.now ≡ false) }
+    {
+        self.entries.get(at)
+    }
+
+    /// The number of the move that wrote the location last, be it with the same value or with undef;
+    /// 0 if none did.
+    ///
+    /// A read of the location is stale exactly where its number is below this one.
+    pub fn written_at(&self, at: &Location) -> u32
+        ensures writer { result ≡ writer_at self.now at.now }
+        ensures last { (part : Part) (init : plain.State) (q : List Move) → Stands part init self.now q →
+            IsLastWriter part init q at.now result }
+    {
+        match self.entry(at) {
+            Some(written) => written.number,
+            None => 0,
+        }
+    }
+
+    // Whether a move above its number wrote the location.
+    fn is_written_since(&self, named: &Named) -> bool
+        ensures { result ≡ nat_lt named.now.number (writer_at self.now named.now.at) }
+    {
+        named.number < self.written_at(&named.at)
+    }
+
+    // The least location that was written since it was read.
+    fn least_stale<'a>(&self, reads: &'a [Named]) -> Option<&'a Location>
+        ensures { option_copied result ≡ least_named (λ l n. nat_lt n (writer_at self.now l)) reads.now }
+    {
+        let mut best: Option<&'a Location> = None;
+        for named in reads {
+            if self.is_written_since(named) && comes_before(&named.at, best) {
+                best = Some(&named.at);
+            }
+        }
+        best
+    }
+
+    /// What becomes of a move: the least named location that is stale, else the move's clash, else
+    /// its update set.
+    ///
+    /// The reads are walked once, and then the instructions are aggregated once. `AllocError` comes
+    /// only where memory was refused.
+    pub fn judge<A: Aggregator>(
+        &self,
+        alloc: Global,
+        aggregator: &A,
+        reads: &[Named],
+        instructions: &Instructions,
+    ) -> Result<Verdict, AllocError>
+        ensures { (init : plain.State) (q : List Move) → Stands (A.meaning aggregator.now).part init self.now q →
+            IsVerdict (A.meaning aggregator.now).part init q reads.now instructions.now result }
+    {
+        match self.least_stale(reads) {
+            Some(at) => return Ok(Verdict::Stale(at.copy(alloc)?)),
+            None => {}
+        }
+        match aggregate(alloc, aggregator, self, instructions) {
+            Ok(updates) => Ok(Verdict::Ready(updates)),
+            Err(AggError::Clash(clash)) => Ok(Verdict::Clash(clash)),
+            Err(AggError::Memory) => Err(AllocError),
+        }
+    }
+
+    /// Follows a move: the number grows by one, and the move is fired if it doesn't clash; else no
+    /// location changes.
+    ///
+    /// The state must have followed fewer than 4,294,967,295 moves. It costs a look-up for each
+    /// location that the move writes, whatever the size of the state. `AllocError` comes only where
+    /// memory was refused; the state is then unchanged.
+    pub fn follow<A: Aggregator>(
+        &mut self,
+        alloc: Global,
+        aggregator: &A,
+        instructions: &Instructions,
+    ) -> Result<(), AllocError>
+        requires { self.old.number < 4294967295 }
+        ensures ok { OnOk result ((init : plain.State) (q : List Move) →
+            Stands (A.meaning aggregator.now).part init self.old q →
+            Stands (A.meaning aggregator.now).part init self.new (q ++ instructions.now ∷ [])) }
+        ensures followed { OnOk result (
+            IsFollowed (A.meaning aggregator.now).part self.old instructions.now self.new) }
+        ensures number { OnOk result (self.new.number ≡ self.old.number + 1) }
+        ensures err { OnErr result (self.new ≡ self.old) }
+    {
+        let number = self.number + 1;
+        match aggregate(alloc, aggregator, self, instructions) {
+            Ok(updates) => {
+                self.write_all(alloc, updates, number)?;
+                Ok(())
+            }
+            Err(AggError::Clash(_)) => {
+                self.count(number);
+                Ok(())
+            }
+            Err(AggError::Memory) => Err(AllocError),
+        }
+    }
+
+    // Counts a move that changed nothing.
+    fn count(&mut self, number: u32)
+        ensures { self.new ≡ record self.old { number = number } }
+    {
+        self.number = number;
+    }
+
+    // Gives each location of the updates its value, and this number.
+    fn write_all(
+        &mut self,
+        alloc: Global,
+        updates: UpdateSet,
+        number: u32,
+    ) -> Result<(), AllocError>
+        requires { 0 < number }
+        ensures number { OnOk result (self.new.number ≡ number) }
+        ensures written { OnOk result ((l : Place) → map.get self.new.entries l ≡
+            entry_after number (map.get updates l) (map.get self.old.entries l)) }
+        ensures err { OnErr result (self.new ≡ self.old) }
+    {
+        self.entries.make_room(alloc, &updates)?;
+        self.entries.fill(number, updates);
+        self.number = number;
+        Ok(())
+    }
+
+    /// The same state, in memory of its own: it stands for the same moves.
+    ///
+    /// `AllocError` comes only where memory was refused.
+    pub fn copy(&self, alloc: Global) -> Result<State, AllocError>
+        ensures { IfOk result (λ copy. copy ≡ self.now) }
+    {
+        let entries = self.entries.copy(alloc)?;
+        let number = self.number;
+        Ok(State { number, entries })
+    }
+}

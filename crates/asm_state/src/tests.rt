@@ -1,0 +1,230 @@
+use crate::*;
+use asm_aggregate::standard;
+use asm_element::{Element, Location, Value};
+use asm_update::{Action, Cause, Clash, Instruction, Instructions, Lookup, PlainState, UpdateSet};
+use std::alloc::Global;
+use std::process::Abort;
+use std::test::Fail;
+
+/// A put of a number, or of undef, at the location of this name.
+#[derive(Clone, Copy)]
+struct Put(&'static str, Option<i64>);
+
+/// Two different values at one location.
+const TWO: [Put; 2] = [Put("x", Some(1)), Put("x", Some(2))];
+
+fn location(alloc: Global, name: &str) -> Result<Location, Fail> {
+    Ok(Location::new(String::from_str(alloc, name)?, Vec::new(alloc))?)
+}
+
+fn element(number: Option<i64>) -> Element {
+    match number {
+        Some(n) => Element::Num(n),
+        None => Element::Undef,
+    }
+}
+
+fn move_of(alloc: Global, puts: &[Put]) -> Result<Instructions, Fail> {
+    let mut list = Instructions::new(alloc);
+    for put in puts {
+        let action = Action::Regular(Value::Plain(element(put.1)));
+        let at = location(alloc, put.0)?;
+        list.push(Instruction { at, action })?;
+    }
+    Ok(list)
+}
+
+/// A state at number 0 where x is 7.
+fn opened(alloc: Global) -> Result<State, Fail> {
+    let mut init = PlainState::new(alloc);
+    init.set(location(alloc, "x")?, Value::Plain(Element::Num(7)))?;
+    Ok(State::new(alloc, init)?)
+}
+
+fn follow<R: Abort>(rt: &R, alloc: Global, state: &mut State, puts: &[Put]) -> Result<(), Fail> {
+    let instructions = move_of(alloc, puts)?;
+    assert!(rt; state.number() < 4_294_967_295);
+    state.follow(alloc, &standard(), &instructions)?;
+    Ok(())
+}
+
+/// A state that has followed `put x 7`, and then a move that clashes at x.
+fn played<R: Abort>(rt: &R, alloc: Global) -> Result<State, Fail> {
+    let mut state = opened(alloc)?;
+    follow(rt, alloc, &mut state, &[Put("x", Some(7))])?;
+    follow(rt, alloc, &mut state, &TWO)?;
+    Ok(state)
+}
+
+fn verdict(
+    alloc: Global,
+    state: &State,
+    reads: &[(&'static str, u32)],
+    puts: &[Put],
+) -> Result<Verdict, Fail> {
+    let mut named = Vec::new(alloc);
+    for (name, number) in reads {
+        let at = location(alloc, name)?;
+        named.push(Named {
+            at,
+            number: *number,
+        })?;
+    }
+    let instructions = move_of(alloc, puts)?;
+    Ok(state.judge(alloc, &standard(), named.as_slice(), &instructions)?)
+}
+
+/// Whether the state holds this number at the location, or nothing, since the move with that number.
+fn holds(state: &State, at: &Location, number: Option<i64>, writer: u32) -> bool {
+    let value = Value::Plain(element(number));
+    let held = match state.get(at) {
+        Some(held) => *held == value,
+        None => value.is_undef(),
+    };
+    held && state.written_at(at) == writer
+}
+
+#[test]
+fn a_move_that_clashes_is_counted_and_changes_nothing(rt: HostRuntime) -> Result<(), Fail> {
+    let (rt, alloc) = (&rt, rt.alloc());
+    assert_eq!(rt; opened(alloc)?.number(), 0);
+    let state = played(rt, alloc)?;
+    assert_eq!(rt; state.number(), 2);
+    assert!(rt; holds(&state, &location(alloc, "x")?, Some(7), 1));
+    assert!(rt; holds(&state, &location(alloc, "y")?, None, 0));
+    Ok(())
+}
+
+#[test]
+fn a_stale_read_is_told_before_a_clash(rt: HostRuntime) -> Result<(), Fail> {
+    let (rt, alloc) = (&rt, rt.alloc());
+    let state = played(rt, alloc)?;
+    let x = location(alloc, "x")?;
+    assert_eq!(rt;
+        verdict(alloc, &state, &[("x", 0)], &TWO)?,
+        Verdict::Stale(x)
+    );
+    Ok(())
+}
+
+#[test]
+fn a_fresh_read_leaves_the_clash(rt: HostRuntime) -> Result<(), Fail> {
+    let (rt, alloc) = (&rt, rt.alloc());
+    let state = played(rt, alloc)?;
+    let clash = Clash {
+        at: location(alloc, "x")?,
+        cause: Cause::Two,
+    };
+    assert_eq!(rt;
+        verdict(alloc, &state, &[("x", 1)], &TWO)?,
+        Verdict::Clash(clash)
+    );
+    Ok(())
+}
+
+#[test]
+fn a_location_that_was_written_undef_keeps_the_number(rt: HostRuntime) -> Result<(), Fail> {
+    let (rt, alloc) = (&rt, rt.alloc());
+    let mut state = played(rt, alloc)?;
+    let puts = [Put("y", None)];
+    let mut updates = UpdateSet::new(alloc);
+    updates.put(location(alloc, "y")?, Value::Plain(Element::Undef))?;
+    assert_eq!(rt;
+        verdict(alloc, &state, &[], &puts)?,
+        Verdict::Ready(updates)
+    );
+    follow(rt, alloc, &mut state, &puts)?;
+    let y = location(alloc, "y")?;
+    assert_eq!(rt; state.written_at(&y), 3);
+    assert!(rt; state.get(&y).is_none());
+    Ok(())
+}
+
+#[test]
+fn the_least_of_the_stale_reads_is_told(rt: HostRuntime) -> Result<(), Fail> {
+    let (rt, alloc) = (&rt, rt.alloc());
+    let mut state = opened(alloc)?;
+    let puts = [Put("c", Some(1)), Put("b", Some(1)), Put("a", Some(1))];
+    follow(rt, alloc, &mut state, &puts)?;
+    let reads = [("x", 0), ("c", 0), ("b", 0), ("a", 1), ("d", 9)];
+    let b = location(alloc, "b")?;
+    assert_eq!(rt; verdict(alloc, &state, &reads, &TWO)?, Verdict::Stale(b));
+    Ok(())
+}
+
+#[test]
+fn copies_are_equal(rt: HostRuntime) -> Result<(), Fail> {
+    let (rt, alloc) = (&rt, rt.alloc());
+    let named = Named {
+        at: location(alloc, "x")?,
+        number: 3,
+    };
+    assert_eq!(rt; named.copy(alloc)?, named);
+    let state = played(rt, alloc)?;
+    let copy = state.copy(alloc)?;
+    assert_eq!(rt; copy.number(), state.number());
+    for name in ["x", "y"] {
+        let at = location(alloc, name)?;
+        assert_eq!(rt; copy.get(&at), state.get(&at));
+        assert_eq!(rt; copy.written_at(&at), state.written_at(&at));
+    }
+    Ok(())
+}
+
+fn location_at(alloc: Global, number: i64) -> Result<Location, Fail> {
+    let args = vec![in alloc; Element::Num(number)]?;
+    Ok(Location::new(String::from_str(alloc, "n")?, args)?)
+}
+
+/// A state where n(1), n(3) and so on hold their argument, below the limit.
+fn half_held(alloc: Global, limit: i64) -> Result<State, Fail> {
+    let mut init = PlainState::new(alloc);
+    for n in 0..limit {
+        if n % 2 == 1 {
+            init.set(location_at(alloc, n)?, Value::Plain(Element::Num(n)))?;
+        }
+    }
+    Ok(State::new(alloc, init)?)
+}
+
+/// Puts of -1 at n(0), n(1) and so on, below the limit, from the last to the first.
+fn many_puts(alloc: Global, limit: i64) -> Result<Instructions, Fail> {
+    let mut list = Instructions::new(alloc);
+    for n in (0..limit).rev() {
+        let action = Action::Regular(Value::Plain(Element::Num(-1)));
+        let at = location_at(alloc, n)?;
+        list.push(Instruction { at, action })?;
+    }
+    Ok(list)
+}
+
+/// After a follow of puts at as many locations, half of which are held: it wrote each, or, where memory was refused,
+/// the number, the values and the writers are as before.
+fn follow_writes_all_or_nothing<R: Abort>(rt: &R, alloc: Global, limit: i64) -> Result<(), Fail> {
+    let mut state = half_held(alloc, limit)?;
+    let puts = many_puts(alloc, limit)?;
+    assert!(rt; state.number() == 0);
+    let fired = state.follow(alloc, &standard(), &puts).is_ok();
+    assert_eq!(rt; state.number(), if fired { 1 } else { 0 });
+    for n in 0..limit {
+        let at = location_at(alloc, n)?;
+        let before = if n % 2 == 1 { Some(n) } else { None };
+        let as_it_should_be = if fired {
+            holds(&state, &at, Some(-1), 1)
+        } else {
+            holds(&state, &at, before, 0)
+        };
+        assert!(rt; as_it_should_be);
+    }
+    Ok(())
+}
+
+#[test]
+fn a_follow_of_16_updates_writes_all_or_nothing(rt: HostRuntime) -> Result<(), Fail> {
+    follow_writes_all_or_nothing(&rt, rt.alloc(), 16)
+}
+
+#[test]
+fn a_follow_of_512_updates_writes_all_or_nothing(rt: HostRuntime) -> Result<(), Fail> {
+    follow_writes_all_or_nothing(&rt, rt.alloc(), 512)
+}
