@@ -7,24 +7,21 @@ use Rattle.std.proofs.lemmas.List.{take_all}
 use Rattle.std.proofs.lemmas.List.Folds.{list_any-append}
 use Rattle.std.proofs.lemmas.List.Sums.{sum_by_more, sum_by-take-le}
 use Rattle.std.proofs.lemmas.Bool.Decides.{nat_tests}
-use Rattle.asm_element.specs.Element.{element_cmp}
+use Rattle.asm_element.specs.Element.{element_cmp, element_cmp_total}
 use Rattle.asm_element.specs.declared.element.Element.{Element}
 use Rattle.asm_element.specs.declared.value.Value.TheVariants as values
 use Rattle.asm_element.specs.Set as set
 use Rattle.asm_element.specs.Bag.{ElementBag, count, set_count}
+use Rattle.asm_element.specs.Tests.{itself, or_false}
 use Rattle.asm_update.specs.declared.action.Action.{Action}
 use Rattle.asm_update.specs.declared.action.Action.TheVariants.{Regular, SetAdd, SetRemove, BagAdd, BagRemove}
 use Rattle.asm_update.specs.declared.clash.Cause.TheVariants.{Short, Large}
 use Rattle.asm_aggregate.specs.Steps.{with_named}
-use Rattle.asm_aggregate.specs.SetAlgebra.{same_element, itself, contains-empty, contains-insert, contains-elements, found}
+use Rattle.asm_aggregate.specs.SetAlgebra.{same_element, contains-empty, contains-insert, contains-elements, found}
 use Rattle.asm_aggregate.specs.BagMeaning.{addition, removal, added_count, removed_count, element_of, named, is_large, new_count}
 use Rattle.asm_aggregate.specs.BagAlgebra.{has, names, has-names, Small, held, renewed, unnamed, count-set_count, get-renewed, small_held, small_below, same_counts}
 use Rattle.asm_aggregate.specs.BagLaws.{short, large, tabled, none_short, none_large}
 use Rattle.asm_aggregate.proofs.SetSteps.{any_more}
-
-or_false : (b : Bool) → (b || false) ≡ b
-or_false true = refl
-or_false false = refl
 
 or_swap : (a b : Bool) → (a || b) ≡ (b || a)
 or_swap true true = refl
@@ -40,10 +37,10 @@ part_of_sum f xs i x within read = let more = sum_more f xs i x within read in l
 
 -- one action
 removal_itself : (e : Element) (n : ℕ) → removal e (BagRemove e n) ≡ n
-removal_itself e n = ap (λ b. cond b n 0) (itself e)
+removal_itself e n = ap (λ b. cond b n 0) (itself element_cmp_total e)
 
 addition_itself : (e : Element) (n : ℕ) → addition e (BagAdd e n) ≡ n
-addition_itself e n = ap (λ b. cond b n 0) (itself e)
+addition_itself e n = ap (λ b. cond b n 0) (itself element_cmp_total e)
 
 pub short_here : (b : ElementBag) (a : Action) (e : Element) (n m k : ℕ) → a ≡ BagRemove e n → m ≡ count b e → k ≡ n → m < k → (x : Element) × (count b x < removal x a)
 short_here b a e n m k is counted got less = let r : removal e a ≡ n = ap (removal e) is ∙ removal_itself e n in (e, omega (arith, r, counted, got, less))

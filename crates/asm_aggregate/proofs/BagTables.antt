@@ -9,6 +9,7 @@ use Rattle.asm_element.specs.declared.value.Value.{Value}
 use Rattle.asm_element.specs.declared.value.Value.TheVariants as values
 use Rattle.asm_element.specs.Bag.{ElementBag, count}
 use Rattle.asm_element.specs.Bag as bag
+use Rattle.asm_element.specs.Tests.{or_true}
 use Rattle.asm_update.specs.Answer.{IsOutcome}
 use Rattle.asm_update.specs.declared.errors.ResultError.{ResultError}
 use Rattle.asm_aggregate.specs.Steps.{IsShort, IsAbove}
@@ -103,10 +104,6 @@ joined_is : (first second : List Action) (high low : Bool) → AreOfBags first s
 joined_is first second high low bags h k =
     (λ i. joined_by (bags.one i) (bags.other i) (any_either (λ e. is_large (additions first second e)) (λ e. is_large (removals first second e)) (named (first ++ second)) i) (all_additions (additions first second) (named (first ++ second)) ++ all_removals (removals first second) (named (first ++ second))))
     ∙ (λ i. joined_by true true (h i || k i) (all_additions (additions first second) (named (first ++ second)) ++ all_removals (removals first second) (named (first ++ second))))
-
-or_true : (b : Bool) → (b || true) ≡ true
-or_true true = refl
-or_true false = refl
 
 pub large_first : (first second : List Action) → AreOfBags first second → large_additions first second ≡ true → bag_joins first second ≡ Err TooLarge
 large_first first second bags h = joined_is first second true (large_removals first second) bags h refl

@@ -1,5 +1,10 @@
 pub mod SetSteps
 pub mod BagSteps
-pub mod ScanLemmas
+mod Walked
 pub mod Exits
 pub mod BagTables
+mod Bundles
+mod Grouped
+mod Composed
+mod Sequence
+mod Composing

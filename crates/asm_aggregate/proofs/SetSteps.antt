@@ -7,16 +7,13 @@ use Rattle.std.proofs.lemmas.List.Folds.{list_any-append}
 use Rattle.asm_element.specs.Element.{element_cmp}
 use Rattle.asm_element.specs.declared.element.Element.{Element}
 use Rattle.asm_element.specs.Set.{ElementSet, contains, insert, remove, elements, same_set}
+use Rattle.asm_element.specs.Tests.{or_false}
 use Rattle.asm_update.specs.declared.action.Action.{Action}
 use Rattle.asm_update.specs.declared.action.Action.TheVariants.{Regular, SetAdd, SetRemove, BagAdd, BagRemove}
 use Rattle.asm_aggregate.specs.Sets.{union, difference}
 use Rattle.asm_aggregate.specs.SetMeaning.{added, removed}
 use Rattle.asm_aggregate.specs.Steps.{with_added, with_removed}
 use Rattle.asm_aggregate.specs.SetAlgebra.{adds, removes, contains-added, contains-removed, contains-insert, contains-remove, contains-elements, contains-union, contains-difference}
-
-or_false : (b : Bool) → (b || false) ≡ b
-or_false true = refl
-or_false false = refl
 
 or_swap : (a b : Bool) → (a || b) ≡ (b || a)
 or_swap true true = refl

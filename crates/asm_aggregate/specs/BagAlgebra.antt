@@ -13,6 +13,7 @@ use Rattle.std.proofs.lemmas.List.Sums.{sum_by-append}
 use Rattle.std.proofs.lemmas.List.Sorted.{list_any-IsPermutation}
 use Rattle.std.proofs.lemmas.Map.Views.{All-from_any}
 use Rattle.asm_element.specs.Element as element
+use Rattle.asm_element.specs.Tests.{itself}
 use Rattle.asm_element.specs.Element.{element_cmp, element_cmp_total, element_cmp-IsAntisymmetric, element_eq-equiv}
 use Rattle.asm_element.specs.declared.element.Element.{Element}
 use Rattle.asm_element.specs.Set as set
@@ -23,7 +24,7 @@ use Rattle.asm_update.specs.declared.action.Action.{Action}
 use Rattle.asm_update.specs.declared.action.Action.TheVariants.{Regular, SetAdd, SetRemove, BagAdd, BagRemove}
 use Rattle.asm_update.specs.declared.action.Family.TheVariants.{Bag}
 use Rattle.asm_aggregate.specs.FamilyLemmas.{none_true}
-use Rattle.asm_aggregate.specs.SetAlgebra.{same_element, itself, contains-elements, contains-from_list, found, none_found, all_found}
+use Rattle.asm_aggregate.specs.SetAlgebra.{same_element, contains-elements, contains-from_list, found, none_found, all_found}
 use Rattle.asm_aggregate.specs.BagMeaning.{addition, removal, added_count, removed_count, element_of, named, new_count, recounted, counted, bag_actions}
 
 -- whether a list has an element
@@ -176,7 +177,7 @@ all_counts P [] sorted h = All-nil P
 all_counts P (e ∷ es) sorted h =
     let both = both_T (below_all element_cmp e.0 es) (is_sorted element_cmp es) sorted in
     All-cons P e.1 (map (λ e. e.1) es)
-    (subst (λ (b : Bool). IfSome (cond b (Some e.1) (find element_cmp e.0 es)) P) (itself e.0) (h e.0))
+    (subst (λ (b : Bool). IfSome (cond b (Some e.1) (find element_cmp e.0 es)) P) (itself element_cmp_total e.0) (h e.0))
     (all_counts P es both.1 (λ q. at q (eq_by_cmp element_cmp q e.0) refl (not_below e.0 es both.0) (h q))) where
       nothing : (o : Option ℕ) → is_some o ≡ false → IfSome o P
       nothing None h = tt

@@ -21,8 +21,10 @@ use Rattle.asm_update.specs.declared.action.Family.TheVariants.{Bag}
 use Rattle.asm_update.specs.declared.clash.Cause.TheVariants.{Mixed, Kind, Against, Short, Large}
 use Rattle.asm_aggregate.specs.Families.{is_kind}
 use Rattle.asm_aggregate.specs.FamilyLemmas.{family_is, all_of_one, all-IsPermutation, all_partial, joined_family, nil_parts}
-use Rattle.asm_aggregate.specs.TableLemmas.{passed, not_false, ok_is}
-use Rattle.asm_aggregate.specs.SetAlgebra.{itself, elements-empty}
+use Rattle.asm_element.specs.Element.{element_cmp_total}
+use Rattle.asm_element.specs.Tests.{itself, ok_is}
+use Rattle.asm_aggregate.specs.TableLemmas.{passed, not_false}
+use Rattle.asm_aggregate.specs.SetAlgebra.{elements-empty}
 use Rattle.asm_aggregate.specs.BagMeaning.{owns_bags, counts, addition, removal, added_count, removed_count, named, is_large, new_count, recounted, additions, removals, bag_actions, bag_result, bag_joins, bag_meaning}
 use Rattle.asm_aggregate.specs.BagAlgebra.{has, Small, held, renewed, unnamed, fails_everywhere, none_passes, get-renewed, count-renewed, small_renewed, small_below, small_held, small_bag, bag_small, same_counts, added-bag_actions, removed-bag_actions, all-bag_actions, named-IsPermutation, summed, renewed_elements}
 
@@ -215,11 +217,11 @@ some_remain [] proper bags ne is = ne refl
 some_remain (BagAdd x n ∷ xs) proper bags ne is =
     let amount : 1 ≤ n = (All-head IsProper (BagAdd x n) xs proper).1 in
     let a : 0 ≡ additions [] (BagAdd x n ∷ xs) x = sym (sym (joined_added [] (BagAdd x n ∷ xs) x) ∙ ap (λ l. added_count l x) is) in
-    let s : added_count (BagAdd x n ∷ xs) x ≡ n + added_count xs x = summed (addition x) (BagAdd x n) xs ∙ ap (λ t. cond t n 0 + added_count xs x) (itself x) in absurd (omega (arith, a, s, amount))
+    let s : added_count (BagAdd x n ∷ xs) x ≡ n + added_count xs x = summed (addition x) (BagAdd x n) xs ∙ ap (λ t. cond t n 0 + added_count xs x) (itself element_cmp_total x) in absurd (omega (arith, a, s, amount))
 some_remain (BagRemove x n ∷ xs) proper bags ne is =
     let amount : 1 ≤ n = (All-head IsProper (BagRemove x n) xs proper).1 in
     let r : 0 ≡ removals [] (BagRemove x n ∷ xs) x = sym (sym (joined_removed [] (BagRemove x n ∷ xs) x) ∙ ap (λ l. removed_count l x) is) in
-    let s : removed_count (BagRemove x n ∷ xs) x ≡ n + removed_count xs x = summed (removal x) (BagRemove x n) xs ∙ ap (λ t. cond t n 0 + removed_count xs x) (itself x) in absurd (omega (arith, r, s, amount))
+    let s : removed_count (BagRemove x n ∷ xs) x ≡ n + removed_count xs x = summed (removal x) (BagRemove x n) xs ∙ ap (λ t. cond t n 0 + removed_count xs x) (itself element_cmp_total x) in absurd (omega (arith, r, s, amount))
 some_remain (SetAdd e ∷ xs) proper bags ne is = cc
 some_remain (SetRemove e ∷ xs) proper bags ne is = cc
 some_remain (Regular v ∷ xs) proper bags ne is = cc

@@ -5,7 +5,8 @@ pub mod SetMeaning
 pub mod BagMeaning
 pub mod PairMeaning
 pub mod Answer
-pub mod Scan
+pub mod Bundle
+pub mod Compose
 pub mod Steps
 pub mod FamilyLemmas
 pub mod TableLemmas

@@ -13,9 +13,9 @@ use Rattle.asm_update.specs.declared.action.Action.{Action}
 use Rattle.asm_update.specs.declared.action.Family.{Family}
 use Rattle.asm_update.specs.declared.clash.Cause.{Cause}
 use Rattle.asm_update.specs.declared.clash.Cause.TheVariants.{Mixed}
+use Rattle.asm_element.specs.Tests.{ok_is}
 use Rattle.asm_aggregate.specs.Families.{common_family}
 use Rattle.asm_aggregate.specs.FamilyLemmas.{both_true, one_family, all-IsPermutation, all_of_rest, among_all, common_is, common_all, common_some, cons_some}
-use Rattle.asm_aggregate.specs.TableLemmas.{ok_is}
 use Rattle.asm_aggregate.specs.PairMeaning.{pair_owns, by_owner, pair_result, refused, own_cause, unless, pair_joins, pair_meaning}
 
 -- what two lists of one family join to is of that family
@@ -23,7 +23,7 @@ joined_of : {m : Meaning} (ml : AggregatorLaws m) (f : Family) (first second joi
 joined_of ml f first second joined h join =
     all_of_rest f joined (ml.join_is_partial first second joined join) (λ g some. among_all f g (first ++ second) h (ml.join_family g first second joined join some))
 
-passed_unless : (c : Option Cause) (rest : Joined) (joined : List Action) → unless c rest ≡ Ok joined → (c ≡ None) × (rest ≡ Ok joined)
+pub passed_unless : (c : Option Cause) (rest : Joined) (joined : List Action) → unless c rest ≡ Ok joined → (c ≡ None) × (rest ≡ Ok joined)
 passed_unless None rest joined h = (refl, h)
 passed_unless (Some cause) rest joined h = cc
 
@@ -31,7 +31,7 @@ passed_none : (c : Option Cause) (rest outcome : Joined) → c ≡ None → unle
 passed_none None rest outcome e h = h
 passed_none (Some cause) rest outcome e h = cc
 
-refused_none : (j : Joined) → ((cause : Cause) → j ≡ Err (Refused cause) → ⊥) → refused j ≡ None
+pub refused_none : (j : Joined) → ((cause : Cause) → j ≡ Err (Refused cause) → ⊥) → refused j ≡ None
 refused_none (Ok joined) h = refl
 refused_none (Err (Refused cause)) h = absurd (h cause refl)
 refused_none (Err TooLarge) h = refl

@@ -11,6 +11,7 @@ use Rattle.std.proofs.lemmas.Map.Views.{All-from_any}
 use Rattle.asm_element.specs.Element as element
 use Rattle.asm_element.specs.Element.{element_cmp, element_cmp_total, element_cmp-IsAntisymmetric, element_eq-equiv}
 use Rattle.asm_element.specs.declared.element.Element.{Element}
+use Rattle.asm_element.specs.Tests.{itself, or_false, or_true}
 use Rattle.asm_element.specs.Set.{ElementSet, empty, contains, insert, remove, elements, from_list, same_set}
 use Rattle.asm_update.specs.Action.{is_of, AllProper, IsProper}
 use Rattle.asm_update.specs.declared.action.Action.{Action}
@@ -23,9 +24,6 @@ use Rattle.asm_aggregate.specs.FamilyLemmas.{none_true}
 -- one element is another
 pub same_element : (a b : Element) → eq_by_cmp element_cmp a b ≡ true → a ≡ b
 same_element a b h = element_cmp-IsAntisymmetric a b ((Equal-is (element_cmp a b)).0 h)
-
-pub itself : (e : Element) → eq_by_cmp element_cmp e e ≡ true
-itself e = element_eq-equiv.refl e
 
 -- members of sets that are made
 is_some-cond : (b : Bool) (x : Option (Unit {0})) → is_some (cond b (Some tt) x) ≡ (b || is_some x)
@@ -70,12 +68,8 @@ or_swap true true c = refl
 or_swap true false c = refl
 or_swap false b c = refl
 
-or_false : (b : Bool) → b ≡ (b || false)
-or_false true = refl
-or_false false = refl
-
 pub contains-with_elements : (s : ElementSet) (es : List Element) (q : Element) → contains (with_elements s es) q ≡ (contains s q || list_any (eq_by_cmp element_cmp q) es)
-contains-with_elements s [] q = or_false _
+contains-with_elements s [] q = sym (or_false _)
 contains-with_elements s (e ∷ es) q =
     contains-insert (with_elements s es) e q ∙ ap (λ b. eq_by_cmp element_cmp q e || b) (contains-with_elements s es q)
     ∙ or_swap (eq_by_cmp element_cmp q e) (contains s q) (list_any (eq_by_cmp element_cmp q) es)
@@ -96,14 +90,10 @@ found p (e ∷ es) q h k = at (eq_by_cmp element_cmp q e) refl k (none_true (p e
   at true i k h later = ap p (same_element q e i) ∙ h.0
   at false i k h later = later h.1 k
 
-or_true : (b : Bool) → (b || true) ≡ true
-or_true true = refl
-or_true false = refl
-
 pub none_found : (p : Element → Bool) (es : List Element) → ((q : Element) → list_any (eq_by_cmp element_cmp q) es ≡ true → p q ≡ false) → list_any p es ≡ false
 none_found p [] each = refl
 none_found p (e ∷ es) each =
-    ap (λ b. b || list_any p es) (each e (ap (λ b. b || list_any (eq_by_cmp element_cmp e) es) (itself e)))
+    ap (λ b. b || list_any p es) (each e (ap (λ b. b || list_any (eq_by_cmp element_cmp e) es) (itself element_cmp_total e)))
     ∙ none_found p es (λ q one. each q (ap (λ b. eq_by_cmp element_cmp q e || b) one ∙ or_true _))
 
 pub all_found : (P : Element → Type 0) (es : List Element) (q : Element) → All P es → list_any (eq_by_cmp element_cmp q) es ≡ true → P q
@@ -233,8 +223,8 @@ unchanged s = same_set _ _ (λ e. kept (contains s e) ∙ sym (contains_updated 
 
 pub has_action : (actions : List Action) → list_all (is_of Set) actions ≡ true → actions ≢ [] → (e : Element) × ((contains (added actions) e || contains (removed actions) e) ≡ true)
 has_action [] sets ne = absurd (ne refl)
-has_action (SetAdd e ∷ actions) sets ne = (e, ap (λ b. b || contains (removed actions) e) (contains-insert _ e e ∙ ap (λ b. b || contains (added actions) e) (itself e)))
-has_action (SetRemove e ∷ actions) sets ne = (e, ap (λ b. contains (added actions) e || b) (contains-insert _ e e ∙ ap (λ b. b || contains (removed actions) e) (itself e)) ∙ or_true _)
+has_action (SetAdd e ∷ actions) sets ne = (e, ap (λ b. b || contains (removed actions) e) (contains-insert _ e e ∙ ap (λ b. b || contains (added actions) e) (itself element_cmp_total e)))
+has_action (SetRemove e ∷ actions) sets ne = (e, ap (λ b. contains (added actions) e || b) (contains-insert _ e e ∙ ap (λ b. b || contains (removed actions) e) (itself element_cmp_total e)) ∙ or_true _)
 has_action (BagAdd e n ∷ actions) sets ne = cc
 has_action (BagRemove e n ∷ actions) sets ne = cc
 has_action (Regular v ∷ actions) sets ne = cc

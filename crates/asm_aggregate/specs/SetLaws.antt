@@ -13,9 +13,10 @@ use Rattle.asm_update.specs.declared.action.Action.{Action}
 use Rattle.asm_update.specs.declared.action.Family.{Family}
 use Rattle.asm_update.specs.declared.action.Family.TheVariants.{Set}
 use Rattle.asm_update.specs.declared.clash.Cause.TheVariants.{Mixed, Kind}
+use Rattle.asm_element.specs.Tests.{ok_is}
 use Rattle.asm_aggregate.specs.Families.{is_kind}
 use Rattle.asm_aggregate.specs.FamilyLemmas.{family_is, all_of_one, all-IsPermutation, all_partial, joined_family, nil_parts}
-use Rattle.asm_aggregate.specs.TableLemmas.{passed, not_false, ok_is}
+use Rattle.asm_aggregate.specs.TableLemmas.{passed, not_false}
 use Rattle.asm_aggregate.specs.SetMeaning.{owns_sets, members, added, removed, adds_and_removes, updated, additions, removals, set_actions, set_result, set_joins, set_meaning}
 use Rattle.asm_aggregate.specs.SetAlgebra.{added-IsPermutation, removed-IsPermutation, added-set_actions, removed-set_actions, all-set_actions, contains-empty, apart, not_meeting, contains_updated, one_step, never_both, unchanged, some_remain, none_from_none, updated_proper}
 

@@ -10,6 +10,3 @@ passed false cause rest w h = (refl, h)
 pub not_false : (b : Bool) → not b ≡ false → b ≡ true
 not_false true h = refl
 not_false false h = cc
-
-pub ok_is : {A E : Type 0} (x y : A) → (let wrap : A → Result A E = λ z. Ok z in wrap x ≡ wrap y) → x ≡ y
-ok_is x y h = cc

@@ -3,16 +3,23 @@
 
 mod aggregation;
 mod bag_agg;
+mod composition;
 mod families;
+mod groups;
 mod pair;
 mod set_agg;
 
 pub use aggregation::aggregate;
 pub use bag_agg::BagAgg;
+pub use composition::{ComposeError, compose};
 pub use pair::{Pair, standard};
 pub use set_agg::SetAgg;
 
 #[cfg(test)]
+mod compose_tests;
+#[cfg(test)]
 mod example;
+#[cfg(test)]
+mod lookup_tests;
 #[cfg(test)]
 mod tests;

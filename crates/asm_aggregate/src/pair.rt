@@ -25,7 +25,7 @@ pub struct Pair<A, B> {
 }
 
 /// The cause for which the aggregator refuses the actions with nothing after them, if it does so.
-fn own_cause_by<A: Aggregator>(
+pub(crate) fn own_cause_by<A: Aggregator>(
     aggregator: &A,
     alloc: Global,
     actions: &[Action],

@@ -1,23 +1,21 @@
 ghost use Rattle.std.specs.Prelude.{◌≡◌};
 ghost use Rattle.std.specs.List.{list_all};
 ghost use Rattle.asm_update.specs.Action.{is_partial};
-ghost use Rattle.asm_update.specs.State.{val};
 ghost use Rattle.asm_aggregate.specs.Nobody.{nobody_meaning, nobody_laws};
 
 use crate::*;
 use asm_element::{ElemBag, ElemSet, ElemText, Element, Location, Value};
 use asm_update::{
     Action, AggError, Aggregator, Amount, Cause, Clash, Family, Group, Instruction, Instructions,
-    JoinError, Lookup, PlainState, ResultError, UpdateSet,
+    JoinError, PlainState, ResultError, UpdateSet,
 };
 use std::alloc::Global;
-use std::cell::Cell;
 use std::process::Abort;
 use std::test::Fail;
 
 /// A value, in few letters. A bag has these counts of e and of f.
 #[derive(Clone, Copy)]
-enum Old {
+pub(crate) enum Old {
     Undef,
     Num(i64),
     Set(&'static [i64]),
@@ -26,7 +24,7 @@ enum Old {
 
 /// A partial update, in few letters.
 #[derive(Clone, Copy)]
-enum Act {
+pub(crate) enum Act {
     Add(i64),
     Remove(i64),
     BagAdd(&'static str, u32),
@@ -39,7 +37,7 @@ use Old::{Bag, Num, Set, Undef};
 #[derive(Debug, Drop)]
 struct Zero;
 
-fn location(alloc: Global, name: &str) -> Result<Location, Fail> {
+pub(crate) fn location(alloc: Global, name: &str) -> Result<Location, Fail> {
     Ok(Location::new(String::from_str(alloc, name)?, Vec::new(alloc))?)
 }
 
@@ -70,7 +68,7 @@ fn bag_of(alloc: Global, e: u32, f: u32) -> Result<Value, Fail> {
     Ok(Value::Bag(bag))
 }
 
-fn value_of(alloc: Global, value: Old) -> Result<Value, Fail> {
+pub(crate) fn value_of(alloc: Global, value: Old) -> Result<Value, Fail> {
     match value {
         Undef => Ok(Value::Plain(Element::Undef)),
         Num(n) => Ok(Value::Plain(Element::Num(n))),
@@ -79,7 +77,7 @@ fn value_of(alloc: Global, value: Old) -> Result<Value, Fail> {
     }
 }
 
-fn action_of(alloc: Global, action: Act) -> Result<Action, Fail> {
+pub(crate) fn action_of(alloc: Global, action: Act) -> Result<Action, Fail> {
     Ok(match action {
         Add(n) => Action::SetAdd(Element::Num(n)),
         Remove(n) => Action::SetRemove(Element::Num(n)),
@@ -124,13 +122,13 @@ fn move_of(alloc: Global, puts: &[Old], partials: &[Act]) -> Result<Instructions
     Ok(list)
 }
 
-fn state_of(alloc: Global, old: Old) -> Result<PlainState, Fail> {
+pub(crate) fn state_of(alloc: Global, old: Old) -> Result<PlainState, Fail> {
     let mut state = PlainState::new(alloc);
     state.set(location(alloc, "x")?, value_of(alloc, old)?)?;
     Ok(state)
 }
 
-fn updates_of(alloc: Global, value: Old) -> Result<UpdateSet, Fail> {
+pub(crate) fn updates_of(alloc: Global, value: Old) -> Result<UpdateSet, Fail> {
     let mut updates = UpdateSet::new(alloc);
     updates.put(location(alloc, "x")?, value_of(alloc, value)?)?;
     Ok(updates)
@@ -411,7 +409,7 @@ fn joins_with_nothing_after(rt: HostRuntime) -> Result<(), Fail> {
 
 /// An aggregator that owns no family.
 #[derive(Debug, Drop)]
-struct Nobody;
+pub(crate) struct Nobody;
 
 impl Aggregator for Nobody {
     ghost meaning = { λ _. nobody_meaning };
@@ -488,47 +486,5 @@ fn the_least_clash_is_answered(rt: HostRuntime) -> Result<(), Fail> {
         aggregate(alloc, &standard(), &state, &list),
         Err(AggError::Clash(clash))
     );
-    Ok(())
-}
-
-/// A look-up that counts how often it is asked.
-#[derive(Drop)]
-struct Counting {
-    state: PlainState,
-    asked: Cell<u32>,
-}
-
-impl Lookup for Counting {
-    ghost value_at = { λ c. val c.state };
-
-    fn get(&self, at: &Location) -> Option<&Value> {
-        self.asked.set(self.asked.get().saturating_add(1));
-        self.state.get(at)
-    }
-}
-
-#[test]
-fn old_values_of_partial_updates_alone_are_asked_for(rt: HostRuntime) -> Result<(), Fail> {
-    let alloc = rt.alloc();
-    let mut list = Instructions::new(alloc);
-    push_at(
-        alloc,
-        &mut list,
-        "a",
-        Action::Regular(Value::Plain(Element::Num(1))),
-    )?;
-    push_at(alloc, &mut list, "x", Action::SetAdd(Element::Num(1)))?;
-    push_at(
-        alloc,
-        &mut list,
-        "z",
-        Action::Regular(Value::Plain(Element::Num(2))),
-    )?;
-    let lookup = Counting {
-        state: state_of(alloc, Set(&[]))?,
-        asked: Cell::new(0),
-    };
-    assert!(rt; aggregate(alloc, &standard(), &lookup, &list).is_ok());
-    assert_eq!(rt; lookup.asked.get(), 1);
     Ok(())
 }

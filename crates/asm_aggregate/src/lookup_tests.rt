@@ -1,0 +1,128 @@
+ghost use Rattle.asm_update.specs.State.{val};
+
+use crate::tests::location;
+use crate::*;
+use asm_element::{ElemSet, Element, Location, Value};
+use asm_update::{Action, Instruction, Instructions, Lookup, PlainState, UpdateSet};
+use std::alloc::Global;
+use std::cell::Cell;
+use std::test::Fail;
+
+/// A look-up that notes what it is asked for, in turn: 1 for b, 2 for c, 3 for any other location.
+#[derive(Drop)]
+struct Noting {
+    state: PlainState,
+    asked: Cell<u64>,
+}
+
+impl Lookup for Noting {
+    ghost value_at = { λ n. val n.state };
+
+    fn get(&self, at: &Location) -> Option<&Value> {
+        let letter = match at.name() {
+            "b" => 1,
+            "c" => 2,
+            _ => 3,
+        };
+        self.asked
+            .set(self.asked.get().saturating_mul(10).saturating_add(letter));
+        self.state.get(at)
+    }
+}
+
+/// The location x with this number.
+fn numbered(alloc: Global, n: i64) -> Result<Location, Fail> {
+    let mut args = Vec::new(alloc);
+    args.push(Element::Num(n))?;
+    Ok(Location::new(String::from_str(alloc, "x")?, args)?)
+}
+
+/// A look-up in which b and c are empty sets, and which was asked for nothing.
+fn two_empty_sets(alloc: Global) -> Result<Noting, Fail> {
+    let mut state = PlainState::new(alloc);
+    state.set(location(alloc, "b")?, Value::Set(ElemSet::new(alloc)))?;
+    state.set(location(alloc, "c")?, Value::Set(ElemSet::new(alloc)))?;
+    let asked = Cell::new(0);
+    Ok(Noting { state, asked })
+}
+
+/// Additions of 4,096 numbers, by turns at c and at b.
+fn additions_by_turns(alloc: Global) -> Result<Instructions, Fail> {
+    let mut list = Instructions::new(alloc);
+    for n in 0i64..4096 {
+        let at = location(alloc, if n % 2 == 0 { "c" } else { "b" })?;
+        let action = Action::SetAdd(Element::Num(n));
+        list.push(Instruction { at, action })?;
+    }
+    Ok(list)
+}
+
+fn size_at(updates: &UpdateSet, at: &Location) -> usize {
+    match updates.get(at) {
+        Some(Value::Set(set)) => set.len(),
+        _ => 0,
+    }
+}
+
+#[test]
+fn each_location_is_looked_up_once_in_ascending_order(rt: HostRuntime) -> Result<(), Fail> {
+    let alloc = rt.alloc();
+    let lookup = two_empty_sets(alloc)?;
+    let updates = aggregate(alloc, &standard(), &lookup, &additions_by_turns(alloc)?)?;
+    assert_eq!(rt; lookup.asked.get(), 12);
+    assert_eq!(rt; size_at(&updates, &location(alloc, "b")?), 2048);
+    assert_eq!(rt; size_at(&updates, &location(alloc, "c")?), 2048);
+    Ok(())
+}
+
+/// Puts at 4,096 locations, the greatest first.
+fn puts_downwards(alloc: Global) -> Result<Instructions, Fail> {
+    let mut list = Instructions::new(alloc);
+    for n in 0i64..4096 {
+        let at = numbered(alloc, 4096i64.saturating_sub(n))?;
+        let action = Action::Regular(Value::Plain(Element::Num(n)));
+        list.push(Instruction { at, action })?;
+    }
+    Ok(list)
+}
+
+fn ascends(updates: &UpdateSet) -> bool {
+    let mut last: Option<&Location> = None;
+    for (at, _value) in updates.iter() {
+        if let Some(last) = last {
+            if at <= last {
+                return false;
+            }
+        }
+        last = Some(at);
+    }
+    true
+}
+
+#[test]
+fn puts_are_not_looked_up(rt: HostRuntime) -> Result<(), Fail> {
+    let alloc = rt.alloc();
+    let lookup = two_empty_sets(alloc)?;
+    let updates = aggregate(alloc, &standard(), &lookup, &puts_downwards(alloc)?)?;
+    assert_eq!(rt; lookup.asked.get(), 0);
+    assert_eq!(rt; updates.len(), 4096);
+    assert!(rt; ascends(&updates));
+    Ok(())
+}
+
+#[test]
+fn a_composition_has_4096_instructions_at_most(rt: HostRuntime) -> Result<(), Fail> {
+    let alloc = rt.alloc();
+    let many = puts_downwards(alloc)?;
+    let mut one = Instructions::new(alloc);
+    let agg = &standard();
+    assert_eq!(rt; compose(alloc, agg, &many, &one)?.len(), 4096);
+    let at = numbered(alloc, 0)?;
+    let action = Action::SetAdd(Element::Num(1));
+    one.push(Instruction { at, action })?;
+    assert_eq!(rt;
+        compose(alloc, agg, &many, &one),
+        Err(ComposeError::ManyInstructions)
+    );
+    Ok(())
+}
