@@ -1,0 +1,15 @@
+pub mod Accounts
+pub mod Coherent
+pub mod Following
+pub mod Headline
+pub mod Judging
+pub mod Kept
+pub mod Legal
+pub mod Lists
+pub mod Moves
+pub mod Own
+pub mod Places
+pub mod Rounds
+pub mod Run
+pub mod Slips
+pub mod Turns

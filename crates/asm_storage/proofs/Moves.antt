@@ -1,0 +1,37 @@
+-- The moves of a history, one event at a time.
+use Rattle.std.proofs.Common.{◌≡◌, ◌+◌, ℕ, List, [], ◌∷◌, ◌++◌, length, true, false, Option, Some, None, refl, sym, ap, ◌∙◌, append-nil, arith, length-append}
+use Rattle.std.specs.Prelude.{is_some, min}
+use Rattle.std.specs.Borrow.{Bor}
+use Rattle.std.specs.List.{cons_option}
+use Rattle.std.specs.Option.{option_copied}
+use Rattle.std.proofs.lemmas.List.Elements.{filter_map-append}
+use Rattle.asm_update.specs.Move.{Move}
+use Rattle.asm_storage.specs.declared.history.Event.{Event}
+use Rattle.asm_storage.specs.History.{move_of, moves}
+
+pub moves-push_fired : (h : List Event) (e : Event) (M : Move) → move_of e ≡ Some M → moves (h ++ e ∷ []) ≡ moves h ++ M ∷ []
+moves-push_fired h e M is = filter_map-append move_of h (e ∷ []) ∙ ap (λ o. moves h ++ cons_option o []) is
+
+pub moves-push_quiet : (h : List Event) (e : Event) → move_of e ≡ None → moves (h ++ e ∷ []) ≡ moves h
+moves-push_quiet h e is = filter_map-append move_of h (e ∷ []) ∙ ap (λ o. moves h ++ cons_option o []) is ∙ append-nil (moves h)
+
+pub some_copied : {X : Type 0} (o : Option (Bor X)) → is_some (option_copied o) ≡ is_some o
+some_copied None = refl
+some_copied (Some x) = refl
+
+some_value : (o : Option Move) → is_some o ≡ true → (M : Move) × (o ≡ Some M)
+some_value (Some M) e = (M, refl)
+some_value None e = absurd cc
+
+none_value : (o : Option Move) → is_some o ≡ false → o ≡ None
+none_value (Some M) e = cc
+none_value None e = refl
+
+pub count_fired : (h : List Event) (e : Event) (n : ℕ) → n ≡ min (length (moves h)) 4294967295 → is_some (move_of e) ≡ true → min (n + 1) 4294967295 ≡ min (length (moves (h ++ e ∷ []))) 4294967295
+count_fired h e n is fired =
+    let M = some_value (move_of e) fired in
+    let more : length (moves (h ++ e ∷ [])) ≡ length (moves h) + 1 = ap length (moves-push_fired h e M.0 M.1) ∙ length-append (moves h) (M.0 ∷ []) in
+    omega arith
+
+pub count_quiet : (h : List Event) (e : Event) (n : ℕ) → n ≡ min (length (moves h)) 4294967295 → is_some (move_of e) ≡ false → n ≡ min (length (moves (h ++ e ∷ []))) 4294967295
+count_quiet h e n is quiet = is ∙ ap (λ q. min (length q) 4294967295) (sym (moves-push_quiet h e (none_value (move_of e) quiet)))

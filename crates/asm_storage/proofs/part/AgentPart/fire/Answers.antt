@@ -1,0 +1,77 @@
+use Rattle.std.proofs.Common.{◌+◌, Err, Ok, Option, Some, ap, sym, ◌∙◌, subst}
+use Rattle.std.proofs.lemmas.Result.{err_from_is_err_and}
+use Rattle.asm_storage.specs.declared.call.Reply.{Reply}
+use Rattle.asm_storage.specs.Calls.{HasOffered, MadeOffers, Ran}
+use Rattle.asm_storage.specs.Part.{agent_of, IsTurn, offers_in, misses_in}
+use Rattle.asm_storage.proofs.Coherent.{answered_coherent}
+use Rattle.asm_storage.proofs.Following.{looks_then}
+use Rattle.asm_storage.proofs.Turns.{offered_then, offers_answered, offers_wanting, ran_then}
+use Rattle.asm_storage.proofs.part.AgentPart.fire.Goals as goal
+
+-- memory was wanting in a turn
+pub returns-in_err-reply-clause-offers : goal.returns-in_err-reply-clause-offers
+returns-in_err-reply-clause-offers g c =
+    let s = c.args.storage.now in
+    let old = agent_of s c.args.self.now in
+    let mid = agent_of s c.loop-lost.self in
+    let new = agent_of s c.turn.new.self in
+    let lost = c.loop-lost.lost in
+    let before = c.loop-lost.invariant in
+    let told = err_from_is_err_and c.from_residual.result c.from_residual.ensures.1 in
+    let made = offers_wanting old mid new lost before.counted c.loop-lost-test.true c.in_err-reply.ensures.counted in (
+      lost + 0,
+      subst (λ r. MadeOffers old new r (lost + 0)) (sym (told.1 ∙ ap Err told.2)) made,
+      ran_then _ c.args.between.now c.loop-lost.between c.turn.new.between lost 0 before.calls c.in_err-reply.ensures.calls,
+    )
+
+pub returns-in-Some-clause-coherent : goal.returns-in-Some-clause-coherent
+returns-in-Some-clause-coherent g c =
+    let meaning = g.A.Aggregator.meaning in
+    let s = c.args.storage.now in
+    let mid = c.loop-lost.self in
+    let new = c.turn.new.self in
+    let is = subst (λ (o : Option Reply). IsTurn meaning s mid new c.args.reads.now c.args.instrs.now o) c.in-Some.is
+    c.in_ok-reply.ensures.turn in
+    answered_coherent meaning (agent_of s mid) (agent_of s new) c.args.reads.now c.args.instrs.now c.in-Some.reply is
+
+-- a turn was answered
+pub returns-in-Some-clause-offers : goal.returns-in-Some-clause-offers
+returns-in-Some-clause-offers g c =
+    let s = c.args.storage.now in
+    let old = agent_of s c.args.self.now in
+    let mid = agent_of s c.loop-lost.self in
+    let new = agent_of s c.turn.new.self in
+    let lost = c.loop-lost.lost in
+    let reply = c.in-Some.reply in
+    let before = c.loop-lost.invariant in
+    let counted = subst (λ (o : Option Reply). HasOffered mid new (offers_in (Ok o)) (misses_in new (Ok o))) c.in-Some.is
+    c.in_ok-reply.ensures.counted in
+    let calls = subst (λ (o : Option Reply). Ran (λ p q. goal.F-step g p tt q) c.loop-lost.between (offers_in (Ok o)) c.turn.new.between)
+    c.in-Some.is c.in_ok-reply.ensures.calls in (
+      lost + offers_in (Ok (Some reply)),
+      offers_answered old mid new lost before.counted reply c.loop-lost-test.true counted,
+      ran_then _ c.args.between.now c.loop-lost.between c.turn.new.between lost _ before.calls calls,
+    )
+
+-- an offer was lost
+pub loop-lost-preserved : goal.loop-lost-preserved
+loop-lost-preserved g c =
+    let meaning = g.A.Aggregator.meaning in
+    let s = c.args.storage.now in
+    let old = c.args.self.now in
+    let mid = c.loop-lost.self in
+    let new = c.turn.new.self in
+    let lost = c.loop-lost.lost in
+    let before = c.loop-lost.invariant in
+    let is = subst (λ (o : Option Reply). IsTurn meaning s mid new c.args.reads.now c.args.instrs.now o) c.in-None.is
+    c.in_ok-reply.ensures.turn in
+    let counted = subst (λ (o : Option Reply). HasOffered (agent_of s mid) (agent_of s new) (offers_in (Ok o))
+    (misses_in (agent_of s new) (Ok o))) c.in-None.is c.in_ok-reply.ensures.counted in
+    record {
+      callable = c.turn.ensures.callable;
+      looks = looks_then meaning s old mid new before.looks is;
+      counted = offered_then (agent_of s old) (agent_of s mid) (agent_of s new) lost before.counted 1 1 counted;
+      calls = ran_then _ c.args.between.now c.loop-lost.between c.turn.new.between lost 1 before.calls
+          (subst (λ (o : Option Reply). Ran (λ p q. goal.F-step g p tt q) c.loop-lost.between (offers_in (Ok o)) c.turn.new.between) c.in-None.is
+          c.in_ok-reply.ensures.calls);
+    }

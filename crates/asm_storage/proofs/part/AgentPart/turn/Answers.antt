@@ -1,0 +1,34 @@
+use Rattle.std.proofs.Common.{Option, subst}
+use Rattle.asm_storage.specs.declared.call.Reply.{Reply}
+use Rattle.asm_storage.specs.Part.{agent_of, IsJudged}
+use Rattle.asm_storage.specs.Storage.{machine_of}
+use Rattle.asm_storage.proofs.Turns.{answered_quiet, attempt_seen, attempted}
+use Rattle.asm_storage.proofs.part.AgentPart.turn.Goals as goal
+
+pub returns-in_ok-keep_reply-in-Some-clause-turn : goal.returns-in_ok-keep_reply-in-Some-clause-turn
+returns-in_ok-keep_reply-in-Some-clause-turn g c =
+    let meaning = g.A.Aggregator.meaning in
+    let s = c.args.storage.now in
+    let mid = c.follow_row.new.self in
+    let looks = c.follow_row.ensures.looks in
+    let judged = subst (λ (o : Option Reply). IsJudged (machine_of meaning s) mid.progress.seen c.args.reads.now c.args.instrs.now o)
+    c.in-Some.is c.in_ok-reply.ensures in
+    answered_quiet meaning (agent_of s c.args.self.now) (agent_of s mid) c.args.reads.now c.args.instrs.now
+    (agent_of s c.keep_reply.new.self) c.in-Some.reply looks.agent looks.seen judged.0 judged.1
+    c.in_ok-keep_reply-in-Some.ensures.ok
+
+pub returns-in-None-clause-turn : goal.returns-in-None-clause-turn
+returns-in-None-clause-turn g c =
+    let meaning = g.A.Aggregator.meaning in
+    let s = c.args.storage.now in
+    let mid = c.follow_row.new.self in
+    let judged = subst (λ (o : Option Reply). IsJudged (machine_of meaning s) mid.progress.seen c.args.reads.now c.args.instrs.now o)
+    c.in-None.is c.in_ok-reply.ensures in
+    attempted meaning s c.args.self.now mid c.attempt.new.self c.args.reads.now c.args.instrs.now c.follow_row.ensures.looks
+    c.attempt.result c.attempt.ensures.part judged.0 c.attempt.ensures.won c.attempt.ensures.lost
+
+pub returns-in-None-clause-seen : goal.returns-in-None-clause-seen
+returns-in-None-clause-seen g c =
+    attempt_seen g.A.Aggregator.meaning c.args.storage.now c.args.self.now c.follow_row.new.self c.attempt.new.self
+    c.args.reads.now c.args.instrs.now c.follow_row.ensures.looks c.attempt.result c.attempt.ensures.won
+    c.attempt.ensures.lost c.attempt.ensures.err

@@ -1,0 +1,117 @@
+-- The calls of an agent: a reading, an agent after an answered call, and how many offers and looks the call made.
+use Rattle.std.specs.Prelude.{◌≡◌, ℕ, zero, suc, ◌+◌, ◌-◌, ◌≤◌, List, length, take, Result, Ok, Err}
+use Rattle.std.specs.Prelude.{refl}
+use Rattle.std.specs.Coded.{Coded, code_by, coded×, coded_ℕ, coded_list}
+use mathlib.Core.List.{IsPrefix}
+use Rattle.asm_element.specs.Place.{Place}
+use Rattle.asm_element.specs.declared.value.Value.{Value}
+use Rattle.asm_update.specs.Aggregator.{Meaning}
+use Rattle.asm_update.specs.Move.{Move}
+use Rattle.asm_state.specs.declared.named.Named.{Named}
+use Rattle.asm_storage.specs.declared.call.Answer.{Answer}
+use Rattle.asm_storage.specs.declared.call.Answer.TheVariants as answer
+use Rattle.asm_storage.specs.declared.call.Call.{Call}
+use Rattle.asm_storage.specs.declared.call.Call.TheVariants as call
+use Rattle.asm_storage.specs.declared.call.Reply.{Reply}
+use Rattle.asm_storage.specs.declared.call.Reply.TheVariants as reply
+use Rattle.asm_storage.specs.declared.error.FireError.{FireError}
+use Rattle.asm_storage.specs.declared.error.FireError.TheVariants as fire_error
+use Rattle.asm_storage.specs.declared.error.ReadError.{ReadError}
+use Rattle.asm_storage.specs.declared.error.ReadError.TheVariants as read_error
+use Rattle.asm_storage.specs.declared.receipt.Entry.{Entry}
+use Rattle.asm_storage.specs.declared.receipt.Receipt.{Receipt}
+use Rattle.asm_storage.specs.Machine.{reply_to}
+use Rattle.asm_storage.specs.History.{IsCoherentAt}
+use Rattle.asm_storage.specs.Agents.{moves_seen}
+use Rattle.asm_storage.specs.Storage.{AgentAt, machine_of, has_looked, with_receipt, has_fired, last_look, Missed}
+
+-- what was read: the number of moves, the locations and their values
+pub record ReadingView : Type 0 where
+  pub number : ℕ
+  pub places : List Place
+  pub values : List Value
+
+-- it is stored as a tuple
+abbrev pub reading_code : Coded Place → Coded Value → Coded ReadingView
+reading_code l v =
+    code_by (ℕ × (List Place × List Value)) (coded× coded_ℕ (coded× (coded_list l) (coded_list v)))
+    (λ r. (r.number, (r.places, r.values))) (λ p. record { number = p.0; places = p.1.0; values = p.1.1 }) (λ _. refl)
+
+-- the answer that the reading shows
+abbrev pub read_answer : ReadingView → Answer
+read_answer r = answer.Read r.number r.values
+
+-- the receipt of a call that was answered after so many moves
+abbrev pub receipt_at : ℕ → Call → Answer → Receipt
+receipt_at stood call answer = record { call = call; answer = answer; stood = stood }
+
+-- an agent that looked on and then answered: with what it has then seen, and a receipt of the call
+abbrev pub answered : {A : Type 0} → AgentAt A → AgentAt A → Call → Answer → AgentAt A
+answered old new call answer =
+    with_receipt (has_looked old new.account.seen new.misses) (receipt_at (length new.account.seen) call answer)
+
+-- what a fire was judged on: all that the agent has then seen, without the move that it fired
+abbrev pub judged_on : Reply → List Entry → List Entry
+judged_on (reply.Fired k) seen = take (k - 1) seen
+judged_on r seen = seen
+
+-- an agent after an answered fire: `Fired` has the move as its last entry and one won offer more
+abbrev pub fired : {A : Type 0} → AgentAt A → AgentAt A → List Named → Move → Reply → AgentAt A
+fired old new reads M (reply.Fired k) =
+    has_fired (has_looked old (judged_on (reply.Fired k) new.account.seen) new.misses)
+    (receipt_at (k - 1) (call.Fire reads M) (answer.Fire (reply.Fired k))) M
+fired old new reads M r = answered old new (call.Fire reads M) (answer.Fire r)
+
+-- a read was answered so: as the storage of one thread does after what the agent has then seen, which begins with
+-- all that it had seen
+pub record IsRead {A : Type 0} (meaning : A → Meaning) (old new : AgentAt A) (places : List Place) (r : ReadingView)
+    : Type 0 where
+  pub reply : read_answer r ≡ reply_to (machine_of meaning old.storage) (moves_seen new.account.seen) (call.Read places)
+  pub begins : IsPrefix old.account.seen new.account.seen
+  pub locations : r.places ≡ places
+  pub agent : new ≡ answered old new (call.Read places) (read_answer r)
+
+-- a fire was answered by this reply: it is that of the storage of one thread after a list of moves that begins with
+-- all that had been seen
+pub record IsAnswered {A : Type 0} (meaning : A → Meaning) (old new : AgentAt A) (reads : List Named) (M : Move)
+    (r : Reply) : Type 0 where
+  pub reply : answer.Fire r ≡
+      reply_to (machine_of meaning old.storage) (moves_seen (judged_on r new.account.seen)) (call.Fire reads M)
+  pub begins : IsPrefix old.account.seen (judged_on r new.account.seen)
+  pub agent : new ≡ fired old new reads M r
+
+-- a move that fired finds each location that it names as it was at the number of moves under which it names it
+abbrev pub IsCoherentReply : {A : Type 0} → (A → Meaning) → AgentAt A → List Named → Move → Reply → Type 0
+IsCoherentReply meaning new reads M (reply.Fired k) =
+    IsCoherentAt (machine_of meaning new.storage) (moves_seen (judged_on (reply.Fired k) new.account.seen))
+    (call.Fire reads M) (k - 1)
+IsCoherentReply meaning new reads M r = Unit {0}
+
+-- so many offers were made, each of which added an entry to what is seen, and so many looks found nothing
+pub record HasOffered {A : Type 0} (old new : AgentAt A) (offers looks : ℕ) : Type 0 where
+  pub longer : length old.account.seen + offers ≤ length new.account.seen
+  pub missed : Missed old looks new
+
+-- how many offers a fire made: the last one won, or 64 were lost, or fewer were lost before the last look;
+-- each offer follows one look that found nothing
+abbrev pub MadeOffers : {A : Type 0} → AgentAt A → AgentAt A → Result Reply FireError → ℕ → Type 0
+MadeOffers old new (Ok (reply.Fired k)) n = (1 ≤ n) × (n ≤ 64) × HasOffered old new n n
+MadeOffers old new (Ok r) n = (n ≤ 63) × HasOffered old new n (n + last_look new)
+MadeOffers old new (Err fire_error.ManyReads) n = (n ≡ 0) × (new ≡ old)
+MadeOffers old new (Err (fire_error.Busy from to)) n = (n ≡ 64) × HasOffered old new n n
+MadeOffers old new (Err fire_error.Memory) n = (n ≤ 63) × HasOffered old new n (n + last_look new)
+
+-- `Busy` tells what had been seen at the call's start and at its end
+abbrev pub IsBusy : {A : Type 0} → AgentAt A → AgentAt A → FireError → Type 0
+IsBusy old new (fire_error.Busy from to) = (from ≡ length old.account.seen) × (to ≡ length new.account.seen)
+IsBusy old new e = Unit {0}
+
+-- a read looked on, but where it had too many locations
+abbrev pub HasLookedFor : {A : Type 0} → AgentAt A → AgentAt A → ReadError → Type 0
+HasLookedFor old new read_error.ManyLocations = new ≡ old
+HasLookedFor old new read_error.Memory = Missed old (last_look new) new
+
+-- the state in which so many calls in a row leave a closure
+abbrev pub Ran : {F : Type 0} → (F → F → Type 0) → F → ℕ → F → Type 0
+Ran {F} step f zero g = f ≡ g
+Ran {F} step f (suc n) g = (h : F) × step f h × Ran step h n g

@@ -1,0 +1,104 @@
+-- Histories: events in one order, when they are those of the storage of one thread, and the run of their moves.
+use Rattle.std.specs.Prelude.{◌≡◌, ℕ, zero, suc, ◌+◌, ◌-◌, ◌<◌, ◌≤◌, List, [], ◌∷◌, ◌++◌, length, All, take, filter}
+use Rattle.std.specs.Prelude.{Option, Some, None, Ok, nat_eq}
+use Rattle.std.specs.List.{filter_map}
+use Rattle.asm_update.specs.Move.{Move}
+use Rattle.asm_update.specs.State.{State, val}
+use Rattle.asm_update.specs.Fire.{fire}
+use Rattle.asm_state.specs.Stands.{after_move}
+use Rattle.asm_storage.specs.declared.call.Call.{Call}
+use Rattle.asm_storage.specs.declared.call.Call.TheVariants as call
+use Rattle.asm_storage.specs.declared.call.Reply.TheVariants as reply
+use Rattle.asm_storage.specs.declared.call.Answer.{Answer}
+use Rattle.asm_storage.specs.declared.call.Answer.TheVariants as answer
+use Rattle.asm_storage.specs.declared.history.Event.{Event}
+use Rattle.asm_storage.specs.declared.history.History.{History}
+use Rattle.asm_storage.specs.Machine.{Machine, state_of, reply_to}
+
+-- the move of a fire that was answered Fired
+abbrev pub fired_move : Call → Answer → Option Move
+fired_move (call.Fire reads instrs) (answer.Fire (reply.Fired k)) = Some instrs
+fired_move _ _ = None
+
+-- the move of an event that fired
+abbrev pub move_of : Event → Option Move
+move_of e = fired_move e.call e.answer
+
+-- the moves of a history: those of its events that fired
+abbrev pub moves : List Event → List Move
+moves h = filter_map move_of h
+
+-- the events of one agent, in order
+abbrev pub own : List Event → ℕ → List Event
+own h i = filter (λ e. nat_eq e.agent i) h
+
+-- each event's answer is the reply to its call after the events before it
+abbrev pub IsLegal : Machine → List Event → Type 0
+IsLegal m h = (before after : List Event) (e : Event) →
+    before ++ e ∷ after ≡ h → e.answer ≡ reply_to m (moves before) e.call
+
+-- a step of the machine: one move of one agent, and the state that it leaves
+pub record Step : Type 0 where
+  pub agent : ℕ
+  pub move : Move
+  pub state : State
+
+-- a run from the state A: each step's move fires on the state before it, and leaves the step's state
+abbrev pub IsRun : Machine → State → List Step → Type 0
+IsRun m A [] = Unit {0}
+IsRun m A (s ∷ ss) = (fire m.part A s.move ≡ Ok s.state) × IsRun m s.state ss
+
+-- the step of a move of the agent, if there is one, and the others after it
+abbrev pub step_and : Machine → State → ℕ → Option Move → (State → List Step) → List Step
+step_and m A agent None rest = rest A
+step_and m A agent (Some M) rest =
+    record { agent = agent; move = M; state = after_move m.part A M } ∷ rest (after_move m.part A M)
+
+-- the steps of the fired moves of a history, from the state A
+abbrev pub steps_from : Machine → State → List Event → List Step
+steps_from m A [] = []
+steps_from m A (e ∷ h) = step_and m A e.agent (move_of e) (λ B. steps_from m B h)
+
+-- the move finds each location that it names as it was at the number of moves under which it names it
+abbrev pub IsCoherentAt : Machine → List Move → Call → ℕ → Type 0
+IsCoherentAt m q (call.Read places) before = Unit {0}
+IsCoherentAt m q (call.Fire reads instrs) before = All (λ r. r.number ≤ before →
+    val (state_of m (take r.number q)) r.at ≡ val (state_of m (take before q)) r.at) reads
+
+-- each fired move does
+abbrev pub IsCoherent : Machine → List Event → Type 0
+IsCoherent m h = All (λ e. (k : ℕ) →
+    e.answer ≡ answer.Fire (reply.Fired k) → IsCoherentAt m (moves h) e.call (k - 1)) h
+
+-- the number that a Fired event answers
+abbrev pub number_of : Answer → Option ℕ
+number_of (answer.Fire (reply.Fired k)) = Some k
+number_of _ = None
+
+-- the numbers of the fired moves, in order
+abbrev pub numbers : List Event → List ℕ
+numbers h = filter_map (λ e. number_of e.answer) h
+
+-- so many numbers, from one up
+abbrev pub count_up : ℕ → ℕ → List ℕ
+count_up from zero = []
+count_up from (suc count) = from ∷ count_up (from + 1) count
+
+-- at most 256 locations or named reads, and an answer to such a call; a read has a value for each location
+abbrev pub CallFits : Call → Answer → Type 0
+CallFits (call.Read places) (answer.Read number values) = (length places ≤ 256) × (length values ≡ length places)
+CallFits (call.Fire reads instrs) (answer.Fire r) = length reads ≤ 256
+CallFits _ _ = ⊥
+
+-- the event is one of so many agents, and its call and answer fit
+pub record EventFits (agents : ℕ) (e : Event) : Type 0 where
+  pub agent : e.agent < agents
+  pub call : CallFits e.call e.answer
+
+-- the history is within the limits of a journal
+pub record Fits (h : History) : Type 0 where
+  pub agents : h.agents ≤ 256
+  pub some : 1 ≤ h.capacity
+  pub capacity : h.capacity ≤ 1048576
+  pub few : length h.events ≤ 4294967295
+  pub events : All (EventFits h.agents) h.events

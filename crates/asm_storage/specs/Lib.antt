@@ -1,0 +1,7 @@
+pub mod Agents
+pub mod Calls
+pub mod History
+pub mod Machine
+pub mod Part
+pub mod Slip
+pub mod Storage

@@ -1,0 +1,104 @@
+-- The part of an agent that is no borrow: what is true of it beside its storage, and what its calls do.
+use Rattle.std.specs.Prelude.{◌≡◌, ℕ, ◌+◌, ◌-◌, ◌^◌, ◌<◌, ◌≤◌, List, length, take, Option, Some, None, Result, Ok, Err}
+use Rattle.std.specs.Prelude.{Bool, false, IsOk, IsTrue}
+use Rattle.std.specs.declared.alloc.AllocError.{AllocError}
+use mathlib.Core.List.{IsPrefix}
+use Rattle.asm_update.specs.Aggregator.{Meaning}
+use Rattle.asm_update.specs.Fire.{Part, fire, state_of}
+use Rattle.asm_update.specs.Move.{Move}
+use Rattle.asm_update.specs.State.{State}
+use Rattle.asm_state.specs.Stands.{Stands}
+use Rattle.asm_state.specs.Verdict.{least_stale}
+use Rattle.asm_state.specs.View.{StateView}
+use Rattle.asm_state.specs.declared.named.Named.{Named}
+use Rattle.asm_storage.specs.declared.call.Answer.TheVariants as answer
+use Rattle.asm_storage.specs.declared.call.Call.TheVariants as call
+use Rattle.asm_storage.specs.declared.call.Reply.{Reply}
+use Rattle.asm_storage.specs.declared.call.Reply.TheVariants as reply
+use Rattle.asm_storage.specs.declared.part.AgentPart.{AgentPart}
+use Rattle.asm_storage.specs.declared.receipt.Entry.{Entry}
+use Rattle.asm_storage.specs.Machine.{Machine, reply_to}
+use Rattle.asm_storage.specs.History.{fired_move}
+use Rattle.asm_storage.specs.Agents.{AgentView, IsAgent, moves_seen}
+use Rattle.asm_storage.specs.Calls.{receipt_at, IsAnswered}
+use Rattle.asm_storage.specs.Storage.{AgentAt, StorageView, machine_of, has_seen, has_looked, has_fired, last_look}
+
+-- the agent that the part is of
+abbrev pub account_of : AgentPart → AgentView
+account_of p = record { id = p.id; seen = p.progress.seen; won = p.progress.won; receipts = p.receipts.items }
+
+-- the same, at its storage
+abbrev pub agent_of : {A : Type 0} → StorageView A → AgentPart → AgentAt A
+agent_of s p = record { storage = s; misses = p.progress.misses; account = account_of p }
+
+-- the state stands for the first moves that were seen
+pub record IsFollowing (m : Machine) (seen : List Entry) (s : StateView) : Type 0 where
+  pub within : s.number ≤ length seen
+  pub stands : Stands m.part m.init s (take s.number (moves_seen seen))
+
+-- the part is of an agent of the storage
+pub record IsPartOf {A : Type 0} (meaning : A → Meaning) (s : StorageView A) (p : AgentPart) : Type 0 where
+  pub row : p.progress.row ≡ s.row
+  pub few : p.id < 256
+  pub counted : p.progress.misses ≤ 2 ^ 64 - 1
+  pub agent : IsAgent (machine_of meaning s) (account_of p)
+  pub following : IsFollowing (machine_of meaning s) p.progress.seen p.state
+
+-- the agent has looked on: it has seen more, or counted misses, and nothing else of it has changed
+pub record LooksOn {A : Type 0} (meaning : A → Meaning) (s : StorageView A) (old new : AgentPart) : Type 0 where
+  pub agent : agent_of s new ≡ has_looked (agent_of s old) new.progress.seen new.progress.misses
+  pub seen : IsPrefix old.progress.seen new.progress.seen
+  pub part : IsPartOf meaning s new
+
+-- an offer was lost: one entry more was seen, which is another's
+pub record IsLost {A : Type 0} (s : StorageView A) (old new : AgentPart) : Type 0 where
+  pub agent : agent_of s new ≡ has_seen (agent_of s old) new.progress.seen
+  pub seen : IsPrefix old.progress.seen new.progress.seen
+  pub longer : length new.progress.seen ≡ length old.progress.seen + 1
+
+-- the offer of the move was won, and this is the reply: the move is the one after those that had been seen
+pub record HasFired {A : Type 0} (s : StorageView A) (old new : AgentPart) (reads : List Named) (M : Move) (r : Reply)
+    : Type 0 where
+  pub reply : r ≡ reply.Fired (length old.progress.seen + 1)
+  pub agent : agent_of s new ≡ has_fired (agent_of s old)
+      (receipt_at (length old.progress.seen) (call.Fire reads M) (answer.Fire r)) M
+
+-- the reply to a fire after these moves, where it fires nothing; with None it is to fire
+abbrev pub IsReplyAt : Part → State → List Move → Bool → List Named → Move → Option Reply → Type 0
+IsReplyAt part A q full reads M (Some (reply.Stale l)) = least_stale part A q reads ≡ Some l
+IsReplyAt part A q full reads M (Some (reply.Clash c)) =
+    (least_stale part A q reads ≡ None) × (fire part (state_of part A q) M ≡ Err c)
+IsReplyAt part A q full reads M (Some reply.Full) =
+    (least_stale part A q reads ≡ None) × IsOk (fire part (state_of part A q) M) × IsTrue full
+IsReplyAt part A q full reads M (Some (reply.Fired k)) = ⊥
+IsReplyAt part A q full reads M None =
+    (least_stale part A q reads ≡ None) × IsOk (fire part (state_of part A q) M) × (full ≡ false)
+
+-- a fire is answered with this reply, which fires nothing; with None it is to fire, and there is room
+abbrev pub IsJudged : Machine → List Entry → List Named → Move → Option Reply → Type 0
+IsJudged m seen reads M (Some r) =
+    (answer.Fire r ≡ reply_to m (moves_seen seen) (call.Fire reads M))
+    × (fired_move (call.Fire reads M) (answer.Fire r) ≡ None)
+IsJudged m seen reads M None =
+    (answer.Fire (reply.Fired (length seen + 1)) ≡ reply_to m (moves_seen seen) (call.Fire reads M))
+    × (length seen < m.capacity)
+
+-- one turn of a fire: it was answered, or an offer was lost, and another entry was seen
+abbrev pub IsTurn : {A : Type 0} → (A → Meaning) → StorageView A → AgentPart → AgentPart → List Named → Move →
+    Option Reply → Type 0
+IsTurn meaning s old new reads M (Some r) = IsAnswered meaning (agent_of s old) (agent_of s new) reads M r
+IsTurn meaning s old new reads M None = LooksOn meaning s old new
+
+-- how many offers the turn made
+abbrev pub offers_in : Result (Option Reply) AllocError → ℕ
+offers_in (Ok (Some (reply.Fired k))) = 1
+offers_in (Ok (Some r)) = 0
+offers_in (Ok None) = 1
+offers_in (Err e) = 0
+
+-- how many of its looks found nothing: one before an offer, and else the last one, if there was one
+abbrev pub misses_in : {A : Type 0} → AgentAt A → Result (Option Reply) AllocError → ℕ
+misses_in new (Ok (Some (reply.Fired k))) = 1
+misses_in new (Ok (Some r)) = last_look new
+misses_in new (Ok None) = 1
+misses_in new (Err e) = last_look new

@@ -1,0 +1,217 @@
+ghost use Rattle.std.specs.Prelude.{filter, ◌≡◌, ◌↔◌, ◌<◌, ℕ, length, IfOk, IfErr, OnOk, OnErr, IsOk, IsErrOf};
+ghost use mathlib.Core.List.{IsPrefix};
+ghost use Rattle.asm_storage.specs.declared.error.FireError.TheVariants.{ManyReads};
+ghost use Rattle.asm_storage.specs.declared.error.ReadError.TheVariants.{ManyLocations};
+ghost use Rattle.asm_storage.specs.Agents.{IsAgent, is_fired};
+ghost use Rattle.asm_storage.specs.Calls.{HasLookedFor, IsAnswered, IsBusy, IsCoherentReply, IsRead, MadeOffers, Ran};
+ghost use Rattle.asm_storage.specs.Part.{agent_of, IsPartOf};
+ghost use Rattle.asm_storage.specs.Storage.{machine_of, has_seen, has_looked, last_look, IsSameAgent, Missed};
+
+use crate::call::Reply;
+use crate::error::{FireError, ReadError};
+use crate::part::AgentPart;
+use crate::reading::Reading;
+use crate::receipt::{Entry, Receipt};
+use crate::storage::Storage;
+use asm_element::Location;
+use asm_state::Named;
+use asm_update::{Aggregator, Instructions};
+use std::alloc::{AllocError, Global};
+use std::marker::Model;
+
+/// What one agent had seen when the mark was made, for another agent of the storage to learn.
+pub type Mark = asm_row::Mark<Entry>;
+
+/// An agent of a storage: it follows the row of moves with a state of its own, reads and fires, and keeps a
+/// receipt of each of its answered calls.
+///
+/// Contracts see its storage, its number, the entries of the row that it has seen, how many of its offers
+/// won, how many of its looks found an empty cell, and its receipts. Each answer is the one that a storage of
+/// one thread gives after the moves that the agent has then seen. It may be moved into any thread. No call
+/// waits, and each returns: it follows at most as many entries as the capacity. `try_fire_with` returns if
+/// the calls of its closure do.
+#[derive(Drop)]
+pub struct Agent<'s, A: Aggregator + Sync + Drop> {
+    storage: &'s Storage<A>,
+    part: AgentPart,
+}
+
+impl<'s, A: Aggregator + Sync + Drop> Model for Agent<'s, A> {
+    ghost use Rattle.asm_update.specs.contracts.plain_state.PlainState.{the_row as state_row};
+    ghost use Rattle.asm_storage.specs.contracts.receipt.Entry.{the_row as entry_row};
+    ghost use Rattle.asm_storage.specs.contracts.receipt.Receipt.{the_row as receipt_row};
+    ghost use Rattle.asm_storage.specs.Agents.{account_code};
+    ghost use Rattle.asm_storage.specs.Part.{agent_of, IsPartOf};
+    ghost use Rattle.asm_storage.specs.Storage.{AgentAt, storage_code, agent_code};
+
+    ghost Value = { AgentAt A };
+
+    ghost coded = { agent_code (storage_code A.code state_row.coded) (account_code entry_row.coded receipt_row.coded) };
+
+    ghost view = { λ a. agent_of a.storage.now a.part };
+
+    ghost invariant = { λ a. IsPartOf A.meaning a.storage.now a.part };
+}
+
+impl<'s, A: Aggregator + Sync + Drop> Agent<'s, A> {
+    pub(crate) fn of(storage: &'s Storage<A>, part: AgentPart) -> Agent<'s, A>
+        requires { IsPartOf A.meaning storage.now part }
+        ensures { result ≡ agent_of storage.now part }
+    {
+        Agent { storage, part }
+    }
+
+    /// Its number among the agents of one call of `Storage::agents`, below 256.
+    pub fn id(&self) -> u32
+        ensures id { result ≡ self.now.account.id }
+        ensures few { result < 256 }
+    {
+        self.part.id
+    }
+
+    /// How many moves it has seen.
+    pub fn seen(&self) -> u32
+        ensures { result ≡ length self.now.account.seen }
+    {
+        self.part.progress.seen_len()
+    }
+
+    /// How many of its offers won: as many as its receipts of fired moves.
+    pub fn won(&self) -> u32
+        ensures value { result ≡ self.now.account.won }
+        ensures counted { self.now.account.won ≡ length (filter is_fired self.now.account.receipts) }
+    {
+        self.part.progress.won()
+    }
+
+    /// How many of its looks found an empty cell, counted up to 18,446,744,073,709,551,615.
+    pub fn misses(&self) -> u64
+        ensures { result ≡ self.now.misses }
+    {
+        self.part.progress.misses()
+    }
+
+    /// The receipts of its answered calls, in order.
+    pub fn receipts(&self) -> &[Receipt]
+        ensures { result.now ≡ self.now.account.receipts }
+    {
+        self.part.receipts.as_slice()
+    }
+
+    // Tells what is true of every agent.
+    pub(crate) fn holds(&self)
+        ensures { IsAgent (machine_of A.meaning self.now.storage) self.now.account }
+    {
+        let _ = &self.part;
+    }
+
+    /// A mark of what it has seen, which another agent of the storage can learn.
+    ///
+    /// The answer is always `Ok`: a mark takes no memory of its own.
+    pub fn mark(&self, alloc: Global) -> Result<Mark, AllocError>
+        ensures made { IsOk result }
+        ensures holds { IfOk result (λ m. m ≡ record { row = self.now.storage.row; seen = self.now.account.seen }) }
+    {
+        self.part.progress.mark(alloc)
+    }
+
+    /// Takes in what a mark of the same storage holds, without a look at the row.
+    ///
+    /// Afterwards what it has seen begins with what the mark holds and with what it had seen before. Its
+    /// receipts, wins and misses stay as they are. The answer is always `Ok`: its state follows what was
+    /// learnt at the start of the next call.
+    pub fn learn(&mut self, alloc: Global, mark: &Mark) -> Result<(), AllocError>
+        requires { mark.now.row ≡ self.old.storage.row }
+        ensures kept { self.new ≡ has_seen self.old self.new.account.seen }
+        ensures mine { IsPrefix self.old.account.seen self.new.account.seen }
+        ensures theirs { IsPrefix mark.now.seen self.new.account.seen }
+        ensures made { IsOk result }
+    {
+        let _ = alloc;
+        let storage = self.storage;
+        self.part.learn(storage, mark);
+        Ok(())
+    }
+
+    /// Reads at most 256 locations: their values, in the order of the call, with the number of moves at which
+    /// they were read.
+    ///
+    /// It looks at the row until it finds nothing more, has its state follow what it found, and keeps a
+    /// receipt. `ReadError::ManyLocations` comes exactly for more locations, before anything else; `Memory`
+    /// only where memory was refused. After an error no receipt was added, and after `Memory` it may have
+    /// seen more.
+    pub fn read(&mut self, alloc: Global, places: &[Location]) -> Result<Reading, ReadError>
+        ensures same { IsSameAgent self.old self.new }
+        ensures answered { IfOk result (IsRead A.meaning self.old self.new places.now) }
+        ensures looked { IfOk result (λ r. Missed self.old (last_look self.new) self.new) }
+        ensures seen { IsPrefix self.old.account.seen self.new.account.seen }
+        ensures refused { OnErr result (self.new ≡ has_looked self.old self.new.account.seen self.new.misses) }
+        ensures unread { IfErr result (HasLookedFor self.old self.new) }
+        ensures many { IsErrOf result ManyLocations ↔ (256 < length places.now) }
+    {
+        if places.len() > 256 {
+            return Err(ReadError::ManyLocations);
+        }
+        let storage = self.storage;
+        let reading = self.part.read(alloc, storage, places)?;
+        Ok(reading)
+    }
+
+    /// Fires a move, if none of the at most 256 named locations was written since it was read.
+    ///
+    /// It goes in turns. A turn looks at the row until it finds nothing more and has the agent's state follow
+    /// what it found; then it answers `Stale` with the least stale location, else the move's `Clash`, else
+    /// `Full` where it has seen as many moves as the capacity, and else it calls `between` and offers the
+    /// move for the next place of the row. A won offer answers `Fired`; a lost one begins a new turn.
+    /// A receipt is kept of each answer.
+    ///
+    /// `FireError::ManyReads` comes exactly for more named locations, before anything else; `Busy` where 64
+    /// offers of this call were lost, with what had been seen at its start and at its end; `Memory` only
+    /// where memory was refused, and never after an offer that was won. After an error nothing was fired and
+    /// no receipt was added, and after `Busy` and `Memory` it may have seen more.
+    pub fn try_fire_with<F: FnMut()>(
+        &mut self,
+        alloc: Global,
+        reads: &[Named],
+        instrs: &Instructions,
+        between: &mut F,
+    ) -> Result<Reply, FireError>
+        requires { F.IsAlwaysCallable between.old }
+        ensures same { IsSameAgent self.old self.new }
+        ensures answered { IfOk result (IsAnswered A.meaning self.old self.new reads.now instrs.now) }
+        ensures coherent { IfOk result (IsCoherentReply A.meaning self.new reads.now instrs.now) }
+        ensures seen { IsPrefix self.old.account.seen self.new.account.seen }
+        ensures refused { OnErr result (self.new ≡ has_looked self.old self.new.account.seen self.new.misses) }
+        ensures busy { IfErr result (IsBusy self.old self.new) }
+        ensures many { IsErrOf result ManyReads ↔ (256 < length reads.now) }
+        ensures callable { F.IsAlwaysCallable between.new }
+        ensures offers { (n : ℕ) × MadeOffers self.old self.new result n ×
+            Ran (λ f g. F.step f tt g) between.old n between.new }
+    {
+        if reads.len() > 256 {
+            return Err(FireError::ManyReads);
+        }
+        let storage = self.storage;
+        self.part.fire(alloc, storage, reads, instrs, between)
+    }
+
+    /// Fires a move, if none of the at most 256 named locations was written since it was read: the same as
+    /// `try_fire_with` with a closure that does nothing.
+    pub fn try_fire(
+        &mut self,
+        alloc: Global,
+        reads: &[Named],
+        instrs: &Instructions,
+    ) -> Result<Reply, FireError>
+        ensures same { IsSameAgent self.old self.new }
+        ensures answered { IfOk result (IsAnswered A.meaning self.old self.new reads.now instrs.now) }
+        ensures coherent { IfOk result (IsCoherentReply A.meaning self.new reads.now instrs.now) }
+        ensures seen { IsPrefix self.old.account.seen self.new.account.seen }
+        ensures refused { OnErr result (self.new ≡ has_looked self.old self.new.account.seen self.new.misses) }
+        ensures busy { IfErr result (IsBusy self.old self.new) }
+        ensures many { IsErrOf result ManyReads ↔ (256 < length reads.now) }
+        ensures offers { (n : ℕ) × MadeOffers self.old self.new result n }
+    {
+        self.try_fire_with(alloc, reads, instrs, &mut || {})
+    }
+}

@@ -1,0 +1,95 @@
+ghost use Rattle.std.specs.Prelude.{◌≡◌, IfOk};
+
+use crate::copying::{copied_named, copied_places, copied_values};
+use asm_element::{Items, Location, Value};
+use asm_state::Named;
+use asm_update::{Clash, Instructions};
+use std::alloc::{AllocError, Global};
+
+/// What an agent asks of the storage.
+#[derive(Debug, Drop, PartialEq, Eq)]
+pub enum Call {
+    /// To read these locations.
+    Read(Items<Location>),
+    /// To fire the instructions, if none of the named locations was written since it was read.
+    Fire {
+        /// The locations on which the instructions rest, each with the number at which it was read.
+        reads: Items<Named>,
+        /// The move that is to be fired.
+        instrs: Instructions,
+    },
+}
+
+/// What the storage replies to a fire: the first of these that holds, in the order `Stale`, `Clash`,
+/// `Full`, `Fired`.
+///
+/// Source: this project's profile; a clash is an inconsistent update set as in Börger and Stärk.
+#[derive(Debug, Drop, PartialEq, Eq)]
+pub enum Reply {
+    /// The move was fired, and is the one with this number; the first move has the number 1.
+    Fired(u32),
+    /// The least named location that was written since it was read.
+    Stale(Location),
+    /// The least location whose updates have no result, with the cause.
+    Clash(Clash),
+    /// As many moves were fired as the capacity.
+    Full,
+}
+
+/// What the storage answers to a call.
+#[derive(Debug, Drop, PartialEq, Eq)]
+pub enum Answer {
+    /// To a read.
+    Read {
+        /// How many moves were fired before it.
+        number: u32,
+        /// The values of the locations, in the order of the call.
+        values: Items<Value>,
+    },
+    /// To a fire.
+    Fire(Reply),
+}
+
+impl Call {
+    pub(crate) fn copy(&self, alloc: Global) -> Result<Call, AllocError>
+        ensures { IfOk result (λ c. c ≡ self.now) }
+    {
+        match self {
+            Call::Read(places) => Ok(Call::Read(copied_places(alloc, places.as_slice())?)),
+            Call::Fire { reads, instrs } => Ok(Call::Fire {
+                reads: copied_named(alloc, reads.as_slice())?,
+                instrs: instrs.copy(alloc)?,
+            }),
+        }
+    }
+}
+
+impl Reply {
+    pub(crate) fn copy(&self, alloc: Global) -> Result<Reply, AllocError>
+        ensures { IfOk result (λ r. r ≡ self.now) }
+    {
+        Ok(match self {
+            Reply::Fired(number) => Reply::Fired(*number),
+            Reply::Stale(at) => Reply::Stale(at.copy(alloc)?),
+            Reply::Clash(clash) => Reply::Clash(Clash {
+                at: clash.at.copy(alloc)?,
+                cause: clash.cause,
+            }),
+            Reply::Full => Reply::Full,
+        })
+    }
+}
+
+impl Answer {
+    pub(crate) fn copy(&self, alloc: Global) -> Result<Answer, AllocError>
+        ensures { IfOk result (λ a. a ≡ self.now) }
+    {
+        match self {
+            Answer::Read { number, values } => Ok(Answer::Read {
+                number: *number,
+                values: copied_values(alloc, values.as_slice())?,
+            }),
+            Answer::Fire(reply) => Ok(Answer::Fire(reply.copy(alloc)?)),
+        }
+    }
+}

@@ -1,0 +1,105 @@
+ghost use Rattle.std.specs.Prelude.{◌≡◌, ◌↔◌, length, min, All, IsTrue};
+ghost use Rattle.std.specs.Option.{option_copied};
+ghost use Rattle.asm_storage.specs.History.{move_of, moves, EventFits, CallFits, Fits};
+
+use crate::call::{Answer, Call, Reply};
+use asm_element::Items;
+use asm_update::{Instructions, PlainState};
+
+/// An answered call, with the agent that made it.
+#[derive(Debug, Drop, PartialEq, Eq)]
+pub struct Event {
+    /// The number of the agent.
+    pub agent: u32,
+    /// What was asked.
+    pub call: Call,
+    /// What was answered.
+    pub answer: Answer,
+}
+
+impl Event {
+    // The instructions of the move, where the call fired one.
+    fn fired_move(&self) -> Option<&Instructions>
+        ensures { option_copied result ≡ move_of self.now }
+    {
+        match (&self.call, &self.answer) {
+            (Call::Fire { instrs, .. }, Answer::Fire(Reply::Fired(_))) => Some(instrs),
+            _ => None,
+        }
+    }
+
+    // Whether the call is within its limit, and the answer is one to such a call.
+    fn call_fits(&self) -> bool
+        ensures { IsTrue result ↔ CallFits self.now.call self.now.answer }
+    {
+        match (&self.call, &self.answer) {
+            (Call::Read(places), Answer::Read { values, .. }) => {
+                let places = places.as_slice().len();
+                places <= 256 && values.as_slice().len() == places
+            }
+            (Call::Fire { reads, .. }, Answer::Fire(_)) => reads.as_slice().len() <= 256,
+            _ => false,
+        }
+    }
+
+    // Whether it is an event of a history with so many agents that can be written as a journal.
+    fn fits(&self, agents: u32) -> bool
+        ensures { IsTrue result ↔ EventFits agents self.now }
+    {
+        self.agent < agents && self.call_fits()
+    }
+}
+
+/// The answered calls of the agents of a storage in one order, with what the storage was opened with.
+#[derive(Debug, Drop, PartialEq, Eq)]
+pub struct History {
+    /// The opening state.
+    pub init: PlainState,
+    /// The most moves that the storage takes.
+    pub capacity: u32,
+    /// One more than the greatest number of an agent, or 0.
+    pub agents: u32,
+    /// The answered calls.
+    pub events: Items<Event>,
+}
+
+impl History {
+    /// How many moves were fired; 4,294,967,295 where there are more.
+    pub fn moves(&self) -> u32
+        ensures { result ≡ min (length (moves self.now.events)) 4294967295 }
+    {
+        let mut count = 0u32;
+        for event in self.events.as_slice() {
+            if event.fired_move().is_some() {
+                count = count.saturating_add(1);
+            }
+        }
+        count
+    }
+
+    /// Whether the history is within the limits of a journal: at most 256 agents, a capacity of 1 to
+    /// 1,048,576, at most 4,294,967,295 events, each of an agent with a number below `agents`, with at
+    /// most 256 locations or named reads, and with an answer that is one to such a call.
+    pub fn fits(&self) -> bool
+        ensures { IsTrue result ↔ Fits self.now }
+    {
+        let events = self.events.as_slice();
+        self.agents <= 256
+            && 1 <= self.capacity
+            && self.capacity <= 1_048_576
+            && events.len() as u64 <= 4_294_967_295
+            && all_fit(events, self.agents)
+    }
+}
+
+// Whether each of the events fits a history with so many agents.
+fn all_fit(events: &[Event], agents: u32) -> bool
+    ensures { IsTrue result ↔ All (EventFits agents) events.now }
+{
+    for event in events {
+        if !event.fits(agents) {
+            return false;
+        }
+    }
+    true
+}

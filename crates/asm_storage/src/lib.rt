@@ -1,0 +1,30 @@
+//! Agents that share the state of an abstract state machine without locks, with a receipt of each answered call.
+//!
+//! A `Storage` has an opening state and a row for the moves that are fired. Each `Agent` of it follows that row
+//! with a state of its own: it looks for new moves, judges its call on what it has then seen, and offers its move
+//! for the next place of the row. `Storage::close` merges the receipts of agents into one history, in which each
+//! answer is the one that a storage of one thread gives. No call waits or takes a lock.
+#![tactic(auto)]
+
+mod agent;
+mod call;
+mod closing;
+mod copying;
+mod error;
+mod fire;
+mod history;
+mod merging;
+mod missing;
+mod part;
+mod read;
+mod reading;
+mod receipt;
+mod storage;
+
+pub use agent::{Agent, Mark};
+pub use call::{Answer, Call, Reply};
+pub use error::{AgentsError, CloseError, FireError, ReadError, StorageError};
+pub use history::{Event, History};
+pub use reading::Reading;
+pub use receipt::{Entry, Receipt};
+pub use storage::Storage;

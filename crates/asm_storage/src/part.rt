@@ -1,0 +1,150 @@
+ghost use Rattle.std.specs.Prelude.{◌≡◌, ◌+◌, ◌<◌, ◌≤◌, nat_lt, length, map, IfOk, OnOk};
+ghost use Rattle.std.specs.Bool.{OnTrue, OnFalse};
+ghost use mathlib.Core.List.{IsPrefix};
+ghost use Rattle.asm_storage.specs.Storage.{at_start, has_seen, last_look, Missed};
+ghost use Rattle.asm_storage.specs.Part.{agent_of, IsPartOf, LooksOn};
+
+use crate::agent::Mark;
+use crate::receipt::{Entry, Receipt};
+use crate::storage::Storage;
+use asm_row::Progress;
+use asm_state::State;
+use asm_update::Aggregator;
+use std::alloc::{AllocError, Global};
+
+/// What an agent has beside its borrow of the storage: its number, how far it has come at the row, its own
+/// state, which may lag behind what was seen, and its receipts.
+///
+/// It borrows nothing, so one value may hold it beside an owner of the storage. Its calls are passed the
+/// storage, with the condition that it is the one that the part is of.
+#[derive(Drop)]
+pub(crate) struct AgentPart {
+    pub(crate) id: u32,
+    pub(crate) progress: Progress<Entry>,
+    pub(crate) state: State,
+    pub(crate) receipts: Vec<Receipt>,
+}
+
+impl AgentPart {
+    /// The part of an agent of the storage that has made no call.
+    pub(crate) fn at_start<A: Aggregator + Sync + Drop>(
+        alloc: Global,
+        storage: &Storage<A>,
+        id: u32,
+    ) -> Result<AgentPart, AllocError>
+        requires { id < 256 }
+        ensures agent { IfOk result (λ p. agent_of storage.now p ≡ at_start storage.now id) }
+        ensures part { IfOk result (IsPartOf A.meaning storage.now) }
+    {
+        let progress = storage.row().progress();
+        let init = storage.init().copy(alloc)?;
+        let state = State::new(alloc, init)?;
+        Ok(AgentPart {
+            id,
+            progress,
+            state,
+            receipts: Vec::new(alloc),
+        })
+    }
+
+    // Looks once; true where an entry was found.
+    fn look_once<A: Aggregator + Sync + Drop>(&mut self, storage: &Storage<A>) -> bool
+        requires { IsPartOf A.meaning storage.now self.old }
+        ensures looks { LooksOn A.meaning storage.now self.old self.new }
+        ensures within { length self.new.progress.seen ≤ length storage.now.row }
+        ensures found { OnTrue result (
+            (length self.new.progress.seen ≡ length self.old.progress.seen + 1)
+            × (self.new.progress.misses ≡ self.old.progress.misses)) }
+        ensures none { OnFalse result (
+            Missed (agent_of storage.now self.old) (last_look (agent_of storage.now self.new))
+            (agent_of storage.now self.new)) }
+    {
+        if self.progress.is_full() {
+            return false;
+        }
+        self.progress.next(storage.row()).is_some()
+    }
+
+    // Looks until nothing is found, or the whole row is seen.
+    fn look<A: Aggregator + Sync + Drop>(&mut self, storage: &Storage<A>)
+        requires { IsPartOf A.meaning storage.now self.old }
+        ensures looks { LooksOn A.meaning storage.now self.old self.new }
+        ensures missed { Missed (agent_of storage.now self.old) (last_look (agent_of storage.now self.new))
+            (agent_of storage.now self.new) }
+    {
+        while self.look_once(storage) {}
+    }
+
+    // Whether the state is behind what was seen.
+    fn lags(&self) -> bool
+        ensures { result ≡ nat_lt self.now.state.number (length self.now.progress.seen) }
+    {
+        self.state.number() < self.progress.seen_len()
+    }
+
+    // The state follows one more of the moves that were seen.
+    fn follow_one<A: Aggregator + Sync + Drop>(
+        &mut self,
+        alloc: Global,
+        storage: &Storage<A>,
+    ) -> Result<(), AllocError>
+        requires part { IsPartOf A.meaning storage.now self.old }
+        requires lags { self.old.state.number < length self.old.progress.seen }
+        ensures part { IsPartOf A.meaning storage.now self.new }
+        ensures kept { self.new ≡ record self.old { state = self.new.state } }
+        ensures number { OnOk result (self.new.state.number ≡ self.old.state.number + 1) }
+    {
+        let _seen = self.progress.seen_len();
+        let _capacity = storage.row().capacity();
+        let entry = self.progress.at(storage.row(), self.state.number());
+        self.state
+            .follow(alloc, storage.aggregator(), &entry.instrs)?;
+        Ok(())
+    }
+
+    // The state follows all that was seen.
+    fn catch_up<A: Aggregator + Sync + Drop>(
+        &mut self,
+        alloc: Global,
+        storage: &Storage<A>,
+    ) -> Result<(), AllocError>
+        requires { IsPartOf A.meaning storage.now self.old }
+        ensures part { IsPartOf A.meaning storage.now self.new }
+        ensures kept { self.new ≡ record self.old { state = self.new.state } }
+        ensures level { OnOk result (self.new.state.number ≡ length self.new.progress.seen) }
+    {
+        while self.lags() {
+            self.follow_one(alloc, storage)?;
+        }
+        Ok(())
+    }
+
+    /// Looks on, and has the state follow all that was seen.
+    pub(crate) fn follow_row<A: Aggregator + Sync + Drop>(
+        &mut self,
+        alloc: Global,
+        storage: &Storage<A>,
+    ) -> Result<(), AllocError>
+        requires { IsPartOf A.meaning storage.now self.old }
+        ensures looks { LooksOn A.meaning storage.now self.old self.new }
+        ensures missed { Missed (agent_of storage.now self.old) (last_look (agent_of storage.now self.new))
+            (agent_of storage.now self.new) }
+        ensures level { OnOk result (self.new.state.number ≡ length self.new.progress.seen) }
+    {
+        self.look(storage);
+        self.catch_up(alloc, storage)
+    }
+
+    /// Takes in what the mark holds, as far as it was not seen.
+    pub(crate) fn learn<A: Aggregator + Sync + Drop>(&mut self, storage: &Storage<A>, mark: &Mark)
+        requires part { IsPartOf A.meaning storage.now self.old }
+        requires mark { mark.now.row ≡ storage.now.row }
+        ensures part { IsPartOf A.meaning storage.now self.new }
+        ensures kept { agent_of storage.now self.new ≡ has_seen (agent_of storage.now self.old) self.new.progress.seen }
+        ensures mine { IsPrefix self.old.progress.seen self.new.progress.seen }
+        ensures theirs { IsPrefix mark.now.seen self.new.progress.seen }
+    {
+        let _ = storage;
+        self.progress.learn(mark);
+    }
+}

@@ -1,0 +1,76 @@
+ghost use Rattle.std.specs.Prelude.{◌≡◌, ◌<◌, length, Some, slice_get, IfOk};
+
+use asm_element::{Items, Location, Value};
+use asm_state::Named;
+use std::alloc::{AllocError, Global};
+use std::marker::Model;
+
+/// What a read was answered: the locations of the call and their values, with the number of moves at which they
+/// were read. The agent's receipt holds the same.
+#[derive(Drop)]
+pub struct Reading {
+    pub(crate) number: u32,
+    pub(crate) places: Items<Location>,
+    pub(crate) values: Items<Value>,
+}
+
+impl Model for Reading {
+    ghost use Rattle.std.specs.Prelude.{◌≡◌, length};
+    ghost use Rattle.asm_element.specs.contracts.location.Location.{the_row as location_row};
+    ghost use Rattle.asm_element.specs.contracts.value.Value.{the_row as value_row};
+    ghost use Rattle.asm_storage.specs.Calls.{ReadingView, reading_code};
+
+    ghost Value = { ReadingView };
+
+    ghost coded = { reading_code location_row.coded value_row.coded };
+
+    ghost view = { λ r. record { number = r.number; places = r.places; values = r.values } };
+
+    ghost invariant = { λ r. length r.values ≡ length r.places };
+}
+
+impl Reading {
+    /// The number of moves at which it was read.
+    pub fn number(&self) -> u32
+        ensures { result ≡ self.now.number }
+    {
+        self.number
+    }
+
+    /// How many locations were read.
+    pub fn len(&self) -> usize
+        ensures { result ≡ length self.now.places }
+    {
+        self.places.as_slice().len()
+    }
+
+    /// The value of the location at place `i` of the call, counted from 0; `i` must be below `len`.
+    pub fn value(&self, i: usize) -> &Value
+        requires { i < length self.now.places }
+        ensures { slice_get self.now.values i ≡ Some result.now }
+    {
+        &self.values.as_slice()[i]
+    }
+
+    /// The location at place `i` of the call, counted from 0; `i` must be below `len`.
+    pub fn at(&self, i: usize) -> &Location
+        requires { i < length self.now.places }
+        ensures { slice_get self.now.places i ≡ Some result.now }
+    {
+        &self.places.as_slice()[i]
+    }
+
+    /// The location at a place of the call, named with the number of the reading: what a fire that rests on this
+    /// value passes.
+    ///
+    /// `AllocError` comes only where memory was refused.
+    pub fn named(&self, alloc: Global, i: usize) -> Result<Named, AllocError>
+        requires { i < length self.now.places }
+        ensures at { IfOk result (λ n. slice_get self.now.places i ≡ Some n.at) }
+        ensures number { IfOk result (λ n. n.number ≡ self.now.number) }
+    {
+        let at = self.at(i).copy(alloc)?;
+        let number = self.number;
+        Ok(Named { at, number })
+    }
+}

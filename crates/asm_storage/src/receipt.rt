@@ -1,0 +1,50 @@
+ghost use Rattle.std.specs.Prelude.{◌≡◌, IfOk};
+ghost use Rattle.asm_storage.specs.Agents.{is_fired, event_of};
+
+use crate::call::{Answer, Call, Reply};
+use crate::history::Event;
+use asm_update::Instructions;
+use std::alloc::{AllocError, Global};
+
+/// An answered call of one agent.
+#[derive(Debug, Drop, PartialEq, Eq)]
+pub struct Receipt {
+    /// What was asked.
+    pub call: Call,
+    /// What was answered.
+    pub answer: Answer,
+    /// How many moves had been fired where the answer was judged; for `Fired(k)` it is k − 1.
+    pub stood: u32,
+}
+
+/// A move in the row of a storage.
+#[derive(Debug, Drop, PartialEq, Eq)]
+pub struct Entry {
+    /// The agent that fired it.
+    pub agent: u32,
+    /// Its instructions.
+    pub instrs: Instructions,
+}
+
+impl Receipt {
+    /// Whether the call fired a move.
+    pub(crate) fn is_fired(&self) -> bool
+        ensures { result ≡ is_fired self.now }
+    {
+        match (&self.call, &self.answer) {
+            (Call::Fire { .. }, Answer::Fire(Reply::Fired(_))) => true,
+            _ => false,
+        }
+    }
+
+    /// The call and the answer as an event of that agent.
+    pub(crate) fn event(&self, alloc: Global, agent: u32) -> Result<Event, AllocError>
+        ensures { IfOk result (λ e. e ≡ event_of agent self.now) }
+    {
+        Ok(Event {
+            agent,
+            call: self.call.copy(alloc)?,
+            answer: self.answer.copy(alloc)?,
+        })
+    }
+}

@@ -1,0 +1,105 @@
+ghost use Rattle.std.specs.Prelude.{◌≡◌, ◌<◌, ◌↔◌, ◌⊎◌, map, length, IfOk, IsErrOf};
+ghost use Rattle.std.specs.List.{range_with_len};
+ghost use Rattle.asm_storage.specs.declared.error.StorageError.TheVariants as storage_error;
+ghost use Rattle.asm_storage.specs.declared.error.AgentsError.TheVariants as agents_error;
+ghost use Rattle.asm_storage.specs.Storage.{at_start};
+
+use crate::agent::Agent;
+use crate::error::{AgentsError, StorageError};
+use crate::part::AgentPart;
+use crate::receipt::Entry;
+use asm_row::{Row, RowError};
+use asm_update::{Aggregator, PlainState};
+use std::alloc::Global;
+use std::marker::Model;
+
+/// A state that agents share: an aggregator, an opening state, and a row for the moves that are fired.
+///
+/// It is the shared object of a universal construction (Herlihy and Shavit, "The Art of Multiprocessor
+/// Programming"): threads agree on the list of moves, and each agent follows that list with a state of its
+/// own. Contracts see the cells of the row, the aggregator and the opening state. It is `Sync` where the
+/// aggregator is, and no call of it or of its agents waits.
+#[derive(Drop)]
+pub struct Storage<A: Aggregator + Sync + Drop> {
+    row: Row<Entry>,
+    aggregator: A,
+    init: PlainState,
+}
+
+impl<A: Aggregator + Sync + Drop> Model for Storage<A> {
+    ghost use Rattle.asm_update.specs.contracts.plain_state.PlainState.{the_row as state_row};
+    ghost use Rattle.asm_storage.specs.Storage.{StorageView, storage_code};
+
+    ghost Value = { StorageView A };
+
+    ghost coded = { storage_code A.code state_row.coded };
+
+    ghost view = { λ s. record { row = s.row; agg = s.aggregator; init = s.init } };
+}
+
+impl<A: Aggregator + Sync + Drop> Storage<A> {
+    /// A storage of which no move was fired, for at most `capacity` moves, from 1 to 1,048,576.
+    ///
+    /// `StorageError::BadCapacity` comes exactly for another capacity, before any memory is asked for;
+    /// `Memory` only where memory was refused.
+    pub fn new(
+        alloc: Global,
+        aggregator: A,
+        init: PlainState,
+        capacity: u32,
+    ) -> Result<Storage<A>, StorageError>
+        ensures aggregator { IfOk result (λ s. s.agg ≡ aggregator) }
+        ensures init { IfOk result (λ s. s.init ≡ init) }
+        ensures capacity { IfOk result (λ s. length s.row ≡ capacity) }
+        ensures bad { IsErrOf result storage_error.BadCapacity ↔ ((capacity ≡ 0) ⊎ (1048576 < capacity)) }
+    {
+        let row = match Row::new(alloc, capacity) {
+            Ok(row) => row,
+            Err(RowError::BadCapacity) => return Err(StorageError::BadCapacity),
+            Err(RowError::Memory) => return Err(StorageError::Memory),
+        };
+        Ok(Storage {
+            row,
+            aggregator,
+            init,
+        })
+    }
+
+    /// So many agents, from 1 to 256, with the numbers from 0 up; they have seen nothing, and have no
+    /// receipts. A second call numbers from 0 again.
+    ///
+    /// `AgentsError::BadAgents` comes exactly for another number, before any memory is asked for;
+    /// `Memory` only where memory was refused.
+    pub fn agents(&self, alloc: Global, n: u32) -> Result<Vec<Agent<'_, A>>, AgentsError>
+        ensures made { IfOk result (λ agents. agents.items ≡ map (at_start self.now) (range_with_len 0 n)) }
+        ensures bad { IsErrOf result agents_error.BadAgents ↔ ((n ≡ 0) ⊎ (256 < n)) }
+    {
+        if n == 0 || n > 256 {
+            return Err(AgentsError::BadAgents);
+        }
+        let mut agents = Vec::new(alloc);
+        for id in 0..n {
+            let part = AgentPart::at_start(alloc, self, id)?;
+            agents.push(Agent::of(self, part))?;
+        }
+        Ok(agents)
+    }
+
+    pub(crate) fn row(&self) -> &Row<Entry>
+        ensures { result.now ≡ self.now.row }
+    {
+        &self.row
+    }
+
+    pub(crate) fn aggregator(&self) -> &A
+        ensures { result.now ≡ self.now.agg }
+    {
+        &self.aggregator
+    }
+
+    pub(crate) fn init(&self) -> &PlainState
+        ensures { result.now ≡ self.now.init }
+    {
+        &self.init
+    }
+}
