@@ -1,0 +1,159 @@
+-- Sets, bags and states from lists, from the last item to the first.
+use Rattle.std.proofs.Common.{◌≡◌, ◌<◌, ◌≤◌, ◌+◌, ℕ, zero, suc, Bool, true, false, cond, ◌||◌, not, List, [], ◌∷◌, ◌++◌, Option, Some, None, unwrap_or, refl, sym, ap, subst, ◌∙◌, append_assoc, true≢false, arith}
+use Rattle.std.specs.Prelude.{nat_lt, is_some}
+use Rattle.std.specs.Borrow.{Bor}
+use Rattle.std.specs.Option.{option_copied}
+use Rattle.std.specs.List.{IsDistinct, list_any, AllByRecursion}
+use Rattle.std.specs.Map.{keys_of}
+use Rattle.std.specs.Ordering.{eq_by_cmp}
+use Rattle.std.specs.declared.cmp.Ordering.{Ordering}
+use Rattle.std.specs.FinMap as finite
+use Rattle.std.proofs.lemmas.Bool.Decides.{nat_tests}
+use Rattle.std.proofs.lemmas.Map.Keys.{IsDistinct-cons, IsDistinct-head, IsDistinct-tail}
+use Rattle.asm_element.specs.Element.{element_cmp, element_cmp_total}
+use Rattle.asm_element.specs.Place.{Place, location_cmp, location_cmp_total}
+use Rattle.asm_element.specs.declared.element.Element.{Element}
+use Rattle.asm_element.specs.declared.value.Value.{Value}
+use Rattle.asm_element.specs.Set as set
+use Rattle.asm_element.specs.Bag as bag
+use Rattle.asm_update.specs.State.{State, Updates, write}
+use Rattle.asm_aggregate.specs.FamilyLemmas.{none_true}
+use Rattle.asm_aggregate.specs.SetAlgebra.{contains-from_list}
+use Rattle.asm_journal.specs.Shape.{AreDistinct}
+use Rattle.asm_journal.specs.Set.{IsSetOf, IsBagOf, bag_of}
+use Rattle.asm_journal.specs.Value.{IsStateOf}
+
+-- what is left and what is done is all
+pub one_back : {X : Type 0} (xs : List X) (x : X) (left done all : List X) → left ++ done ≡ all → left ≡ xs ++ x ∷ [] → xs ++ x ∷ done ≡ all
+one_back xs x left done all whole step = sym (append_assoc xs (x ∷ []) done) ∙ ap (λ l. l ++ done) (sym step) ∙ whole
+
+keys-append : {K X : Type 0} (ps qs : List (K × X)) → keys_of (ps ++ qs) ≡ keys_of ps ++ keys_of qs
+keys-append [] qs = refl
+keys-append (p ∷ ps) qs = ap (λ l. p.0 ∷ l) (keys-append ps qs)
+
+-- ---- keys that stand twice
+
+module _ {K : Type 0} (cmp : K → K → Ordering) where
+  -- whether the key is among those of a list
+  abbrev stands : K → List K → Bool
+  stands x ys = list_any (eq_by_cmp cmp x) ys
+
+  others : (x : K) (ys : List K) → stands x ys ≡ false → AllByRecursion (λ y. eq_by_cmp cmp x y ≡ false) ys
+  others x [] h = tt
+  others x (y ∷ ys) h = let parts = none_true _ _ h in (parts.0, others x ys parts.1)
+
+  not_any : (x : K) (ys : List K) → AllByRecursion (λ y. eq_by_cmp cmp x y ≡ false) ys → stands x ys ≡ false
+  not_any x [] h = refl
+  not_any x (y ∷ ys) h = ap (λ b. b || stands x ys) h.0 ∙ not_any x ys h.1
+
+  pub none_distinct : AreDistinct cmp []
+  unfolding IsDistinct
+  none_distinct = tt
+
+  -- one key more, which isn't there yet
+  more_distinct : (x : K) (ys : List K) → stands x ys ≡ false → AreDistinct cmp ys → AreDistinct cmp (x ∷ ys)
+  more_distinct x ys new h = IsDistinct-cons (eq_by_cmp cmp) x ys (others x ys new) h
+
+  -- what is distinct has distinct ends
+  end_distinct : (xs ys : List K) → AreDistinct cmp (xs ++ ys) → AreDistinct cmp ys
+  end_distinct [] ys h = h
+  end_distinct (x ∷ xs) ys h = end_distinct xs ys (IsDistinct-tail (eq_by_cmp cmp) x (xs ++ ys) h)
+
+  -- a key that stands further on
+  twice : (xs : List K) (x : K) (ys all : List K) → xs ++ x ∷ ys ≡ all → stands x ys ≡ true → AreDistinct cmp all → ⊥
+  twice xs x ys all whole any h =
+      let ended = end_distinct xs (x ∷ ys) (subst (AreDistinct cmp) (sym whole) h) in
+      true≢false (sym any ∙ not_any x ys (IsDistinct-head (eq_by_cmp cmp) x ys ended))
+
+  twice_key : {X : Type 0} (xs : List (K × X)) (p : K × X) (ys all : List (K × X)) → xs ++ p ∷ ys ≡ all → stands p.0 (keys_of ys) ≡ true → AreDistinct cmp (keys_of all) → ⊥
+  twice_key xs p ys all whole any h = twice (keys_of xs) p.0 (keys_of ys) (keys_of all) (sym (keys-append xs (p ∷ ys)) ∙ ap keys_of whole) any h
+
+-- ---- sets
+
+is_there : (b : Bool) → not b ≡ false → b ≡ true
+is_there true e = refl
+is_there false e = cc
+
+is_new : (b : Bool) → not b ≡ true → b ≡ false
+is_new true e = cc
+is_new false e = refl
+
+stands_in : (s : set.ElementSet) (done : List Element) (x : Element) → IsSetOf s done → stands element_cmp x done ≡ set.contains s x
+stands_in s done x made = sym (contains-from_list done x) ∙ ap (λ r. set.contains r x) (sym made.1)
+
+pub set-twice : (xs : List Element) (x : Element) (done all : List Element) (s : set.ElementSet) → xs ++ x ∷ done ≡ all → IsSetOf s done → not (set.contains s x) ≡ false → (t : set.ElementSet) → IsSetOf t all → ⊥
+set-twice xs x done all s whole made there t h = twice element_cmp xs x done all whole (stands_in s done x made ∙ is_there _ there) h.0
+
+pub set-more : (x : Element) (done : List Element) (s t : set.ElementSet) → IsSetOf s done → not (set.contains s x) ≡ true → t ≡ set.insert s x → IsSetOf t (x ∷ done)
+set-more x done s t made new inserted =
+    (more_distinct element_cmp x done (stands_in s done x made ∙ is_new _ new) made.0, inserted ∙ ap (λ r. set.insert r x) made.1)
+
+-- ---- bags
+
+abbrev Counts : Type 0
+Counts = List (Element × ℕ)
+
+-- each count is above 0
+abbrev pub ArePositive : Counts → Type 0
+ArePositive = AllByRecursion (λ p. 1 ≤ p.1)
+
+positive : (n : ℕ) → 0 < n → nat_lt 0 n ≡ true
+positive n h = grind (arith, nat_tests)
+
+-- a bag has an element just where its list has it
+count-bag_of : (ps : Counts) (x : Element) → ArePositive ps → nat_lt 0 (bag.count (bag_of ps) x) ≡ stands element_cmp x (keys_of ps)
+count-bag_of [] x h = ap (λ o. nat_lt 0 (unwrap_or o 0)) (finite.get-empty element_cmp x)
+count-bag_of (p ∷ ps) x h = by_count p.1 h.0 (count-bag_of ps x h.1) where
+  by_test : (b : Bool) (n : ℕ) → nat_lt 0 (unwrap_or (cond b (Some (suc n)) (finite.get (bag_of ps) x)) 0) ≡ (b || nat_lt 0 (bag.count (bag_of ps) x))
+  by_test true n = positive (suc n) (omega arith)
+  by_test false n = refl
+
+  by_count : (n : ℕ) → 1 ≤ n → nat_lt 0 (bag.count (bag_of ps) x) ≡ stands element_cmp x (keys_of ps) → nat_lt 0 (bag.count (bag.set_count (bag_of ps) p.0 n) x) ≡ (eq_by_cmp element_cmp x p.0 || stands element_cmp x (keys_of ps))
+  by_count zero low rest = absurd (omega (arith, low))
+  by_count (suc n) low rest =
+      ap (λ o. nat_lt 0 (unwrap_or o 0)) (finite.get-insert element_cmp_total (bag_of ps) p.0 (suc n) x)
+      ∙ by_test (eq_by_cmp element_cmp x p.0) n
+      ∙ ap (λ b. eq_by_cmp element_cmp x p.0 || b) rest
+
+counts_in : (b : bag.ElementBag) (done : Counts) (x : Element) → IsBagOf b done → ArePositive done → stands element_cmp x (keys_of done) ≡ nat_lt 0 (bag.count b x)
+counts_in b done x made above = sym (count-bag_of done x above) ∙ ap (λ r. nat_lt 0 (bag.count r x)) (sym made.1)
+
+pub bag-twice : (xs : Counts) (p : Element × ℕ) (done all : Counts) (b : bag.ElementBag) → xs ++ p ∷ done ≡ all → IsBagOf b done → ArePositive done → 0 < bag.count b p.0 → (c : bag.ElementBag) → IsBagOf c all → ⊥
+bag-twice xs p done all b whole made above there c h =
+    twice_key element_cmp xs p done all whole (counts_in b done p.0 made above ∙ positive _ there) h.0
+
+pub bag-more : (p : Element × ℕ) (done : Counts) (b c : bag.ElementBag) → IsBagOf b done → ArePositive done → bag.count b p.0 ≡ 0 → c ≡ bag.set_count b p.0 (bag.count b p.0 + p.1) → IsBagOf c (p ∷ done)
+bag-more p done b c made above none put =
+    let new = counts_in b done p.0 made above ∙ ap (nat_lt 0) none in
+    let sum : bag.count b p.0 + p.1 ≡ p.1 = omega (arith, none) in
+    (more_distinct element_cmp p.0 (keys_of done) new made.0, put ∙ ap (bag.set_count b p.0) sum ∙ ap (λ r. bag.set_count r p.0 p.1) made.1)
+
+-- ---- states
+
+pub some_copied : {X : Type 0} (o : Option (Bor X)) → is_some (option_copied o) ≡ is_some o
+some_copied None = refl
+some_copied (Some x) = refl
+
+-- the locations that were seen are those of the list
+abbrev pub AreSeen : Updates → List (Place × Value) → Type 0
+AreSeen U done = (q : Place) → is_some (finite.get U q) ≡ stands location_cmp q (keys_of done)
+
+pub none_seen : (U : Updates) → U ≡ finite.empty → AreSeen U []
+none_seen U is q = ap (λ W. is_some (finite.get W q)) is ∙ ap is_some (finite.get-empty location_cmp q)
+
+pub state-twice : (xs : List (Place × Value)) (p : Place × Value) (done all : List (Place × Value)) (U : Updates) → xs ++ p ∷ done ≡ all → AreSeen U done → is_some (finite.get U p.0) ≡ true → (A : State) → IsStateOf A all → ⊥
+state-twice xs p done all U whole seen there A h = twice_key location_cmp xs p done all whole (sym (seen p.0) ∙ there) h.0
+
+pub seen-more : (p : Place × Value) (done : List (Place × Value)) (U V : Updates) → AreSeen U done → V ≡ finite.insert U p.0 p.1 → AreSeen V (p ∷ done)
+seen-more p done U V seen put q =
+    ap (λ W. is_some (finite.get W q)) put
+    ∙ ap is_some (finite.get-insert location_cmp_total U p.0 p.1 q)
+    ∙ by_test (eq_by_cmp location_cmp q p.0) (finite.get U q)
+    ∙ ap (λ b. eq_by_cmp location_cmp q p.0 || b) (seen q) where
+      by_test : (b : Bool) (o : Option Value) → is_some (cond b (Some p.1) o) ≡ (b || is_some o)
+      by_test true o = refl
+      by_test false o = refl
+
+pub state-more : (p : Place × Value) (done : List (Place × Value)) (U : Updates) (A B : State) → IsStateOf A done → AreSeen U done → is_some (finite.get U p.0) ≡ false → B ≡ write A p.0 p.1 → IsStateOf B (p ∷ done)
+state-more p done U A B made seen new written =
+    (more_distinct location_cmp p.0 (keys_of done) (sym (seen p.0) ∙ new) made.0, written ∙ ap (λ S. write S p.0 p.1) made.1)

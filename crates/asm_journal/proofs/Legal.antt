@@ -1,0 +1,162 @@
+-- Legal histories, event by event, and the check of one event.
+use Rattle.std.proofs.Common.{◌≡◌, ◌≢◌, ◌↔◌, ◌<◌, ◌≤◌, ◌+◌, ◌-◌, ℕ, suc, Bool, true, false, List, [], ◌∷◌, ◌++◌, length, get_or, take, drop, map, Option, Some, None, Ok, nat_lt, cond, refl, sym, ap, ap₂, subst, ◌∙◌, append_assoc, append-nil, arith}
+use Rattle.std.specs.Prelude.{IsTrue}
+use Rattle.std.specs.List.{cons_option}
+use Rattle.std.proofs.Math.Seq.{split_at}
+use Rattle.std.proofs.lemmas.Bool.{true≢false}
+use Rattle.std.proofs.lemmas.Bool.Decides.{nat_tests}
+use Rattle.std.proofs.lemmas.List.{take_more, take_all, length-take-le}
+use Rattle.std.proofs.lemmas.List.Elements.{filter_map-append}
+use Rattle.asm_element.specs.Place.{Place}
+use Rattle.asm_element.specs.declared.value.Value.{Value}
+use Rattle.asm_update.specs.Move.{Move}
+use Rattle.asm_update.specs.State.{State, val}
+use Rattle.asm_update.specs.Fire.{Part, overwritten}
+use Rattle.asm_state.specs.View.{StateView, value_at}
+use Rattle.asm_state.specs.Stands.{Stands}
+use Rattle.asm_state.specs.Verdict.{IsVerdict, least_stale}
+use Rattle.asm_state.specs.declared.named.Named.{Named}
+use Rattle.asm_state.specs.declared.verdict.Verdict.{Verdict}
+use Rattle.asm_state.specs.declared.verdict.Verdict.TheVariants as verdict
+use Rattle.asm_state.proofs.Judged.{same_old}
+use Rattle.asm_storage.specs.Machine.{Machine, state_of, reply_to, taken_reply, firing_reply, fire_reply}
+use Rattle.asm_storage.specs.History.{move_of, moves, IsLegal}
+use Rattle.asm_storage.specs.declared.call.Call.{Call}
+use Rattle.asm_storage.specs.declared.call.Call.TheVariants as call
+use Rattle.asm_storage.specs.declared.call.Reply.{Reply}
+use Rattle.asm_storage.specs.declared.call.Reply.TheVariants as reply
+use Rattle.asm_storage.specs.declared.call.Answer.{Answer}
+use Rattle.asm_storage.specs.declared.call.Answer.TheVariants as answer
+use Rattle.asm_storage.specs.declared.history.Event.{Event}
+use Rattle.asm_journal.specs.Check.{machine, IsFirstWrong, verdict_reply, is_fired, moves_with, IsStep}
+use Rattle.asm_journal.proofs.Moves.{moves-push}
+
+-- ---- legal from some moves on
+
+-- each answer is the reply after the moves and those of the events before it
+abbrev pub IsLegalFrom : Machine → List Move → List Event → Type 0
+IsLegalFrom m q [] = Unit {0}
+IsLegalFrom m q (e ∷ h) = (e.answer ≡ reply_to m q e.call) × IsLegalFrom m (q ++ moves (e ∷ [])) h
+
+moves-cons : (q : List Move) (e : Event) (h : List Event) → (q ++ moves (e ∷ [])) ++ moves h ≡ q ++ moves (e ∷ h)
+moves-cons q e h = append_assoc q (moves (e ∷ [])) (moves h) ∙ ap (λ r. q ++ r) (sym (filter_map-append move_of (e ∷ []) h))
+
+legal-append : (m : Machine) (q : List Move) (g h : List Event) → IsLegalFrom m q g → IsLegalFrom m (q ++ moves g) h → IsLegalFrom m q (g ++ h)
+legal-append m q [] h left right = subst (λ r. IsLegalFrom m r h) (append-nil q) right
+legal-append m q (e ∷ g) h left right = (left.0, legal-append m (q ++ moves (e ∷ [])) g h left.1 (subst (λ r. IsLegalFrom m r h) (sym (moves-cons q e g)) right))
+
+legal_at : (m : Machine) (q : List Move) (before after : List Event) (e : Event) → IsLegalFrom m q (before ++ e ∷ after) → e.answer ≡ reply_to m (q ++ moves before) e.call
+legal_at m q [] after e legal = subst (λ r. e.answer ≡ reply_to m r e.call) (sym (append-nil q)) legal.0
+legal_at m q (b ∷ before) after e legal = subst (λ r. e.answer ≡ reply_to m r e.call) (moves-cons q b before) (legal_at m (q ++ moves (b ∷ [])) before after e legal.1)
+
+pub legal_from : (m : Machine) (h : List Event) → IsLegalFrom m [] h → IsLegal m h
+legal_from m h legal before after e is = legal_at m [] before after e (subst (IsLegalFrom m []) (sym is) legal)
+
+legal-push : (m : Machine) (h : List Event) (e : Event) → IsLegalFrom m [] h → e.answer ≡ reply_to m (moves h) e.call → IsLegalFrom m [] (h ++ e ∷ [])
+legal-push m h e left right = legal-append m [] h (e ∷ []) left (right, tt)
+
+-- ---- the loop of the check
+
+-- the state stands for the moves of the first events, which are legal
+abbrev pub IsCheckedTo : Part → State → ℕ → List Event → StateView → ℕ → Type 0
+IsCheckedTo part init capacity events s i =
+    Stands part init s (moves (take i events)) × IsLegalFrom (machine part init capacity) [] (take i events)
+
+module _ (part : Part) (init : State) (capacity : ℕ) (events : List Event) (i : ℕ) (e : Event) (old new : StateView) (b : Bool)
+    (within : i < length events) (here : e ≡ get_or events i e) (step : IsStep part capacity e old new b) (checked : IsCheckedTo part init capacity events old i) where
+  pub checked_more : b ≡ true → IsCheckedTo part init capacity events new (i + 1)
+  checked_more true_is =
+      let done = subst (IsStep part capacity e old new) true_is step init (moves (take i events)) checked.0 in
+      let more : take (i + 1) events ≡ take i events ++ e ∷ [] = take_more events i e within ∙ ap (λ x. take i events ++ x ∷ []) (sym here) in (
+        subst (Stands part init new) (sym (ap moves more ∙ moves-push (take i events) e)) done.1,
+        subst (IsLegalFrom (machine part init capacity) []) (sym more) (legal-push (machine part init capacity) (take i events) e checked.1 done.0),
+      )
+
+  pub first_wrong : b ≡ false → IsFirstWrong (machine part init capacity) events i
+  first_wrong false_is = record {
+    before = take i events;
+    event = e;
+    after = drop (suc i) events;
+    stands = ap (λ x. take i events ++ x ∷ drop (suc i) events) here ∙ sym (split_at events i e within);
+    counted = length-take-le i events (omega (arith, within));
+    legal = legal_from (machine part init capacity) (take i events) checked.1;
+    wrong = subst (IsStep part capacity e old new) false_is step init (moves (take i events)) checked.0;
+  }
+
+-- ---- one read
+
+same_read : (n k : ℕ) (vs ws : List Value) → answer.Read n vs ≡ answer.Read k ws → (n ≡ k) × (vs ≡ ws)
+same_read n k vs ws e = (cc, cc)
+
+pub not_both : (b : Bool) → IsTrue b → b ≡ false → ⊥
+not_both b true_is false_is = true≢false (sym true_is ∙ false_is)
+
+pub read_step : (part : Part) (capacity : ℕ) (e : Event) (s : StateView) (places : List Place) (n : ℕ) (vs : List Value) (b : Bool)
+    → e.call ≡ call.Read places → e.answer ≡ answer.Read n vs → (IsTrue b ↔ ((n ≡ s.number) × (map (value_at s) places ≡ vs))) → IsStep part capacity e s s b
+read_step part capacity e s places n vs true call-is answer-is tells = λ init q stands.
+    let is = tells.0 refl in
+    let values : vs ≡ map (val (state_of (machine part init capacity) q)) places = sym is.1 ∙ ap (λ (f : Place → Value). map f places) (same_old part init q s stands) in
+    let answered = answer-is ∙ ap₂ answer.Read (is.0 ∙ stands.number) values ∙ sym (ap (reply_to (machine part init capacity) q) call-is) in
+    let quiet : move_of e ≡ None = ap₂ fired call-is answer-is in
+    (answered, subst (Stands part init s) (sym (ap (λ o. q ++ cons_option o []) quiet ∙ append-nil q)) stands) where
+      fired : Call → Answer → Option Move
+      fired c a = move_of (record { agent = e.agent; call = c; answer = a })
+read_step part capacity e s places n vs false call-is answer-is tells = λ init q stands same.
+    let parts = same_read _ _ _ _ (sym answer-is ∙ same ∙ ap (reply_to (machine part init capacity) q) call-is) in
+    let values = ap (λ (f : Place → Value). map f places) (same_old part init q s stands) ∙ sym parts.1 in
+    not_both false (tells.1 (parts.0 ∙ sym stands.number, values)) refl
+
+-- ---- one fire
+
+module _ (part : Part) (capacity : ℕ) (e : Event) (old : StateView) (reads : List Named) (M : Move) (r : Reply) (v : Verdict)
+    (call-is : e.call ≡ call.Fire reads M) (answer-is : e.answer ≡ answer.Fire r)
+    (judged : (init : State) (q : List Move) → Stands part init old q → IsVerdict part init q reads M (Ok v)) where
+  verdict_is : (init : State) (q : List Move) (w : Verdict) → IsVerdict part init q reads M (Ok w) → fire_reply (machine part init capacity) q M (least_stale part init q reads) ≡ verdict_reply capacity (length q) w
+  verdict_is init q (verdict.Stale l) h = ap (fire_reply (machine part init capacity) q M) h
+  verdict_is init q (verdict.Clash c) h =
+      ap (fire_reply (machine part init capacity) q M) h.0 ∙ ap (λ a. firing_reply (machine part init capacity) q (overwritten (state_of (machine part init capacity) q) a)) h.1
+  verdict_is init q (verdict.Ready U) h =
+      ap (fire_reply (machine part init capacity) q M) h.0 ∙ ap (λ a. firing_reply (machine part init capacity) q (overwritten (state_of (machine part init capacity) q) a)) h.1
+
+  -- the reply after the moves is the verdict's
+  replied : (init : State) (q : List Move) → Stands part init old q → reply_to (machine part init capacity) q e.call ≡ answer.Fire (verdict_reply capacity old.number v)
+  replied init q stands =
+      ap (reply_to (machine part init capacity) q) call-is ∙ ap answer.Fire (verdict_is init q v (judged init q stands) ∙ ap (λ n. verdict_reply capacity n v) (sym stands.number))
+
+  pub wrong_fire : (new : StateView) → (r ≡ verdict_reply capacity old.number v → ⊥) → IsStep part capacity e old new false
+  wrong_fire new other = λ init q stands same. other (same_fire _ _ (sym answer-is ∙ same ∙ replied init q stands)) where
+    same_fire : (x y : Reply) → answer.Fire x ≡ answer.Fire y → x ≡ y
+    same_fire x y e = cc
+
+  right : r ≡ verdict_reply capacity old.number v → (init : State) (q : List Move) → Stands part init old q → e.answer ≡ reply_to (machine part init capacity) q e.call
+  right is init q stands = answer-is ∙ ap answer.Fire is ∙ sym (replied init q stands)
+
+  move-is : (s : Reply) → r ≡ s → move_of e ≡ move_of (record { agent = e.agent; call = call.Fire reads M; answer = answer.Fire s })
+  move-is s is = ap₂ (λ c a. move_of (record { agent = e.agent; call = c; answer = a })) call-is (answer-is ∙ ap answer.Fire is)
+
+  pub quiet_fire : r ≡ verdict_reply capacity old.number v → is_fired r ≡ false → IsStep part capacity e old old true
+  quiet_fire is none = λ init q stands.
+      (right is init q stands, subst (Stands part init old) (sym (ap (λ o. q ++ cons_option o []) (move-is r refl ∙ quiet r none) ∙ append-nil q)) stands) where
+        quiet : (s : Reply) → is_fired s ≡ false → move_of (record { agent = e.agent; call = call.Fire reads M; answer = answer.Fire s }) ≡ None
+        quiet (reply.Fired k) none = absurd cc
+        quiet (reply.Stale l) none = refl
+        quiet (reply.Clash c) none = refl
+        quiet reply.Full none = refl
+
+  pub taken_fire : (new : StateView) → r ≡ verdict_reply capacity old.number v → is_fired r ≡ true → ((init : State) (q : List Move) → Stands part init old q → Stands part init new (q ++ M ∷ [])) → IsStep part capacity e old new true
+  taken_fire new is fired followed = λ init q stands.
+      (right is init q stands, subst (Stands part init new) (sym (ap (λ o. q ++ cons_option o []) (move-is r refl ∙ taken r fired))) (followed init q stands)) where
+        taken : (s : Reply) → is_fired s ≡ true → move_of (record { agent = e.agent; call = call.Fire reads M; answer = answer.Fire s }) ≡ Some M
+        taken (reply.Fired k) fired = refl
+        taken (reply.Stale l) fired = absurd cc
+        taken (reply.Clash c) fired = absurd cc
+        taken reply.Full fired = absurd cc
+
+-- a move is fired below the capacity alone
+pub below_capacity : (capacity number : ℕ) (v : Verdict) (r : Reply) → r ≡ verdict_reply capacity number v → is_fired r ≡ true → number < capacity
+below_capacity capacity number (verdict.Stale l) r is fired = absurd (let no : false ≡ true = sym (ap is_fired is) ∙ fired in cc)
+below_capacity capacity number (verdict.Clash c) r is fired = absurd (let no : false ≡ true = sym (ap is_fired is) ∙ fired in cc)
+below_capacity capacity number (verdict.Ready U) r is fired = by_test (nat_lt number capacity) refl where
+  by_test : (b : Bool) → nat_lt number capacity ≡ b → number < capacity
+  by_test true below = grind (arith, nat_tests)
+  by_test false above = absurd (let no : false ≡ true = sym (ap is_fired (is ∙ ap (λ t. cond t (reply.Fired (number + 1)) reply.Full) above)) ∙ fired in cc)

@@ -1,0 +1,16 @@
+pub mod Texts
+pub mod Answered
+pub mod Arrays
+pub mod Elements
+pub mod Gathered
+pub mod Made
+pub mod Sets
+pub mod Values
+pub mod Actions
+pub mod Moves
+pub mod Legal
+pub mod Events
+pub mod Floats
+pub mod Once
+pub mod Refused
+pub mod Lines

@@ -1,0 +1,66 @@
+-- The moves of a history, one event at a time, and firing them.
+use Rattle.std.proofs.Common.{◌≡◌, Bool, true, false, cond, List, [], ◌∷◌, ◌++◌, Option, Some, None, refl, sym, ap, ◌∙◌, append-nil}
+use Rattle.std.specs.Prelude.{T}
+use Rattle.std.specs.List.{cons_option}
+use Rattle.std.specs.Ordering.{eq_by_cmp}
+use Rattle.std.specs.FinMap as finite
+use Rattle.std.specs.FinMap.Entries
+use Rattle.std.proofs.lemmas.List.Elements.{filter_map-append}
+use Rattle.asm_element.specs.declared.value.Value.{Value}
+use Rattle.asm_element.specs.Place.{Place, location_cmp, same_location}
+use Rattle.asm_update.specs.Move.{Move}
+use Rattle.asm_update.specs.State.{State, Updates, val, write, overwrite}
+use Rattle.asm_update.specs.Fire.{Part, state_or, IsUpdateSet, IsLeastClash}
+use Rattle.asm_update.specs.declared.clash.Clash.{Clash}
+use Rattle.asm_update.proofs.FireLemmas.{fire_updates, fire_clash, stored, stored_or, get-write, get-overwrite, same_state}
+use Rattle.asm_aggregate.specs.BagAlgebra.{both_T, less_apart}
+use Rattle.asm_state.specs.Stands.{after_move}
+use Rattle.asm_storage.specs.declared.history.Event.{Event}
+use Rattle.asm_storage.specs.History.{move_of, moves}
+
+-- ---- one event more
+
+pub moves-push : (h : List Event) (e : Event) → moves (h ++ e ∷ []) ≡ moves h ++ cons_option (move_of e) []
+moves-push h e = filter_map-append move_of h (e ∷ [])
+
+pub moves-push_fired : (h : List Event) (e : Event) (M : Move) → move_of e ≡ Some M → moves (h ++ e ∷ []) ≡ moves h ++ M ∷ []
+moves-push_fired h e M is = moves-push h e ∙ ap (λ o. moves h ++ cons_option o []) is
+
+pub moves-push_quiet : (h : List Event) (e : Event) → move_of e ≡ None → moves (h ++ e ∷ []) ≡ moves h
+moves-push_quiet h e is = moves-push h e ∙ ap (λ o. moves h ++ cons_option o []) is ∙ append-nil (moves h)
+
+-- ---- the state after a move, from what aggregation answers
+
+pub after_updates : (part : Part) (A : State) (M : Move) (U : Updates) → IsUpdateSet part (val A) M U → overwrite A U ≡ after_move part A M
+after_updates part A M U h = sym (ap (state_or A) (fire_updates part A M U h))
+
+pub after_clash : (part : Part) (A : State) (M : Move) (c : Clash) → IsLeastClash part (val A) M c → A ≡ after_move part A M
+after_clash part A M c h = sym (ap (state_or A) (fire_clash part A M c h))
+
+-- ---- writing updates one after the other is writing them all
+
+-- the state with the values written, one after the other
+abbrev pub written_with : State → List (Place × Value) → State
+written_with A [] = A
+written_with A (e ∷ es) = written_with (write A e.0 e.1) es
+
+-- a location below all those of a list isn't among them
+none_below : (l : Place) (es : List (Place × Value)) → T (Entries.below_all location_cmp l es) → finite.find location_cmp l es ≡ None
+none_below l [] h = refl
+none_below l (e ∷ es) h = ap (λ b. cond b (Some e.1) (finite.find location_cmp l es)) (less_apart _ (both_T _ _ h).0) ∙ none_below l es (both_T _ _ h).1
+
+get-written : (A : State) (es : List (Place × Value)) (q : Place) → T (finite.is_sorted location_cmp es) → finite.get (written_with A es) q ≡ stored_or (finite.find location_cmp q es) (finite.get A q)
+get-written A [] q sorted = refl
+get-written A (e ∷ es) q sorted =
+    get-written (write A e.0 e.1) es q (both_T _ _ sorted).1
+    ∙ ap (stored_or (finite.find location_cmp q es)) (get-write A e.0 e.1 q)
+    ∙ by_test (eq_by_cmp location_cmp q e.0) refl where
+      by_test : (b : Bool) → eq_by_cmp location_cmp q e.0 ≡ b → stored_or (finite.find location_cmp q es) (cond b (stored e.1) (finite.get A q)) ≡ stored_or (cond b (Some e.1) (finite.find location_cmp q es)) (finite.get A q)
+      by_test true is = ap (λ o. stored_or o (stored e.1)) (ap (λ l. finite.find location_cmp l es) (same_location q e.0 is) ∙ none_below e.0 es (both_T _ _ sorted).0)
+      by_test false is = refl
+
+pub written_updates : (A : State) (U : Updates) → written_with A (finite.entries U) ≡ overwrite A U
+written_updates A U = same_state _ _ by_place where
+  by_place : (q : Place) → finite.get (written_with A (finite.entries U)) q ≡ finite.get (overwrite A U) q
+  by_place q =
+      get-written A (finite.entries U) q (finite.entries_sorted U) ∙ ap (λ o. stored_or o (finite.get A q)) (sym (finite.get-entries U q)) ∙ sym (get-overwrite A U q)

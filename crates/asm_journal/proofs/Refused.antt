@@ -1,0 +1,188 @@
+-- A text that is refused reads as no history, and has one first fault.
+use Rattle.std.proofs.Common.{◌≡◌, ◌≢◌, ◌<◌, ◌+◌, ℕ, List, [], ◌∷◌, ◌++◌, length, Some, Result, Ok, Err, refl, sym, ap, subst, ◌∙◌, inl, inr, arith}
+use Rattle.std.specs.Prelude.{IfOk, IfErr}
+use Rattle.std.proofs.lemmas.List.Elements.{recursion_from_All}
+use Rattle.serde_json.specs.Data.{Data, unsigned, number}
+use Rattle.asm_storage.specs.declared.history.Event.{Event}
+use Rattle.asm_storage.specs.declared.history.History.{History}
+use Rattle.asm_journal.specs.declared.fault.JournalError.{JournalError}
+use Rattle.asm_journal.specs.declared.fault.JournalError.TheVariants.{NotJson, Shape, Version, Cut, Memory}
+use Rattle.asm_journal.specs.Event.{IsEventBelow}
+use Rattle.asm_journal.specs.Text.{header_with}
+use Rattle.asm_journal.specs.Shape.{number_json_of}
+use Rattle.asm_journal.specs.Reading.{HasNoLineFeed, BeginsWithLine, HasLine, IsJson, IsHeader, HasEvents, ReadsAs}
+use Rattle.asm_journal.specs.Fault.{HasOtherVersion, BreaksLine, BreaksHeader, BreaksEvent, BreaksBehind, IsRefused, IsAnswer}
+use Rattle.asm_journal.proofs.Once.{NoFeed, same_split, line_once, header_once, history_once}
+
+no_feed_inside : (a r : List ℕ) → NoFeed (a ++ 10 ∷ r) → ⊥
+no_feed_inside [] r h = h.0 refl
+no_feed_inside (x ∷ a) r h = no_feed_inside a r h.1
+
+some_byte : (a r : List ℕ) → a ++ 10 ∷ r ≡ [] → ⊥
+some_byte [] r e = cc
+some_byte (x ∷ a) r e = cc
+
+-- a text with a line feed has a line that ends
+ended : (text : List ℕ) (d : Data) (r : List ℕ) → HasLine text d r → HasNoLineFeed text → ⊥
+ended text d r h none = no_feed_inside h.0 r (subst NoFeed h.1.0 (recursion_from_All (λ b. b ≢ 10) text none))
+
+-- a line that is JSON doesn't break
+not_broken : (k : ℕ) (text : List ℕ) (d : Data) (r : List ℕ) (e : JournalError) → HasLine text d r → e ≢ Memory → BreaksLine k text e → ⊥
+not_broken k text d r Cut h other (inl none) = some_byte h.0 r (sym h.1.0 ∙ none)
+not_broken k text d r Cut h other (inr open_line) = ended text d r h open_line.0
+not_broken k text d r (NotJson n) h other b = not_json b.2.1
+  where
+    not_json : BeginsWithLine text b.2.0 → ⊥
+    not_json (inl rest) =
+        let same = same_split h.0 b.2.0 r rest.0 (recursion_from_All (λ x. x ≢ 10) h.0 h.1.1) (recursion_from_All (λ x. x ≢ 10) b.2.0 rest.1.1) (sym h.1.0 ∙ rest.1.0) in
+        b.2.2 d (subst (λ x. IsJson x d) same.0 h.2)
+    not_json (inr whole) = ended text d r h whole.1
+not_broken k text d r (Shape n) h other b = b
+not_broken k text d r Version h other b = b
+not_broken k text d r Memory h other b = other refl
+
+version_1 : (a c n i v : Data) → v ≡ number_json_of 1 → HasOtherVersion (header_with a c n i v) → ⊥
+version_1 a c n i v one h = let is : h.0 ≡ unsigned 1 = cc in h.3 is
+
+header_stands : (text : List ℕ) (h : History) (e : JournalError) → e ≢ Memory → ReadsAs text h → BreaksHeader text e → ⊥
+header_stands text h Cut other p b = not_broken 1 text p.0 p.1 Cut p.2 other b
+header_stands text h (NotJson n) other p b = not_broken 1 text p.0 p.1 (NotJson n) p.2 other b
+header_stands text h Version other p b =
+    let same = line_once text b.0 p.0 b.1 p.1 b.2 p.2 in
+    version_1 p.3.0 p.3.1 p.3.2 p.3.3 p.3.4 p.3.6.3 (subst HasOtherVersion (same.0 ∙ p.3.5) b.3)
+header_stands text h (Shape n) other p b =
+    let same = line_once text b.1.0 p.0 b.1.1 p.1 b.1.2 p.2 in
+    b.1.4 _ _ _ _ (subst (IsHeader h.agents h.capacity (length h.events) h.init) (sym same.0) p.3)
+header_stands text h Memory other p b = other refl
+
+event_stands : (agents k : ℕ) (text : List ℕ) (x : Event) (d : Data) (r : List ℕ) (e : JournalError) → e ≢ Memory → HasLine text d r → IsEventBelow agents x d → BreaksEvent agents k text e → ⊥
+event_stands agents k text x d r Cut other h is b = not_broken k text d r Cut h other b
+event_stands agents k text x d r (NotJson n) other h is b = not_broken k text d r (NotJson n) h other b
+event_stands agents k text x d r Version other h is b = b
+event_stands agents k text x d r (Shape n) other h is b =
+    let same = line_once text b.1.0 d b.1.1 r b.1.2 h in
+    b.1.3 x (subst (IsEventBelow agents x) (sym same.0) is)
+event_stands agents k text x d r Memory other h is b = other refl
+
+-- the event that stands behind fewer ones
+next_event : (agents : ℕ) (text : List ℕ) (es fs : List Event) (left end : List ℕ) → HasEvents agents text es left → HasEvents agents text fs end → length es < length fs
+    → (x : Event) × (d : Data) × (r : List ℕ) × HasLine left d r × IsEventBelow agents x d
+next_event agents text es [] left end h k less = absurd (omega arith)
+next_event agents text [] (f ∷ fs) left end h k less = (f, k.0, k.1, subst (λ t. HasLine t k.0 k.1) h k.2, k.3)
+next_event agents text (e ∷ es) (f ∷ fs) left end h k less =
+    let same = line_once text k.0 h.0 k.1 h.1 k.2 h.2 in
+    next_event agents h.1 es fs left end h.4 (subst (λ t. HasEvents agents t fs end) same.1 k.4) (omega arith)
+
+same_left : (agents : ℕ) (text : List ℕ) (es fs : List Event) (left end : List ℕ) → HasEvents agents text es left → HasEvents agents text fs end → length es ≡ length fs → left ≡ end
+same_left agents text [] [] left end h k same = sym h ∙ k
+same_left agents text [] (f ∷ fs) left end h k same = absurd (omega arith)
+same_left agents text (e ∷ es) [] left end h k same = absurd (omega arith)
+same_left agents text (e ∷ es) (f ∷ fs) left end h k same =
+    let line = line_once text k.0 h.0 k.1 h.1 k.2 h.2 in
+    same_left agents h.1 es fs left end h.4 (subst (λ t. HasEvents agents t fs end) line.1 k.4) (omega arith)
+
+pub not_both : (text : List ℕ) (h : History) (e : JournalError) → e ≢ Memory → IsRefused text e → ReadsAs text h → ⊥
+not_both text h e other (inl b) p = header_stands text h e other p b
+not_both text h e other (inr b) p =
+    let same = line_once text b.0 p.0 b.1 p.1 b.6 p.2 in
+    let parts = header_once _ _ _ _ _ _ b.5 h.init p.0 (subst (IsHeader b.2 b.3 b.4 b.5) same.0 b.7) p.3 in
+    let agents = parts.0 in
+    let events = parts.2 in
+    let read = subst (λ t. HasEvents h.agents t h.events []) (sym same.1) p.4 in
+    let found = subst (λ a. HasEvents a b.1 b.8 b.9) agents b.10 in
+    elim b.11 [
+      | inl less ↦
+          let next = next_event h.agents b.1 b.8 h.events b.9 [] found read (omega (arith, less.0, events)) in
+          event_stands h.agents (length b.8 + 2) b.9 next.0 next.1 next.2 e other next.3 next.4 (subst (λ a. BreaksEvent a (length b.8 + 2) b.9 e) agents less.1)
+      | inr over ↦ over.1 (same_left h.agents b.1 b.8 h.events b.9 [] found read (over.0 ∙ events))
+    ]
+
+-- what reads as a history is answered so, unless memory runs out
+pub answered : (text : List ℕ) (r : Result History JournalError) → IfOk r (ReadsAs text) → IfErr r (IsRefused text) → (h : History) → ReadsAs text h → IsAnswer h r
+answered text (Ok g) ok err h p = history_once text g h ok p
+answered text (Err Cut) ok err h p = absurd (not_both text h Cut (λ e. cc) err p)
+answered text (Err (NotJson n)) ok err h p = absurd (not_both text h (NotJson n) (λ e. cc) err p)
+answered text (Err (Shape n)) ok err h p = absurd (not_both text h (Shape n) (λ e. cc) err p)
+answered text (Err Version) ok err h p = absurd (not_both text h Version (λ e. cc) err p)
+answered text (Err Memory) ok err h p = refl
+
+-- ---- one first fault
+
+open_line_or_json : (text : List ℕ) → HasNoLineFeed text → ((d : Data) × IsJson text d) → ((body : List ℕ) × BeginsWithLine text body × ((d : Data) → IsJson body d → ⊥)) → ⊥
+open_line_or_json text none json (body, begins, no_json) = by_line begins where
+  by_line : BeginsWithLine text body → ⊥
+  by_line (inl rest) = no_feed_inside body rest.0 (subst NoFeed rest.1.0 (recursion_from_All (λ b. b ≢ 10) text none))
+  by_line (inr whole) = no_json json.0 (subst (λ t. IsJson t json.0) (sym whole.0) json.1)
+
+one_line_fault : (k : ℕ) (text : List ℕ) (e f : JournalError) → e ≢ Memory → f ≢ Memory → BreaksLine k text e → BreaksLine k text f → e ≡ f
+one_line_fault k text Cut Cut p q b c = refl
+one_line_fault k text Cut (NotJson n) p q (inl none) c = absurd (c.1 none)
+one_line_fault k text Cut (NotJson n) p q (inr cut) c = absurd (open_line_or_json text cut.0 cut.2 c.2)
+one_line_fault k text (NotJson n) Cut p q b (inl none) = absurd (b.1 none)
+one_line_fault k text (NotJson n) Cut p q b (inr cut) = absurd (open_line_or_json text cut.0 cut.2 b.2)
+one_line_fault k text (NotJson n) (NotJson m) p q b c = ap NotJson (b.0 ∙ sym c.0)
+one_line_fault k text (Shape n) f p q b c = absurd b
+one_line_fault k text Version f p q b c = absurd b
+one_line_fault k text Memory f p q b c = absurd (p refl)
+one_line_fault k text e (Shape n) p q b c = absurd c
+one_line_fault k text e Version p q b c = absurd c
+one_line_fault k text e Memory p q b c = absurd (q refl)
+
+-- a line that is whole has no fault of a line
+one_header_fault : (text : List ℕ) (e f : JournalError) → e ≢ Memory → f ≢ Memory → BreaksHeader text e → BreaksHeader text f → e ≡ f
+one_header_fault text Version Version p q b c = refl
+one_header_fault text Version (Shape m) p q b c =
+    let same = line_once text b.0 c.1.0 b.1 c.1.1 b.2 c.1.2 in
+    absurd (c.1.3 (subst HasOtherVersion same.0 b.3))
+one_header_fault text Version Cut p q b c = absurd (not_broken 1 text b.0 b.1 Cut b.2 q c)
+one_header_fault text Version (NotJson m) p q b c = absurd (not_broken 1 text b.0 b.1 (NotJson m) b.2 q c)
+one_header_fault text (Shape n) Version p q b c =
+    let same = line_once text c.0 b.1.0 c.1 b.1.1 c.2 b.1.2 in
+    absurd (b.1.3 (subst HasOtherVersion same.0 c.3))
+one_header_fault text (Shape n) (Shape m) p q b c = ap Shape (b.0 ∙ sym c.0)
+one_header_fault text (Shape n) Cut p q b c = absurd (not_broken 1 text b.1.0 b.1.1 Cut b.1.2 q c)
+one_header_fault text (Shape n) (NotJson m) p q b c = absurd (not_broken 1 text b.1.0 b.1.1 (NotJson m) b.1.2 q c)
+one_header_fault text Cut Version p q b c = absurd (not_broken 1 text c.0 c.1 Cut c.2 p b)
+one_header_fault text Cut (Shape m) p q b c = absurd (not_broken 1 text c.1.0 c.1.1 Cut c.1.2 p b)
+one_header_fault text (NotJson n) Version p q b c = absurd (not_broken 1 text c.0 c.1 (NotJson n) c.2 p b)
+one_header_fault text (NotJson n) (Shape m) p q b c = absurd (not_broken 1 text c.1.0 c.1.1 (NotJson n) c.1.2 p b)
+one_header_fault text Cut Cut p q b c = refl
+one_header_fault text Cut (NotJson m) p q b c = one_line_fault 1 text Cut (NotJson m) p q b c
+one_header_fault text (NotJson n) Cut p q b c = one_line_fault 1 text (NotJson n) Cut p q b c
+one_header_fault text (NotJson n) (NotJson m) p q b c = one_line_fault 1 text (NotJson n) (NotJson m) p q b c
+one_header_fault text Memory f p q b c = absurd (p refl)
+one_header_fault text Version Memory p q b c = absurd (q refl)
+one_header_fault text (Shape n) Memory p q b c = absurd (q refl)
+one_header_fault text Cut Memory p q b c = absurd (q refl)
+one_header_fault text (NotJson n) Memory p q b c = absurd (q refl)
+
+one_event_fault : (agents k : ℕ) (text : List ℕ) (e f : JournalError) → e ≢ Memory → f ≢ Memory → BreaksEvent agents k text e → BreaksEvent agents k text f → e ≡ f
+one_event_fault agents k text (Shape n) (Shape m) p q b c = ap Shape (b.0 ∙ sym c.0)
+one_event_fault agents k text (Shape n) Cut p q b c = absurd (not_broken k text b.1.0 b.1.1 Cut b.1.2 q c)
+one_event_fault agents k text (Shape n) (NotJson m) p q b c = absurd (not_broken k text b.1.0 b.1.1 (NotJson m) b.1.2 q c)
+one_event_fault agents k text Cut (Shape m) p q b c = absurd (not_broken k text c.1.0 c.1.1 Cut c.1.2 p b)
+one_event_fault agents k text (NotJson n) (Shape m) p q b c = absurd (not_broken k text c.1.0 c.1.1 (NotJson n) c.1.2 p b)
+one_event_fault agents k text Cut Cut p q b c = refl
+one_event_fault agents k text Cut (NotJson m) p q b c = one_line_fault k text Cut (NotJson m) p q b c
+one_event_fault agents k text (NotJson n) Cut p q b c = one_line_fault k text (NotJson n) Cut p q b c
+one_event_fault agents k text (NotJson n) (NotJson m) p q b c = one_line_fault k text (NotJson n) (NotJson m) p q b c
+one_event_fault agents k text Version f p q b c = absurd b
+one_event_fault agents k text Memory f p q b c = absurd (p refl)
+one_event_fault agents k text (Shape n) Version p q b c = absurd c
+one_event_fault agents k text (Shape n) Memory p q b c = absurd (q refl)
+one_event_fault agents k text Cut Version p q b c = absurd c
+one_event_fault agents k text Cut Memory p q b c = absurd (q refl)
+one_event_fault agents k text (NotJson n) Version p q b c = absurd c
+one_event_fault agents k text (NotJson n) Memory p q b c = absurd (q refl)
+
+-- a header that stands doesn't break
+header_not_broken : (text : List ℕ) (e : JournalError) → e ≢ Memory → BreaksBehind text e → (f : JournalError) → f ≢ Memory → BreaksHeader text f → ⊥
+header_not_broken text e p b Cut q c = not_broken 1 text b.0 b.1 Cut b.6 q c
+header_not_broken text e p b (NotJson n) q c = not_broken 1 text b.0 b.1 (NotJson n) b.6 q c
+header_not_broken text e p b Version q c =
+    let same = line_once text c.0 b.0 c.1 b.1 c.2 b.6 in
+    version_1 b.7.0 b.7.1 b.7.2 b.7.3 b.7.4 b.7.6.3 (subst HasOtherVersion (same.0 ∙ b.7.5) c.3)
+header_not_broken text e p b (Shape n) q c =
+    let same = line_once text c.1.0 b.0 c.1.1 b.1 c.1.2 b.6 in
+    c.1.4 _ _ _ _ (subst (IsHeader b.2 b.3 b.4 b.5) (sym same.0) b.7)
+header_not_broken text e p b Memory q c = q refl

@@ -1,0 +1,37 @@
+use Rattle.std.proofs.Common.{length, ap, subst, ◌∙◌, []}
+use Rattle.std.proofs.lemmas.List.{take_all}
+use Rattle.asm_state.specs.Stands.{Stands}
+use Rattle.asm_storage.specs.History.{moves, IsLegal}
+use Rattle.asm_journal.specs.Check.{machine_of, IsFirstWrong}
+use Rattle.asm_journal.proofs.Legal.{checked_more, first_wrong, legal_from}
+use Rattle.asm_journal.proofs.checking.check.Goals as goal
+
+pub loop-index-init : goal.loop-index-init
+loop-index-init g c =
+    let part = (g.A.Aggregator.meaning c.args.aggregator.now).part in
+    (subst (λ A. Stands part A c.in_ok-state.state []) c.in_ok-copy.ensures (c.in_ok-state.ensures part), tt)
+
+pub returns-then-not-branch : goal.returns-then-not-branch
+returns-then-not-branch g c =
+    let part = (g.A.Aggregator.meaning c.args.aggregator.now).part in
+    let h = c.args.history.now in
+    let l = c.loop-index in
+    let e = c.index-events-index in
+    let wrong = first_wrong part h.init h.capacity c.as_slice-events.result.now l.index e.result l.state c.step.new.state c.in_ok-step.field-0 c.loop-index-test.true e.is c.in_ok-step.ensures l.invariant c.if-not-branch.true in
+    subst (λ es. IsFirstWrong (machine_of part h) es l.index) c.as_slice-events.ensures wrong
+
+pub loop-index-preserved : goal.loop-index-preserved
+loop-index-preserved g c =
+    let part = (g.A.Aggregator.meaning c.args.aggregator.now).part in
+    let h = c.args.history.now in
+    let l = c.loop-index in
+    let e = c.index-events-index in
+    checked_more part h.init h.capacity c.as_slice-events.result.now l.index e.result l.state c.step.new.state c.in_ok-step.field-0 c.loop-index-test.true e.is c.in_ok-step.ensures l.invariant c.if-not-branch.false
+
+pub returns : goal.returns
+returns g c =
+    let part = (g.A.Aggregator.meaning c.args.aggregator.now).part in
+    let h = c.args.history.now in
+    let l = c.loop-index in
+    let all = take_all l.index c.as_slice-events.result.now c.loop-index-test.false ∙ c.as_slice-events.ensures in
+    (subst (IsLegal (machine_of part h)) all (legal_from (machine_of part h) _ l.invariant.1), ap length c.as_slice-events.ensures, c.number.ensures ∙ l.invariant.0.number ∙ ap (λ es. length (moves es)) all)

@@ -1,0 +1,13 @@
+use Rattle.std.proofs.Common.{◌≡◌, ◌++◌, ℕ, List, vec_len}
+use Rattle.asm_element.specs.declared.element.Element.{Element}
+use Rattle.asm_journal.specs.Set.{IsBagOf}
+use Rattle.asm_journal.proofs.Gathered.{ArePositive}
+use Rattle.asm_journal.proofs.Sets.{counts_of}
+use Rattle.asm_journal.proofs.set_form.bag_of.Given as goal
+
+abbrev pub decreases-loop-element : goal.decreases-loop-element
+decreases-loop-element l = vec_len l.counts
+
+-- the bag is that of the last counts
+abbrev pub invariant-loop-element : goal.invariant-loop-element
+invariant-loop-element l = (done : List (Element × ℕ)) × (counts_of l.counts.items ++ done ≡ counts_of l.fn.counts.items) × IsBagOf l.bag done × ArePositive done

@@ -1,0 +1,65 @@
+-- What the check of a history tells, and the state that a history leaves.
+use Rattle.std.specs.Prelude.{◌≡◌, ◌≢◌, ℕ, Bool, true, false, List, [], ◌∷◌, ◌++◌, length}
+use Rattle.std.specs.List.{cons_option}
+use Rattle.asm_update.specs.Move.{Move}
+use Rattle.asm_update.specs.State.{State}
+use Rattle.asm_update.specs.Fire.{Part}
+use Rattle.asm_state.specs.View.{StateView}
+use Rattle.asm_state.specs.Stands.{Stands}
+use Rattle.asm_state.specs.declared.verdict.Verdict.{Verdict}
+use Rattle.asm_state.specs.declared.verdict.Verdict.TheVariants as verdict
+use Rattle.asm_storage.specs.Machine.{Machine, reply_to, taken_reply}
+use Rattle.asm_storage.specs.History.{move_of, moves, IsLegal}
+use Rattle.asm_storage.specs.declared.call.Reply.{Reply}
+use Rattle.asm_storage.specs.declared.call.Reply.TheVariants as reply
+use Rattle.asm_storage.specs.declared.history.Event.{Event}
+use Rattle.asm_storage.specs.declared.history.History.{History}
+use Rattle.asm_journal.specs.declared.checking.Legality.{Legality}
+use Rattle.asm_journal.specs.declared.checking.Legality.TheVariants.{Legal, Illegal}
+
+-- the storage of one thread with this meaning of partial updates, this opening state and this capacity
+abbrev pub machine : Part → State → ℕ → Machine
+machine part init capacity = record { part = part; init = init; capacity = capacity }
+
+-- the storage that a history was made with
+abbrev pub machine_of : Part → History → Machine
+machine_of part h = machine part h.init h.capacity
+
+-- the event with this number, from 0 on, is the first whose answer isn't the one of the storage of one thread
+pub record IsFirstWrong (m : Machine) (events : List Event) (number : ℕ) : Type 0 where
+  pub before : List Event
+  pub event : Event
+  pub after : List Event
+  pub stands : before ++ event ∷ after ≡ events
+  pub counted : length before ≡ number
+  pub legal : IsLegal m before
+  pub wrong : event.answer ≢ reply_to m (moves before) event.call
+
+-- legal, with the numbers of events and of moves, or the first event that isn't
+abbrev pub IsLegality : Machine → List Event → Legality → Type 0
+IsLegality m events (Legal calls n) = IsLegal m events × (calls ≡ length events) × (n ≡ length (moves events))
+IsLegality m events (Illegal number) = IsFirstWrong m events number
+
+-- ---- one event
+
+-- the reply to a move with this verdict, after so many moves
+abbrev pub verdict_reply : ℕ → ℕ → Verdict → Reply
+verdict_reply capacity number (verdict.Stale l) = reply.Stale l
+verdict_reply capacity number (verdict.Clash c) = reply.Clash c
+verdict_reply capacity number (verdict.Ready U) = taken_reply capacity number
+
+-- whether the move was fired
+abbrev pub is_fired : Reply → Bool
+is_fired (reply.Fired k) = true
+is_fired _ = false
+
+-- the moves with that of the event, if it has one
+abbrev pub moves_with : List Move → Event → List Move
+moves_with q e = q ++ cons_option (move_of e) []
+
+-- whether the event's answer is the one after the moves that the state stands for; then it stands for its move, too
+abbrev pub IsStep : Part → ℕ → Event → StateView → StateView → Bool → Type 0
+IsStep part capacity e old new true = (init : State) (q : List Move) → Stands part init old q →
+    (e.answer ≡ reply_to (machine part init capacity) q e.call) × Stands part init new (moves_with q e)
+IsStep part capacity e old new false = (init : State) (q : List Move) → Stands part init old q →
+    e.answer ≢ reply_to (machine part init capacity) q e.call

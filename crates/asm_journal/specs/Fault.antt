@@ -1,0 +1,70 @@
+-- The first fault of a text that reads as no history.
+use Rattle.std.specs.Prelude.{◌≡◌, ◌≢◌, ◌<◌, ◌+◌, ◌⊎◌, ℕ, List, [], length, Some, false, codes, Result, Ok, Err}
+use Rattle.serde_json.specs.Data.{Data, Num, unsigned, number}
+use Rattle.serde_json.specs.Find.{get, is_float}
+use Rattle.asm_update.specs.State.{State}
+use Rattle.asm_storage.specs.declared.history.Event.{Event}
+use Rattle.asm_storage.specs.declared.history.History.{History}
+use Rattle.asm_journal.specs.declared.fault.JournalError.{JournalError}
+use Rattle.asm_journal.specs.declared.fault.JournalError.TheVariants.{NotJson, Shape, Version, Cut, Memory}
+use Rattle.asm_journal.specs.Event.{IsEventBelow}
+use Rattle.asm_journal.specs.Reading.{IsJson, HasNoLineFeed, BeginsWithLine, HasLine, IsHeader, HasEvents, ReadsAs}
+
+-- Line k, with which the text begins, is cut, or it isn't JSON: no byte is left; it isn't JSON; it has no line feed.
+abbrev pub BreaksLine : ℕ → List ℕ → JournalError → Type 0
+BreaksLine k text Cut = (text ≡ []) ⊎ (HasNoLineFeed text × (text ≢ []) × ((d : Data) × IsJson text d))
+BreaksLine k text (NotJson n) =
+    (n ≡ k) × (text ≢ []) × ((body : List ℕ) × BeginsWithLine text body × ((d : Data) → ¬ IsJson body d))
+BreaksLine k text (Shape n) = ⊥
+BreaksLine k text Version = ⊥
+BreaksLine k text Memory = Unit {0}
+
+-- an object whose version is a whole number other than 1
+abbrev pub HasOtherVersion : Data → Type 0
+HasOtherVersion d =
+    (n : Num) × (get (codes "version") d ≡ Some (number n)) × (is_float n ≡ false) × (n ≢ unsigned 1)
+
+-- the value is no header
+abbrev pub IsNoHeader : Data → Type 0
+IsNoHeader d = (agents capacity events : ℕ) (init : State) → ¬ IsHeader agents capacity events init d
+
+-- line 1 is at fault
+abbrev pub BreaksHeader : List ℕ → JournalError → Type 0
+BreaksHeader text Version = (d : Data) × (rest : List ℕ) × HasLine text d rest × HasOtherVersion d
+BreaksHeader text (Shape n) =
+    (n ≡ 1) × ((d : Data) × (rest : List ℕ) × HasLine text d rest × ¬ HasOtherVersion d × IsNoHeader d)
+BreaksHeader text e = BreaksLine 1 text e
+
+-- line k, with which the text begins, is at fault, and should be an event that fits so many agents
+abbrev pub BreaksEvent : ℕ → ℕ → List ℕ → JournalError → Type 0
+BreaksEvent agents k text (Shape n) =
+    (n ≡ k) × ((d : Data) × (rest : List ℕ) × HasLine text d rest × ((e : Event) → ¬ IsEventBelow agents e d))
+BreaksEvent agents k text e = BreaksLine k text e
+
+-- behind the header some events stand and the next line is at fault, or all events do and a byte is left
+abbrev pub BreaksBehind : List ℕ → JournalError → Type 0
+BreaksBehind text e =
+    (d : Data) × (rest : List ℕ) × (agents capacity count : ℕ) × (init : State)
+    × HasLine text d rest × IsHeader agents capacity count init d
+    × (es : List Event) × (left : List ℕ) × HasEvents agents rest es left
+    × (((length es < count) × BreaksEvent agents (length es + 2) left e)
+    ⊎ ((length es ≡ count) × (left ≢ []) × (e ≡ Shape (count + 2))))
+
+-- the text is refused with this fault: its header is at fault, or what stands behind it; want of memory tells nothing
+abbrev pub IsRefused : List ℕ → JournalError → Type 0
+IsRefused text e = BreaksHeader text e ⊎ BreaksBehind text e
+
+-- the history, or want of memory
+abbrev pub IsAnswer : History → Result History JournalError → Type 0
+IsAnswer h (Ok g) = g ≡ h
+IsAnswer h (Err e) = e ≡ Memory
+
+-- A text that reads as a history is refused for want of memory alone.
+abbrev pub RefusedReadsAsNone : Type 0
+RefusedReadsAsNone = (text : List ℕ) (h : History) (e : JournalError) →
+    e ≢ Memory → IsRefused text e → ¬ ReadsAs text h
+
+-- A text has one first fault at most.
+abbrev pub OneFault : Type 0
+OneFault = (text : List ℕ) (e f : JournalError) →
+    e ≢ Memory → f ≢ Memory → IsRefused text e → IsRefused text f → e ≡ f

@@ -1,0 +1,11 @@
+pub mod Shape
+pub mod Element
+pub mod Set
+pub mod Value
+pub mod Instruction
+pub mod Event
+pub mod Check
+pub mod Text
+pub mod Reading
+pub mod Fault
+pub mod Output

@@ -1,0 +1,60 @@
+-- How a text reads as a history.
+use Rattle.std.specs.Prelude.{◌≡◌, ◌≢◌, ◌≤◌, ◌<◌, ◌^◌, ◌⊎◌, ℕ, List, [], ◌∷◌, ◌++◌, length, All, Some, IsUtf8}
+use Rattle.serde_json.specs.Data.{Data}
+use Rattle.serde_json.specs.Read.{read}
+use Rattle.asm_update.specs.State.{State}
+use Rattle.asm_storage.specs.declared.history.Event.{Event}
+use Rattle.asm_storage.specs.declared.history.History.{History}
+use Rattle.asm_journal.specs.Value.{IsStateForm}
+use Rattle.asm_journal.specs.Event.{IsEventBelow}
+use Rattle.asm_journal.specs.Shape.{number_json_of}
+use Rattle.asm_journal.specs.Text.{header_with}
+
+-- the bytes are JSON of this value
+abbrev pub IsJson : List ℕ → Data → Type 0
+IsJson bytes d = IsUtf8 bytes × (read bytes ≡ Some d)
+
+abbrev pub HasNoLineFeed : List ℕ → Type 0
+HasNoLineFeed bytes = All (λ b. b ≢ 10) bytes
+
+-- the text begins with this line, which a line feed ends, and goes on with the rest
+abbrev pub EndsLine : List ℕ → List ℕ → List ℕ → Type 0
+EndsLine text body rest = (text ≡ body ++ 10 ∷ rest) × HasNoLineFeed body
+
+-- the text begins with this line: up to the next line feed, or up to the end where there is none
+abbrev pub BeginsWithLine : List ℕ → List ℕ → Type 0
+BeginsWithLine text body =
+    ((rest : List ℕ) × EndsLine text body rest) ⊎ ((body ≡ text) × HasNoLineFeed text)
+
+-- the text begins with a line that is JSON of this value and has its line feed, and goes on with the rest
+abbrev pub HasLine : List ℕ → Data → List ℕ → Type 0
+HasLine text d rest = (body : List ℕ) × EndsLine text body rest × IsJson body d
+
+-- the numbers of a journal: at most 256 agents, a capacity of 1 to 1,048,576, at most 4,294,967,295 events
+abbrev pub AreLimits : ℕ → ℕ → ℕ → Type 0
+AreLimits agents capacity events =
+    (agents ≤ 256) × (1 ≤ capacity) × (capacity ≤ 1048576) × (events < 2 ^ 32)
+
+-- the values are these numbers, and the version 1
+abbrev pub AreNumbers : ℕ → ℕ → ℕ → Data → Data → Data → Data → Type 0
+AreNumbers agents capacity events a c n version =
+    (a ≡ number_json_of agents) × (c ≡ number_json_of capacity) × (n ≡ number_json_of events)
+    × (version ≡ number_json_of 1) × AreLimits agents capacity events
+
+-- the value is a header with these numbers and this opening state
+abbrev pub IsHeader : ℕ → ℕ → ℕ → State → Data → Type 0
+IsHeader agents capacity events init d =
+    (a c n pairs version : Data) × (d ≡ header_with a c n pairs version)
+    × AreNumbers agents capacity events a c n version × IsStateForm init pairs
+
+-- the text begins with a line for each event, and goes on with the rest
+abbrev pub HasEvents : ℕ → List ℕ → List Event → List ℕ → Type 0
+HasEvents agents text [] rest = text ≡ rest
+HasEvents agents text (e ∷ es) rest =
+    (d : Data) × (after : List ℕ) × HasLine text d after × IsEventBelow agents e d × HasEvents agents after es rest
+
+-- a header line, a line for each event, and nothing behind them
+abbrev pub ReadsAs : List ℕ → History → Type 0
+ReadsAs text h =
+    (d : Data) × (rest : List ℕ) × HasLine text d rest × IsHeader h.agents h.capacity (length h.events) h.init d
+    × HasEvents h.agents rest h.events []

@@ -1,0 +1,43 @@
+-- The text of a history.
+use Rattle.std.specs.Prelude.{ℕ, List, [], ◌∷◌, ◌++◌, length, map, codes}
+use Rattle.std.specs.List.{flat_map}
+use Rattle.std.specs.FinMap as finite
+use Rattle.serde_json.specs.Data.{Data, object, member, no_members}
+use Rattle.serde_json.specs.Written.{compact_text}
+use Rattle.asm_update.specs.State.{State}
+use Rattle.asm_storage.specs.declared.history.Event.{Event}
+use Rattle.asm_storage.specs.declared.history.History.{History}
+use Rattle.asm_journal.specs.Shape.{list_of, number_json_of}
+use Rattle.asm_journal.specs.Value.{pair_json_of}
+use Rattle.asm_journal.specs.Event.{event_json_of}
+
+-- [PAIR, ..], in ascending order of locations
+abbrev pub state_json_of : State → Data
+state_json_of A = list_of (map pair_json_of (finite.entries A))
+
+-- {"agents":..,"capacity":..,"events":..,"init":..,"version":..}
+abbrev pub header_with : Data → Data → Data → Data → Data → Data
+header_with agents capacity events init version =
+    object (member (codes "agents") agents (member (codes "capacity") capacity (member (codes "events") events
+    (member (codes "init") init (member (codes "version") version no_members)))))
+
+-- {"agents":N,"capacity":N,"events":N,"init":INIT,"version":1}
+abbrev pub header_of : ℕ → ℕ → ℕ → Data → Data
+header_of agents capacity events init =
+    header_with (number_json_of agents) (number_json_of capacity) (number_json_of events) init (number_json_of 1)
+
+-- the header of a history
+abbrev pub header_json_of : History → Data
+header_json_of h = header_of h.agents h.capacity (length h.events) (state_json_of h.init)
+
+-- the compact text of a value, and a line feed
+abbrev pub line : Data → List ℕ
+line d = compact_text d ++ 10 ∷ []
+
+-- the lines of events
+abbrev pub events_text : List Event → List ℕ
+events_text events = flat_map (λ e. line (event_json_of e)) events
+
+-- a header line, and a line for each event
+abbrev pub text_of : History → List ℕ
+text_of h = line (header_json_of h) ++ events_text h.events

@@ -1,0 +1,139 @@
+//! JSON arrays: items that are read in their order, and items that are written.
+ghost use Rattle.std.specs.Prelude.{◌≡◌, ◌≢◌, ◌++◌, [], ◌∷◌, IfOk, IfSome, IfNone, OnOk, map, option_map};
+ghost use Rattle.serde_json.specs.Data.{Data};
+ghost use Rattle.serde_json.specs.View.{view, items_of, items_view};
+ghost use Rattle.asm_journal.specs.Shape.{Reads, AreForms, IsListForm, IsOnly, list_of};
+
+use crate::listed::Listed;
+use serde_json::Value as Json;
+use std::alloc::{AllocError, Global};
+
+/// A value that is read from JSON.
+pub trait FromJson: Drop {
+    // the JSON that is read as this value
+    ghost is_form: { Self → Data → Type 0 };
+
+    /// The value of which this is the form; `None` where it is the form of none.
+    ///
+    /// `AllocError` comes only where memory was refused.
+    fn from_json(alloc: Global, json: &Json) -> Result<Option<Self>, AllocError>
+    where
+        Self: Sized,
+        ensures { IfOk result (λ o. Reads is_form (view json.now) o) };
+}
+
+/// A value that is written as JSON.
+pub(crate) trait ToJson {
+    // the JSON that is written
+    ghost json_of: { Self → Data };
+
+    fn to_json(&self, alloc: Global) -> Result<Json, AllocError>
+        ensures { IfOk result (λ json. view json ≡ json_of self.now) };
+}
+
+/// The items of which these values are the forms, in their order.
+pub(crate) fn read_items<T: FromJson>(
+    alloc: Global,
+    items: &[Json],
+) -> Result<Option<Vec<T>>, AllocError>
+    ensures { IfOk result (λ o. Reads (AreForms T.is_form) (items_view items.now)
+        (option_map (λ v. v.items) o)) }
+{
+    let mut found = Vec::new(alloc);
+    for item in items {
+        match T::from_json(alloc, item)? {
+            Some(x) => found.push(x)?,
+            None => return Ok(None),
+        }
+    }
+    Ok(Some(found))
+}
+
+impl<T: FromJson> FromJson for Listed<T> {
+    ghost is_form = { IsListForm T.is_form };
+
+    fn from_json(alloc: Global, json: &Json) -> Result<Option<Listed<T>>, AllocError> {
+        let Some(items) = json.as_array() else {
+            return Ok(None);
+        };
+        match read_items(alloc, items)? {
+            Some(found) => Ok(Some(Listed::new(found))),
+            None => Ok(None),
+        }
+    }
+}
+
+/// What the one item is the form of.
+pub(crate) fn read_only<T: FromJson>(alloc: Global, items: &[Json]) -> Result<Option<T>, AllocError>
+    ensures { IfOk result (Reads (IsOnly T.is_form) (items_view items.now)) }
+{
+    let mut items = items.iter();
+    match (items.next(), items.next()) {
+        (Some(item), None) => T::from_json(alloc, item),
+        _ => Ok(None),
+    }
+}
+
+/// The two items, where there are just two.
+pub(crate) fn two_of(items: &[Json]) -> Option<(&Json, &Json)>
+    ensures some { IfSome result
+        (λ p. items_view items.now ≡ items_of (view p.0.now ∷ view p.1.now ∷ [])) }
+    ensures none { IfNone result ((a b : Data) → items_view items.now ≢ items_of (a ∷ b ∷ [])) }
+{
+    let mut items = items.iter();
+    let first = items.next()?;
+    let second = items.next()?;
+    match items.next() {
+        None => Some((first, second)),
+        Some(_) => None,
+    }
+}
+
+/// The members of an array of two.
+pub(crate) fn two_items(json: &Json) -> Option<(&Json, &Json)>
+    ensures some { IfSome result (λ p. view json.now ≡ list_of (view p.0.now ∷ view p.1.now ∷ [])) }
+    ensures none { IfNone result ((a b : Data) → view json.now ≢ list_of (a ∷ b ∷ [])) }
+{
+    two_of(json.as_array()?)
+}
+
+/// Puts the JSON of the items at the end of a list.
+pub(crate) fn push_items<T: ToJson>(
+    alloc: Global,
+    list: &mut Vec<Json>,
+    items: &[T],
+) -> Result<(), AllocError>
+    ensures { OnOk result (map view list.new.items
+        ≡ map view list.old.items ++ map T.json_of items.now) }
+{
+    for item in items {
+        list.push(item.to_json(alloc)?)?;
+    }
+    Ok(())
+}
+
+/// An array of these values.
+pub(crate) fn array_of(list: Vec<Json>) -> Json
+    ensures { view result ≡ list_of (map view list.items) }
+{
+    Json::Array(list)
+}
+
+/// An array of the JSON of these items.
+pub(crate) fn list_json<T: ToJson>(alloc: Global, items: &[T]) -> Result<Json, AllocError>
+    ensures { IfOk result (λ json. view json ≡ list_of (map T.json_of items.now)) }
+{
+    let mut list = Vec::new(alloc);
+    push_items(alloc, &mut list, items)?;
+    Ok(array_of(list))
+}
+
+/// An array of two values.
+pub(crate) fn pair_of(alloc: Global, first: Json, second: Json) -> Result<Json, AllocError>
+    ensures { IfOk result (λ json. view json ≡ list_of (view first ∷ view second ∷ [])) }
+{
+    let mut list = Vec::new(alloc);
+    list.push(first)?;
+    list.push(second)?;
+    Ok(Json::Array(list))
+}

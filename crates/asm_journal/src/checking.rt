@@ -1,0 +1,122 @@
+//! Whether a history is one of the storage of one thread.
+ghost use Rattle.std.specs.Prelude.{◌≡◌, ◌↔◌, map, IsTrue, IfOk};
+ghost use Rattle.asm_state.specs.View.{value_at};
+ghost use Rattle.asm_journal.specs.Check.{machine_of, IsLegality, verdict_reply, is_fired, IsStep};
+
+use asm_element::{Location, Value};
+use asm_state::{State, Verdict};
+use asm_storage::{Answer, Call, Event, History, Reply};
+use asm_update::{Aggregator, Lookup};
+use std::alloc::{AllocError, Global};
+
+/// Whether a history is legal: whether each answer is the one of the storage of one thread.
+#[derive(Clone, Copy, Debug, Drop, PartialEq, Eq)]
+pub enum Legality {
+    /// It is: the numbers of its events and of its fired moves.
+    Legal { calls: u64, moves: u32 },
+    /// It isn't: the number of the first event whose answer is another, counted from 0.
+    Illegal { call: u64 },
+}
+
+/// Whether the location has this value.
+fn holds(state: &State, at: &Location, value: &Value) -> bool
+    ensures { IsTrue result ↔ (value_at state.now at.now ≡ value.now) }
+{
+    match state.get(at) {
+        Some(held) => held == value,
+        None => value.is_undef(),
+    }
+}
+
+/// Whether these are the values of the locations.
+fn are_values(state: &State, places: &[Location], values: &[Value]) -> bool
+    ensures { IsTrue result ↔ (map (value_at state.now) places.now ≡ values.now) }
+{
+    if places.len() != values.len() {
+        return false;
+    }
+    for (index, at) in places.iter().enumerate() {
+        if !holds(state, at, &values[index]) {
+            return false;
+        }
+    }
+    true
+}
+
+/// Whether this is the reply to a move with this verdict, after so many moves.
+fn is_reply(verdict: &Verdict, capacity: u32, number: u32, reply: &Reply) -> bool
+    ensures { IsTrue result ↔ (reply.now ≡ verdict_reply capacity number verdict.now) }
+{
+    match (verdict, reply) {
+        (Verdict::Stale(at), Reply::Stale(told)) => at == told,
+        (Verdict::Clash(clash), Reply::Clash(told)) => {
+            clash.at == told.at && clash.cause == told.cause
+        }
+        (Verdict::Ready(_), Reply::Fired(told)) => number < capacity && *told == number + 1,
+        (Verdict::Ready(_), Reply::Full) => capacity <= number,
+        _ => false,
+    }
+}
+
+/// Whether the move was fired.
+fn is_fired(reply: &Reply) -> bool
+    ensures { result ≡ is_fired reply.now }
+{
+    matches!(reply, Reply::Fired(_))
+}
+
+/// Whether the event's answer is the one after the moves that the state has followed; then the
+/// state follows its move too, if it has one.
+fn step<A: Aggregator>(
+    alloc: Global,
+    aggregator: &A,
+    state: &mut State,
+    capacity: u32,
+    event: &Event,
+) -> Result<bool, AllocError>
+    ensures { IfOk result (IsStep (A.meaning aggregator.now).part capacity
+        event.now state.old state.new) }
+{
+    match (&event.call, &event.answer) {
+        (Call::Read(places), Answer::Read { number, values }) => {
+            Ok(*number == state.number() && are_values(state, places.as_slice(), values.as_slice()))
+        }
+        (Call::Fire { reads, instrs }, Answer::Fire(reply)) => {
+            let verdict = state.judge(alloc, aggregator, reads.as_slice(), instrs)?;
+            if !is_reply(&verdict, capacity, state.number(), reply) {
+                return Ok(false);
+            }
+            if is_fired(reply) {
+                state.follow(alloc, aggregator, instrs)?;
+            }
+            Ok(true)
+        }
+        _ => Ok(false),
+    }
+}
+
+/// Whether each event of a history has the answer of the storage of one thread.
+///
+/// It costs a judgement for each event, whatever came before it. `AllocError` comes only where
+/// memory was refused. Source: a history is legal by the sequential specification of its object, as
+/// in Herlihy and Shavit.
+pub fn check<A: Aggregator>(
+    alloc: Global,
+    aggregator: &A,
+    history: &History,
+) -> Result<Legality, AllocError>
+    ensures { IfOk result (IsLegality (machine_of (A.meaning aggregator.now).part history.now)
+        history.now.events) }
+{
+    let mut state = State::new(alloc, history.init.copy(alloc)?)?;
+    let events = history.events.as_slice();
+    for (index, event) in events.iter().enumerate() {
+        if !step(alloc, aggregator, &mut state, history.capacity, event)? {
+            return Ok(Legality::Illegal { call: index as u64 });
+        }
+    }
+    Ok(Legality::Legal {
+        calls: events.len() as u64,
+        moves: state.number(),
+    })
+}

@@ -1,0 +1,87 @@
+//! The JSON of elements and locations.
+ghost use Rattle.std.specs.Prelude.{◌≡◌, IfOk};
+ghost use Rattle.serde_json.specs.View.{view};
+ghost use Rattle.asm_journal.specs.Shape.{Reads};
+ghost use Rattle.asm_journal.specs.Element.{element_json_of, location_json_of, IsElementForm, IsLocationForm};
+
+use crate::array::{FromJson, ToJson, push_items, read_items};
+use asm_element::{ElemText, Element, Location};
+use serde_json::Value as Json;
+use std::alloc::{AllocError, Global};
+
+impl ToJson for Element {
+    ghost json_of = { element_json_of };
+
+    fn to_json(&self, alloc: Global) -> Result<Json, AllocError> {
+        match self {
+            Element::Undef => Ok(Json::Null),
+            Element::Bool(truth) => Ok(Json::Bool(*truth)),
+            Element::Num(number) => Ok(Json::from(*number)),
+            Element::Text(text) => Json::try_from_str(alloc, text.as_str()),
+        }
+    }
+}
+
+impl FromJson for Element {
+    ghost is_form = { IsElementForm };
+
+    fn from_json(_alloc: Global, json: &Json) -> Result<Option<Element>, AllocError> {
+        match json {
+            Json::Null => Ok(Some(Element::Undef)),
+            Json::Bool(truth) => Ok(Some(Element::Bool(*truth))),
+            Json::Number(number) => Ok(number.as_i64().map(Element::Num)),
+            Json::String(text) => Ok(Some(Element::Text(ElemText::new(text.clone()?)))),
+            Json::Array(_) | Json::Object(_) => Ok(None),
+        }
+    }
+}
+
+impl ToJson for Location {
+    ghost json_of = { location_json_of };
+
+    fn to_json(&self, alloc: Global) -> Result<Json, AllocError> {
+        let mut list = Vec::new(alloc);
+        list.push(Json::try_from_str(alloc, self.name())?)?;
+        push_items(alloc, &mut list, self.args())?;
+        Ok(Json::Array(list))
+    }
+}
+
+impl FromJson for Location {
+    ghost is_form = { IsLocationForm };
+
+    fn from_json(alloc: Global, json: &Json) -> Result<Option<Location>, AllocError> {
+        let Some(items) = json.as_array() else {
+            return Ok(None);
+        };
+        let Some((first, rest)) = items.split_first() else {
+            return Ok(None);
+        };
+        let Some(name) = first.as_str() else {
+            return Ok(None);
+        };
+        let Some(args) = read_items(alloc, rest)? else {
+            return Ok(None);
+        };
+        Ok(Location::new(String::from_str(alloc, name)?, args).ok())
+    }
+}
+
+/// A location's JSON: an array of its name and then its arguments.
+///
+/// `AllocError` comes only where memory was refused.
+pub fn location_json(alloc: Global, location: &Location) -> Result<Json, AllocError>
+    ensures { IfOk result (λ json. view json ≡ location_json_of location.now) }
+{
+    location.to_json(alloc)
+}
+
+/// The location of which this is the JSON; `None` where it is that of none: where it isn't an array
+/// of a name and at most 8 elements, or the name is against the rule of names.
+///
+/// `AllocError` comes only where memory was refused.
+pub fn read_location(alloc: Global, json: &Json) -> Result<Option<Location>, AllocError>
+    ensures { IfOk result (Reads IsLocationForm (view json.now)) }
+{
+    Location::from_json(alloc, json)
+}

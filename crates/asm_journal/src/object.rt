@@ -1,0 +1,112 @@
+//! JSON objects with fixed keys.
+ghost use Rattle.std.specs.Prelude.{◌≡◌, ◌≢◌, IfOk, IfSome, IfNone};
+ghost use Rattle.serde_json.specs.Data.{Data, Members, object, member, no_members};
+ghost use Rattle.serde_json.specs.View.{view, members_view};
+ghost use Rattle.asm_journal.specs.Shape.{one_of, two_of, three_of};
+
+use serde_json::{Map, Value as Json};
+use std::alloc::{AllocError, Global};
+use std::collections::btree_map::Iter;
+
+/// The value of the next member in the order of the keys, where its key is this one.
+pub(crate) fn next_member<'v>(members: &mut Iter<'v, String, Json>, key: &str) -> Option<&'v Json>
+    ensures some { IfSome result
+        (λ v. members_view members.old ≡ member key.now (view v.now) (members_view members.new)) }
+    ensures none { IfNone result
+        ((d : Data) (ms : Members) → members_view members.old ≢ member key.now d ms) }
+{
+    match members.next() {
+        Some((name, value)) if name.as_str() == key => Some(value),
+        _ => None,
+    }
+}
+
+/// The value of an object that has just this key.
+pub(crate) fn member_of<'v>(json: &'v Json, key: &str) -> Option<&'v Json>
+    ensures some { IfSome result (λ m. view json.now ≡ one_of key.now (view m.now)) }
+    ensures none { IfNone result ((d : Data) → view json.now ≢ one_of key.now d) }
+{
+    let mut members = json.as_object()?.iter();
+    let value = next_member(&mut members, key)?;
+    match members.next() {
+        None => Some(value),
+        Some(_) => None,
+    }
+}
+
+/// The values of an object that has just these two keys, which are given in the order of their bytes.
+///
+/// `None` where the value is no object or has other keys; the order in the text is free.
+pub fn two_members<'v>(json: &'v Json, first: &str, second: &str) -> Option<(&'v Json, &'v Json)>
+    ensures some { IfSome result
+        (λ m. view json.now ≡ two_of first.now (view m.0.now) second.now (view m.1.now)) }
+    ensures none { IfNone result ((a b : Data) → view json.now ≢ two_of first.now a second.now b) }
+{
+    let mut members = json.as_object()?.iter();
+    let a = next_member(&mut members, first)?;
+    let b = next_member(&mut members, second)?;
+    match members.next() {
+        None => Some((a, b)),
+        Some(_) => None,
+    }
+}
+
+/// An object with this member alone.
+pub(crate) fn object_of(alloc: Global, key: &str, json: Json) -> Result<Json, AllocError>
+    ensures { IfOk result (λ object. view object ≡ one_of key.now (view json)) }
+{
+    let mut members = Map::new(alloc);
+    serde_json::put(&mut members, alloc, key, json)?;
+    Ok(Json::Object(members))
+}
+
+/// The values of an object that has just these three keys, which are given in the order of their bytes.
+pub(crate) fn three_members<'v>(
+    json: &'v Json,
+    first: &str,
+    second: &str,
+    third: &str,
+) -> Option<(&'v Json, &'v Json, &'v Json)>
+    ensures some { IfSome result (λ m. view json.now
+        ≡ three_of first.now (view m.0.now) second.now (view m.1.now) third.now (view m.2.now)) }
+    ensures none { IfNone result ((a b c : Data)
+        → view json.now ≢ three_of first.now a second.now b third.now c) }
+{
+    let mut members = json.as_object()?.iter();
+    let a = next_member(&mut members, first)?;
+    let b = next_member(&mut members, second)?;
+    let c = next_member(&mut members, third)?;
+    match members.next() {
+        None => Some((a, b, c)),
+        Some(_) => None,
+    }
+}
+
+/// The values of an object that has just these five keys, which are given in the order of their bytes.
+pub(crate) fn five_members<'v>(
+    json: &'v Json,
+    first: &str,
+    second: &str,
+    third: &str,
+    fourth: &str,
+    fifth: &str,
+) -> Option<(&'v Json, &'v Json, &'v Json, &'v Json, &'v Json)>
+    ensures some { IfSome result (λ m. view json.now
+        ≡ object (member first.now (view m.0.now) (member second.now (view m.1.now)
+        (member third.now (view m.2.now) (member fourth.now (view m.3.now)
+        (member fifth.now (view m.4.now) no_members)))))) }
+    ensures none { IfNone result ((d1 d2 d3 d4 d5 : Data) → view json.now
+        ≢ object (member first.now d1 (member second.now d2
+        (member third.now d3 (member fourth.now d4 (member fifth.now d5 no_members)))))) }
+{
+    let mut members = json.as_object()?.iter();
+    let a = next_member(&mut members, first)?;
+    let b = next_member(&mut members, second)?;
+    let c = next_member(&mut members, third)?;
+    let d = next_member(&mut members, fourth)?;
+    let e = next_member(&mut members, fifth)?;
+    match members.next() {
+        None => Some((a, b, c, d, e)),
+        Some(_) => None,
+    }
+}

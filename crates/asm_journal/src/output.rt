@@ -1,0 +1,49 @@
+//! Writing a journal to an output.
+ghost use Rattle.std.specs.Prelude.{OnOk, IfErr};
+ghost use Rattle.std.specs.Io.KnownBytes.{Appends};
+ghost use Rattle.asm_storage.specs.History.{Fits};
+ghost use Rattle.asm_journal.specs.Text.{text_of};
+ghost use Rattle.asm_journal.specs.Output.{Stops};
+
+use crate::fault::WriteError;
+use crate::writing::to_text;
+use asm_storage::History;
+use std::alloc::Global;
+use std::io::Write;
+
+/// Writes the bytes, or says how many went out.
+fn write_bytes<W: Write>(out: &mut W, bytes: &[u8]) -> Result<(), WriteError>
+    ensures ok { OnOk result (Appends (W.contents out.old) (W.contents out.new) bytes.now) }
+    ensures err { IfErr result (Stops (W.contents out.old) (W.contents out.new) bytes.now) }
+{
+    let mut written = 0;
+    while written < bytes.len() {
+        match out.write(&bytes[written..]) {
+            Ok(count) if count > 0 => written += count,
+            _ => {
+                return Err(WriteError::Output {
+                    written: written as u64,
+                });
+            }
+        }
+    }
+    Ok(())
+}
+
+/// Writes the journal of a history: makes the whole text first, and then writes it until all of it
+/// is out.
+///
+/// The history must be within the limits of a journal, which `History::fits` tests.
+/// `WriteError::Output` comes only where a write failed or took no byte; what went out is then the
+/// first `written` bytes of the text. `Memory` comes only where memory was refused, and nothing went
+/// out. The output isn't flushed.
+pub fn write_text<W: Write>(alloc: Global, out: &mut W, history: &History) -> Result<(), WriteError>
+    requires { Fits history.now }
+    ensures ok { OnOk result
+        (Appends (W.contents out.old) (W.contents out.new) (text_of history.now)) }
+    ensures err { IfErr result
+        (Stops (W.contents out.old) (W.contents out.new) (text_of history.now)) }
+{
+    let text = to_text(alloc, history)?;
+    write_bytes(out, text.as_bytes())
+}

@@ -1,0 +1,179 @@
+//! Reading a journal.
+ghost use Rattle.std.specs.Prelude.{◌≡◌, ◌<◌, ◌+◌, ◌↔◌, ℕ, List, length, IsTrue, IfOk, IfErr, IfSome, IfNone};
+ghost use Rattle.serde_json.specs.Data.{Data};
+ghost use Rattle.serde_json.specs.View.{view};
+ghost use Rattle.asm_storage.specs.declared.history.Event.{Event as Item};
+ghost use Rattle.asm_storage.specs.declared.history.History.{History as Log};
+ghost use Rattle.asm_journal.specs.Shape.{Reads};
+ghost use Rattle.asm_journal.specs.Event.{IsEventBelow};
+ghost use Rattle.asm_journal.specs.Reading.{AreNumbers, HasLine, IsHeader, HasEvents, ReadsAs};
+ghost use Rattle.asm_journal.specs.Fault.{HasOtherVersion, BreaksHeader, BreaksEvent, IsRefused, IsAnswer};
+
+use crate::array::FromJson;
+use crate::event_form::event_fits;
+use crate::fault::JournalError;
+use crate::line::json_line;
+use crate::number_form::read_number;
+use crate::object::five_members;
+use asm_element::Items;
+use asm_storage::{Event, History};
+use asm_update::PlainState;
+use serde_json::Value as Json;
+use std::alloc::{AllocError, Global};
+
+/// What a header says.
+#[derive(Drop)]
+struct Header {
+    limits: Limits,
+    init: PlainState,
+}
+
+/// Whether the value is an object whose version is a whole number other than 1.
+fn has_other_version(json: &Json) -> bool
+    ensures { IsTrue result ↔ HasOtherVersion (view json.now) }
+{
+    match json.get("version").and_then(Json::as_number) {
+        Some(version) => !version.is_f64() && version.as_u64() != Some(1),
+        None => false,
+    }
+}
+
+/// The numbers of a header.
+#[derive(Clone, Copy, Drop)]
+struct Limits {
+    agents: u32,
+    capacity: u32,
+    events: u32,
+}
+
+/// The numbers that these values are, where they are within the limits and the version is 1.
+fn limits_of(agents: &Json, capacity: &Json, events: &Json, version: &Json) -> Option<Limits>
+    ensures some { IfSome result (λ l. AreNumbers l.agents l.capacity l.events
+        (view agents.now) (view capacity.now) (view events.now) (view version.now)) }
+    ensures none { IfNone result ((a c n : ℕ) → ¬ AreNumbers a c n
+        (view agents.now) (view capacity.now) (view events.now) (view version.now)) }
+{
+    let agents = read_number(agents)?;
+    let capacity = read_number(capacity)?;
+    let events = read_number(events)?;
+    let version = read_number(version)?;
+    if version == 1 && agents <= 256 && 1 <= capacity && capacity <= 1_048_576 {
+        Some(Limits {
+            agents,
+            capacity,
+            events,
+        })
+    } else {
+        None
+    }
+}
+
+/// The header that a value is.
+fn header_from(alloc: Global, json: &Json) -> Result<Option<Header>, AllocError>
+    ensures { IfOk result (Reads (λ h d. IsHeader h.limits.agents h.limits.capacity h.limits.events
+        h.init d) (view json.now)) }
+{
+    let members = five_members(json, "agents", "capacity", "events", "init", "version");
+    let Some((agents, capacity, events, init, version)) = members else {
+        return Ok(None);
+    };
+    let Some(limits) = limits_of(agents, capacity, events, version) else {
+        return Ok(None);
+    };
+    match PlainState::from_json(alloc, init)? {
+        Some(init) => Ok(Some(Header { limits, init })),
+        None => Ok(None),
+    }
+}
+
+/// The header line, and what is behind it.
+fn read_header(alloc: Global, text: &[u8]) -> Result<(Header, &[u8]), JournalError>
+    ensures ok { IfOk result (λ p. (d : Data) × HasLine text.now d p.1.now
+        × IsHeader p.0.limits.agents p.0.limits.capacity p.0.limits.events p.0.init d) }
+    ensures err { IfErr result (BreaksHeader text.now) }
+{
+    let (json, rest) = json_line(alloc, text, 1)?;
+    if has_other_version(&json) {
+        return Err(JournalError::Version);
+    }
+    match header_from(alloc, &json)? {
+        Some(header) => Ok((header, rest)),
+        None => Err(JournalError::Shape(1)),
+    }
+}
+
+/// The event of the line with this number, and what is behind it.
+fn read_event(
+    alloc: Global,
+    text: &[u8],
+    number: u64,
+    agents: u32,
+) -> Result<(Event, &[u8]), JournalError>
+    ensures ok { IfOk result (λ p. (d : Data) × HasLine text.now d p.1.now
+        × IsEventBelow agents p.0 d) }
+    ensures err { IfErr result (BreaksEvent agents number text.now) }
+{
+    let (json, rest) = json_line(alloc, text, number)?;
+    match Event::from_json(alloc, &json)? {
+        Some(event) if event_fits(&event, agents) => Ok((event, rest)),
+        _ => Err(JournalError::Shape(number)),
+    }
+}
+
+/// So many events, each on its line, and what is behind them.
+fn read_events(
+    alloc: Global,
+    text: &[u8],
+    agents: u32,
+    count: u32,
+) -> Result<(Vec<Event>, &[u8]), JournalError>
+    ensures ok { IfOk result (λ p. (length p.0.items ≡ count)
+        × HasEvents agents text.now p.0.items p.1.now) }
+    ensures err { IfErr result (λ e. (es : List Item) × (left : List ℕ)
+        × HasEvents agents text.now es left
+        × (length es < count) × BreaksEvent agents (length es + 2) left e) }
+{
+    let mut events = Vec::new(alloc);
+    let mut rest = text;
+    for index in 0..count {
+        let (event, after) = read_event(alloc, rest, u64::from(index) + 2, agents)?;
+        events.push(event)?;
+        rest = after;
+    }
+    Ok((events, rest))
+}
+
+/// The history as which the bytes read, or the first fault.
+fn read_journal(alloc: Global, bytes: &[u8]) -> Result<History, JournalError>
+    ensures ok { IfOk result (ReadsAs bytes.now) }
+    ensures err { IfErr result (IsRefused bytes.now) }
+{
+    let (header, rest) = read_header(alloc, bytes)?;
+    let limits = header.limits;
+    let (events, rest) = read_events(alloc, rest, limits.agents, limits.events)?;
+    if !rest.is_empty() {
+        return Err(JournalError::Shape(u64::from(limits.events) + 2));
+    }
+    Ok(History {
+        init: header.init,
+        capacity: limits.capacity,
+        agents: limits.agents,
+        events: Items::new(events),
+    })
+}
+
+/// The history as which the bytes read, or the first fault.
+///
+/// In the order of the lines: a line that isn't JSON is `NotJson`, one of a wrong shape `Shape`, and
+/// a text that ends before its last line feed is `Cut`; a line is tested for JSON, then for its line
+/// feed, and then for its shape; the header's version comes before its shape. A byte behind the last
+/// line is the wrong shape of one line more. `Memory` comes only where memory was refused. It costs one
+/// pass over the text, and no memory is reserved by the numbers that the header says.
+pub fn from_text(alloc: Global, bytes: &[u8]) -> Result<History, JournalError>
+    ensures ok { IfOk result (ReadsAs bytes.now) }
+    ensures err { IfErr result (IsRefused bytes.now) }
+    // What reads as a history is answered so, unless memory runs out.
+    ensures only { (h : Log) → ReadsAs bytes.now h → IsAnswer h result }
+{
+    read_journal(alloc, bytes)
+}

@@ -1,0 +1,70 @@
+//! The state that a history leaves.
+ghost use Rattle.std.specs.Prelude.{◌≡◌, OnOk, IfOk};
+ghost use Rattle.std.specs.Option.{option_copied};
+ghost use Rattle.asm_update.specs.State.{overwrite};
+ghost use Rattle.asm_update.specs.Fire.{state_of};
+ghost use Rattle.asm_state.specs.Stands.{after_move};
+ghost use Rattle.asm_storage.specs.History.{move_of, moves};
+
+use asm_aggregate::aggregate;
+use asm_storage::{Answer, Call, Event, History, Reply};
+use asm_update::{AggError, Aggregator, Instructions, PlainState, UpdateSet};
+use std::alloc::{AllocError, Global};
+
+/// The instructions of the move, where the call fired one.
+fn fired_move(event: &Event) -> Option<&Instructions>
+    ensures { option_copied result ≡ move_of event.now }
+{
+    match (&event.call, &event.answer) {
+        (Call::Fire { instrs, .. }, Answer::Fire(Reply::Fired(_))) => Some(instrs),
+        _ => None,
+    }
+}
+
+/// Writes each of the updates; after want of memory some of them are written.
+fn write_updates(state: &mut PlainState, updates: UpdateSet) -> Result<(), AllocError>
+    ensures { OnOk result (state.new ≡ overwrite state.old updates) }
+{
+    for (at, value) in updates {
+        state.set(at, value)?;
+    }
+    Ok(())
+}
+
+/// Fires a move, unless it clashes.
+fn fire_or_keep<A: Aggregator>(
+    alloc: Global,
+    aggregator: &A,
+    state: &mut PlainState,
+    instructions: &Instructions,
+) -> Result<(), AllocError>
+    ensures { OnOk result
+        (state.new ≡ after_move (A.meaning aggregator.now).part state.old instructions.now) }
+{
+    match aggregate(alloc, aggregator, state, instructions) {
+        Ok(updates) => write_updates(state, updates),
+        Err(AggError::Clash(_)) => Ok(()),
+        Err(AggError::Memory) => Err(AllocError),
+    }
+}
+
+/// The opening state of a history with its fired moves in order; a move that clashes changes
+/// nothing.
+///
+/// `AllocError` comes only where memory was refused.
+pub fn replay<A: Aggregator>(
+    alloc: Global,
+    aggregator: &A,
+    history: &History,
+) -> Result<PlainState, AllocError>
+    ensures { IfOk result (λ state. state ≡ state_of (A.meaning aggregator.now).part
+        history.now.init (moves history.now.events)) }
+{
+    let mut state = history.init.copy(alloc)?;
+    for event in history.events.as_slice() {
+        if let Some(instructions) = fired_move(event) {
+            fire_or_keep(alloc, aggregator, &mut state, instructions)?;
+        }
+    }
+    Ok(state)
+}
