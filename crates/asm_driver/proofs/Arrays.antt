@@ -1,5 +1,5 @@
 -- Arrays and texts that JSON values are.
-use Rattle.std.proofs.Common.{◌≡◌, ◌+◌, ◌*◌, length, ℕ, List, [], ◌∷◌, Some}
+use Rattle.std.proofs.Common.{◌≡◌, ◌+◌, ◌*◌, ℕ, List, [], ◌∷◌, Some}
 use Rattle.serde_json.specs.Data.{Data, null, boolean, number, string, array, object, Items}
 use Rattle.serde_json.specs.Find.{as_array, as_str}
 use Rattle.asm_driver.specs.Form.{list_of}
@@ -26,7 +26,7 @@ same_array ds es e = cc
 pub same_two : (a b x y : Data) → list_of (a ∷ b ∷ []) ≡ list_of (x ∷ y ∷ []) → (a ≡ x) × (b ≡ y)
 same_two a b x y e = (cc, cc)
 
--- a number by which the words of the formats differ
+-- a text as a number, byte by byte, so that different texts have different numbers
 unfoldable pub mark : List ℕ → ℕ
-mark [] = 0
-mark (b ∷ bs) = b + 256 * length bs
+mark [] = 1
+mark (b ∷ bs) = b + 256 * mark bs

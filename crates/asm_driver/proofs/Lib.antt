@@ -14,8 +14,15 @@ pub mod Plans
 pub mod Moves
 pub mod Legal
 pub mod Playing
+pub mod Turns
 pub mod Lines
 pub mod Floats
 pub mod Outcomes
 pub mod Pieces
 pub mod Asking
+pub mod Answering
+pub mod Ports
+mod Evaluated
+mod Gathering
+mod Agreeing
+mod Advancing

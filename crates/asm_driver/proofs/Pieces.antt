@@ -1,9 +1,9 @@
 -- A text in pieces.
 use Rattle.std.proofs.Common.{◌≡◌, ℕ, ◌+◌, ◌-◌, ◌<◌, ◌==◌, true, List, [], ◌++◌, take, drop, length, Option, None, Some, IfSome, sym, ap, ◌∙◌, append_assoc, append-nil, take-append-drop, arith, length-append}
+use Rattle.std.specs.Prelude.{Result, Ok, Err, OnOk}
 use Rattle.std.proofs.Math.Seq.{take-append_seam}
 use Rattle.std.specs.Io.KnownBytes.{Appends, Keeps, Consumes}
 use Rattle.std.proofs.lemmas.Grind.{common_steps}
-use Rattle.asm_driver.specs.Input.{IsTooLarge}
 
 pub drop_whole : (n : ℕ) (s : List ℕ) → take (length s - n) (drop n s) ≡ drop n s
 drop_whole n s = grind (arith, common_steps)
@@ -32,15 +32,6 @@ none_more (Some x) None c bytes none e p q = absurd p
 none_more (Some x) (Some y) None bytes none e p q = absurd q
 none_more (Some x) (Some y) (Some z) bytes none e p q = p ∙ ap (λ l. bytes ++ l) (q ∙ ap (λ l. l ++ z) e)
 
--- more was there than fits
-pub too_large : (a b c : Option (List ℕ)) (bytes more : List ℕ) → Consumes a b bytes → Consumes b c more → 16777216 < length bytes + length more → IfSome a IsTooLarge
-too_large None b c bytes more p q l = tt
-too_large (Some x) None c bytes more p q l = absurd p
-too_large (Some x) (Some y) None bytes more p q l = absurd q
-too_large (Some x) (Some y) (Some z) bytes more p q l =
-    let n : length x ≡ length bytes + (length more + length z) = ap length p ∙ (length-append bytes y ∙ ap (λ k. length bytes + k) (ap length q ∙ length-append more z)) in
-    omega arith
-
 -- what had gone out is the first part of the text
 pub some_out : (a b c : Option (List ℕ)) (text done rest : List ℕ) → text ≡ done ++ rest → Appends a b done → Keeps b c → (n : ℕ) × Appends a c (take n text)
 some_out None b c text done rest e p q = (0, tt)
@@ -50,8 +41,7 @@ some_out (Some x) (Some y) (Some z) text done rest e p q =
     let front : take (length done) text ≡ done = ap (take (length done)) e ∙ take-append_seam done rest in
     (length done, q ∙ (p ∙ ap (λ l. x ++ l) (sym front)))
 
--- a write that took nothing
-pub took_none : (b c : Option (List ℕ)) (n : ℕ) (rest : List ℕ) → n ≡ 0 → Appends b c (take n rest) → Keeps b c
-took_none None c n rest e p = tt
-took_none (Some y) None n rest e p = absurd p
-took_none (Some y) (Some z) n rest e p = p ∙ ap (λ k. y ++ take k rest) e ∙ append-nil y
+-- what holds anyway holds where there is no error
+pub on_ok : {T E P : Type 0} (r : Result T E) → P → OnOk r P
+on_ok (Ok x) p = p
+on_ok (Err e) p = tt

@@ -5,8 +5,8 @@ use Rattle.asm_update.specs.Move.{Move}
 use Rattle.asm_update.specs.Fire.{fire, state_or, state_of}
 use Rattle.asm_driver.specs.Standard.{standard_part}
 use Rattle.asm_driver.specs.History.{reply_to, firing_reply, moves, move_of, fired_move}
-use Rattle.asm_driver.specs.Play.{IsStepOf, AreSteps, AreTurns, outcome_of}
-use Rattle.asm_driver.specs.Player.{IsLegalFrom, IsKept, IsSame, Replies, PlaysStep, PlaysSteps, PlaysAgents, machine}
+use Rattle.asm_driver.specs.Play.{IsStepOf, AreSteps, outcome_of}
+use Rattle.asm_driver.specs.Player.{InTurn, IsLegalFrom, IsKept, IsSame, Replies, PlaysStep, PlaysSteps, PlaysAgents, machine}
 use Rattle.asm_driver.specs.declared.history.Call.TheVariants as call
 use Rattle.asm_driver.specs.declared.history.Reply.{Reply}
 use Rattle.asm_driver.specs.declared.history.Reply.TheVariants as reply
@@ -126,21 +126,21 @@ steps-none p agent kept = record { kept = kept; same = record { init = refl; cap
 
 -- ---- agents
 
-pub AreTurns-push : (agent : ℕ) (mss : List (List Move)) (oss : List (List Outcome)) (es : List Event) (number : ℕ) (ms : List Move) (os : List Outcome) (own : List Event)
-    → AreTurns agent mss oss es → number ≡ agent + length mss → AreSteps number ms os own → AreTurns agent (mss ++ ms ∷ []) (oss ++ os ∷ []) (es ++ own)
-AreTurns-push agent [] [] es number ms os own h is steps =
+pub InTurn-push : (agent : ℕ) (mss : List (List Move)) (oss : List (List Outcome)) (es : List Event) (number : ℕ) (ms : List Move) (os : List Outcome) (own : List Event)
+    → InTurn agent mss oss es → number ≡ agent + length mss → AreSteps number ms os own → InTurn agent (mss ++ ms ∷ []) (oss ++ os ∷ []) (es ++ own)
+InTurn-push agent [] [] es number ms os own h is steps =
     let here : number ≡ agent = is ∙ add-zero agent in
     (own, [], ap (λ l. l ++ own) h ∙ sym (append-nil own), subst (λ n. AreSteps n ms os own) here steps, refl)
-AreTurns-push agent (m ∷ mss) (o ∷ oss) es number ms os own h is steps =
+InTurn-push agent (m ∷ mss) (o ∷ oss) es number ms os own h is steps =
     let later : number ≡ suc agent + length mss = omega arith in (
       h.0,
       h.1 ++ own,
       ap (λ l. l ++ own) h.2 ∙ append_assoc h.0 h.1 own,
       h.3,
-      AreTurns-push (suc agent) mss oss h.1 number ms os own h.4 later steps,
+      InTurn-push (suc agent) mss oss h.1 number ms os own h.4 later steps,
     )
-AreTurns-push agent [] (o ∷ oss) es number ms os own h is steps = absurd h
-AreTurns-push agent (m ∷ mss) [] es number ms os own h is steps = absurd h
+InTurn-push agent [] (o ∷ oss) es number ms os own h is steps = absurd h
+InTurn-push agent (m ∷ mss) [] es number ms os own h is steps = absurd h
 
 -- one agent more
 pub agents-push : (p q z : Player) (mss : List (List Move)) (oss : List (List Outcome)) (number : ℕ) (ms : List Move) (os : List Outcome)
@@ -153,7 +153,7 @@ agents-push p q z mss oss number ms os is so_far steps =
       turns = (
         so_far.turns.0 ++ steps.steps.0,
         steps.steps.1 ∙ ap (λ h. h ++ steps.steps.0) so_far.turns.1 ∙ append_assoc p.events.items so_far.turns.0 steps.steps.0,
-        AreTurns-push 0 mss oss so_far.turns.0 number ms os steps.steps.0 so_far.turns.2 from_zero steps.steps.2,
+        InTurn-push 0 mss oss so_far.turns.0 number ms os steps.steps.0 so_far.turns.2 from_zero steps.steps.2,
       );
     }
 

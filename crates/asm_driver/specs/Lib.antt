@@ -10,3 +10,7 @@ pub mod Input
 pub mod Output
 pub mod Words
 pub mod Run
+pub mod Terms
+pub mod Blocks
+pub mod Reads
+pub mod Sequencing

@@ -1,10 +1,10 @@
 -- Playing on the storage of one thread, step by step.
-use Rattle.std.specs.Prelude.{◌≡◌, ◌≤◌, ◌+◌, ℕ, ◌++◌, List, [], ◌∷◌, length, Ok}
+use Rattle.std.specs.Prelude.{◌≡◌, ◌≤◌, ◌+◌, ℕ, suc, ◌++◌, List, [], ◌∷◌, length, Ok}
 use Rattle.asm_update.specs.Move.{Move}
 use Rattle.asm_update.specs.Fire.{fire, state_of}
 use Rattle.asm_driver.specs.Standard.{standard_part}
 use Rattle.asm_driver.specs.History.{Machine, reply_to, firing_reply, moves}
-use Rattle.asm_driver.specs.Play.{IsStepOf, AreSteps, AreTurns}
+use Rattle.asm_driver.specs.Play.{IsStepOf, AreSteps}
 use Rattle.asm_driver.specs.declared.history.Reply.{Reply}
 use Rattle.asm_driver.specs.declared.history.Reply.TheVariants as reply
 use Rattle.asm_driver.specs.declared.history.Event.{Event}
@@ -57,8 +57,15 @@ pub record PlaysSteps (p q : Player) (agent : ℕ) (ms : List Move) (os : List O
   pub same : IsSame p q
   pub steps : (es : List Event) × (q.events.items ≡ p.events.items ++ es) × AreSteps agent ms os es
 
+-- the events of the agents from this number on, one agent after the other
+abbrev pub InTurn : ℕ → List (List Move) → List (List Outcome) → List Event → Type 0
+InTurn agent [] [] es = es ≡ []
+InTurn agent (ms ∷ mss) (os ∷ oss) es =
+    (own rest : List Event) × (es ≡ own ++ rest) × AreSteps agent ms os own × InTurn (suc agent) mss oss rest
+InTurn agent _ _ es = ⊥
+
 -- the agents' steps are played, one agent after the other
 pub record PlaysAgents (p q : Player) (agent : ℕ) (mss : List (List Move)) (oss : List (List Outcome)) : Type 0 where
   pub kept : IsKept q
   pub same : IsSame p q
-  pub turns : (es : List Event) × (q.events.items ≡ p.events.items ++ es) × AreTurns agent mss oss es
+  pub turns : (es : List Event) × (q.events.items ≡ p.events.items ++ es) × InTurn agent mss oss es

@@ -7,12 +7,11 @@ use Rattle.serde_json.specs.Written.{compact_text}
 use Rattle.asm_element.specs.Place.{Place}
 use Rattle.asm_element.specs.declared.value.Value.{Value}
 use Rattle.asm_update.specs.State.{State}
-use Rattle.asm_update.specs.Fire.{state_of}
+use Rattle.asm_update.specs.Fire.{Part, state_of}
 use Rattle.asm_update.specs.declared.clash.Cause.{Cause}
 use Rattle.asm_update.specs.declared.clash.Cause.TheVariants.{Two, Mixed, Kind, Both, Against, Short, Large as TooLarge}
 use Rattle.asm_driver.specs.Form.{location_json_of, pair_json_of}
 use Rattle.asm_driver.specs.History.{moves}
-use Rattle.asm_driver.specs.Standard.{standard_part}
 use Rattle.asm_driver.specs.declared.play.Outcome.{Outcome}
 use Rattle.asm_driver.specs.declared.play.Outcome.TheVariants.{Fired, Clash, Full, Term, Large, Many, GaveUp}
 use Rattle.asm_driver.specs.declared.play.Played.{Played}
@@ -70,9 +69,9 @@ agent_lines a = flat_map (λ s. outcome_line a.0 s.0 s.1) (enumerate_from 0 a.1)
 abbrev pub outcome_lines : List (List Outcome) → List ℕ
 outcome_lines outcomes = flat_map agent_lines (enumerate_from 0 outcomes)
 
--- the final state, the number of moves, and the steps that didn't fire
-abbrev pub report_of : Played → List ℕ
-report_of p =
-    state_lines (state_of standard_part p.history.init (moves p.history.events))
+-- with this meaning of partial updates: the final state, the number of moves, and the steps that didn't fire
+abbrev pub report_of : Part → Played → List ℕ
+report_of part p =
+    state_lines (state_of part p.history.init (moves p.history.events))
     ++ moves_line (min (length (moves p.history.events)) 4294967295)
     ++ outcome_lines p.outcomes

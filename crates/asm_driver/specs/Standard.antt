@@ -13,8 +13,9 @@ use Rattle.asm_aggregate.specs.SetMeaning.{set_meaning}
 unfoldable pub standard_part : Part
 standard_part = (pair_meaning set_meaning bag_meaning).part
 
--- the move fires on the state with these updates, or clashes as the error says; want of memory tells nothing
-abbrev pub FiresWith : State → Move → Result Updates AggError → Type 0
-FiresWith A M (Ok U) = fire standard_part A M ≡ Ok (overwrite A U)
-FiresWith A M (Err (Clashes c)) = fire standard_part A M ≡ Err c
-FiresWith A M (Err Memory) = Unit {0}
+-- Firing with this meaning: the updates with which the move fires on the state, or its clash. Want of memory tells
+-- nothing.
+abbrev pub FiresWith : Part → State → Move → Result Updates AggError → Type 0
+FiresWith part A M (Ok U) = fire part A M ≡ Ok (overwrite A U)
+FiresWith part A M (Err (Clashes c)) = fire part A M ≡ Err c
+FiresWith part A M (Err Memory) = Unit {0}

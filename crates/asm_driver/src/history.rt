@@ -7,14 +7,14 @@ use asm_element::{Items, Location, Value};
 use asm_update::{Clash, Instructions, PlainState};
 
 /// A location with the number of moves at which it was read.
-#[derive(Debug, Drop)]
+#[derive(Debug, Drop, PartialEq, Eq)]
 pub struct Named {
     pub at: Location,
     pub number: u32,
 }
 
 /// What an agent asks of the storage.
-#[derive(Debug, Drop)]
+#[derive(Debug, Drop, PartialEq, Eq)]
 pub enum Call {
     /// To read these locations.
     Read(Items<Location>),
@@ -26,7 +26,7 @@ pub enum Call {
 }
 
 /// What the storage replies to a fire.
-#[derive(Debug, Drop)]
+#[derive(Debug, Drop, PartialEq, Eq)]
 pub enum Reply {
     /// The move is the one with this number; the first move has the number 1.
     Fired(u32),
@@ -39,7 +39,7 @@ pub enum Reply {
 }
 
 /// What the storage answers.
-#[derive(Debug, Drop)]
+#[derive(Debug, Drop, PartialEq, Eq)]
 pub enum Answer {
     /// The number of moves that were fired, and the values of the locations in the order of the call.
     Read { number: u32, values: Items<Value> },
@@ -48,7 +48,7 @@ pub enum Answer {
 }
 
 /// An answered call of an agent.
-#[derive(Debug, Drop)]
+#[derive(Debug, Drop, PartialEq, Eq)]
 pub struct Event {
     pub agent: u32,
     pub call: Call,
@@ -68,7 +68,7 @@ impl Event {
 }
 
 /// What a storage answered, in one order.
-#[derive(Debug, Drop)]
+#[derive(Debug, Drop, PartialEq, Eq)]
 pub struct History {
     /// The opening state.
     pub init: PlainState,

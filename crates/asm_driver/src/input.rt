@@ -1,10 +1,10 @@
 //! The input, read to its end.
-ghost use Rattle.std.specs.Prelude.{◌≤◌, length, IfOk, IfSome, IsErrOf};
-ghost use Rattle.std.specs.Io.KnownBytes.{Consumes, IsAtEnd};
-ghost use Rattle.asm_driver.specs.Input.{IsTooLarge};
+ghost use Rattle.std.specs.Prelude.{◌≡◌, false, IfOk, OnErr, IsErrOf};
+ghost use Rattle.asm_driver.specs.Input.{ReadsAll, TakesTooMany, TakesSome, is_fault};
 
-use std::alloc::Global;
-use std::io::Read;
+use crate::noted;
+use crate::source::Source;
+use std::alloc::{AllocError, Global};
 
 /// The most bytes that are read.
 pub const INPUT_LIMIT: usize = 16_777_216;
@@ -20,27 +20,49 @@ pub enum InputError {
     Memory,
 }
 
-/// Reads to the end, or until more than the limit was read. No read is tried again.
-pub fn read_input<R: Read>(alloc: Global, input: &mut R) -> Result<Vec<u8>, InputError>
-    ensures all { IfOk result (λ bytes. Consumes (R.remaining input.old) (R.remaining input.new) bytes.items × IsAtEnd (R.remaining input.new)) }
-    ensures within { IfOk result (λ bytes. length bytes.items ≤ INPUT_LIMIT) }
-    ensures large { IsErrOf result InputError.TooLarge → IfSome (R.remaining input.old) IsTooLarge }
+impl From<noted::Fault> for InputError {
+    ghost use Rattle.std.specs.Prelude.{◌≡◌};
+    ghost use Rattle.asm_driver.specs.declared.input.InputError.TheVariants.{Fault};
+
+    ghost from_gives = { λ _ e. e ≡ Fault };
+
+    fn from(_failed: noted::Fault) -> InputError {
+        InputError::Fault
+    }
+}
+
+impl From<AllocError> for InputError {
+    ghost use Rattle.std.specs.Prelude.{◌≡◌};
+    ghost use Rattle.asm_driver.specs.declared.input.InputError.TheVariants.{Memory};
+
+    ghost from_gives = { λ _ e. e ≡ Memory };
+
+    fn from(_refused: AllocError) -> InputError {
+        InputError::Memory
+    }
+}
+
+/// Reads to the end of the input, or one byte beyond the limit. No read is tried again.
+pub fn read_input<S: Source>(alloc: Global, input: &mut S) -> Result<Vec<u8>, InputError>
+    requires { S.failed input.old ≡ false }
+    ensures same_reference { S.lender input.new ≡ S.lender input.old }
+    ensures all { IfOk result (λ bytes. ReadsAll (S.remaining input.old) (S.remaining input.new) bytes.items) }
+    ensures large { IsErrOf result InputError.TooLarge → TakesTooMany (S.remaining input.old) (S.remaining input.new) }
+    ensures some { OnErr result (TakesSome (S.remaining input.old) (S.remaining input.new)) }
+    ensures noted { S.failed input.new ≡ is_fault result }
 {
     let mut bytes = Vec::new(alloc);
     let mut buffer = [0u8; 4096];
-    for _ in 0..u64::MAX {
-        let Ok(count) = input.read(&mut buffer) else {
-            return Err(InputError::Fault);
-        };
+    loop {
+        let room = buffer.len().min(INPUT_LIMIT + 1 - bytes.len());
+        let part = &mut buffer[..room];
+        let count = input.read(part)?;
         if count == 0 {
             return Ok(bytes);
         }
         if count > INPUT_LIMIT - bytes.len() {
             return Err(InputError::TooLarge);
         }
-        let Ok(()) = bytes.extend_from_slice(&buffer[..count]) else {
-            return Err(InputError::Memory);
-        };
+        bytes.extend_from_slice(&part[..count])?;
     }
-    Err(InputError::Fault)
 }

@@ -1,12 +1,14 @@
 //! The driver: it reads a script, plays its moves, and writes the final state.
 #![tactic(auto)]
 
+pub mod block;
 mod firing;
 pub mod form;
 pub mod history;
 pub mod input;
 mod instruction_form;
 pub mod listed;
+pub mod noted;
 pub mod output;
 pub mod play;
 pub mod program;
@@ -14,21 +16,25 @@ pub mod replay;
 pub mod report;
 pub mod script;
 mod set_form;
+pub mod sink;
+pub mod source;
+pub mod step;
+#[cfg(test)]
+mod step_tests;
+pub mod term;
 pub mod words;
 
-use crate::program::{Refusal, refuse, run_main};
+use crate::program::run_given;
 use std::alloc::Global;
 use std::process::ExitCode;
 use std::{env, io};
 
 fn main(rt: HostRuntime) -> ExitCode {
     let alloc: Global = rt.alloc();
-    let mut output = io::writer(&rt);
-    let Ok(words) = words_given(&rt, alloc) else {
-        return ExitCode::from(refuse(&mut output, Refusal::Memory));
-    };
+    let words = words_given(&rt, alloc);
     let mut input = rt.reader();
-    ExitCode::from(run_main(alloc, words, &mut input, &mut output))
+    let mut output = io::writer(&rt);
+    ExitCode::from(run_given(alloc, words, &mut input, &mut output))
 }
 
 // The words of the command line, the program's name first.

@@ -1,33 +1,26 @@
 //! The output.
-ghost use Rattle.std.specs.Prelude.{OnOk, OnErr};
+ghost use Rattle.std.specs.Prelude.{◌≡◌, true, false, is_err, OnOk, OnErr};
 ghost use Rattle.std.specs.Io.KnownBytes.{Appends};
 ghost use Rattle.asm_driver.specs.Output.{AppendsSome};
 
-use std::io::Write;
+use crate::noted::Fault;
+use crate::sink::Sink;
 
-/// A write failed or took nothing, or the flush failed.
-#[derive(Clone, Copy, Debug, PartialEq, Eq)]
-pub struct OutputFault;
-
-/// Writes the whole text and flushes it. No write is tried again.
+/// Writes the whole text and flushes it. No call is tried again.
 ///
 /// After a fault some first bytes of the text went out.
-pub fn write_whole<W: Write>(output: &mut W, text: &[u8]) -> Result<(), OutputFault>
-    ensures ok { OnOk result (Appends (W.contents output.old) (W.contents output.new) text.now) }
-    ensures err { OnErr result (AppendsSome (W.contents output.old) (W.contents output.new) text.now) }
+pub fn write_whole<K: Sink>(output: &mut K, text: &[u8]) -> Result<(), Fault>
+    requires { K.failed output.old ≡ false }
+    ensures same_reference { K.lender output.new ≡ K.lender output.old }
+    ensures ok { OnOk result (Appends (K.contents output.old) (K.contents output.new) text.now) }
+    ensures flushed { OnOk result (K.flushed output.new ≡ true) }
+    ensures err { OnErr result (AppendsSome (K.contents output.old) (K.contents output.new) text.now) }
+    ensures noted { K.failed output.new ≡ is_err result }
 {
     let mut rest = text;
     while !rest.is_empty() {
-        let Ok(count) = output.write(rest) else {
-            return Err(OutputFault);
-        };
-        if count == 0 {
-            return Err(OutputFault);
-        }
+        let count = output.write(rest)?;
         rest = &rest[count..];
     }
-    if output.flush().is_err() {
-        return Err(OutputFault);
-    }
-    Ok(())
+    output.flush()
 }

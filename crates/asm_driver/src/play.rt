@@ -1,10 +1,9 @@
 //! Playing a script on the storage of one thread.
-ghost use Rattle.std.specs.Prelude.{◌≡◌, ◌↔◌, ◌≤◌, IfOk, length};
-ghost use Rattle.asm_driver.specs.Play.{IsCapacity, outcome_of, IsPlayOf};
+ghost use Rattle.std.specs.Prelude.{◌≡◌, ◌↔◌, ◌≤◌, IfOk, IsErrOf, length};
+ghost use Rattle.asm_driver.specs.Play.{IsNoCapacity, outcome_of, IsPlayOf};
 ghost use Rattle.asm_driver.specs.Player.{IsKept, Replies, PlaysStep, PlaysSteps, PlaysAgents};
-ghost use Rattle.asm_driver.specs.declared.play.RunError.TheVariants.{BadCapacity};
 
-use crate::firing::{updates_of, write_updates};
+use crate::firing::{chosen, updates_of, write_updates};
 use crate::history::{Answer, Call, Event, History, Reply};
 use crate::script::{AGENTS_LIMIT, Script};
 use asm_element::{Items, Location};
@@ -90,7 +89,7 @@ fn fire_block(alloc: Global, player: &mut Player, block: &Instructions) -> Resul
     requires kept { IsKept player.old }
     ensures { IfOk result (Replies player.old player.new block.now) }
 {
-    let updates = match updates_of(alloc, &player.state, block) {
+    let updates = match updates_of(alloc, &chosen(), &player.state, block) {
         Ok(updates) => updates,
         Err(AggError::Clash(clash)) => return Ok(Reply::Clash(clash)),
         Err(AggError::Memory) => return Err(AllocError),
@@ -180,10 +179,10 @@ fn play_agents(
 /// A step is one call: it fires its move and names no location. `BadCapacity` comes before anything
 /// else, and exactly where the capacity is outside 1 to 1,048,576.
 pub fn run_script(alloc: Global, script: &Script, capacity: u32) -> Result<Played, RunError>
-    ensures bad_capacity { (result ≡ Err BadCapacity) ↔ ¬ IsCapacity capacity }
+    ensures bad_capacity { IsErrOf result RunError.BadCapacity ↔ IsNoCapacity capacity }
     ensures played { IfOk result (IsPlayOf script.now capacity) }
 {
-    if capacity < 1 || CAPACITY_LIMIT < capacity {
+    if capacity == 0 || CAPACITY_LIMIT < capacity {
         return Err(RunError::BadCapacity);
     }
     let mut player = Player {

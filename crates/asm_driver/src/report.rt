@@ -3,13 +3,16 @@ ghost use Rattle.std.specs.Prelude.{◌≡◌, ◌++◌, false, IfOk, OnOk, stri
 ghost use Rattle.serde_json.specs.View.{view};
 ghost use Rattle.serde_json.specs.Written.{has_float, compact_text};
 ghost use Rattle.asm_driver.specs.Form.{location_json_of};
-ghost use Rattle.asm_driver.specs.Report.{state_lines, cause_name as name_of_cause, outcome_line, agent_lines, outcome_lines, reason, report_of};
+ghost use Rattle.asm_driver.specs.Standard.{standard_part};
+ghost use Rattle.asm_driver.specs.Report.{state_lines, cause_name as name_of_cause, outcome_line};
+ghost use Rattle.asm_driver.specs.Report.{agent_lines, outcome_lines, reason, report_of};
 
+use crate::firing::chosen;
 use crate::form::{location_json, pair_json};
 use crate::play::{Outcome, Played};
 use crate::replay::replay;
 use asm_element::{Items, Location};
-use asm_update::{Cause, PlainState};
+use asm_update::{Aggregator, Cause, PlainState};
 use serde_json::Value as Json;
 use std::alloc::{AllocError, Global};
 
@@ -131,10 +134,21 @@ fn push_outcomes(
 /// The text that `run` prints: a line for each location of the final state, in ascending order; the
 /// number of fired moves; and a line for each step that didn't fire, agent by agent.
 pub fn report(alloc: Global, played: &Played) -> Result<String, AllocError>
-    ensures { IfOk result (λ text. string_bytes text ≡ report_of played.now) }
+    ensures { IfOk result (λ text. string_bytes text ≡ report_of standard_part played.now) }
+{
+    report_by(alloc, &chosen(), played)
+}
+
+/// As `report`, with the final state that this aggregator gives.
+pub fn report_by<A: Aggregator>(
+    alloc: Global,
+    aggregator: &A,
+    played: &Played,
+) -> Result<String, AllocError>
+    ensures { IfOk result (λ text. string_bytes text ≡ report_of (A.meaning aggregator.now).part played.now) }
 {
     let mut text = String::new(alloc);
-    let state = replay(alloc, &played.history)?;
+    let state = replay(alloc, aggregator, &played.history)?;
     push_state(alloc, &mut text, &state)?;
     let moves = played.history.moves();
     text.push_str(format!(in alloc; "moves {moves}\n")?.as_str())?;

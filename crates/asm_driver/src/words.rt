@@ -1,8 +1,7 @@
 //! The program's words.
-ghost use Rattle.std.specs.Prelude.{◌≡◌, true, map, IfOk, IfErr, string_bytes};
-ghost use Rattle.clap.specs.Words.{app_of, kind_of, subcommand_of, subcommand_rows_of, takes};
-ghost use Rattle.asm_driver.specs.Words.{program, Asks};
-ghost use Rattle.asm_driver.specs.declared.words.WordsError.TheVariants.{Memory};
+ghost use Rattle.std.specs.Prelude.{◌≡◌, map, IfOk, IfErr, IfSome, IfNone, string_bytes};
+ghost use Rattle.clap.specs.Words.{FailsBy, app_of, kind_of, subcommand_of, subcommand_rows_of};
+ghost use Rattle.asm_driver.specs.Words.{program, faults, Asks, AsksFor, IsNoRun, IsMadeOf, IsRefusal, Answers};
 
 use clap::error::ErrorKind;
 use clap::{Arg, ArgAction, ArgMatches, Command, Error, value_parser};
@@ -26,46 +25,42 @@ fn program_command<'a>(alloc: Global) -> Result<Command<'a>, AllocError>
         .long("capacity")
         .action(ArgAction::Set)
         .value_parser(value_parser!(u32).range(1..=1_048_576))
-        .default_value("4096");
-    let run = Command::new(alloc, "run").arg(capacity)?;
-    let named = Command::new(alloc, "asm_driver").subcommand_required(true);
+        .default_value("4096")
+        .value_name("N")
+        .help("How many moves may be fired, from 1 to 1048576");
+    let run = Command::new(alloc, "run")
+        .about("Plays a script, which is read from standard input, and writes the report")
+        .arg(capacity)?;
+    let named = Command::new(alloc, "asm_driver")
+        .about("Plays the moves of an abstract state machine's agents on a proved storage")
+        .subcommand_required(true);
     named.subcommand(run)
 }
 
 fn parse<'a>(alloc: Global, words: &'a [String]) -> Result<ArgMatches<'a>, Error>
     ensures matches { IfOk result (λ m. subcommand_rows_of m ≡ subcommand_of program (map string_bytes words.now)) }
-    ensures passes { IfErr result (λ e. takes program (map string_bytes words.now) ≡ true → kind_of e ≡ ErrorKind.OutOfMemory) }
+    ensures kinds { FailsBy (faults (map string_bytes words.now)) result }
 {
     let command = program_command(alloc)?;
     command.try_get_matches_from(words)
 }
 
-fn asked(matches: &ArgMatches<'_>) -> u32
-    ensures { Asks (subcommand_rows_of matches.now) result }
+// The capacity, where the command is `run`.
+fn asked(matches: &ArgMatches<'_>) -> Option<u32>
+    ensures some { IfSome result (Asks (subcommand_rows_of matches.now)) }
+    ensures none { IfNone result (IsNoRun (subcommand_rows_of matches.now)) }
 {
     match matches.subcommand() {
-        Some((_, run)) => run.get_one::<u32>("capacity").unwrap_or(4096),
-        None => 4096,
-    }
-}
-
-/// The capacity that the words ask for.
-///
-/// `Bad` comes where they are not the program's name, `run` and its option. Words that `clap`
-/// takes, and that ask for no help, are refused for want of memory alone.
-pub fn read_words(alloc: Global, words: &[String]) -> Result<u32, WordsError>
-    ensures asked { IfOk result (Asks (subcommand_of program (map string_bytes words.now))) }
-    ensures taken { takes program (map string_bytes words.now) ≡ true → IfErr result (λ e. e ≡ Memory) }
-{
-    match parse(alloc, words) {
-        Ok(matches) => Ok(asked(&matches)),
-        Err(error) => Err(refusal(alloc, &error)),
+        Some((name, run)) if name == "run" => {
+            Some(run.get_one::<u32>("capacity").unwrap_or(4096))
+        }
+        _ => None,
     }
 }
 
 // Help that was asked for is no mistake.
 fn refusal(alloc: Global, error: &Error) -> WordsError
-    ensures { kind_of error.now ≡ ErrorKind.OutOfMemory → result ≡ Memory }
+    ensures { IsMadeOf (kind_of error.now) result }
 {
     match error.kind() {
         ErrorKind::OutOfMemory => WordsError::Memory,
@@ -74,5 +69,20 @@ fn refusal(alloc: Global, error: &Error) -> WordsError
             Err(_) => WordsError::Memory,
         },
         _ => WordsError::Bad,
+    }
+}
+
+/// The capacity that the words ask for.
+///
+/// Words that `clap` takes are refused for want of memory alone. `Help` comes where they ask for
+/// help, and `Bad` where they are not the program's name, `run` and its option.
+pub fn read_words(alloc: Global, words: &[String]) -> Result<u32, WordsError>
+    ensures asked { IfOk result (AsksFor (map string_bytes words.now)) }
+    ensures refused { IfErr result (IsRefusal (map string_bytes words.now)) }
+    ensures answers { Answers (map string_bytes words.now) result }
+{
+    match parse(alloc, words) {
+        Ok(matches) => asked(&matches).ok_or(WordsError::Bad),
+        Err(error) => Err(refusal(alloc, &error)),
     }
 }

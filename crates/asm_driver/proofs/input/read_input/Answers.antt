@@ -1,27 +1,40 @@
-use Rattle.std.proofs.Common.{◌≡◌, ◌+◌, ◌<◌, ◌++◌, [], length, take, subst, sym, ap, arith, rules, length-append}
-use Rattle.std.specs.Io.KnownBytes.{Consumes}
+use Rattle.std.proofs.Common.{◌≡◌, ◌+◌, ◌≤◌, ◌++◌, length, take, ◌∙◌, arith, rules, length-append}
 use Rattle.std.proofs.KnownBytes.{Consumes-trans}
-use Rattle.std.proofs.lemmas.Grind.{common_steps}
-use Rattle.asm_driver.proofs.Pieces.{none_more, too_large}
+use Rattle.asm_driver.specs.Input.{TakesSome}
+use Rattle.asm_element.specs.Tests.{on_err}
 use Rattle.asm_driver.proofs.input.read_input.Goals as goal
 
-pub loop-preserved : goal.loop-preserved
-loop-preserved g c =
-    let read = c.in-Ok.ensures.bytes.0 in
-    let items : c.extend_from_slice.new.self.items ≡ c.loop.bytes.items ++ take c.in-Ok.count c.read.new.buf = search rules in
-    let size = c.in-Ok.ensures.bound in (
-      subst (Consumes (g.R.Read.remaining c.args.input.now) (g.R.Read.remaining c.read.new.self)) (sym items) (Consumes-trans _ _ _ _ _ c.loop.invariant.0 read),
-      omega (arith, ap length items, length-append c.loop.bytes.items (take c.in-Ok.count c.read.new.buf), size.1, c.len.ensures, c.if-count-len.false, c.loop.invariant.1),
+pub returns-then-count-len-clause-large : goal.returns-then-count-len-clause-large
+returns-then-count-len-clause-large g c =
+    λ _.
+    let was = c.loop-bytes.invariant in
+    let part = take c.in_ok-count.count c.read.new.buffer in
+    let size = c.in_ok-count.ensures.bound in
+    let room : length c.read.new.buffer ≡ c.min-room.result = search rules in (
+      c.loop-bytes.bytes.items ++ part,
+      Consumes-trans _ _ _ _ _ was.0 c.in_ok-count.ensures.bytes.0,
+      length-append c.loop-bytes.bytes.items part ∙ omega (arith, room, c.min-room.ensures, c.len.ensures, size.0, size.1, c.len-in-loop-bytes.ensures, c.if-count-len.true, was.1),
     )
 
-pub returns-then-count-eq0-clause-all : goal.returns-then-count-eq0-clause-all
-returns-then-count-eq0-clause-all g c =
-    let nothing : take c.in-Ok.count c.read.new.buf ≡ [] = grind (arith, common_steps, c.if-count-eq0.true) in
-    let room : 0 < length c.read.new.buf = search rules in
-    (none_more _ _ _ _ _ nothing c.loop.invariant.0 c.in-Ok.ensures.bytes.0, c.in-Ok.ensures.bytes.1 c.if-count-eq0.true room)
+pub returns-then-count-len-clause-some : goal.returns-then-count-len-clause-some
+returns-then-count-len-clause-some g c =
+    let was = c.loop-bytes.invariant in
+    let part = take c.in_ok-count.count c.read.new.buffer in
+    let size = c.in_ok-count.ensures.bound in
+    let room : length c.read.new.buffer ≡ c.min-room.result = search rules in (
+      c.loop-bytes.bytes.items ++ part,
+      Consumes-trans _ _ _ _ _ was.0 c.in_ok-count.ensures.bytes.0,
+      omega (arith, length-append c.loop-bytes.bytes.items part, room, c.min-room.ensures, c.len.ensures, size.0, size.1, was.1),
+    )
 
-pub returns-then-count-len-clause-large : goal.returns-then-count-len-clause-large
-returns-then-count-len-clause-large g c is =
-    let size = c.in-Ok.ensures.bound in
-    let over : 16777216 < length c.loop.bytes.items + length (take c.in-Ok.count c.read.new.buf) = omega (arith, size.1, c.len.ensures, c.if-count-len.true, c.loop.invariant.1) in
-    too_large _ _ _ _ _ c.loop.invariant.0 c.in-Ok.ensures.bytes.0 over
+pub returns-in_err-extend_from_slice-clause-some : goal.returns-in_err-extend_from_slice-clause-some
+returns-in_err-extend_from_slice-clause-some g c =
+    let was = c.loop-bytes.invariant in
+    let part = take c.in_ok-count.count c.read.new.buffer in
+    let size = c.in_ok-count.ensures.bound in
+    let some : TakesSome (g.S.Source.remaining c.args.input.now) (g.S.Source.remaining c.read.new.self) = (
+      c.loop-bytes.bytes.items ++ part,
+      Consumes-trans _ _ _ _ _ was.0 c.in_ok-count.ensures.bytes.0,
+      omega (arith, length-append c.loop-bytes.bytes.items part, size.1, c.len-in-loop-bytes.ensures, c.if-count-len.false, was.1),
+    ) in
+    on_err _ some

@@ -1,9 +1,10 @@
 use Rattle.std.proofs.Common.{◌≡◌, ◌++◌, length, refl, sym, ap, subst, ◌∙◌}
 use Rattle.asm_driver.specs.History.{IsLegal}
-use Rattle.asm_driver.specs.Play.{machine_of, AreTurns}
-use Rattle.asm_driver.specs.Player.{machine}
+use Rattle.asm_driver.specs.Play.{machine_of}
+use Rattle.asm_driver.specs.Player.{machine, InTurn}
 use Rattle.asm_driver.specs.Standard.{standard_part}
 use Rattle.asm_driver.proofs.Legal.{legal_from}
+use Rattle.asm_driver.proofs.Turns.{by_turns, none_beyond}
 use Rattle.asm_driver.proofs.play.run_script.Goals as goal
 
 pub returns-clause-played : goal.returns-clause-played
@@ -14,6 +15,8 @@ returns-clause-played c =
     let capacity : z.capacity ≡ c.args.capacity = played.same.capacity in
     let events : c.new-2.result ≡ z.events.items = c.new-2.ensures in
     let turned : z.events.items ≡ played.turns.0 = played.turns.1 ∙ ap (λ h. h ++ played.turns.0) c.new.ensures.items in
+    let in_turn = subst (λ h. InTurn 0 c.agents-agents.result.now c.in_ok-outcomes.outcomes h) (sym (events ∙ turned)) played.turns.2 in
+    let turns = subst (λ mss. InTurn 0 mss c.in_ok-outcomes.outcomes c.new-2.result) c.agents-agents.ensures.agents in_turn in
     record {
       opened = opened;
       capacity_is = refl;
@@ -22,6 +25,6 @@ returns-clause-played c =
           let same : machine z ≡ machine_of c.args.script.now c.args.capacity = λ i. record { part = standard_part; init = opened i; capacity = capacity i } in
           subst (λ h. IsLegal (machine_of c.args.script.now c.args.capacity) h) (sym events)
           (subst (λ m. IsLegal m z.events.items) same (legal_from (machine z) z.events.items played.kept.legal));
-      turns = subst (λ mss. AreTurns 0 mss c.in_ok-outcomes.outcomes c.new-2.result) c.agents-agents.ensures.agents
-          (subst (λ h. AreTurns 0 c.agents-agents.result.now c.in_ok-outcomes.outcomes h) (sym (events ∙ turned)) played.turns.2);
+      turns = by_turns 0 _ _ _ turns;
+      others = none_beyond _ _ _ turns;
     }

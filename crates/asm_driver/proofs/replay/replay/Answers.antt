@@ -4,26 +4,26 @@ use Rattle.std.specs.Option.{option_copied}
 use Rattle.std.proofs.lemmas.List.{take_more}
 use Rattle.asm_update.specs.Fire.{state_of, state_or, fire}
 use Rattle.asm_driver.specs.History.{moves}
-use Rattle.asm_driver.specs.Standard.{standard_part}
 use Rattle.asm_driver.proofs.Moves.{state_of-push, moves-push_fired, moves-push_quiet}
 use Rattle.asm_driver.proofs.replay.replay.Goals as goal
 use Rattle.asm_driver.proofs.replay.replay.Goals.{in-Some+in_ok-fire_or_keep, in_default}
 
 pub loop-event-preserved : goal.loop-event-preserved
-loop-event-preserved c =
+loop-event-preserved g c =
+    let part = (g.A.Aggregator.meaning c.args.aggregator.now).part in
     let items = c.as_slice-event-items.result.now in
     let i = c.loop-event.event-index in
     let e = c.event-item.result in
     let init = c.args.history.now.init in
     let before = take i items in
     let more = take_more items i e c.loop-event-test.true ∙ ap (λ x. take i items ++ x ∷ []) (sym c.event-item.is) in
-    let after = ap (λ h. state_of standard_part init (moves h)) more in
+    let after = ap (λ h. state_of part init (moves h)) more in
     elim c.match-fired_move.branch [
       | in-Some+in_ok-fire_or_keep w ↦
           let M = w.in-Some.instructions.now in
-          let fired = ap (state_of standard_part init) (moves-push_fired before e M (sym w.in-Some.ensures)) ∙ state_of-push standard_part init (moves before) M in
-          w.state-is ∙ w.in_ok-fire_or_keep.ensures ∙ ap (λ A. state_or A (fire standard_part A M)) c.loop-event.invariant ∙ sym (after ∙ fired)
+          let fired = ap (state_of part init) (moves-push_fired before e M (sym w.in-Some.ensures)) ∙ state_of-push part init (moves before) M in
+          w.state-is ∙ w.in_ok-fire_or_keep.ensures ∙ ap (λ A. state_or A (fire part A M)) c.loop-event.invariant ∙ sym (after ∙ fired)
       | in_default w ↦
           let quiet = moves-push_quiet before e (sym c.fired_move.ensures ∙ ap option_copied w.in_default.is) in
-          w.state-is ∙ c.loop-event.invariant ∙ sym (after ∙ ap (state_of standard_part init) quiet)
+          w.state-is ∙ c.loop-event.invariant ∙ sym (after ∙ ap (state_of part init) quiet)
     ]

@@ -1,9 +1,11 @@
-use Rattle.std.proofs.Common.{ap, map, string_bytes, ◌∙◌}
-use Rattle.std.proofs.lemmas.Result.{IfErr-weaker}
-use Rattle.clap.specs.Words.{App, takes}
+use Rattle.std.proofs.Common.{◌≡◌, true, map, string_bytes, refl, subst}
+use Rattle.clap.specs.Words.{App, FailsBy, fault_of, is_simple_and_free}
+use Rattle.asm_driver.specs.Words.{faults}
 use Rattle.asm_driver.proofs.words.parse.Goals as goal
 
-pub returns-clause-passes : goal.returns-clause-passes
-returns-clause-passes c =
+pub returns-clause-kinds : goal.returns-clause-kinds
+unfolding faults
+returns-clause-kinds c =
+    let words = map string_bytes c.args.words.now in
     let parse = c.try_get_matches_from in
-    IfErr-weaker parse.result _ _ (λ e h t. h (ap (λ (a : App). takes a (map string_bytes c.args.words.now)) c.in_ok-command.ensures.app ∙ t)) parse.ensures.passes
+    subst (λ (a : App). is_simple_and_free a ≡ true → FailsBy (fault_of a words) parse.result) c.in_ok-command.ensures.app parse.ensures.kinds refl

@@ -14,10 +14,10 @@ returns c =
     let given = c.value_parser-2.ensures.given in
     let range_is : c.range.result ≡ Signed (pos 1) (pos 1048576) = rw (c.value_parser.ensures, c.new-2.ensures.start, c.new-2.ensures.end) at c.range.ensures in
     let parser_is : given.0 ≡ Signed (pos 1) (pos 1048576) = given.2 ∙ range_is in
-    let capacity_is : rule_of c.default_value-capacity.result ≡ capacity = search rules in
-    let run_is : app_of c.in_ok-run.run' ≡ run = c.in_ok-run.ensures.shape (search rules) ∙ ap₂ with_rule c.new-3.ensures.app capacity_is in
+    let capacity_is : rule_of c.help-capacity.result ≡ capacity = search rules in
+    let run_is : app_of c.in_ok-run.run' ≡ run = c.in_ok-run.ensures.shape (search rules) ∙ ap₂ with_rule (ap app_of_fields c.about.ensures ∙ c.new-3.ensures.app) capacity_is in
     let named_is : app_of c.subcommand_required-named.result ≡ required (new_app (codes "asm_driver")) =
-    ap app_of_fields c.subcommand_required-named.ensures ∙ ap required c.new-4.ensures.app in
+    ap app_of_fields c.subcommand_required-named.ensures ∙ ap required (ap app_of_fields c.about-2.ensures ∙ c.new-4.ensures.app) in
     record {
       app = IfOk-weaker c.subcommand.result _ _ (λ m h. h.shape (search rules) ∙ ap₂ with_subcommand named_is (ap (λ (a : App). a.top) run_is)) c.subcommand.ensures;
     }

@@ -1,0 +1,140 @@
+//! Blocks: instructions with terms.
+ghost use Rattle.std.specs.Prelude.{◌≡◌, ◌↔◌, ◌<◌, ◌≤◌, length, vec_len, IfSome, IsNone};
+ghost use Rattle.asm_driver.specs.Terms.{term_value, element_of, IsEvaluated};
+ghost use Rattle.asm_driver.specs.Blocks.{action_in, instruction_in, move_in};
+
+use crate::term::{Term, TermFault, evaluate};
+use asm_element::{Element, Location, Value};
+use asm_update::{Action, Amount, Instruction, Instructions, InstructionsError, Lookup};
+use std::alloc::Global;
+use std::marker::Model;
+
+/// The most instructions of a block.
+const INSTRUCTIONS_LIMIT: usize = 4096;
+
+/// What an instruction of a script does at its location.
+#[derive(Debug, Drop)]
+pub enum TermAction {
+    /// Writes the term's value; undef leaves nothing there.
+    Put(Term),
+    /// Adds the element that the term stands for to a set.
+    Add(Term),
+    /// Removes the element that the term stands for from a set.
+    Remove(Term),
+    /// Raises the count of the element that the term stands for in a bag by the amount.
+    BagAdd(Term, Amount),
+    /// Lowers the count of the element that the term stands for in a bag by the amount.
+    BagRemove(Term, Amount),
+}
+
+/// An instruction of a script: what is done at a location, with a term in place of the value or the
+/// element. Locations and amounts are written out.
+#[derive(Debug, Drop)]
+pub struct TermInstruction {
+    /// The location that is written.
+    pub at: Location,
+    /// What is done there.
+    pub action: TermAction,
+}
+
+/// The instructions of one block, at most 4,096. Contracts see it as their list.
+#[derive(Debug, Drop)]
+pub struct Block {
+    instructions: Vec<TermInstruction>,
+}
+
+impl Model for Block {
+    ghost use Rattle.std.specs.Prelude.{List, length, ◌≤◌};
+    ghost use Rattle.std.specs.Coded.{coded_list};
+    ghost use Rattle.asm_driver.specs.declared.block.TermInstruction.{TermInstruction};
+    ghost use Rattle.asm_driver.specs.contracts.block.TermInstruction.{the_row as instruction_row};
+
+    ghost Value = { List TermInstruction };
+
+    ghost coded = { coded_list instruction_row.coded };
+
+    ghost view = { λ b. b.instructions.items };
+
+    ghost invariant = { λ b. length b.instructions.items ≤ 4096 };
+}
+
+impl Block {
+    /// The block of these instructions; None where there are more than 4,096. It takes no memory.
+    pub fn new(instructions: Vec<TermInstruction>) -> Option<Block>
+        ensures block { IfSome result (λ b. b ≡ instructions.items) }
+        ensures many { IsNone result ↔ (4096 < vec_len instructions) }
+    {
+        if instructions.len() > INSTRUCTIONS_LIMIT {
+            return None;
+        }
+        Some(Block { instructions })
+    }
+
+    /// The instructions, at most 4,096, in their order.
+    pub fn instructions(&self) -> &[TermInstruction]
+        ensures instructions { result.now ≡ self.now }
+        ensures few { length self.now ≤ 4096 }
+    {
+        self.instructions.as_slice()
+    }
+}
+
+/// The element that a term stands for.
+fn element<L: Lookup>(alloc: Global, term: &Term, lookup: &L) -> Result<Element, TermFault>
+    ensures { IsEvaluated (element_of (term_value (L.value_at lookup.now) term.now)) result }
+{
+    match evaluate(alloc, term, lookup)? {
+        Value::Plain(element) => Ok(element),
+        _ => Err(TermFault::Faulty),
+    }
+}
+
+/// The action with the term's value in its place.
+fn action<L: Lookup>(alloc: Global, action: &TermAction, lookup: &L) -> Result<Action, TermFault>
+    ensures { IsEvaluated (action_in (L.value_at lookup.now) action.now) result }
+{
+    Ok(match action {
+        TermAction::Put(term) => Action::Regular(evaluate(alloc, term, lookup)?),
+        TermAction::Add(term) => Action::SetAdd(element(alloc, term, lookup)?),
+        TermAction::Remove(term) => Action::SetRemove(element(alloc, term, lookup)?),
+        TermAction::BagAdd(term, amount) => Action::BagAdd(element(alloc, term, lookup)?, *amount),
+        TermAction::BagRemove(term, amount) => {
+            Action::BagRemove(element(alloc, term, lookup)?, *amount)
+        }
+    })
+}
+
+/// The instruction with the term's value in its place.
+fn instruction<L: Lookup>(
+    alloc: Global,
+    instruction: &TermInstruction,
+    lookup: &L,
+) -> Result<Instruction, TermFault>
+    ensures { IsEvaluated (instruction_in (L.value_at lookup.now) instruction.now) result }
+{
+    let action = action(alloc, &instruction.action, lookup)?;
+    let at = instruction.at.copy(alloc)?;
+    Ok(Instruction { at, action })
+}
+
+/// The block's instructions with their terms evaluated in what gives each location's value.
+///
+/// `TermFault::Faulty` comes exactly where some term is faulty, or the element of a partial update is
+/// a set or a bag. `Memory` comes only where memory was refused.
+pub fn block_move<L: Lookup>(
+    alloc: Global,
+    block: &Block,
+    lookup: &L,
+) -> Result<Instructions, TermFault>
+    ensures { IsEvaluated (move_in (L.value_at lookup.now) block.now) result }
+{
+    let mut instructions = Instructions::new(alloc);
+    for written in block.instructions() {
+        match instructions.push(instruction(alloc, written, lookup)?) {
+            Ok(()) => {}
+            Err(InstructionsError::ManyInstructions) => unreachable!(),
+            Err(InstructionsError::Memory) => return Err(TermFault::Memory),
+        }
+    }
+    Ok(instructions)
+}
