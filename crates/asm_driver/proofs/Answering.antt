@@ -1,12 +1,16 @@
 -- What is answered to the program's words.
-use Rattle.std.proofs.Common.{◌≡◌, ◌∙◌, ◌<◌, ◌^◌, ℕ, List, [], ◌∷◌, Option, Some, None, Result, Ok, Err, refl, sym, subst, codes, inl, inr, arith, lit<}
+use Rattle.std.proofs.Common.{◌≡◌, ◌∙◌, ◌<◌, ◌^◌, ℕ, Bool, true, false, ap, ap₂, length, option_map, List, [], ◌∷◌, Option, Some, None, Result, Ok, Err, refl, sym, subst, codes, inl, inr, arith, lit<}
 use Rattle.std.specs.Prelude.{IfOk, IfErr, IfSome, IfNone, ◌⊎◌}
-use Rattle.std.specs.Option.{ok_or}
+use Rattle.std.specs.Option.{ok_or, option_and_then}
+use Rattle.std.specs.Str.Parse.{IsNumeral, digits_value, without_leading_plus}
 use Rattle.clap.proofs.OnLiterals.{clap_on_literals}
-use Rattle.clap.specs.Words.{Row, Text, Kinds, IsAmong, subcommand_of}
+use Rattle.clap.specs.Words.{Row, Text, Kinds, IsAmong, one_of, subcommand_of}
 use Rattle.clap.specs.declared.error.kind.ErrorKind.{ErrorKind}
 use Rattle.clap.specs.declared.error.kind.ErrorKind.TheVariants as kind
-use Rattle.asm_driver.specs.Words.{Words, program, faults, run_with, Asks, AsksFor, IsNoRun, IsRefusal, IsMadeOf, Gives, Refuses, Helps, Answers}
+use Rattle.asm_driver.specs.Words.{Words, program, faults, program_with, run_with, Asks, AsksFor, IsNoCommand, IsRefusal, IsMadeOf}
+use Rattle.asm_driver.specs.Words.{Gives, Refuses, Helps, Answers}
+use Rattle.asm_driver.specs.declared.words.Request.{Request}
+use Rattle.asm_driver.specs.declared.words.Request.TheVariants.{Run, Check}
 use Rattle.asm_driver.specs.declared.words.WordsError.{WordsError}
 use Rattle.asm_driver.specs.declared.words.WordsError.TheVariants.{Help, Bad, Memory}
 
@@ -18,30 +22,57 @@ refused words k Bad (inl memory) is = absurd (is.0 memory)
 refused words k Bad (inr among) is = inl (k, among, is.1)
 refused words k Memory among is = tt
 
--- words that are taken, and ask for this number
-record IsExample (example : Words) (n : ℕ) : Type 0 where
+-- words that are taken, and ask for this
+record IsExample (example : Words) (r : Request) : Type 0 where
   taken : faults example ≡ []
-  asks : (m : ℕ) → Asks (subcommand_of program example) m → m ≡ n
-  run : ¬ IsNoRun (subcommand_of program example)
+  asks : (m : Request) → Asks (subcommand_of program example) m → m ≡ r
+  known : ¬ IsNoCommand (subcommand_of program example)
+
+-- the words of the two commands differ
+differ : codes "run" ≡ codes "check" → ⊥
+differ e = let bad : 3 ≡ 5 = ap length e in absurd (omega (arith, bad))
+
+-- the text of a flag
+abbrev flag_text : Bool → Text
+flag_text true = codes "true"
+flag_text false = codes "false"
+
+-- what run asks for by these texts at its options
+asked_run : (s : Option (Text × List Row)) (t : Text) (j : Bool) → option_map (λ p. p.0) s ≡ Some (codes "run")
+    → option_and_then (λ p. one_of (codes "capacity") p.1) s ≡ Some t → IsNumeral 10 (without_leading_plus t)
+    → digits_value 10 (without_leading_plus t) < 2 ^ 32
+    → option_and_then (λ p. one_of (codes "journal") p.1) s ≡ Some (flag_text j)
+    → (m : Request) → Asks s m → m ≡ Run (digits_value 10 (without_leading_plus t)) j
+asked_run None t j named number numeral small flag m h = absurd h
+asked_run (Some p) t true named number numeral small flag (Run c k) h = ap₂ Run (h.1.0 t number numeral small) (h.1.1.0 flag)
+asked_run (Some p) t false named number numeral small flag (Run c k) h = ap₂ Run (h.1.0 t number numeral small) (h.1.1.1 flag)
+asked_run (Some p) t j named number numeral small flag Check h =
+    let name : p.0 ≡ codes "run" = cc named in absurd (differ (sym name ∙ h))
+
+asked_check : (s : Option (Text × List Row)) → option_map (λ p. p.0) s ≡ Some (codes "check") → (m : Request) → Asks s m → m ≡ Check
+asked_check None named m h = absurd h
+asked_check (Some p) named (Run c k) h =
+    let name : p.0 ≡ codes "check" = cc named in absurd (differ (sym h.0 ∙ name))
+asked_check (Some p) named Check h = refl
 
 none_among : (k : ErrorKind) (ks : Kinds) → ks ≡ [] → IsAmong k ks → ⊥
 none_among k [] e h = h
 none_among k (x ∷ xs) e h = cc (e)
 
-gives : (example words : Words) (n : ℕ) (r : Result ℕ WordsError) → IsExample example n → IfOk r (AsksFor words) → IfErr r (IsRefusal words) → words ≡ example → Gives n r
+gives : (example words : Words) (n : Request) (r : Result Request WordsError) → IsExample example n → IfOk r (AsksFor words) → IfErr r (IsRefusal words) → words ≡ example → Gives n r
 gives example words n (Ok m) is ok err e = is.asks m (subst (λ w. Asks (subcommand_of program w) m) e ok.1)
 gives example words n (Err (Help text)) is ok err e = absurd (none_among _ _ is.taken (subst (λ w. IsAmong kind.DisplayHelp (faults w)) e err))
 gives example words n (Err Bad) is ok (inl found) e = absurd (none_among _ _ is.taken (subst (λ w. IsAmong found.0 (faults w)) e found.1))
-gives example words n (Err Bad) is ok (inr other) e = absurd (is.run (subst (λ w. IsNoRun (subcommand_of program w)) e other.1))
+gives example words n (Err Bad) is ok (inr other) e = absurd (is.known (subst (λ w. IsNoCommand (subcommand_of program w)) e other.1))
 gives example words n (Err Memory) is ok err e = refl
 
-refuses : (example words : Words) (k : ErrorKind) (ks : Kinds) (r : Result ℕ WordsError) → faults example ≡ k ∷ ks → ¬ IsAmong kind.DisplayHelp (k ∷ ks) → IfOk r (AsksFor words) → IfErr r (IsRefusal words) → words ≡ example → Refuses r
+refuses : (example words : Words) (k : ErrorKind) (ks : Kinds) (r : Result Request WordsError) → faults example ≡ k ∷ ks → ¬ IsAmong kind.DisplayHelp (k ∷ ks) → IfOk r (AsksFor words) → IfErr r (IsRefusal words) → words ≡ example → Refuses r
 refuses example words k ks (Ok m) is without ok err e = let none : k ∷ ks ≡ [] = sym is ∙ subst (λ w. faults w ≡ []) e ok.0 in absurd (cc (none))
 refuses example words k ks (Err (Help text)) is without ok err e = absurd (without (subst (IsAmong kind.DisplayHelp) is (subst (λ w. IsAmong kind.DisplayHelp (faults w)) e err)))
 refuses example words k ks (Err Bad) is without ok err e = tt
 refuses example words k ks (Err Memory) is without ok err e = tt
 
-helps : (example words : Words) (r : Result ℕ WordsError) → faults example ≡ kind.DisplayHelp ∷ [] → IfOk r (AsksFor words) → IfErr r (IsRefusal words) → words ≡ example → Helps r
+helps : (example words : Words) (r : Result Request WordsError) → faults example ≡ kind.DisplayHelp ∷ [] → IfOk r (AsksFor words) → IfErr r (IsRefusal words) → words ≡ example → Helps r
 helps example words (Ok m) is ok err e = let none : kind.DisplayHelp ∷ [] ≡ [] = sym is ∙ subst (λ w. faults w ≡ []) e ok.0 in absurd (cc (none))
 helps example words (Err (Help text)) is ok err e = tt
 helps example words (Err Bad) is ok (inl found) e = absurd (only found.0 found.2 (subst (IsAmong found.0) is (subst (λ w. IsAmong found.0 (faults w)) e found.1))) where
@@ -51,38 +82,68 @@ helps example words (Err Bad) is ok (inl found) e = absurd (only found.0 found.2
 helps example words (Err Bad) is ok (inr other) e = let none : kind.DisplayHelp ∷ [] ≡ [] = sym is ∙ subst (λ w. faults w ≡ []) e other.0 in absurd (cc (none))
 helps example words (Err Memory) is ok err e = tt
 
-default : IsExample (run_with []) 4096
+default : IsExample (run_with []) (Run 4096 false)
 unfolding clap_on_literals faults
 default = record {
   taken = refl;
-  asks = λ m h. h.1 (codes "4096") refl (lit< tt, (lit< tt, (lit< tt, (lit< tt, (lit< tt, tt))))) (lit< tt);
-  run = λ h. h refl;
+  asks = asked_run (subcommand_of program (run_with [])) (codes "4096") false refl refl (lit< tt, (lit< tt, (lit< tt, (lit< tt, (lit< tt, tt))))) (lit< tt) refl;
+  known = λ h. h.0 refl;
 }
 
-plus : IsExample (run_with (codes "--capacity" ∷ codes "+8" ∷ [])) 8
+journal : IsExample (run_with (codes "--journal" ∷ [])) (Run 4096 true)
 unfolding clap_on_literals faults
-plus = record { taken = refl; asks = λ m h. h.1 (codes "+8") refl (lit< tt, (lit< tt, tt)) (lit< tt); run = λ h. h refl }
+journal = record {
+  taken = refl;
+  asks = asked_run (subcommand_of program (run_with (codes "--journal" ∷ []))) (codes "4096") true refl refl (lit< tt, (lit< tt, (lit< tt, (lit< tt, (lit< tt, tt))))) (lit< tt) refl;
+  known = λ h. h.0 refl;
+}
 
-leading_zero : IsExample (run_with (codes "--capacity" ∷ codes "08" ∷ [])) 8
+both : IsExample (run_with (codes "--journal" ∷ codes "--capacity" ∷ codes "8" ∷ [])) (Run 8 true)
+unfolding clap_on_literals faults
+both = record {
+  taken = refl;
+  asks = asked_run (subcommand_of program (run_with (codes "--journal" ∷ codes "--capacity" ∷ codes "8" ∷ []))) (codes "8") true refl refl (lit< tt, (lit< tt, tt)) (lit< tt) refl;
+  known = λ h. h.0 refl;
+}
+
+plus : IsExample (run_with (codes "--capacity" ∷ codes "+8" ∷ [])) (Run 8 false)
+unfolding clap_on_literals faults
+plus = record {
+  taken = refl;
+  asks = asked_run (subcommand_of program (run_with (codes "--capacity" ∷ codes "+8" ∷ []))) (codes "+8") false refl refl (lit< tt, (lit< tt, tt)) (lit< tt) refl;
+  known = λ h. h.0 refl;
+}
+
+leading_zero : IsExample (run_with (codes "--capacity" ∷ codes "08" ∷ [])) (Run 8 false)
 unfolding clap_on_literals faults
 leading_zero = record {
   taken = refl;
-  asks = λ m h. h.1 (codes "08") refl (lit< tt, (lit< tt, (lit< tt, tt))) (lit< tt);
-  run = λ h. h refl;
+  asks = asked_run (subcommand_of program (run_with (codes "--capacity" ∷ codes "08" ∷ []))) (codes "08") false refl refl (lit< tt, (lit< tt, (lit< tt, tt))) (lit< tt) refl;
+  known = λ h. h.0 refl;
 }
 
-joined : IsExample (run_with (codes "--capacity=8" ∷ [])) 8
+joined : IsExample (run_with (codes "--capacity=8" ∷ [])) (Run 8 false)
 unfolding clap_on_literals faults
-joined = record { taken = refl; asks = λ m h. h.1 (codes "8") refl (lit< tt, (lit< tt, tt)) (lit< tt); run = λ h. h refl }
+joined = record {
+  taken = refl;
+  asks = asked_run (subcommand_of program (run_with (codes "--capacity=8" ∷ []))) (codes "8") false refl refl (lit< tt, (lit< tt, tt)) (lit< tt) refl;
+  known = λ h. h.0 refl;
+}
 
-greatest : IsExample (run_with (codes "--capacity" ∷ codes "1048576" ∷ [])) 1048576
+greatest : IsExample (run_with (codes "--capacity" ∷ codes "1048576" ∷ [])) (Run 1048576 false)
 unfolding clap_on_literals faults
 greatest = record {
   taken = refl;
-  asks = λ m h.
-      h.1 (codes "1048576") refl
-      (lit< tt, (lit< tt, (lit< tt, (lit< tt, (lit< tt, (lit< tt, (lit< tt, (lit< tt, tt)))))))) (lit< tt);
-  run = λ h. h refl;
+  asks = asked_run (subcommand_of program (run_with (codes "--capacity" ∷ codes "1048576" ∷ []))) (codes "1048576") false refl refl (lit< tt, (lit< tt, (lit< tt, (lit< tt, (lit< tt, (lit< tt, (lit< tt, (lit< tt, tt)))))))) (lit< tt) refl;
+  known = λ h. h.0 refl;
+}
+
+checked : IsExample (program_with (codes "check" ∷ [])) Check
+unfolding clap_on_literals faults
+checked = record {
+  taken = refl;
+  asks = asked_check (subcommand_of program (program_with (codes "check" ∷ []))) refl;
+  known = λ h. h.1 refl;
 }
 
 no_help : (k : ErrorKind) → ¬ (kind.DisplayHelp ≡ k) → ¬ IsAmong kind.DisplayHelp (k ∷ [])
@@ -101,13 +162,13 @@ further : faults (run_with (codes "more" ∷ [])) ≡ kind.UnknownArgument ∷ [
 unfolding clap_on_literals faults
 further = refl
 
-none : faults (codes "asm_driver" ∷ []) ≡ kind.MissingSubcommand ∷ []
+none : faults (program_with []) ≡ kind.MissingSubcommand ∷ []
 unfolding clap_on_literals faults
 none = refl
 
-other : faults (codes "asm_driver" ∷ codes "check" ∷ []) ≡ kind.UnknownArgument ∷ kind.InvalidSubcommand ∷ []
+check_further : faults (program_with (codes "check" ∷ codes "more" ∷ [])) ≡ kind.UnknownArgument ∷ []
 unfolding clap_on_literals faults
-other = refl
+check_further = refl
 
 help : faults (codes "asm_driver" ∷ codes "--help" ∷ []) ≡ kind.DisplayHelp ∷ []
 unfolding clap_on_literals faults
@@ -117,14 +178,15 @@ run_help : faults (run_with (codes "--help" ∷ [])) ≡ kind.DisplayHelp ∷ []
 unfolding clap_on_literals faults
 run_help = refl
 
-no_help_two : ¬ IsAmong kind.DisplayHelp (kind.UnknownArgument ∷ kind.InvalidSubcommand ∷ [])
-no_help_two (inl h) = cc (h)
-no_help_two (inr (inl h)) = cc (h)
-no_help_two (inr (inr h)) = h
+check_help : faults (program_with (codes "check" ∷ codes "--help" ∷ [])) ≡ kind.DisplayHelp ∷ []
+unfolding clap_on_literals faults
+check_help = refl
 
-pub answers : (words : Words) (r : Result ℕ WordsError) → IfOk r (AsksFor words) → IfErr r (IsRefusal words) → Answers words r
+pub answers : (words : Words) (r : Result Request WordsError) → IfOk r (AsksFor words) → IfErr r (IsRefusal words) → Answers words r
 answers words r ok err = record {
   default = gives _ words _ r default ok err;
+  journal = gives _ words _ r journal ok err;
+  both = gives _ words _ r both ok err;
   plus = gives _ words _ r plus ok err;
   leading_zero = gives _ words _ r leading_zero ok err;
   joined = gives _ words _ r joined ok err;
@@ -133,17 +195,19 @@ answers words r ok err = record {
   zero = refuses _ words _ _ r zero (no_help _ (λ e. cc (e))) ok err;
   further = refuses _ words _ _ r further (no_help _ (λ e. cc (e))) ok err;
   none = refuses _ words _ _ r none (no_help _ (λ e. cc (e))) ok err;
-  other = refuses _ words _ _ r other no_help_two ok err;
+  check = gives _ words _ r checked ok err;
+  check_further = refuses _ words _ _ r check_further (no_help _ (λ e. cc (e))) ok err;
   help = helps _ words r help ok err;
   run_help = helps _ words r run_help ok err;
+  check_help = helps _ words r check_help ok err;
 }
 
--- the number of the matches, or a mistake where their command isn't run
-asked : (words : Words) (s : Option (Text × List Row)) (o : Option ℕ) → faults words ≡ [] → s ≡ subcommand_of program words → IfSome o (Asks s) → IfNone o (IsNoRun s) → IfOk (ok_or o Bad) (AsksFor words) × IfErr (ok_or o Bad) (IsRefusal words)
-asked words s (Some n) taken is some norun = ((taken, subst (λ x. Asks x n) is some), tt)
-asked words s None taken is some norun = (tt, inr (taken, subst IsNoRun is norun))
+-- what the matches ask for, or a mistake where their command isn't one of the program's
+asked : (words : Words) (s : Option (Text × List Row)) (o : Option Request) → faults words ≡ [] → s ≡ subcommand_of program words → IfSome o (Asks s) → IfNone o (IsNoCommand s) → IfOk (ok_or o Bad) (AsksFor words) × IfErr (ok_or o Bad) (IsRefusal words)
+asked words s (Some r) taken is some other = ((taken, subst (λ x. Asks x r) is some), tt)
+asked words s None taken is some other = (tt, inr (taken, subst IsNoCommand is other))
 
-pub answers_asked : (words : Words) (s : Option (Text × List Row)) (o : Option ℕ) (r : Result ℕ WordsError) → r ≡ ok_or o Bad → faults words ≡ [] → s ≡ subcommand_of program words → IfSome o (Asks s) → IfNone o (IsNoRun s) → Answers words r
-answers_asked words s o r e taken is some norun =
-    let both = asked words s o taken is some norun in
+pub answers_asked : (words : Words) (s : Option (Text × List Row)) (o : Option Request) (r : Result Request WordsError) → r ≡ ok_or o Bad → faults words ≡ [] → s ≡ subcommand_of program words → IfSome o (Asks s) → IfNone o (IsNoCommand s) → Answers words r
+answers_asked words s o r e taken is some other =
+    let both = asked words s o taken is some other in
     subst (Answers words) (sym e) (answers words (ok_or o Bad) both.0 both.1)

@@ -11,7 +11,9 @@ use Rattle.asm_element.specs.declared.value.Value.TheVariants as values
 use Rattle.asm_element.specs.Place.{Place}
 use Rattle.asm_element.specs.Set as set
 use Rattle.asm_element.specs.Bag as bag
-use Rattle.asm_driver.specs.Form.{element_json_of, count_json_of, location_json_of, value_json_of, pair_json_of}
+use Rattle.asm_journal.specs.Element.{element_json_of, location_json_of}
+use Rattle.asm_journal.specs.Set.{count_json_of}
+use Rattle.asm_journal.specs.Value.{value_json_of, pair_json_of}
 
 integer_no_float : (z : ℤ) → has_float (number (of_integer z)) ≡ false
 integer_no_float (pos n) = refl

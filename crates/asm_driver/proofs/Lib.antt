@@ -1,28 +1,24 @@
-pub mod Lists
-pub mod Reading
-pub mod Arrays
-pub mod Unique
-pub mod Locations
-pub mod Gathered
-pub mod Made
-pub mod Pairs
-pub mod Values
-pub mod ActionForms
-pub mod Updates
-pub mod Fired
-pub mod Plans
-pub mod Moves
-pub mod Legal
-pub mod Playing
-pub mod Turns
-pub mod Lines
-pub mod Floats
-pub mod Outcomes
-pub mod Pieces
-pub mod Asking
-pub mod Answering
-pub mod Ports
 mod Evaluated
 mod Gathering
 mod Agreeing
 mod Advancing
+mod Floats
+mod Lines
+mod Outcomes
+mod Pieces
+mod Asking
+mod Answering
+mod Ports
+mod Faulting
+mod TermForms
+mod TermActions
+mod Faults
+mod Works
+mod Parts
+mod Closed
+mod Crossing
+mod ProperMoves
+mod Properness
+mod Readings
+mod Tries
+mod Stepping

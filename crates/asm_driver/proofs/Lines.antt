@@ -1,8 +1,7 @@
 -- Texts of lines, one line at a time.
-use Rattle.std.proofs.Common.{◌≡◌, ◌<◌, ◌+◌, ℕ, List, [], ◌∷◌, ◌++◌, length, get_or, take, map, sym, ap, ◌∙◌, append_assoc, arith, add-zero}
+use Rattle.std.proofs.Common.{◌≡◌, ◌<◌, ◌+◌, ℕ, List, [], ◌∷◌, ◌++◌, length, get_or, take, sym, ap, ◌∙◌, append_assoc, arith, add-zero}
 use Rattle.std.specs.List.{flat_map, enumerate_from}
 use Rattle.std.proofs.lemmas.List.{take_more, flat_map_more, length-take-le}
-use Rattle.serde_json.specs.Data.{Data}
 
 enumerate_from-push : {X : Type 0} (n : ℕ) (xs : List X) (x : X) → enumerate_from n (xs ++ x ∷ []) ≡ enumerate_from n xs ++ (n + length xs, x) ∷ []
 enumerate_from-push n [] x = ap (λ k. (k, x) ∷ []) (sym (add-zero n))
@@ -24,7 +23,3 @@ numbered_more f front text new xs i x within here so_far added =
 pub left_more : {X : Type 0} (f : X → List ℕ) (text new all : List ℕ) (x : X) (rest left : List X) → left ≡ x ∷ rest → text ++ flat_map f left ≡ all → new ≡ text ++ f x → new ++ flat_map f rest ≡ all
 left_more f text new all x rest left step so_far added =
     ap (λ t. t ++ flat_map f rest) added ∙ append_assoc text (f x) (flat_map f rest) ∙ ap (λ l. text ++ flat_map f l) (sym step) ∙ so_far
-
-pub left_json : {X : Type 0} (f : X → Data) (done new all : List Data) (x : X) (rest left : List X) → left ≡ x ∷ rest → done ++ map f left ≡ all → new ≡ done ++ f x ∷ [] → new ++ map f rest ≡ all
-left_json f done new all x rest left step so_far added =
-    ap (λ t. t ++ map f rest) added ∙ append_assoc done (f x ∷ []) (map f rest) ∙ ap (λ l. done ++ map f l) (sym step) ∙ so_far

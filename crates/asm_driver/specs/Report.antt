@@ -8,13 +8,13 @@ use Rattle.asm_element.specs.Place.{Place}
 use Rattle.asm_element.specs.declared.value.Value.{Value}
 use Rattle.asm_update.specs.State.{State}
 use Rattle.asm_update.specs.Fire.{Part, state_of}
-use Rattle.asm_update.specs.declared.clash.Cause.{Cause}
-use Rattle.asm_update.specs.declared.clash.Cause.TheVariants.{Two, Mixed, Kind, Both, Against, Short, Large as TooLarge}
-use Rattle.asm_driver.specs.Form.{location_json_of, pair_json_of}
-use Rattle.asm_driver.specs.History.{moves}
-use Rattle.asm_driver.specs.declared.play.Outcome.{Outcome}
-use Rattle.asm_driver.specs.declared.play.Outcome.TheVariants.{Fired, Clash, Full, Term, Large, Many, GaveUp}
-use Rattle.asm_driver.specs.declared.play.Played.{Played}
+use Rattle.asm_storage.specs.History.{moves}
+use Rattle.asm_journal.specs.Element.{location_json_of}
+use Rattle.asm_journal.specs.Value.{pair_json_of}
+use Rattle.asm_journal.specs.Event.{word_of_cause}
+use Rattle.asm_driver.specs.declared.outcome.Outcome.{Outcome}
+use Rattle.asm_driver.specs.declared.outcome.Outcome.TheVariants.{Fired, Clash, Full, Term, Large, Many, GaveUp}
+use Rattle.asm_driver.specs.declared.outcome.Played.{Played}
 
 -- a line and its line feed
 abbrev pub line : List ℕ → List ℕ
@@ -32,16 +32,6 @@ state_lines A = flat_map entry_line (finite.entries A)
 abbrev pub moves_line : ℕ → List ℕ
 moves_line n = line (codes "moves " ++ decimal n)
 
--- the name of a cause
-abbrev pub cause_name : Cause → List ℕ
-cause_name Two = codes "Two"
-cause_name Mixed = codes "Mixed"
-cause_name Kind = codes "Kind"
-cause_name Both = codes "Both"
-cause_name Against = codes "Against"
-cause_name Short = codes "Short"
-cause_name TooLarge = codes "Large"
-
 -- agent A step S
 abbrev pub step_name : ℕ → ℕ → List ℕ
 step_name agent step = codes "agent " ++ decimal agent ++ codes " step " ++ decimal step
@@ -49,7 +39,7 @@ step_name agent step = codes "agent " ++ decimal agent ++ codes " step " ++ deci
 -- why a step didn't fire
 abbrev pub reason : Outcome → List ℕ
 reason (Fired k) = []
-reason (Clash c) = codes " clash " ++ compact_text (location_json_of c.at) ++ codes " " ++ cause_name c.cause
+reason (Clash c) = codes " clash " ++ compact_text (location_json_of c.at) ++ codes " " ++ word_of_cause c.cause
 reason Full = codes " full"
 reason Term = codes " term"
 reason (Large l) = codes " large " ++ compact_text (location_json_of l)

@@ -1,27 +1,17 @@
 -- How a run of the program ends: its status, and the text that it writes.
-use Rattle.std.specs.Prelude.{◌≡◌, ◌⊎◌, ℕ, Bool, true, false, [], List, Result, Err, IsOk, codes}
+use Rattle.std.specs.Prelude.{◌≡◌, ◌⊎◌, ℕ, Bool, true, false, [], List, Result, Ok, Err}
 use Rattle.std.specs.Io.KnownBytes.{Appends}
 use Rattle.std.specs.declared.io.ErrorKind.{ErrorKind}
 use Rattle.std.specs.declared.io.ErrorKind.TheVariants.{InvalidData}
 use Rattle.asm_driver.specs.Input.{Known, ReadsAll, TakesTooMany, TakesSome}
 use Rattle.asm_driver.specs.Output.{AppendsSome}
 use Rattle.asm_driver.specs.Words.{Words, AsksFor, AsksForHelp, HasMistake, faults}
-use Rattle.asm_driver.specs.Plan.{Plan}
-use Rattle.asm_driver.specs.Script.{ReadsAs, IsRefused}
-use Rattle.asm_driver.specs.Play.{IsNoCapacity, IsPlayOf}
-use Rattle.asm_driver.specs.Report.{line, report_of}
-use Rattle.asm_driver.specs.Standard.{standard_part}
-use Rattle.asm_driver.specs.declared.input.InputError.{InputError}
-use Rattle.asm_driver.specs.declared.input.InputError.TheVariants as input
-use Rattle.asm_driver.specs.declared.play.Played.{Played}
-use Rattle.asm_driver.specs.declared.play.RunError.{RunError}
-use Rattle.asm_driver.specs.declared.play.RunError.TheVariants as play
-use Rattle.asm_driver.specs.declared.program.Refusal.{Refusal}
-use Rattle.asm_driver.specs.declared.program.Refusal.TheVariants as refusal
-use Rattle.asm_driver.specs.declared.script.ScriptCause.{ScriptCause}
-use Rattle.asm_driver.specs.declared.script.ScriptCause.TheVariants.{NotJson, Shape, Agents, Blocks, Instructions, Reads}
-use Rattle.asm_driver.specs.declared.script.ScriptError.{ScriptError}
-use Rattle.asm_driver.specs.declared.script.ScriptError.TheVariants.{BadScript, Memory}
+use Rattle.asm_driver.specs.Commands.{IsDone, IsNotDone}
+use Rattle.asm_driver.specs.Refusal.{refusal_line, refusal_status, has_number}
+use Rattle.asm_driver.specs.declared.commands.Ending.{Ending}
+use Rattle.asm_driver.specs.declared.refusal.Refusal.{Refusal}
+use Rattle.asm_driver.specs.declared.refusal.Refusal.TheVariants as refusal
+use Rattle.asm_driver.specs.declared.words.Request.{Request}
 use Rattle.asm_driver.specs.declared.words.WordsError.{WordsError}
 use Rattle.asm_driver.specs.declared.words.WordsError.TheVariants as words
 
@@ -45,20 +35,15 @@ pub record IsWhole (i : Input) (bytes : List ℕ) : Type 0 where
 
 -- ---- what is answered
 
--- the text is the report of the script of these bytes, played with this capacity
-abbrev pub IsScriptReport : List ℕ → ℕ → List ℕ → Type 0
-IsScriptReport bytes capacity text =
-    (plan : Plan) × (played : Played) × ReadsAs bytes plan × IsPlayOf plan capacity played
-    × (text ≡ report_of standard_part played)
+-- what the words ask for, done with all of the input
+abbrev pub IsAsked : Words → Input → ℕ → List ℕ → Type 0
+IsAsked words i status text =
+    (bytes : List ℕ) × (request : Request) × IsWhole i bytes × AsksFor words request × IsDone bytes request status text
 
--- the text is the report of the script that was read, played with the capacity that was asked for
-abbrev pub IsReportOf : Words → Input → List ℕ → Type 0
-IsReportOf words i text =
-    (bytes : List ℕ) × (capacity : ℕ) × IsWhole i bytes × AsksFor words capacity × IsScriptReport bytes capacity text
-
--- the report; or help that is asked for, before anything is read
-abbrev pub IsAnswer : Words → Input → List ℕ → Type 0
-IsAnswer words i text = IsReportOf words i text ⊎ (AsksForHelp words × IsUnread i)
+-- what the words ask for; or help that is asked for, before anything is read
+abbrev pub IsAnswer : Words → Input → ℕ → List ℕ → Type 0
+IsAnswer words i status text =
+    IsAsked words i status text ⊎ ((status ≡ 0) × AsksForHelp words × IsUnread i)
 
 -- why the words are refused
 abbrev pub IsWordsRefusal : Words → Refusal → Type 0
@@ -73,76 +58,26 @@ IsNoInput i refusal.InputFault = TakesSome i.had i.left × (i.failed ≡ true)
 IsNoInput i refusal.Memory = TakesSome i.had i.left × (i.failed ≡ false)
 IsNoInput i r = ⊥
 
--- why these bytes have no report: they are no script, the capacity is out of range, or there was no memory
-abbrev pub IsNoScriptReport : List ℕ → ℕ → Refusal → Type 0
-IsNoScriptReport bytes capacity (refusal.BadScript cause) = IsRefused bytes (BadScript cause)
-IsNoScriptReport bytes capacity refusal.Words = IsNoCapacity capacity
-IsNoScriptReport bytes capacity refusal.Memory = Unit {0}
-IsNoScriptReport bytes capacity r = ⊥
-
--- why there is no answer: the words, before anything is read; then the input; then the script
+-- why there is no answer: the words, before anything is read; then the input; then what it holds
 abbrev pub IsNoAnswer : Words → Input → Refusal → Type 0
 IsNoAnswer words i r =
     (IsWordsRefusal words r × IsUnread i)
     ⊎ ((faults words ≡ []) × IsNoInput i r)
-    ⊎ ((bytes : List ℕ) × (capacity : ℕ) × IsWhole i bytes × AsksFor words capacity × IsNoScriptReport bytes capacity r)
+    ⊎ ((bytes : List ℕ) × (request : Request) × IsWhole i bytes × AsksFor words request × IsNotDone bytes request r)
 
--- ---- each error, and the refusal that is made of it
-
--- of the words: help that is asked for is an answer
-abbrev pub IsAnswerTo : {T : Type 0} → WordsError → Result T Refusal → Type 0
-IsAnswerTo (words.Help text) r = IsOk r
+-- what is made of an error of the words: help that is asked for is an answer
+abbrev pub IsAnswerTo : WordsError → Result Ending Refusal → Type 0
+IsAnswerTo (words.Help text) r = r ≡ Ok (record { status = 0; text = text })
 IsAnswerTo words.Bad r = r ≡ Err refusal.Words
 IsAnswerTo words.Memory r = r ≡ Err refusal.Memory
 
--- of the input
-abbrev pub refusal_of_input : InputError → Refusal
-refusal_of_input input.TooLarge = refusal.TooLarge
-refusal_of_input input.Fault = refusal.InputFault
-refusal_of_input input.Memory = refusal.Memory
-
--- of a script
-abbrev pub refusal_of : ScriptError → Refusal
-refusal_of (BadScript cause) = refusal.BadScript cause
-refusal_of Memory = refusal.Memory
-
--- of playing it
-abbrev pub refusal_of_run : RunError → Refusal
-refusal_of_run play.BadCapacity = refusal.Words
-refusal_of_run play.Memory = refusal.Memory
-
--- of the words that the system gives: one isn't UTF-8, or there was no memory
+-- the refusal of words that the system couldn't give: one isn't UTF-8, or there was no memory
 abbrev pub IsRefusalOfKind : ErrorKind → Refusal → Type 0
 IsRefusalOfKind k refusal.Words = k ≡ InvalidData
 IsRefusalOfKind k refusal.Memory = ¬ (k ≡ InvalidData)
 IsRefusalOfKind k r = ⊥
 
 -- ---- what is written
-
--- why a script is refused, as a line
-abbrev pub cause_line : ScriptCause → List ℕ
-cause_line NotJson = line (codes "bad script: not JSON")
-cause_line Shape = line (codes "bad script: shape")
-cause_line Agents = line (codes "bad script: agents")
-cause_line Blocks = line (codes "bad script: blocks")
-cause_line Instructions = line (codes "bad script: instructions")
-cause_line Reads = line (codes "bad script: reads")
-
--- the line that is written
-abbrev pub refusal_line : Refusal → List ℕ
-refusal_line refusal.Words = line (codes "bad words")
-refusal_line refusal.TooLarge = line (codes "input too large")
-refusal_line (refusal.BadScript cause) = cause_line cause
-refusal_line refusal.InputFault = line (codes "input fault")
-refusal_line refusal.Memory = line (codes "out of memory")
-
--- the status
-abbrev pub refusal_status : Refusal → ℕ
-refusal_status refusal.Words = 2
-refusal_status refusal.TooLarge = 2
-refusal_status (refusal.BadScript cause) = 2
-refusal_status refusal.InputFault = 4
-refusal_status refusal.Memory = 3
 
 -- the output of a run: what it held and holds, whether a call of it failed, and whether all is flushed
 pub record Output : Type 0 where
@@ -166,10 +101,19 @@ pub record IsCut (o : Output) (text : List ℕ) : Type 0 where
 abbrev pub Writes : Output → ℕ → List ℕ → ℕ → Type 0
 Writes o status text result = ((result ≡ status) × IsWritten o text) ⊎ ((result ≡ 4) × IsCut o text)
 
--- an answer with status 0, or a refusal's line with its status
+-- the refusal that is shown: where there is no memory for the number in its line, want of memory is shown
+abbrev pub IsShown : Refusal → Refusal → Type 0
+IsShown r shown = (shown ≡ r) ⊎ ((shown ≡ refusal.Memory) × (has_number r ≡ true))
+
+-- the line of the refusal that is shown goes out with its status
+abbrev pub Refuses : Output → Refusal → ℕ → Type 0
+Refuses o r result =
+    (shown : Refusal) × IsShown r shown × Writes o (refusal_status shown) (refusal_line shown) result
+
+-- an answer with its status, or a refusal's line with its status
 abbrev pub Ends : Words → Input → ℕ → List ℕ → Type 0
 Ends words i status text =
-    ((status ≡ 0) × IsAnswer words i text)
+    IsAnswer words i status text
     ⊎ ((r : Refusal) × IsNoAnswer words i r × (status ≡ refusal_status r) × (text ≡ refusal_line r))
 
 -- a run of the program: how it ends, and what it wrote

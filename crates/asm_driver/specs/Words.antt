@@ -1,12 +1,15 @@
--- The words that the program takes, the capacity that they ask for, and how others are refused.
-use Rattle.std.specs.Prelude.{◌≡◌, ◌<◌, ◌^◌, ◌⊎◌, ℕ, pos, true, List, [], ◌∷◌, Option, Some, None, Result, Ok, Err, codes}
+-- The words that the program takes, what they ask for, and how others are refused.
+use Rattle.std.specs.Prelude.{◌≡◌, ◌<◌, ◌^◌, ◌⊎◌, ℕ, Bool, pos, true, false, List, [], ◌∷◌, Option, Some, None}
+use Rattle.std.specs.Prelude.{Result, Ok, Err, codes}
 use Rattle.std.specs.Str.Parse.{IsNumeral, digits_value, without_leading_plus}
 use Rattle.clap.specs.Words.{App, Row, Rule, Text, Kinds, IsAmong, fault_of, new_app, new_rule, one_of, subcommand_of}
 use Rattle.clap.specs.Words.{with_rule, with_subcommand}
-use Rattle.clap.specs.declared.builder.action.ArgAction.TheVariants.{Set}
+use Rattle.clap.specs.declared.builder.action.ArgAction.TheVariants.{Set, SetTrue}
 use Rattle.clap.specs.declared.builder.value_parser.ValueParser.TheVariants.{Signed}
 use Rattle.clap.specs.declared.error.kind.ErrorKind.{ErrorKind}
 use Rattle.clap.specs.declared.error.kind.ErrorKind.TheVariants as kind
+use Rattle.asm_driver.specs.declared.words.Request.{Request}
+use Rattle.asm_driver.specs.declared.words.Request.TheVariants.{Run, Check}
 use Rattle.asm_driver.specs.declared.words.WordsError.{WordsError}
 use Rattle.asm_driver.specs.declared.words.WordsError.TheVariants.{Help, Bad, Memory}
 
@@ -20,16 +23,24 @@ capacity = record (new_rule (codes "capacity")) {
   value_names = 1;
 }
 
--- the command run, with its option
-abbrev pub run : App
-run = with_rule (new_app (codes "run")) capacity
+-- --journal, which has no value
+abbrev pub journal : Rule
+journal = record (new_rule (codes "journal")) { long = Some (codes "journal"); action = Some SetTrue }
 
--- the command run, which must be given
+-- the command run, with its options
+abbrev pub run : App
+run = with_rule (with_rule (new_app (codes "run")) capacity) journal
+
+-- the command check
+abbrev pub check : App
+check = new_app (codes "check")
+
+-- the commands run and check, of which one must be given
 abbrev pub program : App
 program =
     let named = new_app (codes "asm_driver") in
     let required = record named { top = record named.top { subcommand_required = true } } in
-    with_subcommand required run.top
+    with_subcommand (with_subcommand required run.top) check.top
 
 -- the words, each with its bytes
 abbrev pub Words : Type 0
@@ -39,32 +50,47 @@ Words = List Text
 unfoldable pub faults : Words → Kinds
 faults words = fault_of program words
 
--- the command is run, and the number is the one that stands there
-abbrev pub Asks : Option (Text × List Row) → ℕ → Type 0
-Asks None number = ⊥
-Asks (Some p) number =
-    (p.0 ≡ codes "run")
-    × ((t : Text) → one_of (codes "capacity") p.1 ≡ Some t → IsNumeral 10 (without_leading_plus t)
-    → digits_value 10 (without_leading_plus t) < 2 ^ 32 → number ≡ digits_value 10 (without_leading_plus t))
+-- the number is the one that stands at the option
+abbrev pub AsksCapacity : List Row → ℕ → Type 0
+AsksCapacity rows number = (t : Text) → one_of (codes "capacity") rows ≡ Some t →
+    IsNumeral 10 (without_leading_plus t) → digits_value 10 (without_leading_plus t) < 2 ^ 32 →
+    number ≡ digits_value 10 (without_leading_plus t)
 
--- the words are taken, and ask for this capacity
-abbrev pub AsksFor : Words → ℕ → Type 0
-AsksFor words number = (faults words ≡ []) × Asks (subcommand_of program words) number
+-- true where the option stands there, and else false
+abbrev pub AsksJournal : List Row → Bool → Type 0
+AsksJournal rows asked =
+    (one_of (codes "journal") rows ≡ Some (codes "true") → asked ≡ true)
+    × (one_of (codes "journal") rows ≡ Some (codes "false") → asked ≡ false)
+
+-- what the options of run ask for
+abbrev pub AsksRun : List Row → Request → Type 0
+AsksRun rows (Run number asked) = AsksCapacity rows number × AsksJournal rows asked
+AsksRun rows Check = ⊥
+
+-- the command with its options asks for this
+abbrev pub Asks : Option (Text × List Row) → Request → Type 0
+Asks None r = ⊥
+Asks (Some p) (Run number asked) = (p.0 ≡ codes "run") × AsksRun p.1 (Run number asked)
+Asks (Some p) Check = p.0 ≡ codes "check"
+
+-- the words are taken, and ask for this
+abbrev pub AsksFor : Words → Request → Type 0
+AsksFor words r = (faults words ≡ []) × Asks (subcommand_of program words) r
 
 -- the words ask for help
 abbrev pub AsksForHelp : Words → Type 0
 AsksForHelp words = IsAmong kind.DisplayHelp (faults words)
 
--- there is another command than run, or none
-abbrev pub IsNoRun : Option (Text × List Row) → Type 0
-IsNoRun None = Unit {0}
-IsNoRun (Some p) = ¬ (p.0 ≡ codes "run")
+-- there is another command, or none
+abbrev pub IsNoCommand : Option (Text × List Row) → Type 0
+IsNoCommand None = Unit {0}
+IsNoCommand (Some p) = ¬ (p.0 ≡ codes "run") × ¬ (p.0 ≡ codes "check")
 
--- the words have a mistake: one that clap may find, or clap takes them and the command isn't run
+-- the words have a mistake: one that clap may find, or clap takes them and there is no command of the program's
 abbrev pub HasMistake : Words → Type 0
 HasMistake words =
     ((k : ErrorKind) × IsAmong k (faults words) × ¬ (k ≡ kind.DisplayHelp))
-    ⊎ ((faults words ≡ []) × IsNoRun (subcommand_of program words))
+    ⊎ ((faults words ≡ []) × IsNoCommand (subcommand_of program words))
 
 -- why the words are refused; want of memory tells nothing
 abbrev pub IsRefusal : Words → WordsError → Type 0
@@ -80,40 +106,48 @@ IsMadeOf k Memory = (k ≡ kind.OutOfMemory) ⊎ (k ≡ kind.DisplayHelp)
 
 -- ---- words that are written out
 
+-- the program's name, and further words
+abbrev pub program_with : Words → Words
+program_with more = codes "asm_driver" ∷ more
+
 -- the program's name, the word run, and further ones
 abbrev pub run_with : Words → Words
-run_with more = codes "asm_driver" ∷ codes "run" ∷ more
+run_with more = program_with (codes "run" ∷ more)
 
--- the number is answered, unless memory is refused
-abbrev pub Gives : ℕ → Result ℕ WordsError → Type 0
-Gives n (Ok m) = m ≡ n
-Gives n (Err e) = e ≡ Memory
+-- this is answered, unless memory is refused
+abbrev pub Gives : Request → Result Request WordsError → Type 0
+Gives wanted (Ok r) = r ≡ wanted
+Gives wanted (Err e) = e ≡ Memory
 
 -- the words are refused as bad, unless memory is refused
-abbrev pub Refuses : Result ℕ WordsError → Type 0
-Refuses (Ok n) = ⊥
+abbrev pub Refuses : Result Request WordsError → Type 0
+Refuses (Ok r) = ⊥
 Refuses (Err (Help text)) = ⊥
 Refuses (Err Bad) = Unit {0}
 Refuses (Err Memory) = Unit {0}
 
 -- help is answered, unless memory is refused
-abbrev pub Helps : Result ℕ WordsError → Type 0
-Helps (Ok n) = ⊥
+abbrev pub Helps : Result Request WordsError → Type 0
+Helps (Ok r) = ⊥
 Helps (Err (Help text)) = Unit {0}
 Helps (Err Bad) = ⊥
 Helps (Err Memory) = Unit {0}
 
 -- what is answered to some words
-pub record Answers (words : Words) (r : Result ℕ WordsError) : Type 0 where
-  pub default : words ≡ run_with [] → Gives 4096 r
-  pub plus : words ≡ run_with (codes "--capacity" ∷ codes "+8" ∷ []) → Gives 8 r
-  pub leading_zero : words ≡ run_with (codes "--capacity" ∷ codes "08" ∷ []) → Gives 8 r
-  pub joined : words ≡ run_with (codes "--capacity=8" ∷ []) → Gives 8 r
-  pub greatest : words ≡ run_with (codes "--capacity" ∷ codes "1048576" ∷ []) → Gives 1048576 r
+pub record Answers (words : Words) (r : Result Request WordsError) : Type 0 where
+  pub default : words ≡ run_with [] → Gives (Run 4096 false) r
+  pub journal : words ≡ run_with (codes "--journal" ∷ []) → Gives (Run 4096 true) r
+  pub both : words ≡ run_with (codes "--journal" ∷ codes "--capacity" ∷ codes "8" ∷ []) → Gives (Run 8 true) r
+  pub plus : words ≡ run_with (codes "--capacity" ∷ codes "+8" ∷ []) → Gives (Run 8 false) r
+  pub leading_zero : words ≡ run_with (codes "--capacity" ∷ codes "08" ∷ []) → Gives (Run 8 false) r
+  pub joined : words ≡ run_with (codes "--capacity=8" ∷ []) → Gives (Run 8 false) r
+  pub greatest : words ≡ run_with (codes "--capacity" ∷ codes "1048576" ∷ []) → Gives (Run 1048576 false) r
   pub above : words ≡ run_with (codes "--capacity" ∷ codes "1048577" ∷ []) → Refuses r
   pub zero : words ≡ run_with (codes "--capacity" ∷ codes "0" ∷ []) → Refuses r
   pub further : words ≡ run_with (codes "more" ∷ []) → Refuses r
-  pub none : words ≡ codes "asm_driver" ∷ [] → Refuses r
-  pub other : words ≡ codes "asm_driver" ∷ codes "check" ∷ [] → Refuses r
-  pub help : words ≡ codes "asm_driver" ∷ codes "--help" ∷ [] → Helps r
+  pub none : words ≡ program_with [] → Refuses r
+  pub check : words ≡ program_with (codes "check" ∷ []) → Gives Check r
+  pub check_further : words ≡ program_with (codes "check" ∷ codes "more" ∷ []) → Refuses r
+  pub help : words ≡ program_with (codes "--help" ∷ []) → Helps r
   pub run_help : words ≡ run_with (codes "--help" ∷ []) → Helps r
+  pub check_help : words ≡ program_with (codes "check" ∷ codes "--help" ∷ []) → Helps r

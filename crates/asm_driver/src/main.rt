@@ -1,28 +1,40 @@
-//! The driver: it reads a script, plays its moves, and writes the final state.
+//! The driver of an abstract state machine's agents: it plays scripts, and checks journals.
 #![tactic(auto)]
 
+pub mod aggregator;
 pub mod block;
-mod firing;
-pub mod form;
-pub mod history;
+pub mod commands;
+pub mod gate;
 pub mod input;
-mod instruction_form;
-pub mod listed;
 pub mod noted;
+pub mod outcome;
 pub mod output;
+pub mod parsing;
 pub mod play;
+#[cfg(test)]
+mod play_tests;
+#[cfg(test)]
+mod port_tests;
 pub mod program;
-pub mod replay;
+mod proper;
+pub mod refusal;
 pub mod report;
 pub mod script;
-mod set_form;
+#[cfg(test)]
+mod script_tests;
+mod seen;
 pub mod sink;
 pub mod source;
 pub mod step;
 #[cfg(test)]
 mod step_tests;
 pub mod term;
+mod term_form;
+#[cfg(test)]
+mod tests;
+mod trying;
 pub mod words;
+mod workers;
 
 use crate::program::run_given;
 use std::alloc::Global;
@@ -34,13 +46,10 @@ fn main(rt: HostRuntime) -> ExitCode {
     let words = words_given(&rt, alloc);
     let mut input = rt.reader();
     let mut output = io::writer(&rt);
-    ExitCode::from(run_given(alloc, words, &mut input, &mut output))
+    ExitCode::from(run_given(&rt, alloc, words, &mut input, &mut output))
 }
 
 // The words of the command line, the program's name first.
 fn words_given<R: std::rt::Env + AllocGlobal>(rt: &R, alloc: Global) -> io::Result<Vec<String>> {
     Ok(env::args(rt)?.collect(alloc)?)
 }
-
-#[cfg(test)]
-mod tests;

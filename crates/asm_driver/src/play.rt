@@ -1,204 +1,263 @@
-//! Playing a script on the storage of one thread.
-ghost use Rattle.std.specs.Prelude.{◌≡◌, ◌↔◌, ◌≤◌, IfOk, IsErrOf, length};
-ghost use Rattle.asm_driver.specs.Play.{IsNoCapacity, outcome_of, IsPlayOf};
-ghost use Rattle.asm_driver.specs.Player.{IsKept, Replies, PlaysStep, PlaysSteps, PlaysAgents};
+//! Playing a script: its agents on one storage, each on a thread of its own.
+ghost use Rattle.std.specs.Prelude.{◌≡◌, ◌≢◌, ◌↔◌, ◌≤◌, List, [], IfOk, IfErr, IsErrOf, get_or, length, map};
+ghost use Rattle.std.specs.List.{range_with_len};
+ghost use Rattle.asm_storage.specs.Storage.{at_start};
+ghost use Rattle.asm_driver.specs.Play.{IsNoCapacity, IsPlayOf};
+ghost use Rattle.asm_driver.specs.Plays.{Plays};
+ghost use Rattle.asm_driver.specs.Standard.{standard_part};
+ghost use Rattle.asm_driver.specs.Turns.{steps_at, fault_told, ArePlayed};
+ghost use Rattle.asm_driver.specs.Works.{GivesEach};
 
-use crate::firing::{chosen, updates_of, write_updates};
-use crate::history::{Answer, Call, Event, History, Reply};
-use crate::script::{AGENTS_LIMIT, Script};
-use asm_element::{Items, Location};
-use asm_update::{AggError, Clash, Instructions, PlainState};
-use std::alloc::{AllocError, AllocFailed, Global};
-use thiserror::Error;
+use crate::aggregator::{Standard, chosen};
+use crate::gate::{Gate, Passage, Through};
+use crate::outcome::{Outcome, Played, RunError};
+use crate::proper::proper_history;
+use crate::script::Script;
+use crate::step::Step;
+use crate::trying::{Player, Turn};
+use crate::workers;
+use crate::workers::{Fault, Task};
+use asm_aggregate::{BagAgg, Pair, SetAgg};
+use asm_element::Items;
+use asm_storage::{Agent, CloseError, Storage};
+use asm_update::Aggregator;
+use std::alloc::{AllocError, Global};
+use std::marker::Sync;
+use std::sync::Wait;
+use std::thread::Threads;
 
 /// The greatest capacity.
-pub const CAPACITY_LIMIT: u32 = 1_048_576;
+const CAPACITY_LIMIT: u32 = 1_048_576;
 
-/// What became of a step.
-#[derive(Debug, Drop)]
-pub enum Outcome {
-    /// It fired as the move with this number.
-    Fired(u32),
-    /// Its updates have no result at this location.
-    Clash(Clash),
-    /// As many moves were fired as the capacity.
-    Full,
-    /// A term of it has no value.
-    Term,
-    /// A composed amount at this location is too large.
-    Large(Location),
-    /// Its blocks compose to too many instructions.
-    Many,
-    /// It was tried too often.
-    GaveUp,
-}
+impl From<Fault> for RunError {
+    ghost from_gives = { λ f e. e ≡ fault_told f };
 
-/// What playing a script leaves: its history, and the outcomes of each agent's steps.
-#[derive(Debug, Drop)]
-pub struct Played {
-    pub history: History,
-    pub outcomes: Items<Items<Outcome>>,
-}
-
-/// Why a script was not played.
-#[derive(Clone, Copy, Debug, PartialEq, Eq, Error)]
-pub enum RunError {
-    /// The capacity is not in the range from 1 to 1,048,576.
-    #[error("a capacity outside 1 to 1,048,576")]
-    BadCapacity,
-    /// There was no memory.
-    #[error("out of memory")]
-    Memory,
-}
-
-impl From<AllocError> for RunError {
-    ghost use Rattle.std.specs.Prelude.{◌≡◌};
-    ghost use Rattle.asm_driver.specs.declared.play.RunError.TheVariants.{Memory};
-
-    ghost from_gives = { λ _ e. e ≡ Memory };
-
-    fn from(_refused: AllocError) -> RunError {
-        RunError::Memory
+    fn from(fault: Fault) -> RunError {
+        match fault {
+            Fault::NoThread => RunError::NoThread,
+            Fault::Memory => RunError::Memory,
+        }
     }
 }
 
-impl<T: Drop> From<AllocFailed<T>> for RunError {
-    ghost use Rattle.std.specs.Prelude.{◌≡◌};
-    ghost use Rattle.asm_driver.specs.declared.play.RunError.TheVariants.{Memory};
+// The steps of agents, by their numbers.
+trait Scripted {
+    ghost use Rattle.asm_driver.specs.declared.step.Step.{Step};
 
-    ghost from_gives = { λ _ e. e ≡ Memory };
+    ghost steps: { Self → List (List Step) };
 
-    fn from(_refused: AllocFailed<T>) -> RunError {
-        RunError::Memory
+    fn of(&self, id: usize) -> &[Step]
+        ensures { result.now ≡ get_or (steps self.now) id [] };
+}
+
+// The steps as they are written in a script.
+struct Written<'p>(&'p [Items<Step>]);
+
+impl<'p> Scripted for Written<'p> {
+    ghost steps = { λ w. w.0.now };
+
+    fn of(&self, id: usize) -> &[Step] {
+        match self.0.get(id) {
+            Some(steps) => steps.as_slice(),
+            None => &[],
+        }
     }
 }
 
-/// The storage of one thread: what it was opened with, its state after the fired moves, how many
-/// they are, and what it answered.
-#[derive(Drop)]
-struct Player {
-    init: PlainState,
-    capacity: u32,
-    state: PlainState,
-    number: u32,
-    events: Vec<Event>,
+// Plays each agent with the steps that stand at its number.
+struct Playing<'a, P, S> {
+    player: Player<'a, Standard, P>,
+    scripted: S,
 }
 
-/// Fires the block if it doesn't clash and there is room.
-fn fire_block(alloc: Global, player: &mut Player, block: &Instructions) -> Result<Reply, AllocError>
-    requires kept { IsKept player.old }
-    ensures { IfOk result (Replies player.old player.new block.now) }
-{
-    let updates = match updates_of(alloc, &chosen(), &player.state, block) {
-        Ok(updates) => updates,
-        Err(AggError::Clash(clash)) => return Ok(Reply::Clash(clash)),
-        Err(AggError::Memory) => return Err(AllocError),
-    };
-    if player.number == player.capacity {
-        return Ok(Reply::Full);
+impl<'a, 's, P: Passage + Sync, S: Scripted + Sync> Task<Agent<'s, Standard>, Turn<'s, Standard>>
+    for Playing<'a, P, S> {
+    ghost use Rattle.asm_driver.specs.Plays.{Plays};
+    ghost use Rattle.asm_driver.specs.Turns.{steps_at};
+
+    ghost gives = { λ p a t. Plays (⟦<Pair<SetAgg, BagAgg> as Aggregator>⟧.meaning)
+        (⟦<Pair<SetAgg, BagAgg> as Aggregator>⟧.meaning p.player.aggregator.now).part a t.agent
+        (steps_at (S.steps p.scripted) a) t.outcomes.items };
+
+    fn run<R: Wait>(
+        &self,
+        rt: &R,
+        agent: Agent<'s, Standard>,
+    ) -> Result<Turn<'s, Standard>, AllocError> {
+        let steps = self.scripted.of(agent.id() as usize);
+        self.player.play(rt, agent, steps)
     }
-    write_updates(alloc, &mut player.state, &updates)?;
-    player.number += 1;
-    Ok(Reply::Fired(player.number))
 }
 
-/// What the reply is for the step.
-fn step_outcome(alloc: Global, reply: &Reply) -> Result<Outcome, AllocError>
-    ensures { IfOk result (λ o. o ≡ outcome_of reply.now) }
-{
-    Ok(match reply {
-        Reply::Fired(number) => Outcome::Fired(*number),
-        Reply::Clash(clash) => Outcome::Clash(Clash {
-            at: clash.at.copy(alloc)?,
-            cause: clash.cause,
-        }),
-        Reply::Full => Outcome::Full,
-        Reply::Stale(_) => Outcome::GaveUp,
-    })
-}
-
-fn play_step(
+// Plays each agent on a thread of its own.
+fn played_apart<'s, 'a, R: Threads + Wait + Sync, P: Passage + Sync, S: Scripted + Sync>(
+    rt: &R,
     alloc: Global,
-    player: &mut Player,
-    agent: u32,
-    block: &Instructions,
-) -> Result<Outcome, AllocError>
-    requires kept { IsKept player.old }
-    ensures { IfOk result (PlaysStep player.old player.new agent block.now) }
+    playing: &Playing<'a, P, S>,
+    agents: Vec<Agent<'s, Standard>>,
+) -> Result<Vec<Turn<'s, Standard>>, Fault>
+    ensures { IfOk result (λ turns. GivesEach (λ a t. Plays (⟦<Pair<SetAgg, BagAgg> as Aggregator>⟧.meaning)
+        (⟦<Pair<SetAgg, BagAgg> as Aggregator>⟧.meaning playing.now.player.aggregator.now).part a t.agent
+        (steps_at (S.steps playing.now.scripted) a) t.outcomes.items) agents.entry.items turns.items) }
 {
-    let call = Call::Fire {
-        reads: Items::new(Vec::new(alloc)),
-        instrs: block.copy(alloc)?,
-    };
-    let reply = fire_block(alloc, player, block)?;
-    let outcome = step_outcome(alloc, &reply)?;
-    let answer = Answer::Fire(reply);
-    player.events.push(Event {
-        agent,
-        call,
-        answer,
-    })?;
-    Ok(outcome)
+    workers::each(rt, alloc, playing, agents)
 }
 
-fn play_steps(
+// Plays each agent, on a thread of its own, with the steps that are written at its number.
+fn played_as_written<'s, 'a, 'p, R: Threads + Wait + Sync, P: Passage + Sync>(
+    rt: &R,
     alloc: Global,
-    player: &mut Player,
-    agent: u32,
-    steps: &[Instructions],
-) -> Result<Items<Outcome>, AllocError>
-    requires kept { IsKept player.old }
-    ensures { IfOk result (PlaysSteps player.old player.new agent steps.now) }
+    playing: &Playing<'a, P, Written<'p>>,
+    agents: Vec<Agent<'s, Standard>>,
+) -> Result<Vec<Turn<'s, Standard>>, Fault>
+    ensures { IfOk result (λ turns. GivesEach (λ a t. Plays (⟦<Pair<SetAgg, BagAgg> as Aggregator>⟧.meaning)
+        (⟦<Pair<SetAgg, BagAgg> as Aggregator>⟧.meaning playing.now.player.aggregator.now).part a t.agent
+        (steps_at playing.now.scripted.0.now a) t.outcomes.items) agents.entry.items turns.items) }
 {
-    let mut outcomes = Vec::new(alloc);
-    for block in steps {
-        outcomes.push(play_step(alloc, player, agent, block)?)?;
-    }
-    Ok(Items::new(outcomes))
+    played_apart(rt, alloc, playing, agents)
 }
 
-/// Plays the agents one after the other.
-fn play_agents(
-    alloc: Global,
-    player: &mut Player,
-    agents: &[Items<Instructions>],
-) -> Result<Items<Items<Outcome>>, AllocError>
-    requires kept { IsKept player.old }
-    requires few { length agents.now ≤ AGENTS_LIMIT }
-    ensures { IfOk result (PlaysAgents player.old player.new 0 agents.now) }
-{
-    let mut outcomes = Vec::new(alloc);
-    for (agent, steps) in agents.iter().enumerate() {
-        outcomes.push(play_steps(alloc, player, agent as u32, steps.as_slice())?)?;
-    }
-    Ok(Items::new(outcomes))
-}
-
-/// Plays each agent's steps in order.
-///
-/// A step is one call: it fires its move and names no location. `BadCapacity` comes before anything
-/// else, and exactly where the capacity is outside 1 to 1,048,576.
-pub fn run_script(alloc: Global, script: &Script, capacity: u32) -> Result<Played, RunError>
-    ensures bad_capacity { IsErrOf result RunError.BadCapacity ↔ IsNoCapacity capacity }
-    ensures played { IfOk result (IsPlayOf script.now capacity) }
+// The storage that the script opens. The capacity is looked at before any memory is asked for.
+fn opened(alloc: Global, script: &Script, capacity: u32) -> Result<Storage<Standard>, RunError>
+    ensures part { IfOk result (λ s. (⟦<Pair<SetAgg, BagAgg> as Aggregator>⟧.meaning s.agg).part ≡ standard_part) }
+    ensures init { IfOk result (λ s. s.init ≡ script.now.init) }
+    ensures capacity { IfOk result (λ s. length s.row ≡ capacity) }
+    ensures bad { IsErrOf result RunError.BadCapacity ↔ IsNoCapacity capacity }
 {
     if capacity == 0 || CAPACITY_LIMIT < capacity {
         return Err(RunError::BadCapacity);
     }
-    let mut player = Player {
-        init: script.init().copy(alloc)?,
-        capacity,
-        state: script.init().copy(alloc)?,
-        number: 0,
-        events: Vec::new(alloc),
+    let init = script.init().copy(alloc)?;
+    match Storage::new(alloc, chosen(), init, capacity) {
+        Ok(storage) => Ok(storage),
+        Err(_) => Err(RunError::Memory),
+    }
+}
+
+// So many agents of the storage, which may be none.
+fn agents_of<'s>(
+    alloc: Global,
+    storage: &'s Storage<Standard>,
+    count: usize,
+) -> Result<Vec<Agent<'s, Standard>>, AllocError>
+    requires { count ≤ 256 }
+    ensures { IfOk result (λ agents. agents.items ≡ map (at_start storage.now) (range_with_len 0 count)) }
+{
+    if count == 0 {
+        return Ok(Vec::new(alloc));
+    }
+    match storage.agents(alloc, count as u32) {
+        Ok(agents) => Ok(agents),
+        Err(_) => Err(AllocError),
+    }
+}
+
+// The agents that played, and apart from them the outcomes of each.
+#[derive(Drop)]
+struct Ended<'s> {
+    agents: Vec<Agent<'s, Standard>>,
+    outcomes: Vec<Items<Outcome>>,
+}
+
+fn told_apart<'s>(alloc: Global, turns: Vec<Turn<'s, Standard>>) -> Result<Ended<'s>, AllocError>
+    ensures agents { IfOk result (λ e. e.agents.items ≡ map (λ t. t.agent) turns.entry.items) }
+    ensures outcomes { IfOk result (λ e. e.outcomes.items ≡ map (λ t. t.outcomes.items) turns.entry.items) }
+{
+    let mut agents = Vec::new(alloc);
+    let mut outcomes = Vec::new(alloc);
+    for turn in turns {
+        let Turn {
+            agent,
+            outcomes: told,
+        } = turn;
+        agents.push(agent)?;
+        outcomes.push(Items::new(told))?;
+    }
+    Ok(Ended { agents, outcomes })
+}
+
+// What the agents that played leave.
+fn closed<'s>(
+    alloc: Global,
+    storage: &Storage<Standard>,
+    script: &Script,
+    ended: Ended<'s>,
+) -> Result<Played, RunError>
+    requires part { (⟦<Pair<SetAgg, BagAgg> as Aggregator>⟧.meaning storage.now.agg).part ≡ standard_part }
+    requires init { storage.now.init ≡ script.now.init }
+    requires turns { ArePlayed (⟦<Pair<SetAgg, BagAgg> as Aggregator>⟧.meaning) standard_part storage.now 0
+        script.now.agents ended.agents.items ended.outcomes.items }
+    ensures played { IfOk result (IsPlayOf script.now (length storage.now.row)) }
+    ensures later { IfErr result (λ e. e ≢ RunError.BadCapacity) }
+{
+    let Ended { agents, outcomes } = ended;
+    match storage.close(alloc, agents.as_slice()) {
+        Ok(history) => {
+            proper_history(&history);
+            Ok(Played {
+                history,
+                outcomes: Items::new(outcomes),
+            })
+        }
+        Err(CloseError::Missing(number)) => Err(RunError::Missing(number)),
+        Err(CloseError::Memory) => Err(RunError::Memory),
+    }
+}
+
+// Plays the script on its storage.
+fn play_on<R: Threads + Wait + Sync, G: Gate>(
+    rt: &R,
+    alloc: Global,
+    storage: &Storage<Standard>,
+    script: &Script,
+    gate: &G,
+) -> Result<Played, RunError>
+    requires part { (⟦<Pair<SetAgg, BagAgg> as Aggregator>⟧.meaning storage.now.agg).part ≡ standard_part }
+    requires init { storage.now.init ≡ script.now.init }
+    ensures played { IfOk result (IsPlayOf script.now (length storage.now.row)) }
+    ensures later { IfErr result (λ e. e ≢ RunError.BadCapacity) }
+{
+    let scripted = script.agents();
+    let agents = agents_of(alloc, storage, scripted.len())?;
+    let aggregator = chosen();
+    let player = Player {
+        alloc,
+        aggregator: &aggregator,
+        passage: Through(gate),
     };
-    let agents = script.agents();
-    let outcomes = play_agents(alloc, &mut player, agents)?;
-    let history = History {
-        init: player.init,
-        capacity,
-        agents: agents.len() as u32,
-        events: Items::new(player.events),
+    let playing = Playing {
+        player,
+        scripted: Written(scripted),
     };
-    Ok(Played { history, outcomes })
+    let turns = played_as_written(rt, alloc, &playing, agents);
+    let Playing {
+        player: Player {
+            alloc: _,
+            aggregator: _,
+            passage: Through(_),
+        },
+        scripted: Written(_),
+    } = playing;
+    let ended = told_apart(alloc, turns?)?;
+    closed(alloc, storage, script, ended)
+}
+
+/// Plays the script on a storage for at most `capacity` moves, each agent on a thread of its own, behind the gate.
+///
+/// The history is closed when all agents have ended. `RunError::BadCapacity` comes before anything else, and
+/// exactly for a capacity outside 1 to 1,048,576; `NoThread` where a thread for an agent couldn't be started,
+/// after the agents that were started have ended, and before `Memory`, which comes only where memory was
+/// refused; `Missing` where the agents' receipts don't close.
+pub fn run_script<R: Threads + Wait + Sync, G: Gate>(
+    rt: &R,
+    alloc: Global,
+    script: &Script,
+    capacity: u32,
+    gate: &G,
+) -> Result<Played, RunError>
+    ensures capacity { IsErrOf result RunError.BadCapacity ↔ IsNoCapacity capacity }
+    ensures played { IfOk result (IsPlayOf script.now capacity) }
+{
+    let storage = opened(alloc, script, capacity)?;
+    play_on(rt, alloc, &storage, script, gate)
 }

@@ -2,16 +2,16 @@
 ghost use Rattle.std.specs.Prelude.{◌≡◌, ◌++◌, false, IfOk, OnOk, string_bytes};
 ghost use Rattle.serde_json.specs.View.{view};
 ghost use Rattle.serde_json.specs.Written.{has_float, compact_text};
-ghost use Rattle.asm_driver.specs.Form.{location_json_of};
+ghost use Rattle.asm_journal.specs.Element.{location_json_of};
+ghost use Rattle.asm_journal.specs.Event.{word_of_cause};
 ghost use Rattle.asm_driver.specs.Standard.{standard_part};
-ghost use Rattle.asm_driver.specs.Report.{state_lines, cause_name as name_of_cause, outcome_line};
+ghost use Rattle.asm_driver.specs.Report.{state_lines, outcome_line};
 ghost use Rattle.asm_driver.specs.Report.{agent_lines, outcome_lines, reason, report_of};
 
-use crate::firing::chosen;
-use crate::form::{location_json, pair_json};
-use crate::play::{Outcome, Played};
-use crate::replay::replay;
+use crate::aggregator::chosen;
+use crate::outcome::{Outcome, Played};
 use asm_element::{Items, Location};
+use asm_journal::{location_json, pair_json, replay};
 use asm_update::{Aggregator, Cause, PlainState};
 use serde_json::Value as Json;
 use std::alloc::{AllocError, Global};
@@ -45,7 +45,7 @@ fn push_state(alloc: Global, text: &mut String, state: &PlainState) -> Result<()
 }
 
 fn cause_name(cause: Cause) -> &'static str
-    ensures { result.now ≡ name_of_cause cause }
+    ensures { result.now ≡ word_of_cause cause }
 {
     match cause {
         Cause::Two => "Two",
@@ -131,8 +131,11 @@ fn push_outcomes(
     Ok(())
 }
 
-/// The text that `run` prints: a line for each location of the final state, in ascending order; the
-/// number of fired moves; and a line for each step that didn't fire, agent by agent.
+/// The report of a played script: a line for each location of the final state, in ascending order; the
+/// number of fired moves; and a line for each step that didn't fire, agent by agent and step by step.
+///
+/// The final state is that of the history's opening state and moves. `AllocError` comes only where
+/// memory was refused. It costs one replay of the history and one pass over the text.
 pub fn report(alloc: Global, played: &Played) -> Result<String, AllocError>
     ensures { IfOk result (λ text. string_bytes text ≡ report_of standard_part played.now) }
 {

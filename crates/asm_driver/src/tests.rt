@@ -1,21 +1,30 @@
-//! Scripts played over memory, from the words to what is written.
-use crate::history::{Event, History};
-use crate::play::{Outcome, Played, RunError, run_script};
+//! Scripts and journals through the whole program, from the words to what is written.
+use crate::outcome::{Outcome, Played};
 use crate::program::{run_given, run_main};
-use crate::replay::replay;
 use crate::report::report;
-use crate::script::{ScriptCause, ScriptError, parse_script};
-use asm_aggregate::standard;
 use asm_element::{ElemBag, ElemSet, ElemText, Element, Items, Location, Value};
+use asm_storage::{Event, History};
 use asm_update::PlainState;
 use std::alloc::{AllocError, Global};
 use std::io;
-use std::io::{ErrorKind, Read, Write};
+use std::io::ErrorKind;
+use std::sync::Wait;
 use std::test::Fail;
+use std::thread::Threads;
+
+const RUN: [&str; 2] = ["asm_driver", "run"];
+
+const JOURNAL: [&str; 3] = ["asm_driver", "run", "--journal"];
+
+const CHECK: [&str; 2] = ["asm_driver", "check"];
 
 const ONE_PUT: &str = r#"{"init":[],"agents":[[[[["put",["x"],1]]]]]}"#;
 
-fn words_of(alloc: Global, words: &[&str]) -> Result<Vec<String>, AllocError> {
+const ONE_PUT_REPORT: &str = r#"[["x"],1]
+moves 1
+"#;
+
+pub(crate) fn words_of(alloc: Global, words: &[&str]) -> Result<Vec<String>, AllocError> {
     let mut list = Vec::new(alloc);
     for word in words {
         list.push(String::from_str(alloc, word)?)?;
@@ -24,23 +33,35 @@ fn words_of(alloc: Global, words: &[&str]) -> Result<Vec<String>, AllocError> {
 }
 
 /// The status and what is written.
-fn run(alloc: Global, words: &[&str], input: &str) -> Result<(u8, Vec<u8>), AllocError> {
-    let mut input = input.as_bytes();
+fn run<T: Threads + Wait + Sync>(
+    rt: &T,
+    alloc: Global,
+    words: &[&str],
+    input: &[u8],
+) -> Result<(u8, Vec<u8>), AllocError> {
+    let mut input = input;
     let mut output = Vec::new(alloc);
-    let status = run_main(alloc, words_of(alloc, words)?, &mut input, &mut output);
+    let status = run_main(rt, alloc, words_of(alloc, words)?, &mut input, &mut output);
     Ok((status, output))
+}
+
+/// Whether the program ends with this status, and writes this.
+fn ends<T: Threads + Wait + Sync>(
+    rt: &T,
+    alloc: Global,
+    words: &[&str],
+    input: &str,
+    wanted: (u8, &str),
+) -> Result<bool, AllocError> {
+    let (status, written) = run(rt, alloc, words, input.as_bytes())?;
+    Ok(status == wanted.0 && written.as_slice() == wanted.1.as_bytes())
 }
 
 #[test]
 fn reports_of_scripts(rt: HostRuntime) -> Result<(), Fail> {
     for (script, want) in [
         (r#"{"init":[],"agents":[]}"#, "moves 0\n"),
-        (
-            ONE_PUT,
-            r#"[["x"],1]
-moves 1
-"#,
-        ),
+        (ONE_PUT, ONE_PUT_REPORT),
         (r#"{"init":[],"agents":[[[[]]]]}"#, "moves 1\n"),
         (
             r#"{"init":[],"agents":[[[[["put",["x"],1],["put",["x"],2],["put",["a"],3],["put",["a"],4]]]]]}"#,
@@ -58,16 +79,15 @@ moves 1
 "#,
         ),
         (
-            r#" { "init" : [ [["y"],null], [["x"],-1], [["t"],"\u00e9"], [["f"],false] ], "agents" : [[[[["put",["x"],null]]]]] } "#,
+            r#" { "init" : [ [["y"],null], [["x"],-1], [["t"],"\u00e9"], [["f"],false] ],
+"agents" : [[[[["put",["x"],null]]]]] } "#,
             r#"[["f"],false]
 [["t"],"é"]
 moves 1
 "#,
         ),
     ] {
-        let (status, written) = run(rt.alloc(), &["asm_driver", "run"], script)?;
-        assert_eq!(rt; status, 0, "{script}");
-        assert!(rt; written.as_slice() == want.as_bytes(), "{script}");
+        assert!(rt; ends(&rt, rt.alloc(), &RUN, script, (0, want))?, "{script}");
     }
     Ok(())
 }
@@ -77,7 +97,8 @@ moves 1
 fn reports_of_sets_and_bags(rt: HostRuntime) -> Result<(), Fail> {
     for (script, want) in [
         (
-            r#"{"init":[[["s"],{"set":[2,1]}]],"agents":[[[[["add",["s"],3],["remove",["s"],1],["remove",["s"],9]]]]]}"#,
+            r#"{"init":[[["s"],{"set":[2,1]}]],
+"agents":[[[[["add",["s"],3],["remove",["s"],1],["remove",["s"],9]]]]]}"#,
             r#"[["s"],{"set":[2,3]}]
 moves 1
 "#,
@@ -90,14 +111,17 @@ agent 0 step 0 clash ["b"] Short
 "#,
         ),
         (
-            r#"{"init":[],"agents":[[[[["put",["s"],{"set":[1,2]}],["add",["s"],1]]],[[["put",["s"],{"set":[1,2]}],["add",["s"],3]]]]]}"#,
+            r#"{"init":[],
+"agents":[[[[["put",["s"],{"set":[1,2]}],["add",["s"],1]]],
+[[["put",["s"],{"set":[1,2]}],["add",["s"],3]]]]]}"#,
             r#"[["s"],{"set":[1,2]}]
 moves 1
 agent 0 step 1 clash ["s"] Against
 "#,
         ),
         (
-            r#"{"init":[[["b"],{"bag":[["e",4294967295]]}]],"agents":[[[[["bagadd",["b"],"e",1]]],[[["bagremove",["b"],"e",1],["bagadd",["b"],"e",1]]]]]}"#,
+            r#"{"init":[[["b"],{"bag":[["e",4294967295]]}]],
+"agents":[[[[["bagadd",["b"],"e",1]]],[[["bagremove",["b"],"e",1],["bagadd",["b"],"e",1]]]]]}"#,
             r#"[["b"],{"bag":[["e",4294967295]]}]
 moves 1
 agent 0 step 0 clash ["b"] Large
@@ -107,19 +131,6 @@ agent 0 step 0 clash ["b"] Large
             r#"{"init":[],"agents":[[[[["put",["x"],{"set":[10,"a",true,null,"",-1,"B",false,0]}]]]]]}"#,
             r#"[["x"],{"set":[null,false,true,-1,0,10,"","B","a"]}]
 moves 1
-"#,
-        ),
-        (
-            r#"{"init":[],"agents":[[[[["put",["b"],{"bag":[["f",2],["e",1]]}]]],[[["bagremove",["b"],"f",2]]]]]}"#,
-            r#"[["b"],{"bag":[["e",1]]}]
-moves 2
-"#,
-        ),
-        (
-            r#"{"init":[[["b"],{"bag":[]}],[["s"],{"set":[]}]],"agents":[[[[["add",["s"],1],["bagadd",["b"],1,2]]],[[["remove",["s"],1],["bagremove",["b"],1,2]]]]]}"#,
-            r#"[["b"],{"bag":[]}]
-[["s"],{"set":[]}]
-moves 2
 "#,
         ),
         (
@@ -141,61 +152,222 @@ moves 0
 agent 0 step 0 clash ["x"] Both
 "#,
         ),
-        (
-            r#"{"init":[],"agents":[[[[["put",["z"],1],["put",["z"],2],["add",["a"],1],["put",["m"],3]]]]]}"#,
-            r#"moves 0
-agent 0 step 0 clash ["a"] Kind
-"#,
-        ),
     ] {
-        let (status, written) = run(rt.alloc(), &["asm_driver", "run"], script)?;
-        assert_eq!(rt; status, 0, "{script}");
-        assert!(rt; written.as_slice() == want.as_bytes(), "{script}");
+        assert!(rt; ends(&rt, rt.alloc(), &RUN, script, (0, want))?, "{script}");
     }
     Ok(())
 }
 
-/// Values and instructions of a wrong shape, each as the only instruction of a script.
+/// Steps of several blocks, and terms.
 #[test]
-fn instructions_that_are_refused(rt: HostRuntime) -> Result<(), Fail> {
-    for instruction in [
-        r#"["put",["x"],{"set":[1,2,1]}]"#,
-        r#"["put",["x"],{"set":[[1]]}]"#,
-        r#"["put",["x"],{"set":1}]"#,
-        r#"["put",["x"],{"set":[],"bag":[]}]"#,
-        r#"["put",["x"],{"sets":[]}]"#,
-        r#"["put",["x"],{"bag":[["e",1],["e",2]]}]"#,
-        r#"["put",["x"],{"bag":[["e",0]]}]"#,
-        r#"["put",["x"],{"bag":[["e",4294967296]]}]"#,
-        r#"["put",["x"],{"bag":[["e",1.0]]}]"#,
-        r#"["put",["x"],{"bag":[["e"]]}]"#,
-        r#"["put",["x"],{"bag":["e"]}]"#,
-        r#"["put",["x"]]"#,
-        r#"["put",["x"],1,2]"#,
-        r#"["add",["x"],{"set":[]}]"#,
-        r#"["add",["x"],1,2]"#,
-        r#"["remove",["x"],{"bag":[]}]"#,
-        r#"["remove",["x"]]"#,
-        r#"["bagadd",["x"],"e"]"#,
-        r#"["bagadd",["x"],"e",0]"#,
-        r#"["bagadd",["x"],"e",1,1]"#,
-        r#"["bagremove",["x"],"e",4294967296]"#,
-        r#"["bagremove",["x"],{"set":[]},1]"#,
-        r#"["Add",["x"],1]"#,
-        r#"["",["x"],1]"#,
-        r#"["add"]"#,
-        "[]",
-        "{}",
+fn reports_of_sequences(rt: HostRuntime) -> Result<(), Fail> {
+    for (script, want) in [
+        (
+            r#"{"init":[[["s"],{"set":[]}]],"agents":[[[[["add",["s"],1]],[["put",["y"],{"val":["s"]}]]]]]}"#,
+            r#"[["s"],{"set":[1]}]
+[["y"],{"set":[1]}]
+moves 1
+"#,
+        ),
+        (
+            r#"{"init":[[["n"],1]],
+"agents":[[[[["put",["n"],{"sum":[{"val":["n"]},1]}]],[["put",["n"],{"sum":[{"val":["n"]},40]}]]]]]}"#,
+            r#"[["n"],42]
+moves 1
+"#,
+        ),
+        (
+            r#"{"init":[],
+"agents":[[[[["put",["x"],{"sum":[9223372036854775807,1]}]]],[[["put",["x"],{"sum":["a",1]}]]]]]}"#,
+            r#"moves 0
+agent 0 step 0 term
+agent 0 step 1 term
+"#,
+        ),
+        (
+            r#"{"init":[],"agents":[[[[["put",["b"],1]],[["add",["b"],1]]],[[["put",["a"],1],["put",["a"],2]],[]]]]}"#,
+            r#"moves 0
+agent 0 step 0 clash ["b"] Kind
+agent 0 step 1 clash ["a"] Two
+"#,
+        ),
+        (
+            r#"{"init":[[["b"],{"bag":[]}]],
+"agents":[[[[["bagadd",["b"],"e",4294967295]],[["bagadd",["b"],"e",1]]]]]}"#,
+            r#"[["b"],{"bag":[]}]
+moves 0
+agent 0 step 0 large ["b"]
+"#,
+        ),
     ] {
-        let mut script = String::from_str(rt.alloc(), r#"{"init":[],"agents":[[[["#)?;
-        script.push_str(instruction)?;
-        script.push_str("]]]]}")?;
-        let refused = parse_script(rt.alloc(), script.as_bytes()).err();
+        assert!(rt; ends(&rt, rt.alloc(), &RUN, script, (0, want))?, "{script}");
+    }
+    Ok(())
+}
+
+const SEQUENCE_JOURNAL: &str =
+    r#"{"agents":1,"capacity":4096,"events":2,"init":[[["s"],{"set":[]}]],"version":1}
+{"agent":0,"call":{"read":[["s"]]},"reply":{"number":0,"values":[{"set":[]}]}}
+{"agent":0,"call":{"fire":[["add",["s"],1],["put",["y"],{"set":[1]}]],"reads":[[["s"],0]]},"reply":{"fired":1}}
+"#;
+
+#[test]
+fn journals_of_scripts(rt: HostRuntime) -> Result<(), Fail> {
+    for (script, want) in [
+        (
+            r#"{"init":[],"agents":[]}"#,
+            r#"{"agents":0,"capacity":4096,"events":0,"init":[],"version":1}
+"#,
+        ),
+        (
+            ONE_PUT,
+            r#"{"agents":1,"capacity":4096,"events":1,"init":[],"version":1}
+{"agent":0,"call":{"fire":[["put",["x"],1]],"reads":[]},"reply":{"fired":1}}
+"#,
+        ),
+        (
+            r#"{"init":[[["s"],{"set":[]}]],"agents":[[[[["add",["s"],1]],[["put",["y"],{"val":["s"]}]]]]]}"#,
+            SEQUENCE_JOURNAL,
+        ),
+    ] {
         assert!(rt;
-            refused == Some(ScriptError::BadScript(ScriptCause::Shape)),
-            "{instruction}"
+            ends(&rt, rt.alloc(), &JOURNAL, script, (0, want))?,
+            "{script}"
         );
     }
+    Ok(())
+}
+
+#[test]
+fn checks_of_journals(rt: HostRuntime) -> Result<(), Fail> {
+    for (journal, status, want) in [
+        (SEQUENCE_JOURNAL, 0, "legal 2 1\n"),
+        (
+            r#"{"agents":2,"capacity":8,"events":3,"init":[[["x"],7]],"version":1}
+{"agent":0,"call":{"read":[["x"]]},"reply":{"number":0,"values":[7]}}
+{"agent":1,"call":{"fire":[["put",["x"],7]],"reads":[]},"reply":{"fired":1}}
+{"agent":0,"call":{"fire":[["put",["y"],1]],"reads":[[["x"],0]]},"reply":{"stale":["x"]}}
+"#,
+            0,
+            "legal 3 1\n",
+        ),
+        (
+            r#"{"agents":1,"capacity":4096,"events":2,"init":[[["s"],{"set":[]}]],"version":1}
+{"agent":0,"call":{"read":[["s"]]},"reply":{"number":0,"values":[{"set":[2]}]}}
+{"agent":0,"call":{"fire":[["add",["s"],1],["put",["y"],{"set":[1]}]],"reads":[[["s"],0]]},"reply":{"fired":1}}
+"#,
+            1,
+            "illegal 0\n",
+        ),
+        (
+            r#"{"agents":1,"capacity":8,"events":2,"init":[],"version":1}
+{"agent":0,"call":{"fire":[["put",["x"],1]],"reads":[]},"reply":{"fired":1}}
+{"agent":0,"call":{"fire":[["put",["x"],1]],"reads":[]},"reply":"full"}
+"#,
+            1,
+            "illegal 1\n",
+        ),
+        ("", 2, "journal cut\n"),
+        ("{", 2, "journal line 1: not JSON\n"),
+        ("{}\n", 2, "journal line 1: shape\n"),
+        ("{\"version\":3}\n", 2, "journal version\n"),
+        (
+            r#"{"agents":0,"capacity":8,"events":1,"init":[],"version":1}
+"#,
+            2,
+            "journal cut\n",
+        ),
+        (
+            r#"{"agents":1,"capacity":8,"events":1,"init":[],"version":1}
+{"agent":0,"call":"#,
+            2,
+            "journal line 2: not JSON\n",
+        ),
+        (
+            r#"{"agents":1,"capacity":8,"events":0,"init":[],"version":1}
+{}"#,
+            2,
+            "journal line 2: shape\n",
+        ),
+    ] {
+        assert!(rt;
+            ends(&rt, rt.alloc(), &CHECK, journal, (status, want))?,
+            "{journal}"
+        );
+    }
+    Ok(())
+}
+
+/// A script of so many agents with so many steps each, all alike.
+fn script_of(
+    alloc: Global,
+    init: &str,
+    agents: usize,
+    steps: usize,
+    step: &str,
+) -> Result<String, AllocError> {
+    let mut agent = String::new(alloc);
+    for i in 0..steps {
+        if i > 0 {
+            agent.push_str(",")?;
+        }
+        agent.push_str(step)?;
+    }
+    let mut script = String::from_str(alloc, r#"{"init":"#)?;
+    script.push_str(init)?;
+    script.push_str(r#","agents":["#)?;
+    for i in 0..agents {
+        script.push_str(if i > 0 { ",[" } else { "[" })?;
+        script.push_str(agent.as_str())?;
+        script.push_str("]")?;
+    }
+    script.push_str("]}")?;
+    Ok(script)
+}
+
+const BAG_STEP: &str = r#"[[["bagadd",["b"],"e",1]]]"#;
+
+const SUM_STEP: &str = r#"[[["put",["n"],{"sum":[{"val":["n"]},1]}]]]"#;
+
+#[test]
+fn agents_share_the_storage(rt: HostRuntime) -> Result<(), Fail> {
+    let alloc = rt.alloc();
+    for (init, steps, step, want) in [
+        (
+            r#"[[["b"],{"bag":[]}]]"#,
+            50,
+            BAG_STEP,
+            r#"[["b"],{"bag":[["e",200]]}]
+moves 200
+"#,
+        ),
+        (
+            r#"[[["n"],0]]"#,
+            25,
+            SUM_STEP,
+            r#"[["n"],100]
+moves 100
+"#,
+        ),
+    ] {
+        let script = script_of(alloc, init, 4, steps, step)?;
+        assert!(rt;
+            ends(&rt, alloc, &RUN, script.as_str(), (0, want))?,
+            "{step}"
+        );
+    }
+    Ok(())
+}
+
+#[test]
+fn a_written_journal_is_legal(rt: HostRuntime) -> Result<(), Fail> {
+    let alloc = rt.alloc();
+    let script = script_of(alloc, r#"[[["b"],{"bag":[]}]]"#, 4, 50, BAG_STEP)?;
+    let (status, journal) = run(&rt, alloc, &JOURNAL, script.as_bytes())?;
+    assert_eq!(rt; status, 0);
+    let (status, told) = run(&rt, alloc, &CHECK, journal.as_slice())?;
+    assert_eq!(rt; status, 0);
+    assert!(rt; told.as_slice() == b"legal 200 200\n".as_slice());
     Ok(())
 }
 
@@ -203,18 +375,13 @@ fn instructions_that_are_refused(rt: HostRuntime) -> Result<(), Fail> {
 fn full_then_clash_at_capacity_one(rt: HostRuntime) -> Result<(), Fail> {
     let script =
         r#"{"init":[],"agents":[[[[["put",["x"],1]]],[[["put",["x"],2]]],[[["put",["x"],3],["put",["x"],4]]]]]}"#;
-    let (status, written) = run(
-        rt.alloc(),
-        &["asm_driver", "run", "--capacity", "1"],
-        script,
-    )?;
-    assert_eq!(rt; status, 0);
     let want = r#"[["x"],1]
 moves 1
 agent 0 step 1 full
 agent 0 step 2 clash ["x"] Two
 "#;
-    assert!(rt; written.as_slice() == want.as_bytes());
+    let words = ["asm_driver", "run", "--capacity", "1"];
+    assert!(rt; ends(&rt, rt.alloc(), &words, script, (0, want))?);
     Ok(())
 }
 
@@ -222,26 +389,29 @@ agent 0 step 2 clash ["x"] Two
 fn words_that_are_refused(rt: HostRuntime) -> Result<(), Fail> {
     for words in [
         ["asm_driver"].as_slice(),
-        ["asm_driver", "check"].as_slice(),
-        ["asm_driver", "run", "--journal"].as_slice(),
+        ["asm_driver", "play"].as_slice(),
+        ["asm_driver", "check", "more"].as_slice(),
+        ["asm_driver", "check", "--journal"].as_slice(),
+        ["asm_driver", "run", "--journal", "--journal"].as_slice(),
+        ["asm_driver", "run", "--journal=true"].as_slice(),
         ["asm_driver", "run", "--capacity", "0"].as_slice(),
         ["asm_driver", "run", "--capacity", "1048577"].as_slice(),
         ["asm_driver", "run", "more"].as_slice(),
     ] {
-        let (status, written) = run(rt.alloc(), words, ONE_PUT)?;
-        assert_eq!(rt; status, 2);
-        assert!(rt; written.as_slice() == b"bad words\n".as_slice());
+        assert!(rt; ends(&rt, rt.alloc(), words, ONE_PUT, (2, "bad words\n"))?);
     }
     Ok(())
 }
 
-const HELP: &str = r#"Plays the moves of an abstract state machine's agents on a proved storage
+const HELP: &str =
+    r#"Plays the steps of an abstract state machine's agents on one storage, and checks journals
 
 Usage: asm_driver <COMMAND>
 
 Commands:
-  run   Plays a script, which is read from standard input, and writes the report
-  help  Print this message or the help of the given subcommand(s)
+  run    Plays a script, which is read from standard input, and writes the report
+  check  Checks a journal, which is read from standard input, and writes whether it is legal
+  help   Print this message or the help of the given subcommand(s)
 
 Options:
   -h, --help  Print help
@@ -253,7 +423,17 @@ Usage: asm_driver run [OPTIONS]
 
 Options:
       --capacity <N>  How many moves may be fired, from 1 to 1048576 [default: 4096]
+      --journal       Writes the journal of the calls in place of the report
   -h, --help          Print help
+"#;
+
+const CHECK_HELP: &str =
+    r#"Checks a journal, which is read from standard input, and writes whether it is legal
+
+Usage: asm_driver check
+
+Options:
+  -h, --help  Print help
 "#;
 
 #[test]
@@ -263,31 +443,19 @@ fn help_is_no_mistake(rt: HostRuntime) -> Result<(), Fail> {
         (["asm_driver", "help"].as_slice(), HELP),
         (["asm_driver", "run", "--help"].as_slice(), RUN_HELP),
         (["asm_driver", "help", "run"].as_slice(), RUN_HELP),
+        (["asm_driver", "check", "--help"].as_slice(), CHECK_HELP),
     ] {
-        let (status, written) = run(rt.alloc(), words, "")?;
-        assert_eq!(rt; status, 0);
-        assert!(rt; written.as_slice() == want.as_bytes());
+        assert!(rt; ends(&rt, rt.alloc(), words, "", (0, want))?, "{want}");
     }
     Ok(())
 }
 
-/// A script of one agent with so many steps, each of which puts 1 at `x`.
-fn steps(alloc: Global, count: usize) -> Result<String, AllocError> {
-    let mut script = String::from_str(alloc, r#"{"init":[],"agents":[["#)?;
-    for i in 0..count {
-        if i > 0 {
-            script.push_str(",")?;
-        }
-        script.push_str(r#"[[["put",["x"],1]]]"#)?;
-    }
-    script.push_str("]]}")?;
-    Ok(script)
-}
+const PUT_STEP: &str = r#"[[["put",["x"],1]]]"#;
 
 #[test]
 fn capacities_that_are_asked_for(rt: HostRuntime) -> Result<(), Fail> {
     let alloc = rt.alloc();
-    let script = steps(alloc, 9)?;
+    let script = script_of(alloc, "[]", 1, 9, PUT_STEP)?;
     let want = r#"[["x"],1]
 moves 8
 agent 0 step 8 full
@@ -298,9 +466,7 @@ agent 0 step 8 full
         ["asm_driver", "run", "--capacity", "08"].as_slice(),
         ["asm_driver", "run", "--capacity=8"].as_slice(),
     ] {
-        let (status, written) = run(alloc, words, script.as_str())?;
-        assert_eq!(rt; status, 0);
-        assert!(rt; written.as_slice() == want.as_bytes());
+        assert!(rt; ends(&rt, alloc, words, script.as_str(), (0, want))?);
     }
     Ok(())
 }
@@ -308,15 +474,13 @@ agent 0 step 8 full
 #[test]
 fn the_default_capacity_is_4096(rt: HostRuntime) -> Result<(), Fail> {
     let alloc = rt.alloc();
-    let script = steps(alloc, 4098)?;
-    let (status, written) = run(alloc, &["asm_driver", "run"], script.as_str())?;
-    assert_eq!(rt; status, 0);
+    let script = script_of(alloc, "[]", 1, 4098, PUT_STEP)?;
     let want = r#"[["x"],1]
 moves 4096
 agent 0 step 4096 full
 agent 0 step 4097 full
 "#;
-    assert!(rt; written.as_slice() == want.as_bytes());
+    assert!(rt; ends(&rt, alloc, &RUN, script.as_str(), (0, want))?);
     Ok(())
 }
 
@@ -331,7 +495,10 @@ fn words_that_are_not_given(rt: HostRuntime) -> Result<(), Fail> {
         let mut input = ONE_PUT.as_bytes();
         let mut output = Vec::new(alloc);
         let words = Err(io::Error::from(kind));
-        assert_eq!(rt; run_given(alloc, words, &mut input, &mut output), status);
+        assert_eq!(rt;
+            run_given(&rt, alloc, words, &mut input, &mut output),
+            status
+        );
         assert!(rt; output.as_slice() == want.as_bytes());
     }
     Ok(())
@@ -348,87 +515,21 @@ fn scripts_that_are_refused(rt: HostRuntime) -> Result<(), Fail> {
             r#"{"init":[[["x"],1],[["x"],1]],"agents":[]}"#,
             "bad script: shape\n",
         ),
-        (
-            r#"{"init":[[["x"],null],[["x"],1]],"agents":[]}"#,
-            "bad script: shape\n",
-        ),
-        (
-            r#"{"init":[[["x"],1.0]],"agents":[]}"#,
-            "bad script: shape\n",
-        ),
-        (r#"{"init":[[[""],1]],"agents":[]}"#, "bad script: shape\n"),
-        (
-            r#"{"init":[[["1x"],1]],"agents":[]}"#,
-            "bad script: shape\n",
-        ),
-        (
-            r#"{"init":[[["x-y"],1]],"agents":[]}"#,
-            "bad script: shape\n",
-        ),
-        (
-            r#"{"init":[[["x",1,1,1,1,1,1,1,1,1],1]],"agents":[]}"#,
-            "bad script: shape\n",
-        ),
-        (
-            r#"{"init":[],"agents":[[[[["put",["x"],{"val":["y"]}]]]]]}"#,
-            "bad script: shape\n",
-        ),
-        (r#"{"init":[],"agents":[[],[]]}"#, "bad script: agents\n"),
         (r#"{"init":[],"agents":[[[]]]}"#, "bad script: blocks\n"),
-        (
-            r#"{"init":[],"agents":[[[[],[]]]]}"#,
-            "bad script: blocks\n",
-        ),
     ] {
-        let (status, written) = run(rt.alloc(), &["asm_driver", "run"], script)?;
-        assert_eq!(rt; status, 2, "{script}");
-        assert!(rt; written.as_slice() == want.as_bytes(), "{script}");
+        assert!(rt; ends(&rt, rt.alloc(), &RUN, script, (2, want))?, "{script}");
     }
-    Ok(())
-}
-
-/// A script of one step with so many puts in its block.
-fn puts(alloc: Global, count: usize) -> Result<String, AllocError> {
-    let mut script = String::from_str(alloc, r#"{"init":[],"agents":[[[["#)?;
-    for i in 0..count {
-        if i > 0 {
-            script.push_str(",")?;
-        }
-        script.push_str(r#"["put",["a"],1]"#)?;
-    }
-    script.push_str("]]]]}")?;
-    Ok(script)
-}
-
-#[test]
-fn a_block_has_at_most_4096_instructions(rt: HostRuntime) -> Result<(), Fail> {
     let alloc = rt.alloc();
-    let few = parse_script(alloc, puts(alloc, 4096)?.as_bytes());
-    assert!(rt; few.is_ok());
-    let many = parse_script(alloc, puts(alloc, 4097)?.as_bytes()).err();
-    assert!(rt; many == Some(ScriptError::BadScript(ScriptCause::Instructions)));
-    Ok(())
-}
-
-#[test]
-fn capacities(rt: HostRuntime) -> Result<(), Fail> {
-    let alloc = rt.alloc();
-    let script = parse_script(alloc, ONE_PUT.as_bytes()).or(Err("a script"))?;
-    for (capacity, is_good) in [(0, false), (1, true), (1_048_576, true), (1_048_577, false)] {
-        let played = run_script(alloc, &script, capacity);
-        assert_eq!(rt; played.is_ok(), is_good);
-        assert_eq!(rt; played.err() == Some(RunError::BadCapacity), !is_good);
-    }
-    Ok(())
-}
-
-#[test]
-fn a_played_script_is_replayed(rt: HostRuntime) -> Result<(), Fail> {
-    let alloc = rt.alloc();
-    let script = parse_script(alloc, ONE_PUT.as_bytes()).or(Err("a script"))?;
-    let played = run_script(alloc, &script, 8).or(Err("a play"))?;
-    assert_eq!(rt; played.history.moves(), 1);
-    assert_eq!(rt; replay(alloc, &standard(), &played.history)?.len(), 1);
+    let agents = script_of(alloc, "[]", 257, 0, "")?;
+    assert!(rt;
+        ends(
+            &rt,
+            alloc,
+            &RUN,
+            agents.as_str(),
+            (2, "bad script: agents\n")
+        )?
+    );
     Ok(())
 }
 
@@ -467,193 +568,5 @@ fn sets_and_bags_are_written_in_order(rt: HostRuntime) -> Result<(), Fail> {
 moves 0
 "#;
     assert_eq!(rt; report(alloc, &played)?.as_str(), want);
-    Ok(())
-}
-
-/// Gives spaces: so many bytes, and then the end, or a fault and then the end. It counts its bytes
-/// and its reads.
-#[derive(Drop)]
-struct Spaces {
-    left: usize,
-    fails: bool,
-    given: usize,
-    reads: usize,
-}
-
-impl Read for Spaces {
-    fn read(&mut self, buffer: &mut [u8]) -> io::Result<usize> {
-        self.reads = self.reads.saturating_add(1);
-        if self.left == 0 && self.fails {
-            self.fails = false;
-            return Err(io::Error::from(ErrorKind::Other));
-        }
-        let count = buffer.len().min(self.left);
-        for byte in buffer[..count].iter_mut() {
-            *byte = b' ';
-        }
-        self.left -= count;
-        self.given = self.given.saturating_add(count);
-        Ok(count)
-    }
-}
-
-#[test]
-fn inputs_that_are_refused(rt: HostRuntime) -> Result<(), Fail> {
-    let alloc = rt.alloc();
-    for (left, fails, status, given, want) in [
-        (16_777_216, false, 2, 16_777_216, "bad script: not JSON\n"),
-        (16_777_217, false, 2, 16_777_217, "input too large\n"),
-        (usize::MAX, false, 2, 16_777_217, "input too large\n"),
-        (4096, true, 4, 4096, "input fault\n"),
-    ] {
-        let mut input = Spaces {
-            left,
-            fails,
-            given: 0,
-            reads: 0,
-        };
-        let mut output = Vec::new(alloc);
-        let words = words_of(alloc, &["asm_driver", "run"])?;
-        assert_eq!(rt; run_main(alloc, words, &mut input, &mut output), status);
-        assert_eq!(rt; input.given, given);
-        assert!(rt; output.as_slice() == want.as_bytes());
-    }
-    Ok(())
-}
-
-#[test]
-fn a_failed_read_is_not_tried_again(rt: HostRuntime) -> Result<(), Fail> {
-    let alloc = rt.alloc();
-    let mut input = Spaces {
-        left: 0,
-        fails: true,
-        given: 0,
-        reads: 0,
-    };
-    let mut output = Vec::new(alloc);
-    let words = words_of(alloc, &["asm_driver", "run"])?;
-    assert_eq!(rt; run_main(alloc, words, &mut input, &mut output), 4);
-    assert_eq!(rt; input.reads, 1);
-    Ok(())
-}
-
-#[test]
-fn nothing_is_read_before_the_words_are_good(rt: HostRuntime) -> Result<(), Fail> {
-    let alloc = rt.alloc();
-    for (word, status) in [("check", 2), ("--help", 0)] {
-        let mut input = Spaces {
-            left: 1,
-            fails: true,
-            given: 0,
-            reads: 0,
-        };
-        let mut output = Vec::new(alloc);
-        let words = words_of(alloc, &["asm_driver", word])?;
-        assert_eq!(rt; run_main(alloc, words, &mut input, &mut output), status);
-        assert_eq!(rt; input.reads, 0);
-    }
-    Ok(())
-}
-
-/// Gives one byte at a time.
-#[derive(Drop)]
-struct Slow<'a> {
-    rest: &'a [u8],
-}
-
-impl Read for Slow<'_> {
-    fn read(&mut self, buffer: &mut [u8]) -> io::Result<usize> {
-        let count = buffer.len().min(1).min(self.rest.len());
-        for i in 0..count {
-            buffer[i] = self.rest[i];
-        }
-        self.rest = &self.rest[count..];
-        Ok(count)
-    }
-}
-
-#[test]
-fn an_input_of_one_byte_at_a_time(rt: HostRuntime) -> Result<(), Fail> {
-    let alloc = rt.alloc();
-    let mut input = Slow {
-        rest: ONE_PUT.as_bytes(),
-    };
-    let mut output = Vec::new(alloc);
-    let words = words_of(alloc, &["asm_driver", "run"])?;
-    assert_eq!(rt; run_main(alloc, words, &mut input, &mut output), 0);
-    let want = r#"[["x"],1]
-moves 1
-"#;
-    assert!(rt; output.as_slice() == want.as_bytes());
-    Ok(())
-}
-
-/// Takes as many bytes as it has room for. Then a write takes none, or fails; its flush may fail.
-#[derive(Drop)]
-struct Short {
-    taken: Vec<u8>,
-    room: usize,
-    fails: bool,
-    flushes: bool,
-    calls: usize,
-}
-
-impl Write for Short {
-    fn write(&mut self, bytes: &[u8]) -> io::Result<usize> {
-        self.calls = self.calls.saturating_add(1);
-        let count = bytes.len().min(self.room);
-        if count == 0 && self.fails {
-            self.fails = false;
-            self.room = usize::MAX;
-            return Err(io::Error::from(ErrorKind::Interrupted));
-        }
-        if self.taken.extend_from_slice(&bytes[..count]).is_err() {
-            return Err(io::Error::from(ErrorKind::OutOfMemory));
-        }
-        self.room -= count;
-        Ok(count)
-    }
-
-    fn flush(&mut self) -> io::Result<()> {
-        self.calls = self.calls.saturating_add(1);
-        if self.flushes {
-            Ok(())
-        } else {
-            self.flushes = true;
-            Err(io::Error::from(ErrorKind::Other))
-        }
-    }
-}
-
-#[test]
-fn outputs_that_fail(rt: HostRuntime) -> Result<(), Fail> {
-    let alloc = rt.alloc();
-    for (room, fails, flushes, calls, want) in [
-        (5, false, true, 2, r#"[["x""#),
-        (5, true, true, 2, r#"[["x""#),
-        (0, true, true, 1, ""),
-        (
-            18,
-            false,
-            false,
-            2,
-            r#"[["x"],1]
-moves 1
-"#,
-        ),
-    ] {
-        let mut input = ONE_PUT.as_bytes();
-        let mut output = Short {
-            taken: Vec::new(alloc),
-            room,
-            fails,
-            flushes,
-            calls: 0,
-        };
-        let words = words_of(alloc, &["asm_driver", "run"])?;
-        assert_eq!(rt; run_main(alloc, words, &mut input, &mut output), 4);
-        assert_eq!(rt; output.calls, calls);
-        assert!(rt; output.taken.as_slice() == want.as_bytes());
-    }
     Ok(())
 }

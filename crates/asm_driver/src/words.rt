@@ -1,13 +1,24 @@
 //! The program's words.
-ghost use Rattle.std.specs.Prelude.{◌≡◌, map, IfOk, IfErr, IfSome, IfNone, string_bytes};
-ghost use Rattle.clap.specs.Words.{FailsBy, app_of, kind_of, subcommand_of, subcommand_rows_of};
-ghost use Rattle.asm_driver.specs.Words.{program, faults, Asks, AsksFor, IsNoRun, IsMadeOf, IsRefusal, Answers};
+ghost use Rattle.std.specs.Prelude.{◌≡◌, false, map, IfOk, IfErr, IfSome, IfNone, string_bytes};
+ghost use Rattle.clap.specs.Words.{FailsBy, app_of, found_of, kind_of, rows_of, rule_of, subcommand_of};
+ghost use Rattle.clap.specs.Words.{subcommand_rows_of};
+ghost use Rattle.asm_driver.specs.Words.{capacity as capacity_rule, journal as journal_rule, program, faults};
+ghost use Rattle.asm_driver.specs.Words.{Asks, AsksRun, AsksFor, IsNoCommand, IsMadeOf, IsRefusal, Answers};
 
 use clap::error::ErrorKind;
 use clap::{Arg, ArgAction, ArgMatches, Command, Error, value_parser};
 use std::alloc::{AllocError, Global};
 
-/// Why the words ask for nothing that is run.
+/// What the words ask for.
+#[derive(Clone, Copy, Debug, PartialEq, Eq)]
+pub enum Request {
+    /// To play a script with at most so many moves, and to write the report, or the journal.
+    Run { capacity: u32, journal: bool },
+    /// To check a journal.
+    Check,
+}
+
+/// Why the words ask for nothing that is done.
 #[derive(Drop)]
 pub enum WordsError {
     /// Help was asked for: its text.
@@ -18,23 +29,45 @@ pub enum WordsError {
     Memory,
 }
 
-fn program_command<'a>(alloc: Global) -> Result<Command<'a>, AllocError>
-    ensures app { IfOk result (λ c. app_of c ≡ program) }
+fn capacity_option<'a>(alloc: Global) -> Arg<'a>
+    ensures rule { rule_of result ≡ capacity_rule }
+    ensures local { result.global ≡ false }
 {
-    let capacity = Arg::new(alloc, "capacity")
+    Arg::new(alloc, "capacity")
         .long("capacity")
         .action(ArgAction::Set)
         .value_parser(value_parser!(u32).range(1..=1_048_576))
         .default_value("4096")
         .value_name("N")
-        .help("How many moves may be fired, from 1 to 1048576");
+        .help("How many moves may be fired, from 1 to 1048576")
+}
+
+fn journal_option<'a>(alloc: Global) -> Arg<'a>
+    ensures rule { rule_of result ≡ journal_rule }
+    ensures local { result.global ≡ false }
+{
+    Arg::new(alloc, "journal")
+        .long("journal")
+        .action(ArgAction::SetTrue)
+        .help("Writes the journal of the calls in place of the report")
+}
+
+fn program_command<'a>(alloc: Global) -> Result<Command<'a>, AllocError>
+    ensures app { IfOk result (λ c. app_of c ≡ program) }
+{
     let run = Command::new(alloc, "run")
         .about("Plays a script, which is read from standard input, and writes the report")
-        .arg(capacity)?;
+        .arg(capacity_option(alloc))?
+        .arg(journal_option(alloc))?;
+    let check = Command::new(alloc, "check").about(
+        "Checks a journal, which is read from standard input, and writes whether it is legal",
+    );
     let named = Command::new(alloc, "asm_driver")
-        .about("Plays the moves of an abstract state machine's agents on a proved storage")
+        .about(
+            "Plays the steps of an abstract state machine's agents on one storage, and checks journals",
+        )
         .subcommand_required(true);
-    named.subcommand(run)
+    named.subcommand(run)?.subcommand(check)
 }
 
 fn parse<'a>(alloc: Global, words: &'a [String]) -> Result<ArgMatches<'a>, Error>
@@ -45,16 +78,29 @@ fn parse<'a>(alloc: Global, words: &'a [String]) -> Result<ArgMatches<'a>, Error
     command.try_get_matches_from(words)
 }
 
-// The capacity, where the command is `run`.
-fn asked(matches: &ArgMatches<'_>) -> Option<u32>
-    ensures some { IfSome result (Asks (subcommand_rows_of matches.now)) }
-    ensures none { IfNone result (IsNoRun (subcommand_rows_of matches.now)) }
+/// What the options of `run` ask for.
+fn run_asked(options: &ArgMatches<'_>) -> Request
+    ensures { AsksRun (rows_of (found_of options.now)) result }
 {
-    match matches.subcommand() {
-        Some((name, run)) if name == "run" => {
-            Some(run.get_one::<u32>("capacity").unwrap_or(4096))
-        }
-        _ => None,
+    Request::Run {
+        capacity: options.get_one::<u32>("capacity").unwrap_or(4096),
+        journal: options.get_flag("journal"),
+    }
+}
+
+/// What the command asks for, where it is one of the program's.
+fn asked(matches: &ArgMatches<'_>) -> Option<Request>
+    ensures some { IfSome result (Asks (subcommand_rows_of matches.now)) }
+    ensures none { IfNone result (IsNoCommand (subcommand_rows_of matches.now)) }
+{
+    let (name, options) = matches.subcommand()?;
+    if name == "run" {
+        return Some(run_asked(options));
+    }
+    if name == "check" {
+        Some(Request::Check)
+    } else {
+        None
     }
 }
 
@@ -72,11 +118,11 @@ fn refusal(alloc: Global, error: &Error) -> WordsError
     }
 }
 
-/// The capacity that the words ask for.
+/// What the words ask for. They begin with the program's name.
 ///
 /// Words that `clap` takes are refused for want of memory alone. `Help` comes where they ask for
-/// help, and `Bad` where they are not the program's name, `run` and its option.
-pub fn read_words(alloc: Global, words: &[String]) -> Result<u32, WordsError>
+/// help, and `Bad` where they are not the program's name, a command and its options.
+pub fn read_words(alloc: Global, words: &[String]) -> Result<Request, WordsError>
     ensures asked { IfOk result (AsksFor (map string_bytes words.now)) }
     ensures refused { IfErr result (IsRefusal (map string_bytes words.now)) }
     ensures answers { Answers (map string_bytes words.now) result }

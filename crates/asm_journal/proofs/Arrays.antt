@@ -4,7 +4,7 @@ use Rattle.serde_json.specs.Data.{Data, null, boolean, number, string, array, ob
 use Rattle.serde_json.specs.Find.{as_array, as_str}
 use Rattle.serde_json.specs.View.{view, items_of, items_view}
 use Rattle.serde_json.specs.declared.value.Value.{Value}
-use Rattle.asm_journal.specs.Shape.{AreForms, IsListForm, pair_of, one_of, two_of}
+use Rattle.asm_journal.specs.Shape.{AreForms, IsListForm, pair_of, one_of}
 
 pub array_is : (d : Data) (ds : Items) → Some ds ≡ as_array d → d ≡ array ds
 array_is null ds e = absurd cc

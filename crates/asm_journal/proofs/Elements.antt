@@ -1,6 +1,6 @@
 -- Elements and locations: what reading them finds, and that a value is the form of one at most.
 use Rattle.std.proofs.Common.{◌≡◌, ◌<◌, ◌≤◌, ℕ, ℤ, pos, negsuc, Bool, true, false, List, [], ◌∷◌, length, map, Result, Ok, Err, refl, sym, ap, ap₂, subst, ◌∙◌, true≢false, arith}
-use Rattle.std.specs.Prelude.{◌↔◌, All, IfOk, IsTrue}
+use Rattle.std.specs.Prelude.{◌↔◌, IfOk, IsTrue}
 use Rattle.std.specs.Result.{result_ok}
 use Rattle.std.specs.List.{AllByRecursion}
 use Rattle.std.proofs.lemmas.List.Elements.{All-from_recursion, recursion_from_All}

@@ -2,11 +2,11 @@
 use Rattle.std.proofs.Common.{codes, ◌≡◌, ℕ, zero, suc, List, [], ◌∷◌, Option, Some, None, refl, sym, ap, ap₂, subst, ◌∙◌, arith}
 use Rattle.std.specs.Prelude.{option_map, if◌then◌else◌}
 use Rattle.std.specs.Str.{bytes_eq}
-use Rattle.serde_json.specs.Data.{Data, string, number, unsigned, Items}
+use Rattle.serde_json.specs.Data.{Data, string, Items}
 use Rattle.serde_json.specs.View.{items_of}
 use Rattle.asm_element.specs.Place.{Place}
 use Rattle.asm_element.specs.declared.value.Value.{Value}
-use Rattle.asm_update.specs.Action.{kind_number, amount_of, content_of}
+use Rattle.asm_update.specs.Action.{amount_of, content_of}
 use Rattle.asm_update.specs.Move.{Move}
 use Rattle.asm_update.specs.declared.action.Action.{Action}
 use Rattle.asm_update.specs.declared.action.Action.TheVariants.{Regular, SetAdd, SetRemove, BagAdd, BagRemove}
@@ -22,11 +22,10 @@ use Rattle.asm_storage.specs.declared.call.Reply.TheVariants as reply
 use Rattle.asm_storage.specs.declared.call.Answer.{Answer}
 use Rattle.asm_storage.specs.declared.call.Answer.TheVariants as answer
 use Rattle.asm_storage.specs.declared.history.Event.{Event}
-use Rattle.asm_journal.specs.Shape.{Reads, IsOnly, one_of, two_of, three_of, number_json_of, IsNumberForm, IsListForm}
+use Rattle.asm_journal.specs.Shape.{Reads, IsOnly, one_of, two_of, three_of, IsNumberForm, IsListForm}
 use Rattle.asm_journal.specs.Element.{IsElementForm, IsLocationForm}
-use Rattle.asm_journal.specs.Set.{IsCounted}
 use Rattle.asm_journal.specs.Value.{IsValueForm}
-use Rattle.asm_journal.specs.Instruction.{word_of, AreOperands, IsActionForm, instruction_of, IsInstructionForm}
+use Rattle.asm_journal.specs.Instruction.{AreOperands, IsActionForm, instruction_of, IsInstructionForm}
 use Rattle.asm_journal.specs.Event.{word_of_cause, IsNamedForm, IsMoveForm, IsCallForm, IsCauseForm, IsClashForm, IsReplyForm, IsAnswerForm, IsEventForm}
 use Rattle.asm_journal.proofs.Texts.{measure}
 use Rattle.asm_journal.proofs.Arrays.{IsOnce, same_pair, same_one, same_key, same_number, list_once}

@@ -1,11 +1,11 @@
 -- Legal histories, event by event, and the check of one event.
-use Rattle.std.proofs.Common.{◌≡◌, ◌≢◌, ◌↔◌, ◌<◌, ◌≤◌, ◌+◌, ◌-◌, ℕ, suc, Bool, true, false, List, [], ◌∷◌, ◌++◌, length, get_or, take, drop, map, Option, Some, None, Ok, nat_lt, cond, refl, sym, ap, ap₂, subst, ◌∙◌, append_assoc, append-nil, arith}
+use Rattle.std.proofs.Common.{◌≡◌, ◌↔◌, ◌<◌, ◌+◌, ℕ, suc, Bool, true, false, List, [], ◌∷◌, ◌++◌, length, get_or, take, drop, map, Option, Some, None, Ok, nat_lt, cond, refl, sym, ap, ap₂, subst, ◌∙◌, append_assoc, append-nil, arith}
 use Rattle.std.specs.Prelude.{IsTrue}
 use Rattle.std.specs.List.{cons_option}
 use Rattle.std.proofs.Math.Seq.{split_at}
 use Rattle.std.proofs.lemmas.Bool.{true≢false}
 use Rattle.std.proofs.lemmas.Bool.Decides.{nat_tests}
-use Rattle.std.proofs.lemmas.List.{take_more, take_all, length-take-le}
+use Rattle.std.proofs.lemmas.List.{take_more, length-take-le}
 use Rattle.std.proofs.lemmas.List.Elements.{filter_map-append}
 use Rattle.asm_element.specs.Place.{Place}
 use Rattle.asm_element.specs.declared.value.Value.{Value}
@@ -19,7 +19,7 @@ use Rattle.asm_state.specs.declared.named.Named.{Named}
 use Rattle.asm_state.specs.declared.verdict.Verdict.{Verdict}
 use Rattle.asm_state.specs.declared.verdict.Verdict.TheVariants as verdict
 use Rattle.asm_state.proofs.Judged.{same_old}
-use Rattle.asm_storage.specs.Machine.{Machine, state_of, reply_to, taken_reply, firing_reply, fire_reply}
+use Rattle.asm_storage.specs.Machine.{Machine, state_of, reply_to, firing_reply, fire_reply}
 use Rattle.asm_storage.specs.History.{move_of, moves, IsLegal}
 use Rattle.asm_storage.specs.declared.call.Call.{Call}
 use Rattle.asm_storage.specs.declared.call.Call.TheVariants as call
@@ -28,7 +28,7 @@ use Rattle.asm_storage.specs.declared.call.Reply.TheVariants as reply
 use Rattle.asm_storage.specs.declared.call.Answer.{Answer}
 use Rattle.asm_storage.specs.declared.call.Answer.TheVariants as answer
 use Rattle.asm_storage.specs.declared.history.Event.{Event}
-use Rattle.asm_journal.specs.Check.{machine, IsFirstWrong, verdict_reply, is_fired, moves_with, IsStep}
+use Rattle.asm_journal.specs.Check.{machine, IsFirstWrong, verdict_reply, is_fired, IsStep}
 use Rattle.asm_journal.proofs.Moves.{moves-push}
 
 -- ---- legal from some moves on

@@ -14,3 +14,8 @@ pub mod Floats
 pub mod Once
 pub mod Refused
 pub mod Lines
+pub mod Clean
+pub mod Kept
+pub mod Good
+pub mod Back
+pub mod RoundTrip

@@ -1,8 +1,10 @@
 -- A text that is refused reads as no history, and has one first fault.
-use Rattle.std.proofs.Common.{◌≡◌, ◌≢◌, ◌<◌, ◌+◌, ℕ, List, [], ◌∷◌, ◌++◌, length, Some, Result, Ok, Err, refl, sym, ap, subst, ◌∙◌, inl, inr, arith}
+use Rattle.std.proofs.Common.{◌≡◌, ◌≢◌, ◌<◌, ◌+◌, ◌⊎◌, ℕ, List, [], ◌∷◌, ◌++◌, length, Result, Ok, Err, refl, sym}
+use Rattle.std.proofs.Common.{ap, subst, ◌∙◌, inl, inr, arith}
 use Rattle.std.specs.Prelude.{IfOk, IfErr}
+use Rattle.std.proofs.lemmas.Bool.{cases_lt}
 use Rattle.std.proofs.lemmas.List.Elements.{recursion_from_All}
-use Rattle.serde_json.specs.Data.{Data, unsigned, number}
+use Rattle.serde_json.specs.Data.{Data, unsigned}
 use Rattle.asm_storage.specs.declared.history.Event.{Event}
 use Rattle.asm_storage.specs.declared.history.History.{History}
 use Rattle.asm_journal.specs.declared.fault.JournalError.{JournalError}
@@ -11,7 +13,8 @@ use Rattle.asm_journal.specs.Event.{IsEventBelow}
 use Rattle.asm_journal.specs.Text.{header_with}
 use Rattle.asm_journal.specs.Shape.{number_json_of}
 use Rattle.asm_journal.specs.Reading.{HasNoLineFeed, BeginsWithLine, HasLine, IsJson, IsHeader, HasEvents, ReadsAs}
-use Rattle.asm_journal.specs.Fault.{HasOtherVersion, BreaksLine, BreaksHeader, BreaksEvent, BreaksBehind, IsRefused, IsAnswer}
+use Rattle.asm_journal.specs.Fault.{HasOtherVersion, BreaksLine, BreaksHeader, BreaksEvent, BreaksBehind, IsRefused}
+use Rattle.asm_journal.specs.Fault.{IsAnswer}
 use Rattle.asm_journal.proofs.Once.{NoFeed, same_split, line_once, header_once, history_once}
 
 no_feed_inside : (a r : List ℕ) → NoFeed (a ++ 10 ∷ r) → ⊥
@@ -27,14 +30,17 @@ ended : (text : List ℕ) (d : Data) (r : List ℕ) → HasLine text d r → Has
 ended text d r h none = no_feed_inside h.0 r (subst NoFeed h.1.0 (recursion_from_All (λ b. b ≢ 10) text none))
 
 -- a line that is JSON doesn't break
-not_broken : (k : ℕ) (text : List ℕ) (d : Data) (r : List ℕ) (e : JournalError) → HasLine text d r → e ≢ Memory → BreaksLine k text e → ⊥
+not_broken : (k : ℕ) (text : List ℕ) (d : Data) (r : List ℕ) (e : JournalError) → HasLine text d r → e ≢ Memory
+    → BreaksLine k text e → ⊥
 not_broken k text d r Cut h other (inl none) = some_byte h.0 r (sym h.1.0 ∙ none)
 not_broken k text d r Cut h other (inr open_line) = ended text d r h open_line.0
 not_broken k text d r (NotJson n) h other b = not_json b.2.1
   where
     not_json : BeginsWithLine text b.2.0 → ⊥
     not_json (inl rest) =
-        let same = same_split h.0 b.2.0 r rest.0 (recursion_from_All (λ x. x ≢ 10) h.0 h.1.1) (recursion_from_All (λ x. x ≢ 10) b.2.0 rest.1.1) (sym h.1.0 ∙ rest.1.0) in
+        let first = recursion_from_All (λ x. x ≢ 10) h.0 h.1.1 in
+        let second = recursion_from_All (λ x. x ≢ 10) b.2.0 rest.1.1 in
+        let same = same_split h.0 b.2.0 r rest.0 first second (sym h.1.0 ∙ rest.1.0) in
         b.2.2 d (subst (λ x. IsJson x d) same.0 h.2)
     not_json (inr whole) = ended text d r h whole.1
 not_broken k text d r (Shape n) h other b = b
@@ -55,7 +61,8 @@ header_stands text h (Shape n) other p b =
     b.1.4 _ _ _ _ (subst (IsHeader h.agents h.capacity (length h.events) h.init) (sym same.0) p.3)
 header_stands text h Memory other p b = other refl
 
-event_stands : (agents k : ℕ) (text : List ℕ) (x : Event) (d : Data) (r : List ℕ) (e : JournalError) → e ≢ Memory → HasLine text d r → IsEventBelow agents x d → BreaksEvent agents k text e → ⊥
+event_stands : (agents k : ℕ) (text : List ℕ) (x : Event) (d : Data) (r : List ℕ) (e : JournalError) → e ≢ Memory
+    → HasLine text d r → IsEventBelow agents x d → BreaksEvent agents k text e → ⊥
 event_stands agents k text x d r Cut other h is b = not_broken k text d r Cut h other b
 event_stands agents k text x d r (NotJson n) other h is b = not_broken k text d r (NotJson n) h other b
 event_stands agents k text x d r Version other h is b = b
@@ -65,7 +72,8 @@ event_stands agents k text x d r (Shape n) other h is b =
 event_stands agents k text x d r Memory other h is b = other refl
 
 -- the event that stands behind fewer ones
-next_event : (agents : ℕ) (text : List ℕ) (es fs : List Event) (left end : List ℕ) → HasEvents agents text es left → HasEvents agents text fs end → length es < length fs
+next_event : (agents : ℕ) (text : List ℕ) (es fs : List Event) (left end : List ℕ) → HasEvents agents text es left
+    → HasEvents agents text fs end → length es < length fs
     → (x : Event) × (d : Data) × (r : List ℕ) × HasLine left d r × IsEventBelow agents x d
 next_event agents text es [] left end h k less = absurd (omega arith)
 next_event agents text [] (f ∷ fs) left end h k less = (f, k.0, k.1, subst (λ t. HasLine t k.0 k.1) h k.2, k.3)
@@ -73,7 +81,8 @@ next_event agents text (e ∷ es) (f ∷ fs) left end h k less =
     let same = line_once text k.0 h.0 k.1 h.1 k.2 h.2 in
     next_event agents h.1 es fs left end h.4 (subst (λ t. HasEvents agents t fs end) same.1 k.4) (omega arith)
 
-same_left : (agents : ℕ) (text : List ℕ) (es fs : List Event) (left end : List ℕ) → HasEvents agents text es left → HasEvents agents text fs end → length es ≡ length fs → left ≡ end
+same_left : (agents : ℕ) (text : List ℕ) (es fs : List Event) (left end : List ℕ) → HasEvents agents text es left
+    → HasEvents agents text fs end → length es ≡ length fs → left ≡ end
 same_left agents text [] [] left end h k same = sym h ∙ k
 same_left agents text [] (f ∷ fs) left end h k same = absurd (omega arith)
 same_left agents text (e ∷ es) [] left end h k same = absurd (omega arith)
@@ -93,12 +102,14 @@ not_both text h e other (inr b) p =
     elim b.11 [
       | inl less ↦
           let next = next_event h.agents b.1 b.8 h.events b.9 [] found read (omega (arith, less.0, events)) in
-          event_stands h.agents (length b.8 + 2) b.9 next.0 next.1 next.2 e other next.3 next.4 (subst (λ a. BreaksEvent a (length b.8 + 2) b.9 e) agents less.1)
+          let broken = subst (λ a. BreaksEvent a (length b.8 + 2) b.9 e) agents less.1 in
+          event_stands h.agents (length b.8 + 2) b.9 next.0 next.1 next.2 e other next.3 next.4 broken
       | inr over ↦ over.1 (same_left h.agents b.1 b.8 h.events b.9 [] found read (over.0 ∙ events))
     ]
 
 -- what reads as a history is answered so, unless memory runs out
-pub answered : (text : List ℕ) (r : Result History JournalError) → IfOk r (ReadsAs text) → IfErr r (IsRefused text) → (h : History) → ReadsAs text h → IsAnswer h r
+pub answered : (text : List ℕ) (r : Result History JournalError) → IfOk r (ReadsAs text) → IfErr r (IsRefused text)
+    → (h : History) → ReadsAs text h → IsAnswer h r
 answered text (Ok g) ok err h p = history_once text g h ok p
 answered text (Err Cut) ok err h p = absurd (not_both text h Cut (λ e. cc) err p)
 answered text (Err (NotJson n)) ok err h p = absurd (not_both text h (NotJson n) (λ e. cc) err p)
@@ -108,13 +119,15 @@ answered text (Err Memory) ok err h p = refl
 
 -- ---- one first fault
 
-open_line_or_json : (text : List ℕ) → HasNoLineFeed text → ((d : Data) × IsJson text d) → ((body : List ℕ) × BeginsWithLine text body × ((d : Data) → IsJson body d → ⊥)) → ⊥
+open_line_or_json : (text : List ℕ) → HasNoLineFeed text → ((d : Data) × IsJson text d)
+    → ((body : List ℕ) × BeginsWithLine text body × ((d : Data) → IsJson body d → ⊥)) → ⊥
 open_line_or_json text none json (body, begins, no_json) = by_line begins where
   by_line : BeginsWithLine text body → ⊥
   by_line (inl rest) = no_feed_inside body rest.0 (subst NoFeed rest.1.0 (recursion_from_All (λ b. b ≢ 10) text none))
   by_line (inr whole) = no_json json.0 (subst (λ t. IsJson t json.0) (sym whole.0) json.1)
 
-one_line_fault : (k : ℕ) (text : List ℕ) (e f : JournalError) → e ≢ Memory → f ≢ Memory → BreaksLine k text e → BreaksLine k text f → e ≡ f
+one_line_fault : (k : ℕ) (text : List ℕ) (e f : JournalError) → e ≢ Memory → f ≢ Memory → BreaksLine k text e
+    → BreaksLine k text f → e ≡ f
 one_line_fault k text Cut Cut p q b c = refl
 one_line_fault k text Cut (NotJson n) p q (inl none) c = absurd (c.1 none)
 one_line_fault k text Cut (NotJson n) p q (inr cut) c = absurd (open_line_or_json text cut.0 cut.2 c.2)
@@ -129,7 +142,8 @@ one_line_fault k text e Version p q b c = absurd c
 one_line_fault k text e Memory p q b c = absurd (q refl)
 
 -- a line that is whole has no fault of a line
-one_header_fault : (text : List ℕ) (e f : JournalError) → e ≢ Memory → f ≢ Memory → BreaksHeader text e → BreaksHeader text f → e ≡ f
+one_header_fault : (text : List ℕ) (e f : JournalError) → e ≢ Memory → f ≢ Memory → BreaksHeader text e
+    → BreaksHeader text f → e ≡ f
 one_header_fault text Version Version p q b c = refl
 one_header_fault text Version (Shape m) p q b c =
     let same = line_once text b.0 c.1.0 b.1 c.1.1 b.2 c.1.2 in
@@ -156,12 +170,15 @@ one_header_fault text (Shape n) Memory p q b c = absurd (q refl)
 one_header_fault text Cut Memory p q b c = absurd (q refl)
 one_header_fault text (NotJson n) Memory p q b c = absurd (q refl)
 
-one_event_fault : (agents k : ℕ) (text : List ℕ) (e f : JournalError) → e ≢ Memory → f ≢ Memory → BreaksEvent agents k text e → BreaksEvent agents k text f → e ≡ f
+one_event_fault : (agents k : ℕ) (text : List ℕ) (e f : JournalError) → e ≢ Memory → f ≢ Memory
+    → BreaksEvent agents k text e → BreaksEvent agents k text f → e ≡ f
 one_event_fault agents k text (Shape n) (Shape m) p q b c = ap Shape (b.0 ∙ sym c.0)
 one_event_fault agents k text (Shape n) Cut p q b c = absurd (not_broken k text b.1.0 b.1.1 Cut b.1.2 q c)
-one_event_fault agents k text (Shape n) (NotJson m) p q b c = absurd (not_broken k text b.1.0 b.1.1 (NotJson m) b.1.2 q c)
+one_event_fault agents k text (Shape n) (NotJson m) p q b c =
+    absurd (not_broken k text b.1.0 b.1.1 (NotJson m) b.1.2 q c)
 one_event_fault agents k text Cut (Shape m) p q b c = absurd (not_broken k text c.1.0 c.1.1 Cut c.1.2 p b)
-one_event_fault agents k text (NotJson n) (Shape m) p q b c = absurd (not_broken k text c.1.0 c.1.1 (NotJson n) c.1.2 p b)
+one_event_fault agents k text (NotJson n) (Shape m) p q b c =
+    absurd (not_broken k text c.1.0 c.1.1 (NotJson n) c.1.2 p b)
 one_event_fault agents k text Cut Cut p q b c = refl
 one_event_fault agents k text Cut (NotJson m) p q b c = one_line_fault k text Cut (NotJson m) p q b c
 one_event_fault agents k text (NotJson n) Cut p q b c = one_line_fault k text (NotJson n) Cut p q b c
@@ -176,7 +193,8 @@ one_event_fault agents k text (NotJson n) Version p q b c = absurd c
 one_event_fault agents k text (NotJson n) Memory p q b c = absurd (q refl)
 
 -- a header that stands doesn't break
-header_not_broken : (text : List ℕ) (e : JournalError) → e ≢ Memory → BreaksBehind text e → (f : JournalError) → f ≢ Memory → BreaksHeader text f → ⊥
+header_not_broken : (text : List ℕ) (e : JournalError) → e ≢ Memory → BreaksBehind text e → (f : JournalError)
+    → f ≢ Memory → BreaksHeader text f → ⊥
 header_not_broken text e p b Cut q c = not_broken 1 text b.0 b.1 Cut b.6 q c
 header_not_broken text e p b (NotJson n) q c = not_broken 1 text b.0 b.1 (NotJson n) b.6 q c
 header_not_broken text e p b Version q c =
@@ -186,3 +204,50 @@ header_not_broken text e p b (Shape n) q c =
     let same = line_once text c.1.0 b.0 c.1.1 b.1 c.1.2 b.6 in
     c.1.4 _ _ _ _ (subst (IsHeader b.2 b.3 b.4 b.5) (sym same.0) b.7)
 header_not_broken text e p b Memory q c = q refl
+
+-- behind these events the next line is at fault, or all events are there and a byte is left
+abbrev StopsBehind : ℕ → ℕ → List Event → List ℕ → JournalError → Type 0
+StopsBehind agents count es left e =
+    ((length es < count) × BreaksEvent agents (length es + 2) left e)
+    ⊎ ((length es ≡ count) × (left ≢ []) × (e ≡ Shape (count + 2)))
+
+-- what stands behind one header and isn't read: of two first faults the events before each are the same
+one_behind : (agents count : ℕ) (text : List ℕ) (e f : JournalError) (es fs : List Event) (left end : List ℕ)
+    → e ≢ Memory → f ≢ Memory
+    → HasEvents agents text es left → HasEvents agents text fs end
+    → StopsBehind agents count es left e → StopsBehind agents count fs end f → e ≡ f
+one_behind agents count text e f es fs left end p q h k (inl b) (inl c) = elim (cases_lt (length es) (length fs)) [
+  | inl less ↦
+      let next = next_event agents text es fs left end h k less in
+      absurd (event_stands agents (length es + 2) left next.0 next.1 next.2 e p next.3 next.4 b.1)
+  | inr past ↦ elim (cases_lt (length fs) (length es)) [
+    | inl less ↦
+        let next = next_event agents text fs es end left k h less in
+        absurd (event_stands agents (length fs + 2) end next.0 next.1 next.2 f q next.3 next.4 c.1)
+    | inr other ↦
+        let same : length es ≡ length fs = omega (arith, past, other) in
+        let left_same = same_left agents text es fs left end h k same in
+        let here = subst (λ t. BreaksEvent agents (length es + 2) t e) left_same b.1 in
+        one_event_fault agents (length fs + 2) end e f p q (subst (λ n. BreaksEvent agents (n + 2) end e) same here) c.1
+  ]
+]
+one_behind agents count text e f es fs left end p q h k (inl b) (inr c) =
+    let next = next_event agents text es fs left end h k (omega (arith, b.0, c.0)) in
+    absurd (event_stands agents (length es + 2) left next.0 next.1 next.2 e p next.3 next.4 b.1)
+one_behind agents count text e f es fs left end p q h k (inr b) (inl c) =
+    let next = next_event agents text fs es end left k h (omega (arith, b.0, c.0)) in
+    absurd (event_stands agents (length fs + 2) end next.0 next.1 next.2 f q next.3 next.4 c.1)
+one_behind agents count text e f es fs left end p q h k (inr b) (inr c) = b.2 ∙ sym c.2
+
+pub one_fault : (text : List ℕ) (e f : JournalError) → e ≢ Memory → f ≢ Memory → IsRefused text e → IsRefused text f
+    → e ≡ f
+one_fault text e f p q (inl b) (inl c) = one_header_fault text e f p q b c
+one_fault text e f p q (inl b) (inr c) = absurd (header_not_broken text f q c e p b)
+one_fault text e f p q (inr b) (inl c) = absurd (header_not_broken text e p b f q c)
+one_fault text e f p q (inr b) (inr c) =
+    let same = line_once text c.0 b.0 c.1 b.1 c.6 b.6 in
+    let parts = header_once _ _ _ _ _ _ c.5 b.5 b.0 (subst (IsHeader c.2 c.3 c.4 c.5) same.0 c.7) b.7 in
+    let found = subst (λ t. HasEvents b.2 t c.8 c.9) same.1 (subst (λ a. HasEvents a c.1 c.8 c.9) parts.0 c.10) in
+    let agents = subst (λ a. StopsBehind a c.4 c.8 c.9 f) parts.0 c.11 in
+    let stops = subst (λ n. StopsBehind b.2 n c.8 c.9 f) parts.2 agents in
+    one_behind b.2 b.4 b.1 e f b.8 c.8 b.9 c.9 p q b.10 found b.11 stops

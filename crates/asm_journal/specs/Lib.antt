@@ -6,6 +6,8 @@ pub mod Instruction
 pub mod Event
 pub mod Check
 pub mod Text
+pub mod Proper
 pub mod Reading
 pub mod Fault
+pub mod Laws
 pub mod Output

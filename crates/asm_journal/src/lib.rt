@@ -9,6 +9,7 @@ mod element_form;
 mod event_form;
 mod fault;
 mod instruction_form;
+pub mod laws;
 mod line;
 mod listed;
 mod number_form;
@@ -39,3 +40,7 @@ pub use writing::to_text;
 mod check_tests;
 #[cfg(test)]
 mod form_tests;
+#[cfg(test)]
+mod journal_tests;
+#[cfg(test)]
+mod output_tests;

@@ -9,17 +9,27 @@
 mod agent;
 mod call;
 mod closing;
+#[cfg(test)]
+mod contest;
 mod copying;
 mod error;
 mod fire;
 mod history;
+#[cfg(test)]
+mod limits;
 mod merging;
 mod missing;
 mod part;
 mod read;
 mod reading;
 mod receipt;
+#[cfg(test)]
+mod rows;
 mod storage;
+#[cfg(test)]
+mod tests;
+#[cfg(test)]
+mod thread_tests;
 
 pub use agent::{Agent, Mark};
 pub use call::{Answer, Call, Reply};

@@ -2,7 +2,7 @@ use Rattle.std.proofs.Common.{◌≡◌, ◌++◌, ◌∷◌, [], string_bytes, 
 use Rattle.serde_json.specs.Written.{compact_text}
 use Rattle.asm_element.specs.Place.{Place}
 use Rattle.asm_element.specs.declared.value.Value.{Value}
-use Rattle.asm_driver.specs.Form.{pair_json_of}
+use Rattle.asm_journal.specs.Value.{pair_json_of}
 use Rattle.asm_driver.specs.Report.{entry_line}
 use Rattle.asm_driver.proofs.Lines.{left_more}
 use Rattle.asm_driver.proofs.Floats.{pair_no_float}

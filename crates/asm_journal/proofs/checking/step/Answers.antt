@@ -1,4 +1,4 @@
-use Rattle.std.proofs.Common.{◌≡◌, sym, ap, subst, ◌∙◌, true}
+use Rattle.std.proofs.Common.{sym, ap, subst, ◌∙◌, true}
 use Rattle.asm_storage.specs.declared.call.Call.TheVariants as call
 use Rattle.asm_storage.specs.declared.call.Answer.TheVariants as answer
 use Rattle.asm_journal.specs.Check.{verdict_reply, IsStep}

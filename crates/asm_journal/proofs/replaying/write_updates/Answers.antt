@@ -1,5 +1,4 @@
-use Rattle.std.proofs.Common.{◌≡◌, sym, ap, ◌∙◌}
-use Rattle.asm_update.specs.State.{write}
+use Rattle.std.proofs.Common.{sym, ap, ◌∙◌}
 use Rattle.asm_journal.proofs.Moves.{written_with, written_updates}
 use Rattle.asm_journal.proofs.replaying.write_updates.Goals as goal
 

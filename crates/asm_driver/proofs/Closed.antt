@@ -1,0 +1,156 @@
+-- Closing the agents that played a script: their history is a play of it.
+use Rattle.std.proofs.Common.{◌≡◌, ◌≢◌, ℕ, ◌+◌, ◌<◌, ◌≤◌, max, All, List, [], ◌∷◌, ◌++◌, length, map, get_or}
+use Rattle.std.proofs.Common.{slice_index, arith, refl, ap, sym, ◌∙◌, subst}
+use Rattle.std.proofs.lemmas.List.Elements.{All-nil, All-cons, All-head, All-tail}
+use Rattle.std.proofs.lemmas.List.FromFn.{length-range_with_len, get_or-range_with_len}
+use Rattle.std.specs.List.{range_with_len}
+use Rattle.std.specs.List.Sorted.{IsStrictlyIncreasing}
+use mathlib.Core.List.{IsPrefix}
+use Rattle.asm_update.specs.Aggregator.{Meaning}
+use Rattle.asm_update.specs.Fire.{Part}
+use Rattle.asm_storage.specs.Agents.{AgentView, IsHistoryOf, event_of, id_bound, ids, moves_seen}
+use Rattle.asm_storage.specs.History.{moves, own, IsLegal}
+use Rattle.asm_storage.specs.Machine.{Machine}
+use Rattle.asm_storage.specs.Storage.{StorageView, AgentAt, IsOf, accounts, at_start}
+use Rattle.asm_storage.specs.Storage as storage
+use Rattle.asm_storage.specs.declared.history.Event.{Event}
+use Rattle.asm_driver.proofs.Parts.{are_told_more}
+use Rattle.asm_driver.proofs.ProperMoves.{proper_first}
+use Rattle.asm_driver.specs.Plan.{Plan}
+use Rattle.asm_driver.specs.Play as play
+use Rattle.asm_driver.specs.Play.{AreTurns, IsPlayOf}
+use Rattle.asm_driver.specs.Plays.{AreProper, Plays}
+use Rattle.asm_driver.specs.Standard.{standard_part}
+use Rattle.asm_driver.specs.Told.{AreTold}
+use Rattle.asm_driver.specs.Turns.{ArePlayed}
+use Rattle.asm_driver.specs.declared.step.Step.{Step}
+use Rattle.asm_driver.specs.declared.outcome.Outcome.{Outcome}
+use Rattle.asm_driver.specs.declared.outcome.Played.{Played}
+
+module _ {A : Type 0} (meaning : A → Meaning) (part : Part) (s : StorageView A) where
+  -- each of them is of the storage
+  pub of_storage : (id : ℕ) (sss : List (List Step)) (agents : List (AgentAt A)) (oss : List (List Outcome)) →
+      ArePlayed meaning part s id sss agents oss → All (IsOf s) agents
+  of_storage id [] [] [] played = All-nil (IsOf s)
+  of_storage id (ss ∷ sss) (a ∷ agents) (os ∷ oss) played =
+      All-cons (IsOf s) a agents played.0.same.storage (of_storage (id + 1) sss agents oss played.1)
+  of_storage id [] [] (os ∷ oss) played = absurd played
+  of_storage id [] (a ∷ agents) oss played = absurd played
+  of_storage id (ss ∷ sss) [] oss played = absurd played
+  of_storage id (ss ∷ sss) (a ∷ agents) [] played = absurd played
+
+  -- they have the numbers from id up
+  pub ids_are : (id : ℕ) (sss : List (List Step)) (agents : List (AgentAt A)) (oss : List (List Outcome)) →
+      ArePlayed meaning part s id sss agents oss → ids (accounts agents) ≡ range_with_len id (length sss)
+  ids_are id [] [] [] played = refl
+  ids_are id (ss ∷ sss) (a ∷ agents) (os ∷ oss) played =
+      let mine : a.account.id ≡ id = played.0.same.id in
+      let rest = ids_are (id + 1) sss agents oss played.1 in
+      λ i. mine i ∷ rest i
+  ids_are id [] [] (os ∷ oss) played = absurd played
+  ids_are id [] (a ∷ agents) oss played = absurd played
+  ids_are id (ss ∷ sss) [] oss played = absurd played
+  ids_are id (ss ∷ sss) (a ∷ agents) [] played = absurd played
+
+  -- one more than the greatest is how many there are
+  pub bound_is : (id : ℕ) (sss : List (List Step)) (agents : List (AgentAt A)) (oss : List (List Outcome)) →
+      ArePlayed meaning part s id sss agents oss → max id (id_bound (accounts agents)) ≡ id + length sss
+  bound_is id [] [] [] played = omega arith
+  bound_is id (ss ∷ sss) (a ∷ agents) (os ∷ oss) played =
+      let mine : a.account.id ≡ id = played.0.same.id in
+      let rest = bound_is (id + 1) sss agents oss played.1 in
+      omega (arith, mine, rest)
+  bound_is id [] [] (os ∷ oss) played = absurd played
+  bound_is id [] (a ∷ agents) oss played = absurd played
+  bound_is id (ss ∷ sss) [] oss played = absurd played
+  bound_is id (ss ∷ sss) (a ∷ agents) [] played = absurd played
+
+  -- none of them has a number from there on
+  pub none_beyond : (id : ℕ) (sss : List (List Step)) (agents : List (AgentAt A)) (oss : List (List Outcome)) (i : ℕ) →
+      ArePlayed meaning part s id sss agents oss → id + length sss ≤ i → All (λ a. a.id ≢ i) (accounts agents)
+  none_beyond id [] [] [] i played le = All-nil (λ (a : AgentView). a.id ≢ i)
+  none_beyond id (ss ∷ sss) (a ∷ agents) (os ∷ oss) i played le =
+      let mine : a.account.id ≡ id = played.0.same.id in
+      All-cons (λ (b : AgentView). b.id ≢ i) a.account (accounts agents)
+      (λ same. absurd (omega (arith, mine, le, same)))
+      (none_beyond (id + 1) sss agents oss i played.1 (omega (arith, le)))
+  none_beyond id [] [] (os ∷ oss) i played le = absurd played
+  none_beyond id [] (a ∷ agents) oss i played le = absurd played
+  none_beyond id (ss ∷ sss) [] oss i played le = absurd played
+  none_beyond id (ss ∷ sss) (a ∷ agents) [] i played le = absurd played
+
+  -- what is told of one agent in a history that tells its receipts, and whose moves begin with what it saw
+  turn_told : (id : ℕ) (ss : List Step) (a : AgentAt A) (os : List Outcome) (h : List Event) →
+      (meaning s.agg).part ≡ part → AreProper s.init (moves h) → Plays meaning part (at_start s id) a ss os →
+      own h a.account.id ≡ map (event_of a.account.id) a.account.receipts →
+      IsPrefix (moves_seen a.account.seen) (moves h) →
+      AreTold (storage.machine_of meaning s) (moves h) ss os (own h id)
+  turn_told id ss a os h same proper played mine begins =
+      let m = storage.machine_of meaning s in
+      let seen = moves_seen a.account.seen in
+      let proper_seen = proper_first s.init seen (moves h) begins proper in
+      let told = are_told_more m seen (moves h) ss os _ begins (played.told same proper_seen) in
+      let number : a.account.id ≡ id = played.same.id in
+      let events : own h id ≡ map (event_of id) played.more =
+      ap (own h) (sym number) ∙ mine ∙ ap (λ i. map (event_of i) a.account.receipts) number
+      ∙ ap (map (event_of id)) played.added in
+      subst (AreTold m (moves h) ss os) (sym events) told
+
+  -- and so of each
+  pub turns_told : (id : ℕ) (sss : List (List Step)) (agents : List (AgentAt A)) (oss : List (List Outcome))
+      (h : List Event) → (meaning s.agg).part ≡ part → AreProper s.init (moves h) →
+      ArePlayed meaning part s id sss agents oss →
+      All (λ a. own h a.id ≡ map (event_of a.id) a.receipts) (accounts agents) →
+      All (λ a. IsPrefix (moves_seen a.seen) (moves h)) (accounts agents) →
+      AreTurns (storage.machine_of meaning s) h id sss oss
+  turns_told id [] [] [] h same proper played own_ones begins = tt
+  turns_told id (ss ∷ sss) (a ∷ agents) (os ∷ oss) h same proper played own_ones begins =
+      let P : AgentView → Type 0 = λ b. own h b.id ≡ map (event_of b.id) b.receipts in
+      let Q : AgentView → Type 0 = λ b. IsPrefix (moves_seen b.seen) (moves h) in (
+        turn_told id ss a os h same proper played.0 (All-head P a.account (accounts agents) own_ones)
+            (All-head Q a.account (accounts agents) begins),
+        turns_told (id + 1) sss agents oss h same proper played.1 (All-tail P a.account (accounts agents) own_ones)
+            (All-tail Q a.account (accounts agents) begins),
+      )
+  turns_told id [] [] (os ∷ oss) h same proper played own_ones begins = absurd played
+  turns_told id [] (a ∷ agents) oss h same proper played own_ones begins = absurd played
+  turns_told id (ss ∷ sss) [] oss h same proper played own_ones begins = absurd played
+  turns_told id (ss ∷ sss) (a ∷ agents) [] h same proper played own_ones begins = absurd played
+
+-- numbers from one up rise
+pub range_rises : (id n : ℕ) (xs : List ℕ) → xs ≡ range_with_len id n → IsStrictlyIncreasing xs
+range_rises id n xs is = subst IsStrictlyIncreasing (sym is) (λ k lt.
+    let less = length-range_with_len id n in
+    let here = get_or-range_with_len id n k 0 (omega (arith, lt, less)) in
+    let next = get_or-range_with_len id n (k + 1) 0 (omega (arith, lt, less)) in
+    omega (arith, here, next))
+
+-- the history that the agents of a script close to is a play of it
+pub closes : {A : Type 0} (meaning : A → Meaning) (s : StorageView A) (plan : Plan) (lent agents : List (AgentAt A))
+    (oss : List (List Outcome)) (p : Played) → lent ≡ agents → (meaning s.agg).part ≡ standard_part →
+    s.init ≡ plan.init →
+    ArePlayed meaning standard_part s 0 plan.agents agents oss →
+    IsHistoryOf (storage.machine_of meaning s) (accounts lent) p.history.events →
+    p.history.init ≡ s.init → p.history.capacity ≡ length s.row → p.history.agents ≡ id_bound (accounts lent) →
+    p.outcomes ≡ oss → AreProper p.history.init (moves p.history.events) → IsPlayOf plan (length s.row) p
+closes meaning s plan lent agents oss p same part init played closed_lent opened capacity bound_lent outcomes proper_h =
+    let m = storage.machine_of meaning s in
+    let closed = subst (λ q. IsHistoryOf m (accounts q) p.history.events) same closed_lent in
+    let bound = bound_lent ∙ ap (λ q. id_bound (accounts q)) same in
+    let h = p.history.events in
+    let capacity_of = length s.row in
+    let machine : storage.machine_of meaning s ≡ play.machine_of plan capacity_of =
+    λ i. record { part = part i; init = init i; capacity = capacity_of } in
+    let proper = subst (λ A. AreProper A (moves h)) opened proper_h in
+    let told = turns_told meaning standard_part s 0 plan.agents agents oss h part proper played closed.own_receipts
+    closed.seen_first in
+    let all = bound_is meaning standard_part s 0 plan.agents agents oss played in record {
+      opened = opened ∙ init;
+      capacity_is = capacity;
+      agents = omega (arith, bound, all);
+      legal = subst (λ m. IsLegal m h) machine closed.legal;
+      turns = subst (λ m. AreTurns m h 0 plan.agents p.outcomes) machine
+          (subst (λ o. AreTurns (storage.machine_of meaning s) h 0 plan.agents o) (sym outcomes) told);
+      others = λ i le. closed.no_others i
+          (none_beyond meaning standard_part s 0 plan.agents agents oss i played (omega (arith, le)));
+    }

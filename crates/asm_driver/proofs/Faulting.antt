@@ -1,0 +1,117 @@
+-- When a run has the status of a fault.
+use Rattle.std.proofs.Common.{◌≡◌, ◌⊎◌, ◌↔◌, ℕ, List, true, false, refl, sym, ◌∙◌, subst, inl, inr, arith}
+use Rattle.asm_journal.specs.declared.fault.JournalError.{JournalError}
+use Rattle.asm_journal.specs.declared.fault.JournalError.TheVariants as journal
+use Rattle.asm_journal.specs.declared.checking.Legality.{Legality}
+use Rattle.asm_journal.specs.declared.checking.Legality.TheVariants.{Legal, Illegal}
+use Rattle.asm_driver.specs.Commands.{legality_status, IsDone, IsNotDone}
+use Rattle.asm_driver.specs.Refusal.{refusal_status, refusal_line, journal_status, has_number}
+use Rattle.asm_driver.specs.Words.{Words}
+use Rattle.asm_driver.specs.Run.{Input, Output, IsAnswer, IsNoAnswer, IsShown, Writes, Refuses, HasFailed}
+use Rattle.asm_driver.specs.declared.refusal.Refusal.{Refusal}
+use Rattle.asm_driver.specs.declared.refusal.Refusal.TheVariants as refusal
+use Rattle.asm_driver.specs.declared.words.Request.{Request}
+use Rattle.asm_driver.specs.declared.words.Request.TheVariants.{Run, Check}
+
+-- it has failed, and it hasn't
+both : true ≡ false → ⊥
+both e = cc (e)
+
+-- a check has the status 0 or 1
+legality_works : (l : Legality) → legality_status l ≡ 4 → ⊥
+legality_works (Legal calls moves) e = absurd (omega (arith, e))
+legality_works (Illegal call) e = absurd (omega (arith, e))
+
+-- what is done has the status 0 or 1
+done_works : (bytes : List ℕ) (request : Request) (status : ℕ) (text : List ℕ) → IsDone bytes request status text → status ≡ 4 → ⊥
+done_works bytes (Run capacity asked) status text done e = let bad : 0 ≡ 4 = sym done.0 ∙ e in absurd (omega (arith, bad))
+done_works bytes Check status text (h, l, reads, is, same, written) e = legality_works l (sym same ∙ e)
+
+answer_works : (words : Words) (i : Input) (status : ℕ) (text : List ℕ) → IsAnswer words i status text → status ≡ 4 → ⊥
+answer_works words i status text (inl (bytes, request, whole, asks, done)) e = done_works bytes request status text done e
+answer_works words i status text (inr (same, asks, unread)) e = let bad : 0 ≡ 4 = sym same ∙ e in absurd (omega (arith, bad))
+
+-- where there is an answer, no read failed
+answer_reads : (words : Words) (i : Input) (status : ℕ) (text : List ℕ) → IsAnswer words i status text → i.failed ≡ false
+answer_reads words i status text (inl (bytes, request, whole, asks, done)) = whole.whole
+answer_reads words i status text (inr (same, asks, unread)) = unread.whole
+
+pub faults_answered : (given : Words) (i : Input) (o : Output) (status : ℕ) (text bytes : List ℕ) (result : ℕ)
+    → IsAnswer given i status text → Writes o status bytes result → (result ≡ 4) ↔ HasFailed i o
+faults_answered given i o status text bytes result answer writes = (there writes, back writes) where
+  there : Writes o status bytes result → result ≡ 4 → HasFailed i o
+  there (inl (is, written)) e = absurd (answer_works given i status text answer (sym is ∙ e))
+  there (inr (is, cut)) e = inr cut.failed
+
+  back : Writes o status bytes result → HasFailed i o → result ≡ 4
+  back w (inl read) = absurd (both (sym read ∙ answer_reads given i status text answer))
+  back (inl (is, written)) (inr failed) = absurd (both (sym failed ∙ written.whole))
+  back (inr (is, cut)) (inr failed) = is
+
+-- only a failed read has the status 4
+journal_four : (e : JournalError) → journal_status e ≡ 4 → ⊥
+journal_four (journal.NotJson n) e = absurd (omega (arith, e))
+journal_four (journal.Shape n) e = absurd (omega (arith, e))
+journal_four journal.Version e = absurd (omega (arith, e))
+journal_four journal.Cut e = absurd (omega (arith, e))
+journal_four journal.Memory e = absurd (omega (arith, e))
+
+four : (r : Refusal) → refusal_status r ≡ 4 → r ≡ refusal.InputFault
+four refusal.Words e = absurd (omega (arith, e))
+four refusal.TooLarge e = absurd (omega (arith, e))
+four (refusal.BadScript cause) e = absurd (omega (arith, e))
+four (refusal.BadJournal f) e = absurd (journal_four f e)
+four refusal.Unfit e = absurd (omega (arith, e))
+four (refusal.Missing k) e = absurd (omega (arith, e))
+four refusal.InputFault e = refl
+four refusal.NoThread e = absurd (omega (arith, e))
+four refusal.Memory e = absurd (omega (arith, e))
+
+-- a failed read is shown as it is
+shown_fault : (r shown : Refusal) → IsShown r shown → shown ≡ refusal.InputFault → r ≡ refusal.InputFault
+shown_fault r shown (inl is) e = sym is ∙ e
+shown_fault r shown (inr (is, number)) e = let bad : refusal.Memory ≡ refusal.InputFault = sym is ∙ e in absurd (cc (bad))
+
+fault_shown : (r shown : Refusal) → IsShown r shown → r ≡ refusal.InputFault → shown ≡ refusal.InputFault
+fault_shown r shown (inl is) e = is ∙ e
+fault_shown r shown (inr (is, number)) e = let bad : true ≡ false = sym number ∙ subst (λ x. has_number x ≡ has_number refusal.InputFault) (sym e) refl in absurd (both bad)
+
+done_reads : (bytes : List ℕ) (request : Request) → IsNotDone bytes request refusal.InputFault → ⊥
+done_reads bytes (Run capacity asked) is = is
+done_reads bytes Check is = is
+
+-- a failed read is refused so
+fault_failed : (words : Words) (i : Input) → IsNoAnswer words i refusal.InputFault → i.failed ≡ true
+fault_failed words i (inl (is, unread)) = absurd is
+fault_failed words i (inr (inl (taken, is))) = is.1
+fault_failed words i (inr (inr (bytes, request, whole, asks, is))) = absurd (done_reads bytes request is)
+
+-- and what is refused so is a failed read
+failed_fault : (words : Words) (i : Input) (r : Refusal) → IsNoAnswer words i r → i.failed ≡ true → r ≡ refusal.InputFault
+failed_fault words i r (inl (is, unread)) e = absurd (both (sym e ∙ unread.whole))
+failed_fault words i refusal.TooLarge (inr (inl (taken, is))) e = absurd (both (sym e ∙ is.1))
+failed_fault words i refusal.InputFault (inr (inl (taken, is))) e = refl
+failed_fault words i refusal.Memory (inr (inl (taken, is))) e = absurd (both (sym e ∙ is.1))
+failed_fault words i refusal.Words (inr (inl (taken, is))) e = absurd is
+failed_fault words i (refusal.BadScript cause) (inr (inl (taken, is))) e = absurd is
+failed_fault words i (refusal.BadJournal f) (inr (inl (taken, is))) e = absurd is
+failed_fault words i refusal.Unfit (inr (inl (taken, is))) e = absurd is
+failed_fault words i (refusal.Missing k) (inr (inl (taken, is))) e = absurd is
+failed_fault words i refusal.NoThread (inr (inl (taken, is))) e = absurd is
+failed_fault words i r (inr (inr (bytes, request, whole, asks, is))) e = absurd (both (sym e ∙ whole.whole))
+
+pub faults_refused : (given : Words) (i : Input) (o : Output) (r : Refusal) (result : ℕ)
+    → IsNoAnswer given i r → Refuses o r result → (result ≡ 4) ↔ HasFailed i o
+faults_refused given i o r result none (shown, is, writes) = (there writes, back writes) where
+  there : Writes o (refusal_status shown) (refusal_line shown) result → result ≡ 4 → HasFailed i o
+  there (inl (same, written)) e =
+      let fault = shown_fault r shown is (four shown (sym same ∙ e)) in
+      inl (fault_failed given i (subst (IsNoAnswer given i) fault none))
+  there (inr (same, cut)) e = inr cut.failed
+
+  back : Writes o (refusal_status shown) (refusal_line shown) result → HasFailed i o → result ≡ 4
+  back (inr (same, cut)) failed = same
+  back (inl (same, written)) (inr failed) = absurd (both (sym failed ∙ written.whole))
+  back (inl (same, written)) (inl read) =
+      let fault = fault_shown r shown is (failed_fault given i r none read) in
+      subst (λ x. result ≡ refusal_status x) fault same

@@ -1,0 +1,192 @@
+-- Steps that were played, one after another.
+use Rattle.std.proofs.Common.{◌≡◌, ◌⊎◌, inl, inr, ℕ, zero, suc, ◌-◌, ◌≤◌, min, List, [], ◌∷◌, ◌++◌, length, take, map, All, Ok, append_assoc, append-nil, length-append, arith, refl, sym, ap, subst, ◌∙◌}
+use Rattle.std.proofs.lemmas.List.Elements.{All-nil, All-append}
+use mathlib.Core.List.{IsPrefix}
+use Rattle.asm_update.specs.Aggregator.{Meaning}
+use Rattle.asm_update.specs.Fire.{Part, fire}
+use Rattle.asm_update.specs.Move.{Move}
+use Rattle.asm_storage.specs.Agents.{event_of, moves_seen}
+use Rattle.asm_storage.specs.Machine.{Machine, state_of}
+use Rattle.asm_storage.specs.Storage.{AgentAt, StorageView, IsSameAgent, machine_of}
+use Rattle.asm_storage.specs.declared.call.Answer.TheVariants as answer
+use Rattle.asm_storage.specs.declared.call.Reply.TheVariants as reply
+use Rattle.asm_storage.specs.declared.history.Event.{Event}
+use Rattle.asm_storage.specs.declared.receipt.Entry.{Entry}
+use Rattle.asm_storage.specs.declared.receipt.Receipt.{Receipt}
+use Rattle.asm_storage.proofs.Lists.{take-prefix}
+use Rattle.asm_driver.specs.Plays.{AreProper, Plays}
+use Rattle.asm_driver.specs.Sequencing.{Stop, Clashes, fire_blocks, IsStopped}
+use Rattle.asm_driver.specs.Told.{IsIdle, IsFiring, StopsWith, Clashing, EndsWith, IsTold, AreTold}
+use Rattle.asm_driver.specs.Trying.{Adds, IsEnded, Tried, IsStepPlayed}
+use Rattle.asm_driver.specs.declared.step.Step.{Step}
+use Rattle.asm_driver.specs.declared.outcome.Outcome.{Outcome}
+use Rattle.asm_driver.specs.declared.outcome.Outcome.TheVariants as outcome
+use Rattle.asm_driver.proofs.Properness.{proper_prefix}
+use Rattle.asm_driver.proofs.Readings.{mapped_both}
+use Rattle.asm_driver.proofs.Tries.{prefix_length, prefix_mapped, adds_then, adds_none}
+
+take_length : {X : Type 0} (n : ℕ) (xs : List X) → length (take n xs) ≡ min n (length xs)
+take_length zero xs = omega arith
+take_length (suc n) [] = omega arith
+take_length (suc n) (x ∷ xs) = omega (arith, take_length n xs)
+
+-- idle events in front change nothing
+idle_front : (P : Event → Type 0) (xs es : List Event) → All IsIdle xs → EndsWith P es → EndsWith P (xs ++ es)
+idle_front P xs es idle ends = (
+  xs ++ ends.0,
+  ends.1,
+  ap (λ w. xs ++ w) ends.2 ∙ sym (append_assoc xs ends.0 (ends.1 ∷ [])),
+  All-append IsIdle xs ends.0 idle ends.3,
+  ends.4,
+)
+
+module _ (m : Machine) (q : List Move) (step : Step) where
+  idle_before : (o : Outcome) (xs es : List Event) → All IsIdle xs → IsTold m q step o es → IsTold m q step o (xs ++ es)
+  idle_before (outcome.Fired k) xs es idle told = idle_front (IsFiring m q step k) xs es idle told
+  idle_before outcome.Full xs es idle told = idle_front (λ e. e.answer ≡ answer.Fire reply.Full) xs es idle told
+  idle_before (outcome.Clash c) xs es idle told = (All-append IsIdle xs es idle told.0, told.1)
+  idle_before outcome.Term xs es idle told = (All-append IsIdle xs es idle told.0, told.1)
+  idle_before (outcome.Large l) xs es idle told = (All-append IsIdle xs es idle told.0, told.1)
+  idle_before outcome.Many xs es idle told = All-append IsIdle xs es idle told
+  idle_before outcome.GaveUp xs es idle told = All-append IsIdle xs es idle told
+
+-- what was told of some moves is so of more
+module _ (m : Machine) (q r : List Move) (p : IsPrefix q r) where
+  stops_later : (step : Step) (stop : Stop) → StopsWith m q step stop → StopsWith m r step stop
+  stops_later step stop (n, le, is) = (
+    n,
+    omega (arith, le, prefix_length q r p),
+    ap (λ w. fire_blocks m.part (state_of m w) step) (sym (take-prefix n q r p le)) ∙ is,
+  )
+
+  clashing_later : (step : Step) → Clashing m q step → Clashing m r step
+  clashing_later step (n, le, is) = (
+    n,
+    omega (arith, le, prefix_length q r p),
+    subst (λ w. IsStopped (fire_blocks m.part (state_of m w) step)) (take-prefix n q r p le) is,
+  )
+
+  clash_later : (step : Step) (stop : Stop) → StopsWith m q step stop ⊎ Clashing m q step → StopsWith m r step stop ⊎ Clashing m r step
+  clash_later step stop (inl is) = inl (stops_later step stop is)
+  clash_later step stop (inr is) = inr (clashing_later step is)
+
+  firing_later : (step : Step) (k : ℕ) (e : Event) → IsFiring m q step k e → IsFiring m r step k e
+  firing_later step k e (reads, M, call, answer, some, whole, (B, fires, blocks)) =
+      let counted = sym (take_length k q) ∙ ap length whole ∙ length-append (take (k - 1) q) (M ∷ []) in
+      let within : k ≤ length q = omega (arith, counted, take_length (k - 1) q, some) in
+      let first = take-prefix (k - 1) q r p (omega (arith, within)) in (
+        reads,
+        M,
+        call,
+        answer,
+        some,
+        sym (take-prefix k q r p within) ∙ whole ∙ ap (λ w. w ++ M ∷ []) first,
+        (B, subst (λ w. fire m.part (state_of m w) M ≡ Ok B) first fires, subst (λ w. fire_blocks m.part (state_of m w) step ≡ Ok B) first blocks),
+      )
+
+  told_later : (step : Step) (o : Outcome) (es : List Event) → IsTold m q step o es → IsTold m r step o es
+  told_later step (outcome.Fired k) es told = (told.0, told.1, told.2, told.3, firing_later step k told.1 told.4)
+  told_later step outcome.Full es told = told
+  told_later step (outcome.Clash c) es told = (told.0, clash_later step (Clashes c) told.1)
+  told_later step outcome.Term es told = (told.0, stops_later step _ told.1)
+  told_later step (outcome.Large l) es told = (told.0, clashing_later step told.1)
+  told_later step outcome.Many es told = told
+  told_later step outcome.GaveUp es told = told
+
+  are_told_later : (ss : List Step) (os : List Outcome) (es : List Event) → AreTold m q ss os es → AreTold m r ss os es
+  are_told_later [] [] es told = told
+  are_told_later [] (o ∷ os) es told = absurd told
+  are_told_later (s ∷ ss) [] es told = absurd told
+  are_told_later (s ∷ ss) (o ∷ os) es told =
+      (told.0, told.1, told.2, told_later s o told.0 told.3, are_told_later ss os told.1 told.4)
+
+-- one step more
+are_told_more : (m : Machine) (q : List Move) (ss : List Step) (os : List Outcome) (es fs : List Event) (s : Step) (o : Outcome) →
+    AreTold m q ss os es → IsTold m q s o fs → AreTold m q (ss ++ s ∷ []) (os ++ o ∷ []) (es ++ fs)
+are_told_more m q [] [] es fs s o told last = (fs, [], ap (λ w. w ++ fs) told ∙ sym (append-nil fs), last, refl)
+are_told_more m q [] (p ∷ os) es fs s o told last = absurd told
+are_told_more m q (t ∷ ss) [] es fs s o told last = absurd told
+are_told_more m q (t ∷ ss) (p ∷ os) es fs s o told last = (
+  told.0,
+  told.1 ++ fs,
+  ap (λ w. w ++ fs) told.2 ∙ append_assoc told.0 told.1 fs,
+  told.3,
+  are_told_more m q ss os told.1 fs s o told.4 last,
+)
+
+-- receipts that tell nothing
+record AddsIdle {A : Type 0} (old new : AgentAt A) : Type 0 where
+  more : List Receipt
+  adds : Adds old new more
+  idle : All IsIdle (map (event_of old.account.id) more)
+
+-- the events of receipts that were added in turn
+added_events : {A : Type 0} (old mid : AgentAt A) (xs ys : List Receipt) → IsSameAgent old mid →
+    map (event_of old.account.id) (xs ++ ys) ≡ map (event_of old.account.id) xs ++ map (event_of mid.account.id) ys
+added_events old mid xs ys same =
+    mapped_both (event_of old.account.id) xs ys
+    ∙ ap (λ (i : ℕ). map (event_of old.account.id) xs ++ map (event_of i) ys) (sym same.id)
+
+tried_adds : {A : Type 0} (n : ℕ) (old new : AgentAt A) → Tried n old new → AddsIdle old new
+tried_adds {A} zero old new same =
+    record { more = []; adds = subst (λ (a : AgentAt A). Adds old a []) same (adds_none old); idle = All-nil IsIdle }
+tried_adds {A} (suc n) old new (mid, before, again) =
+    let first = tried_adds n old mid before in
+    record {
+      more = first.more ++ again.more;
+      adds = adds_then old mid new first.more again.more first.adds again.adds;
+      idle = subst (All IsIdle) (sym (added_events old mid first.more again.more first.adds.same))
+          (All-append IsIdle _ _ first.idle again.idle);
+    }
+
+module _ {A : Type 0} (meaning : A → Meaning) (part : Part) where
+  -- a step that was played ended
+  step_ended : (old new : AgentAt A) (step : Step) (o : Outcome) → IsStepPlayed meaning part old new step o → IsEnded meaning part old new step o
+  step_ended old new step o (inl (is, n, count, tried)) =
+      let all = tried_adds n old new tried in
+      subst (IsEnded meaning part old new step) (sym is) (record { more = all.more; adds = all.adds; told = λ same proper. all.idle })
+  step_ended old new step o (inr (n, few, mid, tried, ended)) =
+      let first = tried_adds n old mid tried in
+      let last = ended.0 in
+      let q = moves_seen new.account.seen in
+      record {
+        more = first.more ++ last.more;
+        adds = adds_then old mid new first.more last.more first.adds last.adds;
+        told = λ same proper.
+            let told = subst (λ (s : StorageView A). (meaning s.agg).part ≡ part → AreProper s.init q →
+            IsTold (machine_of meaning s) q step o (map (event_of mid.account.id) last.more)) first.adds.same.storage last.told same proper in
+            subst (IsTold (machine_of meaning old.storage) q step o) (sym (added_events old mid first.more last.more first.adds.same))
+            (idle_before (machine_of meaning old.storage) q step o _ _ first.idle told);
+      }
+
+  pub plays_none : (old : AgentAt A) → Plays meaning part old old [] []
+  plays_none old = record {
+    same = record { storage = refl; id = refl };
+    begins = ([], append-nil old.account.seen);
+    more = [];
+    added = sym (append-nil old.account.receipts);
+    told = λ same proper. refl;
+  }
+
+  -- one step more was played
+  pub plays_more : (old mid new : AgentAt A) (ss : List Step) (os : List Outcome) (s : Step) (o : Outcome) → Plays meaning part old mid ss os →
+      IsStepPlayed meaning part mid new s o → Plays meaning part old new (ss ++ s ∷ []) (os ++ o ∷ [])
+  plays_more old mid new ss os s o before played =
+      let last = step_ended mid new s o played in
+      let adds = adds_then old mid new before.more last.more (record { same = before.same; begins = before.begins; added = before.added }) last.adds in
+      let q = moves_seen mid.account.seen in
+      let r = moves_seen new.account.seen in
+      let p = prefix_mapped (λ (x : Entry). x.instrs) mid.account.seen new.account.seen last.adds.begins in
+      record {
+        same = adds.same;
+        begins = adds.begins;
+        more = before.more ++ last.more;
+        added = adds.added;
+        told = λ same proper.
+            let m = machine_of meaning old.storage in
+            let first = are_told_later m q r p ss os _ (before.told same (proper_prefix old.storage.init q r p proper)) in
+            let told = subst (λ (t : StorageView A). (meaning t.agg).part ≡ part → AreProper t.init r →
+            IsTold (machine_of meaning t) r s o (map (event_of mid.account.id) last.more)) before.same.storage last.told same proper in
+            subst (AreTold m r (ss ++ s ∷ []) (os ++ o ∷ [])) (sym (added_events old mid before.more last.more before.same))
+            (are_told_more m r ss os _ _ s o first told);
+      }

@@ -1,0 +1,92 @@
+-- Actions with terms, by their words.
+use Rattle.std.proofs.Common.{◌≡◌, ℕ, zero, suc, List, Option, Some, None, codes, refl, sym, ap, subst, ◌∙◌}
+use Rattle.std.specs.Prelude.{option_map}
+use Rattle.serde_json.specs.Data.{Items}
+use Rattle.asm_journal.specs.Shape.{Reads, IsOnly}
+use Rattle.asm_journal.proofs.Actions.{kind_of_word}
+use Rattle.asm_driver.specs.Reads.{term_of}
+use Rattle.asm_driver.specs.TermForm.{IsTermForm, IsCounted, word_of, AreOperands, IsActionForm}
+use Rattle.asm_driver.specs.declared.term.Term.{Term}
+use Rattle.asm_driver.specs.declared.block.TermAction.{TermAction}
+use Rattle.asm_driver.specs.declared.block.TermAction.TheVariants.{Put, Add, Remove, BagAdd, BagRemove}
+
+-- the number of the kind
+abbrev kind_number : TermAction → ℕ
+kind_number (Put t) = 0
+kind_number (Add t) = 1
+kind_number (Remove t) = 2
+kind_number (BagAdd t n) = 3
+kind_number (BagRemove t n) = 4
+
+-- the amount; 0 where there is none
+abbrev amount_of : TermAction → ℕ
+amount_of (Put t) = 0
+amount_of (Add t) = 0
+amount_of (Remove t) = 0
+amount_of (BagAdd t n) = n
+amount_of (BagRemove t n) = n
+
+kind_of_word-word : (a : TermAction) → kind_of_word (word_of a) ≡ kind_number a
+kind_of_word-word (Put t) = refl
+kind_of_word-word (Add t) = refl
+kind_of_word-word (Remove t) = refl
+kind_of_word-word (BagAdd t n) = refl
+kind_of_word-word (BagRemove t n) = refl
+
+-- the action of this kind, amount and term
+abbrev action_of : ℕ → ℕ → Term → TermAction
+action_of zero n t = Put t
+action_of (suc zero) n t = Add t
+action_of (suc (suc zero)) n t = Remove t
+action_of (suc (suc (suc zero))) n t = BagAdd t n
+action_of (suc (suc (suc (suc _)))) n t = BagRemove t n
+
+action_of-parts : (a : TermAction) → action_of (kind_number a) (amount_of a) (term_of a) ≡ a
+action_of-parts (Put t) = refl
+action_of-parts (Add t) = refl
+action_of-parts (Remove t) = refl
+action_of-parts (BagAdd t n) = refl
+action_of-parts (BagRemove t n) = refl
+
+-- an action is made of its parts by the kind of its word
+made_by : (word : List ℕ) (a : TermAction) → word ≡ word_of a → a
+    ≡ action_of (kind_of_word word) (amount_of a) (term_of a)
+made_by word a named =
+    sym (action_of-parts a)
+    ∙ ap (λ k. action_of k (amount_of a) (term_of a)) (sym (kind_of_word-word a) ∙ ap kind_of_word (sym named))
+
+-- reading the operands of a word's action is reading the action
+module _ {X : Type 0} (make : X → TermAction) (part : TermAction → X) (word : List ℕ) (ds : Items)
+    (named : (x : X) → word ≡ word_of (make x))
+    (made : (a : TermAction) → action_of (kind_of_word word) (amount_of a) (term_of a) ≡ make (part a)) where
+  read_as : (o : Option X) → Reads (λ x. AreOperands (make x)) ds o → Reads (IsActionForm word) ds (option_map make o)
+  read_as (Some x) h = (named x, h)
+  read_as None h = λ a form. h (part a) (subst (λ b. AreOperands b ds) (made_by word a form.0 ∙ made a) form.1)
+
+of_kind : (word known : List ℕ) (a : TermAction) → word ≡ known →
+    action_of (kind_of_word word) (amount_of a) (term_of a) ≡ action_of (kind_of_word known) (amount_of a) (term_of a)
+of_kind word known a is = ap (λ w. action_of (kind_of_word w) (amount_of a) (term_of a)) is
+
+pub put_read : (word : List ℕ) (ds : Items) (o : Option Term) → word ≡ codes "put" → Reads (IsOnly IsTermForm) ds o →
+    Reads (IsActionForm word) ds (option_map Put o)
+put_read word ds o is h = read_as Put term_of word ds (λ t. is) (λ a. of_kind word _ a is) o h
+
+pub add_read : (word : List ℕ) (ds : Items) (o : Option Term) → word ≡ codes "add" → Reads (IsOnly IsTermForm) ds o →
+    Reads (IsActionForm word) ds (option_map Add o)
+add_read word ds o is h = read_as Add term_of word ds (λ t. is) (λ a. of_kind word _ a is) o h
+
+pub remove_read : (word : List ℕ) (ds : Items) (o : Option Term) → word ≡ codes "remove" →
+    Reads (IsOnly IsTermForm) ds o → Reads (IsActionForm word) ds (option_map Remove o)
+remove_read word ds o is h = read_as Remove term_of word ds (λ t. is) (λ a. of_kind word _ a is) o h
+
+abbrev counted_in : TermAction → Term × ℕ
+counted_in a = (term_of a, amount_of a)
+
+pub no_bagadd : (word : List ℕ) (ds : Items) → word ≡ codes "bagadd" → ((p : Term × ℕ) → IsCounted p.0 p.1 ds → ⊥) →
+    (a : TermAction) → IsActionForm word a ds → ⊥
+no_bagadd word ds is h = read_as (λ p. BagAdd p.0 p.1) counted_in word ds (λ p. is) (λ a. of_kind word _ a is) None h
+
+pub no_bagremove : (word : List ℕ) (ds : Items) → word ≡ codes "bagremove" →
+    ((p : Term × ℕ) → IsCounted p.0 p.1 ds → ⊥) → (a : TermAction) → IsActionForm word a ds → ⊥
+no_bagremove word ds is h =
+    read_as (λ p. BagRemove p.0 p.1) counted_in word ds (λ p. is) (λ a. of_kind word _ a is) None h

@@ -1,0 +1,402 @@
+-- One try of a step: what its read and its fire leave, and what its outcome tells.
+use Rattle.std.proofs.Common.{◌≡◌, ◌≢◌, inl, inr, ℕ, zero, suc, ◌+◌, ◌-◌, ◌≤◌, Bool, true, false, cond, nat_lt, List, [], ◌∷◌, ◌++◌, length, take, map, fold, All, Option, Some, None, Result, Ok, Err, Contains, append_assoc, append-nil, length-append, arith, refl, sym, ap, subst, ◌∙◌}
+use Rattle.std.specs.List.{filter}
+use Rattle.std.specs.Ordering.{is_lt}
+use Rattle.std.proofs.lemmas.List.{take_at, take_all}
+use Rattle.std.proofs.lemmas.List.Elements.{All-nil, All-cons, All-append}
+use mathlib.Core.List.{IsPrefix}
+use Rattle.asm_element.specs.Place.{Place, location_cmp}
+use Rattle.asm_element.specs.declared.value.Value.{Value}
+use Rattle.asm_update.specs.Aggregator.{Meaning, AggregatorLaws}
+use Rattle.asm_update.specs.Fire.{Part, fire}
+use Rattle.asm_update.specs.Move.{Move}
+use Rattle.asm_update.specs.State.{State, val}
+use Rattle.asm_update.specs.declared.clash.Clash.{Clash}
+use Rattle.asm_state.specs.Stands.{is_stale}
+use Rattle.asm_state.specs.Verdict.{lesser, least, least_stale}
+use Rattle.asm_state.specs.declared.named.Named.{Named}
+use Rattle.asm_storage.specs.Agents.{event_of, moves_seen}
+use Rattle.asm_storage.specs.Calls.{ReadingView, read_answer, receipt_at, IsAnswered}
+use Rattle.asm_storage.specs.Machine.{Machine, state_of, taken_reply, firing_reply, fire_reply, reply_to}
+use Rattle.asm_storage.specs.Storage.{AgentAt, StorageView, machine_of, has_looked}
+use Rattle.asm_storage.specs.declared.call.Answer.TheVariants as answer
+use Rattle.asm_storage.specs.declared.call.Call.TheVariants as call
+use Rattle.asm_storage.specs.declared.call.Reply.{Reply}
+use Rattle.asm_storage.specs.declared.call.Reply.TheVariants as reply
+use Rattle.asm_storage.specs.declared.history.Event.{Event}
+use Rattle.asm_storage.specs.declared.receipt.Entry.{Entry}
+use Rattle.asm_storage.specs.declared.receipt.Receipt.{Receipt}
+use Rattle.asm_storage.proofs.Run.{same_value_from}
+use Rattle.asm_driver.specs.Plays.{AreProper}
+use Rattle.asm_driver.specs.Reads.{AreReads}
+use Rattle.asm_driver.specs.Sequencing.{Stop, FaultyTerm, Clashes, fired, fire_blocks, IsReadOf, IsStepMove}
+use Rattle.asm_driver.specs.Told.{IsIdle, IsFiring, StopsWith, Clashing, EndsWith, IsTold}
+use Rattle.asm_driver.specs.Trying.{value_among, read_value, name_at, names_of, HasRead, HasTried, outcome_of, IsEndOf, Adds, IsTry}
+use Rattle.asm_driver.specs.declared.step.Step.{Step}
+use Rattle.asm_driver.specs.declared.step.StepFault.{StepFault}
+use Rattle.asm_driver.specs.declared.step.StepFault.TheVariants as fault
+use Rattle.asm_driver.specs.declared.outcome.Outcome.{Outcome}
+use Rattle.asm_driver.specs.declared.outcome.Outcome.TheVariants as outcome
+use Rattle.asm_driver.proofs.Properness.{moves_proper, proper_prefix}
+use Rattle.asm_driver.proofs.Readings.{value_mapped, mapped_both}
+
+pub prefix_trans : {X : Type 0} (xs ys zs : List X) → IsPrefix xs ys → IsPrefix ys zs → IsPrefix xs zs
+prefix_trans xs ys zs p q = (p.0 ++ q.0, sym (append_assoc xs p.0 q.0) ∙ ap (λ w. w ++ q.0) p.1 ∙ q.1)
+
+pub prefix_length : {X : Type 0} (xs ys : List X) → IsPrefix xs ys → length xs ≤ length ys
+prefix_length xs ys p = omega (arith, length-append xs p.0, ap length p.1)
+
+pub prefix_mapped : {X Y : Type 0} (f : X → Y) (xs ys : List X) → IsPrefix xs ys → IsPrefix (map f xs) (map f ys)
+prefix_mapped f xs ys p = (map f p.0, sym (mapped_both f xs p.0) ∙ ap (map f) p.1)
+
+-- the first of a longer list
+pub taken_prefix : {X : Type 0} (xs ys : List X) (n : ℕ) → n ≡ length xs → IsPrefix xs ys → take n ys ≡ xs
+taken_prefix xs ys n is p = ap (take n) (sym p.1) ∙ take_at xs p.0 n (sym is)
+
+-- what is added in turn
+pub adds_then : {A : Type 0} (old mid new : AgentAt A) (xs ys : List Receipt) → Adds old mid xs → Adds mid new ys → Adds old new (xs ++ ys)
+adds_then old mid new xs ys first second = record {
+  same = record { storage = second.same.storage ∙ first.same.storage; id = second.same.id ∙ first.same.id };
+  begins = prefix_trans old.account.seen mid.account.seen new.account.seen first.begins second.begins;
+  added = second.added ∙ ap (λ rs. rs ++ ys) first.added ∙ append_assoc old.account.receipts xs ys;
+}
+
+pub adds_none : {A : Type 0} (old : AgentAt A) → Adds old old []
+adds_none old = record {
+  same = record { storage = refl; id = refl };
+  begins = ([], append-nil old.account.seen);
+  added = sym (append-nil old.account.receipts);
+}
+
+-- a receipt of a read is idle, and so is one of a stale or a clashing fire
+idle_read : (id stood n : ℕ) (places : List Place) (vs : List Value) → IsIdle (event_of id (receipt_at stood (call.Read places) (answer.Read n vs)))
+idle_read id stood n places vs = ((λ bad. cc bad), (λ k bad. cc bad))
+
+idle_stale : (id stood : ℕ) (reads : List Named) (M : Move) (l : Place) →
+    IsIdle (event_of id (receipt_at stood (call.Fire reads M) (answer.Fire (reply.Stale l))))
+idle_stale id stood reads M l = ((λ bad. cc bad), (λ k bad. cc bad))
+
+idle_clash : (id stood : ℕ) (reads : List Named) (M : Move) (c : Clash) →
+    IsIdle (event_of id (receipt_at stood (call.Fire reads M) (answer.Fire (reply.Clash c))))
+idle_clash id stood reads M c = ((λ bad. cc bad), (λ k bad. cc bad))
+
+-- where no named location is stale, each keeps its value
+stays : (k : Place) (ls : List Place) → fold lesser (Some k) ls ≡ None → ⊥
+stays k [] none = cc
+stays k (l ∷ ls) none = here (is_lt (location_cmp l k)) none (stays l ls) (stays k ls) where
+  here : (b : Bool) → fold lesser (cond b (Some l) (Some k)) ls ≡ None → (fold lesser (Some l) ls ≡ None → ⊥) → (fold lesser (Some k) ls ≡ None → ⊥) → ⊥
+  here true e one other = one e
+  here false e one other = other e
+
+none_stale : (test : Named → Bool) (n : ℕ) (ps : List Place) → least (map (λ (r : Named). r.at) (filter test (map (name_at n) ps))) ≡ None →
+    (l : Place) → Contains ps l → test (name_at n l) ≡ false
+none_stale test n [] none l there = absurd (omega (arith, there.1))
+none_stale test n (p ∷ ps) none l there = here (test (name_at n p)) refl none there (λ rest. none_stale test n ps rest l) where
+  here : (b : Bool) → test (name_at n p) ≡ b →
+      least (map (λ (r : Named). r.at) (cond b (name_at n p ∷ filter test (map (name_at n) ps)) (filter test (map (name_at n) ps)))) ≡ None →
+      Contains (p ∷ ps) l →
+      (least (map (λ (r : Named). r.at) (filter test (map (name_at n) ps))) ≡ None → Contains ps l → test (name_at n l) ≡ false) →
+      test (name_at n l) ≡ false
+  here true e none there later = absurd (stays p (map (λ (r : Named). r.at) (filter test (map (name_at n) ps))) none)
+  here false e none (zero, lt, is) later = subst (λ k. test (name_at n k) ≡ false) is e
+  here false e none (suc k, lt, is) later = later none (k, omega (arith, lt), is)
+
+fresh_value : (m : Machine) (q : List Move) (r : ReadingView) → least_stale m.part m.init q (names_of (Some r)) ≡ None → r.number ≤ length q →
+    (l : Place) → Contains r.places l → val (state_of m (take r.number q)) l ≡ val (state_of m q) l
+fresh_value m q r none le l there =
+    same_value_from m m.init q l r.number (none_stale (λ n. is_stale m.part m.init q n.at n.number) r.number r.places none l there) le
+
+-- what a reply tells
+record IsFiredBy (m : Machine) (q : List Move) (reads : List Named) (M : Move) (k : ℕ) : Type 0 where
+  number : k ≡ length q + 1
+  state : State
+  fires : fire m.part (state_of m q) M ≡ Ok state
+  fresh : least_stale m.part m.init q reads ≡ None
+
+taken_fired : (capacity number k : ℕ) → reply.Fired k ≡ taken_reply capacity number → k ≡ number + 1
+taken_fired capacity number k = here (nat_lt number capacity) where
+  here : (b : Bool) → reply.Fired k ≡ cond b (reply.Fired (number + 1)) reply.Full → k ≡ number + 1
+  here true is = cc is
+  here false is = absurd (cc is)
+
+fired_by : (m : Machine) (q : List Move) (reads : List Named) (M : Move) (k : ℕ) →
+    answer.Fire (reply.Fired k) ≡ reply_to m q (call.Fire reads M) → IsFiredBy m q reads M k
+fired_by m q reads M k is = by_stale (least_stale m.part m.init q reads) refl told where
+  told : reply.Fired k ≡ fire_reply m q M (least_stale m.part m.init q reads)
+  told = cc is
+
+  by_answer : (o : Result State Clash) → fire m.part (state_of m q) M ≡ o → reply.Fired k ≡ firing_reply m q o →
+      least_stale m.part m.init q reads ≡ None → IsFiredBy m q reads M k
+  by_answer (Ok B) e is none = record { number = taken_fired m.capacity (length q) k is; state = B; fires = e; fresh = none }
+  by_answer (Err c) e is none = absurd (cc is)
+
+  by_stale : (o : Option Place) → least_stale m.part m.init q reads ≡ o → reply.Fired k ≡ fire_reply m q M o → IsFiredBy m q reads M k
+  by_stale (Some l) e is = absurd (cc is)
+  by_stale None e is = by_answer (fire m.part (state_of m q) M) refl is e
+
+clashed_by : (m : Machine) (q : List Move) (reads : List Named) (M : Move) (c : Clash) →
+    answer.Fire (reply.Clash c) ≡ reply_to m q (call.Fire reads M) →
+    (least_stale m.part m.init q reads ≡ None) × (fire m.part (state_of m q) M ≡ Err c)
+clashed_by m q reads M c is = by_stale (least_stale m.part m.init q reads) refl told where
+  told : reply.Clash c ≡ fire_reply m q M (least_stale m.part m.init q reads)
+  told = cc is
+
+  not_taken : (b : Bool) → reply.Clash c ≡ cond b (reply.Fired (length q + 1)) reply.Full → ⊥
+  not_taken true is = cc is
+  not_taken false is = cc is
+
+  by_answer : (o : Result State Clash) → fire m.part (state_of m q) M ≡ o → reply.Clash c ≡ firing_reply m q o → fire m.part (state_of m q) M ≡ Err c
+  by_answer (Ok B) e is = absurd (not_taken (nat_lt (length q) m.capacity) is)
+  by_answer (Err d) e is = let same : c ≡ d = cc is in e ∙ ap Err (sym same)
+
+  by_stale : (o : Option Place) → least_stale m.part m.init q reads ≡ o → reply.Clash c ≡ fire_reply m q M o →
+      (least_stale m.part m.init q reads ≡ None) × (fire m.part (state_of m q) M ≡ Err c)
+  by_stale (Some l) e is = absurd (cc is)
+  by_stale None e is = (e, by_answer (fire m.part (state_of m q) M) refl is)
+
+-- an agent that read, or fired, has a receipt more
+record HasRead1 {A : Type 0} (old mid : AgentAt A) : Type 0 where
+  more : List Receipt
+  adds : Adds old mid more
+  idle : All IsIdle (map (event_of old.account.id) more)
+
+module _ {A : Type 0} (meaning : A → Meaning) where
+  read_adds : (old mid : AgentAt A) (places : List Place) (o : Option ReadingView) → HasRead meaning old mid places o → HasRead1 old mid
+  read_adds old mid places None read = record {
+    more = [];
+    adds = subst (λ (a : AgentAt A). Adds old a []) (sym read.1) (adds_none old);
+    idle = All-nil IsIdle;
+  }
+  read_adds old mid places (Some r) read =
+      let receipt = receipt_at (length mid.account.seen) (call.Read places) (read_answer r) in
+      record {
+        more = receipt ∷ [];
+        adds = record {
+          same = record { storage = ap (λ (a : AgentAt A). a.storage) read.agent; id = ap (λ (a : AgentAt A). a.account.id) read.agent };
+          begins = read.begins;
+          added = ap (λ (a : AgentAt A). a.account.receipts) read.agent;
+        };
+        idle = All-cons IsIdle _ [] (idle_read old.account.id (length mid.account.seen) r.number places r.values) (All-nil IsIdle);
+      }
+
+  fire_adds : (mid new : AgentAt A) (reads : List Named) (M : Move) (stood : ℕ) (r : Reply) (seen : List Entry) →
+      new.storage ≡ mid.storage → new.account.id ≡ mid.account.id →
+      new.account.receipts ≡ mid.account.receipts ++ receipt_at stood (call.Fire reads M) (answer.Fire r) ∷ [] →
+      IsPrefix mid.account.seen seen → IsPrefix seen new.account.seen →
+      Adds mid new (receipt_at stood (call.Fire reads M) (answer.Fire r) ∷ [])
+  fire_adds mid new reads M stood r seen storage id receipts before begins = record {
+    same = record { storage = storage; id = id };
+    begins = prefix_trans mid.account.seen seen new.account.seen before begins;
+    added = receipts;
+  }
+
+  module _ (part : Part) (old mid : AgentAt A) (laws : (a : A) → AggregatorLaws (meaning a)) (step : Step) (places : List Place)
+      (reading : Option ReadingView) (reads : AreReads step places) (read : HasRead meaning old mid places reading) where
+    abbrev m : Machine
+    m = machine_of meaning old.storage
+
+    abbrev here : List Move
+    here = moves_seen mid.account.seen
+
+    -- a state of more moves in which what was read is as it was is one that was read
+    read_of : (q : List Move) → AreProper old.storage.init q →
+        ((l : Place) → Contains places l → val (state_of m q) l ≡ val (state_of m here) l) → IsReadOf (state_of m q) (read_value reading) step
+    read_of q proper same = record {
+      proper = moves_proper (laws old.storage.agg) old.storage.init q proper.state proper.moves;
+      same = λ l there. by_reading reading read l ((reads.named l).1 there);
+    } where
+      by_reading : (o : Option ReadingView) → HasRead meaning old mid places o → (l : Place) → Contains places l →
+          val (state_of m q) l ≡ read_value o l
+      by_reading None none l there = absurd (omega (arith, (subst (λ (ls : List Place). Contains ls l) none.0 there).1))
+      by_reading (Some r) is l there =
+          let values : r.values ≡ map (val (state_of m here)) places = cc is.reply in
+          same l there ∙ sym (value_mapped (val (state_of m here)) places l there)
+          ∙ (λ n. value_among (sym is.locations n) (sym values n) l)
+
+    -- the read tells what stops the blocks
+    stops_here : (stop : Stop) → AreProper old.storage.init here → fire_blocks m.part (state_of m here) step ≡ Err stop → StopsWith m here step stop
+    stops_here stop proper is =
+        (length here, omega arith, ap (λ q. fire_blocks m.part (state_of m q) step) (take_all (length here) here (omega arith)) ∙ is)
+
+    clashing_here : AreProper old.storage.init here → (c : Clash) × (fire_blocks m.part (state_of m here) step ≡ Err (Clashes c)) → Clashing m here step
+    clashing_here proper is = (
+      length here,
+      omega arith,
+      (is.0, ap (λ q. fire_blocks m.part (state_of m q) step) (take_all (length here) here (omega arith)) ∙ is.1),
+    )
+
+    -- a step that has no move ends
+    fault_told : (f : StepFault) (o : Outcome) (es : List Event) → IsEndOf f o → IsStepMove part (read_value reading) step (Err f) → All IsIdle es →
+        m.part ≡ part → AreProper old.storage.init here → IsTold m here step o es
+    fault_told fault.Term o es is move idle same proper =
+        subst (λ p. IsTold m here step p es) (sym is)
+        (idle, stops_here FaultyTerm proper (subst (λ p. IsStepMove p (read_value reading) step (Err fault.Term)) (sym same) move (state_of m here) (read_of here proper (λ l there. refl))))
+    fault_told (fault.Clash c) o es is move idle same proper =
+        subst (λ p. IsTold m here step p es) (sym is)
+        (idle, inr (clashing_here proper (subst (λ p. IsStepMove p (read_value reading) step (Err (fault.Clash c))) (sym same) move (state_of m here) (read_of here proper (λ l there. refl)))))
+    fault_told (fault.Large l) o es is move idle same proper =
+        subst (λ p. IsTold m here step p es) (sym is)
+        (idle, clashing_here proper (subst (λ p. IsStepMove p (read_value reading) step (Err (fault.Large l))) (sym same) move (state_of m here) (read_of here proper (λ l there. refl))))
+    fault_told fault.Many o es is move idle same proper = subst (λ p. IsTold m here step p es) (sym is) idle
+    fault_told fault.Memory o es is move idle same proper = absurd is
+
+    not_given_up : (f : StepFault) (o : Outcome) → IsEndOf f o → o ≢ outcome.GaveUp
+    not_given_up fault.Term o is bad = let no : outcome.Term ≡ outcome.GaveUp = sym is ∙ bad in cc no
+    not_given_up (fault.Clash c) o is bad = let no : outcome.Clash c ≡ outcome.GaveUp = sym is ∙ bad in cc no
+    not_given_up (fault.Large l) o is bad = let no : outcome.Large l ≡ outcome.GaveUp = sym is ∙ bad in cc no
+    not_given_up fault.Many o is bad = let no : outcome.Many ≡ outcome.GaveUp = sym is ∙ bad in cc no
+    not_given_up fault.Memory o is bad = absurd is
+
+    -- the try of a step that has no move
+    pub ended_by_fault : (f : StepFault) (o : Outcome) → IsEndOf f o → IsStepMove part (read_value reading) step (Err f) →
+        IsTry meaning part old mid step (Some o)
+    ended_by_fault f o is move =
+        let had = read_adds old mid places reading read in (
+          record { more = had.more; adds = had.adds; told = fault_told f o (map (event_of old.account.id) had.more) is move had.idle },
+          not_given_up f o is,
+        )
+
+    module _ (new : AgentAt A) (M : Move) (move : IsStepMove part (read_value reading) step (Ok M)) where
+      abbrev reads_named : List Named
+      reads_named = names_of reading
+
+      had : HasRead1 old mid
+      had = read_adds old mid places reading read
+
+      storage_is : mid.storage ≡ old.storage
+      storage_is = had.adds.same.storage
+
+      -- where no name is stale, what was read is as it was
+      unchanged : (q : List Move) → IsPrefix here q → least_stale m.part m.init q reads_named ≡ None →
+          (l : Place) → Contains places l → val (state_of m q) l ≡ val (state_of m here) l
+      unchanged q p none l there = by_reading reading read none where
+        by_reading : (o : Option ReadingView) → HasRead meaning old mid places o → least_stale m.part m.init q (names_of o) ≡ None →
+            val (state_of m q) l ≡ val (state_of m here) l
+        by_reading None empty none = absurd (omega (arith, (subst (λ (ls : List Place). Contains ls l) empty.0 there).1))
+        by_reading (Some r) is none =
+            let number : r.number ≡ length here = cc is.reply in
+            let value = fresh_value m q r none (omega (arith, number, prefix_length here q p)) l (subst (λ (ls : List Place). Contains ls l) (sym is.locations) there) in
+            sym value ∙ ap (λ w. val (state_of m w) l) (taken_prefix here q r.number number p)
+
+      -- and the move is that of the blocks
+      blocks_fire : (q : List Move) → m.part ≡ part → AreProper old.storage.init q → IsPrefix here q →
+          least_stale m.part m.init q reads_named ≡ None → fire_blocks m.part (state_of m q) step ≡ fired (fire m.part (state_of m q) M)
+      blocks_fire q same proper p none =
+          subst (λ p. IsStepMove p (read_value reading) step (Ok M)) (sym same) move (state_of m q) (read_of q proper (unchanged q p none))
+
+      -- the events of the read, and then that of the fire
+      events_of : (r : Receipt) → map (event_of old.account.id) (had.more ++ r ∷ []) ≡ map (event_of old.account.id) had.more ++ event_of old.account.id r ∷ []
+      events_of r = mapped_both (event_of old.account.id) had.more (r ∷ [])
+
+      ends : (P : Event → Type 0) (r : Receipt) → P (event_of old.account.id r) → EndsWith P (map (event_of old.account.id) (had.more ++ r ∷ []))
+      ends P r holds = (map (event_of old.account.id) had.more, event_of old.account.id r, events_of r, had.idle, holds)
+
+      all_idle : (r : Receipt) → IsIdle (event_of old.account.id r) → All IsIdle (map (event_of old.account.id) (had.more ++ r ∷ []))
+      all_idle r idle = subst (All IsIdle) (sym (events_of r))
+          (All-append IsIdle (map (event_of old.account.id) had.more) (event_of old.account.id r ∷ []) had.idle (All-cons IsIdle _ [] idle (All-nil IsIdle)))
+
+      replied : (r : Reply) (q : List Move) → answer.Fire r ≡ reply_to (machine_of meaning mid.storage) q (call.Fire reads_named M) →
+          answer.Fire r ≡ reply_to m q (call.Fire reads_named M)
+      replied r q is = is ∙ ap (λ (s : StorageView A). reply_to (machine_of meaning s) q (call.Fire reads_named M)) storage_is
+
+      -- the fire was answered Fired
+      fired_told : (k : ℕ) → IsAnswered meaning mid new reads_named M (reply.Fired k) → IsTry meaning part old new step (Some (outcome.Fired k))
+      fired_told k is =
+          let agent = is.agent in
+          let seen = take (k - 1) new.account.seen in
+          let q = moves_seen seen in
+          let all = moves_seen new.account.seen in
+          let r = receipt_at (k - 1) (call.Fire reads_named M) (answer.Fire (reply.Fired k)) in
+          let entry : Entry = record { agent = mid.account.id; instrs = M } in
+          let longer : new.account.seen ≡ seen ++ entry ∷ [] = ap (λ (a : AgentAt A). a.account.seen) agent in
+          let adds = fire_adds mid new reads_named M (k - 1) (reply.Fired k) seen (ap (λ (a : AgentAt A). a.storage) agent) (ap (λ (a : AgentAt A). a.account.id) agent)
+          (ap (λ (a : AgentAt A). a.account.receipts) agent) is.begins (entry ∷ [], sym longer) in
+          let moves_more : all ≡ q ++ M ∷ [] = ap moves_seen longer ∙ mapped_both (λ (x : Entry). x.instrs) seen (entry ∷ []) in
+          let by = fired_by m q reads_named M k (replied (reply.Fired k) q is.reply) in
+          let first : take (k - 1) all ≡ q = ap (take (k - 1)) moves_more ∙ take_at q (M ∷ []) (k - 1) (omega (arith, by.number)) in
+          let whole : take k all ≡ take (k - 1) all ++ M ∷ [] =
+          take_all k all (omega (arith, by.number, ap length moves_more, length-append q (M ∷ []))) ∙ moves_more ∙ ap (λ w. w ++ M ∷ []) (sym first) in
+          let before = prefix_mapped (λ (x : Entry). x.instrs) mid.account.seen seen is.begins in (
+            record {
+              more = had.more ++ r ∷ [];
+              adds = adds_then old mid new had.more (r ∷ []) had.adds adds;
+              told = λ same proper.
+                  let proper_q = proper_prefix old.storage.init q all (M ∷ [], sym moves_more) proper in
+                  ends (IsFiring m all step k) r (
+                    reads_named,
+                    M,
+                    refl,
+                    refl,
+                    omega (arith, by.number),
+                    whole,
+                    (
+                      by.state,
+                      subst (λ w. fire m.part (state_of m w) M ≡ Ok by.state) (sym first) by.fires,
+                      subst (λ w. fire_blocks m.part (state_of m w) step ≡ Ok by.state) (sym first) (blocks_fire q same proper_q before by.fresh ∙ ap fired by.fires),
+                    ),
+                  );
+            },
+            (λ bad. cc bad),
+          )
+
+      -- another answer keeps what was seen
+      answered_adds : (r : Reply) → IsPrefix mid.account.seen new.account.seen →
+          new ≡ record (has_looked mid new.account.seen new.misses) {
+            account = record (has_looked mid new.account.seen new.misses).account {
+              receipts = mid.account.receipts ++ receipt_at (length new.account.seen) (call.Fire reads_named M) (answer.Fire r) ∷ [];
+            };
+          } → Adds old new (had.more ++ receipt_at (length new.account.seen) (call.Fire reads_named M) (answer.Fire r) ∷ [])
+      answered_adds r begins agent =
+          adds_then old mid new had.more _ had.adds
+          (fire_adds mid new reads_named M (length new.account.seen) r new.account.seen (ap (λ (a : AgentAt A). a.storage) agent)
+          (ap (λ (a : AgentAt A). a.account.id) agent) (ap (λ (a : AgentAt A). a.account.receipts) agent) begins ([], append-nil new.account.seen))
+
+      -- the fire was answered, or it was busy
+      pub ended_by_fire : (o : Option Reply) → HasTried meaning mid new reads_named M o → IsTry meaning part old new step (outcome_of o)
+      ended_by_fire (Some (reply.Fired k)) is = fired_told k is
+      ended_by_fire (Some (reply.Clash c)) is =
+          let all = moves_seen new.account.seen in
+          let by = clashed_by m all reads_named M c (replied (reply.Clash c) all is.reply) in
+          let before = prefix_mapped (λ (x : Entry). x.instrs) mid.account.seen new.account.seen is.begins in
+          let r = receipt_at (length new.account.seen) (call.Fire reads_named M) (answer.Fire (reply.Clash c)) in (
+            record {
+              more = had.more ++ r ∷ [];
+              adds = answered_adds (reply.Clash c) is.begins is.agent;
+              told = λ same proper. (
+                all_idle r (idle_clash old.account.id (length new.account.seen) reads_named M c),
+                inl (
+                  length all,
+                  omega arith,
+                  ap (λ q. fire_blocks m.part (state_of m q) step) (take_all (length all) all (omega arith)) ∙ blocks_fire all same proper before by.0 ∙ ap fired by.1,
+                ),
+              );
+            },
+            (λ bad. cc bad),
+          )
+      ended_by_fire (Some reply.Full) is =
+          let r = receipt_at (length new.account.seen) (call.Fire reads_named M) (answer.Fire reply.Full) in (
+            record {
+              more = had.more ++ r ∷ [];
+              adds = answered_adds reply.Full is.begins is.agent;
+              told = λ same proper. ends (λ e. e.answer ≡ answer.Fire reply.Full) r refl;
+            },
+            (λ bad. cc bad),
+          )
+      ended_by_fire (Some (reply.Stale l)) is =
+          let r = receipt_at (length new.account.seen) (call.Fire reads_named M) (answer.Fire (reply.Stale l)) in
+          record {
+            more = had.more ++ r ∷ [];
+            adds = answered_adds (reply.Stale l) is.begins is.agent;
+            idle = all_idle r (idle_stale old.account.id (length new.account.seen) reads_named M l);
+            cause = inl (had.more, r, l, refl, refl);
+          }
+      ended_by_fire None is = record {
+        more = had.more ++ [];
+        adds = adds_then old mid new had.more [] had.adds (record {
+          same = record { storage = ap (λ (a : AgentAt A). a.storage) is.agent; id = ap (λ (a : AgentAt A). a.account.id) is.agent };
+          begins = is.begins;
+          added = ap (λ (a : AgentAt A). a.account.receipts) is.agent ∙ sym (append-nil mid.account.receipts);
+        });
+        idle = subst (λ rs. All IsIdle (map (event_of old.account.id) rs)) (sym (append-nil had.more)) had.idle;
+        cause = inr (omega (arith, is.longer, prefix_length old.account.seen mid.account.seen had.adds.begins));
+      }

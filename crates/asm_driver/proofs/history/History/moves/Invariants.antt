@@ -1,8 +1,0 @@
-use Rattle.std.proofs.Common.{◌≡◌, length, min}
-use Rattle.std.specs.Prelude.{take}
-use Rattle.asm_driver.specs.History.{moves}
-use Rattle.asm_driver.proofs.history.History.moves.Given as goal
-
--- the moves so far are counted
-abbrev pub invariant-loop-event : goal.invariant-loop-event
-invariant-loop-event l = l.count ≡ min (length (moves (take l.event-index l.event-items))) 4294967295

@@ -1,0 +1,23 @@
+use Rattle.std.proofs.Common.{◌≡◌, ◌∙◌, ap, sym, subst, List, All}
+use Rattle.asm_storage.specs.Agents.{ids}
+use Rattle.asm_storage.specs.Storage.{accounts, IsOf}
+use Rattle.asm_driver.proofs.Closed.{closes, ids_are, of_storage, range_rises}
+use Rattle.asm_driver.proofs.play.closed.Goals as goal
+
+pub close-requires-clause-of_this : goal.close-requires-clause-of_this
+close-requires-clause-of_this c κs =
+    let s = c.args.storage.now in
+    subst (All (IsOf s)) (sym c.as_slice.ensures.value) (of_storage _ _ s 0 _ _ _ c.requires.turns)
+
+pub close-requires-clause-ascending : goal.close-requires-clause-ascending
+close-requires-clause-ascending c κs =
+    let s = c.args.storage.now in
+    range_rises 0 _ _
+    (ap (λ agents. ids (accounts agents)) c.as_slice.ensures.value ∙ ids_are _ _ s 0 _ _ _ c.requires.turns)
+
+pub returns-in-Ok-clause-played : goal.returns-in-Ok-clause-played
+returns-in-Ok-clause-played c =
+    let s = c.args.storage.now in
+    closes _ s _ _ _ _ _ c.as_slice.ensures.value c.requires.part c.requires.init c.requires.turns
+    c.in-Ok.ensures.history c.in-Ok.ensures.init c.in-Ok.ensures.capacity c.in-Ok.ensures.agents c.new.ensures
+    c.proper_history.ensures

@@ -1,0 +1,97 @@
+-- What the program does with the bytes of its input, and why it doesn't.
+use Rattle.std.specs.Prelude.{◌≡◌, ◌≢◌, ℕ, Bool, true, false, List, ◌++◌, codes}
+use Rattle.std.specs.Fmt.{decimal}
+use Rattle.asm_storage.specs.History.{Fits}
+use Rattle.asm_storage.specs.declared.history.History.{History}
+use Rattle.asm_journal.specs.Check.{machine_of, IsLegality}
+use Rattle.asm_journal.specs.Fault as fault
+use Rattle.asm_journal.specs.Reading as journal
+use Rattle.asm_journal.specs.Text.{text_of}
+use Rattle.asm_journal.specs.declared.checking.Legality.{Legality}
+use Rattle.asm_journal.specs.declared.checking.Legality.TheVariants.{Legal, Illegal}
+use Rattle.asm_journal.specs.declared.fault.JournalError.TheVariants as journal_error
+use Rattle.asm_driver.specs.Plan.{Plan}
+use Rattle.asm_driver.specs.Play.{IsNoCapacity, IsPlayOf}
+use Rattle.asm_driver.specs.Report.{line, report_of}
+use Rattle.asm_driver.specs.Script.{ReadsAs, IsRefused}
+use Rattle.asm_driver.specs.Standard.{standard_part}
+use Rattle.asm_driver.specs.declared.outcome.Played.{Played}
+use Rattle.asm_driver.specs.declared.refusal.Refusal.{Refusal}
+use Rattle.asm_driver.specs.declared.refusal.Refusal.TheVariants as refusal
+use Rattle.asm_driver.specs.declared.script.ScriptError.TheVariants.{BadScript}
+use Rattle.asm_driver.specs.declared.words.Request.{Request}
+use Rattle.asm_driver.specs.declared.words.Request.TheVariants.{Run, Check}
+
+-- ---- run
+
+-- the bytes are a script
+abbrev pub IsScript : List ℕ → Type 0
+IsScript bytes = (plan : Plan) × ReadsAs bytes plan
+
+-- the script of these bytes, played with this capacity, leaves this
+abbrev pub IsPlayed : List ℕ → ℕ → Played → Type 0
+IsPlayed bytes capacity p = (plan : Plan) × ReadsAs bytes plan × IsPlayOf plan capacity p
+
+-- what is written of a played script: its journal where that is asked for, and else its report
+abbrev pub text_of_played : Bool → Played → List ℕ
+text_of_played true p = text_of p.history
+text_of_played false p = report_of standard_part p
+
+-- the text of the script of these bytes, played with this capacity
+abbrev pub IsRun : List ℕ → ℕ → Bool → List ℕ → Type 0
+IsRun bytes capacity asked text =
+    (p : Played) × IsPlayed bytes capacity p × (text ≡ text_of_played asked p)
+
+-- why nothing is written of a played script: the journal is asked for, and the history is beyond a journal's limits;
+-- want of memory tells nothing
+abbrev pub IsNoText : Bool → Played → Refusal → Type 0
+IsNoText asked p refusal.Unfit = (asked ≡ true) × ¬ Fits p.history
+IsNoText asked p refusal.Memory = Unit {0}
+IsNoText asked p r = ⊥
+
+-- why these bytes aren't played: they are no script; the capacity is out of range; a thread couldn't be started, or a
+-- move has no receipt; what was played has no text; want of memory tells nothing
+abbrev pub IsNoRun : List ℕ → ℕ → Bool → Refusal → Type 0
+IsNoRun bytes capacity asked (refusal.BadScript cause) = IsRefused bytes (BadScript cause)
+IsNoRun bytes capacity asked refusal.Words = IsScript bytes × IsNoCapacity capacity
+IsNoRun bytes capacity asked refusal.NoThread = IsScript bytes
+IsNoRun bytes capacity asked (refusal.Missing k) = IsScript bytes
+IsNoRun bytes capacity asked refusal.Unfit = (p : Played) × IsPlayed bytes capacity p × IsNoText asked p refusal.Unfit
+IsNoRun bytes capacity asked refusal.Memory = Unit {0}
+IsNoRun bytes capacity asked r = ⊥
+
+-- ---- check
+
+-- legal CALLS MOVES, or illegal CALL
+abbrev pub legality_line : Legality → List ℕ
+legality_line (Legal calls moves) = line (codes "legal " ++ decimal calls ++ codes " " ++ decimal moves)
+legality_line (Illegal call) = line (codes "illegal " ++ decimal call)
+
+-- the status
+abbrev pub legality_status : Legality → ℕ
+legality_status (Legal calls moves) = 0
+legality_status (Illegal call) = 1
+
+-- the line and the status of the check of the history that these bytes read as
+abbrev pub IsCheck : List ℕ → ℕ → List ℕ → Type 0
+IsCheck bytes status text =
+    (h : History) × (l : Legality) × journal.ReadsAs bytes h × IsLegality (machine_of standard_part h) h.events l
+    × (status ≡ legality_status l) × (text ≡ legality_line l)
+
+-- why these bytes aren't checked: they are no journal; want of memory tells nothing
+abbrev pub IsNoCheck : List ℕ → Refusal → Type 0
+IsNoCheck bytes (refusal.BadJournal e) = (e ≢ journal_error.Memory) × fault.IsRefused bytes e
+IsNoCheck bytes refusal.Memory = Unit {0}
+IsNoCheck bytes r = ⊥
+
+-- ---- both
+
+-- what is asked is done with these bytes: the status and the text
+abbrev pub IsDone : List ℕ → Request → ℕ → List ℕ → Type 0
+IsDone bytes (Run capacity asked) status text = (status ≡ 0) × IsRun bytes capacity asked text
+IsDone bytes Check status text = IsCheck bytes status text
+
+-- why it isn't done
+abbrev pub IsNotDone : List ℕ → Request → Refusal → Type 0
+IsNotDone bytes (Run capacity asked) r = IsNoRun bytes capacity asked r
+IsNotDone bytes Check r = IsNoCheck bytes r

@@ -1,0 +1,118 @@
+-- The line and the status of each refusal, and the refusals that are made of errors.
+use Rattle.std.specs.Prelude.{ℕ, Bool, true, false, List, ◌++◌, codes, string_bytes}
+use Rattle.std.specs.Fmt.{decimal}
+use Rattle.asm_journal.specs.declared.fault.JournalError.{JournalError}
+use Rattle.asm_journal.specs.declared.fault.JournalError.TheVariants as journal
+use Rattle.asm_driver.specs.Report.{line}
+use Rattle.asm_driver.specs.declared.input.InputError.{InputError}
+use Rattle.asm_driver.specs.declared.input.InputError.TheVariants as input
+use Rattle.asm_driver.specs.declared.outcome.RunError.{RunError}
+use Rattle.asm_driver.specs.declared.outcome.RunError.TheVariants as play
+use Rattle.asm_driver.specs.declared.refusal.Line.{Line}
+use Rattle.asm_driver.specs.declared.refusal.Line.TheVariants.{Known, Made}
+use Rattle.asm_driver.specs.declared.refusal.Refusal.{Refusal}
+use Rattle.asm_driver.specs.declared.refusal.Refusal.TheVariants as refusal
+use Rattle.asm_driver.specs.declared.script.ScriptCause.{ScriptCause}
+use Rattle.asm_driver.specs.declared.script.ScriptCause.TheVariants.{NotJson, Shape, Agents, Blocks, Instructions}
+use Rattle.asm_driver.specs.declared.script.ScriptCause.TheVariants.{Reads}
+use Rattle.asm_driver.specs.declared.script.ScriptError.{ScriptError}
+use Rattle.asm_driver.specs.declared.script.ScriptError.TheVariants.{BadScript, Memory}
+
+-- ---- each error, and the refusal that is made of it
+
+-- of the input
+abbrev pub refusal_of_input : InputError → Refusal
+refusal_of_input input.TooLarge = refusal.TooLarge
+refusal_of_input input.Fault = refusal.InputFault
+refusal_of_input input.Memory = refusal.Memory
+
+-- of a script
+abbrev pub refusal_of_script : ScriptError → Refusal
+refusal_of_script (BadScript cause) = refusal.BadScript cause
+refusal_of_script Memory = refusal.Memory
+
+-- of playing it
+abbrev pub refusal_of_run : RunError → Refusal
+refusal_of_run play.BadCapacity = refusal.Words
+refusal_of_run play.NoThread = refusal.NoThread
+refusal_of_run (play.Missing k) = refusal.Missing k
+refusal_of_run play.Memory = refusal.Memory
+
+-- of a journal
+abbrev pub refusal_of_journal : JournalError → Refusal
+refusal_of_journal (journal.NotJson n) = refusal.BadJournal (journal.NotJson n)
+refusal_of_journal (journal.Shape n) = refusal.BadJournal (journal.Shape n)
+refusal_of_journal journal.Version = refusal.BadJournal journal.Version
+refusal_of_journal journal.Cut = refusal.BadJournal journal.Cut
+refusal_of_journal journal.Memory = refusal.Memory
+
+-- ---- lines
+
+-- the bytes of a line
+abbrev pub line_bytes : Line → List ℕ
+line_bytes (Known l) = l.now
+line_bytes (Made l) = string_bytes l
+
+-- why a script is refused
+abbrev pub cause_line : ScriptCause → List ℕ
+cause_line NotJson = line (codes "bad script: not JSON")
+cause_line Shape = line (codes "bad script: shape")
+cause_line Agents = line (codes "bad script: agents")
+cause_line Blocks = line (codes "bad script: blocks")
+cause_line Instructions = line (codes "bad script: instructions")
+cause_line Reads = line (codes "bad script: reads")
+
+-- the line for want of memory
+abbrev pub memory_line : List ℕ
+memory_line = line (codes "out of memory")
+
+-- why a journal is refused
+abbrev pub journal_line : JournalError → List ℕ
+journal_line (journal.NotJson n) = line (codes "journal line " ++ decimal n ++ codes ": not JSON")
+journal_line (journal.Shape n) = line (codes "journal line " ++ decimal n ++ codes ": shape")
+journal_line journal.Version = line (codes "journal version")
+journal_line journal.Cut = line (codes "journal cut")
+journal_line journal.Memory = memory_line
+
+-- the line that is written
+abbrev pub refusal_line : Refusal → List ℕ
+refusal_line refusal.Words = line (codes "bad words")
+refusal_line refusal.TooLarge = line (codes "input too large")
+refusal_line (refusal.BadScript cause) = cause_line cause
+refusal_line (refusal.BadJournal e) = journal_line e
+refusal_line refusal.Unfit = line (codes "bad script: shape")
+refusal_line (refusal.Missing k) = line (codes "missing move " ++ decimal k)
+refusal_line refusal.InputFault = line (codes "input fault")
+refusal_line refusal.NoThread = line (codes "no thread")
+refusal_line refusal.Memory = memory_line
+
+-- whether a number stands in the line of a journal's fault
+abbrev pub journal_has_number : JournalError → Bool
+journal_has_number (journal.NotJson n) = true
+journal_has_number (journal.Shape n) = true
+journal_has_number _ = false
+
+-- whether a number stands in the line, so that memory is needed for it
+abbrev pub has_number : Refusal → Bool
+has_number (refusal.BadJournal e) = journal_has_number e
+has_number (refusal.Missing k) = true
+has_number _ = false
+
+-- ---- statuses
+
+-- the status of a journal's fault
+abbrev pub journal_status : JournalError → ℕ
+journal_status journal.Memory = 3
+journal_status _ = 2
+
+-- the status
+abbrev pub refusal_status : Refusal → ℕ
+refusal_status refusal.Words = 2
+refusal_status refusal.TooLarge = 2
+refusal_status (refusal.BadScript cause) = 2
+refusal_status (refusal.BadJournal e) = journal_status e
+refusal_status refusal.Unfit = 2
+refusal_status (refusal.Missing k) = 1
+refusal_status refusal.InputFault = 4
+refusal_status refusal.NoThread = 3
+refusal_status refusal.Memory = 3

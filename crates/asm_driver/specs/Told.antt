@@ -1,0 +1,61 @@
+-- What the outcomes of an agent's steps tell of its answered calls.
+use Rattle.std.specs.Prelude.{◌≡◌, ◌≢◌, ◌-◌, ◌≤◌, ◌⊎◌, ℕ, List, [], ◌∷◌, ◌++◌, length, take, All, Ok, Err}
+use Rattle.asm_update.specs.Fire.{fire}
+use Rattle.asm_update.specs.Move.{Move}
+use Rattle.asm_update.specs.State.{State}
+use Rattle.asm_state.specs.declared.named.Named.{Named}
+use Rattle.asm_storage.specs.Machine.{Machine, state_of}
+use Rattle.asm_storage.specs.declared.call.Call.TheVariants as call
+use Rattle.asm_storage.specs.declared.call.Reply.TheVariants as reply
+use Rattle.asm_storage.specs.declared.call.Answer.TheVariants as answer
+use Rattle.asm_storage.specs.declared.history.Event.{Event}
+use Rattle.asm_driver.specs.Sequencing.{Stop, FaultyTerm, Clashes, fire_blocks, IsStopped}
+use Rattle.asm_driver.specs.declared.step.Step.{Step}
+use Rattle.asm_driver.specs.declared.outcome.Outcome.{Outcome}
+use Rattle.asm_driver.specs.declared.outcome.Outcome.TheVariants as outcome
+
+-- the state that the first n moves leave
+abbrev pub after : Machine → List Move → ℕ → State
+after m q n = state_of m (take n q)
+
+-- the event is no fired move, and was not refused for want of room
+abbrev pub IsIdle : Event → Type 0
+IsIdle e = (e.answer ≢ answer.Fire reply.Full) × ((k : ℕ) → e.answer ≢ answer.Fire (reply.Fired k))
+
+-- the event fired the k-th of the moves, which leaves what the blocks of the step, fired in turn, leave on the state
+-- before it
+abbrev pub IsFiring : Machine → List Move → Step → ℕ → Event → Type 0
+IsFiring m q step k e =
+    (reads : List Named) × (M : Move) × (e.call ≡ call.Fire reads M) × (e.answer ≡ answer.Fire (reply.Fired k))
+    × (1 ≤ k) × (take k q ≡ take (k - 1) q ++ M ∷ [])
+    × ((B : State) × (fire m.part (after m q (k - 1)) M ≡ Ok B) × (fire_blocks m.part (after m q (k - 1)) step ≡ Ok B))
+
+-- on the state that some first moves leave, the blocks of the step stop so
+abbrev pub StopsWith : Machine → List Move → Step → Stop → Type 0
+StopsWith m q step stop = (n : ℕ) × (n ≤ length q) × (fire_blocks m.part (after m q n) step ≡ Err stop)
+
+-- on the state that some first moves leave, some clash stops the blocks of the step
+abbrev pub Clashing : Machine → List Move → Step → Type 0
+Clashing m q step = (n : ℕ) × (n ≤ length q) × IsStopped (fire_blocks m.part (after m q n) step)
+
+-- the events are idle but for the last, which is so
+abbrev pub EndsWith : (Event → Type 0) → List Event → Type 0
+EndsWith P es = (idle : List Event) × (e : Event) × (es ≡ idle ++ e ∷ []) × All IsIdle idle × P e
+
+-- the events are those of a step with this outcome
+abbrev pub IsTold : Machine → List Move → Step → Outcome → List Event → Type 0
+IsTold m q step (outcome.Fired k) es = EndsWith (IsFiring m q step k) es
+IsTold m q step outcome.Full es = EndsWith (λ e. e.answer ≡ answer.Fire reply.Full) es
+IsTold m q step (outcome.Clash clash) es = All IsIdle es × (StopsWith m q step (Clashes clash) ⊎ Clashing m q step)
+IsTold m q step outcome.Term es = All IsIdle es × StopsWith m q step FaultyTerm
+IsTold m q step (outcome.Large l) es = All IsIdle es × Clashing m q step
+IsTold m q step outcome.Many es = All IsIdle es
+IsTold m q step outcome.GaveUp es = All IsIdle es
+
+-- one outcome for each step, and the events are those of the steps, in order
+abbrev pub AreTold : Machine → List Move → List Step → List Outcome → List Event → Type 0
+AreTold m q [] [] es = es ≡ []
+AreTold m q [] (o ∷ os) es = ⊥
+AreTold m q (s ∷ ss) [] es = ⊥
+AreTold m q (s ∷ ss) (o ∷ os) es =
+    (mine rest : List Event) × (es ≡ mine ++ rest) × IsTold m q s o mine × AreTold m q ss os rest

@@ -1,0 +1,29 @@
+-- What the agents of a storage leave when each played its steps, and how faults of playing are told.
+use Rattle.std.specs.Prelude.{◌+◌, ℕ, List, [], ◌∷◌, get_or}
+use Rattle.asm_update.specs.Aggregator.{Meaning}
+use Rattle.asm_update.specs.Fire.{Part}
+use Rattle.asm_storage.specs.Storage.{AgentAt, StorageView, at_start}
+use Rattle.asm_driver.specs.Plays.{Plays}
+use Rattle.asm_driver.specs.declared.outcome.Outcome.{Outcome}
+use Rattle.asm_driver.specs.declared.outcome.RunError.{RunError}
+use Rattle.asm_driver.specs.declared.outcome.RunError.TheVariants as run_error
+use Rattle.asm_driver.specs.declared.step.Step.{Step}
+use Rattle.asm_driver.specs.declared.workers.Fault.{Fault}
+use Rattle.asm_driver.specs.declared.workers.Fault.TheVariants.{NoThread, Memory}
+
+-- the steps that stand at the agent's number, or none
+abbrev pub steps_at : {A : Type 0} → List (List Step) → AgentAt A → List Step
+steps_at sss a = get_or sss a.account.id []
+
+-- from the number id on, each agent of the storage played its steps, with these outcomes, having made no call before
+abbrev pub ArePlayed : {A : Type 0} → (A → Meaning) → Part → StorageView A → ℕ → List (List Step) → List (AgentAt A) →
+    List (List Outcome) → Type 0
+ArePlayed meaning part s id [] [] [] = Unit {0}
+ArePlayed meaning part s id (ss ∷ sss) (a ∷ agents) (os ∷ oss) =
+    Plays meaning part (at_start s id) a ss os × ArePlayed meaning part s (id + 1) sss agents oss
+ArePlayed meaning part s id _ _ _ = ⊥
+
+-- a fault of the workers as one of the run
+abbrev pub fault_told : Fault → RunError
+fault_told NoThread = run_error.NoThread
+fault_told Memory = run_error.Memory

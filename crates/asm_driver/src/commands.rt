@@ -1,0 +1,100 @@
+//! What the commands do with the input.
+ghost use Rattle.std.specs.Prelude.{◌≡◌, IfOk, IfErr, string_bytes};
+ghost use Rattle.asm_driver.specs.Commands.{text_of_played, IsNoText, IsRun, IsNoRun, IsCheck, IsNoCheck};
+ghost use Rattle.asm_driver.specs.Commands.{legality_line, legality_status, IsDone, IsNotDone};
+
+use crate::aggregator::chosen;
+use crate::gate::Open;
+use crate::outcome::Played;
+use crate::parsing::parse_script;
+use crate::play::run_script;
+use crate::refusal::Refusal;
+use crate::report::report;
+use crate::words::Request;
+use asm_journal::{Legality, check, from_text, to_text};
+use std::alloc::{AllocError, Global};
+use std::sync::Wait;
+use std::thread::Threads;
+
+/// What is answered: the program's status, and the text that it writes.
+#[derive(Drop)]
+pub(crate) struct Ending {
+    pub(crate) status: u8,
+    pub(crate) text: String,
+}
+
+/// What is written of a played script: its journal where that is asked for, and else its report.
+fn played_text(alloc: Global, played: &Played, journal: bool) -> Result<String, Refusal>
+    ensures ok { IfOk result (λ text. string_bytes text ≡ text_of_played journal played.now) }
+    ensures err { IfErr result (IsNoText journal played.now) }
+{
+    if !journal {
+        return Ok(report(alloc, played)?);
+    }
+    if !played.history.fits() {
+        return Err(Refusal::Unfit);
+    }
+    Ok(to_text(alloc, &played.history)?)
+}
+
+/// Plays the script that the bytes are.
+fn run<T: Threads + Wait + Sync>(
+    rt: &T,
+    alloc: Global,
+    bytes: &[u8],
+    capacity: u32,
+    journal: bool,
+) -> Result<String, Refusal>
+    ensures ok { IfOk result (λ text. IsRun bytes.now capacity journal (string_bytes text)) }
+    ensures err { IfErr result (IsNoRun bytes.now capacity journal) }
+{
+    let script = parse_script(alloc, bytes)?;
+    let played = run_script(rt, alloc, &script, capacity, &Open)?;
+    played_text(alloc, &played, journal)
+}
+
+/// The line and the status of a check.
+fn legality_ending(alloc: Global, legality: Legality) -> Result<Ending, AllocError>
+    ensures status { IfOk result (λ e. e.status ≡ legality_status legality) }
+    ensures text { IfOk result (λ e. string_bytes e.text ≡ legality_line legality) }
+{
+    Ok(match legality {
+        Legality::Legal { calls, moves } => Ending {
+            status: 0,
+            text: format!(in alloc; "legal {calls} {moves}\n")?,
+        },
+        Legality::Illegal { call } => Ending {
+            status: 1,
+            text: format!(in alloc; "illegal {call}\n")?,
+        },
+    })
+}
+
+/// Checks the journal that the bytes are.
+fn check_journal(alloc: Global, bytes: &[u8]) -> Result<Ending, Refusal>
+    ensures ok { IfOk result (λ e. IsCheck bytes.now e.status (string_bytes e.text)) }
+    ensures err { IfErr result (IsNoCheck bytes.now) }
+{
+    let history = from_text(alloc, bytes)?;
+    let legality = check(alloc, &chosen(), &history)?;
+    Ok(legality_ending(alloc, legality)?)
+}
+
+/// Does what is asked with the bytes of the input.
+pub(crate) fn carry_out<T: Threads + Wait + Sync>(
+    rt: &T,
+    alloc: Global,
+    request: Request,
+    bytes: &[u8],
+) -> Result<Ending, Refusal>
+    ensures ok { IfOk result (λ e. IsDone bytes.now request e.status (string_bytes e.text)) }
+    ensures err { IfErr result (IsNotDone bytes.now request) }
+{
+    match request {
+        Request::Run { capacity, journal } => Ok(Ending {
+            status: 0,
+            text: run(rt, alloc, bytes, capacity, journal)?,
+        }),
+        Request::Check => check_journal(alloc, bytes),
+    }
+}

@@ -1,0 +1,158 @@
+//! How a script is read from its text.
+ghost use Rattle.std.specs.Prelude.{◌≡◌, [], IfOk, IfErr, false};
+ghost use Rattle.std.specs.List.{list_any};
+ghost use Rattle.serde_json.specs.View.{view};
+ghost use Rattle.asm_journal.specs.Shape.{Reads as ReadsForm};
+ghost use Rattle.asm_journal.specs.Reading.{IsJson};
+ghost use Rattle.asm_driver.specs.Script.{IsNotJson, IsScriptForm, is_long, IsLong, step_faults, agent_faults};
+ghost use Rattle.asm_driver.specs.Script.{faults, IsFirst, IsPlanOf, ReadsAs, IsRefused};
+
+use crate::block::{Block, TermInstruction};
+use crate::script::{AGENTS_LIMIT, Script, ScriptCause, ScriptError};
+use crate::step::{Step, step_reads};
+use asm_element::Items;
+use asm_journal::{FromJson, Listed, two_members};
+use asm_update::PlainState;
+use serde_json::Value as Json;
+use std::alloc::{AllocError, Global};
+
+/// The most blocks of a step.
+const BLOCKS_LIMIT: usize = 65;
+
+/// The most locations that a step reads.
+const READS_LIMIT: usize = 256;
+
+/// What is written in a script, before its limits are looked at.
+#[derive(Drop)]
+struct Written {
+    init: PlainState,
+    agents: Listed<Listed<Listed<Listed<TermInstruction>>>>,
+}
+
+/// The JSON that the bytes are.
+fn json_of(alloc: Global, bytes: &[u8]) -> Result<Json, ScriptError>
+    ensures ok { IfOk result (λ v. IsJson bytes.now (view v)) }
+    ensures err { IfErr result (IsNotJson bytes.now) }
+{
+    match Json::from_slice(alloc, bytes) {
+        Ok(json) => Ok(json),
+        Err(error) if error.is_memory() => Err(ScriptError::Memory),
+        Err(_) => Err(ScriptError::BadScript(ScriptCause::NotJson)),
+    }
+}
+
+/// What the value, a script's form, says.
+fn written_of(alloc: Global, json: &Json) -> Result<Option<Written>, AllocError>
+    ensures { IfOk result (ReadsForm IsScriptForm (view json.now)) }
+{
+    let Some((agents, init)) = two_members(json, "agents", "init") else {
+        return Ok(None);
+    };
+    let Some(agents) = Listed::from_json(alloc, agents)? else {
+        return Ok(None);
+    };
+    match PlainState::from_json(alloc, init)? {
+        Some(init) => Ok(Some(Written { init, agents })),
+        None => Ok(None),
+    }
+}
+
+/// The block of these instructions.
+fn block_of(written: Listed<TermInstruction>) -> Result<Block, ScriptError>
+    ensures ok { IfOk result (λ b. (b ≡ written) × (is_long written ≡ false)) }
+    ensures err { IfErr result (IsLong (is_long written)) }
+{
+    match Block::new(written.into_vec()) {
+        Some(block) => Ok(block),
+        None => Err(ScriptError::BadScript(ScriptCause::Instructions)),
+    }
+}
+
+/// The blocks of a step.
+fn blocks_of(
+    alloc: Global,
+    written: Vec<Listed<TermInstruction>>,
+) -> Result<Vec<Block>, ScriptError>
+    ensures ok { IfOk result (λ bs. (bs.items ≡ written.items)
+        × (list_any is_long written.items ≡ false)) }
+    ensures err { IfErr result (IsLong (list_any is_long written.items)) }
+{
+    let mut blocks = Vec::new(alloc);
+    for block in written {
+        blocks.push(block_of(block)?)?;
+    }
+    Ok(blocks)
+}
+
+/// The step of these blocks, where it is within the limits.
+fn step_of(alloc: Global, written: Listed<Listed<TermInstruction>>) -> Result<Step, ScriptError>
+    ensures ok { IfOk result (λ s. (s ≡ written) × (step_faults written ≡ [])) }
+    ensures err { IfErr result (IsFirst (step_faults written)) }
+{
+    let written = written.into_vec();
+    let count = written.len();
+    if count == 0 {
+        return Err(ScriptError::BadScript(ScriptCause::Blocks));
+    }
+    if count > BLOCKS_LIMIT {
+        return Err(ScriptError::BadScript(ScriptCause::Blocks));
+    }
+    let blocks = blocks_of(alloc, written)?;
+    let Some(step) = Step::new(blocks) else {
+        unreachable!()
+    };
+    if step_reads(alloc, &step)?.len() > READS_LIMIT {
+        return Err(ScriptError::BadScript(ScriptCause::Reads));
+    }
+    Ok(step)
+}
+
+/// The steps of an agent.
+fn steps_of(
+    alloc: Global,
+    written: Listed<Listed<Listed<TermInstruction>>>,
+) -> Result<Items<Step>, ScriptError>
+    ensures ok { IfOk result (λ steps. (steps ≡ written) × (agent_faults written ≡ [])) }
+    ensures err { IfErr result (IsFirst (agent_faults written)) }
+{
+    let mut steps = Vec::new(alloc);
+    for step in written.into_vec() {
+        steps.push(step_of(alloc, step)?)?;
+    }
+    Ok(Items::new(steps))
+}
+
+/// The script that is written, where it is within the limits.
+fn script_of(alloc: Global, written: Written) -> Result<Script, ScriptError>
+    ensures ok { IfOk result (IsPlanOf written) }
+    ensures err { IfErr result (IsFirst (faults written.agents)) }
+{
+    let Written { init, agents } = written;
+    let agents = agents.into_vec();
+    if agents.len() > AGENTS_LIMIT {
+        return Err(ScriptError::BadScript(ScriptCause::Agents));
+    }
+    let mut done = Vec::new(alloc);
+    for steps in agents {
+        done.push(steps_of(alloc, steps)?)?;
+    }
+    match Script::of(init, Items::new(done)) {
+        Some(script) => Ok(script),
+        None => unreachable!(),
+    }
+}
+
+/// Reads a script from its JSON text.
+///
+/// `BadScript` names the first of the causes, in the order in which `ScriptCause` lists them; the last
+/// three are looked for agent by agent and step by step. `Memory` comes only where memory was refused.
+pub fn parse_script(alloc: Global, bytes: &[u8]) -> Result<Script, ScriptError>
+    ensures ok { IfOk result (ReadsAs bytes.now) }
+    ensures err { IfErr result (IsRefused bytes.now) }
+{
+    let json = json_of(alloc, bytes)?;
+    match written_of(alloc, &json)? {
+        Some(written) => script_of(alloc, written),
+        None => Err(ScriptError::BadScript(ScriptCause::Shape)),
+    }
+}

@@ -1,0 +1,28 @@
+//! That what a history holds is proper.
+ghost use Rattle.std.specs.Prelude.{◌≡◌, Some, All};
+ghost use Rattle.asm_update.specs.Action.{IsProperInstruction};
+ghost use Rattle.asm_update.specs.Move.{Move};
+ghost use Rattle.asm_storage.specs.History.{move_of, moves};
+ghost use Rattle.asm_driver.specs.Plays.{AreProper};
+
+use asm_storage::{Call, Event, History};
+
+// Does nothing; its contract tells that the move of the event is proper.
+fn proper_event(event: &Event)
+    ensures { (M : Move) → move_of event.now ≡ Some M → All IsProperInstruction M }
+{
+    match &event.call {
+        Call::Read(_) => {}
+        Call::Fire { instrs, .. } => instrs.proper(),
+    }
+}
+
+/// Does nothing; its contract tells that the opening state and the moves of the history are proper.
+pub(crate) fn proper_history(history: &History)
+    ensures { AreProper history.now.init (moves history.now.events) }
+{
+    history.init.proper();
+    for event in history.events.as_slice() {
+        proper_event(event);
+    }
+}

@@ -1,0 +1,168 @@
+//! Jobs, each done on a thread of its own.
+ghost use Rattle.std.specs.Prelude.{◌≡◌, ◌<◌, ◌++◌, IfOk, IsOkAnd, vec_len};
+ghost use Rattle.std.specs.Thread.{IsSync};
+ghost use denote.Param.Send.{IsSend};
+ghost use Rattle.asm_driver.specs.Works.{GivesEach, told_first};
+
+use std::alloc::{AllocError, AllocFailed, Global};
+use std::marker::{PhantomData, Send, Sync};
+use std::snapshot::Snapshot;
+use std::sync::Wait;
+use std::thread;
+use std::thread::{Promise, Threads};
+
+/// What is done with a job.
+pub trait Task<J, X>: Sync {
+    /// What a job may give.
+    ghost gives: { Self → J → X → Type 0 };
+
+    /// Does the job. The error is want of memory.
+    fn run<R: Wait>(&self, rt: &R, job: J) -> Result<X, AllocError>
+        ensures { IfOk result (λ x. gives self.now job x) };
+}
+
+/// Why jobs were not done.
+#[derive(Clone, Copy, Debug, PartialEq, Eq)]
+pub enum Fault {
+    /// A thread couldn't be started.
+    NoThread,
+    /// The memory that was asked for was refused.
+    Memory,
+}
+
+impl From<AllocError> for Fault {
+    fn from(_refused: AllocError) -> Fault {
+        Fault::Memory
+    }
+}
+
+impl<T: Drop> From<AllocFailed<T>> for Fault {
+    fn from(_refused: AllocFailed<T>) -> Fault {
+        Fault::Memory
+    }
+}
+
+impl Fault {
+    // The fault of two that is told: a missing thread goes before want of memory.
+    fn first(self, other: Fault) -> Fault
+        ensures { result ≡ told_first self other }
+    {
+        match self {
+            Fault::NoThread => self,
+            Fault::Memory => other,
+        }
+    }
+}
+
+// A worker's promise: what it hands back is what the task gives for each of its jobs.
+struct GivesEachOf<J, X, T: Task<J, X>> {
+    task: Snapshot<T>,
+    jobs: Snapshot<Vec<J>>,
+    done: PhantomData<X>,
+}
+
+impl<J, X, T: Task<J, X>> Drop for GivesEachOf<J, X, T> {
+    fn drop(self) {
+        let GivesEachOf {
+            task: _,
+            jobs: _,
+            done: _,
+        } = self;
+    }
+}
+
+impl<J, X, T: Task<J, X>> Promise<Result<Vec<X>, Fault>> for GivesEachOf<J, X, T> {
+    ghost kept_by = { λ p r. IfOk r (λ done. GivesEach (T.gives p.task.value) p.jobs.value.items done.items) };
+}
+
+/// Does each job on a thread of its own, the last on this one; what they give stands in the jobs' order.
+///
+/// The jobs are halved until they stand alone, so a worker starts the workers of its half. It returns when
+/// all of them have ended. `Fault::NoThread` comes where a thread couldn't be started, and goes before
+/// `Fault::Memory`, which comes where memory was refused.
+#[cycle(halves)]
+pub fn each<R: Threads + Wait + Sync, J: Send + Drop, X: Send + Drop, T: Task<J, X>>(
+    rt: &R,
+    alloc: Global,
+    task: &T,
+    mut jobs: Vec<J>,
+) -> Result<Vec<X>, Fault>
+    ensures { IfOk result (λ done. GivesEach (T.gives task.now) jobs.items done.items) }
+{
+    if jobs.len() < 2 {
+        return at_most_one(rt, alloc, task, jobs);
+    }
+    let second = jobs.split_off(jobs.len() / 2)?;
+    both(rt, alloc, task, jobs, second)
+}
+
+fn at_most_one<R: Wait, J: Drop, X: Drop, T: Task<J, X>>(
+    rt: &R,
+    alloc: Global,
+    task: &T,
+    mut jobs: Vec<J>,
+) -> Result<Vec<X>, Fault>
+    requires { vec_len jobs < 2 }
+    ensures { IfOk result (λ done. GivesEach (T.gives task.now) jobs.items done.items) }
+{
+    let mut done = Vec::new(alloc);
+    let Some(job) = jobs.pop() else {
+        return Ok(done);
+    };
+    done.push(task.run(rt, job)?)?;
+    Ok(done)
+}
+
+// A worker does the first half while this thread does the second.
+#[cycle(halves)]
+fn both<R: Threads + Wait + Sync, J: Send + Drop, X: Send + Drop, T: Task<J, X>>(
+    rt: &R,
+    alloc: Global,
+    task: &T,
+    first: Vec<J>,
+    second: Vec<J>,
+) -> Result<Vec<X>, Fault>
+    ensures { IfOk result (λ done. GivesEach (T.gives task.now) (first.items ++ second.items) done.items) }
+{
+    thread::scope(
+        thread::scope_env(),
+        rt,
+        move |scope| -> Result<Vec<X>, Fault>
+            requires { IsSync R.row × IsSync T.row × IsSend J.row × IsSend X.row }
+            ensures { IfOk result (λ done. GivesEach (T.gives task.entry.now) (first.items ++ second.items)
+                done.items) }
+        {
+            let promise = GivesEachOf {
+                task: Snapshot::of(task),
+                jobs: Snapshot::of(&first),
+                done: PhantomData,
+            };
+            let work = move || -> Result<Vec<X>, Fault>
+                requires { IsSync R.row × IsSync T.row × IsSend J.row × IsSend X.row }
+                ensures { IfOk result (λ done. GivesEach (T.gives task.entry.now) first.items done.items) }
+            { each(rt, alloc, task, first) };
+            let Ok(worker) = scope.spawn_with(promise, work) else {
+                return Err(Fault::NoThread);
+            };
+            let ours = each(rt, alloc, task, second);
+            joined(worker.join(rt), ours)
+        },
+    )
+}
+
+// What both halves gave, in order.
+fn joined<X: Drop>(
+    first: Result<Vec<X>, Fault>,
+    second: Result<Vec<X>, Fault>,
+) -> Result<Vec<X>, Fault>
+    ensures { IfOk result (λ done. IsOkAnd first (λ a. IsOkAnd second (λ b. done.items ≡ a.items ++ b.items))) }
+{
+    match (first, second) {
+        (Ok(mut done), Ok(mut more)) => {
+            done.append(&mut more)?;
+            Ok(done)
+        }
+        (Ok(_), Err(fault)) | (Err(fault), Ok(_)) => Err(fault),
+        (Err(fault), Err(other)) => Err(fault.first(other)),
+    }
+}

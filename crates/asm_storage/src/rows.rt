@@ -1,0 +1,366 @@
+//! Calls of two agents on one storage as plain data, each with the answer that it has to get.
+ghost use Rattle.std.specs.Prelude.{◌≡◌, ◌<◌, All};
+ghost use Rattle.std.specs.List.Sorted.{IsStrictlyIncreasing};
+ghost use Rattle.asm_storage.specs.Agents.{ids};
+ghost use Rattle.asm_storage.specs.Storage.{accounts, IsOf, IsSameAgent};
+
+use crate::*;
+use asm_aggregate::{BagAgg, Pair, SetAgg, standard};
+use asm_element::{Element, Items, Location, Value};
+use asm_state::Named;
+use asm_update::{Action, Cause, Clash, Instruction, Instructions, PlainState};
+use std::alloc::Global;
+use std::process::Abort;
+use std::test::Fail;
+
+pub(crate) type Standard = Pair<SetAgg, BagAgg>;
+
+/// The one or the other of the two agents: they have the numbers 0 and 1.
+#[derive(Clone, Copy)]
+pub(crate) enum Who {
+    A,
+    B,
+}
+
+/// A put of a number at the location of this name.
+#[derive(Clone, Copy)]
+pub(crate) struct Put(pub(crate) &'static str, pub(crate) i64);
+
+/// The location of this name, named with a number.
+#[derive(Clone, Copy)]
+pub(crate) struct At(pub(crate) &'static str, pub(crate) u32);
+
+/// What an agent asks.
+#[derive(Clone, Copy)]
+pub(crate) enum Act {
+    Read(&'static [&'static str]),
+    Fire(&'static [Put], &'static [At]),
+}
+
+/// What it is answered. The number of a reply that fires nothing is that of the moves that it was judged on.
+#[derive(Clone, Copy)]
+pub(crate) enum Want {
+    Read(u32, &'static [Option<i64>]),
+    Fired(u32),
+    Stale(&'static str, u32),
+    Clash(&'static str, Cause, u32),
+    Full(u32),
+}
+
+#[derive(Clone, Copy)]
+pub(crate) enum Step {
+    /// It asks, and is answered.
+    Ask(Who, Act, Want),
+    /// It learns the other's mark, and has then seen so many moves.
+    Learn(Who, u32),
+    /// It has seen so many moves, won so many offers, and found so many cells empty.
+    Count(Who, u32, u32, u64),
+}
+
+pub(crate) fn location(alloc: Global, name: &str) -> Result<Location, Fail> {
+    Ok(Location::new(String::from_str(alloc, name)?, Vec::new(alloc))?)
+}
+
+fn element(number: Option<i64>) -> Element {
+    match number {
+        Some(n) => Element::Num(n),
+        None => Element::Undef,
+    }
+}
+
+pub(crate) fn move_of(alloc: Global, puts: &[Put]) -> Result<Instructions, Fail> {
+    let mut list = Instructions::new(alloc);
+    for put in puts {
+        let action = Action::Regular(Value::Plain(Element::Num(put.1)));
+        let at = location(alloc, put.0)?;
+        list.push(Instruction { at, action })?;
+    }
+    Ok(list)
+}
+
+pub(crate) fn places_of(alloc: Global, names: &[&'static str]) -> Result<Vec<Location>, Fail> {
+    let mut list = Vec::new(alloc);
+    for name in names {
+        list.push(location(alloc, name)?)?;
+    }
+    Ok(list)
+}
+
+pub(crate) fn named_of(alloc: Global, reads: &[At]) -> Result<Vec<Named>, Fail> {
+    let mut list = Vec::new(alloc);
+    for read in reads {
+        let at = location(alloc, read.0)?;
+        list.push(Named { at, number: read.1 })?;
+    }
+    Ok(list)
+}
+
+fn values_of(alloc: Global, numbers: &[Option<i64>]) -> Result<Items<Value>, Fail> {
+    let mut list = Vec::new(alloc);
+    for number in numbers {
+        list.push(Value::Plain(element(*number)))?;
+    }
+    Ok(Items::new(list))
+}
+
+fn call_of(alloc: Global, act: Act) -> Result<Call, Fail> {
+    Ok(match act {
+        Act::Read(names) => Call::Read(Items::new(places_of(alloc, names)?)),
+        Act::Fire(puts, reads) => Call::Fire {
+            reads: Items::new(named_of(alloc, reads)?),
+            instrs: move_of(alloc, puts)?,
+        },
+    })
+}
+
+fn reply_of(alloc: Global, want: Want) -> Result<Reply, Fail> {
+    Ok(match want {
+        Want::Fired(number) => Reply::Fired(number),
+        Want::Stale(name, _) => Reply::Stale(location(alloc, name)?),
+        Want::Clash(name, cause, _) => Reply::Clash(Clash {
+            at: location(alloc, name)?,
+            cause,
+        }),
+        _ => Reply::Full,
+    })
+}
+
+fn answer_of(alloc: Global, want: Want) -> Result<Answer, Fail> {
+    match want {
+        Want::Read(number, numbers) => {
+            let values = values_of(alloc, numbers)?;
+            Ok(Answer::Read { number, values })
+        }
+        _ => Ok(Answer::Fire(reply_of(alloc, want)?)),
+    }
+}
+
+fn stood_of(want: Want) -> u32 {
+    match want {
+        Want::Read(number, _) => number,
+        Want::Fired(number) => number.saturating_sub(1),
+        Want::Stale(_, number) => number,
+        Want::Clash(_, _, number) => number,
+        Want::Full(number) => number,
+    }
+}
+
+pub(crate) fn receipt_of(alloc: Global, act: Act, want: Want) -> Result<Receipt, Fail> {
+    let call = call_of(alloc, act)?;
+    let answer = answer_of(alloc, want)?;
+    Ok(Receipt {
+        call,
+        answer,
+        stood: stood_of(want),
+    })
+}
+
+/// Whether a read is answered so.
+fn reads(
+    alloc: Global,
+    agent: &mut Agent<'_, Standard>,
+    places: &[Location],
+    number: u32,
+    values: &[Value],
+) -> bool
+    ensures { IsSameAgent agent.old agent.new }
+{
+    match agent.read(alloc, places) {
+        Ok(reading) => reading.number == number && reading.values.as_slice() == values,
+        Err(_) => false,
+    }
+}
+
+/// Whether a fire is answered so.
+pub(crate) fn fires(
+    alloc: Global,
+    agent: &mut Agent<'_, Standard>,
+    reads: &[Named],
+    instrs: &Instructions,
+    wanted: &Reply,
+) -> bool
+    ensures { IsSameAgent agent.old agent.new }
+{
+    match agent.try_fire(alloc, reads, instrs) {
+        Ok(reply) => reply == *wanted,
+        Err(_) => false,
+    }
+}
+
+/// The agent asks what the receipt tells; whether it is answered so, and keeps that receipt.
+pub(crate) fn performs(alloc: Global, agent: &mut Agent<'_, Standard>, wanted: &Receipt) -> bool
+    ensures { IsSameAgent agent.old agent.new }
+{
+    let is_answered = match (&wanted.call, &wanted.answer) {
+        (Call::Read(places), Answer::Read { number, values }) => {
+            reads(alloc, agent, places.as_slice(), *number, values.as_slice())
+        }
+        (Call::Fire { reads, instrs }, Answer::Fire(reply)) => {
+            fires(alloc, agent, reads.as_slice(), instrs, reply)
+        }
+        _ => false,
+    };
+    is_answered && agent.receipts().last() == Some(wanted)
+}
+
+fn asks(alloc: Global, agent: &mut Agent<'_, Standard>, act: Act, want: Want) -> Result<bool, Fail>
+    ensures { IsSameAgent agent.old agent.new }
+{
+    let wanted = receipt_of(alloc, act, want)?;
+    Ok(performs(alloc, agent, &wanted))
+}
+
+/// Learns the other's mark; whether it has then seen so many moves.
+fn learns(
+    alloc: Global,
+    agent: &mut Agent<'_, Standard>,
+    other: &Agent<'_, Standard>,
+    seen: u32,
+) -> Result<bool, Fail>
+    requires { other.now.storage ≡ agent.old.storage }
+    ensures { IsSameAgent agent.old agent.new }
+{
+    let mark = other.mark(alloc)?;
+    agent.learn(alloc, &mark)?;
+    Ok(agent.seen() == seen)
+}
+
+pub(crate) fn counts(agent: &Agent<'_, Standard>, seen: u32, won: u32, misses: u64) -> bool {
+    agent.seen() == seen && agent.won() == won && agent.misses() == misses
+}
+
+/// Two agents of one storage.
+#[derive(Drop)]
+pub(crate) struct Two<'s> {
+    pub(crate) storage: &'s Storage<Standard>,
+    pub(crate) a: Agent<'s, Standard>,
+    pub(crate) b: Agent<'s, Standard>,
+    ghost first: { a.storage ≡ storage.now },
+    ghost second: { b.storage ≡ storage.now },
+    ghost ascending: { a.account.id < b.account.id },
+}
+
+impl Two<'_> {
+    pub(crate) fn step(&mut self, alloc: Global, step: Step) -> Result<bool, Fail> {
+        match step {
+            Step::Ask(Who::A, act, want) => asks(alloc, &mut self.a, act, want),
+            Step::Ask(Who::B, act, want) => asks(alloc, &mut self.b, act, want),
+            Step::Learn(Who::A, seen) => learns(alloc, &mut self.a, &self.b, seen),
+            Step::Learn(Who::B, seen) => learns(alloc, &mut self.b, &self.a, seen),
+            Step::Count(Who::A, seen, won, misses) => Ok(counts(&self.a, seen, won, misses)),
+            Step::Count(Who::B, seen, won, misses) => Ok(counts(&self.b, seen, won, misses)),
+        }
+    }
+
+    pub(crate) fn play<R: Abort>(
+        &mut self,
+        rt: &R,
+        alloc: Global,
+        steps: &[Step],
+    ) -> Result<(), Fail> {
+        for (k, step) in steps.iter().enumerate() {
+            assert!(rt; self.step(alloc, *step)?, "at step {k}");
+        }
+        Ok(())
+    }
+}
+
+/// An opening state where x has this value.
+fn opened(alloc: Global, x: Option<i64>) -> Result<PlainState, Fail> {
+    let mut init = PlainState::new(alloc);
+    init.set(location(alloc, "x")?, Value::Plain(element(x)))?;
+    Ok(init)
+}
+
+pub(crate) fn storage_of(
+    alloc: Global,
+    x: Option<i64>,
+    capacity: u32,
+) -> Result<Storage<Standard>, Fail> {
+    Ok(Storage::new(alloc, standard(), opened(alloc, x)?, capacity)?)
+}
+
+pub(crate) fn two_of(alloc: Global, storage: &Storage<Standard>) -> Result<Two<'_>, Fail> {
+    let mut agents = storage.agents(alloc, 2)?;
+    match (agents.pop(), agents.pop()) {
+        (Some(b), Some(a)) => Ok(Two { storage, a, b }),
+        _ => unreachable!(),
+    }
+}
+
+/// What closing gives: the missing move, or so many moves, with the agents of all events.
+#[derive(Clone, Copy)]
+pub(crate) enum Close {
+    Missing(u32),
+    Events(u32, &'static [u32]),
+}
+
+fn is_by(events: &[Event], agents: &[u32]) -> bool {
+    events
+        .iter()
+        .map(|event| event.agent)
+        .eq(agents.iter().copied())
+}
+
+/// Whether closing gives this, and again the same.
+fn closes(
+    alloc: Global,
+    storage: &Storage<Standard>,
+    agents: &[Agent<'_, Standard>],
+    want: Close,
+) -> bool
+    requires of_this { All (IsOf storage.now) agents.now }
+    requires ascending { IsStrictlyIncreasing (ids (accounts agents.now)) }
+{
+    let closed = storage.close(alloc, agents);
+    let is_wanted = match (&closed, want) {
+        (Ok(history), Close::Events(moves, by)) => {
+            history.fits() && history.moves() == moves && is_by(history.events.as_slice(), by)
+        }
+        (Err(CloseError::Missing(number)), Close::Missing(wanted)) => *number == wanted,
+        _ => false,
+    };
+    is_wanted && storage.close(alloc, agents) == closed
+}
+
+/// Calls of two agents on a storage of this capacity where x has this value, and what closing gives then: with
+/// the first agent alone, and with both.
+#[derive(Clone, Copy)]
+pub(crate) struct Row {
+    pub(crate) x: Option<i64>,
+    pub(crate) capacity: u32,
+    pub(crate) steps: &'static [Step],
+    pub(crate) alone: Close,
+    pub(crate) both: Close,
+}
+
+impl Two<'_> {
+    fn close<R: Abort>(self, rt: &R, alloc: Global, row: Row) {
+        let Two { storage, a, b } = self;
+        let agents = [a, b];
+        assert!(rt;
+            closes(alloc, storage, &agents[..0], Close::Events(0, &[])),
+            "none"
+        );
+        assert!(rt;
+            closes(alloc, storage, &agents[..1], row.alone),
+            "the first alone"
+        );
+        assert!(rt; closes(alloc, storage, &agents, row.both), "both");
+    }
+}
+
+fn check<R: Abort>(rt: &R, alloc: Global, row: Row) -> Result<(), Fail> {
+    let storage = storage_of(alloc, row.x, row.capacity)?;
+    let mut two = two_of(alloc, &storage)?;
+    two.play(rt, alloc, row.steps)?;
+    two.close(rt, alloc, row);
+    Ok(())
+}
+
+pub(crate) fn check_all<R: Abort>(rt: &R, alloc: Global, rows: &[Row]) -> Result<(), Fail> {
+    for row in rows {
+        check(rt, alloc, *row)?;
+    }
+    Ok(())
+}

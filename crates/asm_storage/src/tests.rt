@@ -1,0 +1,248 @@
+use crate::contest::{Contest, Outcome, contend_all};
+use crate::rows::{Act, At, Close, Put, Row, Step, Want, Who, check_all};
+use Act::{Fire, Read};
+use Step::{Ask, Count, Learn};
+use Who::{A, B};
+use asm_update::Cause;
+use std::test::Fail;
+
+static NAMED_READS: [Row; 3] = [
+    Row {
+        x: Some(7),
+        capacity: 8,
+        steps: &[
+            Ask(A, Read(&["x"]), Want::Read(0, &[Some(7)])),
+            Ask(B, Fire(&[Put("x", 7)], &[]), Want::Fired(1)),
+            Ask(A, Fire(&[Put("y", 1)], &[At("x", 0)]), Want::Stale("x", 1)),
+            Ask(A, Fire(&[Put("y", 1)], &[]), Want::Fired(2)),
+            Ask(A, Fire(&[Put("y", 2)], &[At("x", 1)]), Want::Fired(3)),
+            Ask(A, Fire(&[], &[At("y", 2), At("x", 0)]), Want::Stale("x", 3)),
+            Ask(
+                B,
+                Read(&["y", "z", "x"]),
+                Want::Read(3, &[Some(2), None, Some(7)]),
+            ),
+        ],
+        alone: Close::Missing(1),
+        both: Close::Events(3, &[0, 1, 0, 0, 0, 0, 1]),
+    },
+    Row {
+        x: Some(7),
+        capacity: 8,
+        steps: &[
+            Ask(A, Read(&["x"]), Want::Read(0, &[Some(7)])),
+            Ask(B, Fire(&[], &[]), Want::Fired(1)),
+            Ask(A, Fire(&[Put("y", 1)], &[At("x", 0)]), Want::Fired(2)),
+        ],
+        alone: Close::Missing(1),
+        both: Close::Events(2, &[0, 1, 0]),
+    },
+    Row {
+        x: None,
+        capacity: 1,
+        steps: &[
+            Ask(
+                A,
+                Fire(&[Put("y", 1), Put("y", 2), Put("x", 1), Put("x", 2)], &[]),
+                Want::Clash("x", Cause::Two, 0),
+            ),
+            Ask(A, Fire(&[Put("x", 1)], &[]), Want::Fired(1)),
+            Count(A, 1, 1, 2),
+            Ask(
+                A,
+                Fire(&[Put("x", 1), Put("x", 2)], &[At("x", 1)]),
+                Want::Clash("x", Cause::Two, 1),
+            ),
+            Ask(
+                A,
+                Fire(&[Put("x", 1), Put("x", 2)], &[At("x", 0)]),
+                Want::Stale("x", 1),
+            ),
+            Ask(A, Fire(&[Put("x", 3)], &[]), Want::Full(1)),
+            Count(A, 1, 1, 2),
+            Count(B, 0, 0, 0),
+            Ask(B, Fire(&[], &[At("x", 9)]), Want::Full(1)),
+            Ask(B, Read(&["x", "x"]), Want::Read(1, &[Some(1), Some(1)])),
+            Count(B, 1, 0, 0),
+        ],
+        alone: Close::Events(1, &[0, 0, 0, 0, 0]),
+        both: Close::Events(1, &[0, 0, 0, 0, 0, 1, 1]),
+    },
+];
+
+#[test]
+fn fires_are_judged_on_what_was_fired(rt: HostRuntime) -> Result<(), Fail> {
+    check_all(&rt, rt.alloc(), &NAMED_READS)
+}
+
+static CLOSING: [Row; 3] = [
+    Row {
+        x: None,
+        capacity: 8,
+        steps: &[
+            Ask(B, Fire(&[Put("y", 1)], &[]), Want::Fired(1)),
+            Ask(A, Fire(&[Put("x", 1)], &[]), Want::Fired(2)),
+        ],
+        alone: Close::Missing(1),
+        both: Close::Events(2, &[1, 0]),
+    },
+    Row {
+        x: None,
+        capacity: 8,
+        steps: &[
+            Ask(A, Fire(&[Put("y", 1)], &[]), Want::Fired(1)),
+            Ask(B, Fire(&[Put("x", 1)], &[]), Want::Fired(2)),
+            Ask(B, Read(&[]), Want::Read(2, &[])),
+            Ask(A, Read(&[]), Want::Read(2, &[])),
+        ],
+        alone: Close::Missing(2),
+        both: Close::Events(2, &[0, 1, 0, 1]),
+    },
+    Row {
+        x: None,
+        capacity: 8,
+        steps: &[
+            Ask(A, Fire(&[Put("y", 1)], &[]), Want::Fired(1)),
+            Ask(B, Fire(&[Put("x", 1)], &[]), Want::Fired(2)),
+        ],
+        alone: Close::Events(1, &[0]),
+        both: Close::Events(2, &[0, 1]),
+    },
+];
+
+#[test]
+fn receipts_close_into_one_history(rt: HostRuntime) -> Result<(), Fail> {
+    check_all(&rt, rt.alloc(), &CLOSING)
+}
+
+static MARKS: [Row; 2] = [
+    Row {
+        x: None,
+        capacity: 8,
+        steps: &[
+            Ask(B, Fire(&[Put("x", 5)], &[]), Want::Fired(1)),
+            Learn(A, 1),
+            Count(A, 1, 0, 0),
+            Ask(A, Read(&["x"]), Want::Read(1, &[Some(5)])),
+            Count(A, 1, 0, 1),
+            Ask(A, Fire(&[], &[]), Want::Fired(2)),
+            Learn(A, 2),
+            Learn(B, 2),
+            Count(B, 2, 1, 1),
+        ],
+        alone: Close::Missing(1),
+        both: Close::Events(2, &[1, 0, 0]),
+    },
+    Row {
+        x: None,
+        capacity: 8,
+        steps: &[
+            Ask(B, Fire(&[Put("x", 5)], &[]), Want::Fired(1)),
+            Ask(A, Read(&["x"]), Want::Read(1, &[Some(5)])),
+            Count(A, 1, 0, 1),
+        ],
+        alone: Close::Missing(1),
+        both: Close::Events(1, &[1, 0]),
+    },
+];
+
+#[test]
+fn a_mark_and_a_look_tell_the_same_moves(rt: HostRuntime) -> Result<(), Fail> {
+    check_all(&rt, rt.alloc(), &MARKS)
+}
+
+static CONTESTS: [Contest; 8] = [
+    Contest {
+        capacity: 200,
+        before: 0,
+        reads: &[],
+        others: &[],
+        times: u32::MAX,
+        outcome: Outcome::Busy(0, 64),
+        seen: 64,
+        misses: 64,
+        again: Want::Fired(65),
+    },
+    Contest {
+        capacity: 200,
+        before: 63,
+        reads: &[],
+        others: &[],
+        times: u32::MAX,
+        outcome: Outcome::Busy(63, 127),
+        seen: 127,
+        misses: 64,
+        again: Want::Fired(128),
+    },
+    Contest {
+        capacity: 200,
+        before: 0,
+        reads: &[At("y", 0)],
+        others: &[Put("x", 5)],
+        times: 63,
+        outcome: Outcome::Answered(Want::Fired(64)),
+        seen: 64,
+        misses: 64,
+        again: Want::Stale("y", 64),
+    },
+    Contest {
+        capacity: 63,
+        before: 0,
+        reads: &[],
+        others: &[],
+        times: u32::MAX,
+        outcome: Outcome::Answered(Want::Full(63)),
+        seen: 63,
+        misses: 63,
+        again: Want::Full(63),
+    },
+    Contest {
+        capacity: 64,
+        before: 0,
+        reads: &[],
+        others: &[],
+        times: u32::MAX,
+        outcome: Outcome::Busy(0, 64),
+        seen: 64,
+        misses: 64,
+        again: Want::Full(64),
+    },
+    Contest {
+        capacity: 8,
+        before: 0,
+        reads: &[At("x", 0)],
+        others: &[Put("x", 5)],
+        times: u32::MAX,
+        outcome: Outcome::Answered(Want::Stale("x", 1)),
+        seen: 1,
+        misses: 2,
+        again: Want::Stale("x", 1),
+    },
+    Contest {
+        capacity: 1,
+        before: 0,
+        reads: &[],
+        others: &[Put("x", 5)],
+        times: u32::MAX,
+        outcome: Outcome::Answered(Want::Full(1)),
+        seen: 1,
+        misses: 1,
+        again: Want::Full(1),
+    },
+    Contest {
+        capacity: 2,
+        before: 1,
+        reads: &[At("x", 1)],
+        others: &[],
+        times: 0,
+        outcome: Outcome::Answered(Want::Fired(2)),
+        seen: 2,
+        misses: 1,
+        again: Want::Full(2),
+    },
+];
+
+#[test]
+fn lost_offers_are_judged_again_and_counted(rt: HostRuntime) -> Result<(), Fail> {
+    contend_all(&rt, rt.alloc(), &CONTESTS)
+}
