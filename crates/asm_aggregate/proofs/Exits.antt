@@ -13,29 +13,44 @@ use Rattle.asm_update.specs.declared.errors.JoinError.TheVariants as join_error
 use Rattle.asm_aggregate.specs.Steps.{IsShort, IsAbove, IsLargeIf}
 
 -- an error that is handed on
-pub handed_on : {T E : Type 0} (Q : Result T E → Type 0) (r : Result T E) (e d : E) → r ≡ Err e → e ≡ d → Q (Err d) → Q r
+pub handed_on : {T E : Type 0} (Q : Result T E → Type 0) (r : Result T E) (e d : E) → r ≡ Err e → e ≡ d → Q (Err d) →
+    Q r
 handed_on Q r e d h k q = subst Q (sym h) (subst (λ (x : _). Q (Err x)) (sym k) q)
 
-pub short_error : (there gone there' gone' : Element → ℕ) (error : ResultError) → ((e : Element) × (there e < gone e) → (e : Element) × (there' e < gone' e)) → IsShort there gone error → IsShort there' gone' error
+pub short_error : (there gone there' gone' : Element → ℕ) (error : ResultError) →
+    ((e : Element) × (there e < gone e) → (e : Element) × (there' e < gone' e)) → IsShort there gone error →
+    IsShort there' gone' error
 short_error there gone there' gone' (Refused Short) f h = f h
 short_error there gone there' gone' error f h = absurd h
 
-pub above_error : (count count' : Element → ℕ) (error : ResultError) → ((e : Element) × (4294967295 < count e) → (e : Element) × (4294967295 < count' e)) → IsAbove count error → IsAbove count' error
+pub above_error : (count count' : Element → ℕ) (error : ResultError) →
+    ((e : Element) × (4294967295 < count e) → (e : Element) × (4294967295 < count' e)) → IsAbove count error →
+    IsAbove count' error
 above_error count count' (Refused Large) f h = f h
 above_error count count' Memory f h = tt
 above_error count count' error f h = absurd h
 
-pub short_outcome : (there gone : Element → ℕ) (error : ResultError) (outcome : Outcome) → ((e : Element) × (there e < gone e) → outcome ≡ Err Short) → IsShort there gone error → IsOutcome (Err error) outcome
+pub short_outcome : (there gone : Element → ℕ) (error : ResultError) (outcome : Outcome) →
+    ((e : Element) × (there e < gone e) → outcome ≡ Err Short) → IsShort there gone error →
+    IsOutcome (Err error) outcome
 short_outcome there gone (Refused Short) outcome f h = f h
 short_outcome there gone Memory outcome f h = tt
 short_outcome there gone error outcome f h = absurd h
 
-pub above_outcome : (count : Element → ℕ) (error : ResultError) (outcome : Outcome) → ((e : Element) × (4294967295 < count e) → outcome ≡ Err Large) → IsAbove count error → IsOutcome (Err error) outcome
+pub above_outcome : (count : Element → ℕ) (error : ResultError) (outcome : Outcome) →
+    ((e : Element) × (4294967295 < count e) → outcome ≡ Err Large) → IsAbove count error → IsOutcome (Err error) outcome
 above_outcome count (Refused Large) outcome f h = f h
 above_outcome count Memory outcome f h = tt
 above_outcome count error outcome f h = absurd h
 
-pub large_join : (test : Bool) (error : JoinError) (joined : Joined) → (test ≡ true → joined ≡ Err TooLarge) → IsLargeIf test error → IsJoined (Err error) joined
+pub large_join : (test : Bool) (error : JoinError) (joined : Joined) → (test ≡ true → joined ≡ Err TooLarge) →
+    IsLargeIf test error → IsJoined (Err error) joined
 large_join test join_error.Large joined f h = f h
 large_join test join_error.Memory joined f h = tt
 large_join test (join_error.Cause cause) joined f h = absurd h
+
+pub large_error : (test more : Bool) (error : JoinError) → (test ≡ true → more ≡ true) → IsLargeIf test error →
+    IsLargeIf more error
+large_error test more join_error.Large f h = f h
+large_error test more join_error.Memory f h = tt
+large_error test more (join_error.Cause cause) f h = absurd h

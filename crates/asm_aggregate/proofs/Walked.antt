@@ -1,5 +1,6 @@
 -- A walk of a move's groups in ascending order, which aggregates one location more at a time.
-use Rattle.std.proofs.Common.{◌≡◌, Bool, true, false, cond, ◌&&◌, T, List, [], ◌∷◌, Some, None, refl, sym, ap, subst, ◌∙◌}
+use Rattle.std.proofs.Common.{◌≡◌, Bool, true, false, cond, ◌&&◌, T, List, [], ◌∷◌, Some, None, refl, sym, ap, subst}
+use Rattle.std.proofs.Common.{◌∙◌}
 use Rattle.std.specs.Prelude.{Option, Ok, Err, IsOk, IsSomeAnd}
 use Rattle.std.specs.declared.cmp.Ordering.{Ordering}
 use Rattle.std.specs.declared.cmp.Ordering.TheVariants.{Less, Equal, Greater}
@@ -26,7 +27,8 @@ pub second : (a b : Bool) → T (a && b) → T b
 second true b p = p
 second false b p = absurd p
 
-pub rising_rest : {X : Type 0} (k : Place) (v : X) (rest : List (Place × X)) → T (finite.is_sorted location_cmp ((k, v) ∷ rest)) → T (finite.is_sorted location_cmp rest)
+pub rising_rest : {X : Type 0} (k : Place) (v : X) (rest : List (Place × X)) →
+    T (finite.is_sorted location_cmp ((k, v) ∷ rest)) → T (finite.is_sorted location_cmp rest)
 rising_rest k v rest h = second _ _ h
 
 pub apart : (o : Ordering) → T (is_lt o) → is_eq o ≡ false
@@ -40,34 +42,46 @@ is_less Equal h = absurd h
 is_less Greater h = absurd h
 
 -- a location below all of a list isn't in it
-none_below : {X : Type 0} (k : Place) (es : List (Place × X)) → T (below_all location_cmp k es) → finite.find location_cmp k es ≡ None
+none_below : {X : Type 0} (k : Place) (es : List (Place × X)) → T (below_all location_cmp k es) →
+    finite.find location_cmp k es ≡ None
 none_below k [] h = refl
-none_below k (e ∷ es) h = ap (λ b. cond b (Some e.1) (finite.find location_cmp k es)) (apart (location_cmp k e.0) (first _ _ h)) ∙ none_below k es (second _ _ h)
+none_below k (e ∷ es) h =
+    ap (λ b. cond b (Some e.1) (finite.find location_cmp k es)) (apart (location_cmp k e.0) (first _ _ h))
+    ∙ none_below k es (second _ _ h)
 
-pub first_gone : {X : Type 0} (k : Place) (v : X) (rest : List (Place × X)) → T (finite.is_sorted location_cmp ((k, v) ∷ rest)) → finite.find location_cmp k rest ≡ None
+pub first_gone : {X : Type 0} (k : Place) (v : X) (rest : List (Place × X)) →
+    T (finite.is_sorted location_cmp ((k, v) ∷ rest)) → finite.find location_cmp k rest ≡ None
 first_gone k v rest h = none_below k rest (first _ _ h)
 
 -- nor is one below the first
-lower_than : {X : Type 0} (l k : Place) (es : List (Place × X)) → location_cmp l k ≡ Less → T (below_all location_cmp k es) → finite.find location_cmp l es ≡ None
+lower_than : {X : Type 0} (l k : Place) (es : List (Place × X)) → location_cmp l k ≡ Less →
+    T (below_all location_cmp k es) → finite.find location_cmp l es ≡ None
 lower_than l k [] lt h = refl
 lower_than l k (e ∷ es) lt h =
-    ap (λ o. cond (is_eq o) (Some e.1) (finite.find location_cmp l es)) (location_cmp_total.trans l k e.0 lt (is_less _ (first _ _ h))) ∙ lower_than l k es lt (second _ _ h)
+    ap (λ o. cond (is_eq o) (Some e.1) (finite.find location_cmp l es))
+    (location_cmp_total.trans l k e.0 lt (is_less _ (first _ _ h))) ∙ lower_than l k es lt (second _ _ h)
 
-pub none_lower : {X : Type 0} (l k : Place) (v : X) (rest : List (Place × X)) → location_cmp l k ≡ Less → T (finite.is_sorted location_cmp ((k, v) ∷ rest)) → finite.find location_cmp l ((k, v) ∷ rest) ≡ None
-none_lower l k v rest lt h = ap (λ o. cond (is_eq o) (Some v) (finite.find location_cmp l rest)) lt ∙ lower_than l k rest lt (first _ _ h)
+pub none_lower : {X : Type 0} (l k : Place) (v : X) (rest : List (Place × X)) → location_cmp l k ≡ Less →
+    T (finite.is_sorted location_cmp ((k, v) ∷ rest)) → finite.find location_cmp l ((k, v) ∷ rest) ≡ None
+none_lower l k v rest lt h =
+    ap (λ o. cond (is_eq o) (Some v) (finite.find location_cmp l rest)) lt ∙ lower_than l k rest lt (first _ _ h)
 
 abbrev pub find_in : {X : Type 0} → Place → List (Place × X) → Option X
 find_in l es = finite.find location_cmp l es
 
 -- what is left has the bundles of its locations, and the other locations of the move have their results
-pub record IsWalked (part : Part) (old : Old) (M : Move) (left : List (Place × Bundle)) (updates : Updates) : Type 0 where
+pub record IsWalked (part : Part) (old : Old) (M : Move) (left : List (Place × Bundle))
+    (updates : Updates) : Type 0 where
   pub rising : T (finite.is_sorted location_cmp left)
-  pub left_has : (l : Place) (b : Bundle) → find_in l left ≡ Some b → (writes M l ≡ true) × (b ≡ bundle_of (actions_at M l))
-  pub done : (l : Place) → find_in l left ≡ None → writes M l ≡ true → IsSomeAnd (finite.get updates l) (λ v. outcome_at part old M l ≡ Ok v)
+  pub left_has : (l : Place) (b : Bundle) → find_in l left ≡ Some b →
+      (writes M l ≡ true) × (b ≡ bundle_of (actions_at M l))
+  pub done : (l : Place) → find_in l left ≡ None → writes M l ≡ true →
+      IsSomeAnd (finite.get updates l) (λ v. outcome_at part old M l ≡ Ok v)
   pub others : (l : Place) → writes M l ≡ false → finite.get updates l ≡ None
 
 module _ (part : Part) (old : Old) (M : Move) where
-  pub walk_starts : (groups : finite.FinMap location_cmp Bundle) (left : List (Place × Bundle)) (updates : Updates) → AreGroups M groups → left ≡ finite.entries groups → updates ≡ finite.empty → IsWalked part old M left updates
+  pub walk_starts : (groups : finite.FinMap location_cmp Bundle) (left : List (Place × Bundle)) (updates : Updates) →
+      AreGroups M groups → left ≡ finite.entries groups → updates ≡ finite.empty → IsWalked part old M left updates
   walk_starts groups left updates are all none = record {
     rising = subst (λ es. T (finite.is_sorted location_cmp es)) (sym all) (finite.entries_sorted groups);
     left_has = λ l b h. by_test l b (writes M l) refl (sym (found l) ∙ h);
@@ -77,16 +91,23 @@ module _ (part : Part) (old : Old) (M : Move) where
     found : (l : Place) → find_in l left ≡ bundle_at M l
     found l = ap (find_in l) all ∙ sym (finite.get-entries groups l) ∙ are l
 
-    by_test : (l : Place) (b : Bundle) (t : Bool) → writes M l ≡ t → bundle_at M l ≡ Some b → (writes M l ≡ true) × (b ≡ bundle_of (actions_at M l))
+    by_test : (l : Place) (b : Bundle) (t : Bool) → writes M l ≡ t → bundle_at M l ≡ Some b →
+        (writes M l ≡ true) × (b ≡ bundle_of (actions_at M l))
     by_test l b true w h = (w, some_is _ _ (sym h ∙ ap (λ t. cond t (Some (bundle_of (actions_at M l))) None) w))
-    by_test l b false w h = let no : None ≡ Some b = ap (λ t. cond t (Some (bundle_of (actions_at M l))) None) (sym w) ∙ h in cc
+    by_test l b false w h =
+        let no : None ≡ Some b = ap (λ t. cond t (Some (bundle_of (actions_at M l))) None) (sym w) ∙ h in cc
 
-    by_none : (l : Place) → bundle_at M l ≡ None → writes M l ≡ true → IsSomeAnd (finite.get updates l) (λ v. outcome_at part old M l ≡ Ok v)
-    by_none l h w = let no : Some (bundle_of (actions_at M l)) ≡ None = ap (λ t. cond t (Some (bundle_of (actions_at M l))) None) (sym w) ∙ h in cc
+    by_none : (l : Place) → bundle_at M l ≡ None → writes M l ≡ true →
+        IsSomeAnd (finite.get updates l) (λ v. outcome_at part old M l ≡ Ok v)
+    by_none l h w =
+        let no : Some (bundle_of (actions_at M l)) ≡ None =
+        ap (λ t. cond t (Some (bundle_of (actions_at M l))) None) (sym w) ∙ h in cc
 
-  module _ (k : Place) (b : Bundle) (rest left : List (Place × Bundle)) (updates : Updates) (step : left ≡ (k, b) ∷ rest) (had : IsWalked part old M left updates) where
+  module _ (k : Place) (b : Bundle) (rest left : List (Place × Bundle)) (updates : Updates)
+      (step : left ≡ (k, b) ∷ rest) (had : IsWalked part old M left updates) where
     first_has : (writes M k ≡ true) × (b ≡ bundle_of (actions_at M k))
-    first_has = had.left_has k b (ap (find_in k) step ∙ ap (λ t. cond t (Some b) (find_in k rest)) (itself location_cmp_total k))
+    first_has = had.left_has k b
+        (ap (find_in k) step ∙ ap (λ t. cond t (Some b) (find_in k rest)) (itself location_cmp_total k))
 
     rises : T (finite.is_sorted location_cmp ((k, b) ∷ rest))
     rises = subst (λ es. T (finite.is_sorted location_cmp es)) step had.rising
@@ -98,26 +119,35 @@ module _ (part : Part) (old : Old) (M : Move) where
     gives o h = ap (bundle_result part (old k)) (sym first_has.1) ∙ h
 
     -- the first that is left has a result
-    pub walk_goes_on : (v : Value) (next : Updates) → bundle_result part (old k) b ≡ Ok v → next ≡ finite.insert updates k v → IsWalked part old M rest next
+    pub walk_goes_on : (v : Value) (next : Updates) → bundle_result part (old k) b ≡ Ok v →
+        next ≡ finite.insert updates k v → IsWalked part old M rest next
     walk_goes_on v next gave is = record {
       rising = rising_rest k b rest rises;
       left_has = λ l c h. had.left_has l c (ap (find_in l) step ∙ later l c h (eq_by_cmp location_cmp l k) refl);
       done = λ l h w. by_test l h w (eq_by_cmp location_cmp l k) refl;
-      others = λ l w. got l ∙ ap (λ t. cond t (Some v) (finite.get updates l)) (elsewhere l w (eq_by_cmp location_cmp l k) refl) ∙ had.others l w;
+      others = λ l w. got l
+          ∙ ap (λ t. cond t (Some v) (finite.get updates l)) (elsewhere l w (eq_by_cmp location_cmp l k) refl)
+          ∙ had.others l w;
     } where
       got : (l : Place) → finite.get next l ≡ cond (eq_by_cmp location_cmp l k) (Some v) (finite.get updates l)
       got l = ap (λ (u : Updates). finite.get u l) is ∙ finite.get-insert location_cmp_total updates k v l
 
-      later : (l : Place) (c : Bundle) → find_in l rest ≡ Some c → (t : Bool) → eq_by_cmp location_cmp l k ≡ t → cond t (Some b) (find_in l rest) ≡ Some c
-      later l c h true e = let no : None ≡ Some c = sym (ap (λ p. find_in p rest) (same_location l k e) ∙ first_gone k b rest rises) ∙ h in cc
+      later : (l : Place) (c : Bundle) → find_in l rest ≡ Some c → (t : Bool) → eq_by_cmp location_cmp l k ≡ t →
+          cond t (Some b) (find_in l rest) ≡ Some c
+      later l c h true e =
+          let no : None ≡ Some c =
+          sym (ap (λ p. find_in p rest) (same_location l k e) ∙ first_gone k b rest rises) ∙ h in cc
       later l c h false e = h
 
-      by_test : (l : Place) → find_in l rest ≡ None → writes M l ≡ true → (t : Bool) → eq_by_cmp location_cmp l k ≡ t → IsSomeAnd (finite.get next l) (λ v. outcome_at part old M l ≡ Ok v)
+      by_test : (l : Place) → find_in l rest ≡ None → writes M l ≡ true → (t : Bool) → eq_by_cmp location_cmp l k ≡ t →
+          IsSomeAnd (finite.get next l) (λ v. outcome_at part old M l ≡ Ok v)
       by_test l h w true e =
-          subst (λ (o : Option Value). IsSomeAnd o (λ v. outcome_at part old M l ≡ Ok v)) (sym (got l ∙ ap (λ t. cond t (Some v) (finite.get updates l)) e))
+          subst (λ (o : Option Value). IsSomeAnd o (λ v. outcome_at part old M l ≡ Ok v))
+          (sym (got l ∙ ap (λ t. cond t (Some v) (finite.get updates l)) e))
           (ap (outcome_at part old M) (same_location l k e) ∙ gives (Ok v) gave)
       by_test l h w false e =
-          subst (λ (o : Option Value). IsSomeAnd o (λ v. outcome_at part old M l ≡ Ok v)) (sym (got l ∙ ap (λ t. cond t (Some v) (finite.get updates l)) e))
+          subst (λ (o : Option Value). IsSomeAnd o (λ v. outcome_at part old M l ≡ Ok v))
+          (sym (got l ∙ ap (λ t. cond t (Some v) (finite.get updates l)) e))
           (had.done l (ap (find_in l) step ∙ ap (λ t. cond t (Some b) (find_in l rest)) e ∙ h) w)
 
       elsewhere : (l : Place) → writes M l ≡ false → (t : Bool) → eq_by_cmp location_cmp l k ≡ t → t ≡ false
@@ -125,16 +155,20 @@ module _ (part : Part) (old : Old) (M : Move) where
       elsewhere l w false e = refl
 
     -- or it has none
-    pub walk_clashes : (cause : Cause) (clash : Clash) → bundle_result part (old k) b ≡ Err cause → clash.at ≡ k → clash.cause ≡ cause → IsLeastClash part old M clash
+    pub walk_clashes : (cause : Cause) (clash : Clash) → bundle_result part (old k) b ≡ Err cause → clash.at ≡ k →
+        clash.cause ≡ cause → IsLeastClash part old M clash
     walk_clashes cause clash gave at is = record {
       written = ap (writes M) at ∙ first_has.0;
       cause = ap (outcome_at part old M) at ∙ gives (Err cause) gave ∙ ap (λ c. Err c) (sym is);
-      least = λ l lt w. has_ok l (finite.get updates l) (had.done l (ap (find_in l) step ∙ none_lower l k b rest (ap (location_cmp l) (sym at) ∙ lt) rises) w);
+      least = λ l lt w. has_ok l (finite.get updates l)
+          (had.done l (ap (find_in l) step ∙ none_lower l k b rest (ap (location_cmp l) (sym at) ∙ lt) rises) w);
     } where
-      has_ok : (l : Place) (o : Option Value) → IsSomeAnd o (λ v. outcome_at part old M l ≡ Ok v) → IsOk (outcome_at part old M l)
+      has_ok : (l : Place) (o : Option Value) → IsSomeAnd o (λ v. outcome_at part old M l ≡ Ok v) →
+          IsOk (outcome_at part old M l)
       has_ok l (Some v) h = subst IsOk (sym h) refl
       has_ok l None h = absurd h
 
   -- nothing is left
-  pub walk_ends : (left : List (Place × Bundle)) (updates : Updates) → left ≡ [] → IsWalked part old M left updates → IsUpdateSet part old M updates
+  pub walk_ends : (left : List (Place × Bundle)) (updates : Updates) → left ≡ [] → IsWalked part old M left updates →
+      IsUpdateSet part old M updates
   walk_ends left updates none had = record { written = λ l w. had.done l (ap (find_in l) none) w; others = had.others }

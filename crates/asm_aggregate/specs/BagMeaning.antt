@@ -1,6 +1,7 @@
 -- What partial updates of a bag mean.
-use Rattle.std.specs.Prelude.{ℕ, ◌+◌, ◌-◌, Bool, ◌||◌, not, nat_lt, List, [], ◌∷◌, ◌++◌, map, filter, is_some, sum_by, if◌then◌else◌, Option, None, Some, unwrap_or}
-use Rattle.std.specs.List.{list_any, list_all, filter_map}
+use Rattle.std.specs.Prelude.{ℕ, ◌+◌, ◌-◌, Bool, ◌||◌, not, nat_lt, List, [], ◌∷◌, ◌++◌, map, filter, is_some, sum_by}
+use Rattle.std.specs.Prelude.{if◌then◌else◌, Option, None, Some, unwrap_or}
+use Rattle.std.specs.List.{list_any, list_all}
 use Rattle.std.specs.Ordering.{eq_by_cmp}
 use Rattle.asm_element.specs.Element.{element_cmp}
 use Rattle.asm_element.specs.declared.element.Element.{Element}
@@ -17,7 +18,11 @@ use Rattle.asm_update.specs.declared.action.Family.{Family}
 use Rattle.asm_update.specs.declared.action.Family.TheVariants.{Bag}
 use Rattle.asm_update.specs.declared.clash.Cause.TheVariants.{Mixed, Kind, Against, Short, Large}
 use Rattle.asm_aggregate.specs.Families.{is_kind}
+use Rattle.asm_aggregate.specs.Side.{other}
+use Rattle.asm_aggregate.specs.Sets.{elements_by}
 use Rattle.asm_aggregate.specs.Table.{first_cause}
+use Rattle.asm_aggregate.specs.declared.side.Side.{Side}
+use Rattle.asm_aggregate.specs.declared.side.Side.TheVariants.{Added, Removed}
 
 -- the aggregator of bags owns bags alone
 abbrev pub owns_bags : Family → Bool
@@ -28,23 +33,15 @@ abbrev pub counts : Value → ElementBag
 counts (values.Bag b) = b
 counts _ = empty
 
--- how many of an element an action adds
-abbrev pub addition : Element → Action → ℕ
-addition e (BagAdd x n) = if eq_by_cmp element_cmp e x then n else 0
-addition _ _ = 0
+-- how many of an element an action adds, or how many it removes
+abbrev pub amount : Side → Element → Action → ℕ
+amount Added e (BagAdd x n) = if eq_by_cmp element_cmp e x then n else 0
+amount Removed e (BagRemove x n) = if eq_by_cmp element_cmp e x then n else 0
+amount _ _ _ = 0
 
--- how many of it an action removes
-abbrev pub removal : Element → Action → ℕ
-removal e (BagRemove x n) = if eq_by_cmp element_cmp e x then n else 0
-removal _ _ = 0
-
--- how many of an element the actions add together
-abbrev pub added_count : List Action → Element → ℕ
-added_count actions e = sum_by (addition e) actions
-
--- how many of it they remove together
-abbrev pub removed_count : List Action → Element → ℕ
-removed_count actions e = sum_by (removal e) actions
+-- how many of it the actions add together, or how many they remove
+abbrev pub amount_in : Side → List Action → Element → ℕ
+amount_in side actions e = sum_by (amount side e) actions
 
 -- the element of a partial update of a bag
 abbrev pub element_of : Action → Option Element
@@ -54,7 +51,7 @@ element_of _ = None
 
 -- the elements that the actions name, in ascending order
 abbrev pub named : List Action → List Element
-named actions = set.elements (set.from_list (filter_map element_of actions))
+named actions = set.elements (elements_by element_of actions)
 
 -- whether a number is above what a count or an amount can be
 abbrev pub is_large : ℕ → Bool
@@ -62,7 +59,7 @@ is_large n = nat_lt 4294967295 n
 
 -- the count of an element after the actions: old − removed + added
 abbrev pub new_count : ElementBag → List Action → Element → ℕ
-new_count b actions e = (count b e - removed_count actions e) + added_count actions e
+new_count b actions e = (count b e - amount_in Removed actions e) + amount_in Added actions e
 
 -- the bag with these counts of the elements of the list
 abbrev pub recounted : ElementBag → (Element → ℕ) → List Element → ElementBag
@@ -78,47 +75,52 @@ bag_result old regular partials =
     ((not (list_all (is_of Bag) partials), Mixed)
     ∷ (not (is_kind Bag base), Kind)
     ∷ (is_some regular, Against)
-    ∷ (list_any (λ e. nat_lt (count before e) (removed_count partials e)) (named partials), Short)
+    ∷ (list_any (λ e. nat_lt (count before e) (amount_in Removed partials e)) (named partials), Short)
     ∷ (list_any (λ e. is_large (new_count before partials e)) (named partials), Large)
     ∷ [])
     (values.Bag (recounted before (new_count before partials) (named partials)))
 
--- what the first and then the second add to an element's count; `-` ends at 0
-abbrev pub additions : List Action → List Action → Element → ℕ
-additions first second e = added_count second e + (added_count first e - removed_count second e)
+-- the second list's amount on a side, and what its other side leaves of the first's; `-` ends at 0
+abbrev pub left_over : Side → List Action → List Action → Element → ℕ
+left_over side one two e = amount_in side two e + (amount_in side one e - amount_in (other side) two e)
 
--- what they remove from it
-abbrev pub removals : List Action → List Action → Element → ℕ
-removals first second e = removed_count first e + (removed_count second e - added_count first e)
+-- how many of an element the first and then the second add, or remove: an addition is lessened by later removals,
+-- and a removal by earlier additions
+abbrev pub joined_amount : List Action → List Action → Side → Element → ℕ
+joined_amount first second Added e = left_over Added first second e
+joined_amount first second Removed e = left_over Removed second first e
 
 -- the elements whose amount isn't 0
 abbrev pub counted : (Element → ℕ) → List Element → List Element
 counted f es = filter (λ e. nat_lt 0 (f e)) es
 
--- an addition of each amount that isn't 0
-abbrev pub all_additions : (Element → ℕ) → List Element → List Action
-all_additions a es = map (λ e. BagAdd e (a e)) (counted a es)
+-- the addition of an amount, or its removal
+abbrev pub bag_action : Side → Element → ℕ → Action
+bag_action Added e n = BagAdd e n
+bag_action Removed e n = BagRemove e n
 
--- a removal of each amount that isn't 0
-abbrev pub all_removals : (Element → ℕ) → List Element → List Action
-all_removals r es = map (λ e. BagRemove e (r e)) (counted r es)
+-- the additions of the amounts that aren't 0, or their removals
+abbrev pub bag_side : Side → (Element → ℕ) → List Element → List Action
+bag_side side f es = map (λ e. bag_action side e (f e)) (counted f es)
 
 -- additions by element, then removals by element
-abbrev pub bag_actions : (Element → ℕ) → (Element → ℕ) → List Element → List Action
-bag_actions a r es = all_additions a es ++ all_removals r es
+abbrev pub bag_actions : (Side → Element → ℕ) → List Element → List Action
+bag_actions f es = bag_side Added (f Added) es ++ bag_side Removed (f Removed) es
+
+-- whether what is added or removed of an element is more than an amount can be
+abbrev pub is_either_large : (Side → Element → ℕ) → Element → Bool
+is_either_large f e = is_large (f Added e) || is_large (f Removed e)
 
 -- the list that stands for the first and then the second
 abbrev pub bag_joins : List Action → List Action → Joined
 bag_joins first second =
-    let a = additions first second in
-    let r = removals first second in
     let es = named (first ++ second) in
     first_cause
     ((not (list_all (is_of Bag) first), Refused Mixed)
     ∷ (not (list_all (is_of Bag) second), Refused Mixed)
-    ∷ (list_any (λ e. is_large (a e) || is_large (r e)) es, TooLarge)
+    ∷ (list_any (is_either_large (joined_amount first second)) es, TooLarge)
     ∷ [])
-    (bag_actions a r es)
+    (bag_actions (joined_amount first second) es)
 
 -- the aggregator of bags
 abbrev pub bag_meaning : Meaning

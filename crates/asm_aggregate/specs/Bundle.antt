@@ -1,6 +1,6 @@
--- What a move does at one location, sorted by kind.
+-- A move sorted by location and kind, and what its aggregation answers.
 use Rattle.std.specs.Prelude.{◌≡◌, ◌++◌, unwrap_or, Bool, List, [], Err, IsSome}
-use Rattle.std.specs.Prelude.{Option, Some, None, if◌then◌else◌, filter, map, refl}
+use Rattle.std.specs.Prelude.{Option, Some, None, Result, Ok, if◌then◌else◌, filter, map, refl}
 use Rattle.std.specs.Borrow.{Bor}
 use Rattle.std.specs.Coded.{Coded, code_by, coded×, coded_bool, coded_option, coded_list}
 use Rattle.std.specs.List.{filter_map}
@@ -9,10 +9,13 @@ use Rattle.std.specs.FinMap as finite
 use Rattle.asm_element.specs.Place.{Place, location_cmp}
 use Rattle.asm_element.specs.declared.value.Value.{Value}
 use Rattle.asm_update.specs.Action.{is_partial, regular_value}
-use Rattle.asm_update.specs.Fire.{Part, Outcome, first, group_result}
+use Rattle.asm_update.specs.Fire.{Part, Outcome, Old, first, group_result, IsUpdateSet, IsLeastClash}
 use Rattle.asm_update.specs.Move.{Move, actions_at, are_different, writes}
+use Rattle.asm_update.specs.State.{Updates}
 use Rattle.asm_update.specs.declared.action.Action.{Action}
 use Rattle.asm_update.specs.declared.clash.Cause.TheVariants.{Two}
+use Rattle.asm_update.specs.declared.clash.AggError.{AggError}
+use Rattle.asm_update.specs.declared.clash.AggError.TheVariants.{Clash as Clashes, Memory}
 
 -- the first regular value, whether another one differs from it, and the partial updates
 pub record Bundle : Type 0 where
@@ -64,3 +67,9 @@ HaveRoom M N groups =
 -- the entries of a map whose keys are references to locations
 abbrev pub by_place : {X : Type 0} → List (Bor Place × X) → List (Place × X)
 by_place es = map (λ e. (e.0.now, e.1)) es
+
+-- the update set of the move, or its clash at the least location that has no result; want of memory tells nothing
+abbrev pub IsAggregate : Part → Old → Move → Result Updates AggError → Type 0
+IsAggregate part old M (Ok U) = IsUpdateSet part old M U
+IsAggregate part old M (Err (Clashes clash)) = IsLeastClash part old M clash
+IsAggregate part old M (Err Memory) = Unit {0}

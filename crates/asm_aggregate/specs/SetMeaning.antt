@@ -1,7 +1,8 @@
 -- What partial updates of a set mean.
-use Rattle.std.specs.Prelude.{Bool, ◌&&◌, ◌||◌, not, List, [], ◌∷◌, ◌++◌, map, is_some, Option, unwrap_or}
+use Rattle.std.specs.Prelude.{Bool, ◌&&◌, ◌||◌, not, List, [], ◌∷◌, ◌++◌, map, is_some, Option, None, Some, unwrap_or}
 use Rattle.std.specs.List.{list_all}
-use Rattle.asm_element.specs.Set.{ElementSet, empty, insert, elements}
+use Rattle.asm_element.specs.Set.{ElementSet, empty, elements}
+use Rattle.asm_element.specs.declared.element.Element.{Element}
 use Rattle.asm_element.specs.declared.value.Value.{Value}
 use Rattle.asm_element.specs.declared.value.Value.TheVariants as values
 use Rattle.asm_update.specs.Action.{family_eq, is_of}
@@ -13,7 +14,10 @@ use Rattle.asm_update.specs.declared.action.Family.{Family}
 use Rattle.asm_update.specs.declared.action.Family.TheVariants.{Set}
 use Rattle.asm_update.specs.declared.clash.Cause.TheVariants.{Mixed, Kind, Both, Against}
 use Rattle.asm_aggregate.specs.Families.{is_kind}
-use Rattle.asm_aggregate.specs.Sets.{union, difference, meets, is_subset}
+use Rattle.asm_aggregate.specs.Sets.{union, difference, meets, is_subset, elements_by}
+use Rattle.asm_aggregate.specs.Side.{other}
+use Rattle.asm_aggregate.specs.declared.side.Side.{Side}
+use Rattle.asm_aggregate.specs.declared.side.Side.TheVariants.{Added, Removed}
 use Rattle.asm_aggregate.specs.Table.{first_cause}
 
 -- the aggregator of sets owns sets alone
@@ -25,29 +29,27 @@ abbrev pub members : Value → ElementSet
 members (values.Set s) = s
 members _ = empty
 
--- the elements that the actions add
-abbrev pub added : List Action → ElementSet
-added [] = empty
-added (SetAdd e ∷ actions) = insert (added actions) e
-added (_ ∷ actions) = added actions
+-- the element that an action adds, or the one that it removes
+abbrev pub element_on : Side → Action → Option Element
+element_on Added (SetAdd e) = Some e
+element_on Removed (SetRemove e) = Some e
+element_on _ _ = None
 
--- the elements that they remove
-abbrev pub removed : List Action → ElementSet
-removed [] = empty
-removed (SetRemove e ∷ actions) = insert (removed actions) e
-removed (_ ∷ actions) = removed actions
+-- the elements that the actions add, or those that they remove
+abbrev pub elements_on : Side → List Action → ElementSet
+elements_on side actions = elements_by (element_on side) actions
 
 -- whether one element is both added and removed
 abbrev pub adds_and_removes : List Action → Bool
-adds_and_removes actions = meets (added actions) (removed actions)
+adds_and_removes actions = meets (elements_on Added actions) (elements_on Removed actions)
 
 -- whether the set lacks an added element or has a removed one
 abbrev pub disagrees : ElementSet → List Action → Bool
-disagrees s actions = not (is_subset (added actions) s) || meets (removed actions) s
+disagrees s actions = not (is_subset (elements_on Added actions) s) || meets (elements_on Removed actions) s
 
 -- the old set without the removed elements and with the added ones
 abbrev pub updated : ElementSet → List Action → ElementSet
-updated old actions = union (difference old (removed actions)) (added actions)
+updated old actions = union (difference old (elements_on Removed actions)) (elements_on Added actions)
 
 -- what a group gives on an old value
 abbrev pub set_result : Value → Option Value → List Action → Outcome
@@ -61,17 +63,23 @@ set_result old regular partials =
     ∷ [])
     (unwrap_or regular (values.Set (updated (members base) partials)))
 
--- what the first and then the second add
-abbrev pub additions : List Action → List Action → ElementSet
-additions first second = union (difference (added first) (removed second)) (added second)
+-- the elements of both lists on a side, but for those of the first that the second has on the other side
+abbrev pub joined_elements : List Action → List Action → Side → ElementSet
+joined_elements first second side =
+    union (difference (elements_on side first) (elements_on (other side) second)) (elements_on side second)
 
--- what they remove
-abbrev pub removals : List Action → List Action → ElementSet
-removals first second = union (difference (removed first) (added second)) (removed second)
+-- the addition of an element, or its removal
+abbrev pub set_action : Side → Element → Action
+set_action Added e = SetAdd e
+set_action Removed e = SetRemove e
+
+-- the additions of the set's elements, or their removals, in ascending order
+abbrev pub set_side : Side → ElementSet → List Action
+set_side side s = map (λ e. set_action side e) (elements s)
 
 -- additions by element, then removals by element
-abbrev pub set_actions : ElementSet → ElementSet → List Action
-set_actions a r = map (λ e. SetAdd e) (elements a) ++ map (λ e. SetRemove e) (elements r)
+abbrev pub set_actions : (Side → ElementSet) → List Action
+set_actions s = set_side Added (s Added) ++ set_side Removed (s Removed)
 
 -- the list that stands for the first and then the second
 abbrev pub set_joins : List Action → List Action → Joined
@@ -82,7 +90,7 @@ set_joins first second =
     ∷ (not (list_all (is_of Set) second), Refused Mixed)
     ∷ (adds_and_removes second, Refused Both)
     ∷ [])
-    (set_actions (additions first second) (removals first second))
+    (set_actions (joined_elements first second))
 
 -- the aggregator of sets
 abbrev pub set_meaning : Meaning

@@ -1,9 +1,12 @@
--- Two sets of elements together.
-use Rattle.std.specs.Prelude.{Bool, not, List, [], ◌∷◌}
+-- Sets of elements that are made of two sets, or of what actions name.
+use Rattle.std.specs.Prelude.{Bool, false, not, List, [], ◌∷◌, Option, None, Some}
 use Rattle.std.specs.List.{list_any, list_all}
+use Rattle.std.specs.Ordering.{eq_by_cmp}
 use Rattle.std.specs.FinMap as map
+use Rattle.asm_element.specs.Element.{element_cmp}
 use Rattle.asm_element.specs.declared.element.Element.{Element}
-use Rattle.asm_element.specs.Set.{ElementSet, contains, elements, insert}
+use Rattle.asm_element.specs.Set.{ElementSet, empty, contains, elements, insert}
+use Rattle.asm_update.specs.declared.action.Action.{Action}
 
 -- the set with the elements of the list
 abbrev pub with_elements : ElementSet → List Element → ElementSet
@@ -25,3 +28,18 @@ meets s t = list_any (contains t) (elements s)
 -- whether the second set has each element of the first
 abbrev pub is_subset : ElementSet → ElementSet → Bool
 is_subset s t = list_all (contains t) (elements s)
+
+-- whether there is an element, and it is this one
+abbrev pub is_the : Element → Option Element → Bool
+is_the e None = false
+is_the e (Some x) = eq_by_cmp element_cmp e x
+
+-- the set with the element, if there is one
+abbrev pub with_element : ElementSet → Option Element → ElementSet
+with_element s None = s
+with_element s (Some e) = insert s e
+
+-- the set of the elements that actions have, where the function says which element an action has
+abbrev pub elements_by : (Action → Option Element) → List Action → ElementSet
+elements_by element [] = empty
+elements_by element (x ∷ xs) = with_element (elements_by element xs) (element x)

@@ -1,39 +1,33 @@
 -- What the steps on the way to a result or a join answer.
-use Rattle.std.specs.Prelude.{◌≡◌, ℕ, ◌<◌, Bool, true, nat_lt, if◌then◌else◌, List, [], ◌∷◌, Option, None, Some, Result, Ok, Err}
+use Rattle.std.specs.Prelude.{◌≡◌, ℕ, ◌+◌, ◌<◌, Bool, true, false, nat_lt, if◌then◌else◌, List, [], ◌∷◌, Option, None}
+use Rattle.std.specs.Prelude.{Some}
+use Rattle.std.specs.Prelude.{Result, Ok, Err}
+use Rattle.std.specs.List.{list_any}
+use Rattle.std.specs.declared.alloc.Global.{Global}
+use Rattle.std.specs.declared.vec.Vec.{Vec}
 use Rattle.asm_element.specs.declared.element.Element.{Element}
-use Rattle.asm_element.specs.Set.{ElementSet, insert}
 use Rattle.asm_update.specs.declared.action.Action.{Action}
-use Rattle.asm_update.specs.declared.action.Action.TheVariants.{SetAdd, SetRemove, BagAdd, BagRemove}
 use Rattle.asm_update.specs.declared.clash.Cause.{Cause}
 use Rattle.asm_update.specs.declared.clash.Cause.TheVariants.{Short, Large as LargeCount}
 use Rattle.asm_update.specs.declared.errors.ResultError.{ResultError}
 use Rattle.asm_update.specs.declared.errors.ResultError.TheVariants as result_error
 use Rattle.asm_update.specs.declared.errors.JoinError.{JoinError}
 use Rattle.asm_update.specs.declared.errors.JoinError.TheVariants as join_error
+use Rattle.asm_aggregate.specs.BagMeaning.{bag_action, bag_actions, element_of, is_either_large}
+use Rattle.asm_aggregate.specs.Sets.{is_the}
+use Rattle.asm_aggregate.specs.declared.side.Side.{Side}
 
--- the set with the element that the action adds, if it adds one
-abbrev pub with_added : ElementSet → Action → ElementSet
-with_added s (SetAdd e) = insert s e
-with_added s _ = s
+-- whether the action is of bags and names the element
+abbrev pub names : Element → Action → Bool
+names e x = is_the e (element_of x)
 
--- the set with the element that the action removes, if it removes one
-abbrev pub with_removed : ElementSet → Action → ElementSet
-with_removed s (SetRemove e) = insert s e
-with_removed s _ = s
+-- the addition or removal of an amount, or none where it is 0
+abbrev pub one_action : Side → Element → ℕ → List Action
+one_action side e n = if nat_lt 0 n then bag_action side e n ∷ [] else []
 
--- the set with the element that the action names, if it is of bags
-abbrev pub with_named : ElementSet → Action → ElementSet
-with_named s (BagAdd e n) = insert s e
-with_named s (BagRemove e n) = insert s e
-with_named s _ = s
-
--- the addition of an amount, or none where it is 0
-abbrev pub one_addition : Element → ℕ → List Action
-one_addition e n = if nat_lt 0 n then BagAdd e n ∷ [] else []
-
--- the removal of an amount, or none where it is 0
-abbrev pub one_removal : Element → ℕ → List Action
-one_removal e n = if nat_lt 0 n then BagRemove e n ∷ [] else []
+-- one count of each element is another with this more
+abbrev pub IsMoreBy : (Element → ℕ) → (Element → ℕ) → (Element → ℕ) → Type 0
+IsMoreBy less more by = (e : Element) → less e + by e ≡ more e
 
 -- the error is `Short`, and some element has fewer than are removed
 abbrev pub IsShort : (Element → ℕ) → (Element → ℕ) → ResultError → Type 0
@@ -51,6 +45,11 @@ abbrev pub IsLargeIf : Bool → JoinError → Type 0
 IsLargeIf test join_error.Large = test ≡ true
 IsLargeIf test join_error.Memory = Unit {0}
 IsLargeIf test (join_error.Cause cause) = ⊥
+
+-- the answer is the actions of these amounts, or one of them is too large; or memory was refused
+abbrev pub AreActions : (Side → Element → ℕ) → List Element → Result (Vec Action Global) JoinError → Type 0
+AreActions f es (Ok list) = (list_any (is_either_large f) es ≡ false) × (list.items ≡ bag_actions f es)
+AreActions f es (Err error) = IsLargeIf (list_any (is_either_large f) es) error
 
 -- the answer is this cause, or that there is none; or memory was refused
 abbrev pub IsOwnCause : Result (Unit {0}) JoinError → Option Cause → Type 0

@@ -1,6 +1,5 @@
 ghost use Rattle.asm_update.specs.Answer.{IsOutcome};
-ghost use Rattle.asm_aggregate.specs.Answer.{IsAggregate};
-ghost use Rattle.asm_aggregate.specs.Bundle.{IsWritten, bundle_result};
+ghost use Rattle.asm_aggregate.specs.Bundle.{IsWritten, IsAggregate, bundle_result};
 
 use crate::groups::{Bundle, Groups};
 use asm_element::{Location, Value};

@@ -1,4 +1,5 @@
-ghost use Rattle.std.specs.Prelude.{◌≡◌, ◌+◌, ◌<◌, ◌^◌, ◌++◌, ◌||◌, unwrap_or, false, IfOk, IfErr, OnOk, IfSome, IfNone};
+ghost use Rattle.std.specs.Prelude.{◌≡◌, ◌+◌, ◌<◌, ◌^◌, ◌++◌, ◌||◌, unwrap_or, false, IfOk, IfErr, OnOk, IfSome};
+ghost use Rattle.std.specs.Prelude.{IfNone};
 ghost use Rattle.std.specs.List.{list_any};
 ghost use Rattle.std.specs.Option.{option_copied};
 ghost use Rattle.asm_element.specs.Bag.{count, IsProper};
@@ -8,12 +9,15 @@ ghost use Rattle.asm_element.specs.declared.element.Element.{Element};
 ghost use Rattle.asm_element.specs.declared.value.Value.TheVariants as values;
 ghost use Rattle.asm_update.specs.declared.action.Family.TheVariants as family;
 ghost use Rattle.asm_aggregate.specs.Families.{is_kind};
-ghost use Rattle.asm_aggregate.specs.Steps.{with_named, one_addition, one_removal, IsShort, IsAbove, IsLargeIf};
-ghost use Rattle.asm_aggregate.specs.BagMeaning.{bag_meaning, addition, removal, added_count, removed_count, named, additions, removals, is_large, all_additions, all_removals};
-ghost use Rattle.asm_aggregate.specs.BagAlgebra.{names};
-ghost use Rattle.asm_aggregate.specs.BagLaws.{bag_laws};
+ghost use Rattle.asm_aggregate.specs.Steps.{names, one_action, IsMoreBy, IsShort, IsAbove, IsLargeIf, AreActions};
+ghost use Rattle.asm_aggregate.specs.BagMeaning.{bag_meaning, element_of, amount, amount_in, named, joined_amount};
+ghost use Rattle.asm_aggregate.specs.BagMeaning.{bag_action};
+ghost use Rattle.asm_aggregate.specs.BagMeaning.{is_large};
+ghost use Rattle.asm_aggregate.specs.declared.side.Side.TheVariants as sides;
+ghost use Rattle.asm_aggregate.specs.laws.BagLaws.{bag_laws};
 
 use crate::families::{are_all_of, base_of};
+use crate::side::{Side, note};
 use asm_element::{ElemBag, ElemSet, Element, Value};
 use asm_update::{Action, Aggregator, Amount, Cause, Family, Group, JoinError, ResultError};
 use std::alloc::{AllocError, Global};
@@ -26,6 +30,13 @@ use std::alloc::{AllocError, Global};
 /// 4,294,967,295 (`Large`).
 #[derive(Clone, Copy, Debug)]
 pub struct BagAgg;
+
+/// How many of an element are added, and how many are removed.
+#[derive(Clone, Copy)]
+struct Amounts {
+    added: u128,
+    removed: u128,
+}
 
 fn bag_of(value: Option<&Value>) -> Option<&ElemBag>
     ensures some { IfSome result (λ b. unwrap_or (option_copied value.entry) undef ≡ values.Bag b.now) }
@@ -45,8 +56,8 @@ fn bag_of(value: Option<&Value>) -> Option<&ElemBag>
 }
 
 fn take_removed(bag: &mut ElemBag, action: &Action) -> Result<(), ResultError>
-    ensures ok { OnOk result ((e : Element) → count bag.new e + removal e action.now ≡ count bag.old e) }
-    ensures err { IfErr result (IsShort (count bag.old) (λ e. removal e action.now)) }
+    ensures ok { OnOk result (IsMoreBy (count bag.new) (count bag.old) (λ e. amount sides.Removed e action.now)) }
+    ensures err { IfErr result (IsShort (count bag.old) (λ e. amount sides.Removed e action.now)) }
 {
     match action {
         Action::BagRemove(element, amount) => {
@@ -62,8 +73,8 @@ fn take_removed(bag: &mut ElemBag, action: &Action) -> Result<(), ResultError>
 }
 
 fn put_added(alloc: Global, bag: &mut ElemBag, action: &Action) -> Result<(), ResultError>
-    ensures ok { OnOk result ((e : Element) → count bag.new e ≡ count bag.old e + addition e action.now) }
-    ensures err { IfErr result (IsAbove (λ e. count bag.old e + addition e action.now)) }
+    ensures ok { OnOk result (IsMoreBy (count bag.old) (count bag.new) (λ e. amount sides.Added e action.now)) }
+    ensures err { IfErr result (IsAbove (λ e. count bag.old e + amount sides.Added e action.now)) }
 {
     match action {
         Action::BagAdd(element, amount) => {
@@ -80,8 +91,8 @@ fn put_added(alloc: Global, bag: &mut ElemBag, action: &Action) -> Result<(), Re
 
 /// The bag less what the actions remove.
 fn without(mut bag: ElemBag, actions: &[Action]) -> Result<ElemBag, ResultError>
-    ensures ok { IfOk result (λ b. (e : Element) → count b e + removed_count actions.now e ≡ count bag e) }
-    ensures err { IfErr result (IsShort (count bag) (removed_count actions.now)) }
+    ensures ok { IfOk result (λ b. IsMoreBy (count b) (count bag) (amount_in sides.Removed actions.now)) }
+    ensures err { IfErr result (IsShort (count bag) (amount_in sides.Removed actions.now)) }
 {
     for action in actions {
         take_removed(&mut bag, action)?;
@@ -91,8 +102,8 @@ fn without(mut bag: ElemBag, actions: &[Action]) -> Result<ElemBag, ResultError>
 
 /// The bag and what the actions add.
 fn with(alloc: Global, mut bag: ElemBag, actions: &[Action]) -> Result<ElemBag, ResultError>
-    ensures ok { IfOk result (λ b. (e : Element) → count b e ≡ count bag e + added_count actions.now e) }
-    ensures err { IfErr result (IsAbove (λ e. count bag e + added_count actions.now e)) }
+    ensures ok { IfOk result (λ b. IsMoreBy (count bag) (count b) (amount_in sides.Added actions.now)) }
+    ensures err { IfErr result (IsAbove (λ e. count bag e + amount_in sides.Added actions.now e)) }
 {
     for action in actions {
         put_added(alloc, &mut bag, action)?;
@@ -100,16 +111,13 @@ fn with(alloc: Global, mut bag: ElemBag, actions: &[Action]) -> Result<ElemBag, 
     Ok(bag)
 }
 
-fn note_element(alloc: Global, elements: &mut ElemSet, action: &Action) -> Result<(), AllocError>
-    ensures { OnOk result (elements.new ≡ with_named elements.old action.now) }
+fn element_named(action: &Action) -> Option<&Element>
+    ensures { option_copied result ≡ element_of action.now }
 {
     match action {
-        Action::BagAdd(element, _) | Action::BagRemove(element, _) => {
-            elements.insert(element.copy(alloc)?)?;
-        }
-        Action::Regular(_) | Action::SetAdd(_) | Action::SetRemove(_) => {}
+        Action::BagAdd(element, _) | Action::BagRemove(element, _) => Some(element),
+        Action::Regular(_) | Action::SetAdd(_) | Action::SetRemove(_) => None,
     }
-    Ok(())
 }
 
 fn note_elements(
@@ -117,10 +125,12 @@ fn note_elements(
     elements: &mut ElemSet,
     actions: &[Action],
 ) -> Result<(), AllocError>
-    ensures { OnOk result ((e : Element) → set.contains elements.new e ≡ (set.contains elements.old e || list_any (names e) actions.now)) }
+    ensures { OnOk result
+        ((e : Element) → set.contains elements.new e
+        ≡ (set.contains elements.old e || list_any (names e) actions.now)) }
 {
     for action in actions {
-        note_element(alloc, elements, action)?;
+        note(alloc, elements, element_named(action))?;
     }
     Ok(())
 }
@@ -135,63 +145,48 @@ fn named_by(alloc: Global, first: &[Action], second: &[Action]) -> Result<ElemSe
     Ok(elements)
 }
 
-fn added_of(action: &Action, element: &Element) -> u32
-    ensures { result ≡ addition element.now action.now }
+/// How many of the element the action adds, or how many it removes.
+fn amount_of(side: Side, action: &Action, element: &Element) -> u32
+    ensures { result ≡ amount side element.now action.now }
 {
-    match action {
-        Action::BagAdd(other, amount) if *element == *other => amount.get(),
+    match (side, action) {
+        (Side::Added, Action::BagAdd(other, amount)) if *element == *other => amount.get(),
+        (Side::Removed, Action::BagRemove(other, amount)) if *element == *other => amount.get(),
         _ => 0,
     }
 }
 
-fn removed_of(action: &Action, element: &Element) -> u32
-    ensures { result ≡ removal element.now action.now }
+/// How many of the element the actions add together and how many they remove, by one walk.
+fn amounts_by(actions: &[Action], element: &Element) -> Amounts
+    ensures added { result.added ≡ amount_in sides.Added actions.now element.now }
+    ensures removed { result.removed ≡ amount_in sides.Removed actions.now element.now }
+    ensures added_fits { result.added < 2 ^ 96 }
+    ensures removed_fits { result.removed < 2 ^ 96 }
 {
-    match action {
-        Action::BagRemove(other, amount) if *element == *other => amount.get(),
-        _ => 0,
-    }
-}
-
-/// How many of the element the actions add together.
-fn added_by(actions: &[Action], element: &Element) -> u128
-    ensures total { result ≡ added_count actions.now element.now }
-    ensures fits { result < 2 ^ 96 }
-{
-    let mut total: u128 = 0;
+    let mut added: u128 = 0;
+    let mut removed: u128 = 0;
     for action in actions {
-        total += u128::from(added_of(action, element));
+        added += u128::from(amount_of(Side::Added, action, element));
+        removed += u128::from(amount_of(Side::Removed, action, element));
     }
-    total
+    Amounts { added, removed }
 }
 
-/// How many of the element the actions remove together.
-fn removed_by(actions: &[Action], element: &Element) -> u128
-    ensures total { result ≡ removed_count actions.now element.now }
-    ensures fits { result < 2 ^ 96 }
+/// What the first and then the second list add to the element's count, and what they remove from it.
+fn joined_amounts(first: &[Action], second: &[Action], element: &Element) -> Amounts
+    ensures added { result.added ≡ joined_amount first.now second.now sides.Added element.now }
+    ensures removed { result.removed ≡ joined_amount first.now second.now sides.Removed element.now }
 {
-    let mut total: u128 = 0;
-    for action in actions {
-        total += u128::from(removed_of(action, element));
+    let one = amounts_by(first, element);
+    let two = amounts_by(second, element);
+    Amounts {
+        added: two.added + one.added.saturating_sub(two.removed),
+        removed: one.removed + two.removed.saturating_sub(one.added),
     }
-    total
-}
-
-fn addition_of(first: &[Action], second: &[Action], element: &Element) -> u128
-    ensures { result ≡ additions first.now second.now element.now }
-{
-    added_by(second, element) + added_by(first, element).saturating_sub(removed_by(second, element))
-}
-
-fn removal_of(first: &[Action], second: &[Action], element: &Element) -> u128
-    ensures { result ≡ removals first.now second.now element.now }
-{
-    removed_by(first, element)
-        + removed_by(second, element).saturating_sub(added_by(first, element))
 }
 
 /// The amount of a number, None for 0; `Large` where it is above 4,294,967,295.
-fn amount_of(total: u128) -> Result<Option<Amount>, JoinError>
+fn amount_from(total: u128) -> Result<Option<Amount>, JoinError>
     ensures ok { IfOk result (λ amount. is_large total ≡ false) }
     ensures none { IfOk result (λ amount. IfNone amount (total ≡ 0)) }
     ensures some { IfOk result (λ amount. IfSome amount (λ n. (n ≡ total) × (0 < total))) }
@@ -203,68 +198,57 @@ fn amount_of(total: u128) -> Result<Option<Amount>, JoinError>
     Ok(Amount::new(total as u32))
 }
 
-fn push_addition(
+fn action_of(side: Side, element: Element, amount: Amount) -> Action
+    ensures { result ≡ bag_action side element amount }
+{
+    match side {
+        Side::Added => Action::BagAdd(element, amount),
+        Side::Removed => Action::BagRemove(element, amount),
+    }
+}
+
+/// Appends the addition of so many of the element, or their removal, where they aren't 0.
+fn push_side(
     alloc: Global,
     actions: &mut Vec<Action>,
+    side: Side,
     element: &Element,
     total: u128,
 ) -> Result<(), JoinError>
-    ensures ok { OnOk result ((is_large total ≡ false) × (actions.new.items ≡ actions.old.items ++ one_addition element.now total)) }
+    ensures small { OnOk result (is_large total ≡ false) }
+    ensures items { OnOk result (actions.new.items ≡ actions.old.items ++ one_action side element.now total) }
     ensures err { IfErr result (IsLargeIf (is_large total)) }
 {
-    if let Some(amount) = amount_of(total)? {
-        actions.push(Action::BagAdd(element.copy(alloc)?, amount))?;
+    if let Some(amount) = amount_from(total)? {
+        actions.push(action_of(side, element.copy(alloc)?, amount))?;
     }
     Ok(())
 }
 
-fn push_removal(
+/// Additions by element, then removals by element, of what the first and then the second list do.
+fn joined_actions(
     alloc: Global,
-    actions: &mut Vec<Action>,
-    element: &Element,
-    total: u128,
-) -> Result<(), JoinError>
-    ensures ok { OnOk result ((is_large total ≡ false) × (actions.new.items ≡ actions.old.items ++ one_removal element.now total)) }
-    ensures err { IfErr result (IsLargeIf (is_large total)) }
-{
-    if let Some(amount) = amount_of(total)? {
-        actions.push(Action::BagRemove(element.copy(alloc)?, amount))?;
-    }
-    Ok(())
-}
-
-fn push_additions(
-    alloc: Global,
-    actions: &mut Vec<Action>,
     elements: &ElemSet,
     first: &[Action],
     second: &[Action],
-) -> Result<(), JoinError>
-    ensures small { OnOk result (list_any (λ e. is_large (additions first.now second.now e)) (set.elements elements.now) ≡ false) }
-    ensures items { OnOk result (actions.new.items ≡ actions.old.items ++ all_additions (additions first.now second.now) (set.elements elements.now)) }
-    ensures err { IfErr result (IsLargeIf (list_any (λ e. is_large (additions first.now second.now e)) (set.elements elements.now))) }
+) -> Result<Vec<Action>, JoinError>
+    ensures { AreActions (joined_amount first.now second.now) (set.elements elements.now) result }
 {
+    let mut additions = Vec::new(alloc);
+    let mut removals = Vec::new(alloc);
     for element in elements.iter() {
-        push_addition(alloc, actions, element, addition_of(first, second, element))?;
+        let amounts = joined_amounts(first, second, element);
+        push_side(alloc, &mut additions, Side::Added, element, amounts.added)?;
+        push_side(
+            alloc,
+            &mut removals,
+            Side::Removed,
+            element,
+            amounts.removed,
+        )?;
     }
-    Ok(())
-}
-
-fn push_removals(
-    alloc: Global,
-    actions: &mut Vec<Action>,
-    elements: &ElemSet,
-    first: &[Action],
-    second: &[Action],
-) -> Result<(), JoinError>
-    ensures small { OnOk result (list_any (λ e. is_large (removals first.now second.now e)) (set.elements elements.now) ≡ false) }
-    ensures items { OnOk result (actions.new.items ≡ actions.old.items ++ all_removals (removals first.now second.now) (set.elements elements.now)) }
-    ensures err { IfErr result (IsLargeIf (list_any (λ e. is_large (removals first.now second.now e)) (set.elements elements.now))) }
-{
-    for element in elements.iter() {
-        push_removal(alloc, actions, element, removal_of(first, second, element))?;
-    }
-    Ok(())
+    additions.append(&mut removals)?;
+    Ok(additions)
 }
 
 impl Aggregator for BagAgg {
@@ -308,9 +292,6 @@ impl Aggregator for BagAgg {
             return Err(JoinError::Cause(Cause::Mixed));
         }
         let elements = named_by(alloc, first, second)?;
-        let mut joined = Vec::new(alloc);
-        push_additions(alloc, &mut joined, &elements, first, second)?;
-        push_removals(alloc, &mut joined, &elements, first, second)?;
-        Ok(joined)
+        joined_actions(alloc, &elements, first, second)
     }
 }

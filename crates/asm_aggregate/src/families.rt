@@ -58,7 +58,8 @@ pub(crate) fn family_of_both(first: &[Action], second: &[Action]) -> Option<Fami
 
 /// The value that a group's partial updates change: the regular value, or else the old one.
 pub(crate) fn base_of<'a>(old: Option<&'a Value>, group: &'a Group) -> Option<&'a Value>
-    ensures { unwrap_or (option_copied result) undef ≡ unwrap_or group.now.regular (unwrap_or (option_copied old.entry) undef) }
+    ensures { unwrap_or (option_copied result) undef
+        ≡ unwrap_or group.now.regular (unwrap_or (option_copied old.entry) undef) }
 {
     match group.regular() {
         Some(value) => Some(value),

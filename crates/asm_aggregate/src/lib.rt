@@ -8,6 +8,7 @@ mod families;
 mod groups;
 mod pair;
 mod set_agg;
+mod side;
 
 pub use aggregation::aggregate;
 pub use bag_agg::BagAgg;

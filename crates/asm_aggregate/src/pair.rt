@@ -3,7 +3,7 @@ ghost use Rattle.std.specs.List.{list_all};
 ghost use Rattle.asm_update.specs.Action.{is_partial};
 ghost use Rattle.asm_update.specs.declared.action.Family as family;
 ghost use Rattle.asm_aggregate.specs.BagMeaning.{bag_meaning};
-ghost use Rattle.asm_aggregate.specs.PairLaws.{pair_laws};
+ghost use Rattle.asm_aggregate.specs.laws.PairLaws.{pair_laws};
 ghost use Rattle.asm_aggregate.specs.PairMeaning.{pair_meaning, refused, own_cause};
 ghost use Rattle.asm_aggregate.specs.SetMeaning.{set_meaning};
 ghost use Rattle.asm_aggregate.specs.Steps.{IsOwnCause};

@@ -1,18 +1,17 @@
-ghost use Rattle.std.specs.Prelude.{◌≡◌, ◌++◌, map, unwrap_or, false, IfOk, OnOk, IfSome, IfNone};
+ghost use Rattle.std.specs.Prelude.{◌≡◌, ◌++◌, unwrap_or, false, IfOk, OnOk, IfSome, IfNone};
 ghost use Rattle.std.specs.Option.{option_copied};
-ghost use Rattle.asm_element.specs.Set as set;
 ghost use Rattle.asm_element.specs.Value.{undef};
 ghost use Rattle.asm_element.specs.declared.value.Value.TheVariants as values;
-ghost use Rattle.asm_update.specs.declared.action.Action.TheVariants.{SetAdd, SetRemove};
 ghost use Rattle.asm_update.specs.declared.action.Family.TheVariants as family;
 ghost use Rattle.asm_aggregate.specs.Families.{is_kind};
 ghost use Rattle.asm_aggregate.specs.Sets.{union, difference, meets, is_subset};
-ghost use Rattle.asm_aggregate.specs.Steps.{with_added, with_removed};
-ghost use Rattle.asm_aggregate.specs.SetMeaning.{set_meaning, added, removed};
-ghost use Rattle.asm_aggregate.specs.SetLaws.{set_laws};
+ghost use Rattle.asm_aggregate.specs.SetMeaning.{set_meaning, element_on, elements_on, set_action, set_side};
+ghost use Rattle.asm_aggregate.specs.declared.side.Side.TheVariants as sides;
+ghost use Rattle.asm_aggregate.specs.laws.SetLaws.{set_laws};
 
 use crate::families::{are_all_of, base_of};
-use asm_element::{ElemSet, Value};
+use crate::side::{Side, note};
+use asm_element::{ElemSet, Element, Value};
 use asm_update::{Action, Aggregator, Cause, Family, Group, JoinError, ResultError};
 use std::alloc::{AllocError, Global};
 
@@ -24,6 +23,13 @@ use std::alloc::{AllocError, Global};
 /// element is allowed.
 #[derive(Clone, Copy, Debug)]
 pub struct SetAgg;
+
+/// What a list of actions adds, and what it removes.
+#[derive(Drop)]
+struct Sides {
+    added: ElemSet,
+    removed: ElemSet,
+}
 
 fn set_of(value: Option<&Value>) -> Option<&ElemSet>
     ensures some { IfSome result (λ s. unwrap_or (option_copied value.entry) undef ≡ values.Set s.now) }
@@ -50,50 +56,29 @@ fn is_within(inner: &ElemSet, outer: &ElemSet) -> bool
     inner.iter().all(|element| outer.contains(element))
 }
 
-fn note_added(alloc: Global, elements: &mut ElemSet, action: &Action) -> Result<(), AllocError>
-    ensures { OnOk result (elements.new ≡ with_added elements.old action.now) }
+/// The element that the action adds, or the one that it removes.
+fn element_of(side: Side, action: &Action) -> Option<&Element>
+    ensures { option_copied result ≡ element_on side action.now }
 {
-    match action {
-        Action::SetAdd(element) => {
-            elements.insert(element.copy(alloc)?)?;
-        }
-        Action::Regular(_) | Action::SetRemove(_) | Action::BagAdd(..) | Action::BagRemove(..) => {}
+    match (side, action) {
+        (Side::Added, Action::SetAdd(element)) => Some(element),
+        (Side::Removed, Action::SetRemove(element)) => Some(element),
+        _ => None,
     }
-    Ok(())
 }
 
-fn note_removed(alloc: Global, elements: &mut ElemSet, action: &Action) -> Result<(), AllocError>
-    ensures { OnOk result (elements.new ≡ with_removed elements.old action.now) }
+/// What the actions add and what they remove, by one walk.
+fn sides_of(alloc: Global, actions: &[Action]) -> Result<Sides, AllocError>
+    ensures added { IfOk result (λ s. s.added ≡ elements_on sides.Added actions.now) }
+    ensures removed { IfOk result (λ s. s.removed ≡ elements_on sides.Removed actions.now) }
 {
-    match action {
-        Action::SetRemove(element) => {
-            elements.insert(element.copy(alloc)?)?;
-        }
-        Action::Regular(_) | Action::SetAdd(_) | Action::BagAdd(..) | Action::BagRemove(..) => {}
-    }
-    Ok(())
-}
-
-/// The elements that the actions add.
-fn added_by(alloc: Global, actions: &[Action]) -> Result<ElemSet, AllocError>
-    ensures { IfOk result (λ s. s ≡ added actions.now) }
-{
-    let mut elements = ElemSet::new(alloc);
+    let mut added = ElemSet::new(alloc);
+    let mut removed = ElemSet::new(alloc);
     for action in actions {
-        note_added(alloc, &mut elements, action)?;
+        note(alloc, &mut added, element_of(Side::Added, action))?;
+        note(alloc, &mut removed, element_of(Side::Removed, action))?;
     }
-    Ok(elements)
-}
-
-/// The elements that the actions remove.
-fn removed_by(alloc: Global, actions: &[Action]) -> Result<ElemSet, AllocError>
-    ensures { IfOk result (λ s. s ≡ removed actions.now) }
-{
-    let mut elements = ElemSet::new(alloc);
-    for action in actions {
-        note_removed(alloc, &mut elements, action)?;
-    }
-    Ok(elements)
+    Ok(Sides { added, removed })
 }
 
 fn without(mut set: ElemSet, gone: &ElemSet) -> ElemSet
@@ -114,28 +99,26 @@ fn with(alloc: Global, mut set: ElemSet, more: &ElemSet) -> Result<ElemSet, Allo
     Ok(set)
 }
 
-fn push_additions(
-    alloc: Global,
-    actions: &mut Vec<Action>,
-    elements: &ElemSet,
-) -> Result<(), AllocError>
-    ensures { OnOk result (actions.new.items ≡ actions.old.items ++ map (λ e. SetAdd e) (set.elements elements.now)) }
+fn action_of(side: Side, element: Element) -> Action
+    ensures { result ≡ set_action side element }
 {
-    for element in elements.iter() {
-        actions.push(Action::SetAdd(element.copy(alloc)?))?;
+    match side {
+        Side::Added => Action::SetAdd(element),
+        Side::Removed => Action::SetRemove(element),
     }
-    Ok(())
 }
 
-fn push_removals(
+/// Appends the additions of the elements, or their removals.
+fn push_side(
     alloc: Global,
     actions: &mut Vec<Action>,
+    side: Side,
     elements: &ElemSet,
 ) -> Result<(), AllocError>
-    ensures { OnOk result (actions.new.items ≡ actions.old.items ++ map (λ e. SetRemove e) (set.elements elements.now)) }
+    ensures { OnOk result (actions.new.items ≡ actions.old.items ++ set_side side elements.now) }
 {
     for element in elements.iter() {
-        actions.push(Action::SetRemove(element.copy(alloc)?))?;
+        actions.push(action_of(side, element.copy(alloc)?))?;
     }
     Ok(())
 }
@@ -162,8 +145,7 @@ impl Aggregator for SetAgg {
         let Some(base) = set_of(base_of(old, group)) else {
             return Err(ResultError::Cause(Cause::Kind));
         };
-        let added = added_by(alloc, partials)?;
-        let removed = removed_by(alloc, partials)?;
+        let Sides { added, removed } = sides_of(alloc, partials)?;
         if meet(&added, &removed) {
             return Err(ResultError::Cause(Cause::Both));
         }
@@ -186,28 +168,22 @@ impl Aggregator for SetAgg {
         if !are_all_of(Family::Set, first) {
             return Err(JoinError::Cause(Cause::Mixed));
         }
-        let first_added = added_by(alloc, first)?;
-        let first_removed = removed_by(alloc, first)?;
-        if meet(&first_added, &first_removed) {
+        let one = sides_of(alloc, first)?;
+        if meet(&one.added, &one.removed) {
             return Err(JoinError::Cause(Cause::Both));
         }
         if !are_all_of(Family::Set, second) {
             return Err(JoinError::Cause(Cause::Mixed));
         }
-        let second_added = added_by(alloc, second)?;
-        let second_removed = removed_by(alloc, second)?;
-        if meet(&second_added, &second_removed) {
+        let two = sides_of(alloc, second)?;
+        if meet(&two.added, &two.removed) {
             return Err(JoinError::Cause(Cause::Both));
         }
-        let additions = with(alloc, without(first_added, &second_removed), &second_added)?;
-        let removals = with(
-            alloc,
-            without(first_removed, &second_added),
-            &second_removed,
-        )?;
+        let added = with(alloc, without(one.added, &two.removed), &two.added)?;
+        let removed = with(alloc, without(one.removed, &two.added), &two.removed)?;
         let mut joined = Vec::new(alloc);
-        push_additions(alloc, &mut joined, &additions)?;
-        push_removals(alloc, &mut joined, &removals)?;
+        push_side(alloc, &mut joined, Side::Added, &added)?;
+        push_side(alloc, &mut joined, Side::Removed, &removed)?;
         Ok(joined)
     }
 }

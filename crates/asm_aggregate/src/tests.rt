@@ -1,7 +1,8 @@
 ghost use Rattle.std.specs.Prelude.{◌≡◌};
 ghost use Rattle.std.specs.List.{list_all};
 ghost use Rattle.asm_update.specs.Action.{is_partial};
-ghost use Rattle.asm_aggregate.specs.Nobody.{nobody_meaning, nobody_laws};
+ghost use Rattle.asm_aggregate.specs.Nobody.{nobody_meaning};
+ghost use Rattle.asm_aggregate.specs.laws.NobodyLaws.{nobody_laws};
 
 use crate::*;
 use asm_element::{ElemBag, ElemSet, ElemText, Element, Location, Value};

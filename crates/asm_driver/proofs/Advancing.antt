@@ -1,7 +1,9 @@
 -- How a step's move comes about, block by block.
-use Rattle.std.proofs.Common.{◌≡◌, ℕ, ◌+◌, ◌<◌, length, drop, get_or, List, [], ◌∷◌, ◌++◌, Contains, Option, Some, None, Result, Ok, Err, IsOk, IsErr, unwrap_or, refl, sym, ap, ◌∙◌, subst}
+use Rattle.std.proofs.Common.{◌≡◌, inl, inr, ℕ, ◌+◌, ◌<◌, length, drop, get_or, List, [], ◌∷◌, ◌++◌, Contains, Option}
+use Rattle.std.proofs.Common.{Some, None, Result, Ok, Err, IsOk, IsErr, unwrap_or, refl, sym, ap, ◌∙◌, subst}
 use Rattle.std.proofs.lemmas.List.Elements.{Contains-append_right}
 use Rattle.asm_element.specs.Place.{Place}
+use Rattle.asm_update.specs.Aggregator.{Meaning}
 use Rattle.asm_update.specs.Fire.{Part, Old, fire, then_fire, sequence, IsUpdateSet, IsLeastClash}
 use Rattle.asm_update.specs.Move.{Move}
 use Rattle.asm_update.specs.State.{State, Updates, IsProper, val, overwrite}
@@ -11,7 +13,9 @@ use Rattle.asm_overlay.specs.Frames.{Frames, under, topmost, seen_through}
 use Rattle.asm_overlay.proofs.FrameLemmas.{val-under}
 use Rattle.asm_driver.specs.Blocks.{move_in}
 use Rattle.asm_driver.specs.Reads.{taken, changed, named}
-use Rattle.asm_driver.specs.Sequencing.{Stop, FaultyTerm, Clashes, fired, fire_move, fire_block, on_state, fire_blocks, IsReadOf, IsStopped, IsStepMove, IsNext, IsFrame, Extends}
+use Rattle.asm_driver.specs.Sequencing.{Stop, FaultyTerm, Clashes, fired, fire_move, fire_block, on_state}
+use Rattle.asm_driver.specs.Sequencing.{fire_blocks, IsReadOf, IsStopped, IsStepMove, IsNext, IsFrame, Extends}
+use Rattle.asm_driver.specs.Sequencing.{composed_on, IsMany}
 use Rattle.asm_driver.specs.declared.block.Block.{Block}
 use Rattle.asm_driver.specs.declared.step.Step.{Step}
 use Rattle.std.proofs.lemmas.Bool.{false≢true}
@@ -26,13 +30,23 @@ IsDoneBy part A None B = A ≡ B
 IsDoneBy part A (Some M) B = fire part A M ≡ Ok B
 
 -- the blocks before those that are left were pushed as frames and composed to what is done
-pub record IsPlayed (part : Part) (old : Old) (step : Step) (frames : Frames) (done : Option Move) (left : List Block) (last : Block) : Type 0 where
+pub record IsPlayed (a : Meaning) (old : Old) (step : Step) (frames : Frames) (done : Option Move) (left : List Block)
+    (last : Block) : Type 0 where
   pub names : (l : Place) → Contains (named (left ++ last ∷ [])) l → Contains (named step) l
-  pub blocks : (A : State) → IsReadOf A old step → fire_blocks part A step ≡ fire_blocks part (under A frames) (left ++ last ∷ [])
-  pub moved : (A : State) → IsReadOf A old step → IsDoneBy part A done (under A frames)
+  pub blocks : (A : State) → IsReadOf A old step →
+      fire_blocks a.part A step ≡ fire_blocks a.part (under A frames) (left ++ last ∷ [])
+  pub moved : (A : State) → IsReadOf A old step → IsDoneBy a.part A done (under A frames)
+  pub many : (A : State) → IsReadOf A old step → IsMany a (under A frames) done (left ++ last ∷ []) →
+      IsMany a A None step
 
-pub at_start : (part : Part) (old : Old) (left : List Block) (last : Block) → IsPlayed part old (left ++ last ∷ []) [] None left last
-at_start part old left last = record { names = λ l there. there; blocks = λ A read. refl; moved = λ A read. refl }
+pub at_start : (a : Meaning) (old : Old) (left : List Block) (last : Block) →
+    IsPlayed a old (left ++ last ∷ []) [] None left last
+at_start a old left last = record {
+  names = λ l there. there;
+  blocks = λ A read. refl;
+  moved = λ A read. refl;
+  many = λ A read many. many;
+}
 
 under-push : (A : State) (frames : Frames) (U : Updates) → under A (frames ++ U ∷ []) ≡ overwrite (under A frames) U
 under-push A [] U = refl
@@ -50,10 +64,22 @@ after_done part A B D M fires = ap (λ r. then_fire part r M) fires
 fired_ok : (part : Part) (A B : State) (D : Move) → fire part A D ≡ Ok B → IsOk (fire part A D)
 fired_ok part A B D fires = subst IsOk (sym fires) refl
 
-extended : (part : Part) (A B : State) (done : Option Move) (M C : Move) → IsProper A → IsDoneBy part A done B →
-    Extends part done M (Ok C) → fire part A C ≡ fire part B M
-extended part A B None M C proper is extends = (λ i. fire part (is i) (extends i))
-extended part A B (Some D) M C proper is extends = extends A proper (fired_ok part A B D is) ∙ after_done part A B D M is
+extended : (a : Meaning) (A B : State) (done : Option Move) (M C : Move) → IsProper A → IsDoneBy a.part A done B →
+    Extends a done M (Ok C) → fire a.part A C ≡ fire a.part B M
+extended a A B None M C proper is extends = (λ i. fire a.part (is i) (extends i))
+extended a A B (Some D) M C proper is extends =
+    extends.0 A proper (fired_ok a.part A B D is) ∙ after_done a.part A B D M is
+
+-- what is done and the next move compose to
+composed_is : (a : Meaning) (done : Option Move) (M C : Move) → Extends a done M (Ok C) → composed_on a done M ≡ Ok C
+composed_is a None M C extends = ap Ok (sym extends)
+composed_is a (Some D) M C extends = extends.1
+
+-- where too many instructions come together, they are what these compose to
+too_many : (a : Meaning) (done : Option Move) (M : Move) → Extends a done M (Err Many) →
+    (C : Move) × (composed_on a done M ≡ Ok C) × (4096 < length C)
+too_many a None M extends = absurd extends
+too_many a (Some D) M extends = extends
 
 clash_of : (r : Result State Clash) → IsErr r → (clash : Clash) × (r ≡ Err clash)
 clash_of (Ok A) h = absurd (false≢true h)
@@ -65,109 +91,144 @@ IsRefusal (Clashing clash) = Unit {0}
 IsRefusal (Large l) = Unit {0}
 IsRefusal _ = ⊥
 
-refused : (part : Part) (A B : State) (done : Option Move) (M : Move) (fault : StepFault) → IsProper A → IsDoneBy part A done B →
-    Extends part done M (Err fault) → IsRefusal fault → IsErr (fire part B M)
-refused part A B None M fault proper is extends refusal = absurd extends
-refused part A B (Some D) M (Clashing clash) proper is extends refusal = subst IsErr (after_done part A B D M is) (extends A proper)
-refused part A B (Some D) M (Large l) proper is extends refusal = subst IsErr (after_done part A B D M is) (extends A proper)
-refused part A B (Some D) M Term proper is extends refusal = absurd refusal
-refused part A B (Some D) M Many proper is extends refusal = absurd refusal
-refused part A B (Some D) M Memory proper is extends refusal = absurd refusal
+refused : (a : Meaning) (A B : State) (done : Option Move) (M : Move) (fault : StepFault) → IsProper A →
+    IsDoneBy a.part A done B → Extends a done M (Err fault) → IsRefusal fault → IsErr (fire a.part B M)
+refused a A B None M fault proper is extends refusal = absurd extends
+refused a A B (Some D) M (Clashing clash) proper is extends refusal =
+    subst IsErr (after_done a.part A B D M is) (extends A proper)
+refused a A B (Some D) M (Large l) proper is extends refusal =
+    subst IsErr (after_done a.part A B D M is) (extends A proper)
+refused a A B (Some D) M Term proper is extends refusal = absurd refusal
+refused a A B (Some D) M Many proper is extends refusal = absurd refusal
+refused a A B (Some D) M Memory proper is extends refusal = absurd refusal
 
-no_term : (part : Part) (done : Option Move) (M : Move) → Extends part done M (Err Term) → ⊥
-no_term part None M extends = extends
-no_term part (Some D) M extends = extends
+no_term : (a : Meaning) (done : Option Move) (M : Move) → Extends a done M (Err Term) → ⊥
+no_term a None M extends = extends
+no_term a (Some D) M extends = extends
 
 on_state-ok : (r : Result State Stop) → on_state (λ B. Ok B) r ≡ r
 on_state-ok (Ok B) = refl
 on_state-ok (Err stop) = refl
 
-module _ (part : Part) (old : Old) (step : Step) (frames : Frames) (done : Option Move) where
+module _ (a : Meaning) (old : Old) (step : Step) (frames : Frames) (done : Option Move) where
+  abbrev part : Part
+  part = a.part
+
   -- where a state was read, what is seen through the frames is what stands in the state that they leave
-  seen_is : (left : List Block) (last : Block) → IsPlayed part old step frames done left last → (A : State) → IsReadOf A old step →
+  seen_is : (left : List Block) (last : Block) → IsPlayed a old step frames done left last → (A : State) →
+      IsReadOf A old step →
       Agree (seen_through frames old) (val (under A frames)) (named (left ++ last ∷ []))
   seen_is left last played A read l there =
       sym (val-under A frames l ∙ ap (unwrap_or (topmost frames l)) (read.same l (played.names l there)))
 
-  module _ (b : Block) (left : List Block) (last : Block) (played : IsPlayed part old step frames done (b ∷ left) last) where
-    all_seen : (A : State) → IsReadOf A old step →
-        Agree (seen_through frames old) (val (under A frames)) (taken b ++ (changed b ++ named (left ++ last ∷ [])))
-    all_seen A read =
-        subst (Agree (seen_through frames old) (val (under A frames))) (named_first b left last) (seen_is (b ∷ left) last played A read)
+  module _ (b : Block) (left : List Block) (last : Block) (played : IsPlayed a old step frames done (b ∷ left) last)
+    where
+      all_seen : (A : State) → IsReadOf A old step →
+          Agree (seen_through frames old) (val (under A frames)) (taken b ++ (changed b ++ named (left ++ last ∷ [])))
+      all_seen A read =
+          subst (Agree (seen_through frames old) (val (under A frames))) (named_first b left last)
+          (seen_is (b ∷ left) last played A read)
 
-    move_is : (A : State) → IsReadOf A old step → move_in (seen_through frames old) b ≡ move_in (val (under A frames)) b
-    move_is A read = same_move (seen_through frames old) (val (under A frames)) b (agree_left _ _ (taken b) _ (all_seen A read))
+      move_is : (A : State) → IsReadOf A old step →
+          move_in (seen_through frames old) b ≡ move_in (val (under A frames)) b
+      move_is A read = same_move (seen_through frames old) (val (under A frames)) b
+          (agree_left _ _ (taken b) _ (all_seen A read))
 
-    stops : (A : State) → IsReadOf A old step → (stop : Stop) → fire_block part (under A frames) b ≡ Err stop → fire_blocks part A step ≡ Err stop
-    stops A read stop is = played.blocks A read ∙ ap (on_state (λ B. fire_blocks part B (left ++ last ∷ []))) is
+      stops : (A : State) → IsReadOf A old step → (stop : Stop) → fire_block part (under A frames) b ≡ Err stop →
+          fire_blocks part A step ≡ Err stop
+      stops A read stop is = played.blocks A read ∙ ap (on_state (λ B. fire_blocks part B (left ++ last ∷ []))) is
 
-    -- a faulty term stops the blocks
-    pub faulty_term : move_in (seen_through frames old) b ≡ None → (A : State) → IsReadOf A old step → fire_blocks part A step ≡ Err FaultyTerm
-    faulty_term is A read = stops A read FaultyTerm (ap (fire_move part (under A frames)) (sym (move_is A read) ∙ is))
+      -- a faulty term stops the blocks
+      pub faulty_term : move_in (seen_through frames old) b ≡ None → (A : State) → IsReadOf A old step →
+          fire_blocks part A step ≡ Err FaultyTerm
+      faulty_term is A read = stops A read FaultyTerm (ap (fire_move part (under A frames)) (sym (move_is A read) ∙ is))
 
-    -- what is answered where the block has no move
-    pub next_fault : (fault : StepFault) → IsNext (move_in (seen_through frames old) b) (Err fault) → IsStepMove part old step (Err fault)
-    next_fault Term is = faulty_term is
-    next_fault (Clashing clash) is = absurd is
-    next_fault (Large l) is = absurd is
-    next_fault Many is = absurd is
-    next_fault Memory is = λ A read. tt
+      -- what is answered where the block has no move
+      pub next_fault : (fault : StepFault) → IsNext (move_in (seen_through frames old) b) (Err fault) →
+          IsStepMove a old step (Err fault)
+      next_fault Term is = faulty_term is
+      next_fault (Clashing clash) is = absurd is
+      next_fault (Large l) is = absurd is
+      next_fault Many is = absurd is
+      next_fault Memory is = λ A read. tt
 
-    module _ (M : Move) (is : move_in (seen_through frames old) b ≡ Some M) where
-      fires_block : (A : State) → IsReadOf A old step → fire_block part (under A frames) b ≡ fired (fire part (under A frames) M)
-      fires_block A read = ap (fire_move part (under A frames)) (sym (move_is A read) ∙ is)
+      module _ (M : Move) (is : move_in (seen_through frames old) b ≡ Some M) where
+        fires_block : (A : State) → IsReadOf A old step →
+            fire_block part (under A frames) b ≡ fired (fire part (under A frames) M)
+        fires_block A read = ap (fire_move part (under A frames)) (sym (move_is A read) ∙ is)
 
-      changes_seen : (A : State) → IsReadOf A old step → Agree (seen_through frames old) (val (under A frames)) (changed b)
-      changes_seen A read = agree_left _ _ (changed b) _ (agree_right _ _ (taken b) _ (all_seen A read))
+        changes_seen : (A : State) → IsReadOf A old step →
+            Agree (seen_through frames old) (val (under A frames)) (changed b)
+        changes_seen A read = agree_left _ _ (changed b) _ (agree_right _ _ (taken b) _ (all_seen A read))
 
-      -- a block that clashes stops the blocks
-      pub clashing_block : (clash : Clash) → IsLeastClash part (seen_through frames old) M clash → (A : State) → IsReadOf A old step →
-          IsStopped (fire_blocks part A step)
-      clashing_block clash least A read =
-          let there = same_clash part _ _ b M is (changes_seen A read) clash least in
-          (clash, stops A read (Clashes clash) (fires_block A read ∙ ap fired (fire_clash part (under A frames) M clash there)))
+        -- a block that clashes stops the blocks
+        pub clashing_block : (clash : Clash) → IsLeastClash part (seen_through frames old) M clash → (A : State) →
+            IsReadOf A old step →
+            IsStopped (fire_blocks part A step)
+        clashing_block clash least A read =
+            let there = same_clash part _ _ b M is (changes_seen A read) clash least in (
+              clash,
+              stops A read (Clashes clash)
+                  (fires_block A read ∙ ap fired (fire_clash part (under A frames) M clash there)),
+            )
 
-      -- what is answered where the block has no update set
-      pub frame_fault : (fault : StepFault) → IsFrame part (seen_through frames old) M (Err fault) → IsStepMove part old step (Err fault)
-      frame_fault Term least = absurd least
-      frame_fault (Clashing clash) least = clashing_block clash least
-      frame_fault (Large l) least = absurd least
-      frame_fault Many least = absurd least
-      frame_fault Memory least = λ A read. tt
+        -- what is answered where the block has no update set
+        pub frame_fault : (fault : StepFault) → IsFrame part (seen_through frames old) M (Err fault) →
+            IsStepMove a old step (Err fault)
+        frame_fault Term least = absurd least
+        frame_fault (Clashing clash) least = clashing_block clash least
+        frame_fault (Large l) least = absurd least
+        frame_fault Many least = absurd least
+        frame_fault Memory least = λ A read. tt
 
-      never_fires : (A : State) → IsReadOf A old step → (fault : StepFault) → Extends part done M (Err fault) → IsRefusal fault →
-          IsStopped (fire_blocks part A step)
-      never_fires A read fault extends refusal =
-          let clash = clash_of (fire part (under A frames) M) (refused part A (under A frames) done M fault read.proper (played.moved A read) extends refusal) in
-          (clash.0, stops A read (Clashes clash.0) (fires_block A read ∙ ap fired clash.1))
+        never_fires : (A : State) → IsReadOf A old step → (fault : StepFault) → Extends a done M (Err fault) →
+            IsRefusal fault →
+            IsStopped (fire_blocks part A step)
+        never_fires A read fault extends refusal =
+            let clash = clash_of (fire part (under A frames) M)
+            (refused a A (under A frames) done M fault read.proper (played.moved A read) extends refusal) in
+            (clash.0, stops A read (Clashes clash.0) (fires_block A read ∙ ap fired clash.1))
 
-      -- what is answered where the block doesn't compose with what is done
-      pub compose_fault : (fault : StepFault) → Extends part done M (Err fault) → IsStepMove part old step (Err fault)
-      compose_fault Term extends = absurd (no_term part done M extends)
-      compose_fault (Clashing clash) extends = λ A read. never_fires A read (Clashing clash) extends tt
-      compose_fault (Large l) extends = λ A read. never_fires A read (Large l) extends tt
-      compose_fault Many extends = λ A read. tt
-      compose_fault Memory extends = λ A read. tt
+        -- what is answered where the block doesn't compose with what is done
+        pub compose_fault : (fault : StepFault) → Extends a done M (Err fault) → IsStepMove a old step (Err fault)
+        compose_fault Term extends = absurd (no_term a done M extends)
+        compose_fault (Clashing clash) extends = λ A read. never_fires A read (Clashing clash) extends tt
+        compose_fault (Large l) extends = λ A read. never_fires A read (Large l) extends tt
+        compose_fault Many extends = λ A read.
+            let long = too_many a done M extends in
+            played.many A read (M, long.0, sym (move_is A read) ∙ is, long.1, inl long.2)
+        compose_fault Memory extends = λ A read. tt
 
-      module _ (U : Updates) (updates : IsUpdateSet part (seen_through frames old) M U) where
-        fires : (A : State) → IsReadOf A old step → fire part (under A frames) M ≡ Ok (under A (frames ++ U ∷ []))
-        fires A read =
-            fire_updates part (under A frames) M U (same_update_set part _ _ b M is (changes_seen A read) U updates)
-            ∙ ap Ok (sym (under-push A frames U))
+        module _ (U : Updates) (updates : IsUpdateSet part (seen_through frames old) M U) where
+          fires : (A : State) → IsReadOf A old step → fire part (under A frames) M ≡ Ok (under A (frames ++ U ∷ []))
+          fires A read =
+              fire_updates part (under A frames) M U (same_update_set part _ _ b M is (changes_seen A read) U updates)
+              ∙ ap Ok (sym (under-push A frames U))
 
-        -- one more block is a frame, and composed to what is done
-        pub one_more : (C : Move) → Extends part done M (Ok C) → IsPlayed part old step (frames ++ U ∷ []) (Some C) left last
-        one_more C extends = record {
-          names = λ l there.
-              played.names l (subst (λ (ls : List Place). Contains ls l) (sym (named_first b left last))
-              (Contains-append_right (taken b) _ l (Contains-append_right (changed b) _ l there)));
-          blocks = λ A read.
-              played.blocks A read
-              ∙ ap (on_state (λ B. fire_blocks part B (left ++ last ∷ []))) (fires_block A read ∙ ap fired (fires A read));
-          moved = λ A read. extended part A (under A frames) done M C read.proper (played.moved A read) extends ∙ fires A read;
-        }
+          -- one more block is a frame, and composed to what is done
+          pub one_more : (C : Move) → Extends a done M (Ok C) →
+              IsPlayed a old step (frames ++ U ∷ []) (Some C) left last
+          one_more C extends = record {
+            names = λ l there.
+                played.names l (subst (λ (ls : List Place). Contains ls l) (sym (named_first b left last))
+                (Contains-append_right (taken b) _ l (Contains-append_right (changed b) _ l there)));
+            blocks = λ A read.
+                played.blocks A read
+                ∙ ap (on_state (λ B. fire_blocks part B (left ++ last ∷ [])))
+                (fires_block A read ∙ ap fired (fires A read));
+            moved = λ A read.
+                extended a A (under A frames) done M C read.proper (played.moved A read) extends ∙ fires A read;
+            many = λ A read later.
+                played.many A read (
+                  M,
+                  C,
+                  sym (move_is A read) ∙ is,
+                  composed_is a done M C extends,
+                  inr (under A (frames ++ U ∷ []), fires A read, later),
+                );
+          }
 
-  module _ (last : Block) (played : IsPlayed part old step frames done [] last) where
+  module _ (last : Block) (played : IsPlayed a old step frames done [] last) where
     last_is : (A : State) → IsReadOf A old step → (M : Option Move) → move_in (seen_through frames old) last ≡ M →
         fire_blocks part A step ≡ fire_move part (under A frames) M
     last_is A read M is =
@@ -176,7 +237,8 @@ module _ (part : Part) (old : Old) (step : Step) (frames : Frames) (done : Optio
         ∙ ap (fire_move part (under A frames)) (sym same ∙ is)
 
     -- what is answered where the last block has no move
-    pub last_fault : (fault : StepFault) → IsNext (move_in (seen_through frames old) last) (Err fault) → IsStepMove part old step (Err fault)
+    pub last_fault : (fault : StepFault) → IsNext (move_in (seen_through frames old) last) (Err fault) →
+        IsStepMove a old step (Err fault)
     last_fault Term is = λ A read. last_is A read None is
     last_fault (Clashing clash) is = absurd is
     last_fault (Large l) is = absurd is
@@ -184,23 +246,29 @@ module _ (part : Part) (old : Old) (step : Step) (frames : Frames) (done : Optio
     last_fault Memory is = λ A read. tt
 
     module _ (M : Move) (is : move_in (seen_through frames old) last ≡ Some M) where
-      last_refused : (A : State) → IsReadOf A old step → (fault : StepFault) → Extends part done M (Err fault) → IsRefusal fault →
+      last_refused : (A : State) → IsReadOf A old step → (fault : StepFault) → Extends a done M (Err fault) →
+          IsRefusal fault →
           IsStopped (fire_blocks part A step)
       last_refused A read fault extends refusal =
-          let clash = clash_of (fire part (under A frames) M) (refused part A (under A frames) done M fault read.proper (played.moved A read) extends refusal) in
+          let clash = clash_of (fire part (under A frames) M)
+          (refused a A (under A frames) done M fault read.proper (played.moved A read) extends refusal) in
           (clash.0, last_is A read (Some M) is ∙ ap fired clash.1)
 
       -- the last block, composed to what is done, is the step's move
-      pub last_answer : (answer : Result Move StepFault) → Extends part done M answer → IsStepMove part old step answer
+      pub last_answer : (answer : Result Move StepFault) → Extends a done M answer → IsStepMove a old step answer
       last_answer (Ok C) extends = λ A read.
           last_is A read (Some M) is
-          ∙ ap fired (sym (extended part A (under A frames) done M C read.proper (played.moved A read) extends))
-      last_answer (Err Term) extends = absurd (no_term part done M extends)
+          ∙ ap fired (sym (extended a A (under A frames) done M C read.proper (played.moved A read) extends))
+      last_answer (Err Term) extends = absurd (no_term a done M extends)
       last_answer (Err (Clashing clash)) extends = λ A read. last_refused A read (Clashing clash) extends tt
       last_answer (Err (Large l)) extends = λ A read. last_refused A read (Large l) extends tt
-      last_answer (Err Many) extends = λ A read. tt
+      last_answer (Err Many) extends = λ A read.
+          let same = same_move (seen_through frames old) (val (under A frames)) last (seen_is [] last played A read) in
+          let long = too_many a done M extends in
+          played.many A read (M, long.0, sym same ∙ is, long.1, inl long.2)
       last_answer (Err Memory) extends = λ A read. tt
 
 -- the block at a place is the first of those that are left there
-pub left_from : {X : Type 0} (xs : List X) (i : ℕ) (x : X) → i < length xs → x ≡ get_or xs i x → drop i xs ≡ x ∷ drop (i + 1) xs
+pub left_from : {X : Type 0} (xs : List X) (i : ℕ) (x : X) → i < length xs → x ≡ get_or xs i x →
+    drop i xs ≡ x ∷ drop (i + 1) xs
 left_from xs i x below is = drop_more xs i x below ∙ ap (λ y. y ∷ drop (i + 1) xs) (sym is)

@@ -1,5 +1,6 @@
 -- What is answered to the program's words.
-use Rattle.std.proofs.Common.{◌≡◌, ◌∙◌, ◌<◌, ◌^◌, ℕ, Bool, true, false, ap, ap₂, length, option_map, List, [], ◌∷◌, Option, Some, None, Result, Ok, Err, refl, sym, subst, codes, inl, inr, arith, lit<}
+use Rattle.std.proofs.Common.{◌≡◌, ◌∙◌, ◌<◌, ◌^◌, ℕ, Bool, true, false, ap, ap₂, length, option_map, List, [], ◌∷◌}
+use Rattle.std.proofs.Common.{Option, Some, None, Result, Ok, Err, refl, sym, subst, codes, inl, inr, arith, lit<}
 use Rattle.std.specs.Prelude.{IfOk, IfErr, IfSome, IfNone, ◌⊎◌}
 use Rattle.std.specs.Option.{ok_or, option_and_then}
 use Rattle.std.specs.Str.Parse.{IsNumeral, digits_value, without_leading_plus}
@@ -7,7 +8,8 @@ use Rattle.clap.proofs.OnLiterals.{clap_on_literals}
 use Rattle.clap.specs.Words.{Row, Text, Kinds, IsAmong, one_of, subcommand_of}
 use Rattle.clap.specs.declared.error.kind.ErrorKind.{ErrorKind}
 use Rattle.clap.specs.declared.error.kind.ErrorKind.TheVariants as kind
-use Rattle.asm_driver.specs.Words.{Words, program, faults, program_with, run_with, Asks, AsksFor, IsNoCommand, IsRefusal, IsMadeOf}
+use Rattle.asm_driver.specs.Words.{Words, program, faults, program_with, run_with, Asks, AsksFor, IsNoCommand}
+use Rattle.asm_driver.specs.Words.{IsRefusal, IsMadeOf}
 use Rattle.asm_driver.specs.Words.{Gives, Refuses, Helps, Answers}
 use Rattle.asm_driver.specs.declared.words.Request.{Request}
 use Rattle.asm_driver.specs.declared.words.Request.TheVariants.{Run, Check}
@@ -15,8 +17,10 @@ use Rattle.asm_driver.specs.declared.words.WordsError.{WordsError}
 use Rattle.asm_driver.specs.declared.words.WordsError.TheVariants.{Help, Bad, Memory}
 
 -- an error of clap that may come at these words
-pub refused : (words : Words) (k : ErrorKind) (e : WordsError) → (k ≡ kind.OutOfMemory) ⊎ IsAmong k (faults words) → IsMadeOf k e → IsRefusal words e
-refused words k (Help text) (inl memory) is = let e : kind.OutOfMemory ≡ kind.DisplayHelp = sym memory ∙ is in absurd (cc (e))
+pub refused : (words : Words) (k : ErrorKind) (e : WordsError) → (k ≡ kind.OutOfMemory) ⊎ IsAmong k (faults words) →
+    IsMadeOf k e → IsRefusal words e
+refused words k (Help text) (inl memory) is = let e : kind.OutOfMemory ≡ kind.DisplayHelp = sym memory
+    ∙ is in absurd (cc (e))
 refused words k (Help text) (inr among) is = subst (λ x. IsAmong x (faults words)) is among
 refused words k Bad (inl memory) is = absurd (is.0 memory)
 refused words k Bad (inr among) is = inl (k, among, is.1)
@@ -44,12 +48,15 @@ asked_run : (s : Option (Text × List Row)) (t : Text) (j : Bool) → option_map
     → option_and_then (λ p. one_of (codes "journal") p.1) s ≡ Some (flag_text j)
     → (m : Request) → Asks s m → m ≡ Run (digits_value 10 (without_leading_plus t)) j
 asked_run None t j named number numeral small flag m h = absurd h
-asked_run (Some p) t true named number numeral small flag (Run c k) h = ap₂ Run (h.1.0 t number numeral small) (h.1.1.0 flag)
-asked_run (Some p) t false named number numeral small flag (Run c k) h = ap₂ Run (h.1.0 t number numeral small) (h.1.1.1 flag)
+asked_run (Some p) t true named number numeral small flag (Run c k) h = ap₂ Run (h.1.0 t number numeral small)
+    (h.1.1.0 flag)
+asked_run (Some p) t false named number numeral small flag (Run c k) h = ap₂ Run (h.1.0 t number numeral small)
+    (h.1.1.1 flag)
 asked_run (Some p) t j named number numeral small flag Check h =
     let name : p.0 ≡ codes "run" = cc named in absurd (differ (sym name ∙ h))
 
-asked_check : (s : Option (Text × List Row)) → option_map (λ p. p.0) s ≡ Some (codes "check") → (m : Request) → Asks s m → m ≡ Check
+asked_check : (s : Option (Text × List Row)) → option_map (λ p. p.0) s ≡ Some (codes "check") → (m : Request) →
+    Asks s m → m ≡ Check
 asked_check None named m h = absurd h
 asked_check (Some p) named (Run c k) h =
     let name : p.0 ≡ codes "check" = cc named in absurd (differ (sym h.0 ∙ name))
@@ -59,34 +66,47 @@ none_among : (k : ErrorKind) (ks : Kinds) → ks ≡ [] → IsAmong k ks → ⊥
 none_among k [] e h = h
 none_among k (x ∷ xs) e h = cc (e)
 
-gives : (example words : Words) (n : Request) (r : Result Request WordsError) → IsExample example n → IfOk r (AsksFor words) → IfErr r (IsRefusal words) → words ≡ example → Gives n r
+gives : (example words : Words) (n : Request) (r : Result Request WordsError) → IsExample example n →
+    IfOk r (AsksFor words) → IfErr r (IsRefusal words) → words ≡ example → Gives n r
 gives example words n (Ok m) is ok err e = is.asks m (subst (λ w. Asks (subcommand_of program w) m) e ok.1)
-gives example words n (Err (Help text)) is ok err e = absurd (none_among _ _ is.taken (subst (λ w. IsAmong kind.DisplayHelp (faults w)) e err))
-gives example words n (Err Bad) is ok (inl found) e = absurd (none_among _ _ is.taken (subst (λ w. IsAmong found.0 (faults w)) e found.1))
-gives example words n (Err Bad) is ok (inr other) e = absurd (is.known (subst (λ w. IsNoCommand (subcommand_of program w)) e other.1))
+gives example words n (Err (Help text)) is ok err e = absurd
+    (none_among _ _ is.taken (subst (λ w. IsAmong kind.DisplayHelp (faults w)) e err))
+gives example words n (Err Bad) is ok (inl found) e = absurd
+    (none_among _ _ is.taken (subst (λ w. IsAmong found.0 (faults w)) e found.1))
+gives example words n (Err Bad) is ok (inr other) e = absurd
+    (is.known (subst (λ w. IsNoCommand (subcommand_of program w)) e other.1))
 gives example words n (Err Memory) is ok err e = refl
 
-refuses : (example words : Words) (k : ErrorKind) (ks : Kinds) (r : Result Request WordsError) → faults example ≡ k ∷ ks → ¬ IsAmong kind.DisplayHelp (k ∷ ks) → IfOk r (AsksFor words) → IfErr r (IsRefusal words) → words ≡ example → Refuses r
-refuses example words k ks (Ok m) is without ok err e = let none : k ∷ ks ≡ [] = sym is ∙ subst (λ w. faults w ≡ []) e ok.0 in absurd (cc (none))
-refuses example words k ks (Err (Help text)) is without ok err e = absurd (without (subst (IsAmong kind.DisplayHelp) is (subst (λ w. IsAmong kind.DisplayHelp (faults w)) e err)))
+refuses : (example words : Words) (k : ErrorKind) (ks : Kinds) (r : Result Request WordsError) →
+    faults example ≡ k ∷ ks → ¬ IsAmong kind.DisplayHelp (k ∷ ks) → IfOk r (AsksFor words) →
+    IfErr r (IsRefusal words) → words ≡ example → Refuses r
+refuses example words k ks (Ok m) is without ok err e = let none : k ∷ ks ≡ [] = sym is
+    ∙ subst (λ w. faults w ≡ []) e ok.0 in absurd (cc (none))
+refuses example words k ks (Err (Help text)) is without ok err e = absurd
+    (without (subst (IsAmong kind.DisplayHelp) is (subst (λ w. IsAmong kind.DisplayHelp (faults w)) e err)))
 refuses example words k ks (Err Bad) is without ok err e = tt
 refuses example words k ks (Err Memory) is without ok err e = tt
 
-helps : (example words : Words) (r : Result Request WordsError) → faults example ≡ kind.DisplayHelp ∷ [] → IfOk r (AsksFor words) → IfErr r (IsRefusal words) → words ≡ example → Helps r
-helps example words (Ok m) is ok err e = let none : kind.DisplayHelp ∷ [] ≡ [] = sym is ∙ subst (λ w. faults w ≡ []) e ok.0 in absurd (cc (none))
+helps : (example words : Words) (r : Result Request WordsError) → faults example ≡ kind.DisplayHelp ∷ [] →
+    IfOk r (AsksFor words) → IfErr r (IsRefusal words) → words ≡ example → Helps r
+helps example words (Ok m) is ok err e = let none : kind.DisplayHelp ∷ [] ≡ [] = sym is
+    ∙ subst (λ w. faults w ≡ []) e ok.0 in absurd (cc (none))
 helps example words (Err (Help text)) is ok err e = tt
-helps example words (Err Bad) is ok (inl found) e = absurd (only found.0 found.2 (subst (IsAmong found.0) is (subst (λ w. IsAmong found.0 (faults w)) e found.1))) where
-  only : (k : ErrorKind) → ¬ (k ≡ kind.DisplayHelp) → IsAmong k (kind.DisplayHelp ∷ []) → ⊥
-  only k without (inl h) = without h
-  only k without (inr h) = h
-helps example words (Err Bad) is ok (inr other) e = let none : kind.DisplayHelp ∷ [] ≡ [] = sym is ∙ subst (λ w. faults w ≡ []) e other.0 in absurd (cc (none))
+helps example words (Err Bad) is ok (inl found) e = absurd
+    (only found.0 found.2 (subst (IsAmong found.0) is (subst (λ w. IsAmong found.0 (faults w)) e found.1))) where
+      only : (k : ErrorKind) → ¬ (k ≡ kind.DisplayHelp) → IsAmong k (kind.DisplayHelp ∷ []) → ⊥
+      only k without (inl h) = without h
+      only k without (inr h) = h
+helps example words (Err Bad) is ok (inr other) e = let none : kind.DisplayHelp ∷ [] ≡ [] = sym is
+    ∙ subst (λ w. faults w ≡ []) e other.0 in absurd (cc (none))
 helps example words (Err Memory) is ok err e = tt
 
 default : IsExample (run_with []) (Run 4096 false)
 unfolding clap_on_literals faults
 default = record {
   taken = refl;
-  asks = asked_run (subcommand_of program (run_with [])) (codes "4096") false refl refl (lit< tt, (lit< tt, (lit< tt, (lit< tt, (lit< tt, tt))))) (lit< tt) refl;
+  asks = asked_run (subcommand_of program (run_with [])) (codes "4096") false refl refl
+      (lit< tt, (lit< tt, (lit< tt, (lit< tt, (lit< tt, tt))))) (lit< tt) refl;
   known = λ h. h.0 refl;
 }
 
@@ -94,7 +114,8 @@ journal : IsExample (run_with (codes "--journal" ∷ [])) (Run 4096 true)
 unfolding clap_on_literals faults
 journal = record {
   taken = refl;
-  asks = asked_run (subcommand_of program (run_with (codes "--journal" ∷ []))) (codes "4096") true refl refl (lit< tt, (lit< tt, (lit< tt, (lit< tt, (lit< tt, tt))))) (lit< tt) refl;
+  asks = asked_run (subcommand_of program (run_with (codes "--journal" ∷ []))) (codes "4096") true refl refl
+      (lit< tt, (lit< tt, (lit< tt, (lit< tt, (lit< tt, tt))))) (lit< tt) refl;
   known = λ h. h.0 refl;
 }
 
@@ -102,7 +123,8 @@ both : IsExample (run_with (codes "--journal" ∷ codes "--capacity" ∷ codes "
 unfolding clap_on_literals faults
 both = record {
   taken = refl;
-  asks = asked_run (subcommand_of program (run_with (codes "--journal" ∷ codes "--capacity" ∷ codes "8" ∷ []))) (codes "8") true refl refl (lit< tt, (lit< tt, tt)) (lit< tt) refl;
+  asks = asked_run (subcommand_of program (run_with (codes "--journal" ∷ codes "--capacity" ∷ codes "8" ∷ [])))
+      (codes "8") true refl refl (lit< tt, (lit< tt, tt)) (lit< tt) refl;
   known = λ h. h.0 refl;
 }
 
@@ -110,7 +132,8 @@ plus : IsExample (run_with (codes "--capacity" ∷ codes "+8" ∷ [])) (Run 8 fa
 unfolding clap_on_literals faults
 plus = record {
   taken = refl;
-  asks = asked_run (subcommand_of program (run_with (codes "--capacity" ∷ codes "+8" ∷ []))) (codes "+8") false refl refl (lit< tt, (lit< tt, tt)) (lit< tt) refl;
+  asks = asked_run (subcommand_of program (run_with (codes "--capacity" ∷ codes "+8" ∷ []))) (codes "+8") false refl
+      refl (lit< tt, (lit< tt, tt)) (lit< tt) refl;
   known = λ h. h.0 refl;
 }
 
@@ -118,7 +141,8 @@ leading_zero : IsExample (run_with (codes "--capacity" ∷ codes "08" ∷ [])) (
 unfolding clap_on_literals faults
 leading_zero = record {
   taken = refl;
-  asks = asked_run (subcommand_of program (run_with (codes "--capacity" ∷ codes "08" ∷ []))) (codes "08") false refl refl (lit< tt, (lit< tt, (lit< tt, tt))) (lit< tt) refl;
+  asks = asked_run (subcommand_of program (run_with (codes "--capacity" ∷ codes "08" ∷ []))) (codes "08") false refl
+      refl (lit< tt, (lit< tt, (lit< tt, tt))) (lit< tt) refl;
   known = λ h. h.0 refl;
 }
 
@@ -126,7 +150,8 @@ joined : IsExample (run_with (codes "--capacity=8" ∷ [])) (Run 8 false)
 unfolding clap_on_literals faults
 joined = record {
   taken = refl;
-  asks = asked_run (subcommand_of program (run_with (codes "--capacity=8" ∷ []))) (codes "8") false refl refl (lit< tt, (lit< tt, tt)) (lit< tt) refl;
+  asks = asked_run (subcommand_of program (run_with (codes "--capacity=8" ∷ []))) (codes "8") false refl refl
+      (lit< tt, (lit< tt, tt)) (lit< tt) refl;
   known = λ h. h.0 refl;
 }
 
@@ -134,7 +159,9 @@ greatest : IsExample (run_with (codes "--capacity" ∷ codes "1048576" ∷ [])) 
 unfolding clap_on_literals faults
 greatest = record {
   taken = refl;
-  asks = asked_run (subcommand_of program (run_with (codes "--capacity" ∷ codes "1048576" ∷ []))) (codes "1048576") false refl refl (lit< tt, (lit< tt, (lit< tt, (lit< tt, (lit< tt, (lit< tt, (lit< tt, (lit< tt, tt)))))))) (lit< tt) refl;
+  asks = asked_run (subcommand_of program (run_with (codes "--capacity" ∷ codes "1048576" ∷ []))) (codes "1048576")
+      false refl refl (lit< tt, (lit< tt, (lit< tt, (lit< tt, (lit< tt, (lit< tt, (lit< tt, (lit< tt, tt))))))))
+      (lit< tt) refl;
   known = λ h. h.0 refl;
 }
 
@@ -182,7 +209,8 @@ check_help : faults (program_with (codes "check" ∷ codes "--help" ∷ [])) ≡
 unfolding clap_on_literals faults
 check_help = refl
 
-pub answers : (words : Words) (r : Result Request WordsError) → IfOk r (AsksFor words) → IfErr r (IsRefusal words) → Answers words r
+pub answers : (words : Words) (r : Result Request WordsError) → IfOk r (AsksFor words) → IfErr r (IsRefusal words) →
+    Answers words r
 answers words r ok err = record {
   default = gives _ words _ r default ok err;
   journal = gives _ words _ r journal ok err;
@@ -203,11 +231,15 @@ answers words r ok err = record {
 }
 
 -- what the matches ask for, or a mistake where their command isn't one of the program's
-asked : (words : Words) (s : Option (Text × List Row)) (o : Option Request) → faults words ≡ [] → s ≡ subcommand_of program words → IfSome o (Asks s) → IfNone o (IsNoCommand s) → IfOk (ok_or o Bad) (AsksFor words) × IfErr (ok_or o Bad) (IsRefusal words)
+asked : (words : Words) (s : Option (Text × List Row)) (o : Option Request) → faults words ≡ [] →
+    s ≡ subcommand_of program words → IfSome o (Asks s) → IfNone o (IsNoCommand s) →
+    IfOk (ok_or o Bad) (AsksFor words) × IfErr (ok_or o Bad) (IsRefusal words)
 asked words s (Some r) taken is some other = ((taken, subst (λ x. Asks x r) is some), tt)
 asked words s None taken is some other = (tt, inr (taken, subst IsNoCommand is other))
 
-pub answers_asked : (words : Words) (s : Option (Text × List Row)) (o : Option Request) (r : Result Request WordsError) → r ≡ ok_or o Bad → faults words ≡ [] → s ≡ subcommand_of program words → IfSome o (Asks s) → IfNone o (IsNoCommand s) → Answers words r
+pub answers_asked : (words : Words) (s : Option (Text × List Row)) (o : Option Request)
+    (r : Result Request WordsError) → r ≡ ok_or o Bad → faults words ≡ [] → s ≡ subcommand_of program words →
+    IfSome o (Asks s) → IfNone o (IsNoCommand s) → Answers words r
 answers_asked words s o r e taken is some other =
     let both = asked words s o taken is some other in
     subst (Answers words) (sym e) (answers words (ok_or o Bad) both.0 both.1)

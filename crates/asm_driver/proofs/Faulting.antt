@@ -23,16 +23,21 @@ legality_works (Legal calls moves) e = absurd (omega (arith, e))
 legality_works (Illegal call) e = absurd (omega (arith, e))
 
 -- what is done has the status 0 or 1
-done_works : (bytes : List ℕ) (request : Request) (status : ℕ) (text : List ℕ) → IsDone bytes request status text → status ≡ 4 → ⊥
-done_works bytes (Run capacity asked) status text done e = let bad : 0 ≡ 4 = sym done.0 ∙ e in absurd (omega (arith, bad))
+done_works : (bytes : List ℕ) (request : Request) (status : ℕ) (text : List ℕ) → IsDone bytes request status text →
+    status ≡ 4 → ⊥
+done_works bytes (Run capacity asked) status text done e = let bad : 0 ≡ 4 = sym done.0
+    ∙ e in absurd (omega (arith, bad))
 done_works bytes Check status text (h, l, reads, is, same, written) e = legality_works l (sym same ∙ e)
 
 answer_works : (words : Words) (i : Input) (status : ℕ) (text : List ℕ) → IsAnswer words i status text → status ≡ 4 → ⊥
-answer_works words i status text (inl (bytes, request, whole, asks, done)) e = done_works bytes request status text done e
-answer_works words i status text (inr (same, asks, unread)) e = let bad : 0 ≡ 4 = sym same ∙ e in absurd (omega (arith, bad))
+answer_works words i status text (inl (bytes, request, whole, asks, done)) e = done_works bytes request status text
+    done e
+answer_works words i status text (inr (same, asks, unread)) e = let bad : 0 ≡ 4 = sym same
+    ∙ e in absurd (omega (arith, bad))
 
 -- where there is an answer, no read failed
-answer_reads : (words : Words) (i : Input) (status : ℕ) (text : List ℕ) → IsAnswer words i status text → i.failed ≡ false
+answer_reads : (words : Words) (i : Input) (status : ℕ) (text : List ℕ) → IsAnswer words i status text →
+    i.failed ≡ false
 answer_reads words i status text (inl (bytes, request, whole, asks, done)) = whole.whole
 answer_reads words i status text (inr (same, asks, unread)) = unread.whole
 
@@ -70,11 +75,13 @@ four refusal.Memory e = absurd (omega (arith, e))
 -- a failed read is shown as it is
 shown_fault : (r shown : Refusal) → IsShown r shown → shown ≡ refusal.InputFault → r ≡ refusal.InputFault
 shown_fault r shown (inl is) e = sym is ∙ e
-shown_fault r shown (inr (is, number)) e = let bad : refusal.Memory ≡ refusal.InputFault = sym is ∙ e in absurd (cc (bad))
+shown_fault r shown (inr (is, number)) e = let bad : refusal.Memory ≡ refusal.InputFault = sym is
+    ∙ e in absurd (cc (bad))
 
 fault_shown : (r shown : Refusal) → IsShown r shown → r ≡ refusal.InputFault → shown ≡ refusal.InputFault
 fault_shown r shown (inl is) e = is ∙ e
-fault_shown r shown (inr (is, number)) e = let bad : true ≡ false = sym number ∙ subst (λ x. has_number x ≡ has_number refusal.InputFault) (sym e) refl in absurd (both bad)
+fault_shown r shown (inr (is, number)) e = let bad : true ≡ false = sym number
+    ∙ subst (λ x. has_number x ≡ has_number refusal.InputFault) (sym e) refl in absurd (both bad)
 
 done_reads : (bytes : List ℕ) (request : Request) → IsNotDone bytes request refusal.InputFault → ⊥
 done_reads bytes (Run capacity asked) is = is
@@ -87,7 +94,8 @@ fault_failed words i (inr (inl (taken, is))) = is.1
 fault_failed words i (inr (inr (bytes, request, whole, asks, is))) = absurd (done_reads bytes request is)
 
 -- and what is refused so is a failed read
-failed_fault : (words : Words) (i : Input) (r : Refusal) → IsNoAnswer words i r → i.failed ≡ true → r ≡ refusal.InputFault
+failed_fault : (words : Words) (i : Input) (r : Refusal) → IsNoAnswer words i r → i.failed ≡ true →
+    r ≡ refusal.InputFault
 failed_fault words i r (inl (is, unread)) e = absurd (both (sym e ∙ unread.whole))
 failed_fault words i refusal.TooLarge (inr (inl (taken, is))) e = absurd (both (sym e ∙ is.1))
 failed_fault words i refusal.InputFault (inr (inl (taken, is))) e = refl

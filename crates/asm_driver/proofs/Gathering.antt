@@ -19,7 +19,8 @@ abbrev pub gathered : List Block → List Place
 gathered bs = flat_map (λ b. taken b ++ changed b) bs
 
 -- a step names what its earlier blocks name, and what the last one's terms take
-pub named-gathered : (earlier : List Block) (last : Block) → named (earlier ++ last ∷ []) ≡ gathered earlier ++ taken last
+pub named-gathered : (earlier : List Block) (last : Block) →
+    named (earlier ++ last ∷ []) ≡ gathered earlier ++ taken last
 named-gathered [] last = refl
 named-gathered (b ∷ []) last = sym (append_assoc (taken b) (changed b) (taken last))
     ∙ ap (λ (ls : List Place). ls ++ taken last) (sym (append_nil_there (taken b ++ changed b))) where
@@ -33,17 +34,21 @@ named-gathered (b ∷ c ∷ earlier) last =
 
 -- what is named, sorted and then told apart, is what is read
 pub reads_from : (step : Step) (all ordered places : List Place) → all ≡ named step → IsPermutation all ordered →
-    IsSorted location_cmp ordered → IsFiltered (DiffersFromLast (eq_by_cmp location_cmp)) [] ordered places → AreReads step places
+    IsSorted location_cmp ordered → IsFiltered (DiffersFromLast (eq_by_cmp location_cmp)) [] ordered places →
+    AreReads step places
 reads_from step all ordered places is moved sorted kept = record {
   ascending =
       subst (IsStrictlySortedBy location_cmp) (sym left)
       (IsStrictlySortedBy-dedup location_cmp_total (λ x y. refl) ordered sorted);
   named = λ l. (
     λ there.
-        let before = Contains-from_dedup (eq_by_cmp location_cmp) ordered l (subst (λ (ls : List Place). Contains ls l) left there) in
-        subst (λ (ls : List Place). Contains ls l) is (Contains-permutation ordered all l (IsPermutation-sym all ordered moved) before),
+        let before = Contains-from_dedup (eq_by_cmp location_cmp) ordered l
+        (subst (λ (ls : List Place). Contains ls l) left there) in
+        subst (λ (ls : List Place). Contains ls l) is
+        (Contains-permutation ordered all l (IsPermutation-sym all ordered moved) before),
     λ there.
-        let before = Contains-permutation all ordered l moved (subst (λ (ls : List Place). Contains ls l) (sym is) there) in
+        let before = Contains-permutation all ordered l moved
+        (subst (λ (ls : List Place). Contains ls l) (sym is) there) in
         subst (λ (ls : List Place). Contains ls l) (sym left)
         (Contains-dedup (eq_by_cmp_equiv location_cmp_total) same_location ordered l before),
   );

@@ -1,5 +1,7 @@
 -- A text in pieces.
-use Rattle.std.proofs.Common.{◌≡◌, ℕ, ◌+◌, ◌-◌, ◌<◌, ◌==◌, true, List, [], ◌++◌, take, drop, length, Option, None, Some, IfSome, sym, ap, ◌∙◌, append_assoc, append-nil, take-append-drop, arith, length-append}
+use Rattle.std.proofs.Common.{◌≡◌, ℕ, ◌+◌, ◌-◌, ◌<◌, ◌==◌, true, List, [], ◌++◌, take, drop, length, Option, None}
+use Rattle.std.proofs.Common.{Some, IfSome, sym, ap, ◌∙◌, append_assoc, append-nil, take-append-drop, arith}
+use Rattle.std.proofs.Common.{length-append}
 use Rattle.std.specs.Prelude.{Result, Ok, Err, OnOk}
 use Rattle.std.proofs.Math.Seq.{take-append_seam}
 use Rattle.std.specs.Io.KnownBytes.{Appends, Keeps, Consumes}
@@ -9,13 +11,15 @@ pub drop_whole : (n : ℕ) (s : List ℕ) → take (length s - n) (drop n s) ≡
 drop_whole n s = grind (arith, common_steps)
 
 -- the piece moves from what is left to what is done
-pub moved : (n : ℕ) (text done rest : List ℕ) → text ≡ done ++ rest → text ≡ (done ++ take n rest) ++ take (length rest - n) (drop n rest)
+pub moved : (n : ℕ) (text done rest : List ℕ) → text ≡ done ++ rest →
+    text ≡ (done ++ take n rest) ++ take (length rest - n) (drop n rest)
 moved n text done rest e =
     e ∙ (ap (λ l. done ++ l) (sym (take-append-drop n rest)) ∙ (sym (append_assoc done (take n rest) (drop n rest))
     ∙ ap (λ l. (done ++ take n rest) ++ l) (sym (drop_whole n rest))))
 
 -- nothing is left, and the flush kept what had gone out
-pub whole_out : (a b c : Option (List ℕ)) (text done rest : List ℕ) → text ≡ done ++ rest → rest ≡ [] → Appends a b done → Keeps b c → Appends a c text
+pub whole_out : (a b c : Option (List ℕ)) (text done rest : List ℕ) → text ≡ done ++ rest → rest ≡ [] →
+    Appends a b done → Keeps b c → Appends a c text
 whole_out None b c text done rest e nil p q = tt
 whole_out (Some x) None c text done rest e nil p q = absurd p
 whole_out (Some x) (Some y) None text done rest e nil p q = absurd q
@@ -26,14 +30,16 @@ pub nothing_left : (s : List ℕ) → true ≡ (length s == 0) → s ≡ []
 nothing_left s e = grind (arith, common_steps)
 
 -- a read of no bytes consumed none
-pub none_more : (a b c : Option (List ℕ)) (bytes none : List ℕ) → none ≡ [] → Consumes a b bytes → Consumes b c none → Consumes a c bytes
+pub none_more : (a b c : Option (List ℕ)) (bytes none : List ℕ) → none ≡ [] → Consumes a b bytes → Consumes b c none →
+    Consumes a c bytes
 none_more None b c bytes none e p q = tt
 none_more (Some x) None c bytes none e p q = absurd p
 none_more (Some x) (Some y) None bytes none e p q = absurd q
 none_more (Some x) (Some y) (Some z) bytes none e p q = p ∙ ap (λ l. bytes ++ l) (q ∙ ap (λ l. l ++ z) e)
 
 -- what had gone out is the first part of the text
-pub some_out : (a b c : Option (List ℕ)) (text done rest : List ℕ) → text ≡ done ++ rest → Appends a b done → Keeps b c → (n : ℕ) × Appends a c (take n text)
+pub some_out : (a b c : Option (List ℕ)) (text done rest : List ℕ) → text ≡ done ++ rest → Appends a b done →
+    Keeps b c → (n : ℕ) × Appends a c (take n text)
 some_out None b c text done rest e p q = (0, tt)
 some_out (Some x) None c text done rest e p q = absurd p
 some_out (Some x) (Some y) None text done rest e p q = absurd q

@@ -1,5 +1,6 @@
 -- What moves leave of a state that a program can hold is such a state again.
-use Rattle.std.proofs.Common.{◌≡◌, ◌++◌, Bool, true, false, cond, ◌||◌, ◌&&◌, T, List, [], ◌∷◌, map, refl, sym, ap, subst, ◌∙◌, All, Option, Some, None, Result, Ok, Err, unwrap_or, IsSomeAnd, is_some}
+use Rattle.std.proofs.Common.{◌≡◌, ◌++◌, Bool, true, false, cond, ◌||◌, ◌&&◌, T, List, [], ◌∷◌, map, refl, sym, ap}
+use Rattle.std.proofs.Common.{subst, ◌∙◌, All, Option, Some, None, Result, Ok, Err, unwrap_or, IsSomeAnd, is_some}
 use Rattle.std.specs.List.{filter, filter_map}
 use Rattle.std.specs.FinMap as finite
 use Rattle.std.specs.FinMap.Entries.{below_all}
@@ -44,7 +45,8 @@ unlike Less h = refl
 unlike Equal h = absurd h
 unlike Greater h = absurd h
 
-not_below : (k : Place) (es : List (Place × Value)) → T (below_all location_cmp k es) → finite.find location_cmp k es ≡ None
+not_below : (k : Place) (es : List (Place × Value)) → T (below_all location_cmp k es) →
+    finite.find location_cmp k es ≡ None
 not_below k [] h = refl
 not_below k (e ∷ es) h =
     ap (λ b. cond b (Some e.1) (finite.find location_cmp k es)) (unlike (location_cmp k e.0) (both_first _ _ h))
@@ -62,18 +64,26 @@ record EachKept (es : List (Place × Value)) : Type 0 where
 
 later_found : (e : Place × Value) (es : List (Place × Value)) → T (below_all location_cmp e.0 es) →
     ((q : Place) (v : Value) → finite.find location_cmp q (e ∷ es) ≡ Some v → IsKept q v) →
-    (q : Place) (v : Value) → finite.find location_cmp q es ≡ Some v → (b : Bool) → eq_by_cmp location_cmp q e.0 ≡ b → IsKept q v
+    (q : Place) (v : Value) → finite.find location_cmp q es ≡ Some v → (b : Bool) → eq_by_cmp location_cmp q e.0 ≡ b →
+    IsKept q v
 later_found e es below found q v is true same =
     let none = ap (λ p. finite.find location_cmp p es) (same_location q e.0 same) ∙ not_below e.0 es below in
     absurd (let bad : ◌≡◌ {A = Option Value} None (Some v) = sym none ∙ is in cc)
-later_found e es below found q v is false same = found q v (ap (λ b. cond b (Some e.1) (finite.find location_cmp q es)) same ∙ is)
+later_found e es below found q v is false same = found q v
+    (ap (λ b. cond b (Some e.1) (finite.find location_cmp q es)) same ∙ is)
 
 each_found : (es : List (Place × Value)) → T (finite.is_sorted location_cmp es) →
     ((q : Place) (v : Value) → finite.find location_cmp q es ≡ Some v → IsKept q v) → EachKept es
 each_found [] sorted found =
-    record { locations = All-nil place.IsProper; values = All-nil value.IsProper; no_undef = All-nil (λ v. value.is_undef v ≡ false) }
+    record {
+      locations = All-nil place.IsProper;
+      values = All-nil value.IsProper;
+      no_undef = All-nil
+          (λ v. value.is_undef v ≡ false);
+    }
 each_found (e ∷ es) sorted found =
-    let mine = found e.0 e.1 (ap (λ b. cond b (Some e.1) (finite.find location_cmp e.0 es)) (itself location_cmp_total e.0)) in
+    let mine = found e.0 e.1
+    (ap (λ b. cond b (Some e.1) (finite.find location_cmp e.0 es)) (itself location_cmp_total e.0)) in
     let rest = each_found es (both_second _ _ sorted)
     (λ q v is. later_found e es (both_first _ _ sorted) found q v is (eq_by_cmp location_cmp q e.0) refl) in
     record {
@@ -82,7 +92,8 @@ each_found (e ∷ es) sorted found =
       no_undef = All-cons (λ v. value.is_undef v ≡ false) e.1 _ mine.2 rest.no_undef;
     }
 
-found_kept : (es : List (Place × Value)) → EachKept es → (q : Place) (v : Value) → finite.find location_cmp q es ≡ Some v → IsKept q v
+found_kept : (es : List (Place × Value)) → EachKept es → (q : Place) (v : Value) →
+    finite.find location_cmp q es ≡ Some v → IsKept q v
 found_kept [] each q v is = absurd cc
 found_kept (e ∷ es) each q v is =
     by_test (eq_by_cmp location_cmp q e.0) refl is
@@ -91,7 +102,8 @@ found_kept (e ∷ es) each q v is =
       values = All-tail value.IsProper e.1 _ each.values;
       no_undef = All-tail (λ w. value.is_undef w ≡ false) e.1 _ each.no_undef;
     }) q v) where
-      by_test : (b : Bool) → eq_by_cmp location_cmp q e.0 ≡ b → cond b (Some e.1) (finite.find location_cmp q es) ≡ Some v →
+      by_test : (b : Bool) → eq_by_cmp location_cmp q e.0 ≡ b →
+          cond b (Some e.1) (finite.find location_cmp q es) ≡ Some v →
           (finite.find location_cmp q es ≡ Some v → IsKept q v) → IsKept q v
       by_test true same is later =
           let here : e.1 ≡ v = some_is _ _ is in (
@@ -104,7 +116,8 @@ found_kept (e ∷ es) each q v is =
 -- a state is proper where all that it holds is
 proper_from : (A : State) → ((q : Place) (v : Value) → finite.get A q ≡ Some v → IsKept q v) → state.IsProper A
 proper_from A held =
-    let each = each_found (finite.entries A) (finite.entries_sorted A) (λ q v is. held q v (finite.get-entries A q ∙ is)) in
+    let each = each_found (finite.entries A) (finite.entries_sorted A)
+    (λ q v is. held q v (finite.get-entries A q ∙ is)) in
     record { locations = each.locations; values = each.values; no_undef = each.no_undef }
 
 proper_held : (A : State) → state.IsProper A → (q : Place) (v : Value) → finite.get A q ≡ Some v → IsKept q v
@@ -122,21 +135,28 @@ proper_val A q proper = by_cases (finite.get A q) refl where
 -- what a move does at a location is proper
 at_proper : (M : Move) (l : Place) → All IsProperInstruction M → AllProper (actions_at M l)
 at_proper [] l h = All-nil IsProper
-at_proper (x ∷ M) l h = by_test (eq_by_cmp location_cmp x.at l) (at_proper M l (All-tail IsProperInstruction x M h)) where
-  by_test : (b : Bool) → AllProper (actions_at M l) →
-      AllProper (map (λ (i : Instruction). i.action) (cond b (x ∷ filter (λ (i : Instruction). eq_by_cmp location_cmp i.at l) M) (filter (λ (i : Instruction). eq_by_cmp location_cmp i.at l) M)))
-  by_test true later = All-cons IsProper x.action (actions_at M l) (All-head IsProperInstruction x M h).1 later
-  by_test false later = later
+at_proper (x ∷ M) l h = by_test (eq_by_cmp location_cmp x.at l) (at_proper M l (All-tail IsProperInstruction x M h))
+  where
+    by_test : (b : Bool) → AllProper (actions_at M l) →
+        AllProper (map (λ (i : Instruction). i.action)
+        (cond b (x ∷ filter (λ (i : Instruction). eq_by_cmp location_cmp i.at l) M)
+        (filter (λ (i : Instruction). eq_by_cmp location_cmp i.at l) M)))
+    by_test true later = All-cons IsProper x.action (actions_at M l) (All-head IsProperInstruction x M h).1 later
+    by_test false later = later
 
 -- and so is a location that it writes
 written_proper : (M : Move) (l : Place) → All IsProperInstruction M → writes M l ≡ true → place.IsProper l
 written_proper [] l h is = absurd (false≢true is)
-written_proper (x ∷ M) l h is = by_test (eq_by_cmp location_cmp x.at l) refl is (written_proper M l (All-tail IsProperInstruction x M h)) where
-  by_test : (b : Bool) → eq_by_cmp location_cmp x.at l ≡ b → (b || writes M l) ≡ true → (writes M l ≡ true → place.IsProper l) → place.IsProper l
-  by_test true same is later = subst place.IsProper (same_location x.at l same) (All-head IsProperInstruction x M h).0
-  by_test false same is later = later is
+written_proper (x ∷ M) l h is = by_test (eq_by_cmp location_cmp x.at l) refl is
+    (written_proper M l (All-tail IsProperInstruction x M h)) where
+      by_test : (b : Bool) → eq_by_cmp location_cmp x.at l ≡ b → (b || writes M l) ≡ true →
+          (writes M l ≡ true → place.IsProper l) → place.IsProper l
+      by_test true same is later = subst place.IsProper (same_location x.at l same)
+          (All-head IsProperInstruction x M h).0
+      by_test false same is later = later is
 
-first_proper : (G : List Action) → AllProper G → (v : Value) → first (filter_map regular_value G) ≡ Some v → value.IsProper v
+first_proper : (G : List Action) → AllProper G → (v : Value) → first (filter_map regular_value G) ≡ Some v →
+    value.IsProper v
 first_proper [] h v is = absurd cc
 first_proper (Regular u ∷ G) h v is = subst value.IsProper (some_is u v is) (All-head IsProper (Regular u) G h)
 first_proper (SetAdd e ∷ G) h v is = first_proper G (All-tail IsProper (SetAdd e) G h) v is
@@ -147,26 +167,33 @@ first_proper (BagRemove e n ∷ G) h v is = first_proper G (All-tail IsProper (B
 partials_proper : (G : List Action) → AllProper G → AllProper (filter is_partial G)
 partials_proper [] h = All-nil IsProper
 partials_proper (x ∷ G) h = by_test (is_partial x) (partials_proper G (All-tail IsProper x G h)) where
-  by_test : (b : Bool) → AllProper (filter is_partial G) → AllProper (cond b (x ∷ filter is_partial G) (filter is_partial G))
+  by_test : (b : Bool) → AllProper (filter is_partial G) →
+      AllProper (cond b (x ∷ filter is_partial G) (filter is_partial G))
   by_test true later = All-cons IsProper x (filter is_partial G) (All-head IsProper x G h) later
   by_test false later = later
 
 module _ {a : Meaning} (laws : AggregatorLaws a) where
   group_proper : (old w : Value) (r : Option Value) (ps : List Action) → value.IsProper old →
-      ((v : Value) → r ≡ Some v → value.IsProper v) → AllProper ps → group_result a.part old r ps ≡ Ok w → value.IsProper w
+      ((v : Value) → r ≡ Some v → value.IsProper v) → AllProper ps → group_result a.part old r ps ≡ Ok w →
+      value.IsProper w
   group_proper old w (Some v) [] po pr pp is = subst value.IsProper (ok_is v w is) (pr v refl)
   group_proper old w (Some v) (p ∷ ps) po pr pp is =
       subst value.IsProper (sym (laws.regular_result old v w (p ∷ ps) is)) (pr v refl)
   group_proper old w None ps po pr pp is = laws.proper_kept old w ps po pp is
 
-  result_proper : (old w : Value) (G : List Action) → value.IsProper old → AllProper G → res a.part old G ≡ Ok w → value.IsProper w
+  result_proper : (old w : Value) (G : List Action) → value.IsProper old → AllProper G → res a.part old G ≡ Ok w →
+      value.IsProper w
   result_proper old w G po pg is = by_test (are_different (filter_map regular_value G)) is where
-    by_test : (b : Bool) → cond b (Err Two) (group_result a.part old (first (filter_map regular_value G)) (filter is_partial G)) ≡ Ok w → value.IsProper w
+    by_test : (b : Bool) →
+        cond b (Err Two) (group_result a.part old (first (filter_map regular_value G)) (filter is_partial G)) ≡ Ok w →
+        value.IsProper w
     by_test true is = absurd cc
     by_test false is =
-        group_proper old w (first (filter_map regular_value G)) (filter is_partial G) po (first_proper G pg) (partials_proper G pg) is
+        group_proper old w (first (filter_map regular_value G)) (filter is_partial G) po (first_proper G pg)
+        (partials_proper G pg) is
 
-  fired_proper : (A B : State) (M : Move) → state.IsProper A → All IsProperInstruction M → fire a.part A M ≡ Ok B → state.IsProper B
+  fired_proper : (A B : State) (M : Move) → state.IsProper A → All IsProperInstruction M → fire a.part A M ≡ Ok B →
+      state.IsProper B
   fired_proper A B M pA pM is = proper_from B held where
     updates : (U : Updates) × IsUpdateSet a.part (val A) M U × (overwrite A U ≡ B)
     updates = fired_updates a.part A M B is
@@ -178,14 +205,17 @@ module _ {a : Meaning} (laws : AggregatorLaws a) where
         place.IsProper q → value.IsProper u → IsKept q v
     by_undef q u v true e is pq pu = absurd cc
     by_undef q u v false e is pq pu =
-        let same : u ≡ v = some_is u v is in (pq, subst value.IsProper same pu, subst (λ w. value.is_undef w ≡ false) same e)
+        let same : u ≡ v = some_is u v is in
+        (pq, subst value.IsProper same pu, subst (λ w. value.is_undef w ≡ false) same e)
 
-    by_update : (q : Place) (v : Value) (o : Option Value) → finite.get updates.0 q ≡ o → stored_or o (finite.get A q) ≡ Some v → IsKept q v
+    by_update : (q : Place) (v : Value) (o : Option Value) → finite.get updates.0 q ≡ o →
+        stored_or o (finite.get A q) ≡ Some v → IsKept q v
     by_update q v None e is = proper_held A pA q v is
     by_update q v (Some u) e is =
         let there : writes M q ≡ true = sym (has_updated a.part (val A) M updates.0 updates.1 q) ∙ ap is_some e in
         let gives : outcome_at a.part (val A) M q ≡ Ok u =
-        subst (λ (o : Option Value). IsSomeAnd o (λ w. outcome_at a.part (val A) M q ≡ Ok w)) e (updates.1.written q there) in
+        subst (λ (o : Option Value). IsSomeAnd o (λ w. outcome_at a.part (val A) M q ≡ Ok w)) e
+        (updates.1.written q there) in
         by_undef q u v (value.is_undef u) refl is (written_proper M q pM there)
         (result_proper (val A q) u (actions_at M q) (proper_val A q pA) (at_proper M q pM) gives)
 
@@ -193,10 +223,12 @@ module _ {a : Meaning} (laws : AggregatorLaws a) where
     held q v is = by_update q v (finite.get updates.0 q) refl (sym (got q) ∙ is)
 
   -- the state that proper moves leave is proper
-  pub moves_proper : (A : State) (q : List Move) → state.IsProper A → All (All IsProperInstruction) q → state.IsProper (state_of a.part A q)
+  pub moves_proper : (A : State) (q : List Move) → state.IsProper A → All (All IsProperInstruction) q →
+      state.IsProper (state_of a.part A q)
   moves_proper A [] pA pq = pA
   moves_proper A (M ∷ q) pA pq =
-      moves_proper (state_or A (fire a.part A M)) q (by_answer (fire a.part A M) refl) (All-tail (All IsProperInstruction) M q pq) where
+      moves_proper (state_or A (fire a.part A M)) q (by_answer (fire a.part A M) refl)
+      (All-tail (All IsProperInstruction) M q pq) where
         by_answer : (r : Result State Clash) → fire a.part A M ≡ r → state.IsProper (state_or A r)
         by_answer (Ok B) e = fired_proper A B M pA (All-head (All IsProperInstruction) M q pq) e
         by_answer (Err c) e = pA

@@ -1,5 +1,6 @@
 -- What was read: the values at the locations, and their names.
-use Rattle.std.proofs.Common.{◌≡◌, ℕ, zero, suc, ◌+◌, ◌≤◌, Bool, true, false, cond, List, [], ◌∷◌, ◌++◌, length, map, take, drop, Some, slice_get, Contains, refl, sym, ap, ◌∙◌, arith}
+use Rattle.std.proofs.Common.{◌≡◌, ℕ, zero, suc, ◌+◌, ◌≤◌, Bool, true, false, cond, List, [], ◌∷◌, ◌++◌, length, map}
+use Rattle.std.proofs.Common.{take, drop, Some, slice_get, Contains, refl, sym, ap, ◌∙◌, arith}
 use Rattle.std.specs.Ordering.{eq_by_cmp}
 use Rattle.asm_element.specs.Place.{Place, location_cmp, location_cmp_total, same_location}
 use Rattle.asm_element.specs.Tests.{itself}
@@ -29,28 +30,34 @@ take_suc [] i x is = absurd cc
 take_suc (y ∷ xs) zero x is = let e : y ≡ x = cc is in ap (λ z. z ∷ []) e
 take_suc (y ∷ xs) (suc i) x is = ap (λ zs. y ∷ zs) (take_suc xs i x is)
 
-take_more_at : {X : Type 0} (xs : List X) (i : ℕ) (x : X) → slice_get xs i ≡ Some x → take (i + 1) xs ≡ take i xs ++ x ∷ []
+take_more_at : {X : Type 0} (xs : List X) (i : ℕ) (x : X) → slice_get xs i ≡ Some x →
+    take (i + 1) xs ≡ take i xs ++ x ∷ []
 take_more_at xs i x is = let on : i + 1 ≡ suc i = omega arith in ap (λ n. take n xs) on ∙ take_suc xs i x is
 
 -- the values from place i on tell the value at l, as all of them do
 abbrev pub TellsFrom : ReadingView → Place → ℕ → Type 0
 TellsFrom r l i = value_among r.places r.values l ≡ value_among (drop i r.places) (drop i r.values) l
 
-module _ (r : ReadingView) (l : Place) (i : ℕ) (told : TellsFrom r l i) (p : Place) (v : Value) (at : slice_get r.places i ≡ Some p)
+module _ (r : ReadingView) (l : Place) (i : ℕ) (told : TellsFrom r l i) (p : Place) (v : Value)
+    (at : slice_get r.places i ≡ Some p)
     (value : slice_get r.values i ≡ Some v) where
-  first_tells : value_among r.places r.values l ≡ cond (eq_by_cmp location_cmp p l) v (value_among (drop (i + 1) r.places) (drop (i + 1) r.values) l)
+  first_tells : value_among r.places r.values l ≡ cond (eq_by_cmp location_cmp p l) v
+      (value_among (drop (i + 1) r.places) (drop (i + 1) r.values) l)
   first_tells = told ∙ (λ n. value_among (left_at r.places i p at n) (left_at r.values i v value n) l)
 
   -- the location stands here
   pub tells_here : eq_by_cmp location_cmp p l ≡ true → value_among r.places r.values l ≡ v
-  tells_here same = first_tells ∙ ap (λ b. cond b v (value_among (drop (i + 1) r.places) (drop (i + 1) r.values) l)) same
+  tells_here same = first_tells
+      ∙ ap (λ b. cond b v (value_among (drop (i + 1) r.places) (drop (i + 1) r.values) l)) same
 
   -- another location stands here
   pub tells_later : eq_by_cmp location_cmp p l ≡ false → TellsFrom r l (i + 1)
-  tells_later other = first_tells ∙ ap (λ b. cond b v (value_among (drop (i + 1) r.places) (drop (i + 1) r.values) l)) other
+  tells_later other = first_tells
+      ∙ ap (λ b. cond b v (value_among (drop (i + 1) r.places) (drop (i + 1) r.values) l)) other
 
 -- nothing is left
-pub tells_none : (r : ReadingView) (l : Place) (i : ℕ) → TellsFrom r l i → length r.places ≤ i → value_among r.places r.values l ≡ undef
+pub tells_none : (r : ReadingView) (l : Place) (i : ℕ) → TellsFrom r l i → length r.places ≤ i →
+    value_among r.places r.values l ≡ undef
 tells_none r l i told le = told ∙ ap (λ ps. value_among ps (drop i r.values) l) (drop_end r.places i le)
 
 -- the value read is the value
@@ -63,7 +70,8 @@ value_mapped f (p ∷ ps) l there = by_test (eq_by_cmp location_cmp p l) refl th
   by_test : (b : Bool) → eq_by_cmp location_cmp p l ≡ b → Contains (p ∷ ps) l →
       (Contains ps l → value_among ps (map f ps) l ≡ f l) → value_among (p ∷ ps) (map f (p ∷ ps)) l ≡ f l
   by_test true same there later = tied same
-  by_test false other (zero, lt, is) later = tied (ap (λ k. eq_by_cmp location_cmp k l) is ∙ itself location_cmp_total l)
+  by_test false other (zero, lt, is) later = tied
+      (ap (λ k. eq_by_cmp location_cmp k l) is ∙ itself location_cmp_total l)
   by_test false other (suc k, lt, is) later =
       ap (λ b. cond b (f p) (value_among ps (map f ps) l)) other ∙ later (k, omega (arith, lt), is)
 
@@ -72,8 +80,10 @@ mapped_both f [] ys = refl
 mapped_both f (x ∷ xs) ys = ap (λ zs. f x ∷ zs) (mapped_both f xs ys)
 
 -- one name more
-pub named_more : (r : ReadingView) (i : ℕ) (old new : List Named) (n : Named) → old ≡ map (name_at r.number) (take i r.places) →
-    slice_get r.places i ≡ Some n.at → n.number ≡ r.number → new ≡ old ++ n ∷ [] → new ≡ map (name_at r.number) (take (i + 1) r.places)
+pub named_more : (r : ReadingView) (i : ℕ) (old new : List Named) (n : Named) →
+    old ≡ map (name_at r.number) (take i r.places) →
+    slice_get r.places i ≡ Some n.at → n.number ≡ r.number → new ≡ old ++ n ∷ [] →
+    new ≡ map (name_at r.number) (take (i + 1) r.places)
 named_more r i old new n was at number is =
     let name : n ≡ name_at r.number n.at = (λ j. record { at = n.at; number = number j }) in
     is ∙ (λ j. was j ++ name j ∷ []) ∙ sym (mapped_both (name_at r.number) (take i r.places) (n.at ∷ []))

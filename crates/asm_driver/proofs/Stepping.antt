@@ -1,5 +1,6 @@
 -- Steps that were played, one after another.
-use Rattle.std.proofs.Common.{◌≡◌, ◌⊎◌, inl, inr, ℕ, zero, suc, ◌-◌, ◌≤◌, min, List, [], ◌∷◌, ◌++◌, length, take, map, All, Ok, append_assoc, append-nil, length-append, arith, refl, sym, ap, subst, ◌∙◌}
+use Rattle.std.proofs.Common.{◌≡◌, ◌⊎◌, inl, inr, ℕ, zero, suc, ◌-◌, ◌≤◌, min, List, [], ◌∷◌, ◌++◌, length, take, map}
+use Rattle.std.proofs.Common.{All, Ok, append_assoc, append-nil, length-append, arith, refl, sym, ap, subst, ◌∙◌}
 use Rattle.std.proofs.lemmas.List.Elements.{All-nil, All-append}
 use mathlib.Core.List.{IsPrefix}
 use Rattle.asm_update.specs.Aggregator.{Meaning}
@@ -66,7 +67,8 @@ module _ (m : Machine) (q r : List Move) (p : IsPrefix q r) where
     subst (λ w. IsStopped (fire_blocks m.part (state_of m w) step)) (take-prefix n q r p le) is,
   )
 
-  clash_later : (step : Step) (stop : Stop) → StopsWith m q step stop ⊎ Clashing m q step → StopsWith m r step stop ⊎ Clashing m r step
+  clash_later : (step : Step) (stop : Stop) → StopsWith m q step stop ⊎ Clashing m q step →
+      StopsWith m r step stop ⊎ Clashing m r step
   clash_later step stop (inl is) = inl (stops_later step stop is)
   clash_later step stop (inr is) = inr (clashing_later step is)
 
@@ -81,7 +83,11 @@ module _ (m : Machine) (q r : List Move) (p : IsPrefix q r) where
         answer,
         some,
         sym (take-prefix k q r p within) ∙ whole ∙ ap (λ w. w ++ M ∷ []) first,
-        (B, subst (λ w. fire m.part (state_of m w) M ≡ Ok B) first fires, subst (λ w. fire_blocks m.part (state_of m w) step ≡ Ok B) first blocks),
+        (
+          B,
+          subst (λ w. fire m.part (state_of m w) M ≡ Ok B) first fires,
+          subst (λ w. fire_blocks m.part (state_of m w) step ≡ Ok B) first blocks,
+        ),
       )
 
   told_later : (step : Step) (o : Outcome) (es : List Event) → IsTold m q step o es → IsTold m r step o es
@@ -101,7 +107,8 @@ module _ (m : Machine) (q r : List Move) (p : IsPrefix q r) where
       (told.0, told.1, told.2, told_later s o told.0 told.3, are_told_later ss os told.1 told.4)
 
 -- one step more
-are_told_more : (m : Machine) (q : List Move) (ss : List Step) (os : List Outcome) (es fs : List Event) (s : Step) (o : Outcome) →
+are_told_more : (m : Machine) (q : List Move) (ss : List Step) (os : List Outcome) (es fs : List Event) (s : Step)
+    (o : Outcome) →
     AreTold m q ss os es → IsTold m q s o fs → AreTold m q (ss ++ s ∷ []) (os ++ o ∷ []) (es ++ fs)
 are_told_more m q [] [] es fs s o told last = (fs, [], ap (λ w. w ++ fs) told ∙ sym (append-nil fs), last, refl)
 are_told_more m q [] (p ∷ os) es fs s o told last = absurd told
@@ -141,10 +148,12 @@ tried_adds {A} (suc n) old new (mid, before, again) =
 
 module _ {A : Type 0} (meaning : A → Meaning) (part : Part) where
   -- a step that was played ended
-  step_ended : (old new : AgentAt A) (step : Step) (o : Outcome) → IsStepPlayed meaning part old new step o → IsEnded meaning part old new step o
+  step_ended : (old new : AgentAt A) (step : Step) (o : Outcome) → IsStepPlayed meaning part old new step o →
+      IsEnded meaning part old new step o
   step_ended old new step o (inl (is, n, count, tried)) =
       let all = tried_adds n old new tried in
-      subst (IsEnded meaning part old new step) (sym is) (record { more = all.more; adds = all.adds; told = λ same proper. all.idle })
+      subst (IsEnded meaning part old new step) (sym is)
+      (record { more = all.more; adds = all.adds; told = λ same proper. all.idle })
   step_ended old new step o (inr (n, few, mid, tried, ended)) =
       let first = tried_adds n old mid tried in
       let last = ended.0 in
@@ -154,8 +163,10 @@ module _ {A : Type 0} (meaning : A → Meaning) (part : Part) where
         adds = adds_then old mid new first.more last.more first.adds last.adds;
         told = λ same proper.
             let told = subst (λ (s : StorageView A). (meaning s.agg).part ≡ part → AreProper s.init q →
-            IsTold (machine_of meaning s) q step o (map (event_of mid.account.id) last.more)) first.adds.same.storage last.told same proper in
-            subst (IsTold (machine_of meaning old.storage) q step o) (sym (added_events old mid first.more last.more first.adds.same))
+            IsTold (machine_of meaning s) q step o (map (event_of mid.account.id) last.more)) first.adds.same.storage
+            last.told same proper in
+            subst (IsTold (machine_of meaning old.storage) q step o)
+            (sym (added_events old mid first.more last.more first.adds.same))
             (idle_before (machine_of meaning old.storage) q step o _ _ first.idle told);
       }
 
@@ -169,11 +180,13 @@ module _ {A : Type 0} (meaning : A → Meaning) (part : Part) where
   }
 
   -- one step more was played
-  pub plays_more : (old mid new : AgentAt A) (ss : List Step) (os : List Outcome) (s : Step) (o : Outcome) → Plays meaning part old mid ss os →
+  pub plays_more : (old mid new : AgentAt A) (ss : List Step) (os : List Outcome) (s : Step) (o : Outcome) →
+      Plays meaning part old mid ss os →
       IsStepPlayed meaning part mid new s o → Plays meaning part old new (ss ++ s ∷ []) (os ++ o ∷ [])
   plays_more old mid new ss os s o before played =
       let last = step_ended mid new s o played in
-      let adds = adds_then old mid new before.more last.more (record { same = before.same; begins = before.begins; added = before.added }) last.adds in
+      let adds = adds_then old mid new before.more last.more
+      (record { same = before.same; begins = before.begins; added = before.added }) last.adds in
       let q = moves_seen mid.account.seen in
       let r = moves_seen new.account.seen in
       let p = prefix_mapped (λ (x : Entry). x.instrs) mid.account.seen new.account.seen last.adds.begins in
@@ -184,9 +197,12 @@ module _ {A : Type 0} (meaning : A → Meaning) (part : Part) where
         added = adds.added;
         told = λ same proper.
             let m = machine_of meaning old.storage in
-            let first = are_told_later m q r p ss os _ (before.told same (proper_prefix old.storage.init q r p proper)) in
+            let first = are_told_later m q r p ss os _
+            (before.told same (proper_prefix old.storage.init q r p proper)) in
             let told = subst (λ (t : StorageView A). (meaning t.agg).part ≡ part → AreProper t.init r →
-            IsTold (machine_of meaning t) r s o (map (event_of mid.account.id) last.more)) before.same.storage last.told same proper in
-            subst (AreTold m r (ss ++ s ∷ []) (os ++ o ∷ [])) (sym (added_events old mid before.more last.more before.same))
+            IsTold (machine_of meaning t) r s o (map (event_of mid.account.id) last.more)) before.same.storage
+            last.told same proper in
+            subst (AreTold m r (ss ++ s ∷ []) (os ++ o ∷ []))
+            (sym (added_events old mid before.more last.more before.same))
             (are_told_more m r ss os _ _ s o first told);
       }

@@ -1,5 +1,7 @@
 -- One try of a step: what its read and its fire leave, and what its outcome tells.
-use Rattle.std.proofs.Common.{◌≡◌, ◌≢◌, inl, inr, ℕ, zero, suc, ◌+◌, ◌-◌, ◌≤◌, Bool, true, false, cond, nat_lt, List, [], ◌∷◌, ◌++◌, length, take, map, fold, All, Option, Some, None, Result, Ok, Err, Contains, append_assoc, append-nil, length-append, arith, refl, sym, ap, subst, ◌∙◌}
+use Rattle.std.proofs.Common.{◌≡◌, ◌≢◌, inl, inr, ℕ, zero, suc, ◌+◌, ◌-◌, ◌≤◌, Bool, true, false, cond, nat_lt, List}
+use Rattle.std.proofs.Common.{[], ◌∷◌, ◌++◌, length, take, map, fold, All, Option, Some, None, Result, Ok, Err}
+use Rattle.std.proofs.Common.{Contains, append_assoc, append-nil, length-append, arith, refl, sym, ap, subst, ◌∙◌}
 use Rattle.std.specs.List.{filter}
 use Rattle.std.specs.Ordering.{is_lt}
 use Rattle.std.proofs.lemmas.List.{take_at, take_all}
@@ -29,9 +31,10 @@ use Rattle.asm_storage.specs.declared.receipt.Receipt.{Receipt}
 use Rattle.asm_storage.proofs.Run.{same_value_from}
 use Rattle.asm_driver.specs.Plays.{AreProper}
 use Rattle.asm_driver.specs.Reads.{AreReads}
-use Rattle.asm_driver.specs.Sequencing.{Stop, FaultyTerm, Clashes, fired, fire_blocks, IsReadOf, IsStepMove}
+use Rattle.asm_driver.specs.Sequencing.{Stop, FaultyTerm, Clashes, fired, fire_blocks, IsReadOf, IsStopped, IsStepMove}
 use Rattle.asm_driver.specs.Told.{IsIdle, IsFiring, StopsWith, Clashing, EndsWith, IsTold}
-use Rattle.asm_driver.specs.Trying.{value_among, read_value, name_at, names_of, HasRead, HasTried, outcome_of, IsEndOf, Adds, IsTry}
+use Rattle.asm_driver.specs.Trying.{value_among, read_value, name_at, names_of, HasRead, HasTried, outcome_of}
+use Rattle.asm_driver.specs.Trying.{IsEndOf, Adds, IsTry}
 use Rattle.asm_driver.specs.declared.step.Step.{Step}
 use Rattle.asm_driver.specs.declared.step.StepFault.{StepFault}
 use Rattle.asm_driver.specs.declared.step.StepFault.TheVariants as fault
@@ -54,7 +57,8 @@ pub taken_prefix : {X : Type 0} (xs ys : List X) (n : ℕ) → n ≡ length xs �
 taken_prefix xs ys n is p = ap (take n) (sym p.1) ∙ take_at xs p.0 n (sym is)
 
 -- what is added in turn
-pub adds_then : {A : Type 0} (old mid new : AgentAt A) (xs ys : List Receipt) → Adds old mid xs → Adds mid new ys → Adds old new (xs ++ ys)
+pub adds_then : {A : Type 0} (old mid new : AgentAt A) (xs ys : List Receipt) → Adds old mid xs → Adds mid new ys →
+    Adds old new (xs ++ ys)
 adds_then old mid new xs ys first second = record {
   same = record { storage = second.same.storage ∙ first.same.storage; id = second.same.id ∙ first.same.id };
   begins = prefix_trans old.account.seen mid.account.seen new.account.seen first.begins second.begins;
@@ -69,7 +73,8 @@ adds_none old = record {
 }
 
 -- a receipt of a read is idle, and so is one of a stale or a clashing fire
-idle_read : (id stood n : ℕ) (places : List Place) (vs : List Value) → IsIdle (event_of id (receipt_at stood (call.Read places) (answer.Read n vs)))
+idle_read : (id stood n : ℕ) (places : List Place) (vs : List Value) →
+    IsIdle (event_of id (receipt_at stood (call.Read places) (answer.Read n vs)))
 idle_read id stood n places vs = ((λ bad. cc bad), (λ k bad. cc bad))
 
 idle_stale : (id stood : ℕ) (reads : List Named) (M : Move) (l : Place) →
@@ -84,27 +89,35 @@ idle_clash id stood reads M c = ((λ bad. cc bad), (λ k bad. cc bad))
 stays : (k : Place) (ls : List Place) → fold lesser (Some k) ls ≡ None → ⊥
 stays k [] none = cc
 stays k (l ∷ ls) none = here (is_lt (location_cmp l k)) none (stays l ls) (stays k ls) where
-  here : (b : Bool) → fold lesser (cond b (Some l) (Some k)) ls ≡ None → (fold lesser (Some l) ls ≡ None → ⊥) → (fold lesser (Some k) ls ≡ None → ⊥) → ⊥
+  here : (b : Bool) → fold lesser (cond b (Some l) (Some k)) ls ≡ None → (fold lesser (Some l) ls ≡ None → ⊥) →
+      (fold lesser (Some k) ls ≡ None → ⊥) → ⊥
   here true e one other = one e
   here false e one other = other e
 
-none_stale : (test : Named → Bool) (n : ℕ) (ps : List Place) → least (map (λ (r : Named). r.at) (filter test (map (name_at n) ps))) ≡ None →
+none_stale : (test : Named → Bool) (n : ℕ) (ps : List Place) →
+    least (map (λ (r : Named). r.at) (filter test (map (name_at n) ps))) ≡ None →
     (l : Place) → Contains ps l → test (name_at n l) ≡ false
 none_stale test n [] none l there = absurd (omega (arith, there.1))
-none_stale test n (p ∷ ps) none l there = here (test (name_at n p)) refl none there (λ rest. none_stale test n ps rest l) where
-  here : (b : Bool) → test (name_at n p) ≡ b →
-      least (map (λ (r : Named). r.at) (cond b (name_at n p ∷ filter test (map (name_at n) ps)) (filter test (map (name_at n) ps)))) ≡ None →
-      Contains (p ∷ ps) l →
-      (least (map (λ (r : Named). r.at) (filter test (map (name_at n) ps))) ≡ None → Contains ps l → test (name_at n l) ≡ false) →
-      test (name_at n l) ≡ false
-  here true e none there later = absurd (stays p (map (λ (r : Named). r.at) (filter test (map (name_at n) ps))) none)
-  here false e none (zero, lt, is) later = subst (λ k. test (name_at n k) ≡ false) is e
-  here false e none (suc k, lt, is) later = later none (k, omega (arith, lt), is)
+none_stale test n (p ∷ ps) none l there = here (test (name_at n p)) refl none there
+    (λ rest. none_stale test n ps rest l) where
+      here : (b : Bool) → test (name_at n p) ≡ b →
+          least (map (λ (r : Named). r.at)
+          (cond b (name_at n p ∷ filter test (map (name_at n) ps)) (filter test (map (name_at n) ps)))) ≡ None →
+          Contains (p ∷ ps) l →
+          (least (map (λ (r : Named). r.at) (filter test (map (name_at n) ps))) ≡ None → Contains ps l →
+          test (name_at n l) ≡ false) →
+          test (name_at n l) ≡ false
+      here true e none there later = absurd
+          (stays p (map (λ (r : Named). r.at) (filter test (map (name_at n) ps))) none)
+      here false e none (zero, lt, is) later = subst (λ k. test (name_at n k) ≡ false) is e
+      here false e none (suc k, lt, is) later = later none (k, omega (arith, lt), is)
 
-fresh_value : (m : Machine) (q : List Move) (r : ReadingView) → least_stale m.part m.init q (names_of (Some r)) ≡ None → r.number ≤ length q →
+fresh_value : (m : Machine) (q : List Move) (r : ReadingView) →
+    least_stale m.part m.init q (names_of (Some r)) ≡ None → r.number ≤ length q →
     (l : Place) → Contains r.places l → val (state_of m (take r.number q)) l ≡ val (state_of m q) l
 fresh_value m q r none le l there =
-    same_value_from m m.init q l r.number (none_stale (λ n. is_stale m.part m.init q n.at n.number) r.number r.places none l there) le
+    same_value_from m m.init q l r.number
+    (none_stale (λ n. is_stale m.part m.init q n.at n.number) r.number r.places none l there) le
 
 -- what a reply tells
 record IsFiredBy (m : Machine) (q : List Move) (reads : List Named) (M : Move) (k : ℕ) : Type 0 where
@@ -127,10 +140,12 @@ fired_by m q reads M k is = by_stale (least_stale m.part m.init q reads) refl to
 
   by_answer : (o : Result State Clash) → fire m.part (state_of m q) M ≡ o → reply.Fired k ≡ firing_reply m q o →
       least_stale m.part m.init q reads ≡ None → IsFiredBy m q reads M k
-  by_answer (Ok B) e is none = record { number = taken_fired m.capacity (length q) k is; state = B; fires = e; fresh = none }
+  by_answer (Ok B) e is none = record
+      { number = taken_fired m.capacity (length q) k is; state = B; fires = e; fresh = none }
   by_answer (Err c) e is none = absurd (cc is)
 
-  by_stale : (o : Option Place) → least_stale m.part m.init q reads ≡ o → reply.Fired k ≡ fire_reply m q M o → IsFiredBy m q reads M k
+  by_stale : (o : Option Place) → least_stale m.part m.init q reads ≡ o → reply.Fired k ≡ fire_reply m q M o →
+      IsFiredBy m q reads M k
   by_stale (Some l) e is = absurd (cc is)
   by_stale None e is = by_answer (fire m.part (state_of m q) M) refl is e
 
@@ -145,7 +160,8 @@ clashed_by m q reads M c is = by_stale (least_stale m.part m.init q reads) refl 
   not_taken true is = cc is
   not_taken false is = cc is
 
-  by_answer : (o : Result State Clash) → fire m.part (state_of m q) M ≡ o → reply.Clash c ≡ firing_reply m q o → fire m.part (state_of m q) M ≡ Err c
+  by_answer : (o : Result State Clash) → fire m.part (state_of m q) M ≡ o → reply.Clash c ≡ firing_reply m q o →
+      fire m.part (state_of m q) M ≡ Err c
   by_answer (Ok B) e is = absurd (not_taken (nat_lt (length q) m.capacity) is)
   by_answer (Err d) e is = let same : c ≡ d = cc is in e ∙ ap Err (sym same)
 
@@ -161,7 +177,8 @@ record HasRead1 {A : Type 0} (old mid : AgentAt A) : Type 0 where
   idle : All IsIdle (map (event_of old.account.id) more)
 
 module _ {A : Type 0} (meaning : A → Meaning) where
-  read_adds : (old mid : AgentAt A) (places : List Place) (o : Option ReadingView) → HasRead meaning old mid places o → HasRead1 old mid
+  read_adds : (old mid : AgentAt A) (places : List Place) (o : Option ReadingView) →
+      HasRead meaning old mid places o → HasRead1 old mid
   read_adds old mid places None read = record {
     more = [];
     adds = subst (λ (a : AgentAt A). Adds old a []) (sym read.1) (adds_none old);
@@ -172,11 +189,15 @@ module _ {A : Type 0} (meaning : A → Meaning) where
       record {
         more = receipt ∷ [];
         adds = record {
-          same = record { storage = ap (λ (a : AgentAt A). a.storage) read.agent; id = ap (λ (a : AgentAt A). a.account.id) read.agent };
+          same = record {
+            storage = ap (λ (a : AgentAt A). a.storage) read.agent;
+            id = ap (λ (a : AgentAt A). a.account.id) read.agent;
+          };
           begins = read.begins;
           added = ap (λ (a : AgentAt A). a.account.receipts) read.agent;
         };
-        idle = All-cons IsIdle _ [] (idle_read old.account.id (length mid.account.seen) r.number places r.values) (All-nil IsIdle);
+        idle = All-cons IsIdle _ [] (idle_read old.account.id (length mid.account.seen) r.number places r.values)
+            (All-nil IsIdle);
       }
 
   fire_adds : (mid new : AgentAt A) (reads : List Named) (M : Move) (stood : ℕ) (r : Reply) (seen : List Entry) →
@@ -190,8 +211,12 @@ module _ {A : Type 0} (meaning : A → Meaning) where
     added = receipts;
   }
 
-  module _ (part : Part) (old mid : AgentAt A) (laws : (a : A) → AggregatorLaws (meaning a)) (step : Step) (places : List Place)
-      (reading : Option ReadingView) (reads : AreReads step places) (read : HasRead meaning old mid places reading) where
+  module _ (own : Meaning) (old mid : AgentAt A) (laws : (a : A) → AggregatorLaws (meaning a)) (step : Step)
+      (places : List Place) (reading : Option ReadingView) (reads : AreReads step places)
+      (read : HasRead meaning old mid places reading) where
+    abbrev part : Part
+    part = own.part
+
     abbrev m : Machine
     m = machine_of meaning old.storage
 
@@ -200,7 +225,8 @@ module _ {A : Type 0} (meaning : A → Meaning) where
 
     -- a state of more moves in which what was read is as it was is one that was read
     read_of : (q : List Move) → AreProper old.storage.init q →
-        ((l : Place) → Contains places l → val (state_of m q) l ≡ val (state_of m here) l) → IsReadOf (state_of m q) (read_value reading) step
+        ((l : Place) → Contains places l → val (state_of m q) l ≡ val (state_of m here) l) →
+        IsReadOf (state_of m q) (read_value reading) step
     read_of q proper same = record {
       proper = moves_proper (laws old.storage.agg) old.storage.init q proper.state proper.moves;
       same = λ l there. by_reading reading read l ((reads.named l).1 there);
@@ -214,11 +240,17 @@ module _ {A : Type 0} (meaning : A → Meaning) where
           ∙ (λ n. value_among (sym is.locations n) (sym values n) l)
 
     -- the read tells what stops the blocks
-    stops_here : (stop : Stop) → AreProper old.storage.init here → fire_blocks m.part (state_of m here) step ≡ Err stop → StopsWith m here step stop
-    stops_here stop proper is =
-        (length here, omega arith, ap (λ q. fire_blocks m.part (state_of m q) step) (take_all (length here) here (omega arith)) ∙ is)
+    stops_here : (stop : Stop) → AreProper old.storage.init here →
+        fire_blocks m.part (state_of m here) step ≡ Err stop → StopsWith m here step stop
+    stops_here stop proper is = (
+      length here,
+      omega arith,
+      ap (λ q. fire_blocks m.part (state_of m q) step)
+          (take_all (length here) here (omega arith)) ∙ is,
+    )
 
-    clashing_here : AreProper old.storage.init here → (c : Clash) × (fire_blocks m.part (state_of m here) step ≡ Err (Clashes c)) → Clashing m here step
+    clashing_here : AreProper old.storage.init here →
+        (c : Clash) × (fire_blocks m.part (state_of m here) step ≡ Err (Clashes c)) → Clashing m here step
     clashing_here proper is = (
       length here,
       omega arith,
@@ -226,17 +258,30 @@ module _ {A : Type 0} (meaning : A → Meaning) where
     )
 
     -- a step that has no move ends
-    fault_told : (f : StepFault) (o : Outcome) (es : List Event) → IsEndOf f o → IsStepMove part (read_value reading) step (Err f) → All IsIdle es →
+    fault_told : (f : StepFault) (o : Outcome) (es : List Event) → IsEndOf f o →
+        IsStepMove own (read_value reading) step (Err f) → All IsIdle es →
         m.part ≡ part → AreProper old.storage.init here → IsTold m here step o es
     fault_told fault.Term o es is move idle same proper =
-        subst (λ p. IsTold m here step p es) (sym is)
-        (idle, stops_here FaultyTerm proper (subst (λ p. IsStepMove p (read_value reading) step (Err fault.Term)) (sym same) move (state_of m here) (read_of here proper (λ l there. refl))))
+        subst (λ p. IsTold m here step p es) (sym is) (
+          idle,
+          stops_here FaultyTerm proper
+              (subst (λ p. fire_blocks p (state_of m here) step ≡ Err FaultyTerm) (sym same)
+              (move (state_of m here) (read_of here proper (λ l there. refl)))),
+        )
     fault_told (fault.Clash c) o es is move idle same proper =
-        subst (λ p. IsTold m here step p es) (sym is)
-        (idle, inr (clashing_here proper (subst (λ p. IsStepMove p (read_value reading) step (Err (fault.Clash c))) (sym same) move (state_of m here) (read_of here proper (λ l there. refl)))))
+        subst (λ p. IsTold m here step p es) (sym is) (
+          idle,
+          inr (clashing_here proper
+              (subst (λ p. IsStopped (fire_blocks p (state_of m here) step)) (sym same)
+              (move (state_of m here) (read_of here proper (λ l there. refl))))),
+        )
     fault_told (fault.Large l) o es is move idle same proper =
-        subst (λ p. IsTold m here step p es) (sym is)
-        (idle, clashing_here proper (subst (λ p. IsStepMove p (read_value reading) step (Err (fault.Large l))) (sym same) move (state_of m here) (read_of here proper (λ l there. refl))))
+        subst (λ p. IsTold m here step p es) (sym is) (
+          idle,
+          clashing_here proper
+              (subst (λ p. IsStopped (fire_blocks p (state_of m here) step)) (sym same)
+              (move (state_of m here) (read_of here proper (λ l there. refl)))),
+        )
     fault_told fault.Many o es is move idle same proper = subst (λ p. IsTold m here step p es) (sym is) idle
     fault_told fault.Memory o es is move idle same proper = absurd is
 
@@ -248,15 +293,21 @@ module _ {A : Type 0} (meaning : A → Meaning) where
     not_given_up fault.Memory o is bad = absurd is
 
     -- the try of a step that has no move
-    pub ended_by_fault : (f : StepFault) (o : Outcome) → IsEndOf f o → IsStepMove part (read_value reading) step (Err f) →
+    pub ended_by_fault : (f : StepFault) (o : Outcome) → IsEndOf f o →
+        IsStepMove own (read_value reading) step (Err f) →
         IsTry meaning part old mid step (Some o)
     ended_by_fault f o is move =
         let had = read_adds old mid places reading read in (
-          record { more = had.more; adds = had.adds; told = fault_told f o (map (event_of old.account.id) had.more) is move had.idle },
+          record {
+            more = had.more;
+            adds = had.adds;
+            told = fault_told f o (map (event_of old.account.id) had.more) is
+                move had.idle;
+          },
           not_given_up f o is,
         )
 
-    module _ (new : AgentAt A) (M : Move) (move : IsStepMove part (read_value reading) step (Ok M)) where
+    module _ (new : AgentAt A) (M : Move) (move : IsStepMove own (read_value reading) step (Ok M)) where
       abbrev reads_named : List Named
       reads_named = names_of reading
 
@@ -270,37 +321,50 @@ module _ {A : Type 0} (meaning : A → Meaning) where
       unchanged : (q : List Move) → IsPrefix here q → least_stale m.part m.init q reads_named ≡ None →
           (l : Place) → Contains places l → val (state_of m q) l ≡ val (state_of m here) l
       unchanged q p none l there = by_reading reading read none where
-        by_reading : (o : Option ReadingView) → HasRead meaning old mid places o → least_stale m.part m.init q (names_of o) ≡ None →
+        by_reading : (o : Option ReadingView) → HasRead meaning old mid places o →
+            least_stale m.part m.init q (names_of o) ≡ None →
             val (state_of m q) l ≡ val (state_of m here) l
-        by_reading None empty none = absurd (omega (arith, (subst (λ (ls : List Place). Contains ls l) empty.0 there).1))
+        by_reading None empty none = absurd
+            (omega (arith, (subst (λ (ls : List Place). Contains ls l) empty.0 there).1))
         by_reading (Some r) is none =
             let number : r.number ≡ length here = cc is.reply in
-            let value = fresh_value m q r none (omega (arith, number, prefix_length here q p)) l (subst (λ (ls : List Place). Contains ls l) (sym is.locations) there) in
+            let value = fresh_value m q r none (omega (arith, number, prefix_length here q p)) l
+            (subst (λ (ls : List Place). Contains ls l) (sym is.locations) there) in
             sym value ∙ ap (λ w. val (state_of m w) l) (taken_prefix here q r.number number p)
 
       -- and the move is that of the blocks
       blocks_fire : (q : List Move) → m.part ≡ part → AreProper old.storage.init q → IsPrefix here q →
-          least_stale m.part m.init q reads_named ≡ None → fire_blocks m.part (state_of m q) step ≡ fired (fire m.part (state_of m q) M)
+          least_stale m.part m.init q reads_named ≡ None →
+          fire_blocks m.part (state_of m q) step ≡ fired (fire m.part (state_of m q) M)
       blocks_fire q same proper p none =
-          subst (λ p. IsStepMove p (read_value reading) step (Ok M)) (sym same) move (state_of m q) (read_of q proper (unchanged q p none))
+          subst (λ p. fire_blocks p (state_of m q) step ≡ fired (fire p (state_of m q) M)) (sym same)
+          (move (state_of m q) (read_of q proper (unchanged q p none)))
 
       -- the events of the read, and then that of the fire
-      events_of : (r : Receipt) → map (event_of old.account.id) (had.more ++ r ∷ []) ≡ map (event_of old.account.id) had.more ++ event_of old.account.id r ∷ []
+      events_of : (r : Receipt) →
+          map (event_of old.account.id) (had.more ++ r ∷ []) ≡ map (event_of old.account.id) had.more ++ event_of
+          old.account.id r ∷ []
       events_of r = mapped_both (event_of old.account.id) had.more (r ∷ [])
 
-      ends : (P : Event → Type 0) (r : Receipt) → P (event_of old.account.id r) → EndsWith P (map (event_of old.account.id) (had.more ++ r ∷ []))
+      ends : (P : Event → Type 0) (r : Receipt) → P (event_of old.account.id r) →
+          EndsWith P (map (event_of old.account.id) (had.more ++ r ∷ []))
       ends P r holds = (map (event_of old.account.id) had.more, event_of old.account.id r, events_of r, had.idle, holds)
 
-      all_idle : (r : Receipt) → IsIdle (event_of old.account.id r) → All IsIdle (map (event_of old.account.id) (had.more ++ r ∷ []))
+      all_idle : (r : Receipt) → IsIdle (event_of old.account.id r) →
+          All IsIdle (map (event_of old.account.id) (had.more ++ r ∷ []))
       all_idle r idle = subst (All IsIdle) (sym (events_of r))
-          (All-append IsIdle (map (event_of old.account.id) had.more) (event_of old.account.id r ∷ []) had.idle (All-cons IsIdle _ [] idle (All-nil IsIdle)))
+          (All-append IsIdle (map (event_of old.account.id) had.more) (event_of old.account.id r ∷ []) had.idle
+          (All-cons IsIdle _ [] idle (All-nil IsIdle)))
 
-      replied : (r : Reply) (q : List Move) → answer.Fire r ≡ reply_to (machine_of meaning mid.storage) q (call.Fire reads_named M) →
+      replied : (r : Reply) (q : List Move) →
+          answer.Fire r ≡ reply_to (machine_of meaning mid.storage) q (call.Fire reads_named M) →
           answer.Fire r ≡ reply_to m q (call.Fire reads_named M)
-      replied r q is = is ∙ ap (λ (s : StorageView A). reply_to (machine_of meaning s) q (call.Fire reads_named M)) storage_is
+      replied r q is = is ∙ ap (λ (s : StorageView A). reply_to (machine_of meaning s) q (call.Fire reads_named M))
+          storage_is
 
       -- the fire was answered Fired
-      fired_told : (k : ℕ) → IsAnswered meaning mid new reads_named M (reply.Fired k) → IsTry meaning part old new step (Some (outcome.Fired k))
+      fired_told : (k : ℕ) → IsAnswered meaning mid new reads_named M (reply.Fired k) →
+          IsTry meaning part old new step (Some (outcome.Fired k))
       fired_told k is =
           let agent = is.agent in
           let seen = take (k - 1) new.account.seen in
@@ -309,13 +373,17 @@ module _ {A : Type 0} (meaning : A → Meaning) where
           let r = receipt_at (k - 1) (call.Fire reads_named M) (answer.Fire (reply.Fired k)) in
           let entry : Entry = record { agent = mid.account.id; instrs = M } in
           let longer : new.account.seen ≡ seen ++ entry ∷ [] = ap (λ (a : AgentAt A). a.account.seen) agent in
-          let adds = fire_adds mid new reads_named M (k - 1) (reply.Fired k) seen (ap (λ (a : AgentAt A). a.storage) agent) (ap (λ (a : AgentAt A). a.account.id) agent)
+          let adds = fire_adds mid new reads_named M (k - 1) (reply.Fired k) seen
+          (ap (λ (a : AgentAt A). a.storage) agent) (ap (λ (a : AgentAt A). a.account.id) agent)
           (ap (λ (a : AgentAt A). a.account.receipts) agent) is.begins (entry ∷ [], sym longer) in
-          let moves_more : all ≡ q ++ M ∷ [] = ap moves_seen longer ∙ mapped_both (λ (x : Entry). x.instrs) seen (entry ∷ []) in
+          let moves_more : all ≡ q ++ M ∷ [] = ap moves_seen longer
+          ∙ mapped_both (λ (x : Entry). x.instrs) seen (entry ∷ []) in
           let by = fired_by m q reads_named M k (replied (reply.Fired k) q is.reply) in
-          let first : take (k - 1) all ≡ q = ap (take (k - 1)) moves_more ∙ take_at q (M ∷ []) (k - 1) (omega (arith, by.number)) in
+          let first : take (k - 1) all ≡ q = ap (take (k - 1)) moves_more
+          ∙ take_at q (M ∷ []) (k - 1) (omega (arith, by.number)) in
           let whole : take k all ≡ take (k - 1) all ++ M ∷ [] =
-          take_all k all (omega (arith, by.number, ap length moves_more, length-append q (M ∷ []))) ∙ moves_more ∙ ap (λ w. w ++ M ∷ []) (sym first) in
+          take_all k all (omega (arith, by.number, ap length moves_more, length-append q (M ∷ []))) ∙ moves_more
+          ∙ ap (λ w. w ++ M ∷ []) (sym first) in
           let before = prefix_mapped (λ (x : Entry). x.instrs) mid.account.seen seen is.begins in (
             record {
               more = had.more ++ r ∷ [];
@@ -332,7 +400,8 @@ module _ {A : Type 0} (meaning : A → Meaning) where
                     (
                       by.state,
                       subst (λ w. fire m.part (state_of m w) M ≡ Ok by.state) (sym first) by.fires,
-                      subst (λ w. fire_blocks m.part (state_of m w) step ≡ Ok by.state) (sym first) (blocks_fire q same proper_q before by.fresh ∙ ap fired by.fires),
+                      subst (λ w. fire_blocks m.part (state_of m w) step ≡ Ok by.state) (sym first)
+                          (blocks_fire q same proper_q before by.fresh ∙ ap fired by.fires),
                     ),
                   );
             },
@@ -343,16 +412,21 @@ module _ {A : Type 0} (meaning : A → Meaning) where
       answered_adds : (r : Reply) → IsPrefix mid.account.seen new.account.seen →
           new ≡ record (has_looked mid new.account.seen new.misses) {
             account = record (has_looked mid new.account.seen new.misses).account {
-              receipts = mid.account.receipts ++ receipt_at (length new.account.seen) (call.Fire reads_named M) (answer.Fire r) ∷ [];
+              receipts = mid.account.receipts ++ receipt_at (length new.account.seen) (call.Fire reads_named M)
+                  (answer.Fire r) ∷ [];
             };
-          } → Adds old new (had.more ++ receipt_at (length new.account.seen) (call.Fire reads_named M) (answer.Fire r) ∷ [])
+          } → Adds old new (had.more ++ receipt_at (length new.account.seen) (call.Fire reads_named M)
+          (answer.Fire r) ∷ [])
       answered_adds r begins agent =
           adds_then old mid new had.more _ had.adds
-          (fire_adds mid new reads_named M (length new.account.seen) r new.account.seen (ap (λ (a : AgentAt A). a.storage) agent)
-          (ap (λ (a : AgentAt A). a.account.id) agent) (ap (λ (a : AgentAt A). a.account.receipts) agent) begins ([], append-nil new.account.seen))
+          (fire_adds mid new reads_named M (length new.account.seen) r new.account.seen
+          (ap (λ (a : AgentAt A). a.storage) agent)
+          (ap (λ (a : AgentAt A). a.account.id) agent) (ap (λ (a : AgentAt A). a.account.receipts) agent) begins
+          ([], append-nil new.account.seen))
 
       -- the fire was answered, or it was busy
-      pub ended_by_fire : (o : Option Reply) → HasTried meaning mid new reads_named M o → IsTry meaning part old new step (outcome_of o)
+      pub ended_by_fire : (o : Option Reply) → HasTried meaning mid new reads_named M o →
+          IsTry meaning part old new step (outcome_of o)
       ended_by_fire (Some (reply.Fired k)) is = fired_told k is
       ended_by_fire (Some (reply.Clash c)) is =
           let all = moves_seen new.account.seen in
@@ -367,7 +441,8 @@ module _ {A : Type 0} (meaning : A → Meaning) where
                 inl (
                   length all,
                   omega arith,
-                  ap (λ q. fire_blocks m.part (state_of m q) step) (take_all (length all) all (omega arith)) ∙ blocks_fire all same proper before by.0 ∙ ap fired by.1,
+                  ap (λ q. fire_blocks m.part (state_of m q) step) (take_all (length all) all (omega arith))
+                      ∙ blocks_fire all same proper before by.0 ∙ ap fired by.1,
                 ),
               );
             },
@@ -393,7 +468,10 @@ module _ {A : Type 0} (meaning : A → Meaning) where
       ended_by_fire None is = record {
         more = had.more ++ [];
         adds = adds_then old mid new had.more [] had.adds (record {
-          same = record { storage = ap (λ (a : AgentAt A). a.storage) is.agent; id = ap (λ (a : AgentAt A). a.account.id) is.agent };
+          same = record {
+            storage = ap (λ (a : AgentAt A). a.storage) is.agent;
+            id = ap (λ (a : AgentAt A). a.account.id) is.agent;
+          };
           begins = is.begins;
           added = ap (λ (a : AgentAt A). a.account.receipts) is.agent ∙ sym (append-nil mid.account.receipts);
         });

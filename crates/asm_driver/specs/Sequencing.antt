@@ -1,10 +1,11 @@
 -- Blocks in sequence: the state that they leave, and what the one move of a step owes to it.
-use Rattle.std.specs.Prelude.{◌≡◌, [], ◌∷◌, Option, Some, None, Result, Ok, Err, Contains}
+use Rattle.std.specs.Prelude.{◌≡◌, ◌⊎◌, ◌<◌, [], ◌∷◌, length, Option, Some, None, Result, Ok, Err, Contains}
 use Rattle.asm_element.specs.Place.{Place}
+use Rattle.asm_update.specs.Aggregator.{Meaning, Refusal}
 use Rattle.asm_update.specs.Fire.{Part, Old, fire, IsUpdateSet, IsLeastClash}
 use Rattle.asm_update.specs.Move.{Move}
 use Rattle.asm_update.specs.State.{State, Updates, IsProper, val}
-use Rattle.asm_aggregate.specs.Compose.{IsSequence, NeverFires}
+use Rattle.asm_aggregate.specs.Compose.{composition, IsSequence, NeverFires}
 use Rattle.asm_update.specs.declared.clash.Clash.{Clash}
 use Rattle.asm_driver.specs.Blocks.{move_in}
 use Rattle.asm_driver.specs.Reads.{named}
@@ -51,19 +52,33 @@ pub record IsReadOf (A : State) (old : Old) (step : Step) : Type 0 where
 abbrev pub IsStopped : Result State Stop → Type 0
 IsStopped r = (clash : Clash) × (r ≡ Err (Clashes clash))
 
+-- what the earlier moves, if there are any, and then the next one compose to
+abbrev pub composed_on : Meaning → Option Move → Move → Result Move (Place × Refusal)
+composed_on a None N = Ok N
+composed_on a (Some M) N = composition a M N
+
+-- What the moves before some block compose to, and the move of that block, compose to more than 4,096 instructions. The
+-- blocks before it fire in turn on the state.
+abbrev pub IsMany : Meaning → State → Option Move → Step → Type 0
+IsMany a A before [] = ⊥
+IsMany a A before (b ∷ bs) =
+    (M C : Move) × (move_in (val A) b ≡ Some M) × (composed_on a before M ≡ Ok C)
+    × ((4096 < length C) ⊎ ((B : State) × (fire a.part A M ≡ Ok B) × IsMany a B (Some C) bs))
+
 -- What a step's move owes to a state that was read. Firing it leaves what the blocks leave, and its clash is theirs.
 -- Where a term is faulty, the blocks stop there. Where blocks clash, or an amount is too large, a clash stops them.
-abbrev pub StandsFor : Part → State → Step → Result Move StepFault → Type 0
-StandsFor part A step (Ok M) = fire_blocks part A step ≡ fired (fire part A M)
-StandsFor part A step (Err Term) = fire_blocks part A step ≡ Err FaultyTerm
-StandsFor part A step (Err (Clashing clash)) = IsStopped (fire_blocks part A step)
-StandsFor part A step (Err (Large l)) = IsStopped (fire_blocks part A step)
-StandsFor part A step (Err Many) = Unit {0}
-StandsFor part A step (Err Memory) = Unit {0}
+-- There are too many instructions where the blocks up to some block compose to more than 4,096.
+abbrev pub StandsFor : Meaning → State → Step → Result Move StepFault → Type 0
+StandsFor a A step (Ok M) = fire_blocks a.part A step ≡ fired (fire a.part A M)
+StandsFor a A step (Err Term) = fire_blocks a.part A step ≡ Err FaultyTerm
+StandsFor a A step (Err (Clashing clash)) = IsStopped (fire_blocks a.part A step)
+StandsFor a A step (Err (Large l)) = IsStopped (fire_blocks a.part A step)
+StandsFor a A step (Err Many) = IsMany a A None step
+StandsFor a A step (Err Memory) = Unit {0}
 
 -- the answer stands for the step on each state that was read
-abbrev pub IsStepMove : Part → Old → Step → Result Move StepFault → Type 0
-IsStepMove part old step answer = (A : State) → IsReadOf A old step → StandsFor part A step answer
+abbrev pub IsStepMove : Meaning → Old → Step → Result Move StepFault → Type 0
+IsStepMove a old step answer = (A : State) → IsReadOf A old step → StandsFor a A step answer
 
 -- the answer is the block's move, or a term of the block is faulty
 abbrev pub IsNext : Option Move → Result Move StepFault → Type 0
@@ -79,13 +94,14 @@ IsFrame part old M (Err (Clashing clash)) = IsLeastClash part old M clash
 IsFrame part old M (Err Memory) = Unit {0}
 IsFrame part old M (Err _) = ⊥
 
--- the answer does what the earlier move, if there is one, and then the next one do; or no state lets both fire
-abbrev pub Extends : Part → Option Move → Move → Result Move StepFault → Type 0
-Extends part None N (Ok C) = C ≡ N
-Extends part None N (Err fault) = ⊥
-Extends part (Some M) N (Ok C) = IsSequence part M N C
-Extends part (Some M) N (Err Term) = ⊥
-Extends part (Some M) N (Err (Clashing clash)) = NeverFires part M N
-Extends part (Some M) N (Err (Large l)) = NeverFires part M N
-Extends part (Some M) N (Err Many) = Unit {0}
-Extends part (Some M) N (Err Memory) = Unit {0}
+-- the answer does what the earlier move, if there is one, and then the next one do; or no state lets both fire; or
+-- the two compose to more than 4,096 instructions
+abbrev pub Extends : Meaning → Option Move → Move → Result Move StepFault → Type 0
+Extends a None N (Ok C) = C ≡ N
+Extends a None N (Err fault) = ⊥
+Extends a (Some M) N (Ok C) = IsSequence a.part M N C × (composition a M N ≡ Ok C)
+Extends a (Some M) N (Err Term) = ⊥
+Extends a (Some M) N (Err (Clashing clash)) = NeverFires a.part M N
+Extends a (Some M) N (Err (Large l)) = NeverFires a.part M N
+Extends a (Some M) N (Err Many) = (C : Move) × (composition a M N ≡ Ok C) × (4096 < length C)
+Extends a (Some M) N (Err Memory) = Unit {0}

@@ -5,11 +5,12 @@ use crate::play::run_script;
 use crate::script::Script;
 use asm_aggregate::standard;
 use asm_element::{Element, Location, Value};
-use asm_journal::replay;
+use asm_journal::{Legality, check, from_text, replay, to_text};
 use std::alloc::Global;
 use std::sync::Wait;
 use std::sync::atomic::{AtomicU64, Ordering};
 use std::test::Fail;
+use std::thread::Threads;
 
 const ADDITION: &str = "[[[\"bagadd\",[\"b\"],1,1]]]";
 
@@ -46,6 +47,18 @@ fn script_of(alloc: Global, init: &str, agents: &[(&str, usize)]) -> Result<Scri
     Ok(parse_script(alloc, text.as_bytes())?)
 }
 
+/// What a run of this script behind the gate leaves.
+fn play_behind<R: Threads + Wait + Sync, G: Gate>(
+    rt: &R,
+    alloc: Global,
+    init: &str,
+    agents: &[(&str, usize)],
+    gate: &G,
+) -> Result<Played, Fail> {
+    let script = script_of(alloc, init, agents)?;
+    Ok(run_script(rt, alloc, &script, 4096, gate)?)
+}
+
 /// How often 1 stands in the bag of this name after all moves.
 fn number_of_ones(alloc: Global, played: &Played, name: &str) -> Result<u32, Fail> {
     let at = Location::new(String::from_str(alloc, name)?, Vec::new(alloc))?;
@@ -79,9 +92,7 @@ fn a_capacity_of_0_is_refused(rt: HostRuntime) -> Result<(), Fail> {
 
 #[test]
 fn a_script_may_have_no_agents(rt: HostRuntime) -> Result<(), Fail> {
-    let alloc = rt.alloc();
-    let script = script_of(alloc, "", &[])?;
-    let played = run_script(&rt, alloc, &script, 4096, &Open)?;
+    let played = play_behind(&rt, rt.alloc(), "", &[], &Open)?;
     assert_eq!(rt; played.history.agents, 0);
     assert_eq!(rt; played.history.moves(), 0);
     Ok(())
@@ -96,8 +107,7 @@ fn four_agents_add_to_one_bag(rt: HostRuntime) -> Result<(), Fail> {
         (ADDITION, 50),
         (ADDITION, 50),
     ];
-    let script = script_of(alloc, "[[\"b\"],{\"bag\":[]}]", &agents)?;
-    let played = run_script(&rt, alloc, &script, 4096, &Open)?;
+    let played = play_behind(&rt, alloc, "[[\"b\"],{\"bag\":[]}]", &agents, &Open)?;
     assert_eq!(rt; number_of_ones(alloc, &played, "b")?, 200);
     Ok(())
 }
@@ -106,8 +116,7 @@ fn four_agents_add_to_one_bag(rt: HostRuntime) -> Result<(), Fail> {
 fn four_agents_count_to_100(rt: HostRuntime) -> Result<(), Fail> {
     let alloc = rt.alloc();
     let agents = [(SUM, 25usize), (SUM, 25), (SUM, 25), (SUM, 25)];
-    let script = script_of(alloc, "[[\"n\"],0]", &agents)?;
-    let played = run_script(&rt, alloc, &script, 4096, &Open)?;
+    let played = play_behind(&rt, alloc, "[[\"n\"],0]", &agents, &Open)?;
     assert!(rt; has_number(alloc, &played, "n", 100)?);
     Ok(())
 }
@@ -143,37 +152,47 @@ impl Gate for Meeting {
 
 #[test]
 fn agents_play_at_once(rt: HostRuntime) -> Result<(), Fail> {
-    let alloc = rt.alloc();
     let gate = Meeting {
         first: AtomicU64::new(0),
         second: AtomicU64::new(0),
         missed: AtomicU64::new(0),
     };
-    let script = script_of(alloc, "[[\"n\"],0]", &[(RESET, 1usize), (RESET, 1)])?;
-    let played = run_script(&rt, alloc, &script, 4096, &gate)?;
+    let agents = [(RESET, 1usize), (RESET, 1)];
+    let played = play_behind(&rt, rt.alloc(), "[[\"n\"],0]", &agents, &gate)?;
     assert_eq!(rt; gate.missed.load(Ordering::SeqCst), 0);
     assert_eq!(rt; played.history.moves(), 2);
     Ok(())
 }
 
-/// Between the calls of each try of agent 0 stands a call of agent 1.
+/// Between the calls of each try of agent 0 stands a call of agent 1. Where an agent ended with an error, the other
+/// looks for it so often at most, and from then on for none.
 #[derive(Drop)]
 struct Overtaking {
     tried: AtomicU64,
     written: AtomicU64,
+    missed: AtomicU64,
+}
+
+impl Overtaking {
+    fn is_held(&self, agent: u32, call: u64) -> bool {
+        if self.missed.load(Ordering::SeqCst) == 1 {
+            return false;
+        }
+        match agent {
+            0 => call % 2 == 1 && self.written.load(Ordering::SeqCst) <= call / 2,
+            _ => self.tried.load(Ordering::SeqCst) <= call.saturating_mul(2),
+        }
+    }
 }
 
 impl Gate for Overtaking {
-    fn before<R: Wait>(&self, rt: &R, agent: u32, call: u64) {
-        for _ in rt.forever() {
-            let held = match agent {
-                0 => call % 2 == 1 && self.written.load(Ordering::SeqCst) <= call / 2,
-                _ => self.tried.load(Ordering::SeqCst) <= call.saturating_mul(2),
-            };
-            if !held {
+    fn before<R: Wait>(&self, _rt: &R, agent: u32, call: u64) {
+        for _ in 0..1_000_000_000u64 {
+            if !self.is_held(agent, call) {
                 return;
             }
         }
+        self.missed.store(1, Ordering::SeqCst);
     }
 
     fn after<R: Wait>(&self, _rt: &R, agent: u32, call: u64) {
@@ -185,21 +204,112 @@ impl Gate for Overtaking {
     }
 }
 
-#[test]
-fn an_agent_gives_up_after_1001_tries(rt: HostRuntime) -> Result<(), Fail> {
-    let alloc = rt.alloc();
+/// What the two agents leave, of which the second writes before each fire of the first.
+fn overtaken<R: Threads + Wait + Sync>(rt: &R, alloc: Global) -> Result<Played, Fail> {
     let gate = Overtaking {
         tried: AtomicU64::new(0),
         written: AtomicU64::new(0),
+        missed: AtomicU64::new(0),
     };
-    let script = script_of(alloc, "[[\"n\"],0]", &[(SUM, 1usize), (RESET, 1001)])?;
-    let played = run_script(&rt, alloc, &script, 4096, &gate)?;
-    assert_eq!(rt; played.history.moves(), 1001);
-    assert!(rt; has_number(alloc, &played, "n", 0)?);
-    let gave_up = match played.outcomes.as_slice().first() {
+    play_behind(
+        rt,
+        alloc,
+        "[[\"n\"],0]",
+        &[(SUM, 1usize), (RESET, 1001)],
+        &gate,
+    )
+}
+
+/// Whether the only step of the first agent was given up.
+fn gave_up(played: &Played) -> bool {
+    match played.outcomes.as_slice().first() {
         Some(outcomes) => matches!(outcomes.as_slice(), [Outcome::GaveUp]),
         None => false,
-    };
-    assert!(rt; gave_up);
+    }
+}
+
+#[test]
+fn an_agent_gives_up_after_1001_tries(rt: HostRuntime) -> Result<(), Fail> {
+    let played = overtaken(&rt, rt.alloc())?;
+    assert_eq!(rt; played.history.moves(), 1001);
+    assert!(rt; has_number(rt.alloc(), &played, "n", 0)?);
+    assert!(rt; gave_up(&played));
+    Ok(())
+}
+
+/// Appends the step that an agent has at a place of its list: an addition, a removal, a sum and a put of what is read,
+/// by turns.
+fn push_mixed(text: &mut String, agent: usize, step: usize) -> Result<(), Fail> {
+    match step % 4 {
+        0 => write!(text, "[[[\"add\",[\"s\"],{}]]]", step)?,
+        1 => write!(text, "[[[\"remove\",[\"s\"],{}]]]", agent)?,
+        2 => text.push_str(SUM)?,
+        _ => write!(
+            text,
+            "[[[\"put\",[\"m\",{}],{}]]]",
+            agent, "{\"val\":[\"n\"]}"
+        )?,
+    }
+    Ok(())
+}
+
+/// Appends an agent with 50 steps.
+fn push_mixed_agent(text: &mut String, agent: usize) -> Result<(), Fail> {
+    text.push_str("[")?;
+    for step in 0..50usize {
+        text.push_str(if step > 0 { "," } else { "" })?;
+        push_mixed(text, agent, step)?;
+    }
+    text.push_str("]")?;
+    Ok(())
+}
+
+/// The script of 16 such agents.
+fn mixed_script(alloc: Global) -> Result<Script, Fail> {
+    let mut text = String::from_str(
+        alloc,
+        "{\"init\":[[[\"s\"],{\"set\":[]}],[[\"n\"],0]],\"agents\":[",
+    )?;
+    for agent in 0..16usize {
+        text.push_str(if agent > 0 { "," } else { "" })?;
+        push_mixed_agent(&mut text, agent)?;
+    }
+    text.push_str("]}")?;
+    Ok(parse_script(alloc, text.as_bytes())?)
+}
+
+/// The journal of a run of the script.
+fn journal_of<R: Threads + Wait + Sync>(
+    rt: &R,
+    alloc: Global,
+    script: &Script,
+) -> Result<String, Fail> {
+    let played = run_script(rt, alloc, script, 4096, &Open)?;
+    if played.history.fits() {
+        Ok(to_text(alloc, &played.history)?)
+    } else {
+        Err(Fail::new("too long a history"))
+    }
+}
+
+/// The numbers of calls and of moves of a legal journal.
+fn legal_calls(alloc: Global, journal: &str) -> Result<(u64, u32), Fail> {
+    let history = from_text(alloc, journal.as_bytes())?;
+    match check(alloc, &standard(), &history)? {
+        Legality::Legal { calls, moves } => Ok((calls, moves)),
+        Legality::Illegal { .. } => Err(Fail::new("an illegal journal")),
+    }
+}
+
+#[test]
+fn mixed_steps_of_16_agents_leave_legal_journals(rt: HostRuntime) -> Result<(), Fail> {
+    let alloc = rt.alloc();
+    let script = mixed_script(alloc)?;
+    for _ in 0..4 {
+        let journal = journal_of(&rt, alloc, &script)?;
+        let (calls, moves) = legal_calls(alloc, journal.as_str())?;
+        assert!(rt; calls >= 1000);
+        assert_eq!(rt; moves, 800);
+    }
     Ok(())
 }

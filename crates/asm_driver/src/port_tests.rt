@@ -1,20 +1,54 @@
 //! The program over inputs and outputs that are slow, long or failing.
 use crate::program::run_main;
 use crate::tests::words_of;
+use std::alloc::{AllocError, Global};
 use std::io;
 use std::io::{ErrorKind, Read, Write};
+use std::sync::Wait;
 use std::test::Fail;
+use std::thread::Threads;
 
 const ONE_PUT: &str = r#"{"init":[],"agents":[[[[["put",["x"],1]]]]]}"#;
 
+const ONE_PUT_REPORT: &str = r#"[["x"],1]
+moves 1
+"#;
+
+/// The program's status with this word, over an input and an output. The error is want of memory, of which the
+/// program tells.
+fn status_of<T: Threads + Wait + Sync, R: Read, W: Write>(
+    rt: &T,
+    alloc: Global,
+    word: &str,
+    input: &mut R,
+    output: &mut W,
+) -> Result<u8, AllocError> {
+    let words = words_of(alloc, &["asm_driver", word])?;
+    match run_main(rt, alloc, words, input, output) {
+        3 => Err(AllocError),
+        status => Ok(status),
+    }
+}
+
 /// Gives spaces: so many bytes, and then the end, or a fault and then the end. It counts its bytes
 /// and its reads.
-#[derive(Drop)]
+#[derive(Clone, Copy)]
 struct Spaces {
     left: usize,
     fails: bool,
     given: usize,
     reads: usize,
+}
+
+impl Spaces {
+    fn new(left: usize, fails: bool) -> Spaces {
+        Spaces {
+            left,
+            fails,
+            given: 0,
+            reads: 0,
+        }
+    }
 }
 
 impl Read for Spaces {
@@ -34,86 +68,97 @@ impl Read for Spaces {
     }
 }
 
+/// What the program does with a word and so many spaces, which may end in a fault: its status, how much it reads,
+/// and what it writes.
+#[derive(Clone, Copy)]
+struct Ending {
+    status: u8,
+    given: usize,
+    text: &'static str,
+}
+
+/// Whether the program ends so.
+fn ends<T: Threads + Wait + Sync>(
+    rt: &T,
+    alloc: Global,
+    word: &str,
+    (left, fails): (usize, bool),
+    wanted: Ending,
+) -> Result<bool, AllocError> {
+    let mut input = Spaces::new(left, fails);
+    let mut output = Vec::with_capacity(alloc, 64)?;
+    let status = status_of(rt, alloc, word, &mut input, &mut output)?;
+    Ok(
+        status == wanted.status
+            && input.given == wanted.given
+            && output.as_slice() == wanted.text.as_bytes(),
+    )
+}
+
+const NOT_JSON: Ending = Ending {
+    status: 2,
+    given: 16_777_216,
+    text: "bad script: not JSON\n",
+};
+
+const TOO_LARGE: Ending = Ending {
+    status: 2,
+    given: 16_777_217,
+    text: "input too large\n",
+};
+
+const FAULT: Ending = Ending {
+    status: 4,
+    given: 4096,
+    text: "input fault\n",
+};
+
 #[test]
 fn inputs_that_are_refused(rt: HostRuntime) -> Result<(), Fail> {
-    let alloc = rt.alloc();
-    for (command, left, fails, status, given, want) in [
-        (
-            "run",
-            16_777_216,
-            false,
-            2,
-            16_777_216,
-            "bad script: not JSON\n",
-        ),
-        ("run", 16_777_217, false, 2, 16_777_217, "input too large\n"),
-        (
-            "check",
-            usize::MAX,
-            false,
-            2,
-            16_777_217,
-            "input too large\n",
-        ),
-        ("check", 4096, true, 4, 4096, "input fault\n"),
+    for (word, spaces, wanted) in [
+        ("run", (16_777_216, false), NOT_JSON),
+        ("run", (16_777_217, false), TOO_LARGE),
+        ("check", (usize::MAX, false), TOO_LARGE),
+        ("check", (4096, true), FAULT),
     ] {
-        let mut input = Spaces {
-            left,
-            fails,
-            given: 0,
-            reads: 0,
-        };
-        let mut output = Vec::new(alloc);
-        let words = words_of(alloc, &["asm_driver", command])?;
-        assert_eq!(rt;
-            run_main(&rt, alloc, words, &mut input, &mut output),
-            status
-        );
-        assert_eq!(rt; input.given, given);
-        assert!(rt; output.as_slice() == want.as_bytes());
+        assert!(rt; ends(&rt, rt.alloc(), word, spaces, wanted)?);
     }
     Ok(())
 }
 
+/// How often the input is read with this word, and the status.
+fn reads_of<T: Threads + Wait + Sync>(
+    rt: &T,
+    alloc: Global,
+    word: &str,
+    left: usize,
+) -> Result<(usize, u8), AllocError> {
+    let mut input = Spaces::new(left, true);
+    let mut output = Vec::with_capacity(alloc, 1024)?;
+    let status = status_of(rt, alloc, word, &mut input, &mut output)?;
+    Ok((input.reads, status))
+}
+
 #[test]
 fn a_failed_read_is_not_tried_again(rt: HostRuntime) -> Result<(), Fail> {
-    let alloc = rt.alloc();
-    let mut input = Spaces {
-        left: 0,
-        fails: true,
-        given: 0,
-        reads: 0,
-    };
-    let mut output = Vec::new(alloc);
-    let words = words_of(alloc, &["asm_driver", "run"])?;
-    assert_eq!(rt; run_main(&rt, alloc, words, &mut input, &mut output), 4);
-    assert_eq!(rt; input.reads, 1);
+    let (reads, status) = reads_of(&rt, rt.alloc(), "run", 0)?;
+    assert_eq!(rt; status, 4);
+    assert_eq!(rt; reads, 1);
     Ok(())
 }
 
 #[test]
 fn nothing_is_read_before_the_words_are_good(rt: HostRuntime) -> Result<(), Fail> {
-    let alloc = rt.alloc();
-    for (word, status) in [("play", 2), ("--help", 0)] {
-        let mut input = Spaces {
-            left: 1,
-            fails: true,
-            given: 0,
-            reads: 0,
-        };
-        let mut output = Vec::new(alloc);
-        let words = words_of(alloc, &["asm_driver", word])?;
-        assert_eq!(rt;
-            run_main(&rt, alloc, words, &mut input, &mut output),
-            status
-        );
-        assert_eq!(rt; input.reads, 0);
+    for (word, wanted) in [("play", 2), ("--help", 0)] {
+        let (reads, status) = reads_of(&rt, rt.alloc(), word, 1)?;
+        assert_eq!(rt; status, wanted);
+        assert_eq!(rt; reads, 0);
     }
     Ok(())
 }
 
 /// Gives one byte at a time.
-#[derive(Drop)]
+#[derive(Clone, Copy)]
 struct Slow<'a> {
     rest: &'a [u8],
 }
@@ -135,13 +180,9 @@ fn an_input_of_one_byte_at_a_time(rt: HostRuntime) -> Result<(), Fail> {
     let mut input = Slow {
         rest: ONE_PUT.as_bytes(),
     };
-    let mut output = Vec::new(alloc);
-    let words = words_of(alloc, &["asm_driver", "run"])?;
-    assert_eq!(rt; run_main(&rt, alloc, words, &mut input, &mut output), 0);
-    let want = r#"[["x"],1]
-moves 1
-"#;
-    assert!(rt; output.as_slice() == want.as_bytes());
+    let mut output = Vec::with_capacity(alloc, 64)?;
+    assert_eq!(rt; status_of(&rt, alloc, "run", &mut input, &mut output)?, 0);
+    assert!(rt; output.as_slice() == ONE_PUT_REPORT.as_bytes());
     Ok(())
 }
 
@@ -182,35 +223,40 @@ impl Write for Short {
     }
 }
 
+/// Whether over an output with so much room, which fails then, or whose flush fails, the program ends with status 4
+/// after so many calls of the output, which has the text. The error is want of memory: its line begins otherwise than a
+/// report.
+fn fails_over<T: Threads + Wait + Sync>(
+    rt: &T,
+    alloc: Global,
+    (room, fails, flushes): (usize, bool, bool),
+    calls: usize,
+    text: &str,
+) -> Result<bool, AllocError> {
+    let mut input = ONE_PUT.as_bytes();
+    let mut output = Short {
+        taken: Vec::with_capacity(alloc, 64)?,
+        room,
+        fails,
+        flushes,
+        calls: 0,
+    };
+    let status = status_of(rt, alloc, "run", &mut input, &mut output)?;
+    if matches!(output.taken.as_slice().first(), Some(b'o')) {
+        return Err(AllocError);
+    }
+    Ok(status == 4 && output.calls == calls && output.taken.as_slice() == text.as_bytes())
+}
+
 #[test]
 fn outputs_that_fail(rt: HostRuntime) -> Result<(), Fail> {
-    let alloc = rt.alloc();
-    for (room, fails, flushes, calls, want) in [
-        (5, false, true, 2, r#"[["x""#),
-        (5, true, true, 2, r#"[["x""#),
-        (0, true, true, 1, ""),
-        (
-            18,
-            false,
-            false,
-            2,
-            r#"[["x"],1]
-moves 1
-"#,
-        ),
+    for (output, calls, text) in [
+        ((5, false, true), 2, r#"[["x""#),
+        ((5, true, true), 2, r#"[["x""#),
+        ((0, true, true), 1, ""),
+        ((18, false, false), 2, ONE_PUT_REPORT),
     ] {
-        let mut input = ONE_PUT.as_bytes();
-        let mut output = Short {
-            taken: Vec::new(alloc),
-            room,
-            fails,
-            flushes,
-            calls: 0,
-        };
-        let words = words_of(alloc, &["asm_driver", "run"])?;
-        assert_eq!(rt; run_main(&rt, alloc, words, &mut input, &mut output), 4);
-        assert_eq!(rt; output.calls, calls);
-        assert!(rt; output.taken.as_slice() == want.as_bytes());
+        assert!(rt; fails_over(&rt, rt.alloc(), output, calls, text)?, "{text}");
     }
     Ok(())
 }

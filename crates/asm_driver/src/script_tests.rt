@@ -1,12 +1,16 @@
 //! Texts at the limits of a script, and the cause for which each of the others is refused.
 use crate::parsing::parse_script;
 use crate::script::{ScriptCause, ScriptError};
-use std::alloc::Global;
+use std::alloc::{AllocError, Global};
 use std::test::Fail;
 
-/// Whether the text is refused for this cause, or read where there is none.
-fn is_judged(alloc: Global, text: &str, cause: Option<ScriptCause>) -> bool {
-    parse_script(alloc, text.as_bytes()).err() == cause.map(ScriptError::BadScript)
+/// Whether the text is refused for this cause, or read where there is none. The error is want of memory.
+fn is_judged(alloc: Global, text: &str, cause: Option<ScriptCause>) -> Result<bool, AllocError> {
+    match parse_script(alloc, text.as_bytes()).err() {
+        Some(ScriptError::BadScript(found)) => Ok(cause == Some(found)),
+        Some(ScriptError::Memory) => Err(AllocError),
+        None => Ok(cause.is_none()),
+    }
 }
 
 /// Appends the item so many times, with commas between.
@@ -46,7 +50,7 @@ fn many_judged(
     push_all(&mut text, &["{\"init\":[],\"agents\":[", before])?;
     push_many(&mut text, item, count)?;
     push_all(&mut text, &[behind, "]}"])?;
-    Ok(is_judged(alloc, &text, cause))
+    Ok(is_judged(alloc, &text, cause)?)
 }
 
 const ADD: &str = "[\"add\",[\"s\"],1]";
@@ -118,7 +122,7 @@ fn other_shapes_are_no_scripts(rt: HostRuntime) -> Result<(), Fail> {
         "{\"init\":[],\"agents\":[[[[[\"bagadd\",[\"x\"],1,0]]]]]}",
     ] {
         assert!(rt;
-            is_judged(rt.alloc(), text, Some(ScriptCause::Shape)),
+            is_judged(rt.alloc(), text, Some(ScriptCause::Shape))?,
             "{text}"
         );
     }
@@ -131,7 +135,7 @@ fn keys_stand_in_either_order(rt: HostRuntime) -> Result<(), Fail> {
         "{\"init\":[],\"agents\":[[[[[\"put\",[\"x\"],{\"val\":[\"x\"]}]]]]]}",
         "{\"agents\":[[[[[\"put\",[\"x\"],{\"sum\":[1,{\"val\":[\"x\"]}]}]]]]],\"init\":[]}",
     ] {
-        assert!(rt; is_judged(rt.alloc(), text, None), "{text}");
+        assert!(rt; is_judged(rt.alloc(), text, None)?, "{text}");
     }
     Ok(())
 }
@@ -146,7 +150,7 @@ fn a_cut_text_is_not_json(rt: HostRuntime) -> Result<(), Fail> {
         "{}}",
     ] {
         assert!(rt;
-            is_judged(rt.alloc(), text, Some(ScriptCause::NotJson)),
+            is_judged(rt.alloc(), text, Some(ScriptCause::NotJson))?,
             "{text}"
         );
     }
@@ -174,7 +178,7 @@ fn deep_judged(
         text.push_str("]}")?;
     }
     push_all(&mut text, &["]]]]]}"])?;
-    Ok(is_judged(alloc, &text, cause))
+    Ok(is_judged(alloc, &text, cause)?)
 }
 
 #[test]
@@ -199,7 +203,7 @@ fn numbered_judged(
     push_all(&mut text, &["{\"init\":[],\"agents\":[[[", before])?;
     push_numbered(&mut text, item, count)?;
     push_all(&mut text, &[behind, "]]]}"])?;
-    Ok(is_judged(alloc, &text, cause))
+    Ok(is_judged(alloc, &text, cause)?)
 }
 
 const READ: (&str, &str) = ("[\"put\",[\"x\"],{\"val\":[\"y\",", "]}]");

@@ -1,5 +1,6 @@
 //! Steps: blocks that are run in sequence.
-ghost use Rattle.std.specs.Prelude.{◌≡◌, ◌↔◌, ◌⊎◌, ◌<◌, ◌++◌, ◌∷◌, [], length, vec_len, IfSome, IsNone, OnOk, IfOk, IfErr};
+ghost use Rattle.std.specs.Prelude.{◌≡◌, ◌↔◌, ◌⊎◌, ◌<◌, ◌++◌, ◌∷◌, [], length, vec_len, IfSome, IsNone};
+ghost use Rattle.std.specs.Prelude.{OnOk, IfOk, IfErr};
 ghost use Rattle.asm_driver.specs.Terms.{locations_in};
 ghost use Rattle.asm_overlay.specs.Frames.{seen_through};
 ghost use Rattle.asm_driver.specs.Blocks.{move_in};
@@ -212,7 +213,7 @@ fn extended<A: Aggregator>(
     earlier: &Option<Instructions>,
     next: Instructions,
 ) -> Result<Instructions, StepFault>
-    ensures { Extends (A.meaning aggregator.now).part earlier.now next result }
+    ensures { Extends (A.meaning aggregator.now) earlier.now next result }
 {
     let Some(earlier) = earlier else {
         return Ok(next);
@@ -242,7 +243,7 @@ pub fn step_move<A: Aggregator, L: Lookup>(
     step: &Step,
     reading: &L,
 ) -> Result<Instructions, StepFault>
-    ensures { IsStepMove (A.meaning aggregator.now).part (L.value_at reading.now) step.now result }
+    ensures { IsStepMove (A.meaning aggregator.now) (L.value_at reading.now) step.now result }
 {
     let mut overlay = Overlay::new(alloc);
     let mut done: Option<Instructions> = None;

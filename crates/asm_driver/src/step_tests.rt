@@ -1,123 +1,119 @@
-use crate::block::{Block, TermAction, TermInstruction, block_move};
+//! Terms, blocks and steps, as scripts write them.
+use crate::block::{Block, TermInstruction, block_move};
+use crate::parsing::parse_script;
+use crate::script::Script;
 use crate::step::{Step, StepFault, step_move, step_reads};
 use crate::term::{Term, TermFault, evaluate};
 use asm_aggregate::standard;
-use asm_element::{ElemSet, ElemText, Element, Location, Value};
-use asm_update::{Action, Amount, Cause, PlainState};
-use std::alloc::Global;
+use asm_element::{Element, Location, Value};
+use asm_journal::{FromJson, Listed, instruction_json};
+use asm_update::{Cause, Instructions, PlainState};
+use serde_json::Value as Json;
+use std::alloc::{AllocError, Global};
 use std::test::Fail;
 
-fn location(alloc: Global, name: &str) -> Result<Location, Fail> {
-    Ok(Location::new(String::from_str(alloc, name)?, Vec::new(alloc))?)
+/// What the JSON text says.
+pub(crate) fn read<T: FromJson>(alloc: Global, text: &str) -> Result<T, Fail> {
+    let json = Json::from_slice(alloc, text.as_bytes())?;
+    match T::from_json(alloc, &json)? {
+        Some(read) => Ok(read),
+        None => Err(Fail::new("another shape")),
+    }
 }
 
-fn number(n: i64) -> Term {
-    Term::Value(Value::Plain(Element::Num(n)))
-}
+const STATE: &str = r#"[[["n"],41],[["t"],{"set":[1]}]]"#;
 
-fn value_at(alloc: Global, name: &str) -> Result<Term, Fail> {
-    Ok(Term::Val(location(alloc, name)?))
-}
-
-fn sum(alloc: Global, first: Term, second: Term) -> Result<Term, Fail> {
-    Ok(Term::Sum(Box::new(alloc, first)?, Box::new(alloc, second)?))
-}
-
-fn one_set(alloc: Global) -> Result<Value, Fail> {
-    let mut set = ElemSet::new(alloc);
-    set.insert(Element::Num(1))?;
-    Ok(Value::Set(set))
-}
-
-fn the_value_is(
-    alloc: Global,
-    term: &Term,
-    state: &PlainState,
-    value: Result<i64, TermFault>,
-) -> bool {
-    match (evaluate(alloc, term, state), value) {
-        (Ok(Value::Plain(Element::Num(n))), Ok(wanted)) => n == wanted,
-        (Err(fault), Err(wanted)) => fault == wanted,
-        _ => false,
+/// Whether the term has this number in the state, or is faulty where there is none.
+fn has_number(alloc: Global, term: &str, number: Option<i64>) -> Result<bool, Fail> {
+    let state: PlainState = read(alloc, STATE)?;
+    let term: Term = read(alloc, term)?;
+    match evaluate(alloc, &term, &state) {
+        Err(TermFault::Faulty) => Ok(number.is_none()),
+        answer => Ok(match answer? {
+            Value::Plain(Element::Num(n)) => number == Some(n),
+            _ => false,
+        }),
     }
 }
 
 #[test]
 fn sums_are_of_numbers_in_range(rt: HostRuntime) -> Result<(), Fail> {
-    let alloc = rt.alloc();
-    let mut state = PlainState::new(alloc);
-    state.set(location(alloc, "n")?, Value::Plain(Element::Num(41)))?;
-    let more = sum(alloc, value_at(alloc, "n")?, number(1))?;
-    assert!(rt; the_value_is(alloc, &more, &state, Ok(42)));
-    let twice = sum(alloc, more, number(-42))?;
-    assert!(rt; the_value_is(alloc, &twice, &state, Ok(0)));
-    let above = sum(alloc, number(9223372036854775807), number(1))?;
-    assert!(rt; the_value_is(alloc, &above, &state, Err(TermFault::Faulty)));
-    let undef = sum(alloc, value_at(alloc, "x")?, number(1))?;
-    assert!(rt; the_value_is(alloc, &undef, &state, Err(TermFault::Faulty)));
+    for (term, number) in [
+        (r#"{"sum":[{"val":["n"]},1]}"#, Some(42)),
+        (r#"{"sum":[{"sum":[{"val":["n"]},1]},-42]}"#, Some(0)),
+        (r#"{"sum":[9223372036854775807,1]}"#, None),
+        (r#"{"sum":[-9223372036854775808,-1]}"#, None),
+        (r#"{"sum":[{"val":["x"]},1]}"#, None),
+        (r#"{"sum":["a",1]}"#, None),
+        (r#"{"sum":[1,{"val":["t"]}]}"#, None),
+    ] {
+        assert!(rt; has_number(rt.alloc(), term, number)?, "{term}");
+    }
     Ok(())
 }
 
-#[test]
-fn a_sum_needs_no_text(rt: HostRuntime) -> Result<(), Fail> {
-    let alloc = rt.alloc();
-    let state = PlainState::new(alloc);
-    let text = Element::Text(ElemText::new(String::from_str(alloc, "a")?));
-    let term = sum(alloc, Term::Value(Value::Plain(text)), number(1))?;
-    assert!(rt; the_value_is(alloc, &term, &state, Err(TermFault::Faulty)));
-    Ok(())
+/// The texts of the instructions.
+fn text_of(alloc: Global, instructions: &Instructions) -> Result<String, Fail> {
+    let mut text = String::new(alloc);
+    for i in 0..instructions.len() {
+        let json = instruction_json(alloc, instructions.get(i))?;
+        text.push_str(json.to_string(alloc)?.as_str())?;
+    }
+    Ok(text)
+}
+
+/// Whether the block has these instructions in the state, or a faulty term where there are none.
+fn has_instructions(alloc: Global, block: &str, wanted: Option<&str>) -> Result<bool, Fail> {
+    let state: PlainState = read(alloc, STATE)?;
+    let written: Listed<TermInstruction> = read(alloc, block)?;
+    let Some(block) = Block::new(written.into_vec()) else {
+        return Ok(false);
+    };
+    match block_move(alloc, &block, &state) {
+        Err(TermFault::Faulty) => Ok(wanted.is_none()),
+        answer => Ok(Some(text_of(alloc, &answer?)?.as_str()) == wanted),
+    }
 }
 
 #[test]
 fn an_element_is_no_set(rt: HostRuntime) -> Result<(), Fail> {
-    let alloc = rt.alloc();
-    let mut state = PlainState::new(alloc);
-    state.set(location(alloc, "t")?, one_set(alloc)?)?;
-    let add = a_block(alloc, "s", TermAction::Add(value_at(alloc, "t")?))?;
-    assert!(rt; block_move(alloc, &add, &state) == Err(TermFault::Faulty));
-    let put = a_block(alloc, "s", TermAction::Put(value_at(alloc, "t")?))?;
-    let written = block_move(alloc, &put, &state)?;
-    assert!(rt; written.len() == 1);
-    assert!(rt; written.get(0).action == Action::Regular(one_set(alloc)?));
+    for (block, wanted) in [
+        (r#"[["add",["s"],{"val":["t"]}]]"#, None),
+        (
+            r#"[["put",["s"],{"val":["t"]}]]"#,
+            Some(r#"["put",["s"],{"set":[1]}]"#),
+        ),
+    ] {
+        assert!(rt; has_instructions(rt.alloc(), block, wanted)?, "{block}");
+    }
     Ok(())
 }
 
 #[test]
 fn undef_is_an_element(rt: HostRuntime) -> Result<(), Fail> {
-    let alloc = rt.alloc();
-    let state = PlainState::new(alloc);
-    let Some(amount) = Amount::new(2) else {
-        return Err(Fail::new("no amount"));
-    };
-    let add = a_block(
-        alloc,
-        "s",
-        TermAction::BagAdd(value_at(alloc, "t")?, amount),
-    )?;
-    let written = block_move(alloc, &add, &state)?;
-    assert!(rt; written.len() == 1);
-    assert!(rt; written.get(0).action == Action::BagAdd(Element::Undef, amount));
+    let block = r#"[["bagadd",["s"],{"val":["u"]},2]]"#;
+    let wanted = r#"["bagadd",["s"],null,2]"#;
+    assert!(rt; has_instructions(rt.alloc(), block, Some(wanted))?);
     Ok(())
 }
 
-fn a_block(alloc: Global, name: &str, action: TermAction) -> Result<Block, Fail> {
-    let mut instructions = Vec::new(alloc);
-    let at = location(alloc, name)?;
-    instructions.push(TermInstruction { at, action })?;
-    match Block::new(instructions) {
-        Some(block) => Ok(block),
-        None => Err(Fail::new("too many instructions")),
-    }
+/// The script of one agent with this step.
+fn script_of(alloc: Global, init: &str, step: &str) -> Result<Script, Fail> {
+    let mut text = String::new(alloc);
+    write!(
+        text,
+        "{}{}{}{}{}",
+        "{\"init\":", init, ",\"agents\":[[", step, "]]}"
+    )?;
+    Ok(parse_script(alloc, text.as_bytes())?)
 }
 
-fn step_of(blocks: Vec<Block>) -> Result<Step, Fail> {
-    match Step::new(blocks) {
-        Some(step) => Ok(step),
-        None => Err(Fail::new("no step")),
-    }
+/// The first step of the script.
+fn first_step(script: &Script) -> Option<&Step> {
+    script.agents().first()?.as_slice().first()
 }
 
-fn the_names_are(places: &[Location], names: &[&str]) -> bool {
+fn are_named(places: &[Location], names: &[&str]) -> bool {
     if places.len() != names.len() {
         return false;
     }
@@ -132,61 +128,60 @@ fn the_names_are(places: &[Location], names: &[&str]) -> bool {
 #[test]
 fn the_last_block_has_no_targets_to_read(rt: HostRuntime) -> Result<(), Fail> {
     let alloc = rt.alloc();
-    let mut blocks = Vec::new(alloc);
-    blocks.push(a_block(alloc, "s", TermAction::Add(value_at(alloc, "u")?))?)?;
-    blocks.push(a_block(alloc, "y", TermAction::Put(value_at(alloc, "s")?))?)?;
-    blocks.push(a_block(alloc, "z", TermAction::Remove(number(1)))?)?;
-    let step = step_of(blocks)?;
-    let places = step_reads(alloc, &step)?;
-    assert!(rt; the_names_are(&places, &["s", "u"]));
+    let step =
+        r#"[[["add",["s"],{"val":["u"]}]],[["put",["y"],{"val":["s"]}]],[["remove",["z"],1]]]"#;
+    let script = script_of(alloc, "[]", step)?;
+    let Some(step) = first_step(&script) else {
+        return Err(Fail::new("no step"));
+    };
+    let places = step_reads(alloc, step)?;
+    assert!(rt; are_named(&places, &["s", "u"]));
     Ok(())
 }
 
-fn two_blocks(alloc: Global, first: Block, second: Block) -> Result<Step, Fail> {
-    let mut blocks = Vec::new(alloc);
-    blocks.push(first)?;
-    blocks.push(second)?;
-    step_of(blocks)
+/// Whether the step has this move on the state.
+fn has_move(alloc: Global, init: &str, step: &str, wanted: &str) -> Result<bool, Fail> {
+    let script = script_of(alloc, init, step)?;
+    let Some(step) = first_step(&script) else {
+        return Ok(false);
+    };
+    let written = step_move(alloc, &standard(), step, script.init())?;
+    Ok(text_of(alloc, &written)?.as_str() == wanted)
 }
 
 #[test]
 fn a_later_block_sees_the_frame(rt: HostRuntime) -> Result<(), Fail> {
-    let alloc = rt.alloc();
-    let mut state = PlainState::new(alloc);
-    state.set(location(alloc, "s")?, Value::Set(ElemSet::new(alloc)))?;
-    let add = a_block(alloc, "s", TermAction::Add(number(1)))?;
-    let put = a_block(alloc, "y", TermAction::Put(value_at(alloc, "s")?))?;
-    let step = two_blocks(alloc, add, put)?;
-    let written = step_move(alloc, &standard(), &step, &state)?;
-    assert!(rt; written.len() == 2);
-    assert!(rt; written.get(0).at.name() == "s");
-    assert!(rt; written.get(0).action == Action::SetAdd(Element::Num(1)));
-    assert!(rt; written.get(1).at.name() == "y");
-    assert!(rt; written.get(1).action == Action::Regular(one_set(alloc)?));
+    let init = r#"[[["s"],{"set":[]}]]"#;
+    let step = r#"[[["add",["s"],1]],[["put",["y"],{"val":["s"]}]]]"#;
+    let wanted = r#"["add",["s"],1]["put",["y"],{"set":[1]}]"#;
+    assert!(rt; has_move(rt.alloc(), init, step, wanted)?);
     Ok(())
 }
 
 #[test]
 fn a_lone_block_may_clash_when_it_is_fired(rt: HostRuntime) -> Result<(), Fail> {
-    let alloc = rt.alloc();
-    let state = PlainState::new(alloc);
-    let mut blocks = Vec::new(alloc);
-    blocks.push(a_block(alloc, "s", TermAction::Add(number(1)))?)?;
-    let step = step_of(blocks)?;
-    let written = step_move(alloc, &standard(), &step, &state)?;
-    assert!(rt; written.len() == 1);
+    let step = r#"[[["add",["s"],1]]]"#;
+    assert!(rt; has_move(rt.alloc(), "[]", step, r#"["add",["s"],1]"#)?);
     Ok(())
+}
+
+/// Why the first step of the script has no move on its opening state. The error is want of memory.
+fn fault_of(alloc: Global, script: &Script) -> Result<Option<StepFault>, AllocError> {
+    let Some(step) = first_step(script) else {
+        return Ok(None);
+    };
+    match step_move(alloc, &standard(), step, script.init()).err() {
+        Some(StepFault::Memory) => Err(AllocError),
+        fault => Ok(fault),
+    }
 }
 
 #[test]
 fn an_earlier_block_clashes_at_once(rt: HostRuntime) -> Result<(), Fail> {
-    let alloc = rt.alloc();
-    let state = PlainState::new(alloc);
-    let add = a_block(alloc, "s", TermAction::Add(number(1)))?;
-    let put = a_block(alloc, "s", TermAction::Put(number(5)))?;
-    let step = two_blocks(alloc, add, put)?;
-    match step_move(alloc, &standard(), &step, &state) {
-        Err(StepFault::Clash(clash)) => {
+    let step = r#"[[["add",["s"],1]],[["put",["s"],5]]]"#;
+    let script = script_of(rt.alloc(), "[]", step)?;
+    match fault_of(rt.alloc(), &script)? {
+        Some(StepFault::Clash(clash)) => {
             assert!(rt; clash.at.name() == "s");
             assert!(rt; clash.cause == Cause::Kind);
         }
@@ -197,14 +192,9 @@ fn an_earlier_block_clashes_at_once(rt: HostRuntime) -> Result<(), Fail> {
 
 #[test]
 fn a_later_block_has_a_faulty_term(rt: HostRuntime) -> Result<(), Fail> {
-    let alloc = rt.alloc();
-    let mut state = PlainState::new(alloc);
-    state.set(location(alloc, "n")?, Value::Plain(Element::Num(1)))?;
-    let undef = Term::Value(Value::Plain(Element::Undef));
-    let first = a_block(alloc, "n", TermAction::Put(undef))?;
-    let more = sum(alloc, value_at(alloc, "n")?, number(1))?;
-    let second = a_block(alloc, "n", TermAction::Put(more))?;
-    let step = two_blocks(alloc, first, second)?;
-    assert!(rt; step_move(alloc, &standard(), &step, &state) == Err(StepFault::Term));
+    let init = r#"[[["n"],1]]"#;
+    let step = r#"[[["put",["n"],null]],[["put",["n"],{"sum":[{"val":["n"]},1]}]]]"#;
+    let script = script_of(rt.alloc(), init, step)?;
+    assert!(rt; fault_of(rt.alloc(), &script)? == Some(StepFault::Term));
     Ok(())
 }

@@ -2,7 +2,8 @@
 use crate::outcome::{Outcome, Played};
 use crate::program::{run_given, run_main};
 use crate::report::report;
-use asm_element::{ElemBag, ElemSet, ElemText, Element, Items, Location, Value};
+use crate::step_tests::read;
+use asm_element::Items;
 use asm_storage::{Event, History};
 use asm_update::PlainState;
 use std::alloc::{AllocError, Global};
@@ -32,7 +33,8 @@ pub(crate) fn words_of(alloc: Global, words: &[&str]) -> Result<Vec<String>, All
     Ok(list)
 }
 
-/// The status and what is written.
+/// The status and what is written. The error is want of memory, also where the program tells of it: an output for
+/// which there is none is a fault to the program.
 fn run<T: Threads + Wait + Sync>(
     rt: &T,
     alloc: Global,
@@ -42,6 +44,9 @@ fn run<T: Threads + Wait + Sync>(
     let mut input = input;
     let mut output = Vec::new(alloc);
     let status = run_main(rt, alloc, words_of(alloc, words)?, &mut input, &mut output);
+    if status > 2 {
+        return Err(AllocError);
+    }
     Ok((status, output))
 }
 
@@ -57,9 +62,27 @@ fn ends<T: Threads + Wait + Sync>(
     Ok(status == wanted.0 && written.as_slice() == wanted.1.as_bytes())
 }
 
+/// The first of the rows, each an input and what is to be written, with which the program doesn't end so; none where it
+/// does with each of them.
+fn first_wrong<T: Threads + Wait + Sync>(
+    rt: &T,
+    alloc: Global,
+    words: &[&str],
+    status: u8,
+    rows: &[(&str, &str)],
+) -> Result<Option<usize>, AllocError> {
+    for (index, row) in rows.iter().enumerate() {
+        let (input, wanted) = *row;
+        if !ends(rt, alloc, words, input, (status, wanted))? {
+            return Ok(Some(index));
+        }
+    }
+    Ok(None)
+}
+
 #[test]
 fn reports_of_scripts(rt: HostRuntime) -> Result<(), Fail> {
-    for (script, want) in [
+    let rows = [
         (r#"{"init":[],"agents":[]}"#, "moves 0\n"),
         (ONE_PUT, ONE_PUT_REPORT),
         (r#"{"init":[],"agents":[[[[]]]]}"#, "moves 1\n"),
@@ -86,16 +109,15 @@ moves 1
 moves 1
 "#,
         ),
-    ] {
-        assert!(rt; ends(&rt, rt.alloc(), &RUN, script, (0, want))?, "{script}");
-    }
+    ];
+    assert_eq!(rt; first_wrong(&rt, rt.alloc(), &RUN, 0, &rows)?, None);
     Ok(())
 }
 
 /// Scripts of partial updates, with their reports.
 #[test]
 fn reports_of_sets_and_bags(rt: HostRuntime) -> Result<(), Fail> {
-    for (script, want) in [
+    let rows = [
         (
             r#"{"init":[[["s"],{"set":[2,1]}]],
 "agents":[[[[["add",["s"],3],["remove",["s"],1],["remove",["s"],9]]]]]}"#,
@@ -152,16 +174,15 @@ moves 0
 agent 0 step 0 clash ["x"] Both
 "#,
         ),
-    ] {
-        assert!(rt; ends(&rt, rt.alloc(), &RUN, script, (0, want))?, "{script}");
-    }
+    ];
+    assert_eq!(rt; first_wrong(&rt, rt.alloc(), &RUN, 0, &rows)?, None);
     Ok(())
 }
 
 /// Steps of several blocks, and terms.
 #[test]
 fn reports_of_sequences(rt: HostRuntime) -> Result<(), Fail> {
-    for (script, want) in [
+    let rows = [
         (
             r#"{"init":[[["s"],{"set":[]}]],"agents":[[[[["add",["s"],1]],[["put",["y"],{"val":["s"]}]]]]]}"#,
             r#"[["s"],{"set":[1]}]
@@ -199,9 +220,8 @@ moves 0
 agent 0 step 0 large ["b"]
 "#,
         ),
-    ] {
-        assert!(rt; ends(&rt, rt.alloc(), &RUN, script, (0, want))?, "{script}");
-    }
+    ];
+    assert_eq!(rt; first_wrong(&rt, rt.alloc(), &RUN, 0, &rows)?, None);
     Ok(())
 }
 
@@ -213,7 +233,7 @@ const SEQUENCE_JOURNAL: &str =
 
 #[test]
 fn journals_of_scripts(rt: HostRuntime) -> Result<(), Fail> {
-    for (script, want) in [
+    let rows = [
         (
             r#"{"init":[],"agents":[]}"#,
             r#"{"agents":0,"capacity":4096,"events":0,"init":[],"version":1}
@@ -229,34 +249,36 @@ fn journals_of_scripts(rt: HostRuntime) -> Result<(), Fail> {
             r#"{"init":[[["s"],{"set":[]}]],"agents":[[[[["add",["s"],1]],[["put",["y"],{"val":["s"]}]]]]]}"#,
             SEQUENCE_JOURNAL,
         ),
-    ] {
-        assert!(rt;
-            ends(&rt, rt.alloc(), &JOURNAL, script, (0, want))?,
-            "{script}"
-        );
-    }
+    ];
+    assert_eq!(rt; first_wrong(&rt, rt.alloc(), &JOURNAL, 0, &rows)?, None);
     Ok(())
 }
 
 #[test]
-fn checks_of_journals(rt: HostRuntime) -> Result<(), Fail> {
-    for (journal, status, want) in [
-        (SEQUENCE_JOURNAL, 0, "legal 2 1\n"),
+fn legal_journals(rt: HostRuntime) -> Result<(), Fail> {
+    let rows = [
+        (SEQUENCE_JOURNAL, "legal 2 1\n"),
         (
             r#"{"agents":2,"capacity":8,"events":3,"init":[[["x"],7]],"version":1}
 {"agent":0,"call":{"read":[["x"]]},"reply":{"number":0,"values":[7]}}
 {"agent":1,"call":{"fire":[["put",["x"],7]],"reads":[]},"reply":{"fired":1}}
 {"agent":0,"call":{"fire":[["put",["y"],1]],"reads":[[["x"],0]]},"reply":{"stale":["x"]}}
 "#,
-            0,
             "legal 3 1\n",
         ),
+    ];
+    assert_eq!(rt; first_wrong(&rt, rt.alloc(), &CHECK, 0, &rows)?, None);
+    Ok(())
+}
+
+#[test]
+fn illegal_journals(rt: HostRuntime) -> Result<(), Fail> {
+    let rows = [
         (
             r#"{"agents":1,"capacity":4096,"events":2,"init":[[["s"],{"set":[]}]],"version":1}
 {"agent":0,"call":{"read":[["s"]]},"reply":{"number":0,"values":[{"set":[2]}]}}
 {"agent":0,"call":{"fire":[["add",["s"],1],["put",["y"],{"set":[1]}]],"reads":[[["s"],0]]},"reply":{"fired":1}}
 "#,
-            1,
             "illegal 0\n",
         ),
         (
@@ -264,37 +286,37 @@ fn checks_of_journals(rt: HostRuntime) -> Result<(), Fail> {
 {"agent":0,"call":{"fire":[["put",["x"],1]],"reads":[]},"reply":{"fired":1}}
 {"agent":0,"call":{"fire":[["put",["x"],1]],"reads":[]},"reply":"full"}
 "#,
-            1,
             "illegal 1\n",
         ),
-        ("", 2, "journal cut\n"),
-        ("{", 2, "journal line 1: not JSON\n"),
-        ("{}\n", 2, "journal line 1: shape\n"),
-        ("{\"version\":3}\n", 2, "journal version\n"),
+    ];
+    assert_eq!(rt; first_wrong(&rt, rt.alloc(), &CHECK, 1, &rows)?, None);
+    Ok(())
+}
+
+#[test]
+fn texts_that_are_no_journals(rt: HostRuntime) -> Result<(), Fail> {
+    let rows = [
+        ("", "journal cut\n"),
+        ("{", "journal line 1: not JSON\n"),
+        ("{}\n", "journal line 1: shape\n"),
+        ("{\"version\":3}\n", "journal version\n"),
         (
             r#"{"agents":0,"capacity":8,"events":1,"init":[],"version":1}
 "#,
-            2,
             "journal cut\n",
         ),
         (
             r#"{"agents":1,"capacity":8,"events":1,"init":[],"version":1}
 {"agent":0,"call":"#,
-            2,
             "journal line 2: not JSON\n",
         ),
         (
             r#"{"agents":1,"capacity":8,"events":0,"init":[],"version":1}
 {}"#,
-            2,
             "journal line 2: shape\n",
         ),
-    ] {
-        assert!(rt;
-            ends(&rt, rt.alloc(), &CHECK, journal, (status, want))?,
-            "{journal}"
-        );
-    }
+    ];
+    assert_eq!(rt; first_wrong(&rt, rt.alloc(), &CHECK, 2, &rows)?, None);
     Ok(())
 }
 
@@ -493,7 +515,7 @@ fn words_that_are_not_given(rt: HostRuntime) -> Result<(), Fail> {
         (ErrorKind::OutOfMemory, 3, "out of memory\n"),
     ] {
         let mut input = ONE_PUT.as_bytes();
-        let mut output = Vec::new(alloc);
+        let mut output = Vec::with_capacity(alloc, 64)?;
         let words = Err(io::Error::from(kind));
         assert_eq!(rt;
             run_given(&rt, alloc, words, &mut input, &mut output),
@@ -506,7 +528,7 @@ fn words_that_are_not_given(rt: HostRuntime) -> Result<(), Fail> {
 
 #[test]
 fn scripts_that_are_refused(rt: HostRuntime) -> Result<(), Fail> {
-    for (script, want) in [
+    let rows = [
         ("", "bad script: not JSON\n"),
         ("{", "bad script: not JSON\n"),
         (r#"{"init":[]}"#, "bad script: shape\n"),
@@ -516,45 +538,25 @@ fn scripts_that_are_refused(rt: HostRuntime) -> Result<(), Fail> {
             "bad script: shape\n",
         ),
         (r#"{"init":[],"agents":[[[]]]}"#, "bad script: blocks\n"),
-    ] {
-        assert!(rt; ends(&rt, rt.alloc(), &RUN, script, (2, want))?, "{script}");
-    }
-    let alloc = rt.alloc();
-    let agents = script_of(alloc, "[]", 257, 0, "")?;
-    assert!(rt;
-        ends(
-            &rt,
-            alloc,
-            &RUN,
-            agents.as_str(),
-            (2, "bad script: agents\n")
-        )?
-    );
+    ];
+    assert_eq!(rt; first_wrong(&rt, rt.alloc(), &RUN, 2, &rows)?, None);
     Ok(())
 }
 
-fn text(alloc: Global, text: &str) -> Result<Element, AllocError> {
-    Ok(Element::Text(ElemText::new(String::from_str(alloc, text)?)))
+#[test]
+fn a_script_of_257_agents_is_refused(rt: HostRuntime) -> Result<(), Fail> {
+    let alloc = rt.alloc();
+    let script = script_of(alloc, "[]", 257, 0, "")?;
+    let wanted = (2, "bad script: agents\n");
+    assert!(rt; ends(&rt, alloc, &RUN, script.as_str(), wanted)?);
+    Ok(())
 }
 
-#[test]
-fn sets_and_bags_are_written_in_order(rt: HostRuntime) -> Result<(), Fail> {
-    let alloc = rt.alloc();
-    let mut set = ElemSet::new(alloc);
-    set.insert(text(alloc, "B")?)?;
-    set.insert(Element::Num(10))?;
-    set.insert(Element::Undef)?;
-    let mut bag = ElemBag::new(alloc);
-    assert_eq!(rt; bag.count(&Element::Num(1)), 0);
-    bag.put(Element::Num(1), 2)?;
-    let mut init = PlainState::new(alloc);
-    for (name, value) in [("s", Value::Set(set)), ("b", Value::Bag(bag))] {
-        let location = Location::new(String::from_str(alloc, name)?, Vec::new(alloc));
-        init.set(location.or(Err("a location"))?, value)?;
-    }
+/// What a run leaves that fired no move on this opening state.
+fn played_on(alloc: Global, init: PlainState) -> Played {
     let events: Vec<Event> = Vec::new(alloc);
     let outcomes: Vec<Items<Outcome>> = Vec::new(alloc);
-    let played = Played {
+    Played {
         history: History {
             init,
             capacity: 8,
@@ -562,11 +564,20 @@ fn sets_and_bags_are_written_in_order(rt: HostRuntime) -> Result<(), Fail> {
             events: Items::new(events),
         },
         outcomes: Items::new(outcomes),
-    };
+    }
+}
+
+#[test]
+fn sets_and_bags_are_written_in_order(rt: HostRuntime) -> Result<(), Fail> {
+    let alloc = rt.alloc();
+    let init = read(
+        alloc,
+        r#"[[["s"],{"set":["B",10,null]}],[["b"],{"bag":[[1,2]]}]]"#,
+    )?;
     let want = r#"[["b"],{"bag":[[1,2]]}]
 [["s"],{"set":[null,10,"B"]}]
 moves 0
 "#;
-    assert_eq!(rt; report(alloc, &played)?.as_str(), want);
+    assert_eq!(rt; report(alloc, &played_on(alloc, init))?.as_str(), want);
     Ok(())
 }

@@ -3,6 +3,7 @@ ghost use Rattle.std.specs.Prelude.{◌≡◌, ◌<◌, ◌++◌, IfOk, IsOkAnd,
 ghost use Rattle.std.specs.Thread.{IsSync};
 ghost use denote.Param.Send.{IsSend};
 ghost use Rattle.asm_driver.specs.Works.{GivesEach, told_first};
+ghost use Rattle.asm_driver.specs.declared.workers.Fault.TheVariants as faults;
 
 use std::alloc::{AllocError, AllocFailed, Global};
 use std::marker::{PhantomData, Send, Sync};
@@ -31,12 +32,16 @@ pub enum Fault {
 }
 
 impl From<AllocError> for Fault {
+    ghost from_gives = { λ _ e. e ≡ faults.Memory };
+
     fn from(_refused: AllocError) -> Fault {
         Fault::Memory
     }
 }
 
 impl<T: Drop> From<AllocFailed<T>> for Fault {
+    ghost from_gives = { λ _ e. e ≡ faults.Memory };
+
     fn from(_refused: AllocFailed<T>) -> Fault {
         Fault::Memory
     }

@@ -2,8 +2,34 @@ use crate::{ElemBag, ElemSet, ElemText, Element, Items, Location, LocationError,
 use std::alloc::{AllocError, Global};
 use std::test::Fail;
 
+/// An element as plain data.
+#[derive(Clone, Copy)]
+enum Item {
+    Undef,
+    Bool(bool),
+    Num(i64),
+    Text(&'static str),
+}
+
 fn text(alloc: Global, text: &str) -> Result<Element, AllocError> {
     Ok(Element::Text(ElemText::new(String::from_str(alloc, text)?)))
+}
+
+fn element(alloc: Global, item: Item) -> Result<Element, AllocError> {
+    match item {
+        Item::Undef => Ok(Element::Undef),
+        Item::Bool(value) => Ok(Element::Bool(value)),
+        Item::Num(number) => Ok(Element::Num(number)),
+        Item::Text(name) => text(alloc, name),
+    }
+}
+
+fn elements(alloc: Global, items: &[Item]) -> Result<Vec<Element>, AllocError> {
+    let mut elements = Vec::new(alloc);
+    for item in items {
+        elements.push(element(alloc, *item)?)?;
+    }
+    Ok(elements)
 }
 
 fn numbers(alloc: Global, numbers: &[i64]) -> Result<Vec<Element>, AllocError> {
@@ -14,97 +40,123 @@ fn numbers(alloc: Global, numbers: &[i64]) -> Result<Vec<Element>, AllocError> {
     Ok(elements)
 }
 
-fn location(
-    alloc: Global,
-    name: &str,
-    args: &[i64],
-) -> Result<Result<Location, LocationError>, AllocError> {
-    Ok(Location::new(String::from_str(alloc, name)?, numbers(alloc, args)?))
+fn location(alloc: Global, name: &str, args: &[i64]) -> Result<Location, Fail> {
+    let args = numbers(alloc, args)?;
+    Ok(Location::new(String::from_str(alloc, name)?, args)?)
 }
+
+/// Why the name and the arguments are no location.
+fn refusal(alloc: Global, name: &str, args: &[i64]) -> Result<Option<LocationError>, AllocError> {
+    let args = numbers(alloc, args)?;
+    Ok(Location::new(String::from_str(alloc, name)?, args).err())
+}
+
+/// Whether each comes before those that stand after it, is equal to itself, and comes after those before it.
+fn ascend<T: Ord>(items: &[T]) -> bool {
+    for (i, left) in items.iter().enumerate() {
+        for (j, right) in items.iter().enumerate() {
+            if left.cmp(right) != i.cmp(&j) {
+                return false;
+            }
+        }
+    }
+    true
+}
+
+static ASCENDING: [Item; 9] = [
+    Item::Undef,
+    Item::Bool(false),
+    Item::Bool(true),
+    Item::Num(-1),
+    Item::Num(0),
+    Item::Num(10),
+    Item::Text(""),
+    Item::Text("B"),
+    Item::Text("a"),
+];
 
 #[test]
 fn elements_ascend_by_kind_then_by_value(rt: HostRuntime) -> Result<(), Fail> {
-    let alloc = rt.alloc();
-    let mut elements = Vec::new(alloc);
-    elements.push(Element::Undef)?;
-    elements.push(Element::Bool(false))?;
-    elements.push(Element::Bool(true))?;
-    elements.push(Element::Num(-1))?;
-    elements.push(Element::Num(0))?;
-    elements.push(Element::Num(10))?;
-    elements.push(text(alloc, "")?)?;
-    elements.push(text(alloc, "B")?)?;
-    elements.push(text(alloc, "a")?)?;
-    for (i, left) in elements.iter().enumerate() {
-        for (j, right) in elements.iter().enumerate() {
-            assert_eq!(rt; left.cmp(right), i.cmp(&j), "{i} and {j}");
-        }
-    }
+    let elements = elements(rt.alloc(), &ASCENDING)?;
+    assert!(rt; elements.len() == 9 && ascend(&elements));
     Ok(())
 }
+
+static PLACES: [(&str, &[i64]); 4] = [("a", &[]), ("a", &[9]), ("a", &[0, 0]), ("b", &[])];
 
 #[test]
 fn locations_ascend_by_name_then_by_number_of_arguments(rt: HostRuntime) -> Result<(), Fail> {
-    let alloc = rt.alloc();
-    let mut locations = Vec::new(alloc);
-    locations.push(location(alloc, "a", &[])??)?;
-    locations.push(location(alloc, "a", &[9])??)?;
-    locations.push(location(alloc, "a", &[0, 0])??)?;
-    locations.push(location(alloc, "b", &[])??)?;
-    for (i, left) in locations.iter().enumerate() {
-        for (j, right) in locations.iter().enumerate() {
-            assert_eq!(rt; left.cmp(right), i.cmp(&j), "{i} and {j}");
-        }
+    let mut locations = Vec::new(rt.alloc());
+    for (name, args) in PLACES {
+        locations.push(location(rt.alloc(), name, args)?)?;
     }
+    assert!(rt; locations.len() == 4 && ascend(&locations));
+    Ok(())
+}
+
+/// Whether a location of this name, without arguments, is refused for the name.
+fn is_bad_name(alloc: Global, name: &str) -> Result<bool, AllocError> {
+    Ok(refusal(alloc, name, &[])? == Some(LocationError::BadName))
+}
+
+/// Whether there is a location of this name, and it has the name.
+fn is_named(alloc: Global, name: &str) -> Result<bool, Fail> {
+    Ok(location(alloc, name, &[])?.name() == name)
+}
+
+#[test]
+fn a_location_takes_a_name_by_the_rule(rt: HostRuntime) -> Result<(), Fail> {
+    let alloc = rt.alloc();
+    for name in ["", "1x", "x-y"] {
+        assert!(rt; is_bad_name(alloc, name)?, "{name}");
+    }
+    for name in ["_", "x1"] {
+        assert!(rt; is_named(alloc, name)?, "{name}");
+    }
+    assert!(rt; is_named(alloc, "a".repeat(alloc, 64)?.as_str())?);
+    assert!(rt; is_bad_name(alloc, "a".repeat(alloc, 65)?.as_str())?);
     Ok(())
 }
 
 #[test]
-fn a_location_takes_a_name_by_the_rule_and_at_most_eight_arguments(
-    rt: HostRuntime,
-) -> Result<(), Fail> {
+fn a_location_takes_at_most_eight_arguments(rt: HostRuntime) -> Result<(), Fail> {
     let alloc = rt.alloc();
-    let longest = "a".repeat(alloc, 64)?;
-    let too_long = "a".repeat(alloc, 65)?;
-    for name in ["", "1x", "x-y", too_long.as_str()] {
-        assert_eq!(rt;
-            location(alloc, name, &[])?,
-            Err(LocationError::BadName),
-            "{name}"
-        );
-    }
-    for name in [longest.as_str(), "_", "x1"] {
-        let location = location(alloc, name, &[])??;
-        assert_eq!(rt; location.name(), name);
-    }
-
-    let eight = location(alloc, "x", &[1, 2, 3, 4, 5, 6, 7, 8])??;
-    assert_eq!(rt; eight.args().len(), 8);
     let nine = [1, 2, 3, 4, 5, 6, 7, 8, 9];
-    assert_eq!(rt; location(alloc, "x", &nine)?, Err(LocationError::ManyArgs));
-    assert_eq!(rt; location(alloc, "1x", &nine)?, Err(LocationError::BadName));
+    assert!(rt; location(alloc, "x", &nine[..8])?.args().len() == 8);
+    assert!(rt; refusal(alloc, "x", &nine)? == Some(LocationError::ManyArgs));
+    assert!(rt; refusal(alloc, "1x", &nine)? == Some(LocationError::BadName));
     Ok(())
+}
+
+fn set_of(alloc: Global, items: &[i64]) -> Result<Value, AllocError> {
+    let mut set = ElemSet::new(alloc);
+    for item in items {
+        set.insert(Element::Num(*item))?;
+    }
+    Ok(Value::Set(set))
+}
+
+fn bag_of_one(alloc: Global) -> Result<Value, AllocError> {
+    let one = Element::Num(1);
+    let mut bag = ElemBag::new(alloc);
+    if bag.count(&one) == 0 {
+        bag.put(one, 1)?;
+    }
+    Ok(Value::Bag(bag))
+}
+
+fn is_copied(alloc: Global, value: &Value) -> Result<bool, AllocError> {
+    Ok(value.copy(alloc)? == *value)
 }
 
 #[test]
 fn copies_are_equal(rt: HostRuntime) -> Result<(), Fail> {
     let alloc = rt.alloc();
-    let element = text(alloc, "a")?;
-    assert_eq!(rt; element.copy(alloc)?, element);
-    let place = location(alloc, "a", &[9])??;
-    assert_eq!(rt; place.copy(alloc)?, place);
-
-    let mut set = ElemSet::new(alloc);
-    set.insert(Element::Num(1))?;
-    set.insert(Element::Num(2))?;
-    let set = Value::Set(set);
-    assert_eq!(rt; set.copy(alloc)?, set);
-    let e = text(alloc, "e")?;
-    let mut bag = ElemBag::new(alloc);
-    assert_eq!(rt; bag.count(&e), 0);
-    bag.put(e, 1)?;
-    let bag = Value::Bag(bag);
-    assert_eq!(rt; bag.copy(alloc)?, bag);
+    let place = location(alloc, "a", &[9])?;
+    assert!(rt; place.copy(alloc)? == place);
+    assert!(rt; is_copied(alloc, &Value::Plain(text(alloc, "a")?))?);
+    assert!(rt; is_copied(alloc, &set_of(alloc, &[1, 2])?)?);
+    assert!(rt; is_copied(alloc, &bag_of_one(alloc)?)?);
     Ok(())
 }
 

@@ -1,5 +1,5 @@
 -- Arrays: what a value that is one holds, and lists of forms.
-use Rattle.std.proofs.Common.{◌≡◌, ◌<◌, ℕ, zero, suc, List, [], ◌∷◌, ◌++◌, length, get_or, map, Some, refl, sym, ap, ap₂, subst, ◌∙◌, append_assoc, arith}
+use Rattle.std.proofs.Common.{◌≡◌, ◌≢◌, ◌<◌, ℕ, zero, suc, List, [], ◌∷◌, ◌++◌, length, get_or, map, Some, refl, sym, ap, ap₂, subst, ◌∙◌, append_assoc, arith}
 use Rattle.serde_json.specs.Data.{Data, null, boolean, number, string, array, object, unsigned, Items, no_items, item}
 use Rattle.serde_json.specs.Find.{as_array, as_str}
 use Rattle.serde_json.specs.View.{view, items_of, items_view}
@@ -79,3 +79,15 @@ forms_once F once (x ∷ xs) (y ∷ ys) (item d ds) h k = ap₂ (λ a b. a ∷ b
 
 pub list_once : {X : Type 0} (F : X → Data → Type 0) → IsOnce F → IsOnce (IsListForm F)
 list_once F once xs ys d h k = forms_once F once xs ys k.0 (subst (AreForms F xs) (same_array _ _ (sym h.1 ∙ k.1)) h.2) k.2
+
+-- ---- two items alone
+
+pub no_third : (xs ys zs : List Value) (a b : Value) → xs ≡ a ∷ ys → ys ≡ b ∷ zs → zs ≢ []
+    → (c d : Data) → items_view xs ≡ items_of (c ∷ d ∷ []) → ⊥
+no_third xs ys [] a b first second more c d e = more refl
+no_third xs ys (z ∷ zs) a b first second more c d e =
+    let whole : xs ≡ a ∷ b ∷ z ∷ zs = first ∙ ap (λ t. a ∷ t) second in
+    absurd (too_many (view a) (view b) (view z) (items_view zs) c d (sym (ap items_view whole) ∙ e))
+  where
+    too_many : (k l m : Data) (ms : Items) (c d : Data) → item k (item l (item m ms)) ≡ items_of (c ∷ d ∷ []) → ⊥
+    too_many k l m ms c d e = cc

@@ -17,8 +17,8 @@ use Rattle.asm_element.specs.declared.value.Value.{Value}
 use Rattle.asm_element.specs.Set as set
 use Rattle.asm_element.specs.Bag as bag
 use Rattle.asm_update.specs.State.{State, Updates, write}
-use Rattle.asm_aggregate.specs.FamilyLemmas.{none_true}
-use Rattle.asm_aggregate.specs.SetAlgebra.{contains-from_list}
+use Rattle.asm_aggregate.specs.laws.FamilyLemmas.{none_true}
+use Rattle.asm_aggregate.specs.laws.SetAlgebra.{contains-from_list}
 use Rattle.asm_journal.specs.Shape.{AreDistinct}
 use Rattle.asm_journal.specs.Set.{IsSetOf, IsBagOf, bag_of}
 use Rattle.asm_journal.specs.Value.{IsStateOf}

@@ -21,7 +21,7 @@ use Rattle.asm_element.specs.declared.value.Value.{Value}
 use Rattle.asm_update.specs.State as state
 use Rattle.asm_update.specs.State.{State, write_all}
 use Rattle.asm_update.proofs.FireLemmas.{get-write, same_state}
-use Rattle.asm_aggregate.specs.SetAlgebra.{contains-from_list}
+use Rattle.asm_aggregate.specs.laws.SetAlgebra.{contains-from_list}
 use Rattle.asm_journal.specs.Shape.{AreDistinct}
 use Rattle.asm_journal.specs.Set.{IsSetOf, IsBagOf, bag_of}
 use Rattle.asm_journal.specs.Value.{IsStateOf}

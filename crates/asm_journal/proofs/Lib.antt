@@ -1,6 +1,7 @@
 pub mod Texts
 pub mod Answered
 pub mod Arrays
+pub mod Objects
 pub mod Elements
 pub mod Gathered
 pub mod Made
@@ -14,6 +15,8 @@ pub mod Floats
 pub mod Once
 pub mod Refused
 pub mod Lines
+pub mod Fitting
+pub mod Told
 pub mod Clean
 pub mod Kept
 pub mod Good

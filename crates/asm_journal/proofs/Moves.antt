@@ -13,7 +13,7 @@ use Rattle.asm_update.specs.State.{State, Updates, val, write, overwrite}
 use Rattle.asm_update.specs.Fire.{Part, state_or, IsUpdateSet, IsLeastClash}
 use Rattle.asm_update.specs.declared.clash.Clash.{Clash}
 use Rattle.asm_update.proofs.FireLemmas.{fire_updates, fire_clash, stored, stored_or, get-write, get-overwrite, same_state}
-use Rattle.asm_aggregate.specs.BagAlgebra.{both_T, less_apart}
+use Rattle.asm_aggregate.specs.laws.BagAlgebra.{both_T, less_apart}
 use Rattle.asm_state.specs.Stands.{after_move}
 use Rattle.asm_storage.specs.declared.history.Event.{Event}
 use Rattle.asm_storage.specs.History.{move_of, moves}

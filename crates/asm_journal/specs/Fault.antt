@@ -68,3 +68,8 @@ RefusedReadsAsNone = (text : List ℕ) (h : History) (e : JournalError) →
 abbrev pub OneFault : Type 0
 OneFault = (text : List ℕ) (e f : JournalError) →
     e ≢ Memory → f ≢ Memory → IsRefused text e → IsRefused text f → e ≡ f
+
+-- A text that reads as no history has a first fault: it can't be that it has none.
+abbrev pub SomeFault : Type 0
+SomeFault = (text : List ℕ) → ((h : History) → ¬ ReadsAs text h)
+    → ¬ ((e : JournalError) → e ≢ Memory → ¬ IsRefused text e)

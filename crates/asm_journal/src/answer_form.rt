@@ -3,7 +3,8 @@ ghost use Rattle.std.specs.Prelude.{◌≡◌, IfOk, codes, map};
 ghost use Rattle.serde_json.specs.View.{view};
 ghost use Rattle.asm_journal.specs.Shape.{Reads, list_of, two_of, number_json_of};
 ghost use Rattle.asm_journal.specs.Value.{value_json_of};
-ghost use Rattle.asm_journal.specs.Event.{word_of_cause, clash_json_of, reply_json_of, answer_json_of, IsCauseForm, IsClashForm, IsReplyForm, IsAnswerForm};
+ghost use Rattle.asm_journal.specs.Event.{word_of_cause, clash_json_of, reply_json_of, answer_json_of};
+ghost use Rattle.asm_journal.specs.Event.{IsCauseForm, IsClashForm, IsReplyForm, IsAnswerForm};
 
 use crate::array::{FromJson, ToJson, list_json, pair_of, two_items};
 use crate::listed::Listed;

@@ -80,12 +80,12 @@ pub(crate) fn two_of(items: &[Json]) -> Option<(&Json, &Json)>
         (λ p. items_view items.now ≡ items_of (view p.0.now ∷ view p.1.now ∷ [])) }
     ensures none { IfNone result ((a b : Data) → items_view items.now ≢ items_of (a ∷ b ∷ [])) }
 {
-    let mut items = items.iter();
-    let first = items.next()?;
-    let second = items.next()?;
-    match items.next() {
-        None => Some((first, second)),
-        Some(_) => None,
+    let (first, rest) = items.split_first()?;
+    let (second, rest) = rest.split_first()?;
+    if rest.is_empty() {
+        Some((first, second))
+    } else {
+        None
     }
 }
 
@@ -132,8 +132,5 @@ pub(crate) fn list_json<T: ToJson>(alloc: Global, items: &[T]) -> Result<Json, A
 pub(crate) fn pair_of(alloc: Global, first: Json, second: Json) -> Result<Json, AllocError>
     ensures { IfOk result (λ json. view json ≡ list_of (view first ∷ view second ∷ [])) }
 {
-    let mut list = Vec::new(alloc);
-    list.push(first)?;
-    list.push(second)?;
-    Ok(Json::Array(list))
+    Ok(Json::Array(vec![in alloc; first, second]?))
 }

@@ -2,7 +2,8 @@
 ghost use Rattle.std.specs.Prelude.{◌≡◌, IfOk, codes, map};
 ghost use Rattle.serde_json.specs.View.{view};
 ghost use Rattle.asm_journal.specs.Shape.{Reads, list_of, one_of, two_of};
-ghost use Rattle.asm_journal.specs.Event.{named_json_of, move_json_of, call_json_of, IsNamedForm, IsMoveForm, IsMoveOf, IsCallForm};
+ghost use Rattle.asm_journal.specs.Event.{named_json_of, move_json_of, call_json_of};
+ghost use Rattle.asm_journal.specs.Event.{IsNamedForm, IsMoveForm, IsMoveOf, IsCallForm};
 
 use crate::array::{FromJson, ToJson, array_of, list_json, pair_of, two_items};
 use crate::listed::Listed;

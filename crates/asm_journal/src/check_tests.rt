@@ -1,200 +1,140 @@
 //! The check of histories, and the states that they leave.
 use crate::*;
 use asm_aggregate::standard;
-use asm_element::{Element, Items, Location, Value};
-use asm_state::Named;
-use asm_storage::{Answer, Call, Event, History, Reply};
-use asm_update::{Action, Cause, Clash, Instruction, Instructions, Lookup, PlainState};
-use std::alloc::Global;
+use asm_element::{Element, Location, Value};
+use asm_storage::History;
+use asm_update::Lookup;
+use std::alloc::{AllocError, Global};
 use std::test::Fail;
 
-/// The reply to a fire, at x.
-#[derive(Clone, Copy)]
-enum Told {
-    Fired(u32),
-    Stale,
-    Clash,
-    Full,
-}
+// Reads of x: right at first, of another value, at another number, and after two moves.
+const READ: &str = r#"{"agent":0,"call":{"read":[["x"]]},"reply":{"number":0,"values":[7]}}"#;
 
-/// A call at x, and its answer.
-#[derive(Clone, Copy)]
-enum Row {
-    /// A read, with its number and its value.
-    Read(u32, i64),
-    /// A put of this number that names x at the other one.
-    Put(i64, u32, Told),
-    /// Two different puts.
-    Two(Told),
-}
+const READ_OTHER: &str = r#"{"agent":0,"call":{"read":[["x"]]},"reply":{"number":0,"values":[6]}}"#;
 
-use Row::{Put, Read, Two};
+const READ_EARLY: &str = r#"{"agent":0,"call":{"read":[["x"]]},"reply":{"number":1,"values":[7]}}"#;
 
-fn x(alloc: Global) -> Result<Location, Fail> {
-    Ok(Location::new(String::from_str(alloc, "x")?, Vec::new(alloc))?)
-}
+const READ_LAST: &str = r#"{"agent":0,"call":{"read":[["x"]]},"reply":{"number":2,"values":[2]}}"#;
 
-fn push_put(alloc: Global, instrs: &mut Instructions, number: i64) -> Result<(), Fail> {
-    let action = Action::Regular(Value::Plain(Element::Num(number)));
-    instrs.push(Instruction {
-        at: x(alloc)?,
-        action,
-    })?;
-    Ok(())
-}
+// Puts that name x at 0, with their replies.
+const SAME_FIRED: &str =
+    r#"{"agent":1,"call":{"fire":[["put",["x"],7]],"reads":[[["x"],0]]},"reply":{"fired":1}}"#;
 
-fn reply(alloc: Global, told: Told) -> Result<Reply, Fail> {
-    Ok(match told {
-        Told::Fired(number) => Reply::Fired(number),
-        Told::Stale => Reply::Stale(x(alloc)?),
-        Told::Clash => Reply::Clash(Clash {
-            at: x(alloc)?,
-            cause: Cause::Two,
-        }),
-        Told::Full => Reply::Full,
-    })
-}
+const SAME_FIRED_2: &str =
+    r#"{"agent":1,"call":{"fire":[["put",["x"],7]],"reads":[[["x"],0]]},"reply":{"fired":2}}"#;
 
-fn read(alloc: Global, number: u32, value: i64) -> Result<Event, Fail> {
-    let mut places = Vec::new(alloc);
-    places.push(x(alloc)?)?;
-    let mut values = Vec::new(alloc);
-    values.push(Value::Plain(Element::Num(value)))?;
-    Ok(Event {
-        agent: 0,
-        call: Call::Read(Items::new(places)),
-        answer: Answer::Read {
-            number,
-            values: Items::new(values),
-        },
-    })
-}
+const SAME_FULL: &str =
+    r#"{"agent":1,"call":{"fire":[["put",["x"],7]],"reads":[[["x"],0]]},"reply":"full"}"#;
 
-fn fire(
-    alloc: Global,
-    instrs: Instructions,
-    named: Option<u32>,
-    told: Told,
-) -> Result<Event, Fail> {
-    let mut reads = Vec::new(alloc);
-    if let Some(number) = named {
-        let at = x(alloc)?;
-        reads.push(Named { at, number })?;
+const FIRED: &str =
+    r#"{"agent":1,"call":{"fire":[["put",["x"],1]],"reads":[[["x"],0]]},"reply":{"fired":1}}"#;
+
+const FIRED_2: &str =
+    r#"{"agent":1,"call":{"fire":[["put",["x"],1]],"reads":[[["x"],0]]},"reply":{"fired":2}}"#;
+
+const STALE: &str =
+    r#"{"agent":1,"call":{"fire":[["put",["x"],1]],"reads":[[["x"],0]]},"reply":{"stale":["x"]}}"#;
+
+// Puts that name x at 1 and at 2.
+const NAMED_1_FIRED_2: &str =
+    r#"{"agent":1,"call":{"fire":[["put",["x"],2]],"reads":[[["x"],1]]},"reply":{"fired":2}}"#;
+
+const NAMED_1_STALE: &str =
+    r#"{"agent":1,"call":{"fire":[["put",["x"],2]],"reads":[[["x"],1]]},"reply":{"stale":["x"]}}"#;
+
+const NAMED_2_FULL: &str =
+    r#"{"agent":1,"call":{"fire":[["put",["x"],3]],"reads":[[["x"],2]]},"reply":"full"}"#;
+
+// Two different puts.
+const TWO_CLASH: &str =
+    r#"{"agent":1,"call":{"fire":[["put",["x"],1],["put",["x"],2]],"reads":[]},"reply":{"clash":[["x"],"Two"]}}"#;
+
+const TWO_FIRED: &str =
+    r#"{"agent":1,"call":{"fire":[["put",["x"],1],["put",["x"],2]],"reads":[]},"reply":{"fired":1}}"#;
+
+const TWO_FULL: &str =
+    r#"{"agent":1,"call":{"fire":[["put",["x"],1],["put",["x"],2]],"reads":[]},"reply":"full"}"#;
+
+/// The journal of these events, opened with 7 at x and the capacity 2.
+fn journal(alloc: Global, events: &[&str]) -> Result<String, AllocError> {
+    let count = events.len();
+    let mut text = format!(in alloc;
+        "{{\"agents\":2,\"capacity\":2,\"events\":{count},\"init\":[[[\"x\"],7]],\"version\":1}}\n"
+    )?;
+    for event in events {
+        text.push_str(event)?;
+        text.push_str("\n")?;
     }
-    let answer = Answer::Fire(reply(alloc, told)?);
-    Ok(Event {
-        agent: 1,
-        call: Call::Fire {
-            reads: Items::new(reads),
-            instrs,
-        },
-        answer,
-    })
+    Ok(text)
 }
 
-fn event(alloc: Global, row: Row) -> Result<Event, Fail> {
-    match row {
-        Row::Read(number, value) => read(alloc, number, value),
-        Row::Put(value, named, told) => {
-            let mut instrs = Instructions::new(alloc);
-            push_put(alloc, &mut instrs, value)?;
-            fire(alloc, instrs, Some(named), told)
-        }
-        Row::Two(told) => {
-            let mut instrs = Instructions::new(alloc);
-            push_put(alloc, &mut instrs, 1)?;
-            push_put(alloc, &mut instrs, 2)?;
-            fire(alloc, instrs, None, told)
-        }
-    }
+/// The history of these events.
+fn history(alloc: Global, events: &[&str]) -> Result<History, JournalError> {
+    let text = journal(alloc, events)?;
+    from_text(alloc, text.as_str().as_bytes())
 }
 
-/// A history of these calls, opened with 7 at x and the capacity 2.
-fn history(alloc: Global, rows: &[Row]) -> Result<History, Fail> {
-    let mut init = PlainState::new(alloc);
-    init.set(x(alloc)?, Value::Plain(Element::Num(7)))?;
-    let mut events = Vec::new(alloc);
-    for row in rows {
-        events.push(event(alloc, *row)?)?;
-    }
-    Ok(History {
-        init,
-        capacity: 2,
-        agents: 2,
-        events: Items::new(events),
-    })
+/// What the check of these events tells.
+fn legality(alloc: Global, events: &[&str]) -> Result<Legality, JournalError> {
+    let history = history(alloc, events)?;
+    Ok(check(alloc, &standard(), &history)?)
 }
 
-fn legality(alloc: Global, rows: &[Row]) -> Result<Legality, Fail> {
-    Ok(check(alloc, &standard(), &history(alloc, rows)?)?)
+/// Whether these events leave this number at x.
+fn leaves(alloc: Global, events: &[&str], number: i64) -> Result<bool, Fail> {
+    let at = Location::new(String::from_str(alloc, "x")?, Vec::new(alloc))?;
+    let history = history(alloc, events)?;
+    let state = replay(alloc, &standard(), &history)?;
+    Ok(state.get(&at) == Some(&Value::Plain(Element::Num(number))))
 }
 
 #[test]
-fn a_write_of_the_same_value_is_a_write(rt: HostRuntime) -> Result<(), Fail> {
-    let rows = [
-        Read(0, 7),
-        Put(7, 0, Told::Fired(1)),
-        Put(1, 0, Told::Stale),
+fn legal_histories_are_counted(rt: HostRuntime) -> Result<(), Fail> {
+    let same_value = [READ, SAME_FIRED, STALE];
+    let full = [
+        FIRED,
+        TWO_CLASH,
+        NAMED_1_FIRED_2,
+        NAMED_2_FULL,
+        TWO_CLASH,
+        STALE,
+        READ_LAST,
     ];
-    let told = legality(rt.alloc(), &rows)?;
-    assert!(rt; told == Legality::Legal { calls: 3, moves: 1 });
-    Ok(())
-}
-
-#[test]
-fn clashes_and_a_full_storage_are_legal(rt: HostRuntime) -> Result<(), Fail> {
-    let rows = [
-        Put(1, 0, Told::Fired(1)),
-        Two(Told::Clash),
-        Put(2, 1, Told::Fired(2)),
-        Put(3, 2, Told::Full),
-        Two(Told::Clash),
-        Put(3, 0, Told::Stale),
-        Read(2, 2),
+    let rows: [(&[&str], Legality); 2] = [
+        (&same_value, Legality::Legal { calls: 3, moves: 1 }),
+        (&full, Legality::Legal { calls: 7, moves: 2 }),
     ];
-    let told = legality(rt.alloc(), &rows)?;
-    assert!(rt; told == Legality::Legal { calls: 7, moves: 2 });
+    for (events, want) in rows {
+        assert!(rt; legality(rt.alloc(), events)? == want);
+    }
     Ok(())
 }
 
 #[test]
 fn the_first_wrong_answer_is_told(rt: HostRuntime) -> Result<(), Fail> {
-    for (rows, call) in [
-        ([Read(0, 6), Read(1, 7)], 0),
-        ([Read(0, 7), Read(1, 7)], 1),
-        ([Read(0, 7), Put(7, 0, Told::Fired(2))], 1),
-        ([Put(7, 0, Told::Fired(1)), Put(1, 0, Told::Fired(2))], 1),
-        ([Put(7, 0, Told::Fired(1)), Put(1, 1, Told::Stale)], 1),
-        ([Put(7, 0, Told::Full), Put(1, 1, Told::Stale)], 0),
-        ([Two(Told::Full), Two(Told::Clash)], 0),
-        ([Two(Told::Clash), Two(Told::Fired(1))], 1),
+    for (events, call) in [
+        ([READ_OTHER, READ_EARLY], 0),
+        ([READ, READ_EARLY], 1),
+        ([READ, SAME_FIRED_2], 1),
+        ([SAME_FIRED, FIRED_2], 1),
+        ([SAME_FIRED, NAMED_1_STALE], 1),
+        ([SAME_FULL, NAMED_1_STALE], 0),
+        ([TWO_FULL, TWO_CLASH], 0),
+        ([TWO_CLASH, TWO_FIRED], 1),
     ] {
-        let told = legality(rt.alloc(), &rows)?;
+        let told = legality(rt.alloc(), &events)?;
         assert!(rt; told == Legality::Illegal { call });
     }
     Ok(())
 }
 
 #[test]
-fn a_replay_fires_what_was_fired(rt: HostRuntime) -> Result<(), Fail> {
-    let alloc = rt.alloc();
-    let rows = [
-        Put(1, 0, Told::Fired(1)),
-        Two(Told::Clash),
-        Put(2, 1, Told::Stale),
-    ];
-    let state = replay(alloc, &standard(), &history(alloc, &rows)?)?;
-    let at = x(alloc)?;
-    assert!(rt; state.get(&at) == Some(&Value::Plain(Element::Num(1))));
-    Ok(())
-}
-
-#[test]
-fn a_replayed_move_that_clashes_changes_nothing(rt: HostRuntime) -> Result<(), Fail> {
-    let alloc = rt.alloc();
-    let rows = [Two(Told::Fired(1)), Two(Told::Clash)];
-    let state = replay(alloc, &standard(), &history(alloc, &rows)?)?;
-    let at = x(alloc)?;
-    assert!(rt; state.get(&at) == Some(&Value::Plain(Element::Num(7))));
+fn a_replay_fires_what_was_fired_and_passes_over_a_clash(rt: HostRuntime) -> Result<(), Fail> {
+    for (events, number) in [
+        ([FIRED, TWO_CLASH, NAMED_1_STALE], 1),
+        ([TWO_FIRED, TWO_CLASH, STALE], 7),
+    ] {
+        assert!(rt; leaves(rt.alloc(), &events, number)?);
+    }
     Ok(())
 }

@@ -1,35 +1,73 @@
 //! The forms of locations, values and instructions, read from texts and written anew.
 use crate::*;
-use asm_element::{ElemBag, ElemSet, ElemText, Element, Location, Value};
+use asm_element::{ElemText, Element, Location, Value};
 use asm_update::{Action, Amount, Instruction};
 use serde_json::Value as Json;
-use std::alloc::Global;
+use std::alloc::{AllocError, Global};
 use std::test::Fail;
 
-/// The text of the location that a text is read as.
-fn location_again(alloc: Global, text: &str) -> Result<Option<String>, Fail> {
-    let json = Json::from_str(alloc, text).ok().ok_or("the text is JSON")?;
+fn json_of(alloc: Global, text: &str) -> Result<Json, Fail> {
+    Ok(Json::from_str(alloc, text).ok().ok_or("the text is JSON")?)
+}
+
+/// Whether a value is written so.
+fn is_text(alloc: Global, json: &Json, want: Option<&str>) -> Result<bool, AllocError> {
+    Ok(want == Some(json.to_string(alloc)?.as_str()))
+}
+
+/// Whether a location is written so, and read back equal.
+fn location_is_written(
+    alloc: Global,
+    location: &Location,
+    want: Option<&str>,
+) -> Result<bool, AllocError> {
+    let json = location_json(alloc, location)?;
+    Ok(is_text(alloc, &json, want)? && read_location(alloc, &json)?.as_ref() == Some(location))
+}
+
+/// Whether a text is read as a location that is written so, or as none.
+fn location_is(alloc: Global, text: &str, want: Option<&str>) -> Result<bool, Fail> {
+    let json = json_of(alloc, text)?;
     match read_location(alloc, &json)? {
-        Some(location) => Ok(Some(location_json(alloc, &location)?.to_string(alloc)?)),
-        None => Ok(None),
+        Some(location) => Ok(location_is_written(alloc, &location, want)?),
+        None => Ok(want.is_none()),
     }
 }
 
-/// The text of the value that a text is read as.
-fn value_again(alloc: Global, text: &str) -> Result<Option<String>, Fail> {
-    let json = Json::from_str(alloc, text).ok().ok_or("the text is JSON")?;
+/// Whether a value is written so, and read back equal.
+fn value_is_written(alloc: Global, value: &Value, want: Option<&str>) -> Result<bool, AllocError> {
+    let json = value_json(alloc, value)?;
+    Ok(is_text(alloc, &json, want)? && read_value(alloc, &json)?.as_ref() == Some(value))
+}
+
+/// Whether a text is read as a value that is written so, or as none.
+fn value_is(alloc: Global, text: &str, want: Option<&str>) -> Result<bool, Fail> {
+    let json = json_of(alloc, text)?;
     match read_value(alloc, &json)? {
-        Some(value) => Ok(Some(value_json(alloc, &value)?.to_string(alloc)?)),
-        None => Ok(None),
+        Some(value) => Ok(value_is_written(alloc, &value, want)?),
+        None => Ok(want.is_none()),
     }
 }
 
-/// The text of the instruction that a text is read as.
-fn instruction_again(alloc: Global, text: &str) -> Result<Option<String>, Fail> {
-    let json = Json::from_str(alloc, text).ok().ok_or("the text is JSON")?;
+/// Whether an instruction is written so, and read back equal.
+fn instruction_is_written(
+    alloc: Global,
+    instruction: &Instruction,
+    want: Option<&str>,
+) -> Result<bool, AllocError> {
+    let json = instruction_json(alloc, instruction)?;
+    Ok(
+        is_text(alloc, &json, want)?
+            && read_instruction(alloc, &json)?.as_ref() == Some(instruction),
+    )
+}
+
+/// Whether a text is read as an instruction that is written so, or as none.
+fn instruction_is(alloc: Global, text: &str, want: Option<&str>) -> Result<bool, Fail> {
+    let json = json_of(alloc, text)?;
     match read_instruction(alloc, &json)? {
-        Some(instruction) => Ok(Some(instruction_json(alloc, &instruction)?.to_string(alloc)?)),
-        None => Ok(None),
+        Some(instruction) => Ok(instruction_is_written(alloc, &instruction, want)?),
+        None => Ok(want.is_none()),
     }
 }
 
@@ -40,8 +78,7 @@ fn locations_are_read_and_written(rt: HostRuntime) -> Result<(), Fail> {
         r#"["_a1",null,false,true,-9223372036854775808,9223372036854775807,"","é\n"]"#,
         r#"["x",1,2,3,4,5,6,7,8]"#,
     ] {
-        let again = location_again(rt.alloc(), text)?;
-        assert!(rt; again.as_deref() == Some(text), "{text}");
+        assert!(rt; location_is(rt.alloc(), text, Some(text))?, "{text}");
     }
     Ok(())
 }
@@ -61,7 +98,7 @@ fn other_shapes_are_no_locations(rt: HostRuntime) -> Result<(), Fail> {
         r#"["x",9223372036854775808]"#,
         r#"{"x":1}"#,
     ] {
-        assert!(rt; location_again(rt.alloc(), text)?.is_none(), "{text}");
+        assert!(rt; location_is(rt.alloc(), text, None)?, "{text}");
     }
     Ok(())
 }
@@ -78,8 +115,7 @@ fn values_are_read_and_written(rt: HostRuntime) -> Result<(), Fail> {
         r#"{"bag":[]}"#,
         r#"{"bag":[[null,1],["e",4294967295]]}"#,
     ] {
-        let again = value_again(rt.alloc(), text)?;
-        assert!(rt; again.as_deref() == Some(text), "{text}");
+        assert!(rt; value_is(rt.alloc(), text, Some(text))?, "{text}");
     }
     Ok(())
 }
@@ -96,8 +132,7 @@ fn sets_and_bags_are_read_in_any_order(rt: HostRuntime) -> Result<(), Fail> {
             r#"{"bag":[[null,1],[1,3],["e",2]]}"#,
         ),
     ] {
-        let again = value_again(rt.alloc(), text)?;
-        assert!(rt; again.as_deref() == Some(want), "{text}");
+        assert!(rt; value_is(rt.alloc(), text, Some(want))?, "{text}");
     }
     Ok(())
 }
@@ -123,7 +158,7 @@ fn other_shapes_are_no_values(rt: HostRuntime) -> Result<(), Fail> {
         r#"{"bag":[[1]]}"#,
         r#"{"bag":[[1,1,1]]}"#,
     ] {
-        assert!(rt; value_again(rt.alloc(), text)?.is_none(), "{text}");
+        assert!(rt; value_is(rt.alloc(), text, None)?, "{text}");
     }
     Ok(())
 }
@@ -138,8 +173,7 @@ fn instructions_are_read_and_written(rt: HostRuntime) -> Result<(), Fail> {
         r#"["bagadd",["b"],"e",1]"#,
         r#"["bagremove",["b"],-1,4294967295]"#,
     ] {
-        let again = instruction_again(rt.alloc(), text)?;
-        assert!(rt; again.as_deref() == Some(text), "{text}");
+        assert!(rt; instruction_is(rt.alloc(), text, Some(text))?, "{text}");
     }
     Ok(())
 }
@@ -161,13 +195,9 @@ fn other_shapes_are_no_instructions(rt: HostRuntime) -> Result<(), Fail> {
         r#"["bagremove",["b"],"e",1,1]"#,
         r#"{"put":[["x"],1]}"#,
     ] {
-        assert!(rt; instruction_again(rt.alloc(), text)?.is_none(), "{text}");
+        assert!(rt; instruction_is(rt.alloc(), text, None)?, "{text}");
     }
     Ok(())
-}
-
-fn text_of(alloc: Global, text: &str) -> Result<Element, Fail> {
-    Ok(Element::Text(ElemText::new(String::from_str(alloc, text)?)))
 }
 
 fn at(alloc: Global, name: &str, argument: Element) -> Result<Location, Fail> {
@@ -177,49 +207,28 @@ fn at(alloc: Global, name: &str, argument: Element) -> Result<Location, Fail> {
 }
 
 #[test]
-fn a_location_is_read_back_equal(rt: HostRuntime) -> Result<(), Fail> {
+fn a_location_is_written(rt: HostRuntime) -> Result<(), Fail> {
     let alloc = rt.alloc();
-    let location = at(alloc, "x", text_of(alloc, "a")?)?;
-    let json = location_json(alloc, &location)?;
-    assert!(rt; read_location(alloc, &json)? == Some(location));
+    let text = ElemText::new(String::from_str(alloc, "a")?);
+    let location = at(alloc, "x", Element::Text(text))?;
+    assert!(rt; location_is_written(alloc, &location, Some(r#"["x","a"]"#))?);
     Ok(())
 }
 
-#[test]
-fn a_set_is_read_back_equal(rt: HostRuntime) -> Result<(), Fail> {
-    let alloc = rt.alloc();
-    let mut set = ElemSet::new(alloc);
-    set.insert(text_of(alloc, "a")?)?;
-    set.insert(Element::Num(-1))?;
-    let value = Value::Set(set);
-    let json = value_json(alloc, &value)?;
-    assert!(rt; read_value(alloc, &json)? == Some(value));
-    Ok(())
-}
-
-#[test]
-fn a_bag_is_read_back_equal(rt: HostRuntime) -> Result<(), Fail> {
-    let alloc = rt.alloc();
-    let mut bag = ElemBag::new(alloc);
-    assert_eq!(rt; bag.count(&Element::Undef), 0);
-    bag.put(Element::Undef, 3)?;
-    let value = Value::Bag(bag);
-    let json = value_json(alloc, &value)?;
-    assert!(rt; read_value(alloc, &json)? == Some(value));
-    Ok(())
-}
-
-#[test]
-fn an_instruction_is_read_back_equal(rt: HostRuntime) -> Result<(), Fail> {
-    let alloc = rt.alloc();
+/// Removes false seven times at b and 0.
+fn removal(alloc: Global) -> Result<Instruction, Fail> {
     let amount = Amount::new(7).ok_or("7 is an amount")?;
+    let at = at(alloc, "b", Element::Num(0))?;
     let action = Action::BagRemove(Element::Bool(false), amount);
-    let instruction = Instruction {
-        at: at(alloc, "b", Element::Num(0))?,
-        action,
-    };
-    let json = instruction_json(alloc, &instruction)?;
-    assert!(rt; read_instruction(alloc, &json)? == Some(instruction));
+    Ok(Instruction { at, action })
+}
+
+#[test]
+fn an_instruction_is_written(rt: HostRuntime) -> Result<(), Fail> {
+    let alloc = rt.alloc();
+    let removal = removal(alloc)?;
+    let want = r#"["bagremove",["b",0],false,7]"#;
+    assert!(rt; instruction_is_written(alloc, &removal, Some(want))?);
     Ok(())
 }
 
@@ -228,14 +237,12 @@ fn a_location_with_its_value(rt: HostRuntime) -> Result<(), Fail> {
     let alloc = rt.alloc();
     let location = at(alloc, "x", Element::Bool(true))?;
     let json = pair_json(alloc, &location, &Value::Plain(Element::Num(1)))?;
-    let text = json.to_string(alloc)?;
-    assert!(rt; text.as_str() == r#"[["x",true],1]"#);
+    assert!(rt; is_text(alloc, &json, Some(r#"[["x",true],1]"#))?);
     Ok(())
 }
 
 #[test]
 fn objects_with_two_keys(rt: HostRuntime) -> Result<(), Fail> {
-    let alloc = rt.alloc();
     for (text, want) in [
         (r#"{"b":2,"a":1}"#, true),
         (r#"{"a":1}"#, false),
@@ -243,7 +250,7 @@ fn objects_with_two_keys(rt: HostRuntime) -> Result<(), Fail> {
         (r#"{"a":1,"c":2}"#, false),
         (r#"[1,2]"#, false),
     ] {
-        let json = Json::from_str(alloc, text).ok().ok_or("the text is JSON")?;
+        let json = json_of(rt.alloc(), text)?;
         assert!(rt; two_members(&json, "a", "b").is_some() == want, "{text}");
     }
     Ok(())

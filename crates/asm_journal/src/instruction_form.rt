@@ -23,11 +23,9 @@ fn instruction_with(
     ensures { IfOk result (λ list. map view list.items
         ≡ string word.now ∷ location_json_of at.now ∷ view operand ∷ []) }
 {
-    let mut list = Vec::new(alloc);
-    list.push(Json::try_from_str(alloc, word)?)?;
-    list.push(at.to_json(alloc)?)?;
-    list.push(operand)?;
-    Ok(list)
+    let word = Json::try_from_str(alloc, word)?;
+    let at = at.to_json(alloc)?;
+    Ok(vec![in alloc; word, at, operand]?)
 }
 
 /// The same with an amount behind it.

@@ -5,144 +5,8 @@ use asm_element::{ElemSet, Element, Items, Location, Value};
 use asm_state::Named;
 use asm_storage::{Answer, Call, Event, History, Reply};
 use asm_update::{Action, Instruction, Instructions, PlainState};
-use std::alloc::Global;
+use std::alloc::{AllocError, Global};
 use std::test::Fail;
-
-/// A number, or a set of at most one.
-#[derive(Clone, Copy)]
-pub(crate) enum Held {
-    Num(i64),
-    Set(Option<i64>),
-}
-
-/// An instruction at a location.
-#[derive(Clone, Copy)]
-pub(crate) enum Act {
-    Put(&'static str, Held),
-    Add(&'static str, i64),
-}
-
-/// An answered call: a read of one location, or a fire of one or two instructions that names at most
-/// one location, at the number 0.
-#[derive(Clone, Copy)]
-pub(crate) enum Row {
-    Read(&'static str, Held),
-    Fired(Act, Option<Act>, Option<&'static str>, u32),
-    Stale(Act, &'static str),
-}
-
-use Row::{Fired, Read, Stale};
-
-fn location(alloc: Global, name: &str) -> Result<Location, Fail> {
-    Ok(Location::new(String::from_str(alloc, name)?, Vec::new(alloc))?)
-}
-
-fn value(alloc: Global, held: Held) -> Result<Value, Fail> {
-    match held {
-        Held::Num(number) => Ok(Value::Plain(Element::Num(number))),
-        Held::Set(member) => {
-            let mut set = ElemSet::new(alloc);
-            if let Some(number) = member {
-                set.insert(Element::Num(number))?;
-            }
-            Ok(Value::Set(set))
-        }
-    }
-}
-
-fn instruction(alloc: Global, act: Act) -> Result<Instruction, Fail> {
-    match act {
-        Act::Put(name, held) => {
-            let action = Action::Regular(value(alloc, held)?);
-            let at = location(alloc, name)?;
-            Ok(Instruction { at, action })
-        }
-        Act::Add(name, number) => {
-            let action = Action::SetAdd(Element::Num(number));
-            let at = location(alloc, name)?;
-            Ok(Instruction { at, action })
-        }
-    }
-}
-
-fn read(alloc: Global, name: &str, held: Held) -> Result<(Call, Answer), Fail> {
-    let mut places = Vec::new(alloc);
-    places.push(location(alloc, name)?)?;
-    let mut values = Vec::new(alloc);
-    values.push(value(alloc, held)?)?;
-    let answer = Answer::Read {
-        number: 0,
-        values: Items::new(values),
-    };
-    Ok((Call::Read(Items::new(places)), answer))
-}
-
-fn fire(alloc: Global, act: Act, next: Option<Act>, named: Option<&str>) -> Result<Call, Fail> {
-    let mut instrs = Instructions::new(alloc);
-    instrs.push(instruction(alloc, act)?)?;
-    if let Some(next) = next {
-        instrs.push(instruction(alloc, next)?)?;
-    }
-    let mut reads = Vec::new(alloc);
-    if let Some(name) = named {
-        let at = location(alloc, name)?;
-        reads.push(Named { at, number: 0 })?;
-    }
-    Ok(Call::Fire {
-        reads: Items::new(reads),
-        instrs,
-    })
-}
-
-fn event(alloc: Global, agent: u32, row: Row) -> Result<Event, Fail> {
-    let (call, answer) = match row {
-        Read(name, held) => read(alloc, name, held)?,
-        Fired(act, next, named, number) => {
-            let call = fire(alloc, act, next, named)?;
-            (call, Answer::Fire(Reply::Fired(number)))
-        }
-        Stale(act, name) => {
-            let stale = location(alloc, name)?;
-            let call = fire(alloc, act, None, Some(name))?;
-            (call, Answer::Fire(Reply::Stale(stale)))
-        }
-    };
-    Ok(Event {
-        agent,
-        call,
-        answer,
-    })
-}
-
-/// What a history is made of.
-#[derive(Clone, Copy)]
-pub(crate) struct Sample {
-    init: Option<(&'static str, Held)>,
-    agents: u32,
-    capacity: u32,
-    rows: [Option<(u32, Row)>; 3],
-    text: &'static str,
-    told: Legality,
-}
-
-pub(crate) fn history(alloc: Global, sample: Sample) -> Result<History, Fail> {
-    let mut init = PlainState::new(alloc);
-    if let Some((name, held)) = sample.init {
-        init.set(location(alloc, name)?, value(alloc, held)?)?;
-    }
-    let mut events = Vec::new(alloc);
-    for row in sample.rows {
-        if let Some((agent, row)) = row {
-            events.push(event(alloc, agent, row)?)?;
-        }
-    }
-    Ok(History {
-        init,
-        capacity: sample.capacity,
-        agents: sample.agents,
-        events: Items::new(events),
-    })
-}
 
 /// A move of two blocks, of which the second saw what the first one added.
 pub(crate) const BLOCKS: &str =
@@ -164,71 +28,122 @@ const SAME_VALUE: &str = r#"{"agents":2,"capacity":8,"events":3,"init":[[["x"],7
 {"agent":0,"call":{"fire":[["put",["y"],1]],"reads":[[["x"],0]]},"reply":{"stale":["x"]}}
 "#;
 
-pub(crate) fn samples() -> [Sample; 3] {
-    let add = Act::Add("s", 1);
-    let put = Act::Put("y", Held::Set(Some(1)));
-    [
-        Sample {
-            init: Some(("s", Held::Set(None))),
-            agents: 1,
-            capacity: 4096,
-            rows: [
-                Some((0, Read("s", Held::Set(None)))),
-                Some((0, Fired(add, Some(put), Some("s"), 1))),
-                None,
-            ],
-            text: BLOCKS,
-            told: Legality::Legal { calls: 2, moves: 1 },
-        },
-        Sample {
-            init: None,
-            agents: 2,
-            capacity: 8,
-            rows: [
-                Some((1, Fired(Act::Put("y", Held::Num(1)), None, None, 1))),
-                Some((0, Fired(Act::Put("x", Held::Num(1)), None, None, 2))),
-                None,
-            ],
-            text: AGENTS,
-            told: Legality::Legal { calls: 2, moves: 2 },
-        },
-        Sample {
-            init: Some(("x", Held::Num(7))),
-            agents: 2,
-            capacity: 8,
-            rows: [
-                Some((0, Read("x", Held::Num(7)))),
-                Some((1, Fired(Act::Put("x", Held::Num(7)), None, None, 1))),
-                Some((0, Stale(Act::Put("y", Held::Num(1)), "x"))),
-            ],
-            text: SAME_VALUE,
-            told: Legality::Legal { calls: 3, moves: 1 },
-        },
-    ]
+fn location(alloc: Global, name: &str) -> Result<Location, Fail> {
+    Ok(Location::new(String::from_str(alloc, name)?, Vec::new(alloc))?)
 }
 
-/// Whether the history is written as the text, read from it, and judged as told.
-fn goes_both_ways(alloc: Global, sample: Sample) -> Result<bool, Fail> {
-    let history = history(alloc, sample)?;
-    if !history.fits() {
-        return Ok(false);
+/// The set of these numbers.
+fn set(alloc: Global, numbers: &[i64]) -> Result<Value, AllocError> {
+    let mut set = ElemSet::new(alloc);
+    for number in numbers {
+        set.insert(Element::Num(*number))?;
     }
-    let text = to_text(alloc, &history)?;
-    let told = check(alloc, &standard(), &history)?;
-    let found = from_text(alloc, sample.text.as_bytes());
-    Ok(text.as_str() == sample.text && told == sample.told && found == Ok(history))
+    Ok(Value::Set(set))
+}
+
+/// The read of the empty set at s.
+fn read(alloc: Global) -> Result<Event, Fail> {
+    let mut places = Vec::new(alloc);
+    places.push(location(alloc, "s")?)?;
+    let mut values = Vec::new(alloc);
+    values.push(set(alloc, &[])?)?;
+    Ok(Event {
+        agent: 0,
+        call: Call::Read(Items::new(places)),
+        answer: Answer::Read {
+            number: 0,
+            values: Items::new(values),
+        },
+    })
+}
+
+fn push(alloc: Global, instrs: &mut Instructions, name: &str, action: Action) -> Result<(), Fail> {
+    let at = location(alloc, name)?;
+    instrs.push(Instruction { at, action })?;
+    Ok(())
+}
+
+/// The move that names s, adds 1 to it, and puts what it then is at y.
+fn fire(alloc: Global) -> Result<Event, Fail> {
+    let mut instrs = Instructions::new(alloc);
+    push(alloc, &mut instrs, "s", Action::SetAdd(Element::Num(1)))?;
+    push(alloc, &mut instrs, "y", Action::Regular(set(alloc, &[1])?))?;
+    let mut reads = Vec::new(alloc);
+    let at = location(alloc, "s")?;
+    reads.push(Named { at, number: 0 })?;
+    Ok(Event {
+        agent: 0,
+        call: Call::Fire {
+            reads: Items::new(reads),
+            instrs,
+        },
+        answer: Answer::Fire(Reply::Fired(1)),
+    })
+}
+
+/// The history of which `BLOCKS` is the journal.
+fn blocks(alloc: Global) -> Result<History, Fail> {
+    let mut init = PlainState::new(alloc);
+    init.set(location(alloc, "s")?, set(alloc, &[])?)?;
+    let mut events = Vec::new(alloc);
+    events.push(read(alloc)?)?;
+    events.push(fire(alloc)?)?;
+    Ok(History {
+        init,
+        capacity: 4096,
+        agents: 1,
+        events: Items::new(events),
+    })
+}
+
+/// Whether the history fits a journal and is written as this text.
+fn is_written(alloc: Global, history: &History, text: &str) -> Result<bool, AllocError> {
+    Ok(history.fits() && to_text(alloc, history)?.as_str() == text)
+}
+
+/// Whether the text is read as this history.
+fn is_read(alloc: Global, text: &str, history: &History) -> Result<bool, JournalError> {
+    Ok(from_text(alloc, text.as_bytes())? == *history)
+}
+
+/// Whether the text is read as a history that is judged so, and is written as the same text.
+fn goes_both_ways(alloc: Global, text: &str, told: Legality) -> Result<bool, JournalError> {
+    let history = from_text(alloc, text.as_bytes())?;
+    Ok(check(alloc, &standard(), &history)? == told && is_written(alloc, &history, text)?)
 }
 
 #[test]
-fn histories_are_written_and_read(rt: HostRuntime) -> Result<(), Fail> {
-    for sample in samples() {
-        assert!(rt; goes_both_ways(rt.alloc(), sample)?, "{}", sample.text);
-    }
+fn a_history_is_written_and_read(rt: HostRuntime) -> Result<(), Fail> {
+    let alloc = rt.alloc();
+    let history = blocks(alloc)?;
+    assert!(rt; is_written(alloc, &history, BLOCKS)?);
+    assert!(rt; is_read(alloc, BLOCKS, &history)?);
     Ok(())
 }
 
 #[test]
-fn every_cut_is_told(rt: HostRuntime) {
+fn journals_are_read_judged_and_written(rt: HostRuntime) -> Result<(), Fail> {
+    for (text, told) in [
+        (BLOCKS, Legality::Legal { calls: 2, moves: 1 }),
+        (AGENTS, Legality::Legal { calls: 2, moves: 2 }),
+        (SAME_VALUE, Legality::Legal { calls: 3, moves: 1 }),
+    ] {
+        assert!(rt; goes_both_ways(rt.alloc(), text, told)?, "{text}");
+    }
+    Ok(())
+}
+
+/// The first fault of a text, or none.
+fn fault_of(alloc: Global, text: &[u8]) -> Result<Option<JournalError>, AllocError> {
+    match from_text(alloc, text) {
+        Ok(_) => Ok(None),
+        Err(JournalError::Memory) => Err(AllocError),
+        Err(fault) => Ok(Some(fault)),
+    }
+}
+
+#[test]
+fn every_cut_is_told(rt: HostRuntime) -> Result<(), Fail> {
     let bytes = BLOCKS.as_bytes();
     let mut line = 1u64;
     let mut inside = false;
@@ -239,14 +154,17 @@ fn every_cut_is_told(rt: HostRuntime) {
         } else {
             JournalError::Cut
         };
-        let found = from_text(rt.alloc(), &bytes[..index]).err();
-        assert!(rt; found == Some(want), "{index}");
+        assert!(rt;
+            fault_of(rt.alloc(), &bytes[..index])? == Some(want),
+            "{index}"
+        );
         inside = !ends;
         if ends {
             line = line.saturating_add(1);
         }
     }
     assert_eq!(rt; line, 4);
+    Ok(())
 }
 
 /// The first fault of a text of these lines, each with its line feed, and of what is behind them.
@@ -255,13 +173,13 @@ fn fault(
     header: &str,
     event: &str,
     rest: &str,
-) -> Result<Option<JournalError>, Fail> {
+) -> Result<Option<JournalError>, AllocError> {
     let mut text = String::from_str(alloc, header)?;
     text.push_str("\n")?;
     text.push_str(event)?;
     text.push_str("\n")?;
     text.push_str(rest)?;
-    Ok(from_text(alloc, text.as_str().as_bytes()).err())
+    fault_of(alloc, text.as_str().as_bytes())
 }
 
 const HEADER: &str = r#"{"agents":2,"capacity":8,"events":1,"init":[],"version":1}"#;
@@ -353,6 +271,10 @@ fn faults_of_headers(rt: HostRuntime) -> Result<(), Fail> {
             r#"{"agents":2,"capacity":8,"events":2,"init":[],"version":1}"#,
             Some(JournalError::Cut),
         ),
+        (
+            r#"{"agents":2,"capacity":8,"events":4294967295,"init":[],"version":1}"#,
+            Some(JournalError::Cut),
+        ),
         ("[1]", shape),
         ("", not_json),
         ("[1e999]", not_json),
@@ -418,7 +340,7 @@ fn faults_of_further_lines(rt: HostRuntime) -> Result<(), Fail> {
         );
         let mut text = String::from_str(alloc, BLOCKS)?;
         text.push_str(rest)?;
-        let found = from_text(alloc, text.as_str().as_bytes()).err();
+        let found = fault_of(alloc, text.as_str().as_bytes())?;
         assert!(rt; found == Some(JournalError::Shape(4)), "{rest}");
     }
     Ok(())
@@ -438,8 +360,24 @@ fn lines_nest_to_127(rt: HostRuntime) -> Result<(), Fail> {
             text.push_str("]")?;
         }
         text.push_str("\n")?;
-        let found = from_text(rt.alloc(), text.as_str().as_bytes()).err();
+        let found = fault_of(rt.alloc(), text.as_str().as_bytes())?;
         assert!(rt; found == Some(want), "{depth}");
     }
+    Ok(())
+}
+
+#[test]
+fn errors_have_their_texts(rt: HostRuntime) -> Result<(), Fail> {
+    for (error, want) in [
+        (JournalError::NotJson(1), "line 1 is not JSON"),
+        (JournalError::Shape(3), "line 3 has a wrong shape"),
+        (JournalError::Version, "the version is not 1"),
+        (JournalError::Cut, "the journal is cut"),
+        (JournalError::Memory, "out of memory"),
+    ] {
+        assert!(rt; error.to_string(rt.alloc())?.as_str() == want, "{want}");
+    }
+    let output = WriteError::Output { written: 5 }.to_string(rt.alloc())?;
+    assert!(rt; output.as_str() == "the output failed after 5 bytes");
     Ok(())
 }

@@ -7,7 +7,7 @@ ghost use Rattle.asm_storage.specs.declared.history.History.{History as Log};
 ghost use Rattle.asm_journal.specs.Text.{text_of};
 ghost use Rattle.asm_journal.specs.Proper.{IsProper, IsProperNamed, IsProperCall, IsProperAnswer, IsProperEvent};
 ghost use Rattle.asm_journal.specs.Reading.{ReadsAs};
-ghost use Rattle.asm_journal.specs.Fault.{RefusedReadsAsNone, OneFault};
+ghost use Rattle.asm_journal.specs.Fault.{RefusedReadsAsNone, OneFault, SomeFault};
 ghost use Rattle.asm_journal.specs.Laws.{TextReadsBack, OneReading};
 
 use asm_element::{Location, Value};
@@ -29,9 +29,10 @@ pub fn refused_reads_as_none()
     ensures { RefusedReadsAsNone }
 {}
 
-/// A text has one first fault at most, want of memory aside.
+/// A text has one first fault at most, want of memory aside, and has one where it reads as no history.
 pub fn one_fault()
-    ensures { OneFault }
+    ensures one { OneFault }
+    ensures some { SomeFault }
 {}
 
 /// Does nothing; its contract tells that a location which a program holds is proper.

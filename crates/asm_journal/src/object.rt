@@ -1,5 +1,5 @@
 //! JSON objects with fixed keys.
-ghost use Rattle.std.specs.Prelude.{◌≡◌, ◌≢◌, IfOk, IfSome, IfNone};
+ghost use Rattle.std.specs.Prelude.{◌≡◌, ◌≢◌, ◌↔◌, IsTrue, IfOk, IfSome, IfNone};
 ghost use Rattle.serde_json.specs.Data.{Data, Members, object, member, no_members};
 ghost use Rattle.serde_json.specs.View.{view, members_view};
 ghost use Rattle.asm_journal.specs.Shape.{one_of, two_of, three_of};
@@ -8,6 +8,14 @@ use serde_json::{Map, Value as Json};
 use std::alloc::{AllocError, Global};
 use std::collections::btree_map::Iter;
 
+/// The members of an object, in the order of their keys.
+fn members_in<'v>(json: &'v Json) -> Option<Iter<'v, String, Json>>
+    ensures some { IfSome result (λ members. view json.now ≡ object (members_view members)) }
+    ensures none { IfNone result ((ms : Members) → view json.now ≢ object ms) }
+{
+    Some(json.as_object()?.iter())
+}
+
 /// The value of the next member in the order of the keys, where its key is this one.
 pub(crate) fn next_member<'v>(members: &mut Iter<'v, String, Json>, key: &str) -> Option<&'v Json>
     ensures some { IfSome result
@@ -15,10 +23,19 @@ pub(crate) fn next_member<'v>(members: &mut Iter<'v, String, Json>, key: &str) -
     ensures none { IfNone result
         ((d : Data) (ms : Members) → members_view members.old ≢ member key.now d ms) }
 {
-    match members.next() {
-        Some((name, value)) if name.as_str() == key => Some(value),
-        _ => None,
+    let (name, value) = members.next()?;
+    if name.as_str() == key {
+        Some(value)
+    } else {
+        None
     }
+}
+
+/// Whether there is no further member.
+fn is_end(members: &mut Iter<'_, String, Json>) -> bool
+    ensures { IsTrue result ↔ (members_view members.old ≡ no_members) }
+{
+    members.next().is_none()
 }
 
 /// The value of an object that has just this key.
@@ -26,11 +43,12 @@ pub(crate) fn member_of<'v>(json: &'v Json, key: &str) -> Option<&'v Json>
     ensures some { IfSome result (λ m. view json.now ≡ one_of key.now (view m.now)) }
     ensures none { IfNone result ((d : Data) → view json.now ≢ one_of key.now d) }
 {
-    let mut members = json.as_object()?.iter();
+    let mut members = members_in(json)?;
     let value = next_member(&mut members, key)?;
-    match members.next() {
-        None => Some(value),
-        Some(_) => None,
+    if is_end(&mut members) {
+        Some(value)
+    } else {
+        None
     }
 }
 
@@ -42,12 +60,13 @@ pub fn two_members<'v>(json: &'v Json, first: &str, second: &str) -> Option<(&'v
         (λ m. view json.now ≡ two_of first.now (view m.0.now) second.now (view m.1.now)) }
     ensures none { IfNone result ((a b : Data) → view json.now ≢ two_of first.now a second.now b) }
 {
-    let mut members = json.as_object()?.iter();
+    let mut members = members_in(json)?;
     let a = next_member(&mut members, first)?;
     let b = next_member(&mut members, second)?;
-    match members.next() {
-        None => Some((a, b)),
-        Some(_) => None,
+    if is_end(&mut members) {
+        Some((a, b))
+    } else {
+        None
     }
 }
 
@@ -72,13 +91,14 @@ pub(crate) fn three_members<'v>(
     ensures none { IfNone result ((a b c : Data)
         → view json.now ≢ three_of first.now a second.now b third.now c) }
 {
-    let mut members = json.as_object()?.iter();
+    let mut members = members_in(json)?;
     let a = next_member(&mut members, first)?;
     let b = next_member(&mut members, second)?;
     let c = next_member(&mut members, third)?;
-    match members.next() {
-        None => Some((a, b, c)),
-        Some(_) => None,
+    if is_end(&mut members) {
+        Some((a, b, c))
+    } else {
+        None
     }
 }
 
@@ -99,14 +119,15 @@ pub(crate) fn five_members<'v>(
         ≢ object (member first.now d1 (member second.now d2
         (member third.now d3 (member fourth.now d4 (member fifth.now d5 no_members)))))) }
 {
-    let mut members = json.as_object()?.iter();
+    let mut members = members_in(json)?;
     let a = next_member(&mut members, first)?;
     let b = next_member(&mut members, second)?;
     let c = next_member(&mut members, third)?;
     let d = next_member(&mut members, fourth)?;
     let e = next_member(&mut members, fifth)?;
-    match members.next() {
-        None => Some((a, b, c, d, e)),
-        Some(_) => None,
+    if is_end(&mut members) {
+        Some((a, b, c, d, e))
+    } else {
+        None
     }
 }

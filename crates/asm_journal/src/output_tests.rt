@@ -1,8 +1,10 @@
 //! Journals on outputs that take all, a part, or nothing.
 ghost use Rattle.std.specs.Prelude.{Some};
 
-use crate::journal_tests::{BLOCKS, history, samples};
+use crate::journal_tests::BLOCKS;
 use crate::*;
+use asm_storage::History;
+use std::alloc::{AllocError, Global};
 use std::io;
 use std::io::{ErrorKind, Write};
 use std::test::Fail;
@@ -36,12 +38,36 @@ impl Write for Short {
     }
 }
 
+/// An output with so much room, and memory for it.
+fn with_room(alloc: Global, room: usize, most: usize, fails: bool) -> Result<Short, AllocError> {
+    let taken = Vec::with_capacity(alloc, room)?;
+    Ok(Short {
+        taken,
+        room,
+        most,
+        fails,
+    })
+}
+
+/// Whether the journal of the history goes out as far as there is room, and this is told.
+fn goes_out(alloc: Global, out: &mut Short, history: &History) -> Result<bool, AllocError> {
+    if !history.fits() {
+        return Ok(false);
+    }
+    let room = out.room;
+    let whole = BLOCKS.len();
+    let told = match write_text(alloc, out, history) {
+        Ok(()) => whole <= room,
+        Err(WriteError::Output { written }) => room < whole && written == room as u64,
+        Err(WriteError::Memory) => return Err(AllocError),
+    };
+    Ok(told && out.taken.as_slice() == &BLOCKS.as_bytes()[..room.min(whole)])
+}
+
 #[test]
 fn what_went_out_is_told(rt: HostRuntime) -> Result<(), Fail> {
     let alloc = rt.alloc();
-    let [sample, _, _] = samples();
-    let history = history(alloc, sample)?;
-    assert!(rt; history.fits());
+    let history = from_text(alloc, BLOCKS.as_bytes())?;
     let whole = BLOCKS.len();
     for (room, most, fails) in [
         (0, 1, true),
@@ -54,25 +80,8 @@ fn what_went_out_is_told(rt: HostRuntime) -> Result<(), Fail> {
         (whole, 7, true),
         (whole, 4096, false),
     ] {
-        let taken = Vec::new(alloc);
-        let mut out = Short {
-            taken,
-            room,
-            most,
-            fails,
-        };
-        let want = if room < whole {
-            Err(WriteError::Output {
-                written: room as u64,
-            })
-        } else {
-            Ok(())
-        };
-        assert!(rt; write_text(alloc, &mut out, &history) == want, "{room}");
-        assert!(rt;
-            out.taken.as_slice() == &BLOCKS.as_bytes()[..room],
-            "{room}"
-        );
+        let mut out = with_room(alloc, room, most, fails)?;
+        assert!(rt; goes_out(alloc, &mut out, &history)?, "{room}");
     }
     Ok(())
 }

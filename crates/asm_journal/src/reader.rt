@@ -2,6 +2,7 @@
 ghost use Rattle.std.specs.Prelude.{◌≡◌, ◌<◌, ◌+◌, ◌↔◌, ℕ, List, length, IsTrue, IfOk, IfErr, IfSome, IfNone};
 ghost use Rattle.serde_json.specs.Data.{Data};
 ghost use Rattle.serde_json.specs.View.{view};
+ghost use Rattle.asm_storage.specs.History.{Fits};
 ghost use Rattle.asm_storage.specs.declared.history.Event.{Event as Item};
 ghost use Rattle.asm_storage.specs.declared.history.History.{History as Log};
 ghost use Rattle.asm_journal.specs.Shape.{Reads};
@@ -168,12 +169,15 @@ fn read_journal(alloc: Global, bytes: &[u8]) -> Result<History, JournalError>
 /// a text that ends before its last line feed is `Cut`; a line is tested for JSON, then for its line
 /// feed, and then for its shape; the header's version comes before its shape. A byte behind the last
 /// line is the wrong shape of one line more. `Memory` comes only where memory was refused. It costs one
-/// pass over the text, and no memory is reserved by the numbers that the header says.
+/// pass over the text, and no memory is reserved by the numbers that the header says. A history that was
+/// read fits a journal, so it may be written as one.
 pub fn from_text(alloc: Global, bytes: &[u8]) -> Result<History, JournalError>
     ensures ok { IfOk result (ReadsAs bytes.now) }
     ensures err { IfErr result (IsRefused bytes.now) }
     // What reads as a history is answered so, unless memory runs out.
     ensures only { (h : Log) → ReadsAs bytes.now h → IsAnswer h result }
+    // What was read may be written.
+    ensures fits { IfOk result Fits }
 {
     read_journal(alloc, bytes)
 }

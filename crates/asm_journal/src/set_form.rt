@@ -2,7 +2,8 @@
 ghost use Rattle.std.specs.Prelude.{◌≡◌, IfOk, map, option_map};
 ghost use Rattle.serde_json.specs.View.{view, items_view};
 ghost use Rattle.asm_journal.specs.Shape.{Reads};
-ghost use Rattle.asm_journal.specs.Set.{count_json_of, set_json_of, bag_json_of, IsSetOf, IsSetForm, IsAmountForm, IsCounted, IsCountForm, IsBagOf, IsBagForm};
+ghost use Rattle.asm_journal.specs.Set.{count_json_of, set_json_of, bag_json_of, IsSetOf, IsSetForm};
+ghost use Rattle.asm_journal.specs.Set.{IsAmountForm, IsCounted, IsCountForm, IsBagOf, IsBagForm};
 
 use crate::array::{FromJson, ToJson, array_of, pair_of, two_of};
 use crate::listed::Listed;

@@ -2,123 +2,224 @@ use crate::*;
 use asm_element::{Element, Location, Value};
 use asm_update::{Lookup, PlainState, UpdateSet};
 use std::alloc::Global;
+use std::process::Abort;
 use std::test::Fail;
+
+/// A number, or undef, at the location of this name.
+#[derive(Clone, Copy)]
+struct Put(&'static str, Option<i64>);
+
+/// What is done with an overlay, and what comes of it.
+#[derive(Clone, Copy)]
+enum Step {
+    /// A frame is put on top of the others.
+    Push(Put),
+    /// A frame is handed back, as there are 64.
+    Deep(Put),
+    /// The topmost frame is this one.
+    Pop(Put),
+    /// There is no frame.
+    Empty,
+    /// There are so many frames.
+    Depth(usize),
+    /// The frames have this value.
+    Held(Put),
+    /// No frame has the location.
+    Below(&'static str),
+}
 
 fn location(alloc: Global, name: &str) -> Result<Location, Fail> {
     Ok(Location::new(String::from_str(alloc, name)?, Vec::new(alloc))?)
 }
 
-fn number(n: i64) -> Value {
-    Value::Plain(Element::Num(n))
+fn value(number: Option<i64>) -> Value {
+    match number {
+        Some(n) => Value::Plain(Element::Num(n)),
+        None => Value::Plain(Element::Undef),
+    }
 }
 
-fn frame(alloc: Global, name: &str, value: Value) -> Result<UpdateSet, Fail> {
+fn frame(alloc: Global, put: Put) -> Result<UpdateSet, Fail> {
     let mut updates = UpdateSet::new(alloc);
-    updates.put(location(alloc, name)?, value)?;
+    updates.put(location(alloc, put.0)?, value(put.1))?;
     Ok(updates)
 }
 
-fn value_in<L: Lookup>(alloc: Global, lookup: &L, name: &str) -> Result<Option<Value>, Fail> {
-    match lookup.get(&location(alloc, name)?) {
-        Some(value) => Ok(Some(value.copy(alloc)?)),
-        None => Ok(None),
+fn pushes(alloc: Global, overlay: &mut Overlay, put: Put) -> Result<bool, Fail> {
+    overlay.push(frame(alloc, put)?)?;
+    Ok(true)
+}
+
+fn is_deep(alloc: Global, overlay: &mut Overlay, put: Put) -> Result<bool, Fail> {
+    let copy = frame(alloc, put)?;
+    Ok(overlay.push(frame(alloc, put)?) == Err(OverlayError::Deep(copy)))
+}
+
+fn pops(alloc: Global, overlay: &mut Overlay, put: Put) -> Result<bool, Fail> {
+    let topmost = frame(alloc, put)?;
+    Ok(overlay.pop() == Some(topmost))
+}
+
+fn holds(alloc: Global, overlay: &Overlay, put: Put) -> Result<bool, Fail> {
+    let at = location(alloc, put.0)?;
+    Ok(match overlay.get(&at) {
+        Seen::Held(held) => *held == value(put.1),
+        Seen::Below => false,
+    })
+}
+
+fn is_below(alloc: Global, overlay: &Overlay, name: &str) -> Result<bool, Fail> {
+    let at = location(alloc, name)?;
+    Ok(overlay.get(&at) == Seen::Below)
+}
+
+fn takes(alloc: Global, overlay: &mut Overlay, step: Step) -> Result<bool, Fail> {
+    match step {
+        Step::Push(put) => pushes(alloc, overlay, put),
+        Step::Deep(put) => is_deep(alloc, overlay, put),
+        Step::Pop(put) => pops(alloc, overlay, put),
+        Step::Empty => Ok(overlay.pop().is_none()),
+        Step::Depth(depth) => Ok(overlay.depth() == depth),
+        Step::Held(put) => holds(alloc, overlay, put),
+        Step::Below(name) => is_below(alloc, overlay, name),
     }
 }
 
-#[test]
-fn the_65th_frame_is_handed_back(rt: HostRuntime) -> Result<(), Fail> {
-    let alloc = rt.alloc();
+fn play<R: Abort>(
+    rt: &R,
+    alloc: Global,
+    overlay: &mut Overlay,
+    steps: &[Step],
+) -> Result<(), Fail> {
+    for (k, step) in steps.iter().enumerate() {
+        assert!(rt; takes(alloc, overlay, *step)?, "at step {k}");
+    }
+    Ok(())
+}
+
+/// An overlay with 64 frames.
+fn full(alloc: Global) -> Result<Overlay, Fail> {
     let mut overlay = Overlay::new(alloc);
     for n in 0..64 {
-        overlay.push(frame(alloc, "x", number(n))?)?;
+        pushes(alloc, &mut overlay, Put("x", Some(n)))?;
     }
-    assert_eq!(rt; overlay.depth(), 64);
-    let refused = overlay.push(frame(alloc, "x", number(64))?);
-    assert_eq!(rt;
-        refused,
-        Err(OverlayError::Deep(frame(alloc, "x", number(64))?))
-    );
-    assert_eq!(rt; overlay.depth(), 64);
-    assert_eq!(rt; overlay.pop(), Some(frame(alloc, "x", number(63))?));
-    assert_eq!(rt; overlay.depth(), 63);
-    overlay.push(frame(alloc, "x", number(64))?)?;
-    assert_eq!(rt; overlay.depth(), 64);
-    Ok(())
+    Ok(overlay)
+}
+
+static AT_64_FRAMES: [Step; 7] = [
+    Step::Depth(64),
+    Step::Deep(Put("x", Some(64))),
+    Step::Depth(64),
+    Step::Pop(Put("x", Some(63))),
+    Step::Depth(63),
+    Step::Push(Put("x", Some(64))),
+    Step::Depth(64),
+];
+
+#[test]
+fn the_65th_frame_is_handed_back(rt: HostRuntime) -> Result<(), Fail> {
+    let mut overlay = full(rt.alloc())?;
+    play(&rt, rt.alloc(), &mut overlay, &AT_64_FRAMES)
+}
+
+/// Whether the frame is put on top, or, where memory was refused, is handed back, with as many frames as before.
+fn is_handed_back(alloc: Global, overlay: &mut Overlay, put: Put) -> Result<bool, Fail> {
+    let copy = frame(alloc, put)?;
+    let depth = overlay.depth();
+    Ok(match overlay.push(frame(alloc, put)?) {
+        Ok(()) => overlay.depth() == depth + 1,
+        Err(OverlayError::Memory(back)) => back == copy && overlay.depth() == depth,
+        Err(OverlayError::Deep(_back)) => false,
+    })
 }
 
 #[test]
 fn a_frame_that_finds_no_memory_is_handed_back(rt: HostRuntime) -> Result<(), Fail> {
-    let alloc = rt.alloc();
-    let mut overlay = Overlay::new(alloc);
+    let mut overlay = Overlay::new(rt.alloc());
     for n in 0..9 {
-        if let Err(refused) = overlay.push(frame(alloc, "x", number(n))?) {
-            assert_eq!(rt;
-                refused,
-                OverlayError::Memory(frame(alloc, "x", number(n))?)
-            );
-            assert_eq!(rt; overlay.depth() as i64, n);
-            return Ok(());
-        }
+        assert!(rt; is_handed_back(rt.alloc(), &mut overlay, Put("x", Some(n)))?);
     }
-    assert_eq!(rt; overlay.depth(), 9);
     Ok(())
 }
 
+static TOPMOST: [Step; 12] = [
+    Step::Empty,
+    Step::Below("x"),
+    Step::Push(Put("x", Some(1))),
+    Step::Push(Put("x", Some(2))),
+    Step::Push(Put("y", Some(3))),
+    Step::Held(Put("x", Some(2))),
+    Step::Held(Put("y", Some(3))),
+    Step::Below("z"),
+    Step::Pop(Put("y", Some(3))),
+    Step::Pop(Put("x", Some(2))),
+    Step::Held(Put("x", Some(1))),
+    Step::Below("y"),
+];
+
 #[test]
 fn the_topmost_frame_wins(rt: HostRuntime) -> Result<(), Fail> {
-    let alloc = rt.alloc();
-    let x = location(alloc, "x")?;
+    let mut overlay = Overlay::new(rt.alloc());
+    play(&rt, rt.alloc(), &mut overlay, &TOPMOST)
+}
+
+fn state_of(alloc: Global, puts: &[Put]) -> Result<PlainState, Fail> {
+    let mut state = PlainState::new(alloc);
+    for put in puts {
+        state.set(location(alloc, put.0)?, value(put.1))?;
+    }
+    Ok(state)
+}
+
+/// An overlay with a frame for each put.
+fn overlay_of(alloc: Global, puts: &[Put]) -> Result<Overlay, Fail> {
     let mut overlay = Overlay::new(alloc);
-    assert!(rt; overlay.pop().is_none());
-    assert_eq!(rt; overlay.get(&x), Seen::Below);
-    overlay.push(frame(alloc, "x", number(1))?)?;
-    overlay.push(frame(alloc, "x", number(2))?)?;
-    overlay.push(frame(alloc, "y", number(3))?)?;
-    assert_eq!(rt; overlay.get(&x), Seen::Held(&number(2)));
-    assert_eq!(rt; overlay.get(&location(alloc, "y")?), Seen::Held(&number(3)));
-    assert_eq!(rt; overlay.get(&location(alloc, "z")?), Seen::Below);
-    overlay.pop();
-    overlay.pop();
-    assert_eq!(rt; overlay.get(&x), Seen::Held(&number(1)));
-    Ok(())
+    for put in puts {
+        pushes(alloc, &mut overlay, *put)?;
+    }
+    Ok(overlay)
+}
+
+fn gives<L: Lookup>(
+    alloc: Global,
+    lookup: &L,
+    name: &str,
+    number: Option<i64>,
+) -> Result<bool, Fail> {
+    let at = location(alloc, name)?;
+    Ok(match lookup.get(&at) {
+        Some(held) => number.is_some() && *held == value(number),
+        None => number.is_none(),
+    })
 }
 
 #[test]
 fn undef_in_a_frame_hides_the_value_below(rt: HostRuntime) -> Result<(), Fail> {
     let alloc = rt.alloc();
-    let mut state = PlainState::new(alloc);
-    state.set(location(alloc, "x")?, number(1))?;
-    state.set(location(alloc, "y")?, number(2))?;
-    let mut overlay = Overlay::new(alloc);
-    overlay.push(frame(alloc, "x", Value::Plain(Element::Undef))?)?;
-    assert_eq!(rt;
-        overlay.get(&location(alloc, "x")?),
-        Seen::Held(&Value::Plain(Element::Undef))
-    );
+    let state = state_of(alloc, &[Put("x", Some(1)), Put("y", Some(2))])?;
+    let overlay = overlay_of(alloc, &[Put("x", None)])?;
+    assert!(rt; holds(alloc, &overlay, Put("x", None))?);
     let over = Over::new(&overlay, &state);
-    assert_eq!(rt; value_in(alloc, &over, "x")?, None);
-    assert_eq!(rt; value_in(alloc, &over, "y")?, Some(number(2)));
-    assert_eq!(rt; value_in(alloc, &over, "z")?, None);
+    assert!(rt; gives(alloc, &over, "x", None)?);
+    assert!(rt; gives(alloc, &over, "y", Some(2))?);
+    assert!(rt; gives(alloc, &over, "z", None)?);
     Ok(())
 }
 
 #[test]
 fn an_overlay_stands_over_another(rt: HostRuntime) -> Result<(), Fail> {
     let alloc = rt.alloc();
-    let mut state = PlainState::new(alloc);
-    state.set(location(alloc, "x")?, number(1))?;
-    state.set(location(alloc, "y")?, number(2))?;
-    state.set(location(alloc, "z")?, number(3))?;
-    let mut lower = Overlay::new(alloc);
-    lower.push(frame(alloc, "x", number(4))?)?;
-    lower.push(frame(alloc, "y", number(5))?)?;
-    let mut upper = Overlay::new(alloc);
-    upper.push(frame(alloc, "y", number(6))?)?;
+    let state = state_of(
+        alloc,
+        &[Put("x", Some(1)), Put("y", Some(2)), Put("z", Some(3))],
+    )?;
+    let lower = overlay_of(alloc, &[Put("x", Some(4)), Put("y", Some(5))])?;
+    let upper = overlay_of(alloc, &[Put("y", Some(6))])?;
     let below = Over::new(&lower, &state);
     let over = Over::new(&upper, &below);
-    assert_eq!(rt; value_in(alloc, &over, "x")?, Some(number(4)));
-    assert_eq!(rt; value_in(alloc, &over, "y")?, Some(number(6)));
-    assert_eq!(rt; value_in(alloc, &over, "z")?, Some(number(3)));
-    assert_eq!(rt; value_in(alloc, &below, "y")?, Some(number(5)));
+    assert!(rt; gives(alloc, &over, "x", Some(4))?);
+    assert!(rt; gives(alloc, &over, "y", Some(6))?);
+    assert!(rt; gives(alloc, &over, "z", Some(3))?);
+    assert!(rt; gives(alloc, &below, "y", Some(5))?);
     Ok(())
 }

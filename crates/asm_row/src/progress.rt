@@ -1,4 +1,5 @@
-ghost use Rattle.std.specs.Prelude.{◌≡◌, ◌+◌, ◌-◌, ◌^◌, ◌<◌, ◌≤◌, ◌∷◌, ◌++◌, [], length, max, min, slice_get, IfOk, IsOk, IfSome, IfNone, IsNone, IsSome, MatchBool};
+ghost use Rattle.std.specs.Prelude.{◌≡◌, ◌+◌, ◌-◌, ◌^◌, ◌<◌, ◌≤◌, ◌∷◌, ◌++◌, [], length, max, min, slice_get};
+ghost use Rattle.std.specs.Prelude.{IfOk, IsOk, IfSome, IfNone, IsNone, IsSome, MatchBool};
 ghost use mathlib.Core.List.{IsPrefix};
 ghost use Rattle.std.specs.declared.option.Option.TheVariants.{None, Some};
 ghost use Rattle.once_cell.specs.Once.{cell_name};

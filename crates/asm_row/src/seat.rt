@@ -1,4 +1,5 @@
-ghost use Rattle.std.specs.Prelude.{◌≡◌, ◌+◌, ◌-◌, ◌^◌, ◌<◌, ◌≤◌, ◌∷◌, ◌++◌, [], length, map, max, min, slice_get, All, Contains, IfOk, IsOk, IfSome, IfNone, IsNone, MatchBool};
+ghost use Rattle.std.specs.Prelude.{◌≡◌, ◌+◌, ◌-◌, ◌^◌, ◌<◌, ◌≤◌, ◌∷◌, ◌++◌, [], length, map, max, min};
+ghost use Rattle.std.specs.Prelude.{slice_get, All, Contains, IfOk, IsOk, IfSome, IfNone, IsNone, MatchBool};
 ghost use mathlib.Core.List.{IsPrefix};
 ghost use Rattle.asm_row.specs.Offer.{IfWon, IfLost};
 

@@ -1,4 +1,4 @@
-ghost use Rattle.std.specs.Prelude.{◌≡◌, [], length, IfOk};
+ghost use Rattle.std.specs.Prelude.{◌≡◌, [], All, IfOk};
 
 use crate::{Mark, Offer, Progress, Row, RowError, Seat};
 use std::alloc::{AllocError, Global};
@@ -17,19 +17,11 @@ fn capacities_out_of_range_are_refused(rt: HostRuntime) {
     }
 }
 
-fn row_of<T: Drop>(rt: &impl Abort, alloc: Global, capacity: u32) -> Row<T>
-    ensures { length result ≡ capacity }
-{
-    match Row::new(alloc, capacity) {
-        Ok(row) => row,
-        Err(_) => panic!(rt; "no row"),
-    }
-}
-
 #[test]
-fn largest_row_is_made(rt: HostRuntime) {
-    let row: Row<char> = row_of(&rt, rt.alloc(), 1_048_576);
+fn largest_row_is_made(rt: HostRuntime) -> Result<(), Fail> {
+    let row: Row<char> = Row::new(rt.alloc(), 1_048_576)?;
     assert!(rt; row.capacity() == 1_048_576);
+    Ok(())
 }
 
 #[test]
@@ -41,86 +33,223 @@ fn errors_have_their_texts(rt: HostRuntime) -> Result<(), Fail> {
     Ok(())
 }
 
-#[test]
-fn later_offer_is_lost_to_the_entry_that_stands(rt: HostRuntime) -> Result<(), Fail> {
-    let alloc = rt.alloc();
-    let row = row_of(&rt, alloc, 2);
-    assert!(rt; row.capacity() == 2);
-    let mut one = row.seat(alloc)?;
-    assert!(rt; one.seen_len() == 0 && one.won() == 0 && one.misses() == 0 && !one.is_full());
-    assert!(rt; one.offer(Box::new(alloc, 'p')?) == Offer::Won);
-    assert!(rt; one.seen_len() == 1 && one.won() == 1 && *one.at(0) == 'p');
-    let mut two = row.seat(alloc)?;
-    assert!(rt; two.offer(Box::new(alloc, 'q')?) == Offer::Lost(&'p'));
-    assert!(rt; two.seen_len() == 1 && two.won() == 0);
-    assert!(rt; two.next() == None && two.misses() == 1 && !two.is_full());
-    assert!(rt; two.offer(Box::new(alloc, 'q')?) == Offer::Won);
-    assert!(rt; two.is_full() && two.won() == 1 && two.misses() == 1);
-    Ok(())
+/// What a seat does, and what comes of it.
+#[derive(Clone, Copy)]
+enum Step {
+    /// It offers this entry, and wins.
+    Wins(char),
+    /// It offers the first entry, and the second stands there.
+    Loses(char, char),
+    /// It looks, and finds this entry, or nothing.
+    Looks(Option<char>),
+    /// It has won so many offers, found so many cells empty, and seen these entries.
+    Shows(u32, u64, &'static [char]),
+    /// It has seen an entry in each cell.
+    IsFull(bool),
 }
 
-// A row of two cells with 'p' and 'q'.
-fn full_row(rt: &impl Abort, alloc: Global) -> Result<Row<char>, AllocError>
-    ensures { IfOk result (λ row. length row ≡ 2) }
+/// One of three seats.
+#[derive(Clone, Copy)]
+enum Who {
+    A,
+    B,
+    C,
+}
+
+/// What three seats do at a row of this capacity.
+#[derive(Clone, Copy)]
+struct Case {
+    capacity: u32,
+    steps: &'static [(Who, Step)],
+}
+
+// Whether the offer wins, or is lost to the entry that is told to stand there.
+fn offers(
+    alloc: Global,
+    seat: &mut Seat<'_, char>,
+    entry: char,
+    standing: Option<char>,
+) -> Result<bool, AllocError>
+    ensures { seat.new.row ≡ seat.old.row }
 {
-    let row = row_of(rt, alloc, 2);
-    let mut progress = row.progress();
-    assert!(rt; progress.offer(&row, Box::new(alloc, 'p')?) == Offer::Won);
-    assert!(rt; progress.offer(&row, Box::new(alloc, 'q')?) == Offer::Won);
-    Ok(row)
+    if seat.is_full() {
+        return Ok(false);
+    }
+    let entry = Box::new(alloc, entry)?;
+    Ok(match seat.offer(entry) {
+        Offer::Won => standing.is_none(),
+        Offer::Lost(other) => standing == Some(*other),
+    })
 }
 
-#[test]
-fn seat_sees_each_entry_by_looks(rt: HostRuntime) -> Result<(), Fail> {
-    let alloc = rt.alloc();
-    let row = full_row(&rt, alloc)?;
-    let mut seat = row.seat(alloc)?;
-    assert!(rt; seat.next() == Some(&'p') && seat.next() == Some(&'q') && seat.next() == None);
-    assert!(rt; seat.is_full() && seat.misses() == 0);
+fn shows(seat: &Seat<'_, char>, entries: &[char]) -> bool {
+    if seat.seen_len() as usize != entries.len() {
+        return false;
+    }
+    for k in 0..seat.seen_len() {
+        if *seat.at(k) != entries[k as usize] {
+            return false;
+        }
+    }
+    true
+}
+
+fn takes(alloc: Global, seat: &mut Seat<'_, char>, step: Step) -> Result<bool, AllocError> {
+    match step {
+        Step::Wins(entry) => offers(alloc, seat, entry, None),
+        Step::Loses(entry, standing) => offers(alloc, seat, entry, Some(standing)),
+        Step::Looks(found) => Ok(seat.next().copied() == found),
+        Step::Shows(won, misses, entries) => {
+            Ok(seat.won() == won && seat.misses() == misses && shows(seat, entries))
+        }
+        Step::IsFull(is_full) => Ok(seat.is_full() == is_full),
+    }
+}
+
+#[derive(Drop)]
+struct Three<'r> {
+    a: Seat<'r, char>,
+    b: Seat<'r, char>,
+    c: Seat<'r, char>,
+}
+
+fn three_at(alloc: Global, row: &Row<char>) -> Result<Three<'_>, AllocError> {
+    Ok(Three {
+        a: row.seat(alloc)?,
+        b: row.seat(alloc)?,
+        c: row.seat(alloc)?,
+    })
+}
+
+impl Three<'_> {
+    fn take(&mut self, alloc: Global, who: Who, step: Step) -> Result<bool, AllocError> {
+        match who {
+            Who::A => takes(alloc, &mut self.a, step),
+            Who::B => takes(alloc, &mut self.b, step),
+            Who::C => takes(alloc, &mut self.c, step),
+        }
+    }
+
+    fn play(&mut self, rt: &impl Abort, alloc: Global, case: Case) -> Result<(), AllocError> {
+        for (k, (who, step)) in case.steps.iter().enumerate() {
+            assert!(rt; self.take(alloc, *who, *step)?, "at step {k}");
+        }
+        Ok(())
+    }
+}
+
+fn check(rt: &impl Abort, alloc: Global, case: Case) -> Result<(), Fail> {
+    let row = Row::new(alloc, case.capacity)?;
+    let mut three = three_at(alloc, &row)?;
+    three.play(rt, alloc, case)?;
     Ok(())
+}
+
+static OFFERS: [Case; 2] = [
+    Case {
+        capacity: 2,
+        steps: &[
+            (Who::A, Step::Shows(0, 0, &[])),
+            (Who::A, Step::IsFull(false)),
+            (Who::A, Step::Wins('p')),
+            (Who::A, Step::Shows(1, 0, &['p'])),
+            (Who::B, Step::Loses('q', 'p')),
+            (Who::B, Step::Shows(0, 0, &['p'])),
+            (Who::B, Step::Looks(None)),
+            (Who::B, Step::Shows(0, 1, &['p'])),
+            (Who::B, Step::IsFull(false)),
+            (Who::B, Step::Wins('q')),
+            (Who::B, Step::Shows(1, 1, &['p', 'q'])),
+            (Who::B, Step::IsFull(true)),
+        ],
+    },
+    Case {
+        capacity: 3,
+        steps: &[
+            (Who::A, Step::Wins('p')),
+            (Who::B, Step::Loses('q', 'p')),
+            (Who::C, Step::Looks(Some('p'))),
+            (Who::C, Step::Looks(None)),
+            (Who::C, Step::Wins('r')),
+            (Who::C, Step::Wins('s')),
+            (Who::C, Step::Shows(2, 1, &['p', 'r', 's'])),
+            (Who::A, Step::Looks(Some('r'))),
+            (Who::A, Step::Looks(Some('s'))),
+            (Who::A, Step::IsFull(true)),
+        ],
+    },
+];
+
+#[test]
+fn lost_offer_sets_no_cell(rt: HostRuntime) -> Result<(), Fail> {
+    for case in OFFERS {
+        check(&rt, rt.alloc(), case)?;
+    }
+    Ok(())
+}
+
+static LOOKS: [Case; 2] = [
+    Case {
+        capacity: 2,
+        steps: &[
+            (Who::A, Step::Wins('p')),
+            (Who::A, Step::Wins('q')),
+            (Who::B, Step::Looks(Some('p'))),
+            (Who::B, Step::Looks(Some('q'))),
+            (Who::B, Step::Looks(None)),
+            (Who::B, Step::Shows(0, 0, &['p', 'q'])),
+            (Who::B, Step::IsFull(true)),
+        ],
+    },
+    Case {
+        capacity: 3,
+        steps: &[
+            (Who::A, Step::Wins('p')),
+            (Who::A, Step::Wins('q')),
+            (Who::B, Step::Looks(Some('p'))),
+            (Who::B, Step::Looks(Some('q'))),
+            (Who::B, Step::Shows(0, 0, &['p', 'q'])),
+            (Who::B, Step::Looks(None)),
+            (Who::B, Step::Shows(0, 1, &['p', 'q'])),
+        ],
+    },
+];
+
+#[test]
+fn only_a_look_at_an_empty_cell_is_a_miss(rt: HostRuntime) -> Result<(), Fail> {
+    for case in LOOKS {
+        check(&rt, rt.alloc(), case)?;
+    }
+    Ok(())
+}
+
+fn has_learnt(seat: &Seat<'_, char>) -> bool {
+    shows(seat, &['p', 'q']) && seat.won() == 0 && seat.misses() == 0
+}
+
+// Whether the second seat has seen p and q once it has learnt a mark of the first, which has.
+fn teaches(
+    alloc: Global,
+    one: &Seat<'_, char>,
+    two: &mut Seat<'_, char>,
+) -> Result<bool, AllocError>
+    requires { one.now.row ≡ two.old.row }
+{
+    let mark = one.mark(alloc)?;
+    two.learn(&mark);
+    let len = mark.len();
+    let is_learnt = has_learnt(two);
+    Ok(is_learnt && len == 2)
 }
 
 #[test]
 fn seat_sees_each_entry_by_a_mark(rt: HostRuntime) -> Result<(), Fail> {
     let alloc = rt.alloc();
-    let row = full_row(&rt, alloc)?;
-    let mut two = row.seat(alloc)?;
-    assert!(rt; two.next() == Some(&'p') && two.next() == Some(&'q'));
-    let mark = two.mark(alloc)?;
-    assert!(rt; mark.len() == 2);
-    let mut three = row.seat(alloc)?;
-    three.learn(&mark);
-    assert!(rt; three.is_full() && *three.at(0) == 'p' && *three.at(1) == 'q');
-    assert!(rt; three.won() == 0 && three.misses() == 0);
-    Ok(())
-}
-
-#[test]
-fn only_a_look_at_an_empty_cell_is_a_miss(rt: HostRuntime) -> Result<(), Fail> {
-    let alloc = rt.alloc();
-    let row = row_of(&rt, alloc, 3);
+    let row = Row::new(alloc, 2)?;
     let mut one = row.seat(alloc)?;
-    assert!(rt; one.offer(Box::new(alloc, 'p')?) == Offer::Won);
-    assert!(rt; one.offer(Box::new(alloc, 'q')?) == Offer::Won);
+    assert!(rt; offers(alloc, &mut one, 'p', None)? && offers(alloc, &mut one, 'q', None)?);
     let mut two = row.seat(alloc)?;
-    assert!(rt; two.next() == Some(&'p') && two.next() == Some(&'q') && two.misses() == 0);
-    assert!(rt; two.next() == None && two.misses() == 1 && two.seen_len() == 2);
-    Ok(())
-}
-
-#[test]
-fn lost_offer_sets_no_cell(rt: HostRuntime) -> Result<(), Fail> {
-    let alloc = rt.alloc();
-    let row = row_of(&rt, alloc, 3);
-    let mut one = row.seat(alloc)?;
-    let mut two = row.seat(alloc)?;
-    assert!(rt; one.offer(Box::new(alloc, 'p')?) == Offer::Won);
-    assert!(rt; two.offer(Box::new(alloc, 'q')?) == Offer::Lost(&'p'));
-    let mut three = row.seat(alloc)?;
-    assert!(rt; three.next() == Some(&'p') && three.next() == None && three.misses() == 1);
-    assert!(rt; three.offer(Box::new(alloc, 'r')?) == Offer::Won);
-    assert!(rt; three.offer(Box::new(alloc, 's')?) == Offer::Won);
-    assert!(rt; one.next() == Some(&'r') && one.next() == Some(&'s') && one.is_full());
+    assert!(rt; teaches(alloc, &one, &mut two)? && two.is_full());
     Ok(())
 }
 
@@ -133,29 +262,77 @@ fn beside<T>(row: Row<T>) -> (Row<T>, Progress<T>)
     (row, progress)
 }
 
+// Whether the offer beside the row wins, or is lost to the entry that is told to stand there.
+fn offers_beside(
+    alloc: Global,
+    row: &Row<char>,
+    progress: &mut Progress<char>,
+    entry: char,
+    standing: Option<char>,
+) -> Result<bool, AllocError>
+    requires { row.now ≡ progress.old.row }
+    ensures { progress.new.row ≡ progress.old.row }
+{
+    if progress.is_full() {
+        return Ok(false);
+    }
+    let entry = Box::new(alloc, entry)?;
+    Ok(match progress.offer(row, entry) {
+        Offer::Won => standing.is_none(),
+        Offer::Lost(other) => standing == Some(*other),
+    })
+}
+
+// Whether a win and a loss beside a row of two cells are seen, and an empty cell is missed.
+fn follows_beside(
+    alloc: Global,
+    row: &Row<char>,
+    one: &mut Progress<char>,
+) -> Result<bool, AllocError>
+    requires { row.now ≡ one.old.row }
+{
+    let has_won = offers_beside(alloc, row, one, 'p', None)?;
+    let is_first = one.seen_len() == 1 && one.won() == 1 && *one.at(row, 0) == 'p';
+    let mut two = row.progress();
+    let has_lost = offers_beside(alloc, row, &mut two, 'q', Some('p'))?;
+    let misses = two.next(row) == None && two.misses() == 1 && !two.is_full();
+    Ok(has_won && is_first && has_lost && misses)
+}
+
 #[test]
 fn progress_lies_beside_its_row(rt: HostRuntime) -> Result<(), Fail> {
     let alloc = rt.alloc();
-    let (row, mut one) = beside(row_of(&rt, alloc, 2));
-    let mut two = row.progress();
-    assert!(rt; one.offer(&row, Box::new(alloc, 'p')?) == Offer::Won);
-    assert!(rt; one.seen_len() == 1 && one.won() == 1 && *one.at(&row, 0) == 'p');
-    assert!(rt; two.offer(&row, Box::new(alloc, 'q')?) == Offer::Lost(&'p'));
-    assert!(rt; two.next(&row) == None && two.misses() == 1 && !two.is_full());
+    let (row, mut one) = beside(Row::new(alloc, 2)?);
+    assert!(rt; follows_beside(alloc, &row, &mut one)?);
     Ok(())
+}
+
+// Whether each sees by a mark what the other has won.
+fn learn_from_each_other(
+    alloc: Global,
+    row: &Row<char>,
+    one: &mut Progress<char>,
+    two: &mut Seat<'_, char>,
+) -> Result<bool, AllocError>
+    requires one { row.now ≡ one.old.row }
+    requires two { row.now ≡ two.old.row }
+{
+    let first = offers_beside(alloc, row, one, 'p', None)?;
+    two.learn(&one.mark(alloc)?);
+    let learnt = two.seen_len() == 1;
+    let second = offers(alloc, two, 'q', None)?;
+    one.learn(&two.mark(alloc)?);
+    let both = one.seen_len() == 2 && one.is_full() && *one.at(row, 1) == 'q';
+    Ok(first && learnt && second && both && one.won() == 1)
 }
 
 #[test]
 fn progress_and_seat_learn_from_each_other(rt: HostRuntime) -> Result<(), Fail> {
     let alloc = rt.alloc();
-    let row = row_of(&rt, alloc, 2);
+    let row = Row::new(alloc, 2)?;
     let mut one = row.progress();
-    assert!(rt; one.offer(&row, Box::new(alloc, 'p')?) == Offer::Won);
     let mut two = row.seat(alloc)?;
-    two.learn(&one.mark(alloc)?);
-    assert!(rt; two.seen_len() == 1 && two.offer(Box::new(alloc, 'q')?) == Offer::Won);
-    one.learn(&two.mark(alloc)?);
-    assert!(rt; one.is_full() && *one.at(&row, 1) == 'q' && one.won() == 1);
+    assert!(rt; learn_from_each_other(alloc, &row, &mut one, &mut two)?);
     Ok(())
 }
 
@@ -228,42 +405,96 @@ fn agree(one: &Seat<'_, u32>, two: &Seat<'_, u32>) -> bool {
     true
 }
 
-// A seat that learns the marks of both, and one that learns from both, agree with each at every place.
+// A seat that has learnt a mark of each.
+fn learner_of_marks<'r>(
+    alloc: Global,
+    row: &'r Row<u32>,
+    one: &Seat<'_, u32>,
+    two: &Seat<'_, u32>,
+) -> Result<Seat<'r, u32>, AllocError>
+    requires one { one.now.row ≡ row.now }
+    requires two { two.now.row ≡ row.now }
+{
+    let mut seat = row.seat(alloc)?;
+    seat.learn(&one.mark(alloc)?);
+    seat.learn(&two.mark(alloc)?);
+    Ok(seat)
+}
+
+// A seat that has learnt from each.
+fn learner_of_seats<'r>(
+    alloc: Global,
+    row: &'r Row<u32>,
+    seats: &[Seat<'_, u32>],
+) -> Result<Seat<'r, u32>, AllocError>
+    requires { All (λ seat. seat.row ≡ row.now) seats.now }
+{
+    let mut seat = row.seat(alloc)?;
+    seat.learn_all(seats);
+    Ok(seat)
+}
+
+// Whether each entry is the one that the first thread offered for its place, or that the second did.
+fn is_by_either(seat: &Seat<'_, u32>) -> bool {
+    for k in 0..seat.seen_len() {
+        let first = seat.at(k).checked_sub(k);
+        if first != Some(1000) && first != Some(2000) {
+            return false;
+        }
+    }
+    true
+}
+
+fn agree_by_marks(one: &Seat<'_, u32>, two: &Seat<'_, u32>, learner: &Seat<'_, u32>) -> bool {
+    learner.is_full() && is_by_either(learner) && agree(learner, one) && agree(learner, two)
+}
+
+fn agree_by_seats(seats: &[Seat<'_, u32>], learner: &Seat<'_, u32>) -> bool {
+    for seat in seats {
+        if !agree(learner, seat) {
+            return false;
+        }
+    }
+    learner.won() == 0
+}
+
+// Whether a seat that learns the marks of both, and one that learns from both, agree with each at every place.
 fn learners_agree(
-    rt: &impl Abort,
     alloc: Global,
     row: &Row<u32>,
     one: Seat<'_, u32>,
     two: Seat<'_, u32>,
-) -> Result<(), AllocError>
+) -> Result<bool, AllocError>
     requires one { one.row ≡ row.now }
     requires two { two.row ≡ row.now }
 {
-    let mut three = row.seat(alloc)?;
-    let mark = one.mark(alloc)?;
-    cross_threads(row, &three, &mark);
-    cross_threads_with_any_entry(&mark, &row.progress());
-    three.learn(&mark);
-    three.learn(&two.mark(alloc)?);
-    assert!(rt; three.is_full() && agree(&three, &one) && agree(&three, &two));
-    let mut four = row.seat(alloc)?;
-    four.learn_all(&[one, two]);
-    assert!(rt; agree(&four, &three) && four.won() == 0);
-    for k in 0..three.seen_len() {
-        let first = three.at(k).checked_sub(k);
-        assert!(rt; first == Some(1000) || first == Some(2000), "at {k}");
-    }
-    Ok(())
+    let learner = learner_of_marks(alloc, row, &one, &two)?;
+    let by_marks = agree_by_marks(&one, &two, &learner);
+    let seats = [one, two];
+    let learner = learner_of_seats(alloc, row, &seats)?;
+    let by_seats = agree_by_seats(&seats, &learner);
+    Ok(by_marks && by_seats)
 }
 
 #[test]
 fn seats_of_two_threads_agree(rt: HostRuntime) -> Result<(), Fail> {
     let alloc = rt.alloc();
-    let row = row_of(&rt, alloc, 100);
+    let row = Row::new(alloc, 100)?;
     let wins = AtomicU32::new(0);
     let (one, two) = fill_by_two_threads(&rt, alloc, &row, &wins)?;
     assert!(rt; wins.load(SeqCst) == 100);
     assert!(rt; one.won().checked_add(two.won()) == Some(100));
-    learners_agree(&rt, alloc, &row, one, two)?;
+    assert!(rt; learners_agree(alloc, &row, one, two)?);
+    Ok(())
+}
+
+#[test]
+fn seats_and_marks_cross_threads(rt: HostRuntime) -> Result<(), Fail> {
+    let alloc = rt.alloc();
+    let row: Row<u32> = Row::new(alloc, 1)?;
+    let seat = row.seat(alloc)?;
+    let mark = seat.mark(alloc)?;
+    cross_threads(&row, &seat, &mark);
+    cross_threads_with_any_entry(&mark, &row.progress());
     Ok(())
 }

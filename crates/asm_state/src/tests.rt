@@ -1,7 +1,7 @@
 use crate::*;
 use asm_aggregate::standard;
 use asm_element::{Element, Location, Value};
-use asm_update::{Action, Cause, Clash, Instruction, Instructions, Lookup, PlainState, UpdateSet};
+use asm_update::{Action, Cause, Instruction, Instructions, Lookup, PlainState, UpdateSet};
 use std::alloc::Global;
 use std::process::Abort;
 use std::test::Fail;
@@ -56,12 +56,35 @@ fn played<R: Abort>(rt: &R, alloc: Global) -> Result<State, Fail> {
     Ok(state)
 }
 
-fn verdict(
-    alloc: Global,
-    state: &State,
-    reads: &[(&'static str, u32)],
-    puts: &[Put],
-) -> Result<Verdict, Fail> {
+/// What becomes of a move.
+#[derive(Clone, Copy)]
+enum Want {
+    Stale(&'static str),
+    /// Two values clash there.
+    Clash(&'static str),
+    /// It writes undef there, and nothing else.
+    Undef(&'static str),
+}
+
+fn is_undef_at(updates: &UpdateSet, name: &str) -> bool {
+    match updates.iter().next() {
+        Some((at, value)) => updates.len() == 1 && at.name() == name && value.is_undef(),
+        None => false,
+    }
+}
+
+fn is_wanted(verdict: &Verdict, want: Want) -> bool {
+    match (verdict, want) {
+        (Verdict::Stale(at), Want::Stale(name)) => at.name() == name,
+        (Verdict::Clash(clash), Want::Clash(name)) => {
+            clash.at.name() == name && clash.cause == Cause::Two
+        }
+        (Verdict::Ready(updates), Want::Undef(name)) => is_undef_at(updates, name),
+        _ => false,
+    }
+}
+
+fn named_of(alloc: Global, reads: &[(&'static str, u32)]) -> Result<Vec<Named>, Fail> {
     let mut named = Vec::new(alloc);
     for (name, number) in reads {
         let at = location(alloc, name)?;
@@ -70,8 +93,20 @@ fn verdict(
             number: *number,
         })?;
     }
+    Ok(named)
+}
+
+fn judges(
+    alloc: Global,
+    state: &State,
+    reads: &[(&'static str, u32)],
+    puts: &[Put],
+    want: Want,
+) -> Result<bool, Fail> {
+    let named = named_of(alloc, reads)?;
     let instructions = move_of(alloc, puts)?;
-    Ok(state.judge(alloc, &standard(), named.as_slice(), &instructions)?)
+    let verdict = state.judge(alloc, &standard(), named.as_slice(), &instructions)?;
+    Ok(is_wanted(&verdict, want))
 }
 
 /// Whether the state holds this number at the location, or nothing, since the move with that number.
@@ -84,14 +119,25 @@ fn holds(state: &State, at: &Location, number: Option<i64>, writer: u32) -> bool
     held && state.written_at(at) == writer
 }
 
+fn holds_at(
+    alloc: Global,
+    state: &State,
+    name: &str,
+    number: Option<i64>,
+    writer: u32,
+) -> Result<bool, Fail> {
+    let at = location(alloc, name)?;
+    Ok(holds(state, &at, number, writer))
+}
+
 #[test]
 fn a_move_that_clashes_is_counted_and_changes_nothing(rt: HostRuntime) -> Result<(), Fail> {
     let (rt, alloc) = (&rt, rt.alloc());
     assert_eq!(rt; opened(alloc)?.number(), 0);
     let state = played(rt, alloc)?;
     assert_eq!(rt; state.number(), 2);
-    assert!(rt; holds(&state, &location(alloc, "x")?, Some(7), 1));
-    assert!(rt; holds(&state, &location(alloc, "y")?, None, 0));
+    assert!(rt; holds_at(alloc, &state, "x", Some(7), 1)?);
+    assert!(rt; holds_at(alloc, &state, "y", None, 0)?);
     Ok(())
 }
 
@@ -99,11 +145,7 @@ fn a_move_that_clashes_is_counted_and_changes_nothing(rt: HostRuntime) -> Result
 fn a_stale_read_is_told_before_a_clash(rt: HostRuntime) -> Result<(), Fail> {
     let (rt, alloc) = (&rt, rt.alloc());
     let state = played(rt, alloc)?;
-    let x = location(alloc, "x")?;
-    assert_eq!(rt;
-        verdict(alloc, &state, &[("x", 0)], &TWO)?,
-        Verdict::Stale(x)
-    );
+    assert!(rt; judges(alloc, &state, &[("x", 0)], &TWO, Want::Stale("x"))?);
     Ok(())
 }
 
@@ -111,14 +153,7 @@ fn a_stale_read_is_told_before_a_clash(rt: HostRuntime) -> Result<(), Fail> {
 fn a_fresh_read_leaves_the_clash(rt: HostRuntime) -> Result<(), Fail> {
     let (rt, alloc) = (&rt, rt.alloc());
     let state = played(rt, alloc)?;
-    let clash = Clash {
-        at: location(alloc, "x")?,
-        cause: Cause::Two,
-    };
-    assert_eq!(rt;
-        verdict(alloc, &state, &[("x", 1)], &TWO)?,
-        Verdict::Clash(clash)
-    );
+    assert!(rt; judges(alloc, &state, &[("x", 1)], &TWO, Want::Clash("x"))?);
     Ok(())
 }
 
@@ -127,16 +162,9 @@ fn a_location_that_was_written_undef_keeps_the_number(rt: HostRuntime) -> Result
     let (rt, alloc) = (&rt, rt.alloc());
     let mut state = played(rt, alloc)?;
     let puts = [Put("y", None)];
-    let mut updates = UpdateSet::new(alloc);
-    updates.put(location(alloc, "y")?, Value::Plain(Element::Undef))?;
-    assert_eq!(rt;
-        verdict(alloc, &state, &[], &puts)?,
-        Verdict::Ready(updates)
-    );
+    assert!(rt; judges(alloc, &state, &[], &puts, Want::Undef("y"))?);
     follow(rt, alloc, &mut state, &puts)?;
-    let y = location(alloc, "y")?;
-    assert_eq!(rt; state.written_at(&y), 3);
-    assert!(rt; state.get(&y).is_none());
+    assert!(rt; holds_at(alloc, &state, "y", None, 3)?);
     Ok(())
 }
 
@@ -147,27 +175,30 @@ fn the_least_of_the_stale_reads_is_told(rt: HostRuntime) -> Result<(), Fail> {
     let puts = [Put("c", Some(1)), Put("b", Some(1)), Put("a", Some(1))];
     follow(rt, alloc, &mut state, &puts)?;
     let reads = [("x", 0), ("c", 0), ("b", 0), ("a", 1), ("d", 9)];
-    let b = location(alloc, "b")?;
-    assert_eq!(rt; verdict(alloc, &state, &reads, &TWO)?, Verdict::Stale(b));
+    assert!(rt; judges(alloc, &state, &reads, &TWO, Want::Stale("b"))?);
     Ok(())
+}
+
+fn is_same_at(alloc: Global, one: &State, two: &State, name: &str) -> Result<bool, Fail> {
+    let at = location(alloc, name)?;
+    Ok(one.get(&at) == two.get(&at) && one.written_at(&at) == two.written_at(&at))
+}
+
+fn is_copied(alloc: Global, state: &State) -> Result<bool, Fail> {
+    let copy = state.copy(alloc)?;
+    let is_x = is_same_at(alloc, &copy, state, "x")?;
+    let is_y = is_same_at(alloc, &copy, state, "y")?;
+    Ok(is_x && is_y && copy.number() == state.number())
 }
 
 #[test]
 fn copies_are_equal(rt: HostRuntime) -> Result<(), Fail> {
     let (rt, alloc) = (&rt, rt.alloc());
-    let named = Named {
-        at: location(alloc, "x")?,
-        number: 3,
-    };
-    assert_eq!(rt; named.copy(alloc)?, named);
+    let at = location(alloc, "x")?;
+    let named = Named { at, number: 3 };
+    assert!(rt; named.copy(alloc)? == named);
     let state = played(rt, alloc)?;
-    let copy = state.copy(alloc)?;
-    assert_eq!(rt; copy.number(), state.number());
-    for name in ["x", "y"] {
-        let at = location(alloc, name)?;
-        assert_eq!(rt; copy.get(&at), state.get(&at));
-        assert_eq!(rt; copy.written_at(&at), state.written_at(&at));
-    }
+    assert!(rt; is_copied(alloc, &state)?);
     Ok(())
 }
 
@@ -198,24 +229,31 @@ fn many_puts(alloc: Global, limit: i64) -> Result<Instructions, Fail> {
     Ok(list)
 }
 
-/// After a follow of puts at as many locations, half of which are held: it wrote each, or, where memory was refused,
-/// the number, the values and the writers are as before.
-fn follow_writes_all_or_nothing<R: Abort>(rt: &R, alloc: Global, limit: i64) -> Result<(), Fail> {
-    let mut state = half_held(alloc, limit)?;
-    let puts = many_puts(alloc, limit)?;
-    assert!(rt; state.number() == 0);
-    let fired = state.follow(alloc, &standard(), &puts).is_ok();
-    assert_eq!(rt; state.number(), if fired { 1 } else { 0 });
+/// Whether the puts are written at all locations below the limit, or at none.
+fn is_all_or_nothing(alloc: Global, state: &State, limit: i64, fired: bool) -> Result<bool, Fail> {
     for n in 0..limit {
         let at = location_at(alloc, n)?;
         let before = if n % 2 == 1 { Some(n) } else { None };
-        let as_it_should_be = if fired {
-            holds(&state, &at, Some(-1), 1)
+        let is_right = if fired {
+            holds(state, &at, Some(-1), 1)
         } else {
-            holds(&state, &at, before, 0)
+            holds(state, &at, before, 0)
         };
-        assert!(rt; as_it_should_be);
+        if !is_right {
+            return Ok(false);
+        }
     }
+    Ok(state.number() == u32::from(fired))
+}
+
+/// After a follow of puts at as many locations, half of which are held: it wrote each, or, where memory was refused,
+/// the number, the values and the writers are as before.
+fn follow_writes_all_or_nothing<R: Abort>(rt: &R, alloc: Global, limit: i64) -> Result<(), Fail> {
+    let puts = many_puts(alloc, limit)?;
+    let mut state = half_held(alloc, limit)?;
+    assert!(rt; state.number() == 0);
+    let fired = state.follow(alloc, &standard(), &puts).is_ok();
+    assert!(rt; is_all_or_nothing(alloc, &state, limit, fired)?);
     Ok(())
 }
 
@@ -225,6 +263,6 @@ fn a_follow_of_16_updates_writes_all_or_nothing(rt: HostRuntime) -> Result<(), F
 }
 
 #[test]
-fn a_follow_of_512_updates_writes_all_or_nothing(rt: HostRuntime) -> Result<(), Fail> {
-    follow_writes_all_or_nothing(&rt, rt.alloc(), 512)
+fn a_follow_of_4096_updates_writes_all_or_nothing(rt: HostRuntime) -> Result<(), Fail> {
+    follow_writes_all_or_nothing(&rt, rt.alloc(), 4096)
 }

@@ -1,11 +1,14 @@
 //! Fires in whose turns another agent fires first, as plain data.
+ghost use Rattle.asm_storage.specs.Storage.{IsSameAgent};
+
 use crate::rows::{
-    Act, At, Put, Standard, Step, Two, Want, Who, counts, move_of, performs, receipt_of,
-    storage_of, two_of,
+    Act, At, Close, Put, Standard, Step, Two, Want, Who, counts, move_of, named_of, storage_of,
+    two_of,
 };
 use crate::*;
+use asm_state::Named;
 use asm_update::Instructions;
-use std::alloc::Global;
+use std::alloc::{AllocError, Global};
 use std::process::Abort;
 use std::test::Fail;
 
@@ -18,33 +21,173 @@ pub(crate) enum Outcome {
     Busy(u32, u32),
 }
 
-/// On a storage of this capacity, where so many moves were fired and seen before, an agent puts 1 at y, with these
-/// named reads. Just before each of its offers, but at most so many times, another agent fires.
+/// On a storage of this capacity an agent puts 1 at y, with these named reads. Just before each of its offers, but at
+/// most so many times, another agent fires a move, or two.
 #[derive(Clone, Copy)]
 pub(crate) struct Contest {
     pub(crate) capacity: u32,
+    /// So many moves were fired before, which both have seen.
     pub(crate) before: u32,
+    /// So many were fired then, which the agent hasn't seen.
+    pub(crate) ahead: u32,
     pub(crate) reads: &'static [At],
     /// What the other agent puts.
     pub(crate) others: &'static [Put],
     pub(crate) times: u32,
+    pub(crate) fires_twice: bool,
     pub(crate) outcome: Outcome,
     /// How many moves the agent has seen after it.
     pub(crate) seen: u32,
     /// How many of its looks found nothing.
     pub(crate) misses: u64,
-    /// What the same fire is answered next, where the other agent lets it be.
-    pub(crate) again: Want,
+    /// What the same fire is answered next, if it is made, where the other agent lets it be.
+    pub(crate) again: Option<Want>,
+    /// What closing gives then with the agent alone.
+    pub(crate) alone: Close,
+    /// What it gives with both.
+    pub(crate) both: Close,
 }
 
-/// Both agents have seen so many moves, each of which the second fired.
-fn fill(alloc: Global, two: &mut Two<'_>, before: u32) -> Result<(), Fail> {
-    for k in 0..before {
-        let fired = Want::Fired(k.saturating_add(1));
+/// So many moves without instructions are fired by the second agent, from this number on.
+fn fire_more(alloc: Global, two: &mut Two<'_>, from: u32, times: u32) -> Result<(), Fail> {
+    for k in 0..times {
+        let fired = Want::Fired(from.saturating_add(k).saturating_add(1));
         two.step(alloc, Step::Ask(Who::B, Act::Fire(&[], &[]), fired))?;
     }
-    two.step(alloc, Step::Learn(Who::A, before))?;
     Ok(())
+}
+
+/// The two agents after the moves that were fired before.
+fn filled(alloc: Global, storage: &Storage<Standard>, contest: Contest) -> Result<Two<'_>, Fail> {
+    let mut two = two_of(alloc, storage)?;
+    fire_more(alloc, &mut two, 0, contest.before)?;
+    two.step(alloc, Step::Learn(Who::A, contest.before))?;
+    fire_more(alloc, &mut two, contest.before, contest.ahead)?;
+    Ok(two)
+}
+
+/// The agent that fires while another one offers.
+#[derive(Drop)]
+struct Rival<'s> {
+    agent: Agent<'s, Standard>,
+    times: u32,
+    fires_twice: bool,
+    is_refused: bool,
+}
+
+impl Rival<'_> {
+    fn fire(&mut self, alloc: Global, instrs: &Instructions)
+        ensures { IsSameAgent self.old.agent self.new.agent }
+    {
+        if self.agent.try_fire(alloc, &[], instrs).is_err() {
+            self.is_refused = true;
+        }
+    }
+
+    fn meddle(&mut self, alloc: Global, instrs: &Instructions)
+        ensures { IsSameAgent self.old.agent self.new.agent }
+    {
+        if self.times == 0 {
+            return;
+        }
+        self.times -= 1;
+        self.fire(alloc, instrs);
+        if self.fires_twice {
+            self.fire(alloc, instrs);
+        }
+    }
+}
+
+/// The moves of a contest.
+#[derive(Drop)]
+struct Moves {
+    reads: Vec<Named>,
+    instrs: Instructions,
+    others: Instructions,
+}
+
+fn moves_of(alloc: Global, contest: Contest) -> Result<Moves, Fail> {
+    Ok(Moves {
+        reads: named_of(alloc, contest.reads)?,
+        instrs: move_of(alloc, &[Put("y", 1)])?,
+        others: move_of(alloc, contest.others)?,
+    })
+}
+
+/// What the agent's fire gives, where the rival meddles.
+fn fire_against(
+    alloc: Global,
+    agent: &mut Agent<'_, Standard>,
+    rival: &mut Rival<'_>,
+    moves: &Moves,
+) -> Result<Reply, FireError>
+    ensures same { IsSameAgent agent.old agent.new }
+    ensures rival { IsSameAgent rival.old.agent rival.new.agent }
+{
+    let others = &moves.others;
+    agent.try_fire_with(
+        alloc,
+        moves.reads.as_slice(),
+        &moves.instrs,
+        &mut || rival.meddle(alloc, others),
+    )
+}
+
+/// The two agents after the first one's fire, and what that gave; want of memory of either is that of both.
+fn contend<'s>(
+    alloc: Global,
+    two: Two<'s>,
+    moves: Moves,
+    contest: Contest,
+) -> (Two<'s>, Result<Reply, FireError>) {
+    let Two { storage, mut a, b } = two;
+    let mut rival = Rival {
+        agent: b,
+        times: contest.times,
+        fires_twice: contest.fires_twice,
+        is_refused: false,
+    };
+    let given = fire_against(alloc, &mut a, &mut rival, &moves);
+    let Rival {
+        agent: b,
+        is_refused,
+        ..
+    } = rival;
+    let given = if is_refused {
+        Err(FireError::Memory)
+    } else {
+        given
+    };
+    (Two { storage, a, b }, given)
+}
+
+/// How many receipts and wins the agent has where the fire gave the outcome.
+fn won_in(
+    given: Result<Reply, FireError>,
+    outcome: Outcome,
+) -> Result<Option<(usize, u32)>, AllocError> {
+    Ok(match (given, outcome) {
+        (Err(FireError::Memory), _) => return Err(AllocError),
+        (Err(FireError::Busy { from, to }), Outcome::Busy(start, end)) => {
+            if from == start && to == end {
+                Some((0, 0))
+            } else {
+                None
+            }
+        }
+        (Ok(Reply::Fired(number)), Outcome::Answered(Want::Fired(wanted))) => {
+            if number == wanted { Some((1, 1)) } else { None }
+        }
+        (Ok(Reply::Stale(at)), Outcome::Answered(Want::Stale(name, _))) => {
+            if at.name() == name {
+                Some((1, 0))
+            } else {
+                None
+            }
+        }
+        (Ok(Reply::Full), Outcome::Answered(Want::Full(_))) => Some((1, 0)),
+        _ => None,
+    })
 }
 
 /// Whether the fire gave the outcome, and the agent has as many receipts, wins and misses as that says.
@@ -52,75 +195,44 @@ fn is_outcome(
     agent: &Agent<'_, Standard>,
     given: Result<Reply, FireError>,
     contest: Contest,
-) -> bool {
-    let (receipts, won) = match (given, contest.outcome) {
-        (Err(FireError::Busy { from, to }), Outcome::Busy(start, end)) => {
-            if from != start || to != end {
-                return false;
-            }
-            (0, 0)
+) -> Result<bool, AllocError> {
+    Ok(match won_in(given, contest.outcome)? {
+        Some((receipts, won)) => {
+            agent.receipts().len() == receipts && counts(agent, contest.seen, won, contest.misses)
         }
-        (Ok(Reply::Fired(number)), Outcome::Answered(Want::Fired(wanted))) => {
-            if number != wanted {
-                return false;
-            }
-            (1, 1)
-        }
-        (Ok(Reply::Stale(at)), Outcome::Answered(Want::Stale(name, _))) => {
-            if at.name() != name {
-                return false;
-            }
-            (1, 0)
-        }
-        (Ok(Reply::Full), Outcome::Answered(Want::Full(_))) => (1, 0),
-        _ => return false,
-    };
-    agent.receipts().len() == receipts && counts(agent, contest.seen, won, contest.misses)
+        None => false,
+    })
 }
 
-/// The first agent asks what the receipt tells, and the second fires before its offers; then the first asks
-/// again, and the receipt tells the answer.
-fn contend_with(
-    alloc: Global,
-    two: Two<'_>,
-    again: &Receipt,
-    others: &Instructions,
-    contest: Contest,
-) -> bool {
-    let Two { mut a, mut b, .. } = two;
-    let Call::Fire { reads, instrs } = &again.call else {
-        return false;
-    };
-    let mut left = contest.times;
-    let given = a.try_fire_with(
-        alloc,
-        reads.as_slice(),
-        instrs,
-        &mut || {
-            if left > 0 {
-                left -= 1;
-                let _ = b.try_fire(alloc, &[], others);
-            }
-        },
-    );
-    is_outcome(&a, given, contest) && performs(alloc, &mut a, again)
+/// Whether the first agent asks again and is answered so.
+fn is_answered_again(alloc: Global, two: &mut Two<'_>, contest: Contest) -> Result<bool, Fail> {
+    match contest.again {
+        Some(want) => {
+            let act = Act::Fire(&[Put("y", 1)], contest.reads);
+            two.step(alloc, Step::Ask(Who::A, act, want))
+        }
+        None => Ok(true),
+    }
 }
 
-fn contend(alloc: Global, two: Two<'_>, contest: Contest) -> Result<bool, Fail> {
-    let again = receipt_of(
-        alloc,
-        Act::Fire(&[Put("y", 1)], contest.reads),
-        contest.again,
-    )?;
-    let others = move_of(alloc, contest.others)?;
-    Ok(contend_with(alloc, two, &again, &others, contest))
+/// Whether the same fire again and closing give what they should.
+fn ends_right(alloc: Global, mut two: Two<'_>, contest: Contest) -> Result<bool, Fail> {
+    let is_answered = is_answered_again(alloc, &mut two, contest)?;
+    Ok(is_answered && two.closes(alloc, contest.alone, contest.both)?)
 }
 
-fn is_won(alloc: Global, contest: Contest) -> Result<bool, Fail> {
+/// Whether the fire and what comes then give what they should.
+fn is_right(alloc: Global, two: Two<'_>, moves: Moves, contest: Contest) -> Result<bool, Fail> {
+    let (two, given) = contend(alloc, two, moves, contest);
+    let is_first_right = is_outcome(&two.a, given, contest)?;
+    Ok(is_first_right && ends_right(alloc, two, contest)?)
+}
+
+fn is_met(alloc: Global, contest: Contest) -> Result<bool, Fail> {
+    let moves = moves_of(alloc, contest)?;
     let storage = storage_of(alloc, None, contest.capacity)?;
-    let mut two = two_of(alloc, &storage)?;
-    fill(alloc, &mut two, contest.before)?;
-    contend(alloc, two, contest)
+    let two = filled(alloc, &storage, contest)?;
+    is_right(alloc, two, moves, contest)
 }
 
 pub(crate) fn contend_all<R: Abort>(
@@ -129,7 +241,7 @@ pub(crate) fn contend_all<R: Abort>(
     contests: &[Contest],
 ) -> Result<(), Fail> {
     for (k, contest) in contests.iter().enumerate() {
-        assert!(rt; is_won(alloc, *contest)?, "at contest {k}");
+        assert!(rt; is_met(alloc, *contest)?, "at contest {k}");
     }
     Ok(())
 }

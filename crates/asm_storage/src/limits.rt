@@ -2,51 +2,92 @@
 ghost use Rattle.asm_storage.specs.Storage.{IsSameAgent};
 
 use crate::rows::{
-    Act, At, Put, Standard, Step, Two, Want, Who, fires, location, move_of, named_of, places_of,
+    Act, At, Close, Put, Standard, Step, Two, Want, Who, location, performs, places_of, receipt_of,
     storage_of, two_of,
 };
 use crate::*;
+use Act::{Fire, Read};
+use Step::{Ask, Learn};
+use Who::{A, B};
 use asm_aggregate::standard;
-use asm_element::{Element, Value};
+use asm_element::{Element, Location, Value};
 use asm_state::Named;
 use asm_update::{Instructions, PlainState};
-use std::alloc::Global;
+use std::alloc::{AllocError, Global};
+use std::process::Abort;
 use std::test::Fail;
 
-/// Why a storage of this capacity isn't made.
-fn refusal(alloc: Global, capacity: u32) -> Option<StorageError> {
-    Storage::new(alloc, standard(), PlainState::new(alloc), capacity).err()
+/// Whether a storage of this capacity is made. The error is want of memory.
+fn is_made(alloc: Global, capacity: u32) -> Result<bool, AllocError> {
+    match Storage::new(alloc, standard(), PlainState::new(alloc), capacity) {
+        Ok(_) => Ok(true),
+        Err(StorageError::BadCapacity) => Ok(false),
+        Err(StorageError::Memory) => Err(AllocError),
+    }
+}
+
+/// The same, asked once more where memory was refused.
+fn is_made_in_the_end(alloc: Global, capacity: u32) -> Result<bool, AllocError> {
+    match is_made(alloc, capacity) {
+        Err(_) => is_made(alloc, capacity),
+        made => made,
+    }
 }
 
 #[test]
-fn capacities_out_of_range_are_refused(rt: HostRuntime) {
-    for capacity in [1, 1_048_576] {
-        assert_eq!(rt; refusal(rt.alloc(), capacity), None);
-    }
-    for capacity in [0, 1_048_577] {
-        assert_eq!(rt;
-            refusal(rt.alloc(), capacity),
-            Some(StorageError::BadCapacity)
+fn capacities_out_of_range_are_refused(rt: HostRuntime) -> Result<(), Fail> {
+    for (capacity, is_good) in [(0, false), (1, true), (1_048_576, true), (1_048_577, false)] {
+        assert!(rt;
+            is_made_in_the_end(rt.alloc(), capacity)? == is_good,
+            "at {capacity}"
         );
+    }
+    Ok(())
+}
+
+/// Whether so many agents are made, with the numbers from 0 up to this one. The error is want of memory.
+fn are_made(
+    alloc: Global,
+    storage: &Storage<Standard>,
+    n: u32,
+    last: u32,
+) -> Result<bool, AllocError> {
+    match storage.agents(alloc, n) {
+        Ok(agents) => {
+            Ok(agents.len() == n as usize && agents.last().map_or(0, |agent| agent.id()) == last)
+        }
+        Err(AgentsError::BadAgents) => Ok(false),
+        Err(AgentsError::Memory) => Err(AllocError),
     }
 }
 
-/// How many agents there are where so many are asked for, with the number of the last one.
-fn agents_made(alloc: Global, n: u32) -> Result<Result<(usize, u32), AgentsError>, Fail> {
-    let storage = storage_of(alloc, None, 1)?;
-    Ok(match storage.agents(alloc, n) {
-        Ok(agents) => Ok((agents.len(), agents.last().map_or(0, |agent| agent.id()))),
-        Err(error) => Err(error),
-    })
+/// The same, asked once more where memory was refused.
+fn are_made_in_the_end(
+    alloc: Global,
+    storage: &Storage<Standard>,
+    n: u32,
+    last: u32,
+) -> Result<bool, AllocError> {
+    match are_made(alloc, storage, n, last) {
+        Err(_) => are_made(alloc, storage, n, last),
+        made => made,
+    }
 }
 
 #[test]
 fn from_1_to_256_agents_are_made(rt: HostRuntime) -> Result<(), Fail> {
-    let alloc = rt.alloc();
-    assert_eq!(rt; agents_made(alloc, 1)?, Ok((1, 0)));
-    assert_eq!(rt; agents_made(alloc, 256)?, Ok((256, 255)));
-    assert_eq!(rt; agents_made(alloc, 0)?, Err(AgentsError::BadAgents));
-    assert_eq!(rt; agents_made(alloc, 257)?, Err(AgentsError::BadAgents));
+    let storage = storage_of(rt.alloc(), None, 1)?;
+    for (n, last, is_good) in [
+        (0, 0, false),
+        (1, 0, true),
+        (256, 255, true),
+        (257, 256, false),
+    ] {
+        assert!(rt;
+            are_made_in_the_end(rt.alloc(), &storage, n, last)? == is_good,
+            "{n}"
+        );
+    }
     Ok(())
 }
 
@@ -57,26 +98,51 @@ enum Many {
     Named(usize),
 }
 
-/// Whether a read of so many locations is answered where it should be, and refused for their number where not.
-fn reads_many(
+/// Whether the locations are read, and not refused for their number. The error is want of memory.
+fn reads_all(
     alloc: Global,
     agent: &mut Agent<'_, Standard>,
-    n: usize,
-    is_good: bool,
-) -> Result<bool, Fail>
+    places: &[Location],
+) -> Result<bool, AllocError>
     ensures { IsSameAgent agent.old agent.new }
 {
+    match agent.read(alloc, places) {
+        Ok(reading) => Ok(reading.len() == places.len()),
+        Err(ReadError::ManyLocations) => Ok(false),
+        Err(ReadError::Memory) => Err(AllocError),
+    }
+}
+
+fn places_many(alloc: Global, n: usize) -> Result<Vec<Location>, Fail> {
     let mut places = Vec::new(alloc);
     for _ in 0..n {
         places.push(location(alloc, "x")?)?;
     }
-    Ok(match agent.read(alloc, &places) {
-        Ok(reading) => is_good && reading.len() == n,
-        Err(error) => !is_good && error == ReadError::ManyLocations,
-    })
+    Ok(places)
 }
 
-/// So many named reads.
+fn reads_many(alloc: Global, agent: &mut Agent<'_, Standard>, n: usize) -> Result<bool, Fail>
+    ensures { IsSameAgent agent.old agent.new }
+{
+    let places = places_many(alloc, n)?;
+    Ok(reads_all(alloc, agent, &places)?)
+}
+
+/// Whether a move with these named reads is fired, and not refused for their number. The error is want of memory.
+fn names_all(
+    alloc: Global,
+    agent: &mut Agent<'_, Standard>,
+    reads: &[Named],
+) -> Result<bool, AllocError>
+    ensures { IsSameAgent agent.old agent.new }
+{
+    match agent.try_fire(alloc, reads, &Instructions::new(alloc)) {
+        Ok(reply) => Ok(reply == Reply::Fired(1)),
+        Err(FireError::Memory) => Err(AllocError),
+        Err(error) => Ok(error != FireError::ManyReads),
+    }
+}
+
 fn named_many(alloc: Global, n: usize) -> Result<Vec<Named>, Fail> {
     let mut reads = Vec::new(alloc);
     for _ in 0..n {
@@ -86,22 +152,11 @@ fn named_many(alloc: Global, n: usize) -> Result<Vec<Named>, Fail> {
     Ok(reads)
 }
 
-/// Whether a fire with so many named reads is answered where it should be, and refused for their number where not.
-fn names_many(
-    alloc: Global,
-    agent: &mut Agent<'_, Standard>,
-    n: usize,
-    is_good: bool,
-) -> Result<bool, Fail>
+fn names_many(alloc: Global, agent: &mut Agent<'_, Standard>, n: usize) -> Result<bool, Fail>
     ensures { IsSameAgent agent.old agent.new }
 {
     let reads = named_many(alloc, n)?;
-    Ok(
-        match agent.try_fire(alloc, &reads, &Instructions::new(alloc)) {
-            Ok(reply) => is_good && reply == Reply::Fired(1),
-            Err(error) => !is_good && error == FireError::ManyReads,
-        },
-    )
+    Ok(names_all(alloc, agent, &reads)?)
 }
 
 /// Whether the call is judged as it should be; a receipt is kept of an answer alone.
@@ -113,11 +168,11 @@ fn is_judged(
 ) -> Result<bool, Fail>
     ensures { IsSameAgent agent.old agent.new }
 {
-    let is_right = match many {
-        Many::Read(n) => reads_many(alloc, agent, n, is_good)?,
-        Many::Named(n) => names_many(alloc, agent, n, is_good)?,
+    let is_answered = match many {
+        Many::Read(n) => reads_many(alloc, agent, n)?,
+        Many::Named(n) => names_many(alloc, agent, n)?,
     };
-    Ok(is_right && agent.receipts().len() == usize::from(is_good))
+    Ok(is_answered == is_good && agent.receipts().len() == usize::from(is_good))
 }
 
 fn limit_holds(alloc: Global, many: Many, is_good: bool) -> Result<bool, Fail> {
@@ -147,15 +202,16 @@ fn read_two(alloc: Global, agent: &mut Agent<'_, Standard>) -> Result<Reading, F
     Ok(agent.read(alloc, &places)?)
 }
 
+fn put_and_read(alloc: Global, mut two: Two<'_>) -> Result<Reading, Fail> {
+    two.step(alloc, Ask(B, Fire(&[Put("y", 1)], &[]), Want::Fired(1)))?;
+    read_two(alloc, &mut two.a)
+}
+
 /// A reading of y and x after a put of 1 at y, where x is 7.
 fn reading_of_two(alloc: Global) -> Result<Reading, Fail> {
     let storage = storage_of(alloc, Some(7), 8)?;
-    let mut two = two_of(alloc, &storage)?;
-    two.step(
-        alloc,
-        Step::Ask(Who::B, Act::Fire(&[Put("y", 1)], &[]), Want::Fired(1)),
-    )?;
-    read_two(alloc, &mut two.a)
+    let two = two_of(alloc, &storage)?;
+    put_and_read(alloc, two)
 }
 
 fn is_num(value: &Value, number: i64) -> bool {
@@ -174,40 +230,109 @@ fn a_reading_names_its_locations(rt: HostRuntime) -> Result<(), Fail> {
     Ok(())
 }
 
-/// Fires, and once more where memory was refused: the refused fire has left neither a receipt nor a move.
-fn fire_till_fired(
-    alloc: Global,
-    agent: &mut Agent<'_, Standard>,
-    reads: &[Named],
-    instrs: &Instructions,
-) -> bool
-    ensures { IsSameAgent agent.old agent.new }
-{
-    let wanted = Reply::Fired(2);
-    fires(alloc, agent, reads, instrs, &wanted)
-        || agent.receipts().is_empty() && fires(alloc, agent, reads, instrs, &wanted)
+/// A call of the first agent on a storage of capacity 8 where x is 7, after some steps.
+#[derive(Clone, Copy)]
+struct Retry {
+    before: &'static [Step],
+    act: Act,
+    want: Want,
+    /// How many moves the agent has seen at most where memory was refused.
+    seen: u32,
+    both: Close,
 }
 
-fn put_till_fired(alloc: Global, agent: &mut Agent<'_, Standard>) -> Result<bool, Fail>
+static RETRIES: [Retry; 4] = [
+    Retry {
+        before: &[Ask(A, Read(&["x"]), Want::Read(0, &[Some(7)]))],
+        act: Fire(&[Put("y", 1)], &[At("x", 0)]),
+        want: Want::Fired(1),
+        seen: 0,
+        both: Close::Events(1, &[0, 0]),
+    },
+    Retry {
+        before: &[
+            Ask(A, Read(&["x"]), Want::Read(0, &[Some(7)])),
+            Ask(B, Fire(&[], &[]), Want::Fired(1)),
+        ],
+        act: Fire(&[Put("y", 1)], &[At("x", 0)]),
+        want: Want::Fired(2),
+        seen: 1,
+        both: Close::Events(2, &[0, 1, 0]),
+    },
+    Retry {
+        before: &[Ask(B, Fire(&[Put("x", 5)], &[]), Want::Fired(1))],
+        act: Read(&["x", "y"]),
+        want: Want::Read(1, &[Some(5), None]),
+        seen: 1,
+        both: Close::Events(1, &[1, 0]),
+    },
+    Retry {
+        before: &[
+            Ask(B, Fire(&[Put("x", 5)], &[]), Want::Fired(1)),
+            Learn(A, 1),
+        ],
+        act: Fire(&[Put("y", 1)], &[At("x", 0)]),
+        want: Want::Stale("x", 1),
+        seen: 1,
+        both: Close::Events(1, &[1, 0]),
+    },
+];
+
+/// Whether the agent is answered so, where memory was refused when it asks once more: it has then as many receipts as
+/// before, and has seen at most so many moves.
+fn is_answered(
+    alloc: Global,
+    agent: &mut Agent<'_, Standard>,
+    wanted: &Receipt,
+    seen: u32,
+) -> Result<bool, AllocError>
     ensures { IsSameAgent agent.old agent.new }
 {
-    let reads = named_of(alloc, &[At("y", 0)])?;
-    let instrs = move_of(alloc, &[Put("y", 1)])?;
-    Ok(fire_till_fired(alloc, agent, &reads, &instrs))
+    let receipts = agent.receipts().len();
+    match performs(alloc, agent, wanted) {
+        Err(_) => {
+            if agent.receipts().len() != receipts || agent.seen() > seen {
+                return Ok(false);
+            }
+            performs(alloc, agent, wanted)
+        }
+        is_right => is_right,
+    }
+}
+
+fn is_answered_in_the_end(
+    alloc: Global,
+    agent: &mut Agent<'_, Standard>,
+    retry: Retry,
+) -> Result<bool, Fail>
+    ensures { IsSameAgent agent.old agent.new }
+{
+    let wanted = receipt_of(alloc, retry.act, retry.want)?;
+    Ok(is_answered(alloc, agent, &wanted, retry.seen)?)
+}
+
+fn is_right_in_the_end<R: Abort>(
+    rt: &R,
+    alloc: Global,
+    mut two: Two<'_>,
+    retry: Retry,
+) -> Result<bool, Fail> {
+    two.play(rt, alloc, retry.before)?;
+    let is_answered = is_answered_in_the_end(alloc, &mut two.a, retry)?;
+    Ok(is_answered && two.closes_in_the_end(alloc, retry.both)?)
+}
+
+fn retries<R: Abort>(rt: &R, alloc: Global, retry: Retry) -> Result<(), Fail> {
+    let storage = storage_of(alloc, Some(7), 8)?;
+    let two = two_of(alloc, &storage)?;
+    assert!(rt; is_right_in_the_end(rt, alloc, two, retry)?);
+    Ok(())
 }
 
 #[test]
-fn a_fire_that_was_refused_memory_can_be_made_again(rt: HostRuntime) -> Result<(), Fail> {
-    let (rt, alloc) = (&rt, rt.alloc());
-    let opened = storage_of(alloc, None, 2)?;
-    let mut two = two_of(alloc, &opened)?;
-    two.step(
-        alloc,
-        Step::Ask(Who::B, Act::Fire(&[], &[]), Want::Fired(1)),
-    )?;
-    assert!(rt; put_till_fired(alloc, &mut two.a)?);
-    let Two { storage, a, b } = two;
-    let closed = storage.close(alloc, &[a, b]);
-    assert!(rt; !matches!(closed, Err(CloseError::Missing(_))));
+fn a_call_that_was_refused_memory_can_be_made_again(rt: HostRuntime) -> Result<(), Fail> {
+    for retry in RETRIES {
+        retries(&rt, rt.alloc(), retry)?;
+    }
     Ok(())
 }

@@ -9,7 +9,7 @@ use asm_aggregate::{BagAgg, Pair, SetAgg, standard};
 use asm_element::{Element, Items, Location, Value};
 use asm_state::Named;
 use asm_update::{Action, Cause, Clash, Instruction, Instructions, PlainState};
-use std::alloc::Global;
+use std::alloc::{AllocError, Global};
 use std::process::Abort;
 use std::test::Fail;
 
@@ -55,6 +55,8 @@ pub(crate) enum Step {
     Learn(Who, u32),
     /// It has seen so many moves, won so many offers, and found so many cells empty.
     Count(Who, u32, u32, u64),
+    /// It has so many receipts.
+    Receipts(Who, usize),
 }
 
 pub(crate) fn location(alloc: Global, name: &str) -> Result<Location, Fail> {
@@ -155,59 +157,74 @@ pub(crate) fn receipt_of(alloc: Global, act: Act, want: Want) -> Result<Receipt,
     })
 }
 
-/// Whether a read is answered so.
+/// Whether a read is answered so. The error is want of memory.
 fn reads(
     alloc: Global,
     agent: &mut Agent<'_, Standard>,
     places: &[Location],
     number: u32,
     values: &[Value],
-) -> bool
+) -> Result<bool, AllocError>
     ensures { IsSameAgent agent.old agent.new }
 {
     match agent.read(alloc, places) {
-        Ok(reading) => reading.number == number && reading.values.as_slice() == values,
-        Err(_) => false,
+        Ok(reading) => Ok(reading.number == number && reading.values.as_slice() == values),
+        Err(ReadError::ManyLocations) => Ok(false),
+        Err(ReadError::Memory) => Err(AllocError),
     }
 }
 
-/// Whether a fire is answered so.
-pub(crate) fn fires(
+/// Whether a fire is answered so. The error is want of memory.
+fn fires(
     alloc: Global,
     agent: &mut Agent<'_, Standard>,
     reads: &[Named],
     instrs: &Instructions,
     wanted: &Reply,
-) -> bool
+) -> Result<bool, AllocError>
     ensures { IsSameAgent agent.old agent.new }
 {
     match agent.try_fire(alloc, reads, instrs) {
-        Ok(reply) => reply == *wanted,
-        Err(_) => false,
+        Ok(reply) => Ok(reply == *wanted),
+        Err(FireError::Memory) => Err(AllocError),
+        Err(_) => Ok(false),
     }
 }
 
 /// The agent asks what the receipt tells; whether it is answered so, and keeps that receipt.
-pub(crate) fn performs(alloc: Global, agent: &mut Agent<'_, Standard>, wanted: &Receipt) -> bool
+pub(crate) fn performs(
+    alloc: Global,
+    agent: &mut Agent<'_, Standard>,
+    wanted: &Receipt,
+) -> Result<bool, AllocError>
     ensures { IsSameAgent agent.old agent.new }
 {
     let is_answered = match (&wanted.call, &wanted.answer) {
         (Call::Read(places), Answer::Read { number, values }) => {
-            reads(alloc, agent, places.as_slice(), *number, values.as_slice())
+            reads(alloc, agent, places.as_slice(), *number, values.as_slice())?
         }
         (Call::Fire { reads, instrs }, Answer::Fire(reply)) => {
-            fires(alloc, agent, reads.as_slice(), instrs, reply)
+            fires(alloc, agent, reads.as_slice(), instrs, reply)?
         }
         _ => false,
     };
-    is_answered && agent.receipts().last() == Some(wanted)
+    Ok(is_answered && agent.receipts().last() == Some(wanted))
+}
+
+fn is_performed(
+    alloc: Global,
+    agent: &mut Agent<'_, Standard>,
+    wanted: Receipt,
+) -> Result<bool, AllocError>
+    ensures { IsSameAgent agent.old agent.new }
+{
+    performs(alloc, agent, &wanted)
 }
 
 fn asks(alloc: Global, agent: &mut Agent<'_, Standard>, act: Act, want: Want) -> Result<bool, Fail>
     ensures { IsSameAgent agent.old agent.new }
 {
-    let wanted = receipt_of(alloc, act, want)?;
-    Ok(performs(alloc, agent, &wanted))
+    Ok(is_performed(alloc, agent, receipt_of(alloc, act, want)?)?)
 }
 
 /// Learns the other's mark; whether it has then seen so many moves.
@@ -249,6 +266,8 @@ impl Two<'_> {
             Step::Learn(Who::B, seen) => learns(alloc, &mut self.b, &self.a, seen),
             Step::Count(Who::A, seen, won, misses) => Ok(counts(&self.a, seen, won, misses)),
             Step::Count(Who::B, seen, won, misses) => Ok(counts(&self.b, seen, won, misses)),
+            Step::Receipts(Who::A, receipts) => Ok(self.a.receipts().len() == receipts),
+            Step::Receipts(Who::B, receipts) => Ok(self.b.receipts().len() == receipts),
         }
     }
 
@@ -288,11 +307,15 @@ pub(crate) fn two_of(alloc: Global, storage: &Storage<Standard>) -> Result<Two<'
     }
 }
 
-/// What closing gives: the missing move, or so many moves, with the agents of all events.
+/// What closing gives.
 #[derive(Clone, Copy)]
 pub(crate) enum Close {
+    /// This move is missing.
     Missing(u32),
+    /// So many moves, in events of these agents.
     Events(u32, &'static [u32]),
+    /// So many moves, in so many events.
+    Counted(u32, usize),
 }
 
 fn is_by(events: &[Event], agents: &[u32]) -> bool {
@@ -302,25 +325,72 @@ fn is_by(events: &[Event], agents: &[u32]) -> bool {
         .eq(agents.iter().copied())
 }
 
-/// Whether closing gives this, and again the same.
+fn is_closed(closed: &Result<History, CloseError>, want: Close) -> bool {
+    match (closed, want) {
+        (Ok(history), Close::Events(moves, by)) => {
+            history.fits() && history.moves() == moves && is_by(history.events.as_slice(), by)
+        }
+        (Ok(history), Close::Counted(moves, events)) => {
+            history.fits() && history.moves() == moves && history.events.as_slice().len() == events
+        }
+        (Err(CloseError::Missing(number)), Close::Missing(wanted)) => *number == wanted,
+        _ => false,
+    }
+}
+
+/// Whether closing gives this, and again the same. The error is want of memory.
 fn closes(
     alloc: Global,
     storage: &Storage<Standard>,
     agents: &[Agent<'_, Standard>],
     want: Close,
-) -> bool
+) -> Result<bool, AllocError>
     requires of_this { All (IsOf storage.now) agents.now }
     requires ascending { IsStrictlyIncreasing (ids (accounts agents.now)) }
 {
     let closed = storage.close(alloc, agents);
-    let is_wanted = match (&closed, want) {
-        (Ok(history), Close::Events(moves, by)) => {
-            history.fits() && history.moves() == moves && is_by(history.events.as_slice(), by)
+    let again = storage.close(alloc, agents);
+    if closed == Err(CloseError::Memory) || again == Err(CloseError::Memory) {
+        return Err(AllocError);
+    }
+    Ok(is_closed(&closed, want) && again == closed)
+}
+
+fn all_hold(answers: [Result<bool, AllocError>; 3]) -> Result<bool, AllocError> {
+    for answer in answers {
+        if !answer? {
+            return Ok(false);
         }
-        (Err(CloseError::Missing(number)), Close::Missing(wanted)) => *number == wanted,
-        _ => false,
-    };
-    is_wanted && storage.close(alloc, agents) == closed
+    }
+    Ok(true)
+}
+
+impl Two<'_> {
+    /// Whether closing gives these with the first agent alone and with both, and nothing with none.
+    pub(crate) fn closes(
+        self,
+        alloc: Global,
+        alone: Close,
+        both: Close,
+    ) -> Result<bool, AllocError> {
+        let Two { storage, a, b } = self;
+        let agents = [a, b];
+        all_hold([
+            closes(alloc, storage, &agents[..0], Close::Events(0, &[])),
+            closes(alloc, storage, &agents[..1], alone),
+            closes(alloc, storage, &agents, both),
+        ])
+    }
+
+    /// Whether closing with both gives this; it is made once more where memory was refused.
+    pub(crate) fn closes_in_the_end(self, alloc: Global, both: Close) -> Result<bool, AllocError> {
+        let Two { storage, a, b } = self;
+        let agents = [a, b];
+        match closes(alloc, storage, &agents, both) {
+            Err(_) => closes(alloc, storage, &agents, both),
+            is_right => is_right,
+        }
+    }
 }
 
 /// Calls of two agents on a storage of this capacity where x has this value, and what closing gives then: with
@@ -334,27 +404,15 @@ pub(crate) struct Row {
     pub(crate) both: Close,
 }
 
-impl Two<'_> {
-    fn close<R: Abort>(self, rt: &R, alloc: Global, row: Row) {
-        let Two { storage, a, b } = self;
-        let agents = [a, b];
-        assert!(rt;
-            closes(alloc, storage, &agents[..0], Close::Events(0, &[])),
-            "none"
-        );
-        assert!(rt;
-            closes(alloc, storage, &agents[..1], row.alone),
-            "the first alone"
-        );
-        assert!(rt; closes(alloc, storage, &agents, row.both), "both");
-    }
+fn plays_out<R: Abort>(rt: &R, alloc: Global, mut two: Two<'_>, row: Row) -> Result<bool, Fail> {
+    two.play(rt, alloc, row.steps)?;
+    Ok(two.closes(alloc, row.alone, row.both)?)
 }
 
 fn check<R: Abort>(rt: &R, alloc: Global, row: Row) -> Result<(), Fail> {
     let storage = storage_of(alloc, row.x, row.capacity)?;
-    let mut two = two_of(alloc, &storage)?;
-    two.play(rt, alloc, row.steps)?;
-    two.close(rt, alloc, row);
+    let two = two_of(alloc, &storage)?;
+    assert!(rt; plays_out(rt, alloc, two, row)?, "closed");
     Ok(())
 }
 

@@ -1,7 +1,7 @@
 use crate::contest::{Contest, Outcome, contend_all};
 use crate::rows::{Act, At, Close, Put, Row, Step, Want, Who, check_all};
 use Act::{Fire, Read};
-use Step::{Ask, Count, Learn};
+use Step::{Ask, Count, Learn, Receipts};
 use Who::{A, B};
 use asm_update::Cause;
 use std::test::Fail;
@@ -75,7 +75,7 @@ fn fires_are_judged_on_what_was_fired(rt: HostRuntime) -> Result<(), Fail> {
     check_all(&rt, rt.alloc(), &NAMED_READS)
 }
 
-static CLOSING: [Row; 3] = [
+static CLOSING: [Row; 4] = [
     Row {
         x: None,
         capacity: 8,
@@ -100,13 +100,24 @@ static CLOSING: [Row; 3] = [
     },
     Row {
         x: None,
-        capacity: 8,
+        capacity: 200,
         steps: &[
             Ask(A, Fire(&[Put("y", 1)], &[]), Want::Fired(1)),
             Ask(B, Fire(&[Put("x", 1)], &[]), Want::Fired(2)),
         ],
         alone: Close::Events(1, &[0]),
         both: Close::Events(2, &[0, 1]),
+    },
+    Row {
+        x: None,
+        capacity: 200,
+        steps: &[
+            Ask(A, Fire(&[Put("y", 1)], &[]), Want::Fired(1)),
+            Ask(B, Fire(&[Put("x", 1)], &[]), Want::Fired(2)),
+            Ask(A, Read(&[]), Want::Read(2, &[])),
+        ],
+        alone: Close::Missing(2),
+        both: Close::Events(2, &[0, 1, 0]),
     },
 ];
 
@@ -115,7 +126,24 @@ fn receipts_close_into_one_history(rt: HostRuntime) -> Result<(), Fail> {
     check_all(&rt, rt.alloc(), &CLOSING)
 }
 
-static MARKS: [Row; 2] = [
+static MARKS: [Row; 3] = [
+    Row {
+        x: Some(7),
+        capacity: 8,
+        steps: &[
+            Ask(B, Fire(&[Put("x", 5)], &[]), Want::Fired(1)),
+            Learn(A, 1),
+            Count(A, 1, 0, 0),
+            Receipts(A, 0),
+            Ask(A, Fire(&[Put("y", 1)], &[At("x", 0)]), Want::Stale("x", 1)),
+            Ask(A, Fire(&[Put("y", 1)], &[At("x", 1)]), Want::Fired(2)),
+            Learn(B, 2),
+            Ask(B, Read(&["x", "y"]), Want::Read(2, &[Some(5), Some(1)])),
+            Ask(B, Fire(&[Put("z", 1)], &[At("x", 9)]), Want::Fired(3)),
+        ],
+        alone: Close::Missing(1),
+        both: Close::Events(3, &[1, 0, 0, 1, 1]),
+    },
     Row {
         x: None,
         capacity: 8,
@@ -151,94 +179,171 @@ fn a_mark_and_a_look_tell_the_same_moves(rt: HostRuntime) -> Result<(), Fail> {
     check_all(&rt, rt.alloc(), &MARKS)
 }
 
-static CONTESTS: [Contest; 8] = [
+static CONTESTS: [Contest; 11] = [
     Contest {
         capacity: 200,
         before: 0,
+        ahead: 0,
         reads: &[],
         others: &[],
         times: u32::MAX,
+        fires_twice: false,
         outcome: Outcome::Busy(0, 64),
         seen: 64,
         misses: 64,
-        again: Want::Fired(65),
+        again: Some(Want::Fired(65)),
+        alone: Close::Missing(1),
+        both: Close::Counted(65, 65),
     },
     Contest {
         capacity: 200,
         before: 63,
+        ahead: 0,
         reads: &[],
         others: &[],
         times: u32::MAX,
+        fires_twice: false,
         outcome: Outcome::Busy(63, 127),
         seen: 127,
         misses: 64,
-        again: Want::Fired(128),
+        again: Some(Want::Fired(128)),
+        alone: Close::Missing(1),
+        both: Close::Counted(128, 128),
     },
     Contest {
         capacity: 200,
         before: 0,
-        reads: &[At("y", 0)],
-        others: &[Put("x", 5)],
+        ahead: 0,
+        reads: &[],
+        others: &[],
+        times: u32::MAX,
+        fires_twice: true,
+        outcome: Outcome::Busy(0, 127),
+        seen: 127,
+        misses: 64,
+        again: None,
+        alone: Close::Missing(1),
+        both: Close::Counted(128, 128),
+    },
+    Contest {
+        capacity: 200,
+        before: 0,
+        ahead: 0,
+        reads: &[],
+        others: &[],
         times: 63,
+        fires_twice: false,
         outcome: Outcome::Answered(Want::Fired(64)),
         seen: 64,
         misses: 64,
-        again: Want::Stale("y", 64),
+        again: Some(Want::Fired(65)),
+        alone: Close::Missing(1),
+        both: Close::Counted(65, 65),
+    },
+    Contest {
+        capacity: 200,
+        before: 0,
+        ahead: 0,
+        reads: &[At("y", 0)],
+        others: &[Put("x", 5)],
+        times: 63,
+        fires_twice: false,
+        outcome: Outcome::Answered(Want::Fired(64)),
+        seen: 64,
+        misses: 64,
+        again: Some(Want::Stale("y", 64)),
+        alone: Close::Missing(1),
+        both: Close::Counted(64, 65),
+    },
+    Contest {
+        capacity: 200,
+        before: 0,
+        ahead: 64,
+        reads: &[],
+        others: &[],
+        times: 0,
+        fires_twice: false,
+        outcome: Outcome::Answered(Want::Fired(65)),
+        seen: 65,
+        misses: 1,
+        again: None,
+        alone: Close::Missing(1),
+        both: Close::Counted(65, 65),
     },
     Contest {
         capacity: 63,
         before: 0,
+        ahead: 0,
         reads: &[],
         others: &[],
         times: u32::MAX,
+        fires_twice: false,
         outcome: Outcome::Answered(Want::Full(63)),
         seen: 63,
         misses: 63,
-        again: Want::Full(63),
+        again: Some(Want::Full(63)),
+        alone: Close::Missing(1),
+        both: Close::Counted(63, 65),
     },
     Contest {
         capacity: 64,
         before: 0,
+        ahead: 0,
         reads: &[],
         others: &[],
         times: u32::MAX,
+        fires_twice: false,
         outcome: Outcome::Busy(0, 64),
         seen: 64,
         misses: 64,
-        again: Want::Full(64),
+        again: Some(Want::Full(64)),
+        alone: Close::Missing(1),
+        both: Close::Counted(64, 65),
     },
     Contest {
         capacity: 8,
         before: 0,
+        ahead: 0,
         reads: &[At("x", 0)],
         others: &[Put("x", 5)],
         times: u32::MAX,
+        fires_twice: false,
         outcome: Outcome::Answered(Want::Stale("x", 1)),
         seen: 1,
         misses: 2,
-        again: Want::Stale("x", 1),
+        again: Some(Want::Stale("x", 1)),
+        alone: Close::Missing(1),
+        both: Close::Counted(1, 3),
     },
     Contest {
         capacity: 1,
         before: 0,
+        ahead: 0,
         reads: &[],
         others: &[Put("x", 5)],
         times: u32::MAX,
+        fires_twice: false,
         outcome: Outcome::Answered(Want::Full(1)),
         seen: 1,
         misses: 1,
-        again: Want::Full(1),
+        again: Some(Want::Full(1)),
+        alone: Close::Missing(1),
+        both: Close::Counted(1, 3),
     },
     Contest {
         capacity: 2,
         before: 1,
+        ahead: 0,
         reads: &[At("x", 1)],
         others: &[],
         times: 0,
+        fires_twice: false,
         outcome: Outcome::Answered(Want::Fired(2)),
         seen: 2,
         misses: 1,
-        again: Want::Full(2),
+        again: Some(Want::Full(2)),
+        alone: Close::Missing(1),
+        both: Close::Counted(2, 3),
     },
 ];
 

@@ -1,37 +1,100 @@
-//! Agents of one storage, each on a thread of its own.
-ghost use Rattle.std.specs.Prelude.{◌≡◌, IfSome};
+//! Agents of one storage, each on a thread of its own. The workers' error is want of memory.
+ghost use Rattle.std.specs.Prelude.{◌≡◌, All, IfOk};
 ghost use Rattle.asm_storage.specs.Storage.{IsSameAgent};
 
-use crate::rows::{Put, Standard, Two, location, move_of, places_of, storage_of};
+use crate::rows::{Close, Put, Standard, Two, location, move_of, places_of, storage_of};
 use crate::*;
 use asm_aggregate::standard;
 use asm_element::{ElemBag, Element, Location, Value};
 use asm_update::{Action, Amount, Instruction, Instructions, PlainState};
-use std::alloc::Global;
+use std::alloc::{AllocError, Global};
 use std::test::Fail;
 use std::thread;
 use std::thread::Threads;
 
-/// Whether the move was fired, or the storage is full.
-fn is_settled(alloc: Global, agent: &mut Agent<'_, Standard>, instrs: &Instructions) -> bool
+/// Whether the fire was answered.
+fn is_answered(
+    alloc: Global,
+    agent: &mut Agent<'_, Standard>,
+    instrs: &Instructions,
+) -> Result<bool, AllocError>
     ensures { IsSameAgent agent.old agent.new }
 {
-    matches!(
-        agent.try_fire(alloc, &[], instrs),
-        Ok(Reply::Fired(_) | Reply::Full)
-    )
+    match agent.try_fire(alloc, &[], instrs) {
+        Ok(_) => Ok(true),
+        Err(FireError::Memory) => Err(AllocError),
+        Err(_) => Ok(false),
+    }
 }
 
-/// Fires each of the moves, and again where it was busy: once, as the other fires fewer than 128 moves.
-fn fires_each(alloc: Global, agent: &mut Agent<'_, Standard>, moves: &[Instructions]) -> bool
+/// Fires, and again where it was busy: once, as the other agent fires fewer than 128 moves.
+fn fires(
+    alloc: Global,
+    agent: &mut Agent<'_, Standard>,
+    instrs: &Instructions,
+) -> Result<(), AllocError>
+    ensures { IsSameAgent agent.old agent.new }
+{
+    if !is_answered(alloc, agent, instrs)? {
+        is_answered(alloc, agent, instrs)?;
+    }
+    Ok(())
+}
+
+fn fires_each(
+    alloc: Global,
+    agent: &mut Agent<'_, Standard>,
+    moves: &[Instructions],
+) -> Result<(), AllocError>
     ensures { IsSameAgent agent.old agent.new }
 {
     for instrs in moves {
-        if !is_settled(alloc, agent, instrs) && !is_settled(alloc, agent, instrs) {
-            return false;
-        }
+        fires(alloc, agent, instrs)?;
     }
-    true
+    Ok(())
+}
+
+/// Adds a mark of what the agent has seen.
+fn push_mark(
+    alloc: Global,
+    agent: &Agent<'_, Standard>,
+    marks: &mut Vec<Mark>,
+) -> Result<(), AllocError>
+    requires { All (λ m. m.row ≡ agent.now.storage.row) marks.old.items }
+    ensures { All (λ m. m.row ≡ agent.now.storage.row) marks.new.items }
+{
+    marks.push(agent.mark(alloc)?)?;
+    Ok(())
+}
+
+/// Fires each of the moves, and takes a mark after each.
+fn marks_each(
+    alloc: Global,
+    agent: &mut Agent<'_, Standard>,
+    moves: &[Instructions],
+) -> Result<Vec<Mark>, AllocError>
+    ensures same { IsSameAgent agent.old agent.new }
+    ensures marks { IfOk result (λ marks. All (λ m. m.row ≡ agent.old.storage.row) marks.items) }
+{
+    let mut marks = Vec::new(alloc);
+    for instrs in moves {
+        fires(alloc, agent, instrs)?;
+        push_mark(alloc, agent, &mut marks)?;
+    }
+    Ok(marks)
+}
+
+fn read_once(
+    alloc: Global,
+    agent: &mut Agent<'_, Standard>,
+    places: &[Location],
+) -> Result<(), AllocError>
+    ensures { IsSameAgent agent.old agent.new }
+{
+    match agent.read(alloc, places) {
+        Err(ReadError::Memory) => Err(AllocError),
+        _ => Ok(()),
+    }
 }
 
 fn reads_often(
@@ -39,15 +102,39 @@ fn reads_often(
     agent: &mut Agent<'_, Standard>,
     places: &[Location],
     times: u32,
-) -> bool
+) -> Result<(), AllocError>
     ensures { IsSameAgent agent.old agent.new }
 {
     for _ in 0..times {
-        if agent.read(alloc, places).is_err() {
-            return false;
-        }
+        read_once(alloc, agent, places)?;
     }
-    true
+    Ok(())
+}
+
+/// An agent with the number 0.
+fn first_agent(
+    alloc: Global,
+    storage: &Storage<Standard>,
+) -> Result<Agent<'_, Standard>, AllocError>
+    ensures { IfOk result (λ a. (a.storage ≡ storage.now) × (a.account.id ≡ 0)) }
+{
+    match storage.agents(alloc, 1) {
+        Ok(mut agents) => agents.pop().ok_or(AllocError),
+        Err(_) => Err(AllocError),
+    }
+}
+
+/// An agent with the number 1.
+fn second_agent(
+    alloc: Global,
+    storage: &Storage<Standard>,
+) -> Result<Agent<'_, Standard>, AllocError>
+    ensures { IfOk result (λ a. (a.storage ≡ storage.now) × (a.account.id ≡ 1)) }
+{
+    match storage.agents(alloc, 2) {
+        Ok(mut agents) => agents.pop().ok_or(AllocError),
+        Err(_) => Err(AllocError),
+    }
 }
 
 /// The agent with the number 0, when it has fired each of the moves.
@@ -55,15 +142,12 @@ fn first_fires<'s>(
     alloc: Global,
     storage: &'s Storage<Standard>,
     moves: &[Instructions],
-) -> Option<Agent<'s, Standard>>
-    ensures { IfSome result (λ a. (a.storage ≡ storage.now) × (a.account.id ≡ 0)) }
+) -> Result<Agent<'s, Standard>, AllocError>
+    ensures { IfOk result (λ a. (a.storage ≡ storage.now) × (a.account.id ≡ 0)) }
 {
-    let mut agent = storage.agents(alloc, 1).ok()?.pop()?;
-    if fires_each(alloc, &mut agent, moves) {
-        Some(agent)
-    } else {
-        None
-    }
+    let mut agent = first_agent(alloc, storage)?;
+    fires_each(alloc, &mut agent, moves)?;
+    Ok(agent)
 }
 
 /// The agent with the number 1, when it has fired each of the moves.
@@ -71,15 +155,26 @@ fn second_fires<'s>(
     alloc: Global,
     storage: &'s Storage<Standard>,
     moves: &[Instructions],
-) -> Option<Agent<'s, Standard>>
-    ensures { IfSome result (λ a. (a.storage ≡ storage.now) × (a.account.id ≡ 1)) }
+) -> Result<Agent<'s, Standard>, AllocError>
+    ensures { IfOk result (λ a. (a.storage ≡ storage.now) × (a.account.id ≡ 1)) }
 {
-    let mut agent = storage.agents(alloc, 2).ok()?.pop()?;
-    if fires_each(alloc, &mut agent, moves) {
-        Some(agent)
-    } else {
-        None
-    }
+    let mut agent = second_agent(alloc, storage)?;
+    fires_each(alloc, &mut agent, moves)?;
+    Ok(agent)
+}
+
+/// The agent with the number 0, when it has fired each of the moves, and its marks.
+fn first_marks<'s>(
+    alloc: Global,
+    storage: &'s Storage<Standard>,
+    moves: &[Instructions],
+) -> Result<(Agent<'s, Standard>, Vec<Mark>), AllocError>
+    ensures agent { IfOk result (λ r. (r.0.storage ≡ storage.now) × (r.0.account.id ≡ 0)) }
+    ensures marks { IfOk result (λ r. All (λ m. m.row ≡ storage.now.row) r.1.items) }
+{
+    let mut agent = first_agent(alloc, storage)?;
+    let marks = marks_each(alloc, &mut agent, moves)?;
+    Ok((agent, marks))
 }
 
 /// The agent with the number 1, when it has read the locations 100 times.
@@ -87,15 +182,12 @@ fn second_reads<'s>(
     alloc: Global,
     storage: &'s Storage<Standard>,
     places: &[Location],
-) -> Option<Agent<'s, Standard>>
-    ensures { IfSome result (λ a. (a.storage ≡ storage.now) × (a.account.id ≡ 1)) }
+) -> Result<Agent<'s, Standard>, AllocError>
+    ensures { IfOk result (λ a. (a.storage ≡ storage.now) × (a.account.id ≡ 1)) }
 {
-    let mut agent = storage.agents(alloc, 2).ok()?.pop()?;
-    if reads_often(alloc, &mut agent, places, 100) {
-        Some(agent)
-    } else {
-        None
-    }
+    let mut agent = second_agent(alloc, storage)?;
+    reads_often(alloc, &mut agent, places, 100)?;
+    Ok(agent)
 }
 
 fn two_with<'s>(
@@ -105,6 +197,7 @@ fn two_with<'s>(
 ) -> Two<'s>
     requires first { (a.storage ≡ storage.now) × (a.account.id ≡ 0) }
     requires second { (b.storage ≡ storage.now) × (b.account.id ≡ 1) }
+    ensures { result.b.storage ≡ storage.now }
 {
     Two { storage, a, b }
 }
@@ -115,46 +208,43 @@ fn both_fire<'s, R: Threads>(
     alloc: Global,
     storage: &'s Storage<Standard>,
     moves: &[Instructions],
-) -> Option<Two<'s>> {
+) -> Result<Two<'s>, AllocError> {
     let (a, b) = thread::join(
         rt,
-        move || -> Option<Agent<'_, Standard>>
-            ensures { IfSome result (λ a. (a.storage ≡ storage.entry.now) × (a.account.id ≡ 0)) }
+        move || -> Result<Agent<'_, Standard>, AllocError>
+            ensures { IfOk result (λ a. (a.storage ≡ storage.entry.now) × (a.account.id ≡ 0)) }
         { first_fires(alloc, storage, moves) },
-        move || -> Option<Agent<'_, Standard>>
-            ensures { IfSome result (λ a. (a.storage ≡ storage.entry.now) × (a.account.id ≡ 1)) }
+        move || -> Result<Agent<'_, Standard>, AllocError>
+            ensures { IfOk result (λ a. (a.storage ≡ storage.entry.now) × (a.account.id ≡ 1)) }
         { second_fires(alloc, storage, moves) },
     );
-    Some(two_with(storage, a?, b?))
+    Ok(two_with(storage, a?, b?))
 }
 
-/// Two agents, when the first has fired the moves and the second has read, each on a thread of its own.
-fn fire_and_read<'s, R: Threads>(
+/// Two agents and the marks of the first, when that one has fired the moves and the second has read, each on a
+/// thread of its own.
+fn mark_and_read<'s, R: Threads>(
     rt: &R,
     alloc: Global,
     storage: &'s Storage<Standard>,
     moves: &[Instructions],
     places: &[Location],
-) -> Option<Two<'s>> {
-    let (a, b) = thread::join(
+) -> Result<(Two<'s>, Vec<Mark>), AllocError>
+    ensures reader { IfOk result (λ r. r.0.b.storage ≡ storage.now) }
+    ensures marks { IfOk result (λ r. All (λ m. m.row ≡ storage.now.row) r.1.items) }
+{
+    let (written, b) = thread::join(
         rt,
-        move || -> Option<Agent<'_, Standard>>
-            ensures { IfSome result (λ a. (a.storage ≡ storage.entry.now) × (a.account.id ≡ 0)) }
-        { first_fires(alloc, storage, moves) },
-        move || -> Option<Agent<'_, Standard>>
-            ensures { IfSome result (λ a. (a.storage ≡ storage.entry.now) × (a.account.id ≡ 1)) }
+        move || -> Result<(Agent<'_, Standard>, Vec<Mark>), AllocError>
+            ensures agent { IfOk result (λ r. (r.0.storage ≡ storage.entry.now) × (r.0.account.id ≡ 0)) }
+            ensures marks { IfOk result (λ r. All (λ m. m.row ≡ storage.entry.now.row) r.1.items) }
+        { first_marks(alloc, storage, moves) },
+        move || -> Result<Agent<'_, Standard>, AllocError>
+            ensures { IfOk result (λ a. (a.storage ≡ storage.entry.now) × (a.account.id ≡ 1)) }
         { second_reads(alloc, storage, places) },
     );
-    Some(two_with(storage, a?, b?))
-}
-
-/// How many moves and events closing gives.
-fn closed(alloc: Global, two: Two<'_>) -> Option<(u32, usize)> {
-    let Two { storage, a, b } = two;
-    match storage.close(alloc, &[a, b]) {
-        Ok(history) => Some((history.moves(), history.events.as_slice().len())),
-        Err(_) => None,
-    }
+    let (a, marks) = written?;
+    Ok((two_with(storage, a, b?), marks))
 }
 
 /// How many offers each of the agents has won.
@@ -166,7 +256,7 @@ fn wins(two: &Two<'_>) -> (u32, u32) {
 fn with_bag(alloc: Global) -> Result<Storage<Standard>, Fail> {
     let mut init = PlainState::new(alloc);
     init.set(location(alloc, "b")?, Value::Bag(ElemBag::new(alloc)))?;
-    Ok(Storage::new(alloc, standard(), init, 4096)?)
+    Ok(Storage::new(alloc, standard(), init, 200)?)
 }
 
 /// A move that adds one 5 to the bag b.
@@ -188,19 +278,34 @@ fn additions(alloc: Global) -> Result<Vec<Instructions>, Fail> {
     Ok(moves)
 }
 
-/// The numbers of moves at which the location was read, and how many 5 the bag has there.
-fn bag_read(
+/// Whether the bag was read at this number, and has as many 5.
+fn is_bag_of(reading: &Reading, number: u32) -> bool {
+    match reading.values.as_slice().first() {
+        Some(Value::Bag(bag)) => {
+            reading.number() == number && bag.count(&Element::Num(5)) == number
+        }
+        _ => false,
+    }
+}
+
+fn reads_bag(
     alloc: Global,
     agent: &mut Agent<'_, Standard>,
     places: &[Location],
-) -> Option<(u32, u32)>
+    number: u32,
+) -> Result<bool, ReadError>
     ensures { IsSameAgent agent.old agent.new }
 {
-    let reading = agent.read(alloc, places).ok()?;
-    match reading.values.as_slice().first() {
-        Some(Value::Bag(bag)) => Some((reading.number(), bag.count(&Element::Num(5)))),
-        _ => None,
-    }
+    let reading = agent.read(alloc, places)?;
+    Ok(is_bag_of(&reading, number))
+}
+
+/// Whether the two agents have fired 100 additions each.
+fn is_added(alloc: Global, mut two: Two<'_>) -> Result<bool, Fail> {
+    let places = places_of(alloc, &["b"])?;
+    let is_read = reads_bag(alloc, &mut two.a, &places, 200)?;
+    let is_won = wins(&two) == (100, 100);
+    Ok(is_read && is_won && two.closes_in_the_end(alloc, Close::Counted(200, 201))?)
 }
 
 #[test]
@@ -208,13 +313,8 @@ fn additions_of_two_threads_are_all_fired(rt: HostRuntime) -> Result<(), Fail> {
     let alloc = rt.alloc();
     let storage = with_bag(alloc)?;
     let moves = additions(alloc)?;
-    let places = places_of(alloc, &["b"])?;
-    let Some(mut two) = both_fire(&rt, alloc, &storage, &moves) else {
-        panic!(&rt; "not all was answered");
-    };
-    assert_eq!(&rt; wins(&two), (100, 100));
-    assert_eq!(&rt; bag_read(alloc, &mut two.a, &places), Some((200, 200)));
-    assert_eq!(&rt; closed(alloc, two), Some((200, 201)));
+    let two = both_fire(&rt, alloc, &storage, &moves)?;
+    assert!(&rt; is_added(alloc, two)?);
     Ok(())
 }
 
@@ -248,17 +348,21 @@ fn is_answered_once(agent: &Agent<'_, Standard>) -> bool {
     }
 }
 
+/// Whether one of the two agents has fired, and the other found the storage full.
+fn is_one_fired(alloc: Global, two: Two<'_>) -> Result<bool, AllocError> {
+    let is_answered = is_answered_once(&two.a) && is_answered_once(&two.b);
+    let is_one = matches!(wins(&two), (0, 1) | (1, 0));
+    let closes = two.closes_in_the_end(alloc, Close::Counted(1, 2))?;
+    Ok(is_answered && is_one && closes)
+}
+
 #[test]
 fn last_place_is_fired_by_one_of_two_threads(rt: HostRuntime) -> Result<(), Fail> {
     let alloc = rt.alloc();
     let storage = storage_of(alloc, None, 1)?;
     let moves = puts(alloc, 1)?;
-    let Some(two) = both_fire(&rt, alloc, &storage, &moves) else {
-        panic!(&rt; "not all was answered");
-    };
-    assert!(&rt; is_answered_once(&two.a) && is_answered_once(&two.b));
-    assert!(&rt; matches!(wins(&two), (0, 1) | (1, 0)));
-    assert_eq!(&rt; closed(alloc, two), Some((1, 2)));
+    let two = both_fire(&rt, alloc, &storage, &moves)?;
+    assert!(&rt; is_one_fired(alloc, two)?);
     Ok(())
 }
 
@@ -286,25 +390,63 @@ fn never_fall(receipts: &[Receipt]) -> bool {
     true
 }
 
-/// The number at which the second agent reads when it has learnt what the first has seen.
-fn learns_and_reads(alloc: Global, two: &mut Two<'_>, places: &[Location]) -> Option<u32> {
-    let mark = two.a.mark(alloc).ok()?;
-    two.b.learn(alloc, &mark).ok()?;
-    let reading = two.b.read(alloc, places).ok()?;
-    Some(reading.number())
+/// Whether a read that has learnt the mark tells at least as many moves as the mark holds.
+fn reads_mark(
+    alloc: Global,
+    agent: &mut Agent<'_, Standard>,
+    mark: &Mark,
+    places: &[Location],
+) -> Result<bool, ReadError>
+    requires { mark.now.row ≡ agent.old.storage.row }
+    ensures { IsSameAgent agent.old agent.new }
+{
+    agent.learn(alloc, mark)?;
+    let reading = agent.read(alloc, places)?;
+    Ok(mark.len() <= reading.number())
+}
+
+/// Whether that is so of each of the marks in turn, of which each holds one move more than the one before.
+fn reads_each_mark(
+    alloc: Global,
+    agent: &mut Agent<'_, Standard>,
+    marks: &[Mark],
+    places: &[Location],
+) -> Result<bool, ReadError>
+    requires { All (λ m. m.row ≡ agent.old.storage.row) marks.now }
+    ensures { IsSameAgent agent.old agent.new }
+{
+    let mut len = 0u32;
+    for mark in marks {
+        len = len.saturating_add(1);
+        if mark.len() != len || !reads_mark(alloc, agent, mark, places)? {
+            return Ok(false);
+        }
+    }
+    Ok(true)
+}
+
+/// Whether the second agent's reads beside the first one's 100 moves, and then of each mark, never fall.
+fn is_never_falling(
+    alloc: Global,
+    mut two: Two<'_>,
+    marks: &[Mark],
+    places: &[Location],
+) -> Result<bool, Fail>
+    requires { All (λ m. m.row ≡ two.b.storage.row) marks.now }
+{
+    let is_read = marks.len() == 100 && reads_each_mark(alloc, &mut two.b, marks, places)?;
+    let receipts = two.b.receipts();
+    let never_falls = receipts.len() == 200 && never_fall(receipts);
+    Ok(is_read && never_falls && two.closes_in_the_end(alloc, Close::Counted(100, 300))?)
 }
 
 #[test]
 fn reads_beside_a_writer_never_fall(rt: HostRuntime) -> Result<(), Fail> {
     let alloc = rt.alloc();
-    let storage = storage_of(alloc, None, 4096)?;
+    let storage = storage_of(alloc, None, 200)?;
     let moves = puts(alloc, 100)?;
     let places = places_of(alloc, &["x"])?;
-    let Some(mut two) = fire_and_read(&rt, alloc, &storage, &moves, &places) else {
-        panic!(&rt; "not all was answered");
-    };
-    assert_eq!(&rt; learns_and_reads(alloc, &mut two, &places), Some(100));
-    assert!(&rt; two.b.receipts().len() == 101 && never_fall(two.b.receipts()));
-    assert_eq!(&rt; closed(alloc, two), Some((100, 201)));
+    let (two, marks) = mark_and_read(&rt, alloc, &storage, &moves, &places)?;
+    assert!(&rt; is_never_falling(alloc, two, &marks, &places)?);
     Ok(())
 }

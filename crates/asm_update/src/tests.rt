@@ -1,10 +1,23 @@
+ghost use Rattle.std.specs.Prelude.{IsTrue};
+ghost use Rattle.asm_update.specs.Move.{all_regular};
+
 use crate::*;
 use asm_element::{Element, Location, Value};
-use std::alloc::Global;
+use std::alloc::{AllocError, Global};
 use std::test::Fail;
 
 #[derive(Debug, Drop)]
 struct Zero;
+
+/// An update as plain data. An amount of 0 is none.
+#[derive(Clone, Copy)]
+enum Update {
+    Put(Option<i64>),
+    SetAdd(i64),
+    SetRemove(i64),
+    BagAdd(i64, u32),
+    BagRemove(i64, u32),
+}
 
 fn location(alloc: Global, name: &str, args: &[i64]) -> Result<Location, Fail> {
     let mut elements = Vec::new(alloc);
@@ -14,24 +27,53 @@ fn location(alloc: Global, name: &str, args: &[i64]) -> Result<Location, Fail> {
     Ok(Location::new(String::from_str(alloc, name)?, elements)?)
 }
 
-fn put(alloc: Global, list: &mut Instructions, name: &str, element: Element) -> Result<(), Fail> {
-    act(alloc, list, name, Action::Regular(Value::Plain(element)))
+fn value(number: Option<i64>) -> Value {
+    match number {
+        Some(n) => Value::Plain(Element::Num(n)),
+        None => Value::Plain(Element::Undef),
+    }
 }
 
-fn act(alloc: Global, list: &mut Instructions, name: &str, action: Action) -> Result<(), Fail> {
-    list.push(Instruction {
-        at: location(alloc, name, &[])?,
-        action,
-    })?;
+fn action(update: Update) -> Option<Action> {
+    Some(match update {
+        Update::Put(number) => Action::Regular(value(number)),
+        Update::SetAdd(n) => Action::SetAdd(Element::Num(n)),
+        Update::SetRemove(n) => Action::SetRemove(Element::Num(n)),
+        Update::BagAdd(n, times) => Action::BagAdd(Element::Num(n), Amount::new(times)?),
+        Update::BagRemove(n, times) => Action::BagRemove(Element::Num(n), Amount::new(times)?),
+    })
+}
+
+fn push(alloc: Global, list: &mut Instructions, name: &str, update: Update) -> Result<(), Fail> {
+    let at = location(alloc, name, &[])?;
+    let action = action(update).ok_or(Zero)?;
+    list.push(Instruction { at, action })?;
+    Ok(())
+}
+
+fn list_of(alloc: Global, updates: &[(&'static str, Update)]) -> Result<Instructions, Fail> {
+    let mut list = Instructions::new(alloc);
+    for (name, update) in updates {
+        push(alloc, &mut list, name, *update)?;
+    }
+    Ok(list)
+}
+
+fn set(
+    alloc: Global,
+    state: &mut PlainState,
+    name: &str,
+    args: &[i64],
+    number: i64,
+) -> Result<(), Fail> {
+    let at = location(alloc, name, args)?;
+    state.set(at, value(Some(number)))?;
     Ok(())
 }
 
 fn state_with(alloc: Global, name: &str, number: i64) -> Result<PlainState, Fail> {
     let mut state = PlainState::new(alloc);
-    state.set(
-        location(alloc, name, &[])?,
-        Value::Plain(Element::Num(number)),
-    )?;
+    set(alloc, &mut state, name, &[], number)?;
     Ok(state)
 }
 
@@ -45,127 +87,147 @@ fn an_amount_is_at_least_one(rt: HostRuntime) -> Result<(), Fail> {
 
 #[test]
 fn a_partial_update_has_a_family(rt: HostRuntime) -> Result<(), Fail> {
-    let two = Amount::new(2).ok_or(Zero)?;
-    assert_eq!(rt;
-        Action::Regular(Value::Plain(Element::Undef)).family(),
-        None
-    );
-    assert_eq!(rt; Action::SetAdd(Element::Num(1)).family(), Some(Family::Set));
-    assert_eq!(rt;
-        Action::SetRemove(Element::Num(1)).family(),
-        Some(Family::Set)
-    );
-    assert_eq!(rt;
-        Action::BagAdd(Element::Num(1), two).family(),
-        Some(Family::Bag)
-    );
-    assert_eq!(rt;
-        Action::BagRemove(Element::Num(1), two).family(),
-        Some(Family::Bag)
-    );
+    for (update, family) in [
+        (Update::Put(None), None),
+        (Update::SetAdd(1), Some(Family::Set)),
+        (Update::SetRemove(1), Some(Family::Set)),
+        (Update::BagAdd(1, 2), Some(Family::Bag)),
+        (Update::BagRemove(1, 2), Some(Family::Bag)),
+    ] {
+        assert!(rt; action(update).ok_or(Zero)?.family() == family);
+    }
     Ok(())
+}
+
+fn is_two_at(clash: &Clash, name: &str) -> bool {
+    clash.at.name() == name && clash.at.args().is_empty() && clash.cause == Cause::Two
+}
+
+/// Whether firing clashes there. The error is want of memory.
+fn clashes_at(
+    alloc: Global,
+    state: &mut PlainState,
+    list: &Instructions,
+    name: &str,
+) -> Result<bool, AllocError>
+    requires { IsTrue (all_regular list.now) }
+{
+    match fire_plain(alloc, state, list) {
+        Ok(()) => Ok(false),
+        Err(AggError::Clash(clash)) => Ok(is_two_at(&clash, name)),
+        Err(AggError::Memory) => Err(AllocError),
+    }
+}
+
+/// Whether firing on x = 7 clashes there and changes nothing.
+fn only_clashes_at(alloc: Global, list: &Instructions, name: &str) -> Result<bool, Fail>
+    requires { IsTrue (all_regular list.now) }
+{
+    let before = state_with(alloc, "x", 7)?;
+    let mut state = state_with(alloc, "x", 7)?;
+    let clashes = clashes_at(alloc, &mut state, list, name)?;
+    Ok(clashes && state == before)
+}
+
+fn is_inconsistent_at(list: &Instructions, name: &str) -> bool {
+    match consistent(list) {
+        Some(at) => at.name() == name && at.args().is_empty(),
+        None => false,
+    }
 }
 
 #[test]
 fn two_clashes_answer_the_least_location(rt: HostRuntime) -> Result<(), Fail> {
-    let alloc = rt.alloc();
-    let mut state = state_with(alloc, "x", 7)?;
-    let before = state.copy(alloc)?;
-    let mut list = Instructions::new(alloc);
-    put(alloc, &mut list, "x", Element::Num(1))?;
-    put(alloc, &mut list, "x", Element::Num(2))?;
-    put(alloc, &mut list, "a", Element::Num(3))?;
-    put(alloc, &mut list, "a", Element::Num(4))?;
-    let a = location(alloc, "a", &[])?;
-    assert_eq!(rt; consistent(&list), Some(&a));
+    let puts = [
+        ("x", Update::Put(Some(1))),
+        ("x", Update::Put(Some(2))),
+        ("a", Update::Put(Some(3))),
+        ("a", Update::Put(Some(4))),
+    ];
+    let list = list_of(rt.alloc(), &puts)?;
+    assert!(rt; is_inconsistent_at(&list, "a"));
     assert!(rt; list.all_regular());
-    let clash = Clash {
-        at: a,
-        cause: Cause::Two,
-    };
-    assert_eq!(rt;
-        fire_plain(alloc, &mut state, &list),
-        Err(AggError::Clash(clash))
-    );
-    assert_eq!(rt; state, before);
+    assert!(rt; only_clashes_at(rt.alloc(), &list, "a")?);
     Ok(())
+}
+
+fn is_undef<L: Lookup>(alloc: Global, lookup: &L, name: &str) -> Result<bool, Fail> {
+    let at = location(alloc, name, &[])?;
+    Ok(lookup.get(&at).is_none())
+}
+
+/// Whether firing on x = 1 leaves y = 2 alone.
+fn fires_to_y(alloc: Global, list: &Instructions) -> Result<bool, Fail>
+    requires { IsTrue (all_regular list.now) }
+{
+    let after = state_with(alloc, "y", 2)?;
+    let mut state = state_with(alloc, "x", 1)?;
+    fire_plain(alloc, &mut state, list)?;
+    let is_out = is_undef(alloc, &state, "x")?;
+    Ok(is_out && state == after && state.len() == 1)
 }
 
 #[test]
 fn firing_writes_values_and_takes_undef_out(rt: HostRuntime) -> Result<(), Fail> {
-    let alloc = rt.alloc();
-    let mut state = state_with(alloc, "x", 1)?;
-    let mut list = Instructions::new(alloc);
-    put(alloc, &mut list, "x", Element::Undef)?;
-    put(alloc, &mut list, "y", Element::Num(2))?;
+    let puts = [("x", Update::Put(None)), ("y", Update::Put(Some(2)))];
+    let list = list_of(rt.alloc(), &puts)?;
     assert!(rt; list.all_regular());
-    fire_plain(alloc, &mut state, &list)?;
-    assert_eq!(rt; state, state_with(alloc, "y", 2)?);
-    assert_eq!(rt; state.len(), 1);
-    assert!(rt; state.get(&location(alloc, "x", &[])?).is_none());
+    assert!(rt; fires_to_y(rt.alloc(), &list)?);
     Ok(())
 }
 
 #[test]
 fn equal_values_and_partial_updates_are_consistent(rt: HostRuntime) -> Result<(), Fail> {
-    let alloc = rt.alloc();
-    let mut list = Instructions::new(alloc);
-    assert!(rt; list.all_regular());
-    put(alloc, &mut list, "s", Element::Num(1))?;
-    put(alloc, &mut list, "s", Element::Num(1))?;
-    act(alloc, &mut list, "s", Action::SetAdd(Element::Num(2)))?;
-    act(alloc, &mut list, "s", Action::SetRemove(Element::Num(2)))?;
-    assert!(rt; consistent(&list).is_none());
-    assert!(rt; !list.all_regular());
-    assert_eq!(rt; list.len(), 4);
-    assert_eq!(rt; list.get(2).action, Action::SetAdd(Element::Num(2)));
+    let updates = [
+        ("s", Update::Put(Some(1))),
+        ("s", Update::Put(Some(1))),
+        ("s", Update::SetAdd(2)),
+        ("s", Update::SetRemove(2)),
+    ];
+    let list = list_of(rt.alloc(), &updates)?;
+    assert!(rt; consistent(&list).is_none() && !list.all_regular());
+    assert!(rt; list.len() == 4 && list.get(2).action == Action::SetAdd(Element::Num(2)));
+    assert!(rt; Instructions::new(rt.alloc()).all_regular());
     Ok(())
+}
+
+fn is_refused(alloc: Global, list: &mut Instructions) -> Result<bool, Fail> {
+    let at = location(alloc, "x", &[])?;
+    let action = Action::SetAdd(Element::Num(1));
+    Ok(list.push(Instruction { at, action }) == Err(InstructionsError::ManyInstructions))
 }
 
 #[test]
 fn one_instruction_more_than_4096_is_refused(rt: HostRuntime) -> Result<(), Fail> {
-    let alloc = rt.alloc();
-    let mut list = Instructions::new(alloc);
+    let mut list = Instructions::new(rt.alloc());
     for n in 0..4096 {
-        put(alloc, &mut list, "x", Element::Num(n))?;
+        push(rt.alloc(), &mut list, "x", Update::Put(Some(n)))?;
     }
-    let one_more = Instruction {
-        at: location(alloc, "x", &[])?,
-        action: Action::SetAdd(Element::Num(1)),
-    };
-    assert_eq!(rt;
-        list.push(one_more),
-        Err(InstructionsError::ManyInstructions)
-    );
-    assert_eq!(rt; list.len(), 4096);
+    assert!(rt; is_refused(rt.alloc(), &mut list)? && list.len() == 4096);
     Ok(())
 }
 
 #[test]
 fn copies_are_equal(rt: HostRuntime) -> Result<(), Fail> {
-    let alloc = rt.alloc();
-    let two = Amount::new(2).ok_or(Zero)?;
-    let mut list = Instructions::new(alloc);
-    put(alloc, &mut list, "x", Element::Bool(true))?;
-    act(alloc, &mut list, "s", Action::SetAdd(Element::Num(1)))?;
-    act(alloc, &mut list, "s", Action::SetRemove(Element::Num(2)))?;
-    act(alloc, &mut list, "b", Action::BagAdd(Element::Num(1), two))?;
-    act(
-        alloc,
-        &mut list,
-        "b",
-        Action::BagRemove(Element::Num(2), two),
-    )?;
-    assert_eq!(rt; list.copy(alloc)?, list);
-    let state = state_with(alloc, "x", 1)?;
-    assert_eq!(rt; state.copy(alloc)?, state);
+    let updates = [
+        ("x", Update::Put(Some(1))),
+        ("s", Update::SetAdd(1)),
+        ("s", Update::SetRemove(2)),
+        ("b", Update::BagAdd(1, 2)),
+        ("b", Update::BagRemove(2, 2)),
+    ];
+    let list = list_of(rt.alloc(), &updates)?;
+    assert!(rt; list.copy(rt.alloc())? == list);
+    let state = state_with(rt.alloc(), "x", 1)?;
+    assert!(rt; state.copy(rt.alloc())? == state);
     Ok(())
 }
 
-fn value_in<L: Lookup>(alloc: Global, lookup: &L, at: &Location) -> Result<Option<Value>, Fail> {
+/// Whether the look-up gives this value.
+fn gives<L: Lookup>(lookup: &L, at: &Location, value: &Value) -> bool {
     match lookup.get(at) {
-        Some(value) => Ok(Some(value.copy(alloc)?)),
-        None => Ok(None),
+        Some(found) => *found == *value,
+        None => false,
     }
 }
 
@@ -173,42 +235,43 @@ fn value_in<L: Lookup>(alloc: Global, lookup: &L, at: &Location) -> Result<Optio
 fn a_state_is_looked_up_and_walked_in_order(rt: HostRuntime) -> Result<(), Fail> {
     let alloc = rt.alloc();
     let mut state = PlainState::new(alloc);
-    state.set(location(alloc, "b", &[])?, Value::Plain(Element::Num(4)))?;
-    state.set(
-        location(alloc, "a", &[0, 0])?,
-        Value::Plain(Element::Num(3)),
-    )?;
-    state.set(location(alloc, "a", &[9])?, Value::Plain(Element::Num(2)))?;
-    state.set(location(alloc, "a", &[])?, Value::Plain(Element::Num(1)))?;
-    assert_eq!(rt; state.len(), 4);
-    for ((at, value), n) in state.iter().zip(1..5) {
-        assert_eq!(rt; *value, Value::Plain(Element::Num(n)));
-        assert_eq!(rt; value_in(alloc, &state, at)?, Some(value.copy(alloc)?));
+    set(alloc, &mut state, "b", &[], 4)?;
+    set(alloc, &mut state, "a", &[0, 0], 3)?;
+    set(alloc, &mut state, "a", &[9], 2)?;
+    set(alloc, &mut state, "a", &[], 1)?;
+    assert!(rt; state.len() == 4 && is_undef(alloc, &state, "c")?);
+    for ((at, found), n) in state.iter().zip(1..5) {
+        assert!(rt; *found == value(Some(n)) && gives(&state, at, found));
     }
-    assert!(rt; value_in(alloc, &state, &location(alloc, "c", &[])?)?.is_none());
     Ok(())
+}
+
+fn set_of(alloc: Global, puts: &[(&'static str, Option<i64>)]) -> Result<UpdateSet, Fail> {
+    let mut updates = UpdateSet::new(alloc);
+    for (name, number) in puts {
+        updates.put(location(alloc, name, &[])?, value(*number))?;
+    }
+    Ok(updates)
+}
+
+/// Whether the update set gives this number there first of all, and nothing at z.
+fn begins_with(alloc: Global, updates: &UpdateSet, name: &str, n: i64) -> Result<bool, Fail> {
+    let at = location(alloc, name, &[])?;
+    let other = location(alloc, "z", &[])?;
+    let value = value(Some(n));
+    let is_first = updates.iter().next() == Some((&at, &value));
+    Ok(is_first && updates.get(&at) == Some(&value) && updates.get(&other).is_none())
 }
 
 #[test]
 fn an_update_set_keeps_the_last_value(rt: HostRuntime) -> Result<(), Fail> {
     let alloc = rt.alloc();
-    let x = location(alloc, "x", &[])?;
-    let mut updates = UpdateSet::new(alloc);
-    updates.put(location(alloc, "y", &[])?, Value::Plain(Element::Undef))?;
-    updates.put(location(alloc, "x", &[])?, Value::Plain(Element::Num(1)))?;
-    updates.put(location(alloc, "x", &[])?, Value::Plain(Element::Num(2)))?;
-    assert_eq!(rt; updates.len(), 2);
-    assert_eq!(rt; updates.get(&x), Some(&Value::Plain(Element::Num(2))));
-    assert!(rt; updates.get(&location(alloc, "z", &[])?).is_none());
-    assert_eq!(rt;
-        updates.iter().next(),
-        Some((&x, &Value::Plain(Element::Num(2))))
-    );
-    let mut other = UpdateSet::new(alloc);
-    other.put(location(alloc, "x", &[])?, Value::Plain(Element::Num(2)))?;
-    assert!(rt; updates != other);
-    other.put(location(alloc, "y", &[])?, Value::Plain(Element::Undef))?;
-    assert_eq!(rt; updates, other);
+    let updates = set_of(alloc, &[("y", None), ("x", Some(1)), ("x", Some(2))])?;
+    assert!(rt; updates.len() == 2 && begins_with(alloc, &updates, "x", 2)?);
+    let shorter = set_of(alloc, &[("x", Some(2))])?;
+    assert!(rt; updates != shorter);
+    let same = set_of(alloc, &[("x", Some(2)), ("y", None)])?;
+    assert!(rt; updates == same);
     Ok(())
 }
 

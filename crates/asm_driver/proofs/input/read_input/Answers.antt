@@ -13,7 +13,18 @@ returns-then-count-len-clause-large g c =
     let room : length c.read.new.buffer ≡ c.min-room.result = search rules in (
       c.loop-bytes.bytes.items ++ part,
       Consumes-trans _ _ _ _ _ was.0 c.in_ok-count.ensures.bytes.0,
-      length-append c.loop-bytes.bytes.items part ∙ omega (arith, room, c.min-room.ensures, c.len.ensures, size.0, size.1, c.len-in-loop-bytes.ensures, c.if-count-len.true, was.1),
+      length-append c.loop-bytes.bytes.items part
+          ∙ omega (
+            arith,
+            room,
+            c.min-room.ensures,
+            c.len.ensures,
+            size.0,
+            size.1,
+            c.len-in-loop-bytes.ensures,
+            c.if-count-len.true,
+            was.1,
+          ),
     )
 
 pub returns-then-count-len-clause-some : goal.returns-then-count-len-clause-some
@@ -24,7 +35,16 @@ returns-then-count-len-clause-some g c =
     let room : length c.read.new.buffer ≡ c.min-room.result = search rules in (
       c.loop-bytes.bytes.items ++ part,
       Consumes-trans _ _ _ _ _ was.0 c.in_ok-count.ensures.bytes.0,
-      omega (arith, length-append c.loop-bytes.bytes.items part, room, c.min-room.ensures, c.len.ensures, size.0, size.1, was.1),
+      omega (
+        arith,
+        length-append c.loop-bytes.bytes.items part,
+        room,
+        c.min-room.ensures,
+        c.len.ensures,
+        size.0,
+        size.1,
+        was.1,
+      ),
     )
 
 pub returns-in_err-extend_from_slice-clause-some : goal.returns-in_err-extend_from_slice-clause-some
@@ -35,6 +55,13 @@ returns-in_err-extend_from_slice-clause-some g c =
     let some : TakesSome (g.S.Source.remaining c.args.input.now) (g.S.Source.remaining c.read.new.self) = (
       c.loop-bytes.bytes.items ++ part,
       Consumes-trans _ _ _ _ _ was.0 c.in_ok-count.ensures.bytes.0,
-      omega (arith, length-append c.loop-bytes.bytes.items part, size.1, c.len-in-loop-bytes.ensures, c.if-count-len.false, was.1),
+      omega (
+        arith,
+        length-append c.loop-bytes.bytes.items part,
+        size.1,
+        c.len-in-loop-bytes.ensures,
+        c.if-count-len.false,
+        was.1,
+      ),
     ) in
     on_err _ some

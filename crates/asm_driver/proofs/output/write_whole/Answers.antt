@@ -8,7 +8,12 @@ pub loop-rest-preserved : goal.loop-rest-preserved
 loop-rest-preserved g c =
     let was = c.loop-rest.invariant.0 in
     let wrote = c.in_ok-count.ensures in (
-      (was.0 ++ take c.in_ok-count.count c.loop-rest.rest.now, moved _ _ was.0 _ was.1, Appends-trans _ _ _ was.0 _ was.2 wrote.bytes),
+      (
+        was.0 ++ take c.in_ok-count.count c.loop-rest.rest.now,
+        moved _ _ was.0 _ was.1,
+        Appends-trans _ _ _ was.0 _
+            was.2 wrote.bytes,
+      ),
       wrote.same_reference ∙ c.loop-rest.invariant.1,
       wrote.noted,
     )

@@ -5,5 +5,8 @@ use Rattle.asm_driver.proofs.Ports.{otherwise}
 use Rattle.asm_driver.proofs.program.refuse.Goals as goal
 
 pub returns-in-Err-clause-refuses : goal.returns-in-Err-clause-refuses
-returns-in-Err-clause-refuses g c =
-    (Memory, inr (refl, otherwise (has_number c.args.refusal) c.in-Err.ensures.known), c.write_out-in-Err.ensures.writes)
+returns-in-Err-clause-refuses g c = (
+  Memory,
+  inr (refl, otherwise (has_number c.args.refusal) c.in-Err.ensures.known),
+  c.write_out-in-Err.ensures.writes,
+)

@@ -5,14 +5,16 @@ use Rattle.asm_driver.proofs.program.run_noted.Goals as goal
 
 pub returns-in-Ok-clause-runs : goal.returns-in-Ok-clause-runs
 returns-in-Ok-clause-runs g c =
-    answered _ _ _ _ _ _ _ _ (ap (map string_bytes) c.as_slice.ensures.value) c.as_bytes.ensures.value c.in-Ok.ensures.ok c.write_out.ensures.writes
+    answered _ _ _ _ _ _ _ _ (ap (map string_bytes) c.as_slice.ensures.value) c.as_bytes.ensures.value
+    c.in-Ok.ensures.ok c.write_out.ensures.writes
 
 pub returns-in-Ok-clause-faults : goal.returns-in-Ok-clause-faults
 returns-in-Ok-clause-faults g c = faults_answered _ _ _ _ _ _ _ c.in-Ok.ensures.ok c.write_out.ensures.writes
 
 pub returns-clause-runs : goal.returns-clause-runs
 returns-clause-runs g c =
-    refused _ _ _ _ c.in-Err.refusal _ (ap (map string_bytes) c.as_slice.ensures.value) c.in-Err.ensures.err c.refuse.ensures.refuses
+    refused _ _ _ _ c.in-Err.refusal _ (ap (map string_bytes) c.as_slice.ensures.value) c.in-Err.ensures.err
+    c.refuse.ensures.refuses
 
 pub returns-clause-faults : goal.returns-clause-faults
 returns-clause-faults g c = faults_refused _ _ _ c.in-Err.refusal _ c.in-Err.ensures.err c.refuse.ensures.refuses

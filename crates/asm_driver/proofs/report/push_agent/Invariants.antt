@@ -5,4 +5,5 @@ use Rattle.asm_driver.specs.Report.{outcome_line}
 use Rattle.asm_driver.proofs.report.push_agent.Given as goal
 
 abbrev pub invariant-loop-step : goal.invariant-loop-step
-invariant-loop-step l = string_bytes l.text ≡ string_bytes l.initial.text ++ flat_map (λ s. outcome_line l.agent s.0 s.1) (enumerate_from 0 (take l.step l.outcomes))
+invariant-loop-step l = string_bytes l.text ≡ string_bytes l.initial.text ++ flat_map
+    (λ s. outcome_line l.agent s.0 s.1) (enumerate_from 0 (take l.step l.outcomes))

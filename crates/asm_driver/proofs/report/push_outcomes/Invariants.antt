@@ -5,4 +5,5 @@ use Rattle.asm_driver.specs.Report.{agent_lines}
 use Rattle.asm_driver.proofs.report.push_outcomes.Given as goal
 
 abbrev pub invariant-loop-agent : goal.invariant-loop-agent
-invariant-loop-agent l = string_bytes l.text ≡ string_bytes l.initial.text ++ flat_map agent_lines (enumerate_from 0 (take l.agent l.agents))
+invariant-loop-agent l = string_bytes l.text ≡ string_bytes l.initial.text ++ flat_map agent_lines
+    (enumerate_from 0 (take l.agent l.agents))

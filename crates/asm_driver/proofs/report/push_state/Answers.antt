@@ -17,6 +17,8 @@ loop-location-preserved c =
     let e : Place × Value = (c.in-Some.location.now, c.in-Some.value.now) in
     let added : string_bytes c.push_str.new.self ≡ string_bytes l.text ++ entry_line e =
     c.in_ok-push_str.ensures.bytes
-    ∙ ap (λ t. t ++ 10 ∷ []) (c.in_ok-push_json.ensures ∙ ap (λ d. string_bytes l.text ++ compact_text d) c.in_ok-pair_json.ensures)
+    ∙ ap (λ t. t ++ 10 ∷ [])
+    (c.in_ok-push_json.ensures ∙ ap (λ d. string_bytes l.text ++ compact_text d) c.in_ok-pair_json.ensures)
     ∙ append_assoc (string_bytes l.text) (compact_text (pair_json_of e)) (10 ∷ []) in
-    left_more entry_line (string_bytes l.text) (string_bytes c.push_str.new.self) _ e c.next.new.self l.location-iterator c.in-Some.ensures.steps l.invariant added
+    left_more entry_line (string_bytes l.text) (string_bytes c.push_str.new.self) _ e c.next.new.self
+    l.location-iterator c.in-Some.ensures.steps l.invariant added

@@ -5,4 +5,5 @@ use Rattle.asm_driver.proofs.report.push_state.Given as goal
 
 -- the lines so far, and those of what is left, are the state's
 abbrev pub invariant-loop-location : goal.invariant-loop-location
-invariant-loop-location l = string_bytes l.text ++ flat_map entry_line l.location-iterator ≡ string_bytes l.initial.text ++ flat_map entry_line l.initial.location-iterator
+invariant-loop-location l = string_bytes l.text ++ flat_map entry_line l.location-iterator ≡ string_bytes
+    l.initial.text ++ flat_map entry_line l.initial.location-iterator

@@ -4,4 +4,5 @@ use Rattle.asm_driver.proofs.step.take_targets.Given as goal
 
 -- what the instructions so far have was appended
 abbrev pub invariant-loop-instruction : goal.invariant-loop-instruction
-invariant-loop-instruction l = l.places.items ≡ l.initial.places.items ++ changed (take l.instruction-index l.instruction-items)
+invariant-loop-instruction l = l.places.items ≡ l.initial.places.items ++ changed
+    (take l.instruction-index l.instruction-items)

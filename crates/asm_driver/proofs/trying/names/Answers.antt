@@ -10,11 +10,13 @@ loop-i-init c = c.new-names.ensures.items
 
 pub loop-i-preserved : goal.loop-i-preserved
 loop-i-preserved c =
-    named_more c.in-Some.reading c.loop-i.i c.loop-i.names.items c.push.new.self.items c.in_ok-named.field-0 c.loop-i.invariant
+    named_more c.in-Some.reading c.loop-i.i c.loop-i.names.items c.push.new.self.items c.in_ok-named.field-0
+    c.loop-i.invariant
     c.in_ok-named.ensures.at c.in_ok-named.ensures.number c.in_ok-push.ensures.items
 
 pub returns : goal.returns
 returns c =
     c.loop-i.invariant
-    ∙ ap (map (name_at c.in-Some.reading.number)) (take_all c.loop-i.i c.in-Some.reading.places (omega (arith, c.loop-i-test.false, c.len-i-end.ensures)))
+    ∙ ap (map (name_at c.in-Some.reading.number))
+    (take_all c.loop-i.i c.in-Some.reading.places (omega (arith, c.loop-i-test.false, c.len-i-end.ensures)))
     ∙ ap (λ (o : Option ReadingView). names_of o) (sym c.in-Some.is)

@@ -8,4 +8,5 @@ unfolding faults
 returns-clause-kinds c =
     let words = map string_bytes c.args.words.now in
     let parse = c.try_get_matches_from in
-    subst (λ (a : App). is_simple_and_free a ≡ true → FailsBy (fault_of a words) parse.result) c.in_ok-command.ensures.app parse.ensures.kinds refl
+    subst (λ (a : App). is_simple_and_free a ≡ true → FailsBy (fault_of a words) parse.result)
+    c.in_ok-command.ensures.app parse.ensures.kinds refl

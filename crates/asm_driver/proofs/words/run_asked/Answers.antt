@@ -5,7 +5,8 @@ use Rattle.asm_driver.proofs.words.run_asked.Goals as goal
 
 pub returns : goal.returns
 returns c = (
-  rw c.unwrap_or.ensures (capacity_asked (λ bs r. ParsesUnsigned 32 10 bs r × ExplainsUnsignedError 10 bs r × HasUnsignedDigitsIfOk bs r)
+  rw c.unwrap_or.ensures
+      (capacity_asked (λ bs r. ParsesUnsigned 32 10 bs r × ExplainsUnsignedError 10 bs r × HasUnsignedDigitsIfOk bs r)
       (found_of c.args.options.now) _ (λ t r g. g.0) c.get_one.ensures.value),
   journal_asked (found_of c.args.options.now) c.get_flag.result c.get_flag.ensures.value c.get_flag.ensures.other,
 )

@@ -5,4 +5,11 @@ use Rattle.asm_journal.proofs.checking.holds.Goals as goal
 pub returns-in-Some : goal.returns-in-Some
 returns-in-Some c =
     let same = value_eq-same c.in-Some.held.now c.args.value.now in
-    (λ t. sym c.in-Some.ensures.value ∙ same.0 (sym c.eq.ensures ∙ t), λ e. c.eq.ensures ∙ same.1 (c.in-Some.ensures.value ∙ e))
+    let held = c.in-Some.ensures.value in
+    (λ t. sym held ∙ same.0 (sym c.eq.ensures ∙ t), λ e. c.eq.ensures ∙ same.1 (held ∙ e))
+
+pub returns-in-None : goal.returns-in-None
+returns-in-None c =
+    let none = c.in-None.ensures.value in
+    let undef = c.is_undef.ensures.meaning in
+    (λ t. sym none ∙ sym (undef.0 t), λ e. undef.1 (sym e ∙ sym none))

@@ -2,7 +2,7 @@ use Rattle.std.proofs.Common.{Err, ◌∙◌, subst}
 use Rattle.std.proofs.lemmas.Result.{on_ok_weaker}
 use Rattle.asm_update.specs.State.{val}
 use Rattle.asm_update.specs.declared.clash.AggError.{AggError}
-use Rattle.asm_aggregate.specs.Answer.{IsAggregate}
+use Rattle.asm_aggregate.specs.Bundle.{IsAggregate}
 use Rattle.asm_journal.proofs.Moves.{after_updates, after_clash}
 use Rattle.asm_journal.proofs.replaying.fire_or_keep.Goals as goal
 

@@ -4,4 +4,5 @@ use Rattle.asm_aggregate.proofs.Grouped.{walk-shown}
 use Rattle.asm_aggregate.proofs.groups.Groups.into_entries.Goals as goal
 
 pub returns : goal.returns
-returns c = ap by_place c.into_iter.ensures.into_iter_gives.0 ∙ walk-shown c.self.inside.tree c.args.self c.self.invariant c.self.view_is
+returns c = ap by_place c.into_iter.ensures.into_iter_gives.0
+    ∙ walk-shown c.self.inside.tree c.args.self c.self.invariant c.self.view_is

@@ -11,13 +11,17 @@ use Rattle.asm_aggregate.proofs.groups.Groups.make_room_at.Goals as goal
 pub returns-then-contains_key : goal.returns-then-contains_key
 returns-then-contains_key c =
     room_there c.args.self.now c.args.at.now
-    (ap (λ (m : finite.FinMap location_cmp Bundle). is_some (finite.get m c.args.at.now)) (sym c.self.view_is) ∙ ap is_some (get-shown c.self.inside.tree c.args.at)
+    (ap (λ (m : finite.FinMap location_cmp Bundle). is_some (finite.get m c.args.at.now)) (sym c.self.view_is)
+    ∙ ap is_some (get-shown c.self.inside.tree c.args.at)
     ∙ sym c.contains_key.ensures ∙ c.if-contains_key.true)
 
 pub returns : goal.returns
 returns c =
     let shown_as = λ (l : Place). ap (λ (m : finite.FinMap location_cmp Bundle). finite.get m l) c.self.view_is in
     room_made c.args.self.now c.args.at.now _
-    (ap is_some (sym (shown_as c.args.at.now)) ∙ ap is_some (get-shown c.self.inside.tree c.args.at) ∙ sym c.contains_key.ensures ∙ c.if-contains_key.false)
-    (λ l. put_in c.self.inside.tree c.insert.new.self c.args.at (bundle_of []) (λ q. c.in_ok-insert.ensures.updates.0 q ∙ ap (λ b. cond (is_at (ref_cmp c.args.at) q) (Some b) (tree.get ref_cmp c.self.inside.tree q)) c.new.ensures) l
+    (ap is_some (sym (shown_as c.args.at.now)) ∙ ap is_some (get-shown c.self.inside.tree c.args.at)
+    ∙ sym c.contains_key.ensures ∙ c.if-contains_key.false)
+    (λ l. put_in c.self.inside.tree c.insert.new.self c.args.at (bundle_of [])
+    (λ q. c.in_ok-insert.ensures.updates.0 q
+    ∙ ap (λ b. cond (is_at (ref_cmp c.args.at) q) (Some b) (tree.get ref_cmp c.self.inside.tree q)) c.new.ensures) l
     ∙ ap (cond (eq_by_cmp location_cmp l c.args.at.now) (Some (bundle_of []))) (shown_as l))

@@ -9,5 +9,6 @@ loop-i-init c = none_grouped c.new-groups.result c.new-groups.ensures
 
 pub loop-i-preserved : goal.loop-i-preserved
 loop-i-preserved c =
-    subst (λ (M : Move). AreGroups M c.add.new.self) (taken_more c.args.instructions.now c.loop-i.i c.get.result.now c.get.ensures)
+    subst (λ (M : Move). AreGroups M c.add.new.self)
+    (taken_more c.args.instructions.now c.loop-i.i c.get.result.now c.get.ensures)
     (c.in_ok-add.ensures (take c.loop-i.i c.args.instructions.now) c.loop-i.invariant)

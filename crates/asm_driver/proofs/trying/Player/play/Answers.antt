@@ -10,7 +10,8 @@ pub loop-step-init : goal.loop-step-init
 loop-step-init g c =
     let meaning = g.A.Aggregator.meaning in
     let part = (meaning c.args.self.now.aggregator.now).part in
-    subst (λ (os : List Outcome). Plays meaning part c.args.agent c.args.agent [] os) (sym c.new-outcomes.ensures.items) (plays_none meaning part c.args.agent)
+    subst (λ (os : List Outcome). Plays meaning part c.args.agent c.args.agent [] os)
+    (sym c.new-outcomes.ensures.items) (plays_none meaning part c.args.agent)
 
 pub loop-step-preserved : goal.loop-step-preserved
 loop-step-preserved g c =
@@ -20,10 +21,14 @@ loop-step-preserved g c =
     let steps = c.args.steps.now in
     let s = c.step-item.result in
     let o = c.in_ok-play_step.field-0 in
-    let taken = take_more steps i s (omega (arith, c.loop-step-test.true)) ∙ ap (λ (y : Step). take i steps ++ y ∷ []) (sym c.step-item.is) in
-    let more = plays_more meaning part c.args.agent c.loop-step.agent c.play_step.new.agent (take i steps) c.loop-step.outcomes.items s o c.loop-step.invariant c.in_ok-play_step.ensures in
-    subst (λ (os : List Outcome). Plays meaning part c.args.agent c.play_step.new.agent (take (i + 1) steps) os) (sym c.in_ok-push.ensures.items)
-    (subst (λ (ss : List Step). Plays meaning part c.args.agent c.play_step.new.agent ss (c.loop-step.outcomes.items ++ o ∷ [])) (sym taken) more)
+    let taken = take_more steps i s (omega (arith, c.loop-step-test.true))
+    ∙ ap (λ (y : Step). take i steps ++ y ∷ []) (sym c.step-item.is) in
+    let more = plays_more meaning part c.args.agent c.loop-step.agent c.play_step.new.agent (take i steps)
+    c.loop-step.outcomes.items s o c.loop-step.invariant c.in_ok-play_step.ensures in
+    subst (λ (os : List Outcome). Plays meaning part c.args.agent c.play_step.new.agent (take (i + 1) steps) os)
+    (sym c.in_ok-push.ensures.items)
+    (subst (λ (ss : List Step). Plays meaning part c.args.agent c.play_step.new.agent ss
+    (c.loop-step.outcomes.items ++ o ∷ [])) (sym taken) more)
 
 pub returns : goal.returns
 returns g c =

@@ -24,7 +24,8 @@ loop-tried-init g c = refl
 pub returns-in-Some : goal.returns-in-Some
 returns-in-Some g c =
     let meaning = g.A.Aggregator.meaning in
-    let ended = subst (λ (o : Option Outcome). IsTry meaning (meaning c.args.self.now.aggregator.now).part c.loop-tried.agent c.one_try.new.agent c.args.step.now o)
+    let ended = subst (λ (o : Option Outcome). IsTry meaning (meaning c.args.self.now.aggregator.now).part
+    c.loop-tried.agent c.one_try.new.agent c.args.step.now o)
     c.in-Some.is c.in_ok-outcome.ensures in
     inr (c.loop-tried.tried, omega (arith, c.loop-tried-test.true), c.loop-tried.agent, c.loop-tried.invariant, ended)
 
@@ -32,11 +33,18 @@ returns-in-Some g c =
 pub loop-tried-preserved : goal.loop-tried-preserved
 loop-tried-preserved g c =
     let meaning = g.A.Aggregator.meaning in
-    let again = subst (λ (o : Option Outcome). IsTry meaning (meaning c.args.self.now.aggregator.now).part c.loop-tried.agent c.one_try.new.agent c.args.step.now o)
+    let again = subst (λ (o : Option Outcome). IsTry meaning (meaning c.args.self.now.aggregator.now).part
+    c.loop-tried.agent c.one_try.new.agent c.args.step.now o)
     c.in-None.is c.in_ok-outcome.ensures in
     let on : suc c.loop-tried.tried ≡ c.loop-tried.tried + 1 = omega arith in
-    subst (λ (n : ℕ). Tried n c.args.agent.now c.one_try.new.agent) on (c.loop-tried.agent, c.loop-tried.invariant, again)
+    subst (λ (n : ℕ). Tried n c.args.agent.now c.one_try.new.agent) on
+    (c.loop-tried.agent, c.loop-tried.invariant, again)
 
 -- it was given up
 pub returns : goal.returns
-returns g c = inl (refl, c.loop-tried.tried, omega (arith, c.loop-tried-test.false, c.loop-tried.auto.tried-end), c.loop-tried.invariant)
+returns g c = inl (
+  refl,
+  c.loop-tried.tried,
+  omega (arith, c.loop-tried-test.false, c.loop-tried.auto.tried-end),
+  c.loop-tried.invariant,
+)

@@ -1,6 +1,6 @@
 use Rattle.std.proofs.Common.{◌≡◌, ◌+◌, Err, ap, ◌∙◌, subst}
 use Rattle.asm_update.specs.declared.clash.AggError.{AggError}
-use Rattle.asm_aggregate.specs.Answer.{IsAggregate}
+use Rattle.asm_aggregate.specs.Bundle.{IsAggregate}
 use Rattle.std.specs.FinMap as map
 use Rattle.asm_element.specs.Place.{Place}
 use Rattle.asm_state.specs.Follow.{entry_after}

@@ -1,0 +1,13 @@
+-- Tables of causes that give a value.
+use Rattle.std.proofs.Common.{◌≡◌, Bool, true, false, cond, not, refl}
+use Rattle.std.specs.Prelude.{Result, Ok, Err}
+
+-- a test of the table failed, where it gives a value
+pub passed : {A E : Type 0} (b : Bool) (cause : E) (rest : Result A E) (w : A) → cond b (Err cause) rest ≡ Ok w →
+    (b ≡ false) × (rest ≡ Ok w)
+passed true cause rest w h = cc
+passed false cause rest w h = (refl, h)
+
+pub not_false : (b : Bool) → not b ≡ false → b ≡ true
+not_false true h = refl
+not_false false h = cc

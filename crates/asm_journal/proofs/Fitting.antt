@@ -1,0 +1,29 @@
+-- A history as which a text reads fits a journal.
+use Rattle.std.proofs.Common.{◌<◌, ◌≤◌, ◌^◌, ℕ, List, [], ◌∷◌, length, arith}
+use Rattle.std.specs.List.{AllByRecursion}
+use Rattle.std.proofs.lemmas.List.Elements.{All-from_recursion}
+use Rattle.asm_storage.specs.History.{EventFits, Fits}
+use Rattle.asm_storage.specs.declared.history.Event.{Event}
+use Rattle.asm_storage.specs.declared.history.History.{History}
+use Rattle.asm_journal.specs.Reading.{AreLimits, HasEvents, ReadsAs}
+
+events_fit : (agents : ℕ) (text : List ℕ) (es : List Event) (rest : List ℕ)
+    → HasEvents agents text es rest → AllByRecursion (EventFits agents) es
+events_fit agents text [] rest h = tt
+events_fit agents text (e ∷ es) rest h = (h.3.1, events_fit agents h.1 es rest h.4)
+
+few_events : (n : ℕ) → n < 2 ^ 32 → n ≤ 4294967295
+few_events n h = omega arith
+
+limits_fit : (h : History) → AreLimits h.agents h.capacity (length h.events)
+    → AllByRecursion (EventFits h.agents) h.events → Fits h
+limits_fit h limits events = record {
+  agents = limits.0;
+  some = limits.1;
+  capacity = limits.2;
+  few = few_events (length h.events) limits.3;
+  events = All-from_recursion (EventFits h.agents) h.events events;
+}
+
+pub reads_fit : (text : List ℕ) (h : History) → ReadsAs text h → Fits h
+reads_fit text h p = limits_fit h p.3.6.4 (events_fit h.agents p.1 h.events [] p.4)
