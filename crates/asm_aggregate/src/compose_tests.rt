@@ -1,19 +1,17 @@
 use crate::tests::Act::{self, Add, BagAdd, BagRemove, Remove};
 use crate::tests::Old::{self, Bag, Num, Set};
-use crate::tests::{Nobody, action_of, location, state_of, updates_of, value_of};
+use crate::tests::{action_of, is_clash, is_wanted, pairs, push_at, state_of, value_of};
 use crate::*;
-use asm_update::{
-    Action, AggError, Aggregator, Cause, Clash, Instruction, Instructions, PlainState, UpdateSet,
-};
-use std::alloc::Global;
+use asm_update::{Action, Aggregator, Cause, Instructions};
+use std::alloc::{AllocError, Global};
 use std::process::Abort;
 use std::test::Fail;
 
-/// An action, in few letters.
+/// What is done at a location, in few letters.
 #[derive(Clone, Copy)]
-enum Step {
-    Put(Old),
-    Do(Act),
+enum Line {
+    Put(&'static str, Old),
+    Do(&'static str, Act),
 }
 
 /// Why there is no composition, and where.
@@ -23,223 +21,280 @@ enum Refusal {
     Large(&'static str),
 }
 
+use Line::{Do, Put};
 use Refusal::{Clashes, Large};
-use Step::{Do, Put};
 
-/// A location, with what is done there.
-type Line = (&'static str, Step);
+/// What is done first, what is done then, and what the two compose to.
+#[derive(Clone, Copy)]
+struct Row(
+    &'static [Line],
+    &'static [Line],
+    Result<&'static [Line], Refusal>,
+);
 
 fn steps(alloc: Global, lines: &[Line]) -> Result<Instructions, Fail> {
     let mut list = Instructions::new(alloc);
-    for (name, step) in lines {
-        let at = location(alloc, name)?;
-        let action = match *step {
-            Put(value) => Action::Regular(value_of(alloc, value)?),
-            Do(action) => action_of(alloc, action)?,
-        };
-        list.push(Instruction { at, action })?;
+    for line in lines {
+        match *line {
+            Put(name, value) => {
+                let action = Action::Regular(value_of(alloc, value)?);
+                push_at(alloc, &mut list, name, action)?;
+            }
+            Do(name, act) => push_at(alloc, &mut list, name, action_of(alloc, act)?)?,
+        }
     }
     Ok(list)
 }
 
-fn expected(
+fn is_move(
     alloc: Global,
-    wanted: Result<&[Line], Refusal>,
-) -> Result<Result<Instructions, ComposeError>, Fail> {
-    Ok(match wanted {
-        Ok(list) => Ok(steps(alloc, list)?),
-        Err(Clashes(name, cause)) => {
-            let at = location(alloc, name)?;
-            Err(ComposeError::Clash(Clash { at, cause }))
-        }
-        Err(Large(name)) => Err(ComposeError::Large(location(alloc, name)?)),
-    })
+    list: &Instructions,
+    want: Result<&[Line], Refusal>,
+) -> Result<bool, Fail> {
+    match want {
+        Ok(lines) => Ok(*list == steps(alloc, lines)?),
+        Err(_) => Ok(false),
+    }
 }
 
-/// What the first and the second steps compose to.
-fn check<R: Abort, A: Aggregator>(
+fn is_refusal(error: &ComposeError, want: Result<&[Line], Refusal>) -> bool {
+    match (error, want) {
+        (ComposeError::Clash(clash), Err(Clashes(name, cause))) => is_clash(clash, name, cause),
+        (ComposeError::Large(at), Err(Large(name))) => at.name() == name && at.args().is_empty(),
+        _ => false,
+    }
+}
+
+/// Whether it is the wanted move, or the wanted refusal. The error is want of memory.
+fn is_composed(
+    alloc: Global,
+    answer: Result<Instructions, ComposeError>,
+    want: Result<&[Line], Refusal>,
+) -> Result<bool, Fail> {
+    match answer {
+        Ok(list) => is_move(alloc, &list, want),
+        Err(ComposeError::Memory) => Err(Fail::from(AllocError)),
+        Err(error) => Ok(is_refusal(&error, want)),
+    }
+}
+
+fn composes<A: Aggregator>(alloc: Global, aggregator: &A, row: Row) -> Result<bool, Fail> {
+    let first = steps(alloc, row.0)?;
+    let second = steps(alloc, row.1)?;
+    let answer = compose(alloc, aggregator, &first, &second);
+    is_composed(alloc, answer, row.2)
+}
+
+fn compose_all<R: Abort, A: Aggregator>(
     rt: &R,
     alloc: Global,
     aggregator: &A,
-    row: (&[Line], &[Line], Result<&[Line], Refusal>),
+    rows: &[Row],
 ) -> Result<(), Fail> {
-    let first = steps(alloc, row.0)?;
-    let second = steps(alloc, row.1)?;
-    assert_eq!(rt;
-        compose(alloc, aggregator, &first, &second),
-        expected(alloc, row.2)?
-    );
+    for (k, row) in rows.iter().enumerate() {
+        assert!(rt; composes(alloc, aggregator, *row)?, "at row {k}");
+    }
     Ok(())
 }
 
+static PUTS: [Row; 3] = [
+    Row(
+        &[Put("x", Num(1))],
+        &[Put("x", Num(2))],
+        Ok(&[Put("x", Num(2))]),
+    ),
+    Row(
+        &[Put("s", Set(&[1]))],
+        &[Do("s", Add(2)), Do("s", Remove(1))],
+        Ok(&[Put("s", Set(&[2]))]),
+    ),
+    Row(
+        &[Put("s", Set(&[1])), Do("s", Add(1))],
+        &[Do("s", Add(3))],
+        Ok(&[Put("s", Set(&[1, 3]))]),
+    ),
+];
+
 #[test]
 fn values_that_are_put(rt: HostRuntime) -> Result<(), Fail> {
-    let (rt, alloc, agg) = (&rt, rt.alloc(), &standard());
-    let one = [("x", Put(Num(1)))];
-    let two = [("x", Put(Num(2)))];
-    check(rt, alloc, agg, (&one, &two, Ok(&two)))?;
-    let put = [("s", Put(Set(&[1])))];
-    let change = [("s", Do(Add(2))), ("s", Do(Remove(1)))];
-    check(
-        rt,
-        alloc,
-        agg,
-        (&put, &change, Ok(&[("s", Put(Set(&[2])))])),
-    )?;
-    let both = [("s", Put(Set(&[1]))), ("s", Do(Add(1)))];
-    let more = [("s", Do(Add(3)))];
-    check(
-        rt,
-        alloc,
-        agg,
-        (&both, &more, Ok(&[("s", Put(Set(&[1, 3])))])),
-    )
+    compose_all(&rt, rt.alloc(), &standard(), &PUTS)
 }
+
+static PUTS_OVER_PARTIALS: [Row; 3] = [
+    Row(
+        &[Do("s", Add(1))],
+        &[Put("s", Num(5))],
+        Ok(&[Put("s", Num(5))]),
+    ),
+    Row(
+        &[Do("s", Add(1)), Do("s", Remove(1))],
+        &[Put("s", Num(5))],
+        Err(Clashes("s", Cause::Both)),
+    ),
+    Row(
+        &[Put("s", Num(1))],
+        &[Do("s", Add(1))],
+        Err(Clashes("s", Cause::Kind)),
+    ),
+];
 
 #[test]
 fn values_put_over_partial_updates(rt: HostRuntime) -> Result<(), Fail> {
-    let (rt, alloc, agg) = (&rt, rt.alloc(), &standard());
-    let five = [("s", Put(Num(5)))];
-    let add = [("s", Do(Add(1)))];
-    check(rt, alloc, agg, (&add, &five, Ok(&five)))?;
-    let both = [("s", Do(Add(1))), ("s", Do(Remove(1)))];
-    check(
-        rt,
-        alloc,
-        agg,
-        (&both, &five, Err(Clashes("s", Cause::Both))),
-    )?;
-    let put = [("s", Put(Num(1)))];
-    check(rt, alloc, agg, (&put, &add, Err(Clashes("s", Cause::Kind))))
+    compose_all(&rt, rt.alloc(), &standard(), &PUTS_OVER_PARTIALS)
 }
+
+static SETS: [Row; 3] = [
+    Row(
+        &[Do("s", Add(1))],
+        &[Do("s", Add(2)), Do("s", Remove(1))],
+        Ok(&[Do("s", Add(2)), Do("s", Remove(1))]),
+    ),
+    Row(
+        &[Do("s", Add(1)), Do("s", Remove(2))],
+        &[Do("s", Add(2)), Do("s", Remove(1))],
+        Ok(&[Do("s", Add(2)), Do("s", Remove(1))]),
+    ),
+    Row(
+        &[Do("s", Add(1))],
+        &[Do("s", BagAdd("e", 1))],
+        Err(Clashes("s", Cause::Kind)),
+    ),
+];
 
 #[test]
 fn partial_updates_of_sets(rt: HostRuntime) -> Result<(), Fail> {
-    let (rt, alloc, agg) = (&rt, rt.alloc(), &standard());
-    let add = [("s", Do(Add(1)))];
-    let change = [("s", Do(Add(2))), ("s", Do(Remove(1)))];
-    check(rt, alloc, agg, (&add, &change, Ok(&change)))?;
-    let back = [("s", Do(Add(1))), ("s", Do(Remove(2)))];
-    check(rt, alloc, agg, (&back, &change, Ok(&change)))?;
-    let bag = [("s", Do(BagAdd("e", 1)))];
-    check(rt, alloc, agg, (&add, &bag, Err(Clashes("s", Cause::Kind))))
+    compose_all(&rt, rt.alloc(), &standard(), &SETS)
 }
+
+static BAGS: [Row; 3] = [
+    Row(
+        &[Do("b", BagAdd("e", 3))],
+        &[Do("b", BagRemove("e", 5))],
+        Ok(&[Do("b", BagRemove("e", 2))]),
+    ),
+    Row(
+        &[Do("b", BagAdd("e", 3)), Do("b", BagRemove("f", 1))],
+        &[Do("b", BagRemove("e", 1)), Do("b", BagAdd("f", 4))],
+        Ok(&[
+            Do("b", BagAdd("e", 2)),
+            Do("b", BagAdd("f", 4)),
+            Do("b", BagRemove("f", 1)),
+        ]),
+    ),
+    Row(
+        &[Do("b", BagAdd("e", 1)), Do("b", BagAdd("e", 1))],
+        &[],
+        Ok(&[Do("b", BagAdd("e", 2))]),
+    ),
+];
 
 #[test]
 fn partial_updates_of_bags(rt: HostRuntime) -> Result<(), Fail> {
-    let (rt, alloc, agg) = (&rt, rt.alloc(), &standard());
-    let three = [("b", Do(BagAdd("e", 3)))];
-    let five = [("b", Do(BagRemove("e", 5)))];
-    check(
-        rt,
-        alloc,
-        agg,
-        (&three, &five, Ok(&[("b", Do(BagRemove("e", 2)))])),
-    )?;
-    let first = [("b", Do(BagAdd("e", 3))), ("b", Do(BagRemove("f", 1)))];
-    let second = [("b", Do(BagRemove("e", 1))), ("b", Do(BagAdd("f", 4)))];
-    let both = [
-        ("b", Do(BagAdd("e", 2))),
-        ("b", Do(BagAdd("f", 4))),
-        ("b", Do(BagRemove("f", 1))),
-    ];
-    check(rt, alloc, agg, (&first, &second, Ok(&both)))?;
-    let twice = [("b", Do(BagAdd("e", 1))), ("b", Do(BagAdd("e", 1)))];
-    check(
-        rt,
-        alloc,
-        agg,
-        (&twice, &[], Ok(&[("b", Do(BagAdd("e", 2)))])),
-    )
+    compose_all(&rt, rt.alloc(), &standard(), &BAGS)
 }
+
+static AMOUNTS: [Row; 3] = [
+    Row(
+        &[Do("b", BagAdd("e", 1))],
+        &[Do("b", BagRemove("e", 1))],
+        Ok(&[]),
+    ),
+    Row(
+        &[Do("b", BagRemove("e", u32::MAX))],
+        &[Do("b", BagRemove("e", 1))],
+        Err(Large("b")),
+    ),
+    Row(
+        &[Do("b", BagAdd("e", u32::MAX))],
+        &[Do("b", BagAdd("e", 1))],
+        Err(Large("b")),
+    ),
+];
 
 #[test]
 fn amounts_that_cancel_or_are_too_large(rt: HostRuntime) -> Result<(), Fail> {
-    let (rt, alloc, agg) = (&rt, rt.alloc(), &standard());
-    let more = [("b", Do(BagAdd("e", 1)))];
-    let less = [("b", Do(BagRemove("e", 1)))];
-    check(rt, alloc, agg, (&more, &less, Ok(&[])))?;
-    let all = [("b", Do(BagRemove("e", u32::MAX)))];
-    check(rt, alloc, agg, (&all, &less, Err(Large("b"))))?;
-    let full = [("b", Do(BagAdd("e", u32::MAX)))];
-    check(rt, alloc, agg, (&full, &more, Err(Large("b"))))
+    compose_all(&rt, rt.alloc(), &standard(), &AMOUNTS)
 }
 
-/// What firing the steps gives at x.
-fn fired(
+/// Whether the move gives this at x where that stands there.
+fn fires(
     alloc: Global,
-    old: Old,
     list: &Instructions,
-) -> Result<Result<UpdateSet, AggError>, Fail> {
-    Ok(aggregate(alloc, &standard(), &state_of(alloc, old)?, list))
+    old: Old,
+    want: Result<Old, Cause>,
+) -> Result<bool, Fail> {
+    let state = state_of(alloc, old)?;
+    is_wanted(alloc, aggregate(alloc, &standard(), &state, list), want)
 }
+
+static BACK_AGAIN: [Row; 1] = [Row(
+    &[Do("x", BagRemove("e", 1))],
+    &[Do("x", BagAdd("e", 1))],
+    Ok(&[Do("x", BagAdd("e", 1)), Do("x", BagRemove("e", 1))]),
+)];
 
 #[test]
 fn a_removal_stays_though_the_amount_comes_back(rt: HostRuntime) -> Result<(), Fail> {
     let alloc = rt.alloc();
-    let less = steps(alloc, &[("x", Do(BagRemove("e", 1)))])?;
-    let more = steps(alloc, &[("x", Do(BagAdd("e", 1)))])?;
-    let both = [("x", Do(BagAdd("e", 1))), ("x", Do(BagRemove("e", 1)))];
+    compose_all(&rt, alloc, &standard(), &BACK_AGAIN)?;
+    let less = steps(alloc, BACK_AGAIN[0].0)?;
+    let more = steps(alloc, BACK_AGAIN[0].1)?;
     let composed = compose(alloc, &standard(), &less, &more)?;
-    assert_eq!(rt; composed, steps(alloc, &both)?);
-    assert_eq!(rt;
-        fired(alloc, Bag(1, 0), &composed)?,
-        Ok(updates_of(alloc, Bag(1, 0))?)
-    );
-    let clash = Clash {
-        at: location(alloc, "x")?,
-        cause: Cause::Short,
-    };
-    assert_eq!(rt;
-        fired(alloc, Bag(0, 0), &composed)?,
-        Err(AggError::Clash(clash))
-    );
+    assert!(rt; fires(alloc, &composed, Bag(1, 0), Ok(Bag(1, 0)))?);
+    assert!(rt; fires(alloc, &composed, Bag(0, 0), Err(Cause::Short))?);
     Ok(())
 }
 
+static LEAST: [Row; 2] = [
+    Row(
+        &[
+            Do("d", BagAdd("e", u32::MAX)),
+            Put("c", Num(1)),
+            Put("a", Num(2)),
+        ],
+        &[Do("d", BagAdd("e", 1)), Do("c", Add(1)), Put("b", Num(3))],
+        Err(Clashes("c", Cause::Kind)),
+    ),
+    Row(
+        &[Put("a", Num(2))],
+        &[Put("b", Num(3))],
+        Ok(&[Put("a", Num(2)), Put("b", Num(3))]),
+    ),
+];
+
 #[test]
 fn the_least_location_that_refuses_is_answered(rt: HostRuntime) -> Result<(), Fail> {
-    let (rt, alloc, agg) = (&rt, rt.alloc(), &standard());
-    let first = [
-        ("d", Do(BagAdd("e", u32::MAX))),
-        ("c", Put(Num(1))),
-        ("a", Put(Num(2))),
-    ];
-    let second = [
-        ("d", Do(BagAdd("e", 1))),
-        ("c", Do(Add(1))),
-        ("b", Put(Num(3))),
-    ];
-    check(
-        rt,
-        alloc,
-        agg,
-        (&first, &second, Err(Clashes("c", Cause::Kind))),
-    )?;
-    let puts = [("a", Put(Num(2))), ("b", Put(Num(3)))];
-    check(
-        rt,
-        alloc,
-        agg,
-        (&[("a", Put(Num(2)))], &[("b", Put(Num(3)))], Ok(&puts)),
-    )
+    compose_all(&rt, rt.alloc(), &standard(), &LEAST)
 }
+
+static BY_SETS: [Row; 2] = [
+    Row(
+        &[Do("s", Add(1))],
+        &[Do("s", Add(2))],
+        Ok(&[Do("s", Add(1)), Do("s", Add(2))]),
+    ),
+    Row(
+        &[Do("s", BagAdd("e", 1))],
+        &[],
+        Err(Clashes("s", Cause::Mixed)),
+    ),
+];
+
+static BY_PAIRS: [Row; 2] = [
+    Row(
+        &[Do("s", Add(1))],
+        &[Do("s", Add(2))],
+        Ok(&[Do("s", Add(1)), Do("s", Add(2))]),
+    ),
+    Row(
+        &[Do("s", BagAdd("e", 1))],
+        &[Do("s", Add(1))],
+        Err(Clashes("s", Cause::Kind)),
+    ),
+];
 
 #[test]
 fn any_aggregator_composes(rt: HostRuntime) -> Result<(), Fail> {
-    let (rt, alloc) = (&rt, rt.alloc());
-    let one = [("s", Do(Add(1)))];
-    let two = [("s", Do(Add(2)))];
-    let both = [("s", Do(Add(1))), ("s", Do(Add(2)))];
-    check(rt, alloc, &SetAgg, (&one, &two, Ok(&both)))?;
-    let bag = [("s", Do(BagAdd("e", 1)))];
-    check(
-        rt,
-        alloc,
-        &SetAgg,
-        (&bag, &[], Err(Clashes("s", Cause::Mixed))),
-    )?;
-    let agg = &Pair::new(Pair::new(Nobody, BagAgg), Pair::new(SetAgg, Nobody));
-    check(rt, alloc, agg, (&one, &two, Ok(&both)))?;
-    check(rt, alloc, agg, (&bag, &one, Err(Clashes("s", Cause::Kind))))
+    compose_all(&rt, rt.alloc(), &SetAgg, &BY_SETS)?;
+    compose_all(&rt, rt.alloc(), &pairs(), &BY_PAIRS)
 }

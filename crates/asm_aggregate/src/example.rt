@@ -18,13 +18,21 @@ fn books(alloc: Global, numbers: &[i64]) -> Result<Value, AllocError> {
     Ok(Value::Set(set))
 }
 
-/// Fires a move; nothing is written where it clashes.
-fn fire(alloc: Global, state: &mut PlainState, step: &Instructions) -> Result<(), AggError> {
-    let updates = aggregate(alloc, &standard(), state, step)?;
+/// Fires a move, or tells where it clashes; then nothing is written. The error is want of memory.
+fn fire(
+    alloc: Global,
+    state: &mut PlainState,
+    step: &Instructions,
+) -> Result<Option<Clash>, AllocError> {
+    let updates = match aggregate(alloc, &standard(), state, step) {
+        Ok(updates) => updates,
+        Err(AggError::Clash(clash)) => return Ok(Some(clash)),
+        Err(AggError::Memory) => return Err(AllocError),
+    };
     for (at, value) in updates {
         state.set(at, value)?;
     }
-    Ok(())
+    Ok(None)
 }
 
 #[test]
@@ -38,7 +46,7 @@ fn books_on_a_shelf(rt: HostRuntime) -> Result<(), Fail> {
         at: shelf(alloc)?,
         action,
     })?;
-    fire(alloc, &mut state, &step)?;
+    assert_eq!(rt; fire(alloc, &mut state, &step)?, None);
 
     let action = Action::SetRemove(Element::Num(9));
     step.push(Instruction {
@@ -49,7 +57,7 @@ fn books_on_a_shelf(rt: HostRuntime) -> Result<(), Fail> {
         at: shelf(alloc)?,
         cause: Cause::Both,
     };
-    assert_eq!(rt; fire(alloc, &mut state, &step), Err(AggError::Clash(clash)));
+    assert_eq!(rt; fire(alloc, &mut state, &step)?, Some(clash));
 
     let mut both = PlainState::new(alloc);
     both.set(shelf(alloc)?, books(alloc, &[7, 9])?)?;

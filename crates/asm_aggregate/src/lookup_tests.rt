@@ -4,7 +4,7 @@ use crate::tests::location;
 use crate::*;
 use asm_element::{ElemSet, Element, Location, Value};
 use asm_update::{Action, Instruction, Instructions, Lookup, PlainState, UpdateSet};
-use std::alloc::Global;
+use std::alloc::{AllocError, Global};
 use std::cell::Cell;
 use std::test::Fail;
 
@@ -110,19 +110,28 @@ fn puts_are_not_looked_up(rt: HostRuntime) -> Result<(), Fail> {
     Ok(())
 }
 
+/// Whether the two are too many for one move. The error is want of memory.
+fn are_many(
+    alloc: Global,
+    first: &Instructions,
+    second: &Instructions,
+) -> Result<bool, AllocError> {
+    match compose(alloc, &standard(), first, second) {
+        Ok(_move) => Ok(false),
+        Err(ComposeError::Memory) => Err(AllocError),
+        Err(error) => Ok(error == ComposeError::ManyInstructions),
+    }
+}
+
 #[test]
 fn a_composition_has_4096_instructions_at_most(rt: HostRuntime) -> Result<(), Fail> {
     let alloc = rt.alloc();
     let many = puts_downwards(alloc)?;
     let mut one = Instructions::new(alloc);
-    let agg = &standard();
-    assert_eq!(rt; compose(alloc, agg, &many, &one)?.len(), 4096);
+    assert_eq!(rt; compose(alloc, &standard(), &many, &one)?.len(), 4096);
     let at = numbered(alloc, 0)?;
     let action = Action::SetAdd(Element::Num(1));
     one.push(Instruction { at, action })?;
-    assert_eq!(rt;
-        compose(alloc, agg, &many, &one),
-        Err(ComposeError::ManyInstructions)
-    );
+    assert!(rt; are_many(alloc, &many, &one)?);
     Ok(())
 }

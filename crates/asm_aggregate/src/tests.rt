@@ -10,7 +10,7 @@ use asm_update::{
     Action, AggError, Aggregator, Amount, Cause, Clash, Family, Group, Instruction, Instructions,
     JoinError, PlainState, ResultError, UpdateSet,
 };
-use std::alloc::Global;
+use std::alloc::{AllocError, Global};
 use std::process::Abort;
 use std::test::Fail;
 
@@ -101,7 +101,12 @@ fn actions_of(alloc: Global, actions: &[Act]) -> Result<Vec<Action>, Fail> {
     Ok(list)
 }
 
-fn push_at(alloc: Global, list: &mut Instructions, name: &str, action: Action) -> Result<(), Fail> {
+pub(crate) fn push_at(
+    alloc: Global,
+    list: &mut Instructions,
+    name: &str,
+    action: Action,
+) -> Result<(), Fail> {
     let at = location(alloc, name)?;
     list.push(Instruction { at, action })?;
     Ok(())
@@ -135,198 +140,231 @@ pub(crate) fn updates_of(alloc: Global, value: Old) -> Result<UpdateSet, Fail> {
     Ok(updates)
 }
 
+/// What stands at x, what a move puts there, its partial updates there, and what the aggregator makes of them.
+#[derive(Clone, Copy)]
+struct Row(Old, &'static [Old], &'static [Act], Result<Old, Cause>);
+
+pub(crate) fn is_clash(clash: &Clash, name: &str, cause: Cause) -> bool {
+    clash.at.name() == name && clash.at.args().is_empty() && clash.cause == cause
+}
+
+fn are_updates(alloc: Global, updates: &UpdateSet, want: Result<Old, Cause>) -> Result<bool, Fail> {
+    match want {
+        Ok(value) => Ok(*updates == updates_of(alloc, value)?),
+        Err(_) => Ok(false),
+    }
+}
+
+/// Whether it is the wanted value at x alone, or the wanted clash there. The error is want of memory.
+pub(crate) fn is_wanted(
+    alloc: Global,
+    answer: Result<UpdateSet, AggError>,
+    want: Result<Old, Cause>,
+) -> Result<bool, Fail> {
+    match answer {
+        Ok(updates) => are_updates(alloc, &updates, want),
+        Err(AggError::Clash(clash)) => match want {
+            Ok(_) => Ok(false),
+            Err(cause) => Ok(is_clash(&clash, "x", cause)),
+        },
+        Err(AggError::Memory) => Err(Fail::from(AllocError)),
+    }
+}
+
+fn aggregates<A: Aggregator>(alloc: Global, aggregator: &A, row: Row) -> Result<bool, Fail> {
+    let state = state_of(alloc, row.0)?;
+    let instructions = move_of(alloc, row.1, row.2)?;
+    let answer = aggregate(alloc, aggregator, &state, &instructions);
+    is_wanted(alloc, answer, row.3)
+}
+
 fn are_partial(actions: &[Action]) -> bool
     ensures { result ≡ list_all is_partial actions.now }
 {
     actions.iter().all(|action| action.family().is_some())
 }
 
-fn result_by<R: Abort, A: Aggregator>(
-    rt: &R,
+fn put_of(alloc: Global, puts: &[Old]) -> Result<Option<Value>, Fail> {
+    match puts.first() {
+        Some(put) => Ok(Some(value_of(alloc, *put)?)),
+        None => Ok(None),
+    }
+}
+
+/// The group, if its actions are partial updates, and some.
+fn group_of(regular: Option<Value>, partials: Vec<Action>) -> Option<Group> {
+    if partials.is_empty() || !are_partial(partials.as_slice()) {
+        return None;
+    }
+    Some(Group::new(regular, partials))
+}
+
+fn is_value(alloc: Global, value: &Value, want: Result<Old, Cause>) -> Result<bool, Fail> {
+    match want {
+        Ok(old) => Ok(*value == value_of(alloc, old)?),
+        Err(_) => Ok(false),
+    }
+}
+
+/// Whether it is the wanted value, or the wanted cause. The error is want of memory.
+fn is_result(
+    alloc: Global,
+    answer: Result<Value, ResultError>,
+    want: Result<Old, Cause>,
+) -> Result<bool, Fail> {
+    match answer {
+        Ok(value) => is_value(alloc, &value, want),
+        Err(ResultError::Cause(cause)) => match want {
+            Ok(_) => Ok(false),
+            Err(wanted) => Ok(cause == wanted),
+        },
+        Err(ResultError::Memory) => Err(Fail::from(AllocError)),
+    }
+}
+
+fn result_by<A: Aggregator>(
     alloc: Global,
     aggregator: &A,
-    old: Option<&Value>,
-    regular: Option<Value>,
-    partials: Vec<Action>,
+    old: &Value,
+    group: &Group,
 ) -> Result<Value, ResultError> {
-    assert!(rt; !partials.is_empty());
-    assert!(rt; are_partial(partials.as_slice()));
-    aggregator.result(alloc, old, &Group::new(regular, partials))
+    let known = if old.is_undef() { None } else { Some(old) };
+    aggregator.result(alloc, known, group)
 }
 
-fn judge_by_aggregate<R: Abort, A: Aggregator>(
+fn results<A: Aggregator>(alloc: Global, aggregator: &A, row: Row) -> Result<bool, Fail> {
+    let regular = put_of(alloc, row.1)?;
+    let partials = actions_of(alloc, row.2)?;
+    let Some(group) = group_of(regular, partials) else {
+        return Ok(false);
+    };
+    let old = value_of(alloc, row.0)?;
+    is_result(alloc, result_by(alloc, aggregator, &old, &group), row.3)
+}
+
+/// Whether the aggregator makes of the row what it tells, by `aggregate` and, for a group with partial updates and at
+/// most one put, by `result`.
+fn judges<A: Aggregator>(alloc: Global, aggregator: &A, row: Row) -> Result<bool, Fail> {
+    let is_group = row.1.len() <= 1 && !row.2.is_empty();
+    Ok(aggregates(alloc, aggregator, row)? && (!is_group || results(alloc, aggregator, row)?))
+}
+
+fn judge_all<R: Abort, A: Aggregator>(
     rt: &R,
     alloc: Global,
     aggregator: &A,
-    row: (Old, &[Old], &[Act], Result<Old, Cause>),
+    rows: &[Row],
 ) -> Result<(), Fail> {
-    let (old, puts, partials, wanted) = row;
-    let expected = match wanted {
-        Ok(value) => Ok(updates_of(alloc, value)?),
-        Err(cause) => {
-            let at = location(alloc, "x")?;
-            Err(AggError::Clash(Clash { at, cause }))
-        }
-    };
-    let state = state_of(alloc, old)?;
-    let instructions = move_of(alloc, puts, partials)?;
-    assert_eq!(rt;
-        aggregate(alloc, aggregator, &state, &instructions),
-        expected
-    );
-    Ok(())
-}
-
-fn judge_by_result<R: Abort, A: Aggregator>(
-    rt: &R,
-    alloc: Global,
-    aggregator: &A,
-    row: (Old, &[Old], &[Act], Result<Old, Cause>),
-) -> Result<(), Fail> {
-    let (old, puts, partials, wanted) = row;
-    let expected = match wanted {
-        Ok(value) => Ok(value_of(alloc, value)?),
-        Err(cause) => Err(ResultError::Cause(cause)),
-    };
-    let old = value_of(alloc, old)?;
-    let actions = actions_of(alloc, partials)?;
-    let regular = match puts.first() {
-        Some(put) => Some(value_of(alloc, *put)?),
-        None => None,
-    };
-    let known = if old.is_undef() { None } else { Some(&old) };
-    assert_eq!(rt;
-        result_by(rt, alloc, aggregator, known, regular, actions),
-        expected
-    );
-    Ok(())
-}
-
-/// What the aggregator makes of the puts and partial updates of a row, by `aggregate` and, for a group with partial
-/// updates and at most one put, by `result`.
-fn judge<R: Abort, A: Aggregator>(
-    rt: &R,
-    alloc: Global,
-    aggregator: &A,
-    row: (Old, &[Old], &[Act], Result<Old, Cause>),
-) -> Result<(), Fail> {
-    judge_by_aggregate(rt, alloc, aggregator, row)?;
-    if row.1.len() <= 1 && !row.2.is_empty() {
-        judge_by_result(rt, alloc, aggregator, row)?;
+    for (k, row) in rows.iter().enumerate() {
+        assert!(rt; judges(alloc, aggregator, *row)?, "at row {k}");
     }
     Ok(())
 }
 
+static REGULAR: [Row; 5] = [
+    Row(Undef, &[Num(1), Num(1)], &[], Ok(Num(1))),
+    Row(Undef, &[Num(1), Num(2)], &[Add(3)], Err(Cause::Two)),
+    Row(Num(7), &[Set(&[1, 2])], &[Add(1)], Ok(Set(&[1, 2]))),
+    Row(Set(&[]), &[Set(&[1, 2])], &[Remove(2)], Err(Cause::Against)),
+    Row(Set(&[]), &[Set(&[1, 2])], &[Remove(3)], Ok(Set(&[1, 2]))),
+];
+
 #[test]
 fn groups_of_regular_values(rt: HostRuntime) -> Result<(), Fail> {
-    let (rt, alloc, agg) = (&rt, rt.alloc(), &standard());
-    let same = [Num(1), Num(1)];
-    judge(rt, alloc, agg, (Undef, &same, &[], Ok(Num(1))))?;
-    let two = [Num(1), Num(2)];
-    judge(rt, alloc, agg, (Undef, &two, &[Add(3)], Err(Cause::Two)))?;
-    let put = [Set(&[1, 2])];
-    judge(rt, alloc, agg, (Num(7), &put, &[Add(1)], Ok(put[0])))?;
-    judge(
-        rt,
-        alloc,
-        agg,
-        (Set(&[]), &put, &[Remove(2)], Err(Cause::Against)),
-    )?;
-    judge(rt, alloc, agg, (Set(&[]), &put, &[Remove(3)], Ok(put[0])))
+    judge_all(&rt, rt.alloc(), &standard(), &REGULAR)
 }
+
+static SETS: [Row; 4] = [
+    Row(Set(&[1]), &[], &[Add(2), BagAdd("e", 1)], Err(Cause::Mixed)),
+    Row(Num(7), &[], &[Add(1)], Err(Cause::Kind)),
+    Row(Set(&[1]), &[], &[Remove(1)], Ok(Set(&[]))),
+    Row(Set(&[1]), &[Undef], &[Add(1)], Err(Cause::Kind)),
+];
 
 #[test]
 fn groups_of_sets(rt: HostRuntime) -> Result<(), Fail> {
-    let (rt, alloc, agg) = (&rt, rt.alloc(), &standard());
-    let two_families = [Add(2), BagAdd("e", 1)];
-    judge(
-        rt,
-        alloc,
-        agg,
-        (Set(&[1]), &[], &two_families, Err(Cause::Mixed)),
-    )?;
-    judge(rt, alloc, agg, (Num(7), &[], &[Add(1)], Err(Cause::Kind)))?;
-    judge(rt, alloc, agg, (Set(&[1]), &[], &[Remove(1)], Ok(Set(&[]))))?;
-    judge(
-        rt,
-        alloc,
-        agg,
-        (Set(&[1]), &[Undef], &[Add(1)], Err(Cause::Kind)),
-    )
+    judge_all(&rt, rt.alloc(), &standard(), &SETS)
 }
+
+static BAGS: [Row; 6] = [
+    Row(
+        Bag(0, 0),
+        &[Bag(1, 0)],
+        &[BagAdd("e", 1)],
+        Err(Cause::Against),
+    ),
+    Row(Bag(0, 0), &[Set(&[])], &[BagAdd("e", 1)], Err(Cause::Kind)),
+    Row(Bag(2, 0), &[], &[BagRemove("e", 2)], Ok(Bag(0, 0))),
+    Row(
+        Bag(2, 0),
+        &[],
+        &[BagRemove("e", 1), BagRemove("e", 2)],
+        Err(Cause::Short),
+    ),
+    Row(
+        Bag(1, u32::MAX),
+        &[],
+        &[BagRemove("e", 2), BagAdd("f", 1)],
+        Err(Cause::Short),
+    ),
+    Row(Bag(0, u32::MAX), &[], &[BagAdd("f", 1)], Err(Cause::Large)),
+];
 
 #[test]
 fn groups_of_bags(rt: HostRuntime) -> Result<(), Fail> {
-    let (rt, alloc, agg) = (&rt, rt.alloc(), &standard());
-    let one_e = [BagAdd("e", 1)];
-    judge(
-        rt,
-        alloc,
-        agg,
-        (Bag(0, 0), &[Bag(1, 0)], &one_e, Err(Cause::Against)),
-    )?;
-    judge(
-        rt,
-        alloc,
-        agg,
-        (Bag(0, 0), &[Set(&[])], &one_e, Err(Cause::Kind)),
-    )?;
-    judge(
-        rt,
-        alloc,
-        agg,
-        (Bag(2, 0), &[], &[BagRemove("e", 2)], Ok(Bag(0, 0))),
-    )?;
-    let three = [BagRemove("e", 1), BagRemove("e", 2)];
-    judge(rt, alloc, agg, (Bag(2, 0), &[], &three, Err(Cause::Short)))?;
-    let two_e_for_f = [BagRemove("e", 2), BagAdd("f", 1)];
-    judge(
-        rt,
-        alloc,
-        agg,
-        (Bag(1, u32::MAX), &[], &two_e_for_f, Err(Cause::Short)),
-    )?;
-    judge(
-        rt,
-        alloc,
-        agg,
-        (Bag(0, u32::MAX), &[], &[BagAdd("f", 1)], Err(Cause::Large)),
-    )
+    judge_all(&rt, rt.alloc(), &standard(), &BAGS)
 }
+
+static CAUSES: [Row; 3] = [
+    Row(Undef, &[], &[Add(1), BagAdd("e", 1)], Err(Cause::Mixed)),
+    Row(Undef, &[], &[Add(1), Remove(1)], Err(Cause::Kind)),
+    Row(Set(&[1]), &[], &[Add(1), Remove(1)], Err(Cause::Both)),
+];
+
+static A_BAG_FOR_SETS: [Row; 1] = [Row(Undef, &[], &[BagAdd("e", 1)], Err(Cause::Mixed))];
+
+static A_SET_FOR_BAGS: [Row; 1] = [Row(Set(&[1]), &[], &[Add(1)], Err(Cause::Mixed))];
 
 #[test]
 fn causes_come_in_the_order_of_the_table(rt: HostRuntime) -> Result<(), Fail> {
-    let (rt, alloc, agg) = (&rt, rt.alloc(), &standard());
-    judge(
-        rt,
-        alloc,
-        agg,
-        (Undef, &[], &[Add(1), BagAdd("e", 1)], Err(Cause::Mixed)),
-    )?;
-    judge(
-        rt,
-        alloc,
-        agg,
-        (Undef, &[], &[Add(1), Remove(1)], Err(Cause::Kind)),
-    )?;
-    judge(
-        rt,
-        alloc,
-        agg,
-        (Set(&[1]), &[], &[Add(1), Remove(1)], Err(Cause::Both)),
-    )?;
-    judge(
-        rt,
-        alloc,
-        &SetAgg,
-        (Undef, &[], &[BagAdd("e", 1)], Err(Cause::Mixed)),
-    )?;
-    judge(
-        rt,
-        alloc,
-        &BagAgg,
-        (Set(&[1]), &[], &[Add(1)], Err(Cause::Mixed)),
-    )
+    judge_all(&rt, rt.alloc(), &standard(), &CAUSES)?;
+    judge_all(&rt, rt.alloc(), &SetAgg, &A_BAG_FOR_SETS)?;
+    judge_all(&rt, rt.alloc(), &BagAgg, &A_SET_FOR_BAGS)
+}
+
+/// What is done first, what is done then, and what joins the two.
+#[derive(Clone, Copy)]
+struct Joint(
+    &'static [Act],
+    &'static [Act],
+    Result<&'static [Act], JoinError>,
+);
+
+fn are_actions(
+    alloc: Global,
+    actions: &[Action],
+    want: Result<&[Act], JoinError>,
+) -> Result<bool, Fail> {
+    match want {
+        Ok(wanted) => Ok(actions == actions_of(alloc, wanted)?.as_slice()),
+        Err(_) => Ok(false),
+    }
+}
+
+/// Whether they are the wanted actions, or it is the wanted refusal. The error is want of memory.
+fn is_joined(
+    alloc: Global,
+    answer: Result<Vec<Action>, JoinError>,
+    want: Result<&[Act], JoinError>,
+) -> Result<bool, Fail> {
+    match answer {
+        Ok(actions) => are_actions(alloc, actions.as_slice(), want),
+        Err(JoinError::Memory) => Err(Fail::from(AllocError)),
+        Err(error) => match want {
+            Ok(_) => Ok(false),
+            Err(wanted) => Ok(error == wanted),
+        },
+    }
 }
 
 fn join_by<R: Abort, A: Aggregator>(
@@ -342,70 +380,102 @@ fn join_by<R: Abort, A: Aggregator>(
     aggregator.join(alloc, first, second)
 }
 
-fn check_join<R: Abort, A: Aggregator>(
+fn joins<R: Abort, A: Aggregator>(
     rt: &R,
     alloc: Global,
     aggregator: &A,
-    row: (&[Act], &[Act], Result<&[Act], JoinError>),
-) -> Result<(), Fail> {
-    let expected = match row.2 {
-        Ok(actions) => Ok(actions_of(alloc, actions)?),
-        Err(error) => Err(error),
-    };
+    row: Joint,
+) -> Result<bool, Fail> {
     let first = actions_of(alloc, row.0)?;
     let second = actions_of(alloc, row.1)?;
-    let joined = join_by(rt, alloc, aggregator, first.as_slice(), second.as_slice());
-    assert_eq!(rt; joined, expected);
+    let answer = join_by(rt, alloc, aggregator, first.as_slice(), second.as_slice());
+    is_joined(alloc, answer, row.2)
+}
+
+fn join_all<R: Abort, A: Aggregator>(
+    rt: &R,
+    alloc: Global,
+    aggregator: &A,
+    rows: &[Joint],
+) -> Result<(), Fail> {
+    for (k, row) in rows.iter().enumerate() {
+        assert!(rt; joins(rt, alloc, aggregator, *row)?, "at row {k}");
+    }
     Ok(())
 }
 
+static SET_JOINTS: [Joint; 2] = [
+    Joint(&[Add(1)], &[Add(2), Remove(1)], Ok(&[Add(2), Remove(1)])),
+    Joint(
+        &[Add(1)],
+        &[BagAdd("e", 1)],
+        Err(JoinError::Cause(Cause::Kind)),
+    ),
+];
+
 #[test]
 fn joins_of_sets(rt: HostRuntime) -> Result<(), Fail> {
-    let (rt, alloc, agg) = (&rt, rt.alloc(), &standard());
-    let first = [Add(1)];
-    let second = [Add(2), Remove(1)];
-    check_join(rt, alloc, agg, (&first, &second, Ok(&second)))?;
-    let bags = [BagAdd("e", 1)];
-    let kind = JoinError::Cause(Cause::Kind);
-    check_join(rt, alloc, agg, (&first, &bags, Err(kind)))
+    join_all(&rt, rt.alloc(), &standard(), &SET_JOINTS)
 }
+
+static BAG_JOINTS: [Joint; 3] = [
+    Joint(
+        &[BagAdd("e", 3)],
+        &[BagRemove("e", 5)],
+        Ok(&[BagRemove("e", 2)]),
+    ),
+    Joint(
+        &[BagAdd("e", 3), BagRemove("f", 1)],
+        &[BagRemove("e", 1), BagAdd("f", 4)],
+        Ok(&[BagAdd("e", 2), BagAdd("f", 4), BagRemove("f", 1)]),
+    ),
+    Joint(
+        &[BagRemove("e", u32::MAX)],
+        &[BagRemove("e", 1)],
+        Err(JoinError::Large),
+    ),
+];
 
 #[test]
 fn joins_of_bags(rt: HostRuntime) -> Result<(), Fail> {
-    let (rt, alloc, agg) = (&rt, rt.alloc(), &standard());
-    let three = [BagAdd("e", 3)];
-    let five = [BagRemove("e", 5)];
-    let rest = [BagRemove("e", 2)];
-    check_join(rt, alloc, agg, (&three, &five, Ok(&rest)))?;
-    let first = [BagAdd("e", 3), BagRemove("f", 1)];
-    let second = [BagRemove("e", 1), BagAdd("f", 4)];
-    let both = [BagAdd("e", 2), BagAdd("f", 4), BagRemove("f", 1)];
-    check_join(rt, alloc, agg, (&first, &second, Ok(&both)))?;
-    let all = [BagRemove("e", u32::MAX)];
-    let one = [BagRemove("e", 1)];
-    check_join(rt, alloc, agg, (&all, &one, Err(JoinError::Large)))
+    join_all(&rt, rt.alloc(), &standard(), &BAG_JOINTS)
 }
+
+static CANCELLING: [Joint; 3] = [
+    Joint(
+        &[BagRemove("e", 1)],
+        &[BagAdd("e", 1)],
+        Ok(&[BagAdd("e", 1), BagRemove("e", 1)]),
+    ),
+    Joint(&[BagAdd("e", 1)], &[BagRemove("e", 1)], Ok(&[])),
+    Joint(
+        &[Add(1), Remove(2)],
+        &[Add(2), Remove(1)],
+        Ok(&[Add(2), Remove(1)]),
+    ),
+];
 
 #[test]
 fn joins_that_cancel(rt: HostRuntime) -> Result<(), Fail> {
-    let (rt, alloc, agg) = (&rt, rt.alloc(), &standard());
-    let more = [BagAdd("e", 1)];
-    let less = [BagRemove("e", 1)];
-    let both = [BagAdd("e", 1), BagRemove("e", 1)];
-    check_join(rt, alloc, agg, (&less, &more, Ok(&both)))?;
-    check_join(rt, alloc, agg, (&more, &less, Ok(&[])))?;
-    let first = [Add(1), Remove(2)];
-    let second = [Add(2), Remove(1)];
-    check_join(rt, alloc, agg, (&first, &second, Ok(&second)))
+    join_all(&rt, rt.alloc(), &standard(), &CANCELLING)
 }
+
+static NOTHING_AFTER: [Joint; 2] = [
+    Joint(
+        &[BagAdd("e", 1), BagAdd("e", 1)],
+        &[],
+        Ok(&[BagAdd("e", 2)]),
+    ),
+    Joint(
+        &[Add(1), Remove(1)],
+        &[],
+        Err(JoinError::Cause(Cause::Both)),
+    ),
+];
 
 #[test]
 fn joins_with_nothing_after(rt: HostRuntime) -> Result<(), Fail> {
-    let (rt, alloc, agg) = (&rt, rt.alloc(), &standard());
-    let twice = [BagAdd("e", 1), BagAdd("e", 1)];
-    check_join(rt, alloc, agg, (&twice, &[], Ok(&[BagAdd("e", 2)])))?;
-    let both = JoinError::Cause(Cause::Both);
-    check_join(rt, alloc, agg, (&[Add(1), Remove(1)], &[], Err(both)))
+    join_all(&rt, rt.alloc(), &standard(), &NOTHING_AFTER)
 }
 
 /// An aggregator that owns no family.
@@ -444,48 +514,46 @@ fn owns_both<A: Aggregator>(aggregator: &A) -> bool {
     aggregator.owns(Family::Set) && aggregator.owns(Family::Bag)
 }
 
+/// A pair of pairs that owns both families.
+pub(crate) fn pairs() -> Pair<Pair<Nobody, BagAgg>, Pair<SetAgg, Nobody>> {
+    Pair::new(Pair::new(Nobody, BagAgg), Pair::new(SetAgg, Nobody))
+}
+
+static BY_PAIRS: [Row; 2] = [
+    Row(Set(&[1]), &[], &[Add(2)], Ok(Set(&[1, 2]))),
+    Row(Bag(1, 0), &[], &[BagAdd("e", 1)], Ok(Bag(2, 0))),
+];
+
+static JOINTS_BY_PAIRS: [Joint; 1] = [Joint(&[Add(1)], &[Remove(1)], Ok(&[Remove(1)]))];
+
 #[test]
 fn a_pair_of_pairs_owns_what_its_parts_own(rt: HostRuntime) -> Result<(), Fail> {
-    let agg = &Pair::new(Pair::new(Nobody, BagAgg), Pair::new(SetAgg, Nobody));
-    let (rt, alloc) = (&rt, rt.alloc());
-    assert!(rt; owns_both(agg));
-    judge(
-        rt,
-        alloc,
-        agg,
-        (Set(&[1]), &[], &[Add(2)], Ok(Set(&[1, 2]))),
-    )?;
-    judge(
-        rt,
-        alloc,
-        agg,
-        (Bag(1, 0), &[], &[BagAdd("e", 1)], Ok(Bag(2, 0))),
-    )?;
-    let first = [Add(1)];
-    let second = [Remove(1)];
-    check_join(rt, alloc, agg, (&first, &second, Ok(&second)))
+    assert!(rt; owns_both(&pairs()));
+    judge_all(&rt, rt.alloc(), &pairs(), &BY_PAIRS)?;
+    join_all(&rt, rt.alloc(), &pairs(), &JOINTS_BY_PAIRS)
+}
+
+fn two_clashes(alloc: Global) -> Result<Instructions, Fail> {
+    let mut list = Instructions::new(alloc);
+    for (name, n) in [("c", 1), ("b", 1), ("b", 2), ("a", 1), ("c", 2)] {
+        let value = Value::Plain(Element::Num(n));
+        push_at(alloc, &mut list, name, Action::Regular(value))?;
+    }
+    Ok(list)
+}
+
+/// Whether the move clashes there, as two values are put. The error is want of memory.
+fn clashes_at(alloc: Global, list: &Instructions, name: &str) -> Result<bool, AllocError> {
+    match aggregate(alloc, &standard(), &PlainState::new(alloc), list) {
+        Ok(_updates) => Ok(false),
+        Err(AggError::Clash(clash)) => Ok(is_clash(&clash, name, Cause::Two)),
+        Err(AggError::Memory) => Err(AllocError),
+    }
 }
 
 #[test]
 fn the_least_clash_is_answered(rt: HostRuntime) -> Result<(), Fail> {
-    let alloc = rt.alloc();
-    let mut list = Instructions::new(alloc);
-    for (name, n) in [("c", 1), ("b", 1), ("b", 2), ("a", 1), ("c", 2)] {
-        push_at(
-            alloc,
-            &mut list,
-            name,
-            Action::Regular(value_of(alloc, Num(n))?),
-        )?;
-    }
-    let clash = Clash {
-        at: location(alloc, "b")?,
-        cause: Cause::Two,
-    };
-    let state = PlainState::new(alloc);
-    assert_eq!(rt;
-        aggregate(alloc, &standard(), &state, &list),
-        Err(AggError::Clash(clash))
-    );
+    let list = two_clashes(rt.alloc())?;
+    assert!(rt; clashes_at(rt.alloc(), &list, "b")?);
     Ok(())
 }

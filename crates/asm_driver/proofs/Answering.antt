@@ -1,5 +1,5 @@
 -- What is answered to the program's words.
-use Rattle.std.proofs.Common.{◌≡◌, ◌∙◌, ◌<◌, ◌^◌, ℕ, Bool, true, false, ap, ap₂, length, option_map, List, [], ◌∷◌}
+use Rattle.std.proofs.Common.{◌≡◌, ◌∙◌, ◌<◌, ◌^◌, Bool, true, false, ap, ap₂, length, option_map, List, [], ◌∷◌}
 use Rattle.std.proofs.Common.{Option, Some, None, Result, Ok, Err, refl, sym, subst, codes, inl, inr, arith, lit<}
 use Rattle.std.specs.Prelude.{IfOk, IfErr, IfSome, IfNone, ◌⊎◌}
 use Rattle.std.specs.Option.{ok_or, option_and_then}

@@ -1,6 +1,6 @@
 -- Closing the agents that played a script: their history is a play of it.
-use Rattle.std.proofs.Common.{◌≡◌, ◌≢◌, ℕ, ◌+◌, ◌<◌, ◌≤◌, max, All, List, [], ◌∷◌, ◌++◌, length, map, get_or}
-use Rattle.std.proofs.Common.{slice_index, arith, refl, ap, sym, ◌∙◌, subst}
+use Rattle.std.proofs.Common.{◌≡◌, ◌≢◌, ℕ, ◌+◌, ◌≤◌, max, All, List, [], ◌∷◌, length, map}
+use Rattle.std.proofs.Common.{arith, refl, ap, sym, ◌∙◌, subst}
 use Rattle.std.proofs.lemmas.List.Elements.{All-nil, All-cons, All-head, All-tail}
 use Rattle.std.proofs.lemmas.List.FromFn.{length-range_with_len, get_or-range_with_len}
 use Rattle.std.specs.List.{range_with_len}
@@ -10,7 +10,6 @@ use Rattle.asm_update.specs.Aggregator.{Meaning}
 use Rattle.asm_update.specs.Fire.{Part}
 use Rattle.asm_storage.specs.Agents.{AgentView, IsHistoryOf, event_of, id_bound, ids, moves_seen}
 use Rattle.asm_storage.specs.History.{moves, own, IsLegal}
-use Rattle.asm_storage.specs.Machine.{Machine}
 use Rattle.asm_storage.specs.Storage.{StorageView, AgentAt, IsOf, accounts, at_start}
 use Rattle.asm_storage.specs.Storage as storage
 use Rattle.asm_storage.specs.declared.history.Event.{Event}

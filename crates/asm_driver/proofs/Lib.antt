@@ -1,3 +1,4 @@
+mod Counts
 mod Evaluated
 mod Gathering
 mod Agreeing

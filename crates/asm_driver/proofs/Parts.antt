@@ -1,5 +1,5 @@
 -- The turns of agents, put together to the play of a script.
-use Rattle.std.proofs.Common.{◌≡◌, ◌⊎◌, inl, inr, ℕ, ◌+◌, ◌-◌, ◌<◌, ◌≤◌, min, All, List, [], ◌∷◌, ◌++◌, length, map}
+use Rattle.std.proofs.Common.{◌≡◌, ◌⊎◌, inl, inr, ℕ, ◌+◌, ◌-◌, ◌≤◌, List, [], ◌∷◌, ◌++◌, length, map}
 use Rattle.std.proofs.Common.{take, get_or, arith, refl, ap, sym, ◌∙◌, subst, length-append, Ok, Err}
 use Rattle.std.proofs.Math.Seq.{get_or-append_seam}
 use Rattle.std.proofs.lemmas.List.{append_assoc, length-take}
@@ -9,16 +9,11 @@ use Rattle.asm_storage.proofs.Lists.{take-prefix, length-prefix}
 use Rattle.asm_update.specs.Aggregator.{Meaning}
 use Rattle.asm_update.specs.Fire.{Part, fire}
 use Rattle.asm_update.specs.Move.{Move}
-use Rattle.asm_update.specs.State.{State}
 use Rattle.asm_storage.specs.Machine.{Machine, state_of}
 use Rattle.asm_storage.specs.Storage.{StorageView, AgentAt, at_start}
-use Rattle.asm_storage.specs.declared.call.Call.TheVariants as call
-use Rattle.asm_storage.specs.declared.call.Reply.TheVariants as reply
-use Rattle.asm_storage.specs.declared.call.Answer.TheVariants as answer
 use Rattle.asm_storage.specs.declared.history.Event.{Event}
-use Rattle.asm_state.specs.declared.named.Named.{Named}
 use Rattle.asm_driver.specs.Sequencing.{Stop, IsStopped, fire_blocks}
-use Rattle.asm_driver.specs.Told.{after, IsFiring, StopsWith, Clashing, EndsWith, IsTold, AreTold}
+use Rattle.asm_driver.specs.Told.{after, IsFiring, StopsWith, Clashing, IsTold, AreTold}
 use Rattle.asm_driver.specs.Plays.{Plays}
 use Rattle.asm_driver.specs.Turns.{steps_at, ArePlayed}
 use Rattle.asm_driver.specs.Works.{GivesEach}

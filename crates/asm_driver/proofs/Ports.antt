@@ -1,5 +1,5 @@
 -- A run, from what was answered; and a run over a reader and a writer, from one over an input and an output.
-use Rattle.std.proofs.Common.{◌≡◌, ℕ, List, Bool, true, false, refl, sym, ◌∙◌, subst, inl, inr}
+use Rattle.std.proofs.Common.{◌≡◌, ℕ, List, Bool, true, false, refl, sym, subst, inl, inr}
 use Rattle.asm_driver.specs.Commands.{IsNotDone}
 use Rattle.asm_driver.specs.Input.{Known}
 use Rattle.asm_driver.specs.Refusal.{refusal_line, refusal_status, has_number}

@@ -1,11 +1,10 @@
 -- Terms: what reading them finds.
-use Rattle.std.proofs.Common.{codes, ◌≡◌, ◌≢◌, ◌<◌, ℕ, suc, max, sym, ap, subst, ◌∙◌, arith}
+use Rattle.std.proofs.Common.{◌≡◌, ◌≢◌, ◌<◌, ℕ, suc, max, sym, ap, subst, ◌∙◌, arith}
 use Rattle.std.proofs.Math.Nat.{le-max_left, le-max_right}
 use Rattle.serde_json.specs.Data.{Data, depth}
 use Rattle.asm_element.specs.Place.{Place}
 use Rattle.asm_element.specs.declared.value.Value.{Value}
 use Rattle.asm_journal.specs.Element.{IsLocationForm}
-use Rattle.asm_journal.specs.Shape.{one_of}
 use Rattle.asm_journal.specs.Value.{IsValueForm}
 use Rattle.asm_journal.proofs.Arrays.{same_one, same_key, same_pair}
 use Rattle.asm_journal.proofs.Texts.{measure}

@@ -23,9 +23,11 @@ fn next_member<'v>(members: &mut Iter<'v, String, Json>, key: &str) -> Option<&'
     ensures none { IfNone result
         ((d : Data) (ms : Members) → members_view members.old ≢ member key.now d ms) }
 {
-    match members.next() {
-        Some((name, value)) if name.as_str() == key => Some(value),
-        _ => None,
+    let (name, value) = members.next()?;
+    if name.as_str() == key {
+        Some(value)
+    } else {
+        None
     }
 }
 

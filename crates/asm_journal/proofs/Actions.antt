@@ -84,3 +84,12 @@ no_bagadd word ds is h = read_as (λ p. BagAdd p.0 p.1) counted_in word ds (λ p
 
 pub no_bagremove : (word : List ℕ) (ds : Items) → word ≡ codes "bagremove" → ((p : Element × ℕ) → IsCounted p ds → ⊥) → (a : Action) → IsActionForm word a ds → ⊥
 no_bagremove word ds is h = read_as (λ p. BagRemove p.0 p.1) counted_in word ds (λ p. is) (λ a. of_kind word _ a is) None h
+
+-- a word of no action
+pub no_action : (word : List ℕ) (ds : Items) → (word ≡ codes "put" → ⊥) → (word ≡ codes "add" → ⊥) → (word ≡ codes "remove" → ⊥)
+    → (word ≡ codes "bagadd" → ⊥) → (word ≡ codes "bagremove" → ⊥) → (a : Action) → IsActionForm word a ds → ⊥
+no_action word ds put add remove bagadd bagremove (Regular v) h = put h.0
+no_action word ds put add remove bagadd bagremove (SetAdd e) h = add h.0
+no_action word ds put add remove bagadd bagremove (SetRemove e) h = remove h.0
+no_action word ds put add remove bagadd bagremove (BagAdd e n) h = bagadd h.0
+no_action word ds put add remove bagadd bagremove (BagRemove e n) h = bagremove h.0

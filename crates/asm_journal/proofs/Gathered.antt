@@ -17,7 +17,7 @@ use Rattle.asm_element.specs.declared.value.Value.{Value}
 use Rattle.asm_element.specs.Set as set
 use Rattle.asm_element.specs.Bag as bag
 use Rattle.asm_update.specs.State.{State, Updates, write}
-use Rattle.asm_aggregate.specs.laws.FamilyLemmas.{none_true}
+use Rattle.asm_element.specs.Tests.{neither}
 use Rattle.asm_aggregate.specs.laws.SetAlgebra.{contains-from_list}
 use Rattle.asm_journal.specs.Shape.{AreDistinct}
 use Rattle.asm_journal.specs.Set.{IsSetOf, IsBagOf, bag_of}
@@ -40,7 +40,7 @@ module _ {K : Type 0} (cmp : K → K → Ordering) where
 
   others : (x : K) (ys : List K) → stands x ys ≡ false → AllByRecursion (λ y. eq_by_cmp cmp x y ≡ false) ys
   others x [] h = tt
-  others x (y ∷ ys) h = let parts = none_true _ _ h in (parts.0, others x ys parts.1)
+  others x (y ∷ ys) h = let parts = neither _ _ h in (parts.0, others x ys parts.1)
 
   not_any : (x : K) (ys : List K) → AllByRecursion (λ y. eq_by_cmp cmp x y ≡ false) ys → stands x ys ≡ false
   not_any x [] h = refl

@@ -3,6 +3,7 @@ pub mod Answered
 pub mod Arrays
 pub mod Objects
 pub mod Elements
+pub mod Unlike
 pub mod Gathered
 pub mod Made
 pub mod Sets

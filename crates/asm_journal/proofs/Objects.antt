@@ -1,20 +1,25 @@
--- Objects: what a value that is one holds.
-use Rattle.std.proofs.Common.{◌≡◌, List, None, Some}
-use Rattle.serde_json.specs.Data.{Data, Members, null, boolean, number, string, array, object}
-use Rattle.serde_json.specs.Find.{as_object}
+-- Objects, one member at a time.
+use Rattle.std.proofs.Common.{◌≡◌, ℕ, Bool, true, false, List, sym, ap, ◌∙◌, true≢false}
+use Rattle.std.specs.Prelude.{IsTrue}
+use Rattle.serde_json.specs.Data.{Data, Members, object, member}
 
-pub object_is : (d : Data) (ms : Members) → Some ms ≡ as_object d → d ≡ object ms
-object_is null ms e = absurd cc
-object_is (boolean b) ms e = absurd cc
-object_is (number n) ms e = absurd cc
-object_is (string s) ms e = absurd cc
-object_is (array es) ms e = absurd cc
-object_is (object ns) ms e = cc
+same_object : (ms ns : Members) → object ms ≡ object ns → ms ≡ ns
+same_object ms ns e = cc
 
-pub no_object : (d : Data) → None ≡ as_object d → (ms : Members) → d ≡ object ms → ⊥
-no_object null e ms is = absurd cc
-no_object (boolean b) e ms is = absurd cc
-no_object (number n) e ms is = absurd cc
-no_object (string s) e ms is = absurd cc
-no_object (array es) e ms is = absurd cc
-no_object (object ns) e ms is = absurd cc
+same_rest : (ms ns : Members) (k : List ℕ) (a b : Data) → member k a ms ≡ member k b ns → ms ≡ ns
+same_rest ms ns k a b e = cc
+
+pub same_members : (d : Data) (ms ns : Members) → d ≡ object ms → d ≡ object ns → ms ≡ ns
+same_members d ms ns e f = same_object ms ns (sym e ∙ f)
+
+pub behind : (all ms ns : Members) (k : List ℕ) (a b : Data) → all ≡ member k a ms → all ≡ member k b ns → ms ≡ ns
+behind all ms ns k a b e f = same_rest ms ns k a b (sym e ∙ f)
+
+pub in_all : (d : Data) (ms ns : Members) → d ≡ object ms → ms ≡ ns → d ≡ object ns
+in_all d ms ns e f = e ∙ ap object f
+
+pub one_more : (all ms ns : Members) (k : List ℕ) (a : Data) → all ≡ member k a ms → ms ≡ ns → all ≡ member k a ns
+one_more all ms ns k a e f = e ∙ ap (member k a) f
+
+pub not_end : {P : Type 0} (b : Bool) → (P → IsTrue b) → b ≡ false → P → ⊥
+not_end b end e p = true≢false (sym (end p) ∙ e)

@@ -1,5 +1,5 @@
-use Rattle.std.proofs.Common.{[], ◌++◌, take, refl, ◌∙◌}
-use Rattle.std.proofs.KnownBytes.{Appends-nil, Appends-trans}
+use Rattle.std.proofs.Common.{◌++◌, take, ◌∙◌}
+use Rattle.std.proofs.KnownBytes.{Appends-trans}
 use Rattle.asm_element.specs.Tests.{on_err}
 use Rattle.asm_driver.proofs.Pieces.{moved, whole_out, nothing_left, some_out, on_ok}
 use Rattle.asm_driver.proofs.output.write_whole.Goals as goal

@@ -1,4 +1,4 @@
-use Rattle.std.proofs.Common.{◌≡◌, ◌∙◌, ap, sym, subst, List, All}
+use Rattle.std.proofs.Common.{◌∙◌, ap, sym, subst, All}
 use Rattle.asm_storage.specs.Agents.{ids}
 use Rattle.asm_storage.specs.Storage.{accounts, IsOf}
 use Rattle.asm_driver.proofs.Closed.{closes, ids_are, of_storage, range_rises}

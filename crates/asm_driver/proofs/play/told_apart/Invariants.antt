@@ -1,5 +1,4 @@
-use Rattle.std.proofs.Common.{◌≡◌, List, ◌++◌, map}
-use Rattle.asm_driver.specs.declared.outcome.Outcome.{Outcome}
+use Rattle.std.proofs.Common.{◌≡◌, ◌++◌, map}
 use Rattle.asm_driver.proofs.play.told_apart.Given as goal
 
 abbrev pub invariant-loop-turn : goal.invariant-loop-turn

@@ -1,4 +1,4 @@
-use Rattle.std.proofs.Common.{All, ap, subst, ◌∙◌}
+use Rattle.std.proofs.Common.{All, subst, ◌∙◌}
 use Rattle.std.proofs.lemmas.List.{take_all}
 use Rattle.std.proofs.lemmas.List.Elements.{All-nil}
 use Rattle.asm_update.specs.Action.{IsProperInstruction}

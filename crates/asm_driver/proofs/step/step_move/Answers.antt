@@ -1,4 +1,4 @@
-use Rattle.std.proofs.Common.{◌+◌, List, [], ◌∷◌, length, drop, Some, sym, ap, subst, length-append, arith}
+use Rattle.std.proofs.Common.{◌+◌, List, drop, Some, sym, subst}
 use Rattle.std.proofs.lemmas.List.{drop_all}
 use Rattle.std.proofs.lemmas.Result.{err_from_is_err_and}
 use Rattle.asm_overlay.specs.Frames.{Frames}
@@ -7,6 +7,7 @@ use Rattle.asm_driver.specs.Sequencing.{IsStepMove}
 use Rattle.asm_driver.specs.declared.block.Block.{Block}
 use Rattle.asm_driver.proofs.Advancing.{IsPlayed, left_from, next_fault, frame_fault, compose_fault, one_more}
 use Rattle.asm_driver.proofs.Advancing.{last_fault, last_answer}
+use Rattle.asm_driver.proofs.Counts.{one_longer}
 use Rattle.asm_driver.proofs.step.step_move.Goals as goal
 
 pub returns-in_err-next : goal.returns-in_err-next
@@ -14,7 +15,7 @@ returns-in_err-next g c =
     let a = g.A.Aggregator.meaning c.args.aggregator.now in
     let old = g.L.Lookup.value_at c.args.reading.now in
     let items = c.deref-block-items.result.now in
-    let first = left_from items c.loop-block.block-index c.block-item.result (omega (arith, c.loop-block-test.true))
+    let first = left_from items c.loop-block.block-index c.block-item.result c.loop-block-test.true
     c.block-item.is in
     let played = subst (λ (left : List Block). IsPlayed a old c.args.step.now c.loop-block.overlay c.loop-block.done
     left c.step.inside.last) first c.loop-block.invariant.0 in
@@ -29,7 +30,7 @@ returns-in_err-frame g c =
     let a = g.A.Aggregator.meaning c.args.aggregator.now in
     let old = g.L.Lookup.value_at c.args.reading.now in
     let items = c.deref-block-items.result.now in
-    let first = left_from items c.loop-block.block-index c.block-item.result (omega (arith, c.loop-block-test.true))
+    let first = left_from items c.loop-block.block-index c.block-item.result c.loop-block-test.true
     c.block-item.is in
     let played = subst (λ (left : List Block). IsPlayed a old c.args.step.now c.loop-block.overlay c.loop-block.done
     left c.step.inside.last) first c.loop-block.invariant.0 in
@@ -45,7 +46,7 @@ returns-in_err-composed g c =
     let a = g.A.Aggregator.meaning c.args.aggregator.now in
     let old = g.L.Lookup.value_at c.args.reading.now in
     let items = c.deref-block-items.result.now in
-    let first = left_from items c.loop-block.block-index c.block-item.result (omega (arith, c.loop-block-test.true))
+    let first = left_from items c.loop-block.block-index c.block-item.result c.loop-block-test.true
     c.block-item.is in
     let played = subst (λ (left : List Block). IsPlayed a old c.args.step.now c.loop-block.overlay c.loop-block.done
     left c.step.inside.last) first c.loop-block.invariant.0 in
@@ -62,7 +63,7 @@ loop-block-preserved g c =
     let old = g.L.Lookup.value_at c.args.reading.now in
     let items = c.deref-block-items.result.now in
     let rest = drop (c.loop-block.block-index + 1) items in
-    let first = left_from items c.loop-block.block-index c.block-item.result (omega (arith, c.loop-block-test.true))
+    let first = left_from items c.loop-block.block-index c.block-item.result c.loop-block-test.true
     c.block-item.is in
     let played = subst (λ (left : List Block). IsPlayed a old c.args.step.now c.loop-block.overlay c.loop-block.done
     left c.step.inside.last) first c.loop-block.invariant.0 in
@@ -73,13 +74,7 @@ loop-block-preserved g c =
     c.in_ok-composed.ensures in (
       subst (λ (frames : Frames). IsPlayed a old c.args.step.now frames (Some c.in_ok-composed.composed) rest
           c.step.inside.last) (sym pushed) more,
-      omega (
-        arith,
-        ap (λ (frames : Frames). length frames) pushed,
-        length-append c.loop-block.overlay
-            (c.in_ok-frame.frame ∷ []),
-        c.loop-block.invariant.1,
-      ),
+      one_longer c.loop-block.overlay _ c.in_ok-frame.frame c.loop-block.block-index pushed c.loop-block.invariant.1,
     )
 
 pub returns-in_err-last : goal.returns-in_err-last

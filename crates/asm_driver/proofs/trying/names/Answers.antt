@@ -1,4 +1,4 @@
-use Rattle.std.proofs.Common.{Option, map, sym, ap, ◌∙◌, arith}
+use Rattle.std.proofs.Common.{◌≤◌, ℕ, Option, map, sym, ap, subst, ◌∙◌}
 use Rattle.std.proofs.lemmas.List.{take_all}
 use Rattle.asm_storage.specs.Calls.{ReadingView}
 use Rattle.asm_driver.specs.Trying.{name_at, names_of}
@@ -18,5 +18,5 @@ pub returns : goal.returns
 returns c =
     c.loop-i.invariant
     ∙ ap (map (name_at c.in-Some.reading.number))
-    (take_all c.loop-i.i c.in-Some.reading.places (omega (arith, c.loop-i-test.false, c.len-i-end.ensures)))
+    (take_all c.loop-i.i c.in-Some.reading.places (subst (λ (n : ℕ). n ≤ c.loop-i.i) c.len-i-end.ensures c.loop-i-test.false))
     ∙ ap (λ (o : Option ReadingView). names_of o) (sym c.in-Some.is)

@@ -4,9 +4,9 @@ use Rattle.asm_update.specs.declared.action.Action.TheVariants.{Regular, SetAdd,
 use Rattle.asm_journal.specs.Shape.{Reads}
 use Rattle.asm_journal.specs.Set.{IsCounted}
 use Rattle.asm_journal.specs.Instruction.{IsActionForm}
-use Rattle.asm_journal.proofs.Actions.{put_read, add_read, remove_read, no_bagadd, no_bagremove}
+use Rattle.asm_journal.proofs.Actions.{put_read, add_read, remove_read, no_bagadd, no_bagremove, no_action}
 use Rattle.asm_journal.proofs.Sets.{count_of}
-use Rattle.asm_journal.proofs.Answered.{Reads-none}
+use Rattle.asm_journal.proofs.Answered.{Reads-some, Reads-none}
 use Rattle.asm_journal.proofs.Values.{mapped}
 use Rattle.asm_journal.proofs.instruction_form.read_action.Goals as goal
 
@@ -40,3 +40,18 @@ pub returns-in-None-2 : goal.returns-in-None-2
 returns-in-None-2 c =
     let ds = items_view c.args.operands.now in
     no_bagremove c.args.word.now ds c.in-bagremove.is (Reads-none IsCounted ds _ (ap (option_map count_of) c.in-None-2.is) c.in_ok-element-in-bagremove.ensures)
+
+pub returns-in-Some : goal.returns-in-Some
+returns-in-Some c =
+    let counted = Reads-some IsCounted (items_view c.args.operands.now) _ (count_of c.in-Some.field-0) (ap (option_map count_of) c.in-Some.is) c.in_ok-element-in-bagadd.ensures in
+    (c.in-bagadd.is, counted)
+
+pub returns-in-Some-2 : goal.returns-in-Some-2
+returns-in-Some-2 c =
+    let counted = Reads-some IsCounted (items_view c.args.operands.now) _ (count_of c.in-Some-2.field-0) (ap (option_map count_of) c.in-Some-2.is) c.in_ok-element-in-bagremove.ensures in
+    (c.in-bagremove.is, counted)
+
+pub returns-in_default : goal.returns-in_default
+returns-in_default c =
+    let n = c.in_default in
+    no_action c.args.word.now (items_view c.args.operands.now) n.not-put n.not-add n.not-remove n.not-bagadd n.not-bagremove

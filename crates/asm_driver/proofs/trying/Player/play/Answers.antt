@@ -1,4 +1,4 @@
-use Rattle.std.proofs.Common.{◌+◌, List, [], ◌∷◌, ◌++◌, take, sym, ap, subst, ◌∙◌, arith}
+use Rattle.std.proofs.Common.{◌+◌, List, [], ◌∷◌, ◌++◌, take, sym, ap, subst, ◌∙◌}
 use Rattle.std.proofs.lemmas.List.{take_all, take_more}
 use Rattle.asm_driver.specs.Plays.{Plays}
 use Rattle.asm_driver.specs.declared.step.Step.{Step}
@@ -21,7 +21,7 @@ loop-step-preserved g c =
     let steps = c.args.steps.now in
     let s = c.step-item.result in
     let o = c.in_ok-play_step.field-0 in
-    let taken = take_more steps i s (omega (arith, c.loop-step-test.true))
+    let taken = take_more steps i s c.loop-step-test.true
     ∙ ap (λ (y : Step). take i steps ++ y ∷ []) (sym c.step-item.is) in
     let more = plays_more meaning part c.args.agent c.loop-step.agent c.play_step.new.agent (take i steps)
     c.loop-step.outcomes.items s o c.loop-step.invariant c.in_ok-play_step.ensures in

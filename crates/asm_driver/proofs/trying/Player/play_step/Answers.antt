@@ -3,6 +3,7 @@ use Rattle.std.proofs.lemmas.List.Elements.{All-nil}
 use Rattle.asm_driver.specs.Told.{IsIdle}
 use Rattle.asm_driver.specs.Trying.{IsTry, Tried}
 use Rattle.asm_driver.specs.declared.outcome.Outcome.{Outcome}
+use Rattle.asm_driver.proofs.Counts.{tries_left}
 use Rattle.asm_driver.proofs.Tries.{adds_none}
 use Rattle.asm_driver.proofs.trying.Player.play_step.Goals as goal
 
@@ -27,7 +28,7 @@ returns-in-Some g c =
     let ended = subst (λ (o : Option Outcome). IsTry meaning (meaning c.args.self.now.aggregator.now).part
     c.loop-tried.agent c.one_try.new.agent c.args.step.now o)
     c.in-Some.is c.in_ok-outcome.ensures in
-    inr (c.loop-tried.tried, omega (arith, c.loop-tried-test.true), c.loop-tried.agent, c.loop-tried.invariant, ended)
+    inr (c.loop-tried.tried, tries_left _ c.loop-tried-test.true, c.loop-tried.agent, c.loop-tried.invariant, ended)
 
 -- it is to be tried again
 pub loop-tried-preserved : goal.loop-tried-preserved

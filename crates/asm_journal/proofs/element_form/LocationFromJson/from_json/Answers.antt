@@ -1,4 +1,4 @@
-use Rattle.std.proofs.Common.{◌≡◌, ◌∙◌, sym, ap, subst, option_map}
+use Rattle.std.proofs.Common.{◌≡◌, ◌∙◌, sym, ap, subst, option_map, length}
 use Rattle.serde_json.specs.View.{view, items_view}
 use Rattle.serde_json.specs.Data.{array, string, item}
 use Rattle.asm_journal.specs.Element.{IsElementForm, IsLocationForm}
@@ -6,6 +6,7 @@ use Rattle.asm_journal.specs.Shape.{AreForms, Reads}
 use Rattle.asm_journal.proofs.Answered.{Reads-some, Reads-none}
 use Rattle.asm_journal.proofs.Arrays.{array_is, string_is}
 use Rattle.asm_journal.proofs.Elements.{location_read, no_location}
+use Rattle.asm_journal.proofs.Unlike.{no_array_located, no_items_located, no_name_located}
 use Rattle.asm_journal.proofs.element_form.LocationFromJson.from_json.Goals as goal
 
 pub returns : goal.returns
@@ -28,3 +29,15 @@ returns-in_default-2 c =
     let whole = list ∙ ap array (parts ∙ ap (λ d. item d (items_view rest)) name) in
     no_location _ c.in-Some-as_str.name.now (items_view rest) whole
     (Reads-none (AreForms IsElementForm) (items_view rest) _ (ap (option_map (λ v. v.items)) c.in_default-2.is) c.in_ok-args.ensures)
+
+pub returns-in_default : goal.returns-in_default
+returns-in_default c = no_array_located (view c.args.json.now) c.in_default.ensures
+
+pub returns-in_default-split_first : goal.returns-in_default-split_first
+returns-in_default-split_first c =
+    no_items_located (view c.args.json.now) c.in-Some.items.now.items c.in-Some.ensures (ap length (sym c.deref.ensures.value) ∙ c.in_default-split_first.ensures.cases)
+
+pub returns-in_default-as_str : goal.returns-in_default-as_str
+returns-in_default-as_str c =
+    let split = sym c.deref.ensures.value ∙ c.in-Some-split_first.ensures.cases.0 in
+    no_name_located (view c.args.json.now) c.in-Some.items.now.items c.in-Some-split_first.rest.now c.in-Some-split_first.first.now c.in-Some.ensures split c.in_default-as_str.ensures
