@@ -1,16 +1,18 @@
 -- What a call answers where a step of it has an error.
-use Rattle.std.proofs.Common.{◌≡◌, ℕ, ◌<◌, Bool, true, sym, subst}
-use Rattle.std.specs.Prelude.{Result, Err}
+use Rattle.std.proofs.Common.{◌≡◌, ℕ, ◌<◌, Bool, true, false, List, [], ◌∷◌, sym, subst}
+use Rattle.std.specs.Prelude.{Result, Ok, Err, if◌then◌else◌}
 use Rattle.asm_element.specs.declared.element.Element.{Element}
-use Rattle.asm_update.specs.Aggregator.{Joined, TooLarge}
+use Rattle.asm_update.specs.Aggregator.{Joined, Refusal, Refused as Refuses, TooLarge}
 use Rattle.asm_update.specs.Answer.{IsOutcome, IsJoined}
 use Rattle.asm_update.specs.Fire.{Outcome}
-use Rattle.asm_update.specs.declared.clash.Cause.TheVariants.{Short, Large}
+use Rattle.asm_update.specs.declared.action.Action.{Action}
+use Rattle.asm_update.specs.declared.clash.Cause.TheVariants.{Short, Large, Mixed, Both}
 use Rattle.asm_update.specs.declared.errors.ResultError.{ResultError}
 use Rattle.asm_update.specs.declared.errors.ResultError.TheVariants.{Cause as Refused, Memory}
 use Rattle.asm_update.specs.declared.errors.JoinError.{JoinError}
 use Rattle.asm_update.specs.declared.errors.JoinError.TheVariants as join_error
 use Rattle.asm_aggregate.specs.Steps.{IsShort, IsAbove, IsLargeIf}
+use Rattle.asm_aggregate.specs.Table.{first_cause}
 
 -- an error that is handed on
 pub handed_on : {T E : Type 0} (Q : Result T E → Type 0) (r : Result T E) (e d : E) → r ≡ Err e → e ≡ d → Q (Err d) →
@@ -54,3 +56,16 @@ pub large_error : (test more : Bool) (error : JoinError) → (test ≡ true → 
 large_error test more join_error.Large f h = f h
 large_error test more join_error.Memory f h = tt
 large_error test more (join_error.Cause cause) f h = absurd h
+
+no_refusal : {P : Type 0} (v : List Action) (r : Refusal) → Ok v ≡ Err r → P
+no_refusal v r h = cc
+
+-- a list that is refused of itself is refused whatever else the table has
+pub table_refused : (mixed both : Bool) (error : JoinError) (rest : Joined) →
+    IsJoined (Err error) (first_cause ((mixed, Refuses Mixed) ∷ (both, Refuses Both) ∷ []) []) →
+    IsJoined (Err error) (if mixed then Err (Refuses Mixed) else if both then Err (Refuses Both) else rest)
+table_refused true both error rest h = h
+table_refused false true error rest h = h
+table_refused false false (join_error.Cause cause) rest h = no_refusal [] (Refuses cause) h
+table_refused false false join_error.Large rest h = no_refusal [] TooLarge h
+table_refused false false join_error.Memory rest h = tt

@@ -14,9 +14,14 @@ use Rattle.asm_element.specs.declared.value.Value.{Value}
 use Rattle.asm_update.specs.Move.{Move, actions_at, writes}
 use Rattle.asm_update.specs.State.{Updates}
 use Rattle.asm_update.specs.Fire.{Part, Old, Outcome, outcome_at, IsUpdateSet, IsLeastClash}
+use Rattle.asm_update.specs.Answer.{IsOutcome}
+use Rattle.asm_update.specs.declared.clash.AggError.{AggError}
+use Rattle.asm_update.specs.declared.clash.AggError.TheVariants.{Clash as Clashes, Memory}
 use Rattle.asm_update.specs.declared.clash.Cause.{Cause}
 use Rattle.asm_update.specs.declared.clash.Clash.{Clash}
-use Rattle.asm_aggregate.specs.Bundle.{Bundle, bundle_of, bundle_at, bundle_result, AreGroups, IsWritten}
+use Rattle.asm_update.specs.declared.errors.ResultError.{ResultError}
+use Rattle.asm_update.specs.declared.errors.ResultError.TheVariants.{Cause as Refused}
+use Rattle.asm_aggregate.specs.Bundle.{Bundle, bundle_of, bundle_at, bundle_result, AreGroups, IsWritten, IsAggregate}
 use Rattle.asm_aggregate.proofs.Bundles.{some_is, written_bundle}
 
 pub first : (a b : Bool) → T (a && b) → T a
@@ -167,6 +172,17 @@ module _ (part : Part) (old : Old) (M : Move) where
           IsOk (outcome_at part old M l)
       has_ok l (Some v) h = subst IsOk (sym h) refl
       has_ok l None h = absurd h
+
+    -- the answer of that clash, where memory wasn't refused for it
+    pub walk_refuses : (error : ResultError) (answer : AggError) →
+        IsOutcome (Err error) (bundle_result part (old k) b) →
+        ((c : Clash) → answer ≡ Clashes c → (c.at ≡ k) × (error ≡ Refused c.cause)) →
+        IsAggregate part old M (Err answer)
+    walk_refuses error (Clashes c) is at =
+        walk_clashes c.cause c
+        (subst (λ (e : ResultError). IsOutcome (Err e) (bundle_result part (old k) b)) (at c refl).1 is)
+        (at c refl).0 refl
+    walk_refuses error Memory is at = tt
 
   -- nothing is left
   pub walk_ends : (left : List (Place × Bundle)) (updates : Updates) → left ≡ [] → IsWalked part old M left updates →

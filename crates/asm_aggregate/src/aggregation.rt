@@ -1,12 +1,18 @@
+ghost use Rattle.std.specs.Prelude.{◌≡◌, OnOk};
+ghost use Rattle.std.specs.FinMap as finite;
 ghost use Rattle.asm_update.specs.Answer.{IsOutcome};
+ghost use Rattle.asm_update.specs.declared.clash.AggError.TheVariants as agg_error;
+ghost use Rattle.asm_update.specs.declared.clash.Clash as clashes;
+ghost use Rattle.asm_update.specs.declared.errors.ResultError.TheVariants as result_error;
 ghost use Rattle.asm_aggregate.specs.Bundle.{IsWritten, IsAggregate, bundle_result};
 
+use crate::families::unchanged;
 use crate::groups::{Bundle, Groups};
 use asm_element::{Location, Value};
 use asm_update::{
     AggError, Aggregator, Cause, Clash, Instructions, Lookup, ResultError, UpdateSet,
 };
-use std::alloc::Global;
+use std::alloc::{AllocError, Global};
 
 /// The result of what a move does at one location; only where there are partial updates is the
 /// lookup asked.
@@ -25,11 +31,38 @@ fn result_at<A: Aggregator, L: Lookup>(
         return Err(ResultError::Cause(Cause::Two));
     }
     if !bundle.partials().is_empty() {
-        return aggregator.result(alloc, lookup.get(at), &bundle.into_group(alloc)?);
+        return bundle.result_by(alloc, aggregator, lookup.get(at));
     }
     match bundle.regular() {
-        Some(value) => Ok(value.copy(alloc)?),
+        Some(value) => unchanged(alloc, value),
         None => unreachable!(),
+    }
+}
+
+/// Puts the value at the location.
+fn put_at(
+    alloc: Global,
+    updates: &mut UpdateSet,
+    at: &Location,
+    value: Value,
+) -> Result<(), AllocError>
+    ensures { OnOk result (updates.new ≡ finite.insert updates.old at.now value) }
+{
+    let at = at.copy(alloc)?;
+    updates.put(at, value)
+}
+
+/// The clash of a location.
+fn clash_at(alloc: Global, at: &Location, error: ResultError) -> AggError
+    ensures { (c : clashes.Clash) → result ≡ agg_error.Clash c →
+        (c.at ≡ at.now) × (error ≡ result_error.Cause c.cause) }
+{
+    match error {
+        ResultError::Cause(cause) => match at.copy(alloc) {
+            Ok(at) => AggError::Clash(Clash { at, cause }),
+            Err(_) => AggError::Memory,
+        },
+        ResultError::Memory => AggError::Memory,
     }
 }
 
@@ -52,12 +85,8 @@ pub fn aggregate<A: Aggregator, L: Lookup>(
     let mut updates = UpdateSet::new(alloc);
     for (at, bundle) in Groups::of(alloc, instructions)?.into_entries() {
         match result_at(alloc, aggregator, lookup, at, bundle) {
-            Ok(value) => updates.put(at.copy(alloc)?, value)?,
-            Err(ResultError::Cause(cause)) => {
-                let at = at.copy(alloc)?;
-                return Err(AggError::Clash(Clash { at, cause }));
-            }
-            Err(ResultError::Memory) => return Err(AggError::Memory),
+            Ok(value) => put_at(alloc, &mut updates, at, value)?,
+            Err(error) => return Err(clash_at(alloc, at, error)),
         }
     }
     Ok(updates)

@@ -1,8 +1,8 @@
 use crate::tests::Act::{self, Add, BagAdd, BagRemove, Remove};
 use crate::tests::Old::{self, Bag, Num, Set};
-use crate::tests::{action_of, is_clash, is_wanted, pairs, push_at, state_of, value_of};
+use crate::tests::{do_at, is_clash, is_wanted, pairs, put_at, state_of};
 use crate::*;
-use asm_update::{Action, Aggregator, Cause, Instructions};
+use asm_update::{Aggregator, Cause, Instructions};
 use std::alloc::{AllocError, Global};
 use std::process::Abort;
 use std::test::Fail;
@@ -36,11 +36,8 @@ fn steps(alloc: Global, lines: &[Line]) -> Result<Instructions, Fail> {
     let mut list = Instructions::new(alloc);
     for line in lines {
         match *line {
-            Put(name, value) => {
-                let action = Action::Regular(value_of(alloc, value)?);
-                push_at(alloc, &mut list, name, action)?;
-            }
-            Do(name, act) => push_at(alloc, &mut list, name, action_of(alloc, act)?)?,
+            Put(name, value) => put_at(alloc, &mut list, name, value)?,
+            Do(name, act) => do_at(alloc, &mut list, name, act)?,
         }
     }
     Ok(list)
@@ -78,10 +75,20 @@ fn is_composed(
     }
 }
 
+/// The composition of the two moves, which are dropped.
+fn compose_of<A: Aggregator>(
+    alloc: Global,
+    aggregator: &A,
+    first: Instructions,
+    second: Instructions,
+) -> Result<Instructions, ComposeError> {
+    compose(alloc, aggregator, &first, &second)
+}
+
 fn composes<A: Aggregator>(alloc: Global, aggregator: &A, row: Row) -> Result<bool, Fail> {
     let first = steps(alloc, row.0)?;
     let second = steps(alloc, row.1)?;
-    let answer = compose(alloc, aggregator, &first, &second);
+    let answer = compose_of(alloc, aggregator, first, second);
     is_composed(alloc, answer, row.2)
 }
 
@@ -233,13 +240,17 @@ static BACK_AGAIN: [Row; 1] = [Row(
     Ok(&[Do("x", BagAdd("e", 1)), Do("x", BagRemove("e", 1))]),
 )];
 
+fn composition_of(alloc: Global, row: Row) -> Result<Instructions, Fail> {
+    let first = steps(alloc, row.0)?;
+    let second = steps(alloc, row.1)?;
+    Ok(compose_of(alloc, &standard(), first, second)?)
+}
+
 #[test]
 fn a_removal_stays_though_the_amount_comes_back(rt: HostRuntime) -> Result<(), Fail> {
     let alloc = rt.alloc();
     compose_all(&rt, alloc, &standard(), &BACK_AGAIN)?;
-    let less = steps(alloc, BACK_AGAIN[0].0)?;
-    let more = steps(alloc, BACK_AGAIN[0].1)?;
-    let composed = compose(alloc, &standard(), &less, &more)?;
+    let composed = composition_of(alloc, BACK_AGAIN[0])?;
     assert!(rt; fires(alloc, &composed, Bag(1, 0), Ok(Bag(1, 0)))?);
     assert!(rt; fires(alloc, &composed, Bag(0, 0), Err(Cause::Short))?);
     Ok(())

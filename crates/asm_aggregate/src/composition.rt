@@ -3,12 +3,13 @@ ghost use Rattle.asm_update.specs.Aggregator.{after};
 ghost use Rattle.asm_update.specs.Answer.{IsOutcome, IsJoined};
 ghost use Rattle.asm_update.specs.Fire.{Outcome};
 ghost use Rattle.asm_update.specs.declared.action.Action.TheVariants.{Regular};
-ghost use Rattle.asm_aggregate.specs.Compose.{own_clash, as_regular, composed, placed};
+ghost use Rattle.asm_aggregate.specs.Compose.{own_clash, cause_of, as_regular, composed, placed};
 ghost use Rattle.asm_aggregate.specs.Compose.{IsComposition, IsComposedList, IsLimited, IsRefusalAt, KeepsSequence};
 ghost use Rattle.asm_aggregate.specs.PairMeaning.{unless};
 ghost use Rattle.asm_aggregate.specs.Steps.{IsOwnCause};
 ghost use Rattle.asm_aggregate.specs.declared.composition.ComposeError.TheVariants as compose_error;
 
+use crate::families::unchanged;
 use crate::groups::{Bundle, Groups};
 use crate::pair::own_cause_by;
 use asm_element::{Location, Value};
@@ -68,6 +69,17 @@ fn refusal_at(alloc: Global, at: &Location, error: JoinError) -> ComposeError
     }
 }
 
+/// The cause of an outcome, if it has one.
+fn cause_alone(value: Result<Value, ResultError>) -> Result<(), JoinError>
+    ensures { (o : Outcome) → IsOutcome value o → IsOwnCause result (cause_of o) }
+{
+    match value {
+        Ok(_) => Ok(()),
+        Err(ResultError::Cause(cause)) => Err(JoinError::Cause(cause)),
+        Err(ResultError::Memory) => Err(JoinError::Memory),
+    }
+}
+
 /// The clash of a bundle with a regular value, if it has one.
 fn clash_of_regular<A: Aggregator>(
     alloc: Global,
@@ -83,11 +95,7 @@ fn clash_of_regular<A: Aggregator>(
     if bundle.partials().is_empty() {
         return Ok(());
     }
-    match aggregator.result(alloc, None, &bundle.into_group(alloc)?) {
-        Ok(_) => Ok(()),
-        Err(ResultError::Cause(cause)) => Err(JoinError::Cause(cause)),
-        Err(ResultError::Memory) => Err(JoinError::Memory),
-    }
+    cause_alone(bundle.result_by(alloc, aggregator, None))
 }
 
 /// The clash of partial updates alone, if they have one.
@@ -116,9 +124,16 @@ fn result_on<A: Aggregator>(
     ensures { IsOutcome result (after (A.meaning aggregator.now) value.now bundle.entry.partials) }
 {
     if bundle.partials().is_empty() {
-        return Ok(value.copy(alloc)?);
+        return unchanged(alloc, value);
     }
-    aggregator.result(alloc, Some(value), &bundle.into_group(alloc)?)
+    bundle.result_by(alloc, aggregator, Some(value))
+}
+
+/// The list of the one regular update that writes the value.
+fn one_put(alloc: Global, value: Value) -> Result<Vec<Action>, JoinError>
+    ensures { IsJoined result (Ok (Regular value ∷ [])) }
+{
+    Ok(vec![in alloc; Action::Regular(value)]?)
 }
 
 /// A value as the list of the one regular update that writes it.
@@ -126,11 +141,7 @@ fn as_regular(alloc: Global, value: Result<Value, ResultError>) -> Result<Vec<Ac
     ensures { (o : Outcome) → IsOutcome value o → IsJoined result (as_regular o) }
 {
     match value {
-        Ok(value) => {
-            let mut actions = Vec::new(alloc);
-            actions.push(Action::Regular(value))?;
-            Ok(actions)
-        }
+        Ok(value) => one_put(alloc, value),
         Err(ResultError::Cause(cause)) => Err(JoinError::Cause(cause)),
         Err(ResultError::Memory) => Err(JoinError::Memory),
     }
@@ -148,9 +159,7 @@ fn put_by_second<A: Aggregator>(
         (unless (own_clash (A.meaning aggregator.now) second.entry) (Ok (Regular value.now ∷ []))) }
 {
     clash_of_regular(alloc, aggregator, second)?;
-    let mut actions = Vec::new(alloc);
-    actions.push(Action::Regular(value.copy(alloc)?))?;
-    Ok(actions)
+    one_put(alloc, value.copy(alloc)?)
 }
 
 /// What does at a location what the first and then the second do.
@@ -206,8 +215,7 @@ fn composed_list<'a, A: Aggregator>(
 ) -> Result<Vec<Instruction>, ComposeError>
     ensures { IsComposedList (A.meaning aggregator.now) first.now second.now result }
 {
-    let mut firsts = Groups::of(alloc, first)?;
-    firsts.make_room(alloc, second)?;
+    let firsts = Groups::with_room(alloc, first, second)?;
     let mut seconds = Groups::of(alloc, second)?;
     let mut list = Vec::new(alloc);
     for (at, bundle) in firsts.into_entries() {

@@ -1,12 +1,13 @@
-ghost use Rattle.std.specs.Prelude.{◌≡◌, ◌++◌, unwrap_or, IfOk};
+ghost use Rattle.std.specs.Prelude.{◌≡◌, ◌++◌, unwrap_or, IfOk, Ok};
 ghost use Rattle.std.specs.Option.{option_copied};
 ghost use Rattle.std.specs.List.{list_all};
 ghost use Rattle.asm_element.specs.Value.{undef};
 ghost use Rattle.asm_update.specs.Action.{is_of};
+ghost use Rattle.asm_update.specs.Answer.{IsOutcome};
 ghost use Rattle.asm_aggregate.specs.Families as families;
 
 use asm_element::Value;
-use asm_update::{Action, Family, Group};
+use asm_update::{Action, Family, Group, ResultError};
 use std::alloc::{AllocError, Global};
 
 fn belongs_to(action: &Action, family: Family) -> bool
@@ -65,6 +66,13 @@ pub(crate) fn base_of<'a>(old: Option<&'a Value>, group: &'a Group) -> Option<&'
         Some(value) => Some(value),
         None => old,
     }
+}
+
+/// The value as it is, in memory of its own.
+pub(crate) fn unchanged(alloc: Global, value: &Value) -> Result<Value, ResultError>
+    ensures { IsOutcome result (Ok value.now) }
+{
+    Ok(value.copy(alloc)?)
 }
 
 /// The same action, in memory of its own.

@@ -4,7 +4,9 @@ ghost use Rattle.std.specs.List.{list_all};
 ghost use Rattle.std.specs.Option.{option_copied};
 ghost use Rattle.std.specs.FinMap as map;
 ghost use Rattle.asm_element.specs.Place.{Place};
+ghost use Rattle.asm_element.specs.Value.{undef};
 ghost use Rattle.asm_update.specs.Action.{is_partial};
+ghost use Rattle.asm_update.specs.Answer.{IsOutcome};
 ghost use Rattle.asm_update.specs.declared.action.Action.{Action};
 ghost use Rattle.asm_update.specs.declared.action.Action.TheVariants.{Regular};
 ghost use Rattle.asm_aggregate.specs.Bundle.{bundle_of, AreGroups, HaveRoom, by_place, with_room};
@@ -12,7 +14,7 @@ ghost use Rattle.asm_update.specs.Move.{Move};
 
 use crate::families::copy_of;
 use asm_element::{Location, Value};
-use asm_update::{Action, Group, Instruction, Instructions};
+use asm_update::{Action, Aggregator, Group, Instruction, Instructions, ResultError};
 use std::alloc::{AllocError, Global};
 use std::collections::BTreeMap;
 use std::collections::btree_map::IntoIter;
@@ -114,6 +116,21 @@ impl<'a> Bundle<'a> {
         };
         Ok(Group::new(regular, self.partials))
     }
+
+    /// What the aggregator makes of the first regular value and the partial updates.
+    pub(crate) fn result_by<A: Aggregator>(
+        self,
+        alloc: Global,
+        aggregator: &A,
+        old: Option<&Value>,
+    ) -> Result<Value, ResultError>
+        requires { self.partials ≢ [] }
+        ensures { IsOutcome result
+            ((A.meaning aggregator.now).part (unwrap_or (option_copied old.entry) undef)
+            self.entry.regular self.entry.partials) }
+    {
+        aggregator.result(alloc, old, &self.into_group(alloc)?)
+    }
 }
 
 /// What a move does at each of its locations, which contracts see as a finite map.
@@ -194,17 +211,26 @@ impl<'a> Groups<'a> {
     }
 
     /// Makes an empty bundle at each location that the instructions write and that has none.
-    pub(crate) fn make_room(
-        &mut self,
-        alloc: Global,
-        instructions: &'a Instructions,
-    ) -> Result<(), AllocError>
+    fn make_room(&mut self, alloc: Global, instructions: &'a Instructions) -> Result<(), AllocError>
         ensures { OnOk result ((M : Move) → AreGroups M self.old → HaveRoom M instructions.now self.new) }
     {
         for i in 0..instructions.len() {
             self.make_room_at(alloc, &instructions.get(i).at)?;
         }
         Ok(())
+    }
+
+    /// The groups of the first, with an empty bundle at each location that only the second writes.
+    pub(crate) fn with_room(
+        alloc: Global,
+        first: &'a Instructions,
+        second: &'a Instructions,
+    ) -> Result<Groups<'a>, AllocError>
+        ensures { IfOk result (λ groups. HaveRoom first.now second.now groups) }
+    {
+        let mut groups = Groups::of(alloc, first)?;
+        groups.make_room(alloc, second)?;
+        Ok(groups)
     }
 
     /// Takes out what the move does at the location, which is nothing where it isn't written.

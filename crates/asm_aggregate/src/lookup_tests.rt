@@ -3,7 +3,7 @@ ghost use Rattle.asm_update.specs.State.{val};
 use crate::tests::location;
 use crate::*;
 use asm_element::{ElemSet, Element, Location, Value};
-use asm_update::{Action, Instruction, Instructions, Lookup, PlainState, UpdateSet};
+use asm_update::{Action, AggError, Instruction, Instructions, Lookup, PlainState, UpdateSet};
 use std::alloc::{AllocError, Global};
 use std::cell::Cell;
 use std::test::Fail;
@@ -37,11 +37,17 @@ fn numbered(alloc: Global, n: i64) -> Result<Location, Fail> {
     Ok(Location::new(String::from_str(alloc, "x")?, args)?)
 }
 
+fn set_empty(alloc: Global, state: &mut PlainState, name: &str) -> Result<(), Fail> {
+    let at = location(alloc, name)?;
+    state.set(at, Value::Set(ElemSet::new(alloc)))?;
+    Ok(())
+}
+
 /// A look-up in which b and c are empty sets, and which was asked for nothing.
 fn two_empty_sets(alloc: Global) -> Result<Noting, Fail> {
     let mut state = PlainState::new(alloc);
-    state.set(location(alloc, "b")?, Value::Set(ElemSet::new(alloc)))?;
-    state.set(location(alloc, "c")?, Value::Set(ElemSet::new(alloc)))?;
+    set_empty(alloc, &mut state, "b")?;
+    set_empty(alloc, &mut state, "c")?;
     let asked = Cell::new(0);
     Ok(Noting { state, asked })
 }
@@ -57,6 +63,18 @@ fn additions_by_turns(alloc: Global) -> Result<Instructions, Fail> {
     Ok(list)
 }
 
+/// What the move gives on the look-up, and what that was asked for.
+fn aggregate_on(
+    alloc: Global,
+    lookup: Noting,
+    list: Instructions,
+) -> Result<(u64, UpdateSet), AggError> {
+    match aggregate(alloc, &standard(), &lookup, &list) {
+        Ok(updates) => Ok((lookup.asked.get(), updates)),
+        Err(error) => Err(error),
+    }
+}
+
 fn size_at(updates: &UpdateSet, at: &Location) -> usize {
     match updates.get(at) {
         Some(Value::Set(set)) => set.len(),
@@ -64,14 +82,20 @@ fn size_at(updates: &UpdateSet, at: &Location) -> usize {
     }
 }
 
+fn size_by_name(alloc: Global, updates: &UpdateSet, name: &str) -> Result<usize, Fail> {
+    let at = location(alloc, name)?;
+    Ok(size_at(updates, &at))
+}
+
 #[test]
 fn each_location_is_looked_up_once_in_ascending_order(rt: HostRuntime) -> Result<(), Fail> {
     let alloc = rt.alloc();
     let lookup = two_empty_sets(alloc)?;
-    let updates = aggregate(alloc, &standard(), &lookup, &additions_by_turns(alloc)?)?;
-    assert_eq!(rt; lookup.asked.get(), 12);
-    assert_eq!(rt; size_at(&updates, &location(alloc, "b")?), 2048);
-    assert_eq!(rt; size_at(&updates, &location(alloc, "c")?), 2048);
+    let list = additions_by_turns(alloc)?;
+    let (asked, updates) = aggregate_on(alloc, lookup, list)?;
+    assert_eq!(rt; asked, 12);
+    assert_eq!(rt; size_by_name(alloc, &updates, "b")?, 2048);
+    assert_eq!(rt; size_by_name(alloc, &updates, "c")?, 2048);
     Ok(())
 }
 
@@ -103,8 +127,9 @@ fn ascends(updates: &UpdateSet) -> bool {
 fn puts_are_not_looked_up(rt: HostRuntime) -> Result<(), Fail> {
     let alloc = rt.alloc();
     let lookup = two_empty_sets(alloc)?;
-    let updates = aggregate(alloc, &standard(), &lookup, &puts_downwards(alloc)?)?;
-    assert_eq!(rt; lookup.asked.get(), 0);
+    let list = puts_downwards(alloc)?;
+    let (asked, updates) = aggregate_on(alloc, lookup, list)?;
+    assert_eq!(rt; asked, 0);
     assert_eq!(rt; updates.len(), 4096);
     assert!(rt; ascends(&updates));
     Ok(())
@@ -118,8 +143,10 @@ fn are_many(
 ) -> Result<bool, AllocError> {
     match compose(alloc, &standard(), first, second) {
         Ok(_move) => Ok(false),
+        Err(ComposeError::ManyInstructions) => Ok(true),
         Err(ComposeError::Memory) => Err(AllocError),
-        Err(error) => Ok(error == ComposeError::ManyInstructions),
+        Err(ComposeError::Clash(_clash)) => Ok(false),
+        Err(ComposeError::Large(_at)) => Ok(false),
     }
 }
 

@@ -1,11 +1,19 @@
-ghost use Rattle.std.specs.Prelude.{◌≡◌, ◌++◌, unwrap_or, false, IfOk, OnOk, IfSome, IfNone};
+ghost use Rattle.std.specs.Prelude.{◌≡◌, ◌++◌, ◌∷◌, [], ◌||◌, not, if◌then◌else◌, unwrap_or, true, false};
+ghost use Rattle.std.specs.Prelude.{Ok, Err, IfOk, IfErr, OnOk, IfSome, IfNone};
+ghost use Rattle.std.specs.List.{list_all};
 ghost use Rattle.std.specs.Option.{option_copied};
 ghost use Rattle.asm_element.specs.Value.{undef};
 ghost use Rattle.asm_element.specs.declared.value.Value.TheVariants as values;
+ghost use Rattle.asm_update.specs.Action.{is_of};
+ghost use Rattle.asm_update.specs.Aggregator.{Refused};
+ghost use Rattle.asm_update.specs.Answer.{IsOutcome, IsJoined};
 ghost use Rattle.asm_update.specs.declared.action.Family.TheVariants as family;
+ghost use Rattle.asm_update.specs.declared.clash.Cause.TheVariants.{Mixed, Both, Against};
 ghost use Rattle.asm_aggregate.specs.Families.{is_kind};
 ghost use Rattle.asm_aggregate.specs.Sets.{union, difference, meets, is_subset};
-ghost use Rattle.asm_aggregate.specs.SetMeaning.{set_meaning, element_on, elements_on, set_action, set_side};
+ghost use Rattle.asm_aggregate.specs.SetMeaning.{set_meaning, element_on, elements_on, adds_and_removes};
+ghost use Rattle.asm_aggregate.specs.SetMeaning.{set_action, set_side};
+ghost use Rattle.asm_aggregate.specs.Table.{first_cause};
 ghost use Rattle.asm_aggregate.specs.declared.side.Side.TheVariants as sides;
 ghost use Rattle.asm_aggregate.specs.laws.SetLaws.{set_laws};
 
@@ -123,6 +131,91 @@ fn push_side(
     Ok(())
 }
 
+/// The set without what is removed and with what is added.
+fn updated(alloc: Global, base: &ElemSet, sides: &Sides) -> Result<Value, ResultError>
+    ensures { IsOutcome result (Ok (values.Set (union (difference base.now sides.now.removed) sides.now.added))) }
+{
+    let rest = without(base.copy(alloc)?, &sides.removed);
+    Ok(Value::Set(with(alloc, rest, &sides.added)?))
+}
+
+/// The regular value, if its set has all that is added and nothing that is removed.
+fn confirmed(
+    alloc: Global,
+    value: &Value,
+    base: &ElemSet,
+    sides: &Sides,
+) -> Result<Value, ResultError>
+    ensures { IsOutcome result
+        (if not (is_subset sides.now.added base.now) || meets sides.now.removed base.now
+        then Err Against else Ok value.now) }
+{
+    if !is_within(&sides.added, base) || meet(&sides.removed, base) {
+        return Err(ResultError::Cause(Cause::Against));
+    }
+    Ok(value.copy(alloc)?)
+}
+
+/// The sides of a list that a join takes: its actions are of sets, and it adds nothing that it removes.
+fn sides_of_sets(alloc: Global, actions: &[Action]) -> Result<Sides, JoinError>
+    ensures added { IfOk result (λ s. s.added ≡ elements_on sides.Added actions.now) }
+    ensures removed { IfOk result (λ s. s.removed ≡ elements_on sides.Removed actions.now) }
+    ensures of_sets { IfOk result (λ _. list_all (is_of family.Set) actions.now ≡ true) }
+    ensures apart { IfOk result (λ _. adds_and_removes actions.now ≡ false) }
+    ensures err { IfErr result (λ e. IsJoined (Err e)
+        (first_cause
+        ((not (list_all (is_of family.Set) actions.now), Refused Mixed)
+        ∷ (adds_and_removes actions.now, Refused Both) ∷ [])
+        [])) }
+{
+    if !are_all_of(Family::Set, actions) {
+        return Err(JoinError::Cause(Cause::Mixed));
+    }
+    let sides = sides_of(alloc, actions)?;
+    if meet(&sides.added, &sides.removed) {
+        return Err(JoinError::Cause(Cause::Both));
+    }
+    Ok(sides)
+}
+
+/// The additions and then the removals.
+fn listed(alloc: Global, added: &ElemSet, removed: &ElemSet) -> Result<Vec<Action>, AllocError>
+    ensures { IfOk result (λ v. v.items ≡ set_side sides.Added added.now ++ set_side sides.Removed removed.now) }
+{
+    let mut joined = Vec::new(alloc);
+    push_side(alloc, &mut joined, Side::Added, added)?;
+    push_side(alloc, &mut joined, Side::Removed, removed)?;
+    Ok(joined)
+}
+
+/// What the first sides and then the second do.
+fn joined_sides(alloc: Global, one: Sides, two: &Sides) -> Result<Vec<Action>, AllocError>
+    ensures { IfOk result (λ v. v.items
+        ≡ set_side sides.Added (union (difference one.added two.now.removed) two.now.added)
+        ++ set_side sides.Removed (union (difference one.removed two.now.added) two.now.removed)) }
+{
+    let added = with(alloc, without(one.added, &two.removed), &two.added)?;
+    let removed = with(alloc, without(one.removed, &two.added), &two.removed)?;
+    listed(alloc, &added, &removed)
+}
+
+/// The join of a list that has these sides with the second list.
+fn join_after(alloc: Global, one: Sides, second: &[Action]) -> Result<Vec<Action>, JoinError>
+    ensures { IsJoined result
+        (first_cause
+        ((not (list_all (is_of family.Set) second.now), Refused Mixed)
+        ∷ (adds_and_removes second.now, Refused Both) ∷ [])
+        (set_side sides.Added
+        (union (difference one.added (elements_on sides.Removed second.now)) (elements_on sides.Added second.now))
+        ++ set_side sides.Removed
+        (union (difference one.removed (elements_on sides.Added second.now)) (elements_on sides.Removed second.now)))) }
+{
+    match sides_of_sets(alloc, second) {
+        Ok(two) => Ok(joined_sides(alloc, one, &two)?),
+        Err(error) => Err(error),
+    }
+}
+
 impl Aggregator for SetAgg {
     ghost meaning = { λ _. set_meaning };
 
@@ -145,18 +238,14 @@ impl Aggregator for SetAgg {
         let Some(base) = set_of(base_of(old, group)) else {
             return Err(ResultError::Cause(Cause::Kind));
         };
-        let Sides { added, removed } = sides_of(alloc, partials)?;
-        if meet(&added, &removed) {
+        let sides = sides_of(alloc, partials)?;
+        if meet(&sides.added, &sides.removed) {
             return Err(ResultError::Cause(Cause::Both));
         }
-        let Some(value) = group.regular() else {
-            let rest = without(base.copy(alloc)?, &removed);
-            return Ok(Value::Set(with(alloc, rest, &added)?));
-        };
-        if !is_within(&added, base) || meet(&removed, base) {
-            return Err(ResultError::Cause(Cause::Against));
+        match group.regular() {
+            None => updated(alloc, base, &sides),
+            Some(value) => confirmed(alloc, value, base, &sides),
         }
-        Ok(value.copy(alloc)?)
     }
 
     fn join(
@@ -165,25 +254,9 @@ impl Aggregator for SetAgg {
         first: &[Action],
         second: &[Action],
     ) -> Result<Vec<Action>, JoinError> {
-        if !are_all_of(Family::Set, first) {
-            return Err(JoinError::Cause(Cause::Mixed));
+        match sides_of_sets(alloc, first) {
+            Ok(one) => join_after(alloc, one, second),
+            Err(error) => Err(error),
         }
-        let one = sides_of(alloc, first)?;
-        if meet(&one.added, &one.removed) {
-            return Err(JoinError::Cause(Cause::Both));
-        }
-        if !are_all_of(Family::Set, second) {
-            return Err(JoinError::Cause(Cause::Mixed));
-        }
-        let two = sides_of(alloc, second)?;
-        if meet(&two.added, &two.removed) {
-            return Err(JoinError::Cause(Cause::Both));
-        }
-        let added = with(alloc, without(one.added, &two.removed), &two.added)?;
-        let removed = with(alloc, without(one.removed, &two.added), &two.removed)?;
-        let mut joined = Vec::new(alloc);
-        push_side(alloc, &mut joined, Side::Added, &added)?;
-        push_side(alloc, &mut joined, Side::Removed, &removed)?;
-        Ok(joined)
     }
 }

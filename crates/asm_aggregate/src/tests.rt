@@ -112,31 +112,48 @@ pub(crate) fn push_at(
     Ok(())
 }
 
+pub(crate) fn put_at(
+    alloc: Global,
+    list: &mut Instructions,
+    name: &str,
+    value: Old,
+) -> Result<(), Fail> {
+    push_at(alloc, list, name, Action::Regular(value_of(alloc, value)?))
+}
+
+pub(crate) fn do_at(
+    alloc: Global,
+    list: &mut Instructions,
+    name: &str,
+    action: Act,
+) -> Result<(), Fail> {
+    push_at(alloc, list, name, action_of(alloc, action)?)
+}
+
 fn move_of(alloc: Global, puts: &[Old], partials: &[Act]) -> Result<Instructions, Fail> {
     let mut list = Instructions::new(alloc);
     for put in puts {
-        push_at(
-            alloc,
-            &mut list,
-            "x",
-            Action::Regular(value_of(alloc, *put)?),
-        )?;
+        put_at(alloc, &mut list, "x", *put)?;
     }
     for partial in partials {
-        push_at(alloc, &mut list, "x", action_of(alloc, *partial)?)?;
+        do_at(alloc, &mut list, "x", *partial)?;
     }
     Ok(list)
 }
 
 pub(crate) fn state_of(alloc: Global, old: Old) -> Result<PlainState, Fail> {
+    let at = location(alloc, "x")?;
+    let value = value_of(alloc, old)?;
     let mut state = PlainState::new(alloc);
-    state.set(location(alloc, "x")?, value_of(alloc, old)?)?;
+    state.set(at, value)?;
     Ok(state)
 }
 
 pub(crate) fn updates_of(alloc: Global, value: Old) -> Result<UpdateSet, Fail> {
+    let at = location(alloc, "x")?;
+    let value = value_of(alloc, value)?;
     let mut updates = UpdateSet::new(alloc);
-    updates.put(location(alloc, "x")?, value_of(alloc, value)?)?;
+    updates.put(at, value)?;
     Ok(updates)
 }
 
@@ -171,10 +188,20 @@ pub(crate) fn is_wanted(
     }
 }
 
+/// What the move gives on the state, both of which are dropped.
+fn aggregate_on<A: Aggregator>(
+    alloc: Global,
+    aggregator: &A,
+    state: PlainState,
+    instructions: Instructions,
+) -> Result<UpdateSet, AggError> {
+    aggregate(alloc, aggregator, &state, &instructions)
+}
+
 fn aggregates<A: Aggregator>(alloc: Global, aggregator: &A, row: Row) -> Result<bool, Fail> {
     let state = state_of(alloc, row.0)?;
     let instructions = move_of(alloc, row.1, row.2)?;
-    let answer = aggregate(alloc, aggregator, &state, &instructions);
+    let answer = aggregate_on(alloc, aggregator, state, instructions);
     is_wanted(alloc, answer, row.3)
 }
 
@@ -222,24 +249,29 @@ fn is_result(
     }
 }
 
+/// What the aggregator makes of the group on the old value, both of which are dropped.
 fn result_by<A: Aggregator>(
     alloc: Global,
     aggregator: &A,
-    old: &Value,
-    group: &Group,
+    old: Value,
+    group: Group,
 ) -> Result<Value, ResultError> {
-    let known = if old.is_undef() { None } else { Some(old) };
-    aggregator.result(alloc, known, group)
+    let known = if old.is_undef() { None } else { Some(&old) };
+    aggregator.result(alloc, known, &group)
+}
+
+fn group_in(alloc: Global, row: Row) -> Result<Option<Group>, Fail> {
+    let regular = put_of(alloc, row.1)?;
+    let partials = actions_of(alloc, row.2)?;
+    Ok(group_of(regular, partials))
 }
 
 fn results<A: Aggregator>(alloc: Global, aggregator: &A, row: Row) -> Result<bool, Fail> {
-    let regular = put_of(alloc, row.1)?;
-    let partials = actions_of(alloc, row.2)?;
-    let Some(group) = group_of(regular, partials) else {
-        return Ok(false);
-    };
     let old = value_of(alloc, row.0)?;
-    is_result(alloc, result_by(alloc, aggregator, &old, &group), row.3)
+    match group_in(alloc, row)? {
+        Some(group) => is_result(alloc, result_by(alloc, aggregator, old, group), row.3),
+        None => Ok(false),
+    }
 }
 
 /// Whether the aggregator makes of the row what it tells, by `aggregate` and, for a group with partial updates and at
@@ -380,6 +412,17 @@ fn join_by<R: Abort, A: Aggregator>(
     aggregator.join(alloc, first, second)
 }
 
+/// What joins the two lists, which are dropped.
+fn join_of<R: Abort, A: Aggregator>(
+    rt: &R,
+    alloc: Global,
+    aggregator: &A,
+    first: Vec<Action>,
+    second: Vec<Action>,
+) -> Result<Vec<Action>, JoinError> {
+    join_by(rt, alloc, aggregator, first.as_slice(), second.as_slice())
+}
+
 fn joins<R: Abort, A: Aggregator>(
     rt: &R,
     alloc: Global,
@@ -388,7 +431,7 @@ fn joins<R: Abort, A: Aggregator>(
 ) -> Result<bool, Fail> {
     let first = actions_of(alloc, row.0)?;
     let second = actions_of(alloc, row.1)?;
-    let answer = join_by(rt, alloc, aggregator, first.as_slice(), second.as_slice());
+    let answer = join_of(rt, alloc, aggregator, first, second);
     is_joined(alloc, answer, row.2)
 }
 

@@ -13,7 +13,7 @@ use Rattle.asm_storage.specs.History.{moves, own, IsLegal}
 use Rattle.asm_storage.specs.Storage.{StorageView, AgentAt, IsOf, accounts, at_start}
 use Rattle.asm_storage.specs.Storage as storage
 use Rattle.asm_storage.specs.declared.history.Event.{Event}
-use Rattle.asm_driver.proofs.Parts.{are_told_more}
+use Rattle.asm_driver.proofs.Stepping.{are_told_later}
 use Rattle.asm_driver.proofs.ProperMoves.{proper_first}
 use Rattle.asm_driver.specs.Plan.{Plan}
 use Rattle.asm_driver.specs.Play as play
@@ -88,7 +88,7 @@ module _ {A : Type 0} (meaning : A → Meaning) (part : Part) (s : StorageView A
       let m = storage.machine_of meaning s in
       let seen = moves_seen a.account.seen in
       let proper_seen = proper_first s.init seen (moves h) begins proper in
-      let told = are_told_more m seen (moves h) ss os _ begins (played.told same proper_seen) in
+      let told = are_told_later m seen (moves h) begins ss os _ (played.told same proper_seen) in
       let number : a.account.id ≡ id = played.same.id in
       let events : own h id ≡ map (event_of id) played.more =
       ap (own h) (sym number) ∙ mine ∙ ap (λ i. map (event_of i) a.account.receipts) number

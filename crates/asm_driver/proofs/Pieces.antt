@@ -1,5 +1,5 @@
 -- A text in pieces.
-use Rattle.std.proofs.Common.{◌≡◌, ℕ, ◌+◌, ◌-◌, ◌==◌, true, List, [], ◌++◌, take, drop, length, Option, None}
+use Rattle.std.proofs.Common.{◌≡◌, ℕ, ◌-◌, ◌==◌, true, List, [], ◌++◌, take, drop, length, Option, None}
 use Rattle.std.proofs.Common.{Some, sym, ap, ◌∙◌, append_assoc, append-nil, take-append-drop, arith}
 use Rattle.std.specs.Prelude.{Result, Ok, Err, OnOk}
 use Rattle.std.proofs.Math.Seq.{take-append_seam}

@@ -1,6 +1,7 @@
 -- Steps that were played, one after another.
-use Rattle.std.proofs.Common.{◌≡◌, ◌⊎◌, inl, inr, ℕ, zero, suc, ◌-◌, ◌≤◌, min, List, [], ◌∷◌, ◌++◌, length, take, map}
-use Rattle.std.proofs.Common.{All, Ok, append_assoc, append-nil, length-append, arith, refl, sym, ap, subst, ◌∙◌}
+use Rattle.std.proofs.Common.{◌≡◌, ◌⊎◌, inl, inr, ℕ, zero, suc, ◌+◌, ◌-◌, ◌*◌, ◌≤◌, min, List, [], ◌∷◌, ◌++◌, length}
+use Rattle.std.proofs.Common.{take, map, All, None, Ok, append_assoc, append-nil, length-append, arith, refl, sym, ap, subst}
+use Rattle.std.proofs.Common.{◌∙◌}
 use Rattle.std.proofs.lemmas.List.Elements.{All-nil, All-append}
 use mathlib.Core.List.{IsPrefix}
 use Rattle.asm_update.specs.Aggregator.{Meaning}
@@ -16,9 +17,10 @@ use Rattle.asm_storage.specs.declared.receipt.Entry.{Entry}
 use Rattle.asm_storage.specs.declared.receipt.Receipt.{Receipt}
 use Rattle.asm_storage.proofs.Lists.{take-prefix}
 use Rattle.asm_driver.specs.Plays.{AreProper, Plays}
-use Rattle.asm_driver.specs.Sequencing.{Stop, Clashes, fire_blocks, IsStopped}
-use Rattle.asm_driver.specs.Told.{IsIdle, IsFiring, StopsWith, Clashing, EndsWith, IsTold, AreTold}
-use Rattle.asm_driver.specs.Trying.{Adds, IsEnded, Tried, IsStepPlayed}
+use Rattle.asm_driver.specs.Sequencing.{Stop, Clashes, fire_blocks, IsStopped, IsMany}
+use Rattle.asm_driver.specs.Told.{IsIdle, IsFiring, StopsWith, Clashing, Outgrows, stale_fire, stale_fires, EndsWith, IsTold}
+use Rattle.asm_driver.specs.Told.{AreTold}
+use Rattle.asm_driver.specs.Trying.{Adds, EndsStale, IsAgain, IsEnded, Tried, IsStepPlayed}
 use Rattle.asm_driver.specs.declared.step.Step.{Step}
 use Rattle.asm_driver.specs.declared.outcome.Outcome.{Outcome}
 use Rattle.asm_driver.specs.declared.outcome.Outcome.TheVariants as outcome
@@ -31,6 +33,10 @@ take_length zero xs = omega arith
 take_length (suc n) [] = omega arith
 take_length (suc n) (x ∷ xs) = omega (arith, take_length n xs)
 
+mapped_length : {X Y : Type 0} (f : X → Y) (xs : List X) → length (map f xs) ≡ length xs
+mapped_length f [] = refl
+mapped_length f (x ∷ xs) = omega (arith, mapped_length f xs)
+
 -- idle events in front change nothing
 idle_front : (P : Event → Type 0) (xs es : List Event) → All IsIdle xs → EndsWith P es → EndsWith P (xs ++ es)
 idle_front P xs es idle ends = (
@@ -41,6 +47,19 @@ idle_front P xs es idle ends = (
   ends.4,
 )
 
+-- stale fires are counted in turn
+stale_both : (xs ys : List Event) → stale_fires (xs ++ ys) ≡ stale_fires xs + stale_fires ys
+stale_both [] ys = omega arith
+stale_both (x ∷ xs) ys = omega (arith, stale_both xs ys)
+
+-- a try that ended stale counts
+stale_once : (id : ℕ) (more : List Receipt) → EndsStale more → 1 ≤ stale_fires (map (event_of id) more)
+stale_once id more (first, r, l, is, stale) =
+    let events : map (event_of id) more ≡ map (event_of id) first ++ event_of id r ∷ [] =
+    ap (map (event_of id)) is ∙ mapped_both (event_of id) first (r ∷ []) in
+    let one : stale_fire r.answer ≡ 1 = ap stale_fire stale in
+    omega (arith, ap stale_fires events, stale_both (map (event_of id) first) (event_of id r ∷ []), one)
+
 module _ (m : Machine) (q : List Move) (step : Step) where
   idle_before : (o : Outcome) (xs es : List Event) → All IsIdle xs → IsTold m q step o es → IsTold m q step o (xs ++ es)
   idle_before (outcome.Fired k) xs es idle told = idle_front (IsFiring m q step k) xs es idle told
@@ -48,8 +67,9 @@ module _ (m : Machine) (q : List Move) (step : Step) where
   idle_before (outcome.Clash c) xs es idle told = (All-append IsIdle xs es idle told.0, told.1)
   idle_before outcome.Term xs es idle told = (All-append IsIdle xs es idle told.0, told.1)
   idle_before (outcome.Large l) xs es idle told = (All-append IsIdle xs es idle told.0, told.1)
-  idle_before outcome.Many xs es idle told = All-append IsIdle xs es idle told
-  idle_before outcome.GaveUp xs es idle told = All-append IsIdle xs es idle told
+  idle_before outcome.Many xs es idle told = (All-append IsIdle xs es idle told.0, told.1)
+  idle_before outcome.GaveUp xs es idle (all, (busy, lost, tries)) =
+      (All-append IsIdle xs es idle all, (busy, lost, omega (arith, tries, stale_both xs es)))
 
 -- what was told of some moves is so of more
 module _ (m : Machine) (q r : List Move) (p : IsPrefix q r) where
@@ -71,6 +91,19 @@ module _ (m : Machine) (q r : List Move) (p : IsPrefix q r) where
       StopsWith m r step stop ⊎ Clashing m r step
   clash_later step stop (inl is) = inl (stops_later step stop is)
   clash_later step stop (inr is) = inr (clashing_later step is)
+
+  outgrows_later : (step : Step) → Outgrows m q step → Outgrows m r step
+  outgrows_later step (inl reads) = inl reads
+  outgrows_later step (inr (a, laws, same, (n, le, is))) = inr (
+    a,
+    laws,
+    same,
+    (
+      n,
+      omega (arith, le, prefix_length q r p),
+      subst (λ w. IsMany a (state_of m w) None step) (take-prefix n q r p le) is,
+    ),
+  )
 
   firing_later : (step : Step) (k : ℕ) (e : Event) → IsFiring m q step k e → IsFiring m r step k e
   firing_later step k e (reads, M, call, answer, some, whole, (B, fires, blocks)) =
@@ -96,10 +129,11 @@ module _ (m : Machine) (q r : List Move) (p : IsPrefix q r) where
   told_later step (outcome.Clash c) es told = (told.0, clash_later step (Clashes c) told.1)
   told_later step outcome.Term es told = (told.0, stops_later step _ told.1)
   told_later step (outcome.Large l) es told = (told.0, clashing_later step told.1)
-  told_later step outcome.Many es told = told
-  told_later step outcome.GaveUp es told = told
+  told_later step outcome.Many es told = (told.0, outgrows_later step told.1)
+  told_later step outcome.GaveUp es (all, (busy, lost, tries)) =
+      (all, (busy, omega (arith, lost, prefix_length q r p), tries))
 
-  are_told_later : (ss : List Step) (os : List Outcome) (es : List Event) → AreTold m q ss os es → AreTold m r ss os es
+  pub are_told_later : (ss : List Step) (os : List Outcome) (es : List Event) → AreTold m q ss os es → AreTold m r ss os es
   are_told_later [] [] es told = told
   are_told_later [] (o ∷ os) es told = absurd told
   are_told_later (s ∷ ss) [] es told = absurd told
@@ -121,11 +155,14 @@ are_told_more m q (t ∷ ss) (p ∷ os) es fs s o told last = (
   are_told_more m q ss os told.1 fs s o told.4 last,
 )
 
--- receipts that tell nothing
-record AddsIdle {A : Type 0} (old new : AgentAt A) : Type 0 where
+-- the receipts of so many tries that ended in nothing
+record AddsIdle {A : Type 0} (n : ℕ) (old new : AgentAt A) : Type 0 where
   more : List Receipt
   adds : Adds old new more
   idle : All IsIdle (map (event_of old.account.id) more)
+  busy : ℕ
+  lost : length old.account.seen + 64 * busy ≤ length new.account.seen
+  tries : n ≤ stale_fires (map (event_of old.account.id) more) + busy
 
 -- the events of receipts that were added in turn
 added_events : {A : Type 0} (old mid : AgentAt A) (xs ys : List Receipt) → IsSameAgent old mid →
@@ -134,17 +171,50 @@ added_events old mid xs ys same =
     mapped_both (event_of old.account.id) xs ys
     ∙ ap (λ (i : ℕ). map (event_of old.account.id) xs ++ map (event_of i) ys) (sym same.id)
 
-tried_adds : {A : Type 0} (n : ℕ) (old new : AgentAt A) → Tried n old new → AddsIdle old new
-tried_adds {A} zero old new same =
-    record { more = []; adds = subst (λ (a : AgentAt A). Adds old a []) same (adds_none old); idle = All-nil IsIdle }
-tried_adds {A} (suc n) old new (mid, before, again) =
-    let first = tried_adds n old mid before in
-    record {
-      more = first.more ++ again.more;
-      adds = adds_then old mid new first.more again.more first.adds again.adds;
-      idle = subst (All IsIdle) (sym (added_events old mid first.more again.more first.adds.same))
-          (All-append IsIdle _ _ first.idle again.idle);
-    }
+-- one try more
+adds_try : {A : Type 0} (n : ℕ) (old mid new : AgentAt A) → AddsIdle n old mid → IsAgain mid new →
+    AddsIdle (suc n) old new
+adds_try n old mid new first again = record {
+  more = first.more ++ again.more;
+  adds = adds_then old mid new first.more again.more first.adds again.adds;
+  idle = subst (All IsIdle) (sym events) (All-append IsIdle _ _ first.idle again.idle);
+  busy = counted.0;
+  lost = counted.1;
+  tries = counted.2;
+} where
+  events : map (event_of old.account.id) (first.more ++ again.more)
+      ≡ map (event_of old.account.id) first.more ++ map (event_of mid.account.id) again.more
+  events = added_events old mid first.more again.more first.adds.same
+
+  both : stale_fires (map (event_of old.account.id) (first.more ++ again.more))
+      ≡ stale_fires (map (event_of old.account.id) first.more) + stale_fires (map (event_of mid.account.id) again.more)
+  both = ap stale_fires events
+      ∙ stale_both (map (event_of old.account.id) first.more) (map (event_of mid.account.id) again.more)
+
+  by_cause : EndsStale again.more ⊎ (length mid.account.seen + 64 ≤ length new.account.seen) →
+      (busy : ℕ) × (length old.account.seen + 64 * busy ≤ length new.account.seen)
+      × (suc n ≤ stale_fires (map (event_of old.account.id) (first.more ++ again.more)) + busy)
+  by_cause (inl stale) = (
+    first.busy,
+    omega (arith, first.lost, prefix_length mid.account.seen new.account.seen again.adds.begins),
+    omega (arith, first.tries, both, stale_once mid.account.id again.more stale),
+  )
+  by_cause (inr longer) = (suc first.busy, omega (arith, first.lost, longer), omega (arith, first.tries, both))
+
+  counted : (busy : ℕ) × (length old.account.seen + 64 * busy ≤ length new.account.seen)
+      × (suc n ≤ stale_fires (map (event_of old.account.id) (first.more ++ again.more)) + busy)
+  counted = by_cause again.cause
+
+tried_adds : {A : Type 0} (n : ℕ) (old new : AgentAt A) → Tried n old new → AddsIdle n old new
+tried_adds {A} zero old new same = record {
+  more = [];
+  adds = subst (λ (a : AgentAt A). Adds old a []) same (adds_none old);
+  idle = All-nil IsIdle;
+  busy = 0;
+  lost = omega (arith, ap (λ (a : AgentAt A). length a.account.seen) same);
+  tries = omega arith;
+}
+tried_adds {A} (suc n) old new (mid, before, again) = adds_try n old mid new (tried_adds n old mid before) again
 
 module _ {A : Type 0} (meaning : A → Meaning) (part : Part) where
   -- a step that was played ended
@@ -153,7 +223,18 @@ module _ {A : Type 0} (meaning : A → Meaning) (part : Part) where
   step_ended old new step o (inl (is, n, count, tried)) =
       let all = tried_adds n old new tried in
       subst (IsEnded meaning part old new step) (sym is)
-      (record { more = all.more; adds = all.adds; told = λ same proper. all.idle })
+      (record {
+        more = all.more;
+        adds = all.adds;
+        told = λ same proper. (
+          all.idle,
+          (
+            all.busy,
+            omega (arith, all.lost, mapped_length (λ (x : Entry). x.instrs) new.account.seen),
+            omega (arith, all.tries, count),
+          ),
+        );
+      })
   step_ended old new step o (inr (n, few, mid, tried, ended)) =
       let first = tried_adds n old mid tried in
       let last = ended.0 in

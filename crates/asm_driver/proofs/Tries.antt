@@ -31,7 +31,8 @@ use Rattle.asm_storage.specs.declared.receipt.Receipt.{Receipt}
 use Rattle.asm_storage.proofs.Run.{same_value_from}
 use Rattle.asm_driver.specs.Plays.{AreProper}
 use Rattle.asm_driver.specs.Reads.{AreReads}
-use Rattle.asm_driver.specs.Sequencing.{Stop, FaultyTerm, Clashes, fired, fire_blocks, IsReadOf, IsStopped, IsStepMove}
+use Rattle.asm_driver.specs.Sequencing.{Stop, FaultyTerm, Clashes, fired, fire_blocks, IsReadOf, IsStopped, IsMany}
+use Rattle.asm_driver.specs.Sequencing.{IsStepMove}
 use Rattle.asm_driver.specs.Told.{IsIdle, IsFiring, StopsWith, Clashing, EndsWith, IsTold}
 use Rattle.asm_driver.specs.Trying.{value_among, read_value, name_at, names_of, HasRead, HasTried, outcome_of}
 use Rattle.asm_driver.specs.Trying.{IsEndOf, Adds, IsTry}
@@ -258,32 +259,46 @@ module _ {A : Type 0} (meaning : A → Meaning) where
     )
 
     -- a step that has no move ends
-    fault_told : (f : StepFault) (o : Outcome) (es : List Event) → IsEndOf f o →
+    fault_told : AggregatorLaws own → (f : StepFault) (o : Outcome) (es : List Event) → IsEndOf f o →
         IsStepMove own (read_value reading) step (Err f) → All IsIdle es →
         m.part ≡ part → AreProper old.storage.init here → IsTold m here step o es
-    fault_told fault.Term o es is move idle same proper =
+    fault_told lawful fault.Term o es is move idle same proper =
         subst (λ p. IsTold m here step p es) (sym is) (
           idle,
           stops_here FaultyTerm proper
               (subst (λ p. fire_blocks p (state_of m here) step ≡ Err FaultyTerm) (sym same)
               (move (state_of m here) (read_of here proper (λ l there. refl)))),
         )
-    fault_told (fault.Clash c) o es is move idle same proper =
+    fault_told lawful (fault.Clash c) o es is move idle same proper =
         subst (λ p. IsTold m here step p es) (sym is) (
           idle,
           inr (clashing_here proper
               (subst (λ p. IsStopped (fire_blocks p (state_of m here) step)) (sym same)
               (move (state_of m here) (read_of here proper (λ l there. refl))))),
         )
-    fault_told (fault.Large l) o es is move idle same proper =
+    fault_told lawful (fault.Large l) o es is move idle same proper =
         subst (λ p. IsTold m here step p es) (sym is) (
           idle,
           clashing_here proper
               (subst (λ p. IsStopped (fire_blocks p (state_of m here) step)) (sym same)
               (move (state_of m here) (read_of here proper (λ l there. refl)))),
         )
-    fault_told fault.Many o es is move idle same proper = subst (λ p. IsTold m here step p es) (sym is) idle
-    fault_told fault.Memory o es is move idle same proper = absurd is
+    fault_told lawful fault.Many o es is move idle same proper =
+        subst (λ p. IsTold m here step p es) (sym is) (
+          idle,
+          inr (
+            own,
+            lawful,
+            sym same,
+            (
+              length here,
+              omega arith,
+              subst (λ q. IsMany own (state_of m q) None step) (sym (take_all (length here) here (omega arith)))
+                  (move (state_of m here) (read_of here proper (λ l there. refl))),
+            ),
+          ),
+        )
+    fault_told lawful fault.Memory o es is move idle same proper = absurd is
 
     not_given_up : (f : StepFault) (o : Outcome) → IsEndOf f o → o ≢ outcome.GaveUp
     not_given_up fault.Term o is bad = let no : outcome.Term ≡ outcome.GaveUp = sym is ∙ bad in cc no
@@ -293,15 +308,15 @@ module _ {A : Type 0} (meaning : A → Meaning) where
     not_given_up fault.Memory o is bad = absurd is
 
     -- the try of a step that has no move
-    pub ended_by_fault : (f : StepFault) (o : Outcome) → IsEndOf f o →
+    pub ended_by_fault : AggregatorLaws own → (f : StepFault) (o : Outcome) → IsEndOf f o →
         IsStepMove own (read_value reading) step (Err f) →
         IsTry meaning part old mid step (Some o)
-    ended_by_fault f o is move =
+    ended_by_fault lawful f o is move =
         let had = read_adds old mid places reading read in (
           record {
             more = had.more;
             adds = had.adds;
-            told = fault_told f o (map (event_of old.account.id) had.more) is
+            told = fault_told lawful f o (map (event_of old.account.id) had.more) is
                 move had.idle;
           },
           not_given_up f o is,

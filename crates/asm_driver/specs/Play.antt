@@ -3,7 +3,6 @@ use Rattle.std.specs.Prelude.{◌≡◌, ◌≤◌, ◌<◌, ◌⊎◌, ◌+◌,
 use Rattle.asm_storage.specs.Machine.{Machine}
 use Rattle.asm_storage.specs.History.{moves, own, IsLegal}
 use Rattle.asm_storage.specs.declared.history.Event.{Event}
-use Rattle.asm_update.specs.Move.{Move}
 use Rattle.asm_driver.specs.Plan.{Plan}
 use Rattle.asm_driver.specs.Standard.{standard_part}
 use Rattle.asm_driver.specs.Told.{AreTold}

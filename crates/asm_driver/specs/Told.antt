@@ -1,5 +1,8 @@
 -- What the outcomes of an agent's steps tell of its answered calls.
-use Rattle.std.specs.Prelude.{◌≡◌, ◌≢◌, ◌-◌, ◌≤◌, ◌⊎◌, ℕ, List, [], ◌∷◌, ◌++◌, length, take, All, Ok, Err}
+use Rattle.std.specs.Prelude.{◌≡◌, ◌≢◌, ◌+◌, ◌-◌, ◌*◌, ◌≤◌, ◌<◌, ◌⊎◌, ℕ, List, [], ◌∷◌, ◌++◌, length, take, All}
+use Rattle.std.specs.Prelude.{None, Ok, Err}
+use Rattle.asm_element.specs.Place.{Place}
+use Rattle.asm_update.specs.Aggregator.{Meaning, AggregatorLaws}
 use Rattle.asm_update.specs.Fire.{fire}
 use Rattle.asm_update.specs.Move.{Move}
 use Rattle.asm_update.specs.State.{State}
@@ -7,9 +10,11 @@ use Rattle.asm_state.specs.declared.named.Named.{Named}
 use Rattle.asm_storage.specs.Machine.{Machine, state_of}
 use Rattle.asm_storage.specs.declared.call.Call.TheVariants as call
 use Rattle.asm_storage.specs.declared.call.Reply.TheVariants as reply
+use Rattle.asm_storage.specs.declared.call.Answer.{Answer}
 use Rattle.asm_storage.specs.declared.call.Answer.TheVariants as answer
 use Rattle.asm_storage.specs.declared.history.Event.{Event}
-use Rattle.asm_driver.specs.Sequencing.{Stop, FaultyTerm, Clashes, fire_blocks, IsStopped}
+use Rattle.asm_driver.specs.Reads.{AreReads}
+use Rattle.asm_driver.specs.Sequencing.{Stop, FaultyTerm, Clashes, fire_blocks, IsStopped, IsMany}
 use Rattle.asm_driver.specs.declared.step.Step.{Step}
 use Rattle.asm_driver.specs.declared.outcome.Outcome.{Outcome}
 use Rattle.asm_driver.specs.declared.outcome.Outcome.TheVariants as outcome
@@ -38,6 +43,29 @@ StopsWith m q step stop = (n : ℕ) × (n ≤ length q) × (fire_blocks m.part (
 abbrev pub Clashing : Machine → List Move → Step → Type 0
 Clashing m q step = (n : ℕ) × (n ≤ length q) × IsStopped (fire_blocks m.part (after m q n) step)
 
+-- The step reads more than 256 locations; or, on the state that some first moves leave, its blocks up to some block
+-- compose to more than 4,096 instructions, by an aggregator that gives each location what the machine gives it.
+abbrev pub Outgrows : Machine → List Move → Step → Type 0
+Outgrows m q step =
+    ((ls : List Place) × AreReads step ls × (256 < length ls))
+    ⊎ ((a : Meaning) × AggregatorLaws a × (a.part ≡ m.part)
+    × ((n : ℕ) × (n ≤ length q) × IsMany a (after m q n) None step))
+
+-- 1 for the answer of a stale fire, else 0
+abbrev pub stale_fire : Answer → ℕ
+stale_fire (answer.Fire (reply.Stale l)) = 1
+stale_fire (answer.Fire _) = 0
+stale_fire (answer.Read number values) = 0
+
+-- how many of the events are stale fires
+abbrev pub stale_fires : List Event → ℕ
+stale_fires [] = 0
+stale_fires (e ∷ es) = stale_fire e.answer + stale_fires es
+
+-- Of 1,001 tries each was stale, but for some that were busy: they lost 64 offers each, to as many moves.
+abbrev pub IsGivenUp : List Move → List Event → Type 0
+IsGivenUp q es = (busy : ℕ) × (64 * busy ≤ length q) × (1001 ≤ stale_fires es + busy)
+
 -- the events are idle but for the last, which is so
 abbrev pub EndsWith : (Event → Type 0) → List Event → Type 0
 EndsWith P es = (idle : List Event) × (e : Event) × (es ≡ idle ++ e ∷ []) × All IsIdle idle × P e
@@ -49,8 +77,8 @@ IsTold m q step outcome.Full es = EndsWith (λ e. e.answer ≡ answer.Fire reply
 IsTold m q step (outcome.Clash clash) es = All IsIdle es × (StopsWith m q step (Clashes clash) ⊎ Clashing m q step)
 IsTold m q step outcome.Term es = All IsIdle es × StopsWith m q step FaultyTerm
 IsTold m q step (outcome.Large l) es = All IsIdle es × Clashing m q step
-IsTold m q step outcome.Many es = All IsIdle es
-IsTold m q step outcome.GaveUp es = All IsIdle es
+IsTold m q step outcome.Many es = All IsIdle es × Outgrows m q step
+IsTold m q step outcome.GaveUp es = All IsIdle es × IsGivenUp q es
 
 -- one outcome for each step, and the events are those of the steps, in order
 abbrev pub AreTold : Machine → List Move → List Step → List Outcome → List Event → Type 0

@@ -80,148 +80,154 @@ fn first_wrong<T: Threads + Wait + Sync>(
     Ok(None)
 }
 
-#[test]
-fn reports_of_scripts(rt: HostRuntime) -> Result<(), Fail> {
-    let rows = [
-        (r#"{"init":[],"agents":[]}"#, "moves 0\n"),
-        (ONE_PUT, ONE_PUT_REPORT),
-        (r#"{"init":[],"agents":[[[[]]]]}"#, "moves 1\n"),
-        (
-            r#"{"init":[],"agents":[[[[["put",["x"],1],["put",["x"],2],["put",["a"],3],["put",["a"],4]]]]]}"#,
-            r#"moves 0
+static SCRIPTS: [(&str, &str); 6] = [
+    (r#"{"init":[],"agents":[]}"#, "moves 0\n"),
+    (ONE_PUT, ONE_PUT_REPORT),
+    (r#"{"init":[],"agents":[[[[]]]]}"#, "moves 1\n"),
+    (
+        r#"{"init":[],"agents":[[[[["put",["x"],1],["put",["x"],2],["put",["a"],3],["put",["a"],4]]]]]}"#,
+        r#"moves 0
 agent 0 step 0 clash ["a"] Two
 "#,
-        ),
-        (
-            r#"{"agents":[[[[["put",["b"],1],["put",["a",0,0],1],["put",["a"],1],["put",["a",9],1]]]]],"init":[]}"#,
-            r#"[["a"],1]
+    ),
+    (
+        r#"{"agents":[[[[["put",["b"],1],["put",["a",0,0],1],["put",["a"],1],["put",["a",9],1]]]]],"init":[]}"#,
+        r#"[["a"],1]
 [["a",9],1]
 [["a",0,0],1]
 [["b"],1]
 moves 1
 "#,
-        ),
-        (
-            r#" { "init" : [ [["y"],null], [["x"],-1], [["t"],"\u00e9"], [["f"],false] ],
+    ),
+    (
+        r#" { "init" : [ [["y"],null], [["x"],-1], [["t"],"\u00e9"], [["f"],false] ],
 "agents" : [[[[["put",["x"],null]]]]] } "#,
-            r#"[["f"],false]
+        r#"[["f"],false]
 [["t"],"é"]
 moves 1
 "#,
-        ),
-    ];
-    assert_eq!(rt; first_wrong(&rt, rt.alloc(), &RUN, 0, &rows)?, None);
+    ),
+];
+
+#[test]
+fn reports_of_scripts(rt: HostRuntime) -> Result<(), Fail> {
+    assert_eq!(rt; first_wrong(&rt, rt.alloc(), &RUN, 0, &SCRIPTS)?, None);
     Ok(())
 }
+
+static SETS_AND_BAGS: [(&str, &str); 8] = [
+    (
+        r#"{"init":[[["s"],{"set":[2,1]}]],
+"agents":[[[[["add",["s"],3],["remove",["s"],1],["remove",["s"],9]]]]]}"#,
+        r#"[["s"],{"set":[2,3]}]
+moves 1
+"#,
+    ),
+    (
+        r#"{"init":[[["b"],{"bag":[["e",1]]}]],"agents":[[[[["bagadd",["b"],"e",2],["bagremove",["b"],"e",2]]]]]}"#,
+        r#"[["b"],{"bag":[["e",1]]}]
+moves 0
+agent 0 step 0 clash ["b"] Short
+"#,
+    ),
+    (
+        r#"{"init":[],
+"agents":[[[[["put",["s"],{"set":[1,2]}],["add",["s"],1]]],
+[[["put",["s"],{"set":[1,2]}],["add",["s"],3]]]]]}"#,
+        r#"[["s"],{"set":[1,2]}]
+moves 1
+agent 0 step 1 clash ["s"] Against
+"#,
+    ),
+    (
+        r#"{"init":[[["b"],{"bag":[["e",4294967295]]}]],
+"agents":[[[[["bagadd",["b"],"e",1]]],[[["bagremove",["b"],"e",1],["bagadd",["b"],"e",1]]]]]}"#,
+        r#"[["b"],{"bag":[["e",4294967295]]}]
+moves 1
+agent 0 step 0 clash ["b"] Large
+"#,
+    ),
+    (
+        r#"{"init":[],"agents":[[[[["put",["x"],{"set":[10,"a",true,null,"",-1,"B",false,0]}]]]]]}"#,
+        r#"[["x"],{"set":[null,false,true,-1,0,10,"","B","a"]}]
+moves 1
+"#,
+    ),
+    (
+        r#"{"init":[],"agents":[[[[["add",["x"],1],["bagadd",["x"],1,1]]]]]}"#,
+        r#"moves 0
+agent 0 step 0 clash ["x"] Mixed
+"#,
+    ),
+    (
+        r#"{"init":[],"agents":[[[[["add",["x"],1],["remove",["x"],1]]]]]}"#,
+        r#"moves 0
+agent 0 step 0 clash ["x"] Kind
+"#,
+    ),
+    (
+        r#"{"init":[[["x"],{"set":[]}]],"agents":[[[[["add",["x"],1],["remove",["x"],1]]]]]}"#,
+        r#"[["x"],{"set":[]}]
+moves 0
+agent 0 step 0 clash ["x"] Both
+"#,
+    ),
+];
 
 /// Scripts of partial updates, with their reports.
 #[test]
 fn reports_of_sets_and_bags(rt: HostRuntime) -> Result<(), Fail> {
-    let rows = [
-        (
-            r#"{"init":[[["s"],{"set":[2,1]}]],
-"agents":[[[[["add",["s"],3],["remove",["s"],1],["remove",["s"],9]]]]]}"#,
-            r#"[["s"],{"set":[2,3]}]
-moves 1
-"#,
-        ),
-        (
-            r#"{"init":[[["b"],{"bag":[["e",1]]}]],"agents":[[[[["bagadd",["b"],"e",2],["bagremove",["b"],"e",2]]]]]}"#,
-            r#"[["b"],{"bag":[["e",1]]}]
-moves 0
-agent 0 step 0 clash ["b"] Short
-"#,
-        ),
-        (
-            r#"{"init":[],
-"agents":[[[[["put",["s"],{"set":[1,2]}],["add",["s"],1]]],
-[[["put",["s"],{"set":[1,2]}],["add",["s"],3]]]]]}"#,
-            r#"[["s"],{"set":[1,2]}]
-moves 1
-agent 0 step 1 clash ["s"] Against
-"#,
-        ),
-        (
-            r#"{"init":[[["b"],{"bag":[["e",4294967295]]}]],
-"agents":[[[[["bagadd",["b"],"e",1]]],[[["bagremove",["b"],"e",1],["bagadd",["b"],"e",1]]]]]}"#,
-            r#"[["b"],{"bag":[["e",4294967295]]}]
-moves 1
-agent 0 step 0 clash ["b"] Large
-"#,
-        ),
-        (
-            r#"{"init":[],"agents":[[[[["put",["x"],{"set":[10,"a",true,null,"",-1,"B",false,0]}]]]]]}"#,
-            r#"[["x"],{"set":[null,false,true,-1,0,10,"","B","a"]}]
-moves 1
-"#,
-        ),
-        (
-            r#"{"init":[],"agents":[[[[["add",["x"],1],["bagadd",["x"],1,1]]]]]}"#,
-            r#"moves 0
-agent 0 step 0 clash ["x"] Mixed
-"#,
-        ),
-        (
-            r#"{"init":[],"agents":[[[[["add",["x"],1],["remove",["x"],1]]]]]}"#,
-            r#"moves 0
-agent 0 step 0 clash ["x"] Kind
-"#,
-        ),
-        (
-            r#"{"init":[[["x"],{"set":[]}]],"agents":[[[[["add",["x"],1],["remove",["x"],1]]]]]}"#,
-            r#"[["x"],{"set":[]}]
-moves 0
-agent 0 step 0 clash ["x"] Both
-"#,
-        ),
-    ];
-    assert_eq!(rt; first_wrong(&rt, rt.alloc(), &RUN, 0, &rows)?, None);
+    assert_eq!(rt;
+        first_wrong(&rt, rt.alloc(), &RUN, 0, &SETS_AND_BAGS)?,
+        None
+    );
     Ok(())
 }
+
+static SEQUENCES: [(&str, &str); 5] = [
+    (
+        r#"{"init":[[["s"],{"set":[]}]],"agents":[[[[["add",["s"],1]],[["put",["y"],{"val":["s"]}]]]]]}"#,
+        r#"[["s"],{"set":[1]}]
+[["y"],{"set":[1]}]
+moves 1
+"#,
+    ),
+    (
+        r#"{"init":[[["n"],1]],
+"agents":[[[[["put",["n"],{"sum":[{"val":["n"]},1]}]],[["put",["n"],{"sum":[{"val":["n"]},40]}]]]]]}"#,
+        r#"[["n"],42]
+moves 1
+"#,
+    ),
+    (
+        r#"{"init":[],
+"agents":[[[[["put",["x"],{"sum":[9223372036854775807,1]}]]],[[["put",["x"],{"sum":["a",1]}]]]]]}"#,
+        r#"moves 0
+agent 0 step 0 term
+agent 0 step 1 term
+"#,
+    ),
+    (
+        r#"{"init":[],"agents":[[[[["put",["b"],1]],[["add",["b"],1]]],[[["put",["a"],1],["put",["a"],2]],[]]]]}"#,
+        r#"moves 0
+agent 0 step 0 clash ["b"] Kind
+agent 0 step 1 clash ["a"] Two
+"#,
+    ),
+    (
+        r#"{"init":[[["b"],{"bag":[]}]],
+"agents":[[[[["bagadd",["b"],"e",4294967295]],[["bagadd",["b"],"e",1]]]]]}"#,
+        r#"[["b"],{"bag":[]}]
+moves 0
+agent 0 step 0 large ["b"]
+"#,
+    ),
+];
 
 /// Steps of several blocks, and terms.
 #[test]
 fn reports_of_sequences(rt: HostRuntime) -> Result<(), Fail> {
-    let rows = [
-        (
-            r#"{"init":[[["s"],{"set":[]}]],"agents":[[[[["add",["s"],1]],[["put",["y"],{"val":["s"]}]]]]]}"#,
-            r#"[["s"],{"set":[1]}]
-[["y"],{"set":[1]}]
-moves 1
-"#,
-        ),
-        (
-            r#"{"init":[[["n"],1]],
-"agents":[[[[["put",["n"],{"sum":[{"val":["n"]},1]}]],[["put",["n"],{"sum":[{"val":["n"]},40]}]]]]]}"#,
-            r#"[["n"],42]
-moves 1
-"#,
-        ),
-        (
-            r#"{"init":[],
-"agents":[[[[["put",["x"],{"sum":[9223372036854775807,1]}]]],[[["put",["x"],{"sum":["a",1]}]]]]]}"#,
-            r#"moves 0
-agent 0 step 0 term
-agent 0 step 1 term
-"#,
-        ),
-        (
-            r#"{"init":[],"agents":[[[[["put",["b"],1]],[["add",["b"],1]]],[[["put",["a"],1],["put",["a"],2]],[]]]]}"#,
-            r#"moves 0
-agent 0 step 0 clash ["b"] Kind
-agent 0 step 1 clash ["a"] Two
-"#,
-        ),
-        (
-            r#"{"init":[[["b"],{"bag":[]}]],
-"agents":[[[[["bagadd",["b"],"e",4294967295]],[["bagadd",["b"],"e",1]]]]]}"#,
-            r#"[["b"],{"bag":[]}]
-moves 0
-agent 0 step 0 large ["b"]
-"#,
-        ),
-    ];
-    assert_eq!(rt; first_wrong(&rt, rt.alloc(), &RUN, 0, &rows)?, None);
+    assert_eq!(rt; first_wrong(&rt, rt.alloc(), &RUN, 0, &SEQUENCES)?, None);
     Ok(())
 }
 
@@ -231,92 +237,99 @@ const SEQUENCE_JOURNAL: &str =
 {"agent":0,"call":{"fire":[["add",["s"],1],["put",["y"],{"set":[1]}]],"reads":[[["s"],0]]},"reply":{"fired":1}}
 "#;
 
-#[test]
-fn journals_of_scripts(rt: HostRuntime) -> Result<(), Fail> {
-    let rows = [
-        (
-            r#"{"init":[],"agents":[]}"#,
-            r#"{"agents":0,"capacity":4096,"events":0,"init":[],"version":1}
+static JOURNALS: [(&str, &str); 3] = [
+    (
+        r#"{"init":[],"agents":[]}"#,
+        r#"{"agents":0,"capacity":4096,"events":0,"init":[],"version":1}
 "#,
-        ),
-        (
-            ONE_PUT,
-            r#"{"agents":1,"capacity":4096,"events":1,"init":[],"version":1}
+    ),
+    (
+        ONE_PUT,
+        r#"{"agents":1,"capacity":4096,"events":1,"init":[],"version":1}
 {"agent":0,"call":{"fire":[["put",["x"],1]],"reads":[]},"reply":{"fired":1}}
 "#,
-        ),
-        (
-            r#"{"init":[[["s"],{"set":[]}]],"agents":[[[[["add",["s"],1]],[["put",["y"],{"val":["s"]}]]]]]}"#,
-            SEQUENCE_JOURNAL,
-        ),
-    ];
-    assert_eq!(rt; first_wrong(&rt, rt.alloc(), &JOURNAL, 0, &rows)?, None);
+    ),
+    (
+        r#"{"init":[[["s"],{"set":[]}]],"agents":[[[[["add",["s"],1]],[["put",["y"],{"val":["s"]}]]]]]}"#,
+        SEQUENCE_JOURNAL,
+    ),
+];
+
+#[test]
+fn journals_of_scripts(rt: HostRuntime) -> Result<(), Fail> {
+    assert_eq!(rt; first_wrong(&rt, rt.alloc(), &JOURNAL, 0, &JOURNALS)?, None);
     Ok(())
 }
 
-#[test]
-fn legal_journals(rt: HostRuntime) -> Result<(), Fail> {
-    let rows = [
-        (SEQUENCE_JOURNAL, "legal 2 1\n"),
-        (
-            r#"{"agents":2,"capacity":8,"events":3,"init":[[["x"],7]],"version":1}
+static LEGAL: [(&str, &str); 2] = [
+    (SEQUENCE_JOURNAL, "legal 2 1\n"),
+    (
+        r#"{"agents":2,"capacity":8,"events":3,"init":[[["x"],7]],"version":1}
 {"agent":0,"call":{"read":[["x"]]},"reply":{"number":0,"values":[7]}}
 {"agent":1,"call":{"fire":[["put",["x"],7]],"reads":[]},"reply":{"fired":1}}
 {"agent":0,"call":{"fire":[["put",["y"],1]],"reads":[[["x"],0]]},"reply":{"stale":["x"]}}
 "#,
-            "legal 3 1\n",
-        ),
-    ];
-    assert_eq!(rt; first_wrong(&rt, rt.alloc(), &CHECK, 0, &rows)?, None);
+        "legal 3 1\n",
+    ),
+];
+
+#[test]
+fn legal_journals(rt: HostRuntime) -> Result<(), Fail> {
+    assert_eq!(rt; first_wrong(&rt, rt.alloc(), &CHECK, 0, &LEGAL)?, None);
     Ok(())
 }
 
-#[test]
-fn illegal_journals(rt: HostRuntime) -> Result<(), Fail> {
-    let rows = [
-        (
-            r#"{"agents":1,"capacity":4096,"events":2,"init":[[["s"],{"set":[]}]],"version":1}
+static ILLEGAL: [(&str, &str); 2] = [
+    (
+        r#"{"agents":1,"capacity":4096,"events":2,"init":[[["s"],{"set":[]}]],"version":1}
 {"agent":0,"call":{"read":[["s"]]},"reply":{"number":0,"values":[{"set":[2]}]}}
 {"agent":0,"call":{"fire":[["add",["s"],1],["put",["y"],{"set":[1]}]],"reads":[[["s"],0]]},"reply":{"fired":1}}
 "#,
-            "illegal 0\n",
-        ),
-        (
-            r#"{"agents":1,"capacity":8,"events":2,"init":[],"version":1}
+        "illegal 0\n",
+    ),
+    (
+        r#"{"agents":1,"capacity":8,"events":2,"init":[],"version":1}
 {"agent":0,"call":{"fire":[["put",["x"],1]],"reads":[]},"reply":{"fired":1}}
 {"agent":0,"call":{"fire":[["put",["x"],1]],"reads":[]},"reply":"full"}
 "#,
-            "illegal 1\n",
-        ),
-    ];
-    assert_eq!(rt; first_wrong(&rt, rt.alloc(), &CHECK, 1, &rows)?, None);
+        "illegal 1\n",
+    ),
+];
+
+#[test]
+fn illegal_journals(rt: HostRuntime) -> Result<(), Fail> {
+    assert_eq!(rt; first_wrong(&rt, rt.alloc(), &CHECK, 1, &ILLEGAL)?, None);
     Ok(())
 }
 
+static NO_JOURNALS: [(&str, &str); 7] = [
+    ("", "journal cut\n"),
+    ("{", "journal line 1: not JSON\n"),
+    ("{}\n", "journal line 1: shape\n"),
+    ("{\"version\":3}\n", "journal version\n"),
+    (
+        r#"{"agents":0,"capacity":8,"events":1,"init":[],"version":1}
+"#,
+        "journal cut\n",
+    ),
+    (
+        r#"{"agents":1,"capacity":8,"events":1,"init":[],"version":1}
+{"agent":0,"call":"#,
+        "journal line 2: not JSON\n",
+    ),
+    (
+        r#"{"agents":1,"capacity":8,"events":0,"init":[],"version":1}
+{}"#,
+        "journal line 2: shape\n",
+    ),
+];
+
 #[test]
 fn texts_that_are_no_journals(rt: HostRuntime) -> Result<(), Fail> {
-    let rows = [
-        ("", "journal cut\n"),
-        ("{", "journal line 1: not JSON\n"),
-        ("{}\n", "journal line 1: shape\n"),
-        ("{\"version\":3}\n", "journal version\n"),
-        (
-            r#"{"agents":0,"capacity":8,"events":1,"init":[],"version":1}
-"#,
-            "journal cut\n",
-        ),
-        (
-            r#"{"agents":1,"capacity":8,"events":1,"init":[],"version":1}
-{"agent":0,"call":"#,
-            "journal line 2: not JSON\n",
-        ),
-        (
-            r#"{"agents":1,"capacity":8,"events":0,"init":[],"version":1}
-{}"#,
-            "journal line 2: shape\n",
-        ),
-    ];
-    assert_eq!(rt; first_wrong(&rt, rt.alloc(), &CHECK, 2, &rows)?, None);
+    assert_eq!(rt;
+        first_wrong(&rt, rt.alloc(), &CHECK, 2, &NO_JOURNALS)?,
+        None
+    );
     Ok(())
 }
 
@@ -526,20 +539,21 @@ fn words_that_are_not_given(rt: HostRuntime) -> Result<(), Fail> {
     Ok(())
 }
 
+static REFUSED: [(&str, &str); 6] = [
+    ("", "bad script: not JSON\n"),
+    ("{", "bad script: not JSON\n"),
+    (r#"{"init":[]}"#, "bad script: shape\n"),
+    (r#"{"init":[],"agents":[],"more":0}"#, "bad script: shape\n"),
+    (
+        r#"{"init":[[["x"],1],[["x"],1]],"agents":[]}"#,
+        "bad script: shape\n",
+    ),
+    (r#"{"init":[],"agents":[[[]]]}"#, "bad script: blocks\n"),
+];
+
 #[test]
 fn scripts_that_are_refused(rt: HostRuntime) -> Result<(), Fail> {
-    let rows = [
-        ("", "bad script: not JSON\n"),
-        ("{", "bad script: not JSON\n"),
-        (r#"{"init":[]}"#, "bad script: shape\n"),
-        (r#"{"init":[],"agents":[],"more":0}"#, "bad script: shape\n"),
-        (
-            r#"{"init":[[["x"],1],[["x"],1]],"agents":[]}"#,
-            "bad script: shape\n",
-        ),
-        (r#"{"init":[],"agents":[[[]]]}"#, "bad script: blocks\n"),
-    ];
-    assert_eq!(rt; first_wrong(&rt, rt.alloc(), &RUN, 2, &rows)?, None);
+    assert_eq!(rt; first_wrong(&rt, rt.alloc(), &RUN, 2, &REFUSED)?, None);
     Ok(())
 }
 

@@ -36,6 +36,16 @@ slips_more agents i a lt is =
     ∙ flat_map-append (λ (b : AgentView). map (beside b.id) b.receipts) (accounts (take i agents)) (a.account ∷ [])
     ∙ ap (λ xs. slips_of (accounts (take i agents)) ++ xs) (append-nil (map (beside a.account.id) a.account.receipts))
 
+-- one receipt more
+pub told_more : (before : List (ℕ × Receipt)) (id : ℕ) (receipts : List Receipt) (i : ℕ) (r : Receipt) (slips new : List Slip) (s : Slip) → i < length receipts → r ≡ get_or receipts i r → map slip_told slips ≡ before ++ map (beside id) (take i receipts) → new ≡ slips ++ s ∷ [] → slip_told s ≡ beside id r → map slip_told new ≡ before ++ map (beside id) (take (i + 1) receipts)
+told_more before id receipts i r slips new s lt is so_far pushed told =
+    ap (map slip_told) pushed
+    ∙ map-append slip_told slips (s ∷ [])
+    ∙ ap (λ xs. xs ++ slip_told s ∷ []) so_far
+    ∙ ap (λ p. (before ++ map (beside id) (take i receipts)) ++ p ∷ []) told
+    ∙ append_assoc before (map (beside id) (take i receipts)) (beside id r ∷ [])
+    ∙ ap (λ xs. before ++ xs) (sym (ap (map (beside id)) (take_more receipts i r lt ∙ ap (λ q. take i receipts ++ q ∷ []) (sym is)) ∙ map-append (beside id) (take i receipts) (r ∷ [])))
+
 quiet_place : (n : ℕ) (r : Receipt) → is_quiet_at n r ≡ nat_eq (place r) (2 * n)
 quiet_place n r = here (is_fired r) where
   here : (f : Bool) → (nat_eq r.stood n && not f) ≡ nat_eq (2 * r.stood + cond f 1 0) (2 * n)

@@ -1,7 +1,8 @@
 -- One turn of a fire, and several.
-use Rattle.std.proofs.Common.{◌≡◌, ℕ, zero, suc, ◌+◌, ◌-◌, ◌<◌, List, [], ◌∷◌, ◌++◌, length, take, Option, Some, None}
+use Rattle.std.proofs.Common.{◌≡◌, ℕ, zero, suc, ◌+◌, ◌-◌, ◌^◌, ◌<◌, ◌≤◌, true, cond, nat_lt, min, List, [], ◌∷◌, ◌++◌, length, length-append, take, Option, Some, None}
 use Rattle.std.proofs.Common.{Ok, Err, IfOk, OnErr, IfSome, IfNone, Result, arith, refl, ap, sym, ◌∙◌, subst}
 use Rattle.std.specs.declared.alloc.AllocError.{AllocError}
+use Rattle.std.proofs.lemmas.Bool.Decides.{nat_tests}
 use Rattle.std.proofs.lemmas.List.{take-append-le, take_all}
 use mathlib.Core.List.{IsPrefix}
 use Rattle.asm_update.specs.Aggregator.{Meaning}
@@ -21,8 +22,9 @@ use Rattle.asm_storage.specs.History.{fired_move}
 use Rattle.asm_storage.specs.Machine.{reply_to}
 use Rattle.asm_storage.specs.Part.{agent_of, HasFired, IsLost, IsPartOf, IsTurn, LooksOn, offers_in, misses_in}
 use Rattle.asm_storage.specs.Storage.{AgentAt, StorageView, machine_of, has_looked, has_seen, has_fired, with_receipt}
-use Rattle.asm_storage.specs.Storage.{last_look, IsReplyOf}
+use Rattle.asm_storage.specs.Storage.{last_look, IsReplyOf, Missed}
 use Rattle.asm_storage.proofs.Following.{prefix-trans}
+use Rattle.asm_storage.proofs.Lists.{length-prefix}
 
 take_before : {X : Type 0} (xs : List X) (x : X) → take (length xs + 1 - 1) (xs ++ x ∷ []) ≡ xs
 take_before xs x =
@@ -120,6 +122,15 @@ module _ {A : Type 0} (meaning : A → Meaning) (s : StorageView A) (old mid new
     part = part;
   }
 
+  longer : length old.progress.seen ≤ length mid.progress.seen
+  longer = length-prefix old.progress.seen mid.progress.seen looks.seen
+
+  looked : length mid.progress.seen < length s.row →
+      Missed (agent_of s old) (last_look (agent_of s mid)) (agent_of s mid) → Missed (agent_of s old) 1 (agent_of s mid)
+  looked room missed =
+      let one : nat_lt (length mid.progress.seen) (length s.row) ≡ true = grind (arith, nat_tests) in
+      missed ∙ ap (λ b. min (old.progress.misses + cond b 1 0) (2 ^ 64 - 1)) one
+
   -- what an offer of a move that was judged to fire makes of the turn
   pub attempted : (r : Result (Option Reply) AllocError) → IsPartOf meaning s new →
       IsReplyOf meaning (agent_of s mid) (call.Fire reads M) (answer.Fire (reply.Fired (length mid.progress.seen + 1))) →
@@ -147,6 +158,29 @@ module _ {A : Type 0} (meaning : A → Meaning) (s : StorageView A) (old mid new
   attempt_seen (Err e) won lost err =
       subst (IsPrefix old.progress.seen) (sym (ap (λ (a : AgentAt A). a.account.seen) err)) looks.seen
 
+  -- an offer that was made adds one entry, and one that was not adds none
+  pub attempt_counted : (r : Result (Option Reply) AllocError) → length mid.progress.seen < length s.row →
+      Missed (agent_of s old) (last_look (agent_of s mid)) (agent_of s mid) →
+      IfOk r (λ o. IfSome o (HasFired s mid new reads M)) → IfOk r (λ o. IfNone o (IsLost s mid new)) →
+      OnErr r (agent_of s new ≡ agent_of s mid) →
+      HasOffered (agent_of s old) (agent_of s new) (offers_in r) (misses_in (agent_of s new) r)
+  attempt_counted (Ok (Some r)) room missed won lost err =
+      let entry : Entry = record { agent = mid.id; instrs = M } in
+      let seen = ap (λ (a : AgentAt A). a.account.seen) won.agent in
+      let misses = ap (λ (a : AgentAt A). a.misses) won.agent in
+      subst (λ (q : Reply). HasOffered (agent_of s old) (agent_of s new) (offers_in (Ok (Some q))) (misses_in (agent_of s new) (Ok (Some q))))
+      (sym won.reply) (record {
+        longer = omega (arith, longer, ap length seen, length-append mid.progress.seen (entry ∷ []));
+        missed = misses ∙ looked room missed;
+      })
+  attempt_counted (Ok None) room missed won lost err = record {
+    longer = omega (arith, longer, lost.longer);
+    missed = ap (λ (a : AgentAt A). a.misses) lost.agent ∙ looked room missed;
+  }
+  attempt_counted (Err e) room missed won lost err =
+      subst (λ (a : AgentAt A). HasOffered (agent_of s old) a 0 (last_look a)) (sym err)
+      (record { longer = omega (arith, longer); missed = missed })
+
 module _ {A : Type 0} (old mid new : AgentAt A) (n : ℕ) (lost : HasOffered old mid n n) where
   pub offered_then : (k j : ℕ) → HasOffered mid new k j → HasOffered old new (n + k) (n + j)
   offered_then k j more = record {
@@ -172,6 +206,16 @@ module _ {A : Type 0} (old mid new : AgentAt A) (n : ℕ) (lost : HasOffered old
   pub offers_wanting : n < 64 → HasOffered mid new 0 (last_look new) →
       MadeOffers old new (Err fire_error.Memory) (n + 0)
   offers_wanting lt more = (omega (arith, lt), quiet more)
+
+-- an offer that was made calls the closure once
+pub attempt_ran : {A F : Type 0} (step : F → F → Type 0) (f g : F) (s : StorageView A) (old new : AgentPart)
+    (reads : List Named) (M : Move) (r : Result (Option Reply) AllocError) →
+    IfOk r (λ o. IfSome o (HasFired s old new reads M)) → IfOk r (λ o. step f g) → OnErr r (g ≡ f) →
+    Ran step f (offers_in r) g
+attempt_ran step f g s old new reads M (Ok (Some r)) won called uncalled =
+    subst (λ (q : Reply). Ran step f (offers_in (Ok (Some q))) g) (sym won.reply) (g, called, refl)
+attempt_ran step f g s old new reads M (Ok None) won called uncalled = (g, called, refl)
+attempt_ran step f g s old new reads M (Err e) won called uncalled = sym uncalled
 
 -- calls of a closure, and then more
 pub ran_then : {F : Type 0} (step : F → F → Type 0) (f g h : F) (n k : ℕ) →

@@ -163,20 +163,24 @@ fn contend<'s>(
 
 /// How many receipts and wins the agent has where the fire gave the outcome.
 fn won_in(
-    given: Result<Reply, FireError>,
+    given: &Result<Reply, FireError>,
     outcome: Outcome,
 ) -> Result<Option<(usize, u32)>, AllocError> {
     Ok(match (given, outcome) {
         (Err(FireError::Memory), _) => return Err(AllocError),
         (Err(FireError::Busy { from, to }), Outcome::Busy(start, end)) => {
-            if from == start && to == end {
+            if *from == start && *to == end {
                 Some((0, 0))
             } else {
                 None
             }
         }
         (Ok(Reply::Fired(number)), Outcome::Answered(Want::Fired(wanted))) => {
-            if number == wanted { Some((1, 1)) } else { None }
+            if *number == wanted {
+                Some((1, 1))
+            } else {
+                None
+            }
         }
         (Ok(Reply::Stale(at)), Outcome::Answered(Want::Stale(name, _))) => {
             if at.name() == name {
@@ -196,12 +200,13 @@ fn is_outcome(
     given: Result<Reply, FireError>,
     contest: Contest,
 ) -> Result<bool, AllocError> {
-    Ok(match won_in(given, contest.outcome)? {
-        Some((receipts, won)) => {
-            agent.receipts().len() == receipts && counts(agent, contest.seen, won, contest.misses)
-        }
-        None => false,
-    })
+    match won_in(&given, contest.outcome) {
+        Ok(Some((receipts, won))) => Ok(
+            agent.receipts().len() == receipts && counts(agent, contest.seen, won, contest.misses),
+        ),
+        Ok(None) => Ok(false),
+        Err(error) => Err(error),
+    }
 }
 
 /// Whether the first agent asks again and is answered so.

@@ -74,9 +74,7 @@ fn are_made_in_the_end(
     }
 }
 
-#[test]
-fn from_1_to_256_agents_are_made(rt: HostRuntime) -> Result<(), Fail> {
-    let storage = storage_of(rt.alloc(), None, 1)?;
+fn check_agents<R: Abort>(rt: &R, alloc: Global, storage: &Storage<Standard>) -> Result<(), Fail> {
     for (n, last, is_good) in [
         (0, 0, false),
         (1, 0, true),
@@ -84,11 +82,17 @@ fn from_1_to_256_agents_are_made(rt: HostRuntime) -> Result<(), Fail> {
         (257, 256, false),
     ] {
         assert!(rt;
-            are_made_in_the_end(rt.alloc(), &storage, n, last)? == is_good,
+            are_made_in_the_end(alloc, storage, n, last)? == is_good,
             "{n}"
         );
     }
     Ok(())
+}
+
+#[test]
+fn from_1_to_256_agents_are_made(rt: HostRuntime) -> Result<(), Fail> {
+    let storage = storage_of(rt.alloc(), None, 1)?;
+    check_agents(&rt, rt.alloc(), &storage)
 }
 
 /// A call that asks for so many locations, or names so many reads.
@@ -116,7 +120,8 @@ fn reads_all(
 fn places_many(alloc: Global, n: usize) -> Result<Vec<Location>, Fail> {
     let mut places = Vec::new(alloc);
     for _ in 0..n {
-        places.push(location(alloc, "x")?)?;
+        let place = location(alloc, "x")?;
+        places.push(place)?;
     }
     Ok(places)
 }
@@ -195,11 +200,20 @@ fn at_most_256_locations_are_read_or_named(rt: HostRuntime) -> Result<(), Fail> 
     Ok(())
 }
 
+fn reading_of(
+    alloc: Global,
+    agent: &mut Agent<'_, Standard>,
+    places: Vec<Location>,
+) -> Result<Reading, ReadError>
+    ensures { IsSameAgent agent.old agent.new }
+{
+    agent.read(alloc, &places)
+}
+
 fn read_two(alloc: Global, agent: &mut Agent<'_, Standard>) -> Result<Reading, Fail>
     ensures { IsSameAgent agent.old agent.new }
 {
-    let places = places_of(alloc, &["y", "x"])?;
-    Ok(agent.read(alloc, &places)?)
+    Ok(reading_of(alloc, agent, places_of(alloc, &["y", "x"])?)?)
 }
 
 fn put_and_read(alloc: Global, mut two: Two<'_>) -> Result<Reading, Fail> {
@@ -278,6 +292,11 @@ static RETRIES: [Retry; 4] = [
     },
 ];
 
+/// Whether it has this many receipts, and has seen at most so many moves.
+fn is_refused(agent: &Agent<'_, Standard>, receipts: usize, seen: u32) -> bool {
+    agent.receipts().len() == receipts && agent.seen() <= seen
+}
+
 /// Whether the agent is answered so, where memory was refused when it asks once more: it has then as many receipts as
 /// before, and has seen at most so many moves.
 fn is_answered(
@@ -290,12 +309,8 @@ fn is_answered(
 {
     let receipts = agent.receipts().len();
     match performs(alloc, agent, wanted) {
-        Err(_) => {
-            if agent.receipts().len() != receipts || agent.seen() > seen {
-                return Ok(false);
-            }
-            performs(alloc, agent, wanted)
-        }
+        Err(_) if is_refused(agent, receipts, seen) => performs(alloc, agent, wanted),
+        Err(_) => Ok(false),
         is_right => is_right,
     }
 }

@@ -65,7 +65,8 @@ pub(crate) fn merge<A: Aggregator + Sync + Drop>(
     slips.sort_by_key(|slip| slip.place())?;
     let mut events = Vec::new(alloc);
     for slip in &slips {
-        events.push(slip.receipt.event(alloc, slip.agent)?)?;
+        let event = slip.receipt.event(alloc, slip.agent)?;
+        events.push(event)?;
     }
     Ok(events)
 }

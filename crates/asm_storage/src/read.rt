@@ -38,7 +38,8 @@ fn values_at<L: Lookup>(
 {
     let mut values = Vec::new(alloc);
     for place in places {
-        values.push(value_or_undef(alloc, lookup, place)?)?;
+        let value = value_or_undef(alloc, lookup, place)?;
+        values.push(value)?;
     }
     Ok(Items::new(values))
 }

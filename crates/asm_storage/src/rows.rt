@@ -1,8 +1,9 @@
 //! Calls of two agents on one storage as plain data, each with the answer that it has to get.
-ghost use Rattle.std.specs.Prelude.{◌≡◌, ◌<◌, All};
+ghost use Rattle.std.specs.Prelude.{◌≡◌, ◌<◌, map, All};
+ghost use Rattle.std.specs.List.{range_with_len};
 ghost use Rattle.std.specs.List.Sorted.{IsStrictlyIncreasing};
 ghost use Rattle.asm_storage.specs.Agents.{ids};
-ghost use Rattle.asm_storage.specs.Storage.{accounts, IsOf, IsSameAgent};
+ghost use Rattle.asm_storage.specs.Storage.{accounts, at_start, IsOf, IsSameAgent};
 
 use crate::*;
 use asm_aggregate::{BagAgg, Pair, SetAgg, standard};
@@ -83,7 +84,8 @@ pub(crate) fn move_of(alloc: Global, puts: &[Put]) -> Result<Instructions, Fail>
 pub(crate) fn places_of(alloc: Global, names: &[&'static str]) -> Result<Vec<Location>, Fail> {
     let mut list = Vec::new(alloc);
     for name in names {
-        list.push(location(alloc, name)?)?;
+        let place = location(alloc, name)?;
+        list.push(place)?;
     }
     Ok(list)
 }
@@ -157,6 +159,10 @@ pub(crate) fn receipt_of(alloc: Global, act: Act, want: Want) -> Result<Receipt,
     })
 }
 
+fn is_reading(reading: &Reading, number: u32, values: &[Value]) -> bool {
+    reading.number == number && reading.values.as_slice() == values
+}
+
 /// Whether a read is answered so. The error is want of memory.
 fn reads(
     alloc: Global,
@@ -168,7 +174,7 @@ fn reads(
     ensures { IsSameAgent agent.old agent.new }
 {
     match agent.read(alloc, places) {
-        Ok(reading) => Ok(reading.number == number && reading.values.as_slice() == values),
+        Ok(reading) => Ok(is_reading(&reading, number, values)),
         Err(ReadError::ManyLocations) => Ok(false),
         Err(ReadError::Memory) => Err(AllocError),
     }
@@ -299,12 +305,17 @@ pub(crate) fn storage_of(
     Ok(Storage::new(alloc, standard(), opened(alloc, x)?, capacity)?)
 }
 
-pub(crate) fn two_of(alloc: Global, storage: &Storage<Standard>) -> Result<Two<'_>, Fail> {
-    let mut agents = storage.agents(alloc, 2)?;
+fn two_from<'s>(storage: &'s Storage<Standard>, mut agents: Vec<Agent<'s, Standard>>) -> Two<'s>
+    requires { agents.items ≡ map (at_start storage.now) (range_with_len 0 2) }
+{
     match (agents.pop(), agents.pop()) {
-        (Some(b), Some(a)) => Ok(Two { storage, a, b }),
+        (Some(b), Some(a)) => Two { storage, a, b },
         _ => unreachable!(),
     }
+}
+
+pub(crate) fn two_of(alloc: Global, storage: &Storage<Standard>) -> Result<Two<'_>, Fail> {
+    Ok(two_from(storage, storage.agents(alloc, 2)?))
 }
 
 /// What closing gives.

@@ -10,7 +10,7 @@ use crate::part::AgentPart;
 use crate::receipt::Entry;
 use asm_row::{Row, RowError};
 use asm_update::{Aggregator, PlainState};
-use std::alloc::Global;
+use std::alloc::{AllocError, Global};
 use std::marker::Model;
 
 /// A state that agents share: an aggregator, an opening state, and a row for the moves that are fired.
@@ -79,10 +79,19 @@ impl<A: Aggregator + Sync + Drop> Storage<A> {
         }
         let mut agents = Vec::new(alloc);
         for id in 0..n {
-            let part = AgentPart::at_start(alloc, self, id)?;
-            agents.push(Agent::of(self, part))?;
+            let agent = self.agent_at(alloc, id)?;
+            agents.push(agent)?;
         }
         Ok(agents)
+    }
+
+    // An agent that has made no call.
+    fn agent_at(&self, alloc: Global, id: u32) -> Result<Agent<'_, A>, AllocError>
+        requires { id < 256 }
+        ensures { IfOk result (λ a. a ≡ at_start self.now id) }
+    {
+        let part = AgentPart::at_start(alloc, self, id)?;
+        Ok(Agent::of(self, part))
     }
 
     pub(crate) fn row(&self) -> &Row<Entry>

@@ -63,7 +63,8 @@ fn push_mark(
     requires { All (λ m. m.row ≡ agent.now.storage.row) marks.old.items }
     ensures { All (λ m. m.row ≡ agent.now.storage.row) marks.new.items }
 {
-    marks.push(agent.mark(alloc)?)?;
+    let mark = agent.mark(alloc)?;
+    marks.push(mark)?;
     Ok(())
 }
 
@@ -252,10 +253,16 @@ fn wins(two: &Two<'_>) -> (u32, u32) {
     (two.a.won(), two.b.won())
 }
 
-/// A storage where b is an empty bag.
-fn with_bag(alloc: Global) -> Result<Storage<Standard>, Fail> {
+/// An opening state where b is an empty bag.
+fn opened_with_bag(alloc: Global) -> Result<PlainState, Fail> {
     let mut init = PlainState::new(alloc);
     init.set(location(alloc, "b")?, Value::Bag(ElemBag::new(alloc)))?;
+    Ok(init)
+}
+
+/// A storage where b is an empty bag.
+fn with_bag(alloc: Global) -> Result<Storage<Standard>, Fail> {
+    let init = opened_with_bag(alloc)?;
     Ok(Storage::new(alloc, standard(), init, 200)?)
 }
 
@@ -273,17 +280,20 @@ fn addition(alloc: Global) -> Result<Instructions, Fail> {
 fn additions(alloc: Global) -> Result<Vec<Instructions>, Fail> {
     let mut moves = Vec::new(alloc);
     for _ in 0..100 {
-        moves.push(addition(alloc)?)?;
+        let instrs = addition(alloc)?;
+        moves.push(instrs)?;
     }
     Ok(moves)
+}
+
+fn has_fives(bag: &ElemBag, number: u32) -> bool {
+    bag.count(&Element::Num(5)) == number
 }
 
 /// Whether the bag was read at this number, and has as many 5.
 fn is_bag_of(reading: &Reading, number: u32) -> bool {
     match reading.values.as_slice().first() {
-        Some(Value::Bag(bag)) => {
-            reading.number() == number && bag.count(&Element::Num(5)) == number
-        }
+        Some(Value::Bag(bag)) => reading.number() == number && has_fives(bag, number),
         _ => false,
     }
 }
@@ -308,13 +318,21 @@ fn is_added(alloc: Global, mut two: Two<'_>) -> Result<bool, Fail> {
     Ok(is_read && is_won && two.closes_in_the_end(alloc, Close::Counted(200, 201))?)
 }
 
+/// Whether two agents on threads of their own fire 100 additions each.
+fn adds_by_two<R: Threads>(
+    rt: &R,
+    alloc: Global,
+    storage: &Storage<Standard>,
+) -> Result<bool, Fail> {
+    let moves = additions(alloc)?;
+    is_added(alloc, both_fire(rt, alloc, storage, &moves)?)
+}
+
 #[test]
 fn additions_of_two_threads_are_all_fired(rt: HostRuntime) -> Result<(), Fail> {
     let alloc = rt.alloc();
     let storage = with_bag(alloc)?;
-    let moves = additions(alloc)?;
-    let two = both_fire(&rt, alloc, &storage, &moves)?;
-    assert!(&rt; is_added(alloc, two)?);
+    assert!(&rt; adds_by_two(&rt, alloc, &storage)?);
     Ok(())
 }
 
@@ -322,7 +340,8 @@ fn additions_of_two_threads_are_all_fired(rt: HostRuntime) -> Result<(), Fail> {
 fn puts(alloc: Global, times: i64) -> Result<Vec<Instructions>, Fail> {
     let mut moves = Vec::new(alloc);
     for k in 0..times {
-        moves.push(move_of(alloc, &[Put("x", k.saturating_add(1))])?)?;
+        let instrs = move_of(alloc, &[Put("x", k.saturating_add(1))])?;
+        moves.push(instrs)?;
     }
     Ok(moves)
 }
@@ -390,6 +409,19 @@ fn never_fall(receipts: &[Receipt]) -> bool {
     true
 }
 
+/// Whether a read tells at least so many moves.
+fn reads_at_least(
+    alloc: Global,
+    agent: &mut Agent<'_, Standard>,
+    places: &[Location],
+    moves: u32,
+) -> Result<bool, ReadError>
+    ensures { IsSameAgent agent.old agent.new }
+{
+    let reading = agent.read(alloc, places)?;
+    Ok(moves <= reading.number())
+}
+
 /// Whether a read that has learnt the mark tells at least as many moves as the mark holds.
 fn reads_mark(
     alloc: Global,
@@ -401,8 +433,7 @@ fn reads_mark(
     ensures { IsSameAgent agent.old agent.new }
 {
     agent.learn(alloc, mark)?;
-    let reading = agent.read(alloc, places)?;
-    Ok(mark.len() <= reading.number())
+    reads_at_least(alloc, agent, places, mark.len())
 }
 
 /// Whether that is so of each of the marks in turn, of which each holds one move more than the one before.
@@ -440,13 +471,41 @@ fn is_never_falling(
     Ok(is_read && never_falls && two.closes_in_the_end(alloc, Close::Counted(100, 300))?)
 }
 
+/// Whether the reads of one agent never fall beside the other one, which fires the moves.
+fn reads_beside<R: Threads>(
+    rt: &R,
+    alloc: Global,
+    storage: &Storage<Standard>,
+    moves: &[Instructions],
+    places: &[Location],
+) -> Result<bool, Fail> {
+    let (two, marks) = mark_and_read(rt, alloc, storage, moves, places)?;
+    is_never_falling(alloc, two, &marks, places)
+}
+
+fn reads_beside_moves<R: Threads>(
+    rt: &R,
+    alloc: Global,
+    storage: &Storage<Standard>,
+    moves: &[Instructions],
+) -> Result<bool, Fail> {
+    let places = places_of(alloc, &["x"])?;
+    reads_beside(rt, alloc, storage, moves, &places)
+}
+
+fn reads_beside_puts<R: Threads>(
+    rt: &R,
+    alloc: Global,
+    storage: &Storage<Standard>,
+) -> Result<bool, Fail> {
+    let moves = puts(alloc, 100)?;
+    reads_beside_moves(rt, alloc, storage, &moves)
+}
+
 #[test]
 fn reads_beside_a_writer_never_fall(rt: HostRuntime) -> Result<(), Fail> {
     let alloc = rt.alloc();
     let storage = storage_of(alloc, None, 200)?;
-    let moves = puts(alloc, 100)?;
-    let places = places_of(alloc, &["x"])?;
-    let (two, marks) = mark_and_read(&rt, alloc, &storage, &moves, &places)?;
-    assert!(&rt; is_never_falling(alloc, two, &marks, &places)?);
+    assert!(&rt; reads_beside_puts(&rt, alloc, &storage)?);
     Ok(())
 }

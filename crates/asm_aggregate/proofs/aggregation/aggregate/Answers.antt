@@ -1,7 +1,6 @@
 use Rattle.std.proofs.Common.{ap, ◌∙◌}
-use Rattle.std.specs.FinMap as finite
 use Rattle.asm_aggregate.specs.Bundle.{by_place}
-use Rattle.asm_aggregate.proofs.Walked.{walk_starts, first_written, walk_goes_on, walk_clashes}
+use Rattle.asm_aggregate.proofs.Walked.{walk_starts, first_written, walk_goes_on, walk_refuses}
 use Rattle.asm_aggregate.proofs.aggregation.aggregate.Goals as goal
 
 pub loop-at-init : goal.loop-at-init
@@ -17,11 +16,9 @@ pub loop-at-preserved : goal.loop-at-preserved
 loop-at-preserved g c =
     walk_goes_on _ _ _ c.in-Some.at.now _ _ _ _
     (ap by_place c.in-Some.ensures.steps) c.loop-at.invariant _ _ c.in-Ok.ensures
-    (c.in_ok-put-in-Ok.ensures.ok
-    ∙ ap (λ l. finite.insert c.loop-at.updates l c.in-Ok.value) c.in_ok-copy-in-Ok.ensures)
+    c.in_ok-put_at-in-Ok.ensures
 
-pub returns-in-Err-Cause : goal.returns-in-Err-Cause
-returns-in-Err-Cause g c =
-    walk_clashes _ _ _ c.in-Some.at.now _ _ _ _
-    (ap by_place c.in-Some.ensures.steps) c.loop-at.invariant c.in-Err-Cause.cause _
-    (rw c.in-Err-Cause.field-0-is at c.in-Err-Cause.ensures) c.in_ok-at-in-Err-Cause.ensures (λ _. c.in-Err-Cause.cause)
+pub returns-in-Err : goal.returns-in-Err
+returns-in-Err g c =
+    walk_refuses _ _ _ c.in-Some.at.now _ _ _ _
+    (ap by_place c.in-Some.ensures.steps) c.loop-at.invariant c.in-Err.error _ c.in-Err.ensures c.clash_at.ensures

@@ -6,7 +6,7 @@ use Rattle.asm_aggregate.proofs.composition.composed_list.Goals as goal
 pub loop-at-init : goal.loop-at-init
 loop-at-init g c =
     composing_starts _ c.args.first.now c.args.second.now _ _ _ _
-    (c.in_ok-make_room.ensures c.args.first.now c.in_ok-firsts.ensures) c.in_ok-seconds.ensures
+    c.in_ok-firsts.ensures c.in_ok-seconds.ensures
     (ap by_place c.into_iter-at-iterator.ensures.into_iter_gives ∙ c.into_entries-at-items.ensures)
     c.new-list.ensures.items
 

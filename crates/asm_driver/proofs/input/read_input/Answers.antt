@@ -1,4 +1,4 @@
-use Rattle.std.proofs.Common.{◌≡◌, ◌+◌, ◌++◌, length, take, ◌∙◌, arith, rules, length-append}
+use Rattle.std.proofs.Common.{◌≡◌, ◌++◌, length, take, ◌∙◌, arith, rules, length-append}
 use Rattle.std.proofs.KnownBytes.{Consumes-trans}
 use Rattle.asm_driver.specs.Input.{TakesSome}
 use Rattle.asm_element.specs.Tests.{on_err}

@@ -15,8 +15,8 @@ returns-in-Err g c =
     c.args.step.now (Err c.in-Err.fault)) c.as_ref.ensures.value c.in-Err.ensures in
     ended_by_fault meaning (meaning c.args.self.now.aggregator.now) c.args.agent.now c.read.new.agent
     c.keeps_laws.ensures c.args.step.now c.args.places.now c.in_ok-reading.reading
-    c.requires.reads c.in_ok-reading.ensures c.in-Err.fault c.in_ok-stopped-in-Err.field-0
-    c.in_ok-stopped-in-Err.ensures move
+    c.requires.reads c.in_ok-reading.ensures (c.keeps_laws.ensures c.args.self.now.aggregator.now) c.in-Err.fault
+    c.in_ok-stopped-in-Err.field-0 c.in_ok-stopped-in-Err.ensures move
 
 -- the move was fired
 pub returns : goal.returns

@@ -1,4 +1,4 @@
-use Rattle.std.proofs.Common.{◌≡◌, ℕ, suc, ◌+◌, inl, inr, Option, [], refl, subst, arith}
+use Rattle.std.proofs.Common.{◌≡◌, ℕ, suc, ◌+◌, ◌<◌, inl, inr, length, Option, [], refl, subst, arith}
 use Rattle.std.proofs.lemmas.List.Elements.{All-nil}
 use Rattle.asm_driver.specs.Told.{IsIdle}
 use Rattle.asm_driver.specs.Trying.{IsTry, Tried}
@@ -10,12 +10,20 @@ use Rattle.asm_driver.proofs.trying.Player.play_step.Goals as goal
 -- the step reads too many locations
 pub returns-then-len-gt-READS_LIMIT : goal.returns-then-len-gt-READS_LIMIT
 returns-then-len-gt-READS_LIMIT g c =
+    let many : 256 < length c.in_ok-places.places.items = omega (arith, c.if-len-gt-READS_LIMIT.true, c.len.ensures) in
     inr (
       0,
       omega arith,
       c.args.agent.now,
       refl,
-      (record { more = []; adds = adds_none c.args.agent.now; told = λ same proper. All-nil IsIdle }, (λ bad. cc bad)),
+      (
+        record {
+          more = [];
+          adds = adds_none c.args.agent.now;
+          told = λ same proper. (All-nil IsIdle, inl (c.in_ok-places.places.items, c.in_ok-places.ensures, many));
+        },
+        (λ bad. cc bad),
+      ),
     )
 
 pub loop-tried-init : goal.loop-tried-init

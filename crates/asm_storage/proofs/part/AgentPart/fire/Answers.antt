@@ -1,11 +1,11 @@
-use Rattle.std.proofs.Common.{◌+◌, Err, Ok, Option, Some, ap, sym, ◌∙◌, subst}
+use Rattle.std.proofs.Common.{◌+◌, Err, IfErr, Ok, OnErr, Option, Some, ap, sym, ◌∙◌, subst}
 use Rattle.std.proofs.lemmas.Result.{err_from_is_err_and}
 use Rattle.asm_storage.specs.declared.call.Reply.{Reply}
-use Rattle.asm_storage.specs.Calls.{HasOffered, MadeOffers, Ran}
-use Rattle.asm_storage.specs.Part.{agent_of, IsTurn, offers_in, misses_in}
+use Rattle.asm_storage.specs.Calls.{HasOffered, IsBusy, MadeOffers, Ran}
+use Rattle.asm_storage.specs.Part.{agent_of, IsTurn, LooksOn, offers_in, misses_in}
 use Rattle.asm_storage.proofs.Coherent.{answered_coherent}
 use Rattle.asm_storage.proofs.Following.{looks_then}
-use Rattle.asm_storage.proofs.Turns.{offered_then, offers_answered, offers_wanting, ran_then}
+use Rattle.asm_storage.proofs.Turns.{answered_after, offered_then, offers_answered, offers_wanting, ran_then}
 use Rattle.asm_storage.proofs.part.AgentPart.fire.Goals as goal
 
 -- memory was wanting in a turn
@@ -75,3 +75,29 @@ loop-lost-preserved g c =
           (subst (λ (o : Option Reply). Ran (λ p q. goal.F-step g p tt q) c.loop-lost.between (offers_in (Ok o)) c.turn.new.between) c.in-None.is
           c.in_ok-reply.ensures.calls);
     }
+
+pub returns-in_err-reply-clause-refused : goal.returns-in_err-reply-clause-refused
+returns-in_err-reply-clause-refused g c =
+    let meaning = g.A.Aggregator.meaning in
+    let s = c.args.storage.now in
+    let told = err_from_is_err_and c.from_residual.result c.from_residual.ensures.1 in
+    let looks = looks_then meaning s c.args.self.now c.loop-lost.self c.turn.new.self c.loop-lost.invariant.looks c.in_err-reply.ensures.err in
+    subst (λ r. OnErr r (LooksOn meaning s c.args.self.now c.turn.new.self)) (sym (told.1 ∙ ap Err told.2)) looks
+
+pub returns-in_err-reply-clause-busy : goal.returns-in_err-reply-clause-busy
+returns-in_err-reply-clause-busy g c =
+    let s = c.args.storage.now in
+    let told = err_from_is_err_and c.from_residual.result c.from_residual.ensures.1 in
+    subst (λ r. IfErr r (IsBusy (agent_of s c.args.self.now) (agent_of s c.turn.new.self))) (sym (told.1 ∙ ap Err told.2)) tt
+
+pub returns-in-Some-clause-answered : goal.returns-in-Some-clause-answered
+returns-in-Some-clause-answered g c =
+    let meaning = g.A.Aggregator.meaning in
+    let s = c.args.storage.now in
+    let mid = c.loop-lost.self in
+    let new = c.turn.new.self in
+    let looks = c.loop-lost.invariant.looks in
+    let is = subst (λ (o : Option Reply). IsTurn meaning s mid new c.args.reads.now c.args.instrs.now o) c.in-Some.is
+    c.in_ok-reply.ensures.turn in
+    answered_after meaning (agent_of s c.args.self.now) (agent_of s mid) c.args.reads.now c.args.instrs.now (agent_of s new)
+    c.in-Some.reply looks.agent looks.seen is

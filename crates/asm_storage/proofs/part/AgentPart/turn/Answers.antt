@@ -2,7 +2,7 @@ use Rattle.std.proofs.Common.{Option, subst}
 use Rattle.asm_storage.specs.declared.call.Reply.{Reply}
 use Rattle.asm_storage.specs.Part.{agent_of, IsJudged}
 use Rattle.asm_storage.specs.Storage.{machine_of}
-use Rattle.asm_storage.proofs.Turns.{answered_quiet, attempt_seen, attempted}
+use Rattle.asm_storage.proofs.Turns.{answered_quiet, attempt_counted, attempt_ran, attempt_seen, attempted}
 use Rattle.asm_storage.proofs.part.AgentPart.turn.Goals as goal
 
 pub returns-in_ok-keep_reply-in-Some-clause-turn : goal.returns-in_ok-keep_reply-in-Some-clause-turn
@@ -32,3 +32,19 @@ returns-in-None-clause-seen g c =
     attempt_seen g.A.Aggregator.meaning c.args.storage.now c.args.self.now c.follow_row.new.self c.attempt.new.self
     c.args.reads.now c.args.instrs.now c.follow_row.ensures.looks c.attempt.result c.attempt.ensures.won
     c.attempt.ensures.lost c.attempt.ensures.err
+
+pub returns-in-None-clause-counted : goal.returns-in-None-clause-counted
+returns-in-None-clause-counted g c =
+    let s = c.args.storage.now in
+    let mid = c.follow_row.new.self in
+    let judged = subst (λ (o : Option Reply). IsJudged (machine_of g.A.Aggregator.meaning s) mid.progress.seen c.args.reads.now c.args.instrs.now o)
+    c.in-None.is c.in_ok-reply.ensures in
+    attempt_counted g.A.Aggregator.meaning s c.args.self.now mid c.attempt.new.self c.args.reads.now c.args.instrs.now
+    c.follow_row.ensures.looks c.attempt.result judged.1 c.follow_row.ensures.missed c.attempt.ensures.won
+    c.attempt.ensures.lost c.attempt.ensures.err
+
+pub returns-in-None-clause-calls : goal.returns-in-None-clause-calls
+returns-in-None-clause-calls g c =
+    attempt_ran (λ p q. goal.F-step g p tt q) c.args.between.now c.attempt.new.between c.args.storage.now
+    c.follow_row.new.self c.attempt.new.self c.args.reads.now c.args.instrs.now c.attempt.result c.attempt.ensures.won
+    c.attempt.ensures.called c.attempt.ensures.uncalled

@@ -4,7 +4,7 @@ use Rattle.std.proofs.lemmas.List.Elements.{All-weaker}
 use mathlib.Core.List.{IsPrefix}
 use Rattle.asm_row.specs.Seat.{SeatView}
 use Rattle.asm_row.specs.Mark.{MarkView}
-use Rattle.asm_storage.specs.Agents.{AgentView, IsAgent}
+use Rattle.asm_storage.specs.Agents.{AgentView, most_seen, IsAgent}
 use Rattle.asm_storage.specs.Storage.{StorageView, IsOf, accounts, machine_of}
 use Rattle.asm_storage.proofs.Accounts.{each_more, most_more}
 use Rattle.asm_storage.proofs.Following.{prefix-trans}
@@ -34,6 +34,12 @@ loop-agent-preserved g c =
           theirs;
       longest = omega (arith, most_more all i agent c.loop-agent-test.true c.agent-item.is, c.learn.ensures.longest, c.loop-agent.invariant.longest, len);
     }
+
+pub returns-clause-each : goal.returns-clause-each
+returns-clause-each g c = subst (λ xs. All (IsAgent (machine_of g.A.Aggregator.meaning c.args.self.now)) (accounts xs)) (take_all c.loop-agent.agent-index c.args.agents.now c.loop-agent-test.false) c.loop-agent.invariant.each
+
+pub returns-clause-longest : goal.returns-clause-longest
+returns-clause-longest g c = c.loop-agent.invariant.longest ∙ ap (λ xs. most_seen (accounts xs)) (take_all c.loop-agent.agent-index c.args.agents.now c.loop-agent-test.false)
 
 pub returns-clause-prefixes : goal.returns-clause-prefixes
 returns-clause-prefixes g c = subst (λ xs. All (λ (a : AgentView). IsPrefix a.seen c.loop-agent.seat.seen) (accounts xs)) (take_all c.loop-agent.agent-index c.args.agents.now c.loop-agent-test.false) c.loop-agent.invariant.prefixes
