@@ -7,7 +7,6 @@ use Rattle.std.specs.List.{range_with_len}
 use Rattle.std.specs.List.Sorted.{IsStrictlyIncreasing}
 use mathlib.Core.List.{IsPrefix}
 use Rattle.asm_update.specs.Aggregator.{Meaning}
-use Rattle.asm_update.specs.Fire.{Part}
 use Rattle.asm_storage.specs.Agents.{AgentView, IsHistoryOf, event_of, id_bound, ids, moves_seen}
 use Rattle.asm_storage.specs.History.{moves, own, IsLegal}
 use Rattle.asm_storage.specs.Storage.{StorageView, AgentAt, IsOf, accounts, at_start}
@@ -19,17 +18,17 @@ use Rattle.asm_driver.specs.Plan.{Plan}
 use Rattle.asm_driver.specs.Play as play
 use Rattle.asm_driver.specs.Play.{AreTurns, IsPlayOf}
 use Rattle.asm_driver.specs.Plays.{AreProper, Plays}
-use Rattle.asm_driver.specs.Standard.{standard_part}
+use Rattle.asm_driver.specs.Standard.{standard_meaning, standard_part}
 use Rattle.asm_driver.specs.Told.{AreTold}
 use Rattle.asm_driver.specs.Turns.{ArePlayed}
 use Rattle.asm_driver.specs.declared.step.Step.{Step}
 use Rattle.asm_driver.specs.declared.outcome.Outcome.{Outcome}
 use Rattle.asm_driver.specs.declared.outcome.Played.{Played}
 
-module _ {A : Type 0} (meaning : A → Meaning) (part : Part) (s : StorageView A) where
+module _ {A : Type 0} (meaning : A → Meaning) (s : StorageView A) where
   -- each of them is of the storage
   pub of_storage : (id : ℕ) (sss : List (List Step)) (agents : List (AgentAt A)) (oss : List (List Outcome)) →
-      ArePlayed meaning part s id sss agents oss → All (IsOf s) agents
+      ArePlayed meaning standard_meaning s id sss agents oss → All (IsOf s) agents
   of_storage id [] [] [] played = All-nil (IsOf s)
   of_storage id (ss ∷ sss) (a ∷ agents) (os ∷ oss) played =
       All-cons (IsOf s) a agents played.0.same.storage (of_storage (id + 1) sss agents oss played.1)
@@ -40,7 +39,7 @@ module _ {A : Type 0} (meaning : A → Meaning) (part : Part) (s : StorageView A
 
   -- they have the numbers from id up
   pub ids_are : (id : ℕ) (sss : List (List Step)) (agents : List (AgentAt A)) (oss : List (List Outcome)) →
-      ArePlayed meaning part s id sss agents oss → ids (accounts agents) ≡ range_with_len id (length sss)
+      ArePlayed meaning standard_meaning s id sss agents oss → ids (accounts agents) ≡ range_with_len id (length sss)
   ids_are id [] [] [] played = refl
   ids_are id (ss ∷ sss) (a ∷ agents) (os ∷ oss) played =
       let mine : a.account.id ≡ id = played.0.same.id in
@@ -53,7 +52,7 @@ module _ {A : Type 0} (meaning : A → Meaning) (part : Part) (s : StorageView A
 
   -- one more than the greatest is how many there are
   pub bound_is : (id : ℕ) (sss : List (List Step)) (agents : List (AgentAt A)) (oss : List (List Outcome)) →
-      ArePlayed meaning part s id sss agents oss → max id (id_bound (accounts agents)) ≡ id + length sss
+      ArePlayed meaning standard_meaning s id sss agents oss → max id (id_bound (accounts agents)) ≡ id + length sss
   bound_is id [] [] [] played = omega arith
   bound_is id (ss ∷ sss) (a ∷ agents) (os ∷ oss) played =
       let mine : a.account.id ≡ id = played.0.same.id in
@@ -66,7 +65,8 @@ module _ {A : Type 0} (meaning : A → Meaning) (part : Part) (s : StorageView A
 
   -- none of them has a number from there on
   pub none_beyond : (id : ℕ) (sss : List (List Step)) (agents : List (AgentAt A)) (oss : List (List Outcome)) (i : ℕ) →
-      ArePlayed meaning part s id sss agents oss → id + length sss ≤ i → All (λ a. a.id ≢ i) (accounts agents)
+      ArePlayed meaning standard_meaning s id sss agents oss → id + length sss ≤ i →
+      All (λ a. a.id ≢ i) (accounts agents)
   none_beyond id [] [] [] i played le = All-nil (λ (a : AgentView). a.id ≢ i)
   none_beyond id (ss ∷ sss) (a ∷ agents) (os ∷ oss) i played le =
       let mine : a.account.id ≡ id = played.0.same.id in
@@ -80,25 +80,26 @@ module _ {A : Type 0} (meaning : A → Meaning) (part : Part) (s : StorageView A
 
   -- what is told of one agent in a history that tells its receipts, and whose moves begin with what it saw
   turn_told : (id : ℕ) (ss : List Step) (a : AgentAt A) (os : List Outcome) (h : List Event) →
-      (meaning s.agg).part ≡ part → AreProper s.init (moves h) → Plays meaning part (at_start s id) a ss os →
+      (meaning s.agg).part ≡ standard_part → AreProper s.init (moves h) →
+      Plays meaning standard_meaning (at_start s id) a ss os →
       own h a.account.id ≡ map (event_of a.account.id) a.account.receipts →
       IsPrefix (moves_seen a.account.seen) (moves h) →
-      AreTold (storage.machine_of meaning s) (moves h) ss os (own h id)
+      AreTold standard_meaning (storage.machine_of meaning s) (moves h) ss os (own h id)
   turn_told id ss a os h same proper played mine begins =
       let m = storage.machine_of meaning s in
       let seen = moves_seen a.account.seen in
       let proper_seen = proper_first s.init seen (moves h) begins proper in
-      let told = are_told_later m seen (moves h) begins ss os _ (played.told same proper_seen) in
+      let told = are_told_later standard_meaning m seen (moves h) begins ss os _ (played.told same proper_seen) in
       let number : a.account.id ≡ id = played.same.id in
       let events : own h id ≡ map (event_of id) played.more =
       ap (own h) (sym number) ∙ mine ∙ ap (λ i. map (event_of i) a.account.receipts) number
       ∙ ap (map (event_of id)) played.added in
-      subst (AreTold m (moves h) ss os) (sym events) told
+      subst (AreTold standard_meaning m (moves h) ss os) (sym events) told
 
   -- and so of each
   pub turns_told : (id : ℕ) (sss : List (List Step)) (agents : List (AgentAt A)) (oss : List (List Outcome))
-      (h : List Event) → (meaning s.agg).part ≡ part → AreProper s.init (moves h) →
-      ArePlayed meaning part s id sss agents oss →
+      (h : List Event) → (meaning s.agg).part ≡ standard_part → AreProper s.init (moves h) →
+      ArePlayed meaning standard_meaning s id sss agents oss →
       All (λ a. own h a.id ≡ map (event_of a.id) a.receipts) (accounts agents) →
       All (λ a. IsPrefix (moves_seen a.seen) (moves h)) (accounts agents) →
       AreTurns (storage.machine_of meaning s) h id sss oss
@@ -128,7 +129,7 @@ range_rises id n xs is = subst IsStrictlyIncreasing (sym is) (λ k lt.
 pub closes : {A : Type 0} (meaning : A → Meaning) (s : StorageView A) (plan : Plan) (lent agents : List (AgentAt A))
     (oss : List (List Outcome)) (p : Played) → lent ≡ agents → (meaning s.agg).part ≡ standard_part →
     s.init ≡ plan.init →
-    ArePlayed meaning standard_part s 0 plan.agents agents oss →
+    ArePlayed meaning standard_meaning s 0 plan.agents agents oss →
     IsHistoryOf (storage.machine_of meaning s) (accounts lent) p.history.events →
     p.history.init ≡ s.init → p.history.capacity ≡ length s.row → p.history.agents ≡ id_bound (accounts lent) →
     p.outcomes ≡ oss → AreProper p.history.init (moves p.history.events) → IsPlayOf plan (length s.row) p
@@ -141,9 +142,9 @@ closes meaning s plan lent agents oss p same part init played closed_lent opened
     let machine : storage.machine_of meaning s ≡ play.machine_of plan capacity_of =
     λ i. record { part = part i; init = init i; capacity = capacity_of } in
     let proper = subst (λ A. AreProper A (moves h)) opened proper_h in
-    let told = turns_told meaning standard_part s 0 plan.agents agents oss h part proper played closed.own_receipts
+    let told = turns_told meaning s 0 plan.agents agents oss h part proper played closed.own_receipts
     closed.seen_first in
-    let all = bound_is meaning standard_part s 0 plan.agents agents oss played in record {
+    let all = bound_is meaning s 0 plan.agents agents oss played in record {
       opened = opened ∙ init;
       capacity_is = capacity;
       agents = omega (arith, bound, all);
@@ -151,5 +152,5 @@ closes meaning s plan lent agents oss p same part init played closed_lent opened
       turns = subst (λ m. AreTurns m h 0 plan.agents p.outcomes) machine
           (subst (λ o. AreTurns (storage.machine_of meaning s) h 0 plan.agents o) (sym outcomes) told);
       others = λ i le. closed.no_others i
-          (none_beyond meaning standard_part s 0 plan.agents agents oss i played (omega (arith, le)));
+          (none_beyond meaning s 0 plan.agents agents oss i played (omega (arith, le)));
     }

@@ -5,7 +5,6 @@ use Rattle.std.proofs.Math.Seq.{get_or-append_seam}
 use Rattle.std.proofs.lemmas.List.{append_assoc}
 use Rattle.std.specs.List.{range_with_len}
 use Rattle.asm_update.specs.Aggregator.{Meaning}
-use Rattle.asm_update.specs.Fire.{Part}
 use Rattle.asm_storage.specs.Storage.{StorageView, AgentAt, at_start}
 use Rattle.asm_driver.specs.Plays.{Plays}
 use Rattle.asm_driver.specs.Turns.{steps_at, ArePlayed}
@@ -14,24 +13,24 @@ use Rattle.asm_driver.specs.declared.step.Step.{Step}
 use Rattle.asm_driver.specs.declared.outcome.Outcome.{Outcome}
 
 -- what each agent gave are the turns of agents that had made no call, with their steps
-turns_from : {X A : Type 0} (meaning : A → Meaning) (part : Part) (s : StorageView A) (steps : AgentAt A → List Step)
+turns_from : {X A : Type 0} (meaning : A → Meaning) (own : Meaning) (s : StorageView A) (steps : AgentAt A → List Step)
     (xa : X → AgentAt A) (xo : X → List Outcome) (id : ℕ) (agents : List (AgentAt A)) (turns : List X)
-    (sss : List (List Step)) → GivesEach (λ a t. Plays meaning part a (xa t) (steps a) (xo t)) agents turns →
+    (sss : List (List Step)) → GivesEach (λ a t. Plays meaning own a (xa t) (steps a) (xo t)) agents turns →
     agents ≡ map (at_start s) (range_with_len id (length sss)) → map steps agents ≡ sss →
-    ArePlayed meaning part s id sss (map xa turns) (map xo turns)
-turns_from meaning part s steps xa xo id [] [] [] given first theirs = tt
-turns_from meaning part s steps xa xo id [] [] (ss ∷ sss) given first theirs = absurd (cc theirs)
-turns_from meaning part s steps xa xo id [] (t ∷ ts) sss given first theirs = absurd given
-turns_from meaning part s steps xa xo id (a ∷ agents) [] sss given first theirs = absurd given
-turns_from meaning part s steps xa xo id (a ∷ agents) (t ∷ ts) [] given first theirs = absurd (cc theirs)
-turns_from meaning part s steps xa xo id (a ∷ agents) (t ∷ ts) (ss ∷ sss) given first theirs =
+    ArePlayed meaning own s id sss (map xa turns) (map xo turns)
+turns_from meaning own s steps xa xo id [] [] [] given first theirs = tt
+turns_from meaning own s steps xa xo id [] [] (ss ∷ sss) given first theirs = absurd (cc theirs)
+turns_from meaning own s steps xa xo id [] (t ∷ ts) sss given first theirs = absurd given
+turns_from meaning own s steps xa xo id (a ∷ agents) [] sss given first theirs = absurd given
+turns_from meaning own s steps xa xo id (a ∷ agents) (t ∷ ts) [] given first theirs = absurd (cc theirs)
+turns_from meaning own s steps xa xo id (a ∷ agents) (t ∷ ts) (ss ∷ sss) given first theirs =
     let agent : a ≡ at_start s id = cc first in
     let others : agents ≡ map (at_start s) (range_with_len (id + 1) (length sss)) = cc first in
     let mine : steps a ≡ ss = cc theirs in
     let rest : map steps agents ≡ sss = cc theirs in (
-      subst (λ b. Plays meaning part b (xa t) ss (xo t)) agent
-          (subst (λ p. Plays meaning part a (xa t) p (xo t)) mine given.0),
-      turns_from meaning part s steps xa xo (id + 1) agents ts sss given.1 others rest,
+      subst (λ b. Plays meaning own b (xa t) ss (xo t)) agent
+          (subst (λ p. Plays meaning own a (xa t) p (xo t)) mine given.0),
+      turns_from meaning own s steps xa xo (id + 1) agents ts sss given.1 others rest,
     )
 
 -- the steps at the numbers of agents that made no call, from the number of those that are done
@@ -55,16 +54,16 @@ steps_of_all : {A : Type 0} (s : StorageView A) (sss : List (List Step)) →
 steps_of_all s sss = steps_from s [] sss
 
 -- what each of the agents of a storage gave with the steps at its number, where agents and outcomes were told apart
-pub turns_ended : {X A : Type 0} (meaning : A → Meaning) (part other : Part) (s : StorageView A)
+pub turns_ended : {X A : Type 0} (meaning : A → Meaning) (own other : Meaning) (s : StorageView A)
     (xa : X → AgentAt A) (xo : X → List Outcome) (first : List (AgentAt A)) (turns : List X)
-    (written sss : List (List Step)) (agents : List (AgentAt A)) (oss : List (List Outcome)) → part ≡ other →
-    written ≡ sss → GivesEach (λ a t. Plays meaning part a (xa t) (steps_at written a) (xo t)) first turns →
+    (written sss : List (List Step)) (agents : List (AgentAt A)) (oss : List (List Outcome)) → own ≡ other →
+    written ≡ sss → GivesEach (λ a t. Plays meaning own a (xa t) (steps_at written a) (xo t)) first turns →
     first ≡ map (at_start s) (range_with_len 0 (length written)) →
     agents ≡ map xa turns → oss ≡ map xo turns → ArePlayed meaning other s 0 sss agents oss
-turns_ended {A = A} meaning part other s xa xo first turns written sss agents oss same is given begun left told =
+turns_ended {A = A} meaning own other s xa xo first turns written sss agents oss same is given begun left told =
     let theirs : map (steps_at written) first ≡ written = ap (map (steps_at written)) begun ∙ steps_of_all s written in
-    let played = turns_from meaning part s (steps_at written) xa xo 0 first turns written given begun theirs in
+    let played = turns_from meaning own s (steps_at written) xa xo 0 first turns written given begun theirs in
     subst (λ (p : List (List Step)). ArePlayed meaning other s 0 p agents oss) is
-    (subst (λ (p : Part). ArePlayed meaning p s 0 written agents oss) same
-    (subst (λ (p : List (AgentAt A)). ArePlayed meaning part s 0 written p oss) (sym left)
-    (subst (λ (p : List (List Outcome)). ArePlayed meaning part s 0 written (map xa turns) p) (sym told) played)))
+    (subst (λ (p : Meaning). ArePlayed meaning p s 0 written agents oss) same
+    (subst (λ (p : List (AgentAt A)). ArePlayed meaning own s 0 written p oss) (sym left)
+    (subst (λ (p : List (List Outcome)). ArePlayed meaning own s 0 written (map xa turns) p) (sym told) played)))

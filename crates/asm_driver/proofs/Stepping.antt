@@ -5,7 +5,7 @@ use Rattle.std.proofs.Common.{◌∙◌}
 use Rattle.std.proofs.lemmas.List.Elements.{All-nil, All-append}
 use mathlib.Core.List.{IsPrefix}
 use Rattle.asm_update.specs.Aggregator.{Meaning}
-use Rattle.asm_update.specs.Fire.{Part, fire}
+use Rattle.asm_update.specs.Fire.{fire}
 use Rattle.asm_update.specs.Move.{Move}
 use Rattle.asm_storage.specs.Agents.{event_of, moves_seen}
 use Rattle.asm_storage.specs.Machine.{Machine, state_of}
@@ -60,8 +60,9 @@ stale_once id more (first, r, l, is, stale) =
     let one : stale_fire r.answer ≡ 1 = ap stale_fire stale in
     omega (arith, ap stale_fires events, stale_both (map (event_of id) first) (event_of id r ∷ []), one)
 
-module _ (m : Machine) (q : List Move) (step : Step) where
-  idle_before : (o : Outcome) (xs es : List Event) → All IsIdle xs → IsTold m q step o es → IsTold m q step o (xs ++ es)
+module _ (own : Meaning) (m : Machine) (q : List Move) (step : Step) where
+  idle_before : (o : Outcome) (xs es : List Event) → All IsIdle xs → IsTold own m q step o es →
+      IsTold own m q step o (xs ++ es)
   idle_before (outcome.Fired k) xs es idle told = idle_front (IsFiring m q step k) xs es idle told
   idle_before outcome.Full xs es idle told = idle_front (λ e. e.answer ≡ answer.Fire reply.Full) xs es idle told
   idle_before (outcome.Clash c) xs es idle told = (All-append IsIdle xs es idle told.0, told.1)
@@ -72,7 +73,7 @@ module _ (m : Machine) (q : List Move) (step : Step) where
       (All-append IsIdle xs es idle all, (busy, lost, omega (arith, tries, stale_both xs es)))
 
 -- what was told of some moves is so of more
-module _ (m : Machine) (q r : List Move) (p : IsPrefix q r) where
+module _ (own : Meaning) (m : Machine) (q r : List Move) (p : IsPrefix q r) where
   stops_later : (step : Step) (stop : Stop) → StopsWith m q step stop → StopsWith m r step stop
   stops_later step stop (n, le, is) = (
     n,
@@ -92,17 +93,12 @@ module _ (m : Machine) (q r : List Move) (p : IsPrefix q r) where
   clash_later step stop (inl is) = inl (stops_later step stop is)
   clash_later step stop (inr is) = inr (clashing_later step is)
 
-  outgrows_later : (step : Step) → Outgrows m q step → Outgrows m r step
+  outgrows_later : (step : Step) → Outgrows own m q step → Outgrows own m r step
   outgrows_later step (inl reads) = inl reads
-  outgrows_later step (inr (a, laws, same, (n, le, is))) = inr (
-    a,
-    laws,
-    same,
-    (
-      n,
-      omega (arith, le, prefix_length q r p),
-      subst (λ w. IsMany a (state_of m w) None step) (take-prefix n q r p le) is,
-    ),
+  outgrows_later step (inr (n, le, is)) = inr (
+    n,
+    omega (arith, le, prefix_length q r p),
+    subst (λ w. IsMany own (state_of m w) None step) (take-prefix n q r p le) is,
   )
 
   firing_later : (step : Step) (k : ℕ) (e : Event) → IsFiring m q step k e → IsFiring m r step k e
@@ -123,7 +119,7 @@ module _ (m : Machine) (q r : List Move) (p : IsPrefix q r) where
         ),
       )
 
-  told_later : (step : Step) (o : Outcome) (es : List Event) → IsTold m q step o es → IsTold m r step o es
+  told_later : (step : Step) (o : Outcome) (es : List Event) → IsTold own m q step o es → IsTold own m r step o es
   told_later step (outcome.Fired k) es told = (told.0, told.1, told.2, told.3, firing_later step k told.1 told.4)
   told_later step outcome.Full es told = told
   told_later step (outcome.Clash c) es told = (told.0, clash_later step (Clashes c) told.1)
@@ -133,7 +129,8 @@ module _ (m : Machine) (q r : List Move) (p : IsPrefix q r) where
   told_later step outcome.GaveUp es (all, (busy, lost, tries)) =
       (all, (busy, omega (arith, lost, prefix_length q r p), tries))
 
-  pub are_told_later : (ss : List Step) (os : List Outcome) (es : List Event) → AreTold m q ss os es → AreTold m r ss os es
+  pub are_told_later : (ss : List Step) (os : List Outcome) (es : List Event) → AreTold own m q ss os es →
+      AreTold own m r ss os es
   are_told_later [] [] es told = told
   are_told_later [] (o ∷ os) es told = absurd told
   are_told_later (s ∷ ss) [] es told = absurd told
@@ -141,18 +138,18 @@ module _ (m : Machine) (q r : List Move) (p : IsPrefix q r) where
       (told.0, told.1, told.2, told_later s o told.0 told.3, are_told_later ss os told.1 told.4)
 
 -- one step more
-are_told_more : (m : Machine) (q : List Move) (ss : List Step) (os : List Outcome) (es fs : List Event) (s : Step)
-    (o : Outcome) →
-    AreTold m q ss os es → IsTold m q s o fs → AreTold m q (ss ++ s ∷ []) (os ++ o ∷ []) (es ++ fs)
-are_told_more m q [] [] es fs s o told last = (fs, [], ap (λ w. w ++ fs) told ∙ sym (append-nil fs), last, refl)
-are_told_more m q [] (p ∷ os) es fs s o told last = absurd told
-are_told_more m q (t ∷ ss) [] es fs s o told last = absurd told
-are_told_more m q (t ∷ ss) (p ∷ os) es fs s o told last = (
+are_told_more : (own : Meaning) (m : Machine) (q : List Move) (ss : List Step) (os : List Outcome)
+    (es fs : List Event) (s : Step) (o : Outcome) →
+    AreTold own m q ss os es → IsTold own m q s o fs → AreTold own m q (ss ++ s ∷ []) (os ++ o ∷ []) (es ++ fs)
+are_told_more own m q [] [] es fs s o told last = (fs, [], ap (λ w. w ++ fs) told ∙ sym (append-nil fs), last, refl)
+are_told_more own m q [] (p ∷ os) es fs s o told last = absurd told
+are_told_more own m q (t ∷ ss) [] es fs s o told last = absurd told
+are_told_more own m q (t ∷ ss) (p ∷ os) es fs s o told last = (
   told.0,
   told.1 ++ fs,
   ap (λ w. w ++ fs) told.2 ∙ append_assoc told.0 told.1 fs,
   told.3,
-  are_told_more m q ss os told.1 fs s o told.4 last,
+  are_told_more own m q ss os told.1 fs s o told.4 last,
 )
 
 -- the receipts of so many tries that ended in nothing
@@ -216,13 +213,13 @@ tried_adds {A} zero old new same = record {
 }
 tried_adds {A} (suc n) old new (mid, before, again) = adds_try n old mid new (tried_adds n old mid before) again
 
-module _ {A : Type 0} (meaning : A → Meaning) (part : Part) where
+module _ {A : Type 0} (meaning : A → Meaning) (own : Meaning) where
   -- a step that was played ended
-  step_ended : (old new : AgentAt A) (step : Step) (o : Outcome) → IsStepPlayed meaning part old new step o →
-      IsEnded meaning part old new step o
+  step_ended : (old new : AgentAt A) (step : Step) (o : Outcome) → IsStepPlayed meaning own old new step o →
+      IsEnded meaning own old new step o
   step_ended old new step o (inl (is, n, count, tried)) =
       let all = tried_adds n old new tried in
-      subst (IsEnded meaning part old new step) (sym is)
+      subst (IsEnded meaning own old new step) (sym is)
       (record {
         more = all.more;
         adds = all.adds;
@@ -243,15 +240,16 @@ module _ {A : Type 0} (meaning : A → Meaning) (part : Part) where
         more = first.more ++ last.more;
         adds = adds_then old mid new first.more last.more first.adds last.adds;
         told = λ same proper.
-            let told = subst (λ (s : StorageView A). (meaning s.agg).part ≡ part → AreProper s.init q →
-            IsTold (machine_of meaning s) q step o (map (event_of mid.account.id) last.more)) first.adds.same.storage
+            let told = subst (λ (s : StorageView A). (meaning s.agg).part ≡ own.part → AreProper s.init q →
+            IsTold own (machine_of meaning s) q step o (map (event_of mid.account.id) last.more))
+            first.adds.same.storage
             last.told same proper in
-            subst (IsTold (machine_of meaning old.storage) q step o)
+            subst (IsTold own (machine_of meaning old.storage) q step o)
             (sym (added_events old mid first.more last.more first.adds.same))
-            (idle_before (machine_of meaning old.storage) q step o _ _ first.idle told);
+            (idle_before own (machine_of meaning old.storage) q step o _ _ first.idle told);
       }
 
-  pub plays_none : (old : AgentAt A) → Plays meaning part old old [] []
+  pub plays_none : (old : AgentAt A) → Plays meaning own old old [] []
   plays_none old = record {
     same = record { storage = refl; id = refl };
     begins = ([], append-nil old.account.seen);
@@ -262,8 +260,8 @@ module _ {A : Type 0} (meaning : A → Meaning) (part : Part) where
 
   -- one step more was played
   pub plays_more : (old mid new : AgentAt A) (ss : List Step) (os : List Outcome) (s : Step) (o : Outcome) →
-      Plays meaning part old mid ss os →
-      IsStepPlayed meaning part mid new s o → Plays meaning part old new (ss ++ s ∷ []) (os ++ o ∷ [])
+      Plays meaning own old mid ss os →
+      IsStepPlayed meaning own mid new s o → Plays meaning own old new (ss ++ s ∷ []) (os ++ o ∷ [])
   plays_more old mid new ss os s o before played =
       let last = step_ended mid new s o played in
       let adds = adds_then old mid new before.more last.more
@@ -278,12 +276,12 @@ module _ {A : Type 0} (meaning : A → Meaning) (part : Part) where
         added = adds.added;
         told = λ same proper.
             let m = machine_of meaning old.storage in
-            let first = are_told_later m q r p ss os _
+            let first = are_told_later own m q r p ss os _
             (before.told same (proper_prefix old.storage.init q r p proper)) in
-            let told = subst (λ (t : StorageView A). (meaning t.agg).part ≡ part → AreProper t.init r →
-            IsTold (machine_of meaning t) r s o (map (event_of mid.account.id) last.more)) before.same.storage
+            let told = subst (λ (t : StorageView A). (meaning t.agg).part ≡ own.part → AreProper t.init r →
+            IsTold own (machine_of meaning t) r s o (map (event_of mid.account.id) last.more)) before.same.storage
             last.told same proper in
-            subst (AreTold m r (ss ++ s ∷ []) (os ++ o ∷ []))
+            subst (AreTold own m r (ss ++ s ∷ []) (os ++ o ∷ []))
             (sym (added_events old mid before.more last.more before.same))
-            (are_told_more m r ss os _ _ s o first told);
+            (are_told_more own m r ss os _ _ s o first told);
       }

@@ -10,7 +10,7 @@ use mathlib.Core.List.{IsPrefix}
 use Rattle.asm_element.specs.Place.{Place, location_cmp}
 use Rattle.asm_element.specs.declared.value.Value.{Value}
 use Rattle.asm_update.specs.Aggregator.{Meaning, AggregatorLaws}
-use Rattle.asm_update.specs.Fire.{Part, fire}
+use Rattle.asm_update.specs.Fire.{fire}
 use Rattle.asm_update.specs.Move.{Move}
 use Rattle.asm_update.specs.State.{State, val}
 use Rattle.asm_update.specs.declared.clash.Clash.{Clash}
@@ -215,9 +215,6 @@ module _ {A : Type 0} (meaning : A → Meaning) where
   module _ (own : Meaning) (old mid : AgentAt A) (laws : (a : A) → AggregatorLaws (meaning a)) (step : Step)
       (places : List Place) (reading : Option ReadingView) (reads : AreReads step places)
       (read : HasRead meaning old mid places reading) where
-    abbrev part : Part
-    part = own.part
-
     abbrev m : Machine
     m = machine_of meaning old.storage
 
@@ -259,46 +256,41 @@ module _ {A : Type 0} (meaning : A → Meaning) where
     )
 
     -- a step that has no move ends
-    fault_told : AggregatorLaws own → (f : StepFault) (o : Outcome) (es : List Event) → IsEndOf f o →
+    fault_told : (f : StepFault) (o : Outcome) (es : List Event) → IsEndOf f o →
         IsStepMove own (read_value reading) step (Err f) → All IsIdle es →
-        m.part ≡ part → AreProper old.storage.init here → IsTold m here step o es
-    fault_told lawful fault.Term o es is move idle same proper =
-        subst (λ p. IsTold m here step p es) (sym is) (
+        m.part ≡ own.part → AreProper old.storage.init here → IsTold own m here step o es
+    fault_told fault.Term o es is move idle same proper =
+        subst (λ p. IsTold own m here step p es) (sym is) (
           idle,
           stops_here FaultyTerm proper
               (subst (λ p. fire_blocks p (state_of m here) step ≡ Err FaultyTerm) (sym same)
               (move (state_of m here) (read_of here proper (λ l there. refl)))),
         )
-    fault_told lawful (fault.Clash c) o es is move idle same proper =
-        subst (λ p. IsTold m here step p es) (sym is) (
+    fault_told (fault.Clash c) o es is move idle same proper =
+        subst (λ p. IsTold own m here step p es) (sym is) (
           idle,
           inr (clashing_here proper
               (subst (λ p. IsStopped (fire_blocks p (state_of m here) step)) (sym same)
               (move (state_of m here) (read_of here proper (λ l there. refl))))),
         )
-    fault_told lawful (fault.Large l) o es is move idle same proper =
-        subst (λ p. IsTold m here step p es) (sym is) (
+    fault_told (fault.Large l) o es is move idle same proper =
+        subst (λ p. IsTold own m here step p es) (sym is) (
           idle,
           clashing_here proper
               (subst (λ p. IsStopped (fire_blocks p (state_of m here) step)) (sym same)
               (move (state_of m here) (read_of here proper (λ l there. refl)))),
         )
-    fault_told lawful fault.Many o es is move idle same proper =
-        subst (λ p. IsTold m here step p es) (sym is) (
+    fault_told fault.Many o es is move idle same proper =
+        subst (λ p. IsTold own m here step p es) (sym is) (
           idle,
           inr (
-            own,
-            lawful,
-            sym same,
-            (
-              length here,
-              omega arith,
-              subst (λ q. IsMany own (state_of m q) None step) (sym (take_all (length here) here (omega arith)))
-                  (move (state_of m here) (read_of here proper (λ l there. refl))),
-            ),
+            length here,
+            omega arith,
+            subst (λ q. IsMany own (state_of m q) None step) (sym (take_all (length here) here (omega arith)))
+                (move (state_of m here) (read_of here proper (λ l there. refl))),
           ),
         )
-    fault_told lawful fault.Memory o es is move idle same proper = absurd is
+    fault_told fault.Memory o es is move idle same proper = absurd is
 
     not_given_up : (f : StepFault) (o : Outcome) → IsEndOf f o → o ≢ outcome.GaveUp
     not_given_up fault.Term o is bad = let no : outcome.Term ≡ outcome.GaveUp = sym is ∙ bad in cc no
@@ -308,15 +300,15 @@ module _ {A : Type 0} (meaning : A → Meaning) where
     not_given_up fault.Memory o is bad = absurd is
 
     -- the try of a step that has no move
-    pub ended_by_fault : AggregatorLaws own → (f : StepFault) (o : Outcome) → IsEndOf f o →
+    pub ended_by_fault : (f : StepFault) (o : Outcome) → IsEndOf f o →
         IsStepMove own (read_value reading) step (Err f) →
-        IsTry meaning part old mid step (Some o)
-    ended_by_fault lawful f o is move =
+        IsTry meaning own old mid step (Some o)
+    ended_by_fault f o is move =
         let had = read_adds old mid places reading read in (
           record {
             more = had.more;
             adds = had.adds;
-            told = fault_told lawful f o (map (event_of old.account.id) had.more) is
+            told = fault_told f o (map (event_of old.account.id) had.more) is
                 move had.idle;
           },
           not_given_up f o is,
@@ -348,7 +340,7 @@ module _ {A : Type 0} (meaning : A → Meaning) where
             sym value ∙ ap (λ w. val (state_of m w) l) (taken_prefix here q r.number number p)
 
       -- and the move is that of the blocks
-      blocks_fire : (q : List Move) → m.part ≡ part → AreProper old.storage.init q → IsPrefix here q →
+      blocks_fire : (q : List Move) → m.part ≡ own.part → AreProper old.storage.init q → IsPrefix here q →
           least_stale m.part m.init q reads_named ≡ None →
           fire_blocks m.part (state_of m q) step ≡ fired (fire m.part (state_of m q) M)
       blocks_fire q same proper p none =
@@ -379,7 +371,7 @@ module _ {A : Type 0} (meaning : A → Meaning) where
 
       -- the fire was answered Fired
       fired_told : (k : ℕ) → IsAnswered meaning mid new reads_named M (reply.Fired k) →
-          IsTry meaning part old new step (Some (outcome.Fired k))
+          IsTry meaning own old new step (Some (outcome.Fired k))
       fired_told k is =
           let agent = is.agent in
           let seen = take (k - 1) new.account.seen in
@@ -441,7 +433,7 @@ module _ {A : Type 0} (meaning : A → Meaning) where
 
       -- the fire was answered, or it was busy
       pub ended_by_fire : (o : Option Reply) → HasTried meaning mid new reads_named M o →
-          IsTry meaning part old new step (outcome_of o)
+          IsTry meaning own old new step (outcome_of o)
       ended_by_fire (Some (reply.Fired k)) is = fired_told k is
       ended_by_fire (Some (reply.Clash c)) is =
           let all = moves_seen new.account.seen in

@@ -4,7 +4,7 @@ use Rattle.asm_storage.specs.Machine.{Machine}
 use Rattle.asm_storage.specs.History.{moves, own, IsLegal}
 use Rattle.asm_storage.specs.declared.history.Event.{Event}
 use Rattle.asm_driver.specs.Plan.{Plan}
-use Rattle.asm_driver.specs.Standard.{standard_part}
+use Rattle.asm_driver.specs.Standard.{standard_meaning, standard_part}
 use Rattle.asm_driver.specs.Told.{AreTold}
 use Rattle.asm_driver.specs.declared.step.Step.{Step}
 use Rattle.asm_driver.specs.declared.outcome.Outcome.{Outcome}
@@ -23,7 +23,8 @@ abbrev pub AreTurns : Machine → List Event → ℕ → List (List Step) → Li
 AreTurns m h id [] [] = Unit {0}
 AreTurns m h id [] (os ∷ oss) = ⊥
 AreTurns m h id (ss ∷ sss) [] = ⊥
-AreTurns m h id (ss ∷ sss) (os ∷ oss) = AreTold m (moves h) ss os (own h id) × AreTurns m h (id + 1) sss oss
+AreTurns m h id (ss ∷ sss) (os ∷ oss) =
+    AreTold standard_meaning m (moves h) ss os (own h id) × AreTurns m h (id + 1) sss oss
 
 -- What a script's playing leaves: a legal history from the script's opening state and with the given capacity, with
 -- one outcome for each step of each agent, which tells the events of that step, and no event of another agent. The

@@ -3,7 +3,6 @@ use Rattle.std.specs.Prelude.{◌≡◌, List, ◌++◌, map, All}
 use mathlib.Core.List.{IsPrefix}
 use Rattle.asm_update.specs.Aggregator.{Meaning}
 use Rattle.asm_update.specs.Action.{IsProperInstruction}
-use Rattle.asm_update.specs.Fire.{Part}
 use Rattle.asm_update.specs.Move.{Move}
 use Rattle.asm_update.specs.State.{State, IsProper}
 use Rattle.asm_storage.specs.Agents.{event_of, moves_seen}
@@ -20,12 +19,12 @@ pub record AreProper (A : State) (q : List Move) : Type 0 where
 
 -- The agent played the steps, by an aggregator of this meaning: it is the same agent, which has seen what it had seen,
 -- and the receipts that it has more are those of the steps with these outcomes.
-pub record Plays {A : Type 0} (meaning : A → Meaning) (part : Part) (old new : AgentAt A) (steps : List Step)
+pub record Plays {A : Type 0} (meaning : A → Meaning) (own : Meaning) (old new : AgentAt A) (steps : List Step)
     (outcomes : List Outcome) : Type 0 where
   pub same : IsSameAgent old new
   pub begins : IsPrefix old.account.seen new.account.seen
   pub more : List Receipt
   pub added : new.account.receipts ≡ old.account.receipts ++ more
-  pub told : (meaning old.storage.agg).part ≡ part → AreProper old.storage.init (moves_seen new.account.seen) →
-      AreTold (machine_of meaning old.storage) (moves_seen new.account.seen) steps outcomes
+  pub told : (meaning old.storage.agg).part ≡ own.part → AreProper old.storage.init (moves_seen new.account.seen) →
+      AreTold own (machine_of meaning old.storage) (moves_seen new.account.seen) steps outcomes
       (map (event_of old.account.id) more)

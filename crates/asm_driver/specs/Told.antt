@@ -2,7 +2,7 @@
 use Rattle.std.specs.Prelude.{◌≡◌, ◌≢◌, ◌+◌, ◌-◌, ◌*◌, ◌≤◌, ◌<◌, ◌⊎◌, ℕ, List, [], ◌∷◌, ◌++◌, length, take, All}
 use Rattle.std.specs.Prelude.{None, Ok, Err}
 use Rattle.asm_element.specs.Place.{Place}
-use Rattle.asm_update.specs.Aggregator.{Meaning, AggregatorLaws}
+use Rattle.asm_update.specs.Aggregator.{Meaning}
 use Rattle.asm_update.specs.Fire.{fire}
 use Rattle.asm_update.specs.Move.{Move}
 use Rattle.asm_update.specs.State.{State}
@@ -44,12 +44,11 @@ abbrev pub Clashing : Machine → List Move → Step → Type 0
 Clashing m q step = (n : ℕ) × (n ≤ length q) × IsStopped (fire_blocks m.part (after m q n) step)
 
 -- The step reads more than 256 locations; or, on the state that some first moves leave, its blocks up to some block
--- compose to more than 4,096 instructions, by an aggregator that gives each location what the machine gives it.
-abbrev pub Outgrows : Machine → List Move → Step → Type 0
-Outgrows m q step =
+-- compose to more than 4,096 instructions.
+abbrev pub Outgrows : Meaning → Machine → List Move → Step → Type 0
+Outgrows own m q step =
     ((ls : List Place) × AreReads step ls × (256 < length ls))
-    ⊎ ((a : Meaning) × AggregatorLaws a × (a.part ≡ m.part)
-    × ((n : ℕ) × (n ≤ length q) × IsMany a (after m q n) None step))
+    ⊎ ((n : ℕ) × (n ≤ length q) × IsMany own (after m q n) None step)
 
 -- 1 for the answer of a stale fire, else 0
 abbrev pub stale_fire : Answer → ℕ
@@ -70,20 +69,20 @@ IsGivenUp q es = (busy : ℕ) × (64 * busy ≤ length q) × (1001 ≤ stale_fir
 abbrev pub EndsWith : (Event → Type 0) → List Event → Type 0
 EndsWith P es = (idle : List Event) × (e : Event) × (es ≡ idle ++ e ∷ []) × All IsIdle idle × P e
 
--- the events are those of a step with this outcome
-abbrev pub IsTold : Machine → List Move → Step → Outcome → List Event → Type 0
-IsTold m q step (outcome.Fired k) es = EndsWith (IsFiring m q step k) es
-IsTold m q step outcome.Full es = EndsWith (λ e. e.answer ≡ answer.Fire reply.Full) es
-IsTold m q step (outcome.Clash clash) es = All IsIdle es × (StopsWith m q step (Clashes clash) ⊎ Clashing m q step)
-IsTold m q step outcome.Term es = All IsIdle es × StopsWith m q step FaultyTerm
-IsTold m q step (outcome.Large l) es = All IsIdle es × Clashing m q step
-IsTold m q step outcome.Many es = All IsIdle es × Outgrows m q step
-IsTold m q step outcome.GaveUp es = All IsIdle es × IsGivenUp q es
+-- the events are those of a step with this outcome, by an aggregator of this meaning
+abbrev pub IsTold : Meaning → Machine → List Move → Step → Outcome → List Event → Type 0
+IsTold own m q step (outcome.Fired k) es = EndsWith (IsFiring m q step k) es
+IsTold own m q step outcome.Full es = EndsWith (λ e. e.answer ≡ answer.Fire reply.Full) es
+IsTold own m q step (outcome.Clash clash) es = All IsIdle es × (StopsWith m q step (Clashes clash) ⊎ Clashing m q step)
+IsTold own m q step outcome.Term es = All IsIdle es × StopsWith m q step FaultyTerm
+IsTold own m q step (outcome.Large l) es = All IsIdle es × Clashing m q step
+IsTold own m q step outcome.Many es = All IsIdle es × Outgrows own m q step
+IsTold own m q step outcome.GaveUp es = All IsIdle es × IsGivenUp q es
 
 -- one outcome for each step, and the events are those of the steps, in order
-abbrev pub AreTold : Machine → List Move → List Step → List Outcome → List Event → Type 0
-AreTold m q [] [] es = es ≡ []
-AreTold m q [] (o ∷ os) es = ⊥
-AreTold m q (s ∷ ss) [] es = ⊥
-AreTold m q (s ∷ ss) (o ∷ os) es =
-    (mine rest : List Event) × (es ≡ mine ++ rest) × IsTold m q s o mine × AreTold m q ss os rest
+abbrev pub AreTold : Meaning → Machine → List Move → List Step → List Outcome → List Event → Type 0
+AreTold own m q [] [] es = es ≡ []
+AreTold own m q [] (o ∷ os) es = ⊥
+AreTold own m q (s ∷ ss) [] es = ⊥
+AreTold own m q (s ∷ ss) (o ∷ os) es =
+    (mine rest : List Event) × (es ≡ mine ++ rest) × IsTold own m q s o mine × AreTold own m q ss os rest

@@ -7,7 +7,7 @@ use Rattle.asm_element.specs.Place.{Place, location_cmp}
 use Rattle.asm_element.specs.Value.{undef}
 use Rattle.asm_element.specs.declared.value.Value.{Value}
 use Rattle.asm_update.specs.Aggregator.{Meaning}
-use Rattle.asm_update.specs.Fire.{Part, Old}
+use Rattle.asm_update.specs.Fire.{Old}
 use Rattle.asm_update.specs.Move.{Move}
 use Rattle.asm_state.specs.declared.named.Named.{Named}
 use Rattle.asm_storage.specs.Agents.{event_of, moves_seen}
@@ -96,17 +96,18 @@ pub record IsAgain {A : Type 0} (old new : AgentAt A) : Type 0 where
   pub cause : EndsStale more ⊎ (length old.account.seen + 64 ≤ length new.account.seen)
 
 -- the receipts that the agent has more tell the step's outcome
-pub record IsEnded {A : Type 0} (meaning : A → Meaning) (part : Part) (old new : AgentAt A) (step : Step) (o : Outcome)
-    : Type 0 where
+pub record IsEnded {A : Type 0} (meaning : A → Meaning) (own : Meaning) (old new : AgentAt A) (step : Step)
+    (o : Outcome) : Type 0 where
   pub more : List Receipt
   pub adds : Adds old new more
-  pub told : (meaning old.storage.agg).part ≡ part → AreProper old.storage.init (moves_seen new.account.seen) →
-      IsTold (machine_of meaning old.storage) (moves_seen new.account.seen) step o (map (event_of old.account.id) more)
+  pub told : (meaning old.storage.agg).part ≡ own.part → AreProper old.storage.init (moves_seen new.account.seen) →
+      IsTold own (machine_of meaning old.storage) (moves_seen new.account.seen) step o
+      (map (event_of old.account.id) more)
 
 -- one try of a step: it ended with an outcome, which isn't that it was given up, or is to be tried again
-abbrev pub IsTry : {A : Type 0} → (A → Meaning) → Part → AgentAt A → AgentAt A → Step → Option Outcome → Type 0
-IsTry meaning part old new step None = IsAgain old new
-IsTry meaning part old new step (Some o) = IsEnded meaning part old new step o × (o ≢ outcome.GaveUp)
+abbrev pub IsTry : {A : Type 0} → (A → Meaning) → Meaning → AgentAt A → AgentAt A → Step → Option Outcome → Type 0
+IsTry meaning own old new step None = IsAgain old new
+IsTry meaning own old new step (Some o) = IsEnded meaning own old new step o × (o ≢ outcome.GaveUp)
 
 -- so many tries in a row ended in nothing
 abbrev pub Tried : {A : Type 0} → ℕ → AgentAt A → AgentAt A → Type 0
@@ -114,7 +115,7 @@ Tried zero old new = old ≡ new
 Tried {A} (suc n) old new = (mid : AgentAt A) × Tried n old mid × IsAgain mid new
 
 -- A step was played: it was given up after 1,001 tries that ended in nothing, or ended after at most 1,000 of them.
-abbrev pub IsStepPlayed : {A : Type 0} → (A → Meaning) → Part → AgentAt A → AgentAt A → Step → Outcome → Type 0
-IsStepPlayed {A} meaning part old new step o =
+abbrev pub IsStepPlayed : {A : Type 0} → (A → Meaning) → Meaning → AgentAt A → AgentAt A → Step → Outcome → Type 0
+IsStepPlayed {A} meaning own old new step o =
     ((o ≡ outcome.GaveUp) × (n : ℕ) × (n ≡ 1001) × Tried n old new)
-    ⊎ ((n : ℕ) × (n ≤ 1000) × (mid : AgentAt A) × Tried n old mid × IsTry meaning part mid new step (Some o))
+    ⊎ ((n : ℕ) × (n ≤ 1000) × (mid : AgentAt A) × Tried n old mid × IsTry meaning own mid new step (Some o))

@@ -1,7 +1,6 @@
 -- What the agents of a storage leave when each played its steps, and how faults of playing are told.
 use Rattle.std.specs.Prelude.{◌+◌, ℕ, List, [], ◌∷◌, get_or}
 use Rattle.asm_update.specs.Aggregator.{Meaning}
-use Rattle.asm_update.specs.Fire.{Part}
 use Rattle.asm_storage.specs.Storage.{AgentAt, StorageView, at_start}
 use Rattle.asm_driver.specs.Plays.{Plays}
 use Rattle.asm_driver.specs.declared.outcome.Outcome.{Outcome}
@@ -16,12 +15,12 @@ abbrev pub steps_at : {A : Type 0} → List (List Step) → AgentAt A → List S
 steps_at sss a = get_or sss a.account.id []
 
 -- from the number id on, each agent of the storage played its steps, with these outcomes, having made no call before
-abbrev pub ArePlayed : {A : Type 0} → (A → Meaning) → Part → StorageView A → ℕ → List (List Step) → List (AgentAt A) →
-    List (List Outcome) → Type 0
-ArePlayed meaning part s id [] [] [] = Unit {0}
-ArePlayed meaning part s id (ss ∷ sss) (a ∷ agents) (os ∷ oss) =
-    Plays meaning part (at_start s id) a ss os × ArePlayed meaning part s (id + 1) sss agents oss
-ArePlayed meaning part s id _ _ _ = ⊥
+abbrev pub ArePlayed : {A : Type 0} → (A → Meaning) → Meaning → StorageView A → ℕ → List (List Step) →
+    List (AgentAt A) → List (List Outcome) → Type 0
+ArePlayed meaning own s id [] [] [] = Unit {0}
+ArePlayed meaning own s id (ss ∷ sss) (a ∷ agents) (os ∷ oss) =
+    Plays meaning own (at_start s id) a ss os × ArePlayed meaning own s (id + 1) sss agents oss
+ArePlayed meaning own s id _ _ _ = ⊥
 
 -- a fault of the workers as one of the run
 abbrev pub fault_told : Fault → RunError

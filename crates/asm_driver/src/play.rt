@@ -4,7 +4,7 @@ ghost use Rattle.std.specs.List.{range_with_len};
 ghost use Rattle.asm_storage.specs.Storage.{at_start};
 ghost use Rattle.asm_driver.specs.Play.{IsNoCapacity, IsPlayOf};
 ghost use Rattle.asm_driver.specs.Plays.{Plays};
-ghost use Rattle.asm_driver.specs.Standard.{standard_part};
+ghost use Rattle.asm_driver.specs.Standard.{standard_meaning, standard_part};
 ghost use Rattle.asm_driver.specs.Turns.{steps_at, fault_told, ArePlayed};
 ghost use Rattle.asm_driver.specs.Works.{GivesEach};
 
@@ -76,7 +76,7 @@ impl<'a, 's, P: Passage + Sync, S: Scripted + Sync> Task<Agent<'s, Standard>, Tu
     ghost use Rattle.asm_driver.specs.Turns.{steps_at};
 
     ghost gives = { λ p a t. Plays (⟦<Pair<SetAgg, BagAgg> as Aggregator>⟧.meaning)
-        (⟦<Pair<SetAgg, BagAgg> as Aggregator>⟧.meaning p.player.aggregator.now).part a t.agent
+        (⟦<Pair<SetAgg, BagAgg> as Aggregator>⟧.meaning p.player.aggregator.now) a t.agent
         (steps_at (S.steps p.scripted) a) t.outcomes.items };
 
     fn run<R: Wait>(
@@ -97,7 +97,7 @@ fn played_apart<'s, 'a, R: Threads + Wait + Sync, P: Passage + Sync, S: Scripted
     agents: Vec<Agent<'s, Standard>>,
 ) -> Result<Vec<Turn<'s, Standard>>, Fault>
     ensures { IfOk result (λ turns. GivesEach (λ a t. Plays (⟦<Pair<SetAgg, BagAgg> as Aggregator>⟧.meaning)
-        (⟦<Pair<SetAgg, BagAgg> as Aggregator>⟧.meaning playing.now.player.aggregator.now).part a t.agent
+        (⟦<Pair<SetAgg, BagAgg> as Aggregator>⟧.meaning playing.now.player.aggregator.now) a t.agent
         (steps_at (S.steps playing.now.scripted) a) t.outcomes.items) agents.entry.items turns.items) }
 {
     workers::each(rt, alloc, playing, agents)
@@ -111,7 +111,7 @@ fn played_as_written<'s, 'a, 'p, R: Threads + Wait + Sync, P: Passage + Sync>(
     agents: Vec<Agent<'s, Standard>>,
 ) -> Result<Vec<Turn<'s, Standard>>, Fault>
     ensures { IfOk result (λ turns. GivesEach (λ a t. Plays (⟦<Pair<SetAgg, BagAgg> as Aggregator>⟧.meaning)
-        (⟦<Pair<SetAgg, BagAgg> as Aggregator>⟧.meaning playing.now.player.aggregator.now).part a t.agent
+        (⟦<Pair<SetAgg, BagAgg> as Aggregator>⟧.meaning playing.now.player.aggregator.now) a t.agent
         (steps_at playing.now.scripted.0.now a) t.outcomes.items) agents.entry.items turns.items) }
 {
     played_apart(rt, alloc, playing, agents)
@@ -185,7 +185,7 @@ fn closed<'s>(
 ) -> Result<Played, RunError>
     requires part { (⟦<Pair<SetAgg, BagAgg> as Aggregator>⟧.meaning storage.now.agg).part ≡ standard_part }
     requires init { storage.now.init ≡ script.now.init }
-    requires turns { ArePlayed (⟦<Pair<SetAgg, BagAgg> as Aggregator>⟧.meaning) standard_part storage.now 0
+    requires turns { ArePlayed (⟦<Pair<SetAgg, BagAgg> as Aggregator>⟧.meaning) standard_meaning storage.now 0
         script.now.agents ended.agents.items ended.outcomes.items }
     ensures played { IfOk result (IsPlayOf script.now (length storage.now.row)) }
     ensures later { IfErr result (λ e. e ≢ RunError.BadCapacity) }

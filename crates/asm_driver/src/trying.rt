@@ -145,7 +145,7 @@ impl<'a, A: Aggregator + Sync + Drop, P: Passage> Player<'a, A, P> {
         requires few { length places.now ≤ 256 }
         requires reads { AreReads step.now places.now }
         ensures { IfOk result (
-            IsTry A.meaning (A.meaning self.now.aggregator.now).part agent.old agent.new step.now) }
+            IsTry A.meaning (A.meaning self.now.aggregator.now) agent.old agent.new step.now) }
     {
         keeps_laws(self.aggregator);
         let reading = self.read(rt, agent, calls, places)?;
@@ -170,7 +170,7 @@ impl<'a, A: Aggregator + Sync + Drop, P: Passage> Player<'a, A, P> {
         step: &Step,
     ) -> Result<Outcome, AllocError>
         ensures { IfOk result (
-            IsStepPlayed A.meaning (A.meaning self.now.aggregator.now).part agent.old agent.new step.now) }
+            IsStepPlayed A.meaning (A.meaning self.now.aggregator.now) agent.old agent.new step.now) }
     {
         let places = step_reads(self.alloc, step)?;
         if places.len() > READS_LIMIT {
@@ -192,7 +192,7 @@ impl<'a, A: Aggregator + Sync + Drop, P: Passage> Player<'a, A, P> {
         agent: Agent<'s, A>,
         steps: &[Step],
     ) -> Result<Turn<'s, A>, AllocError>
-        ensures { IfOk result (λ t. Plays A.meaning (A.meaning self.now.aggregator.now).part
+        ensures { IfOk result (λ t. Plays A.meaning (A.meaning self.now.aggregator.now)
             agent.entry t.agent steps.now t.outcomes.items) }
     {
         let mut agent = agent;

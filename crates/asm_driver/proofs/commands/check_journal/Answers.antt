@@ -1,6 +1,6 @@
 use Rattle.std.proofs.Common.{ℕ, List, subst}
 use Rattle.std.proofs.lemmas.Result.{err_from_is_err_and}
-use Rattle.asm_update.specs.Fire.{Part}
+use Rattle.asm_update.specs.Aggregator.{Meaning}
 use Rattle.asm_journal.specs.Check.{machine_of, IsLegality}
 use Rattle.asm_journal.specs.Fault.{IsRefused}
 use Rattle.asm_journal.specs.declared.fault.JournalError.{JournalError}
@@ -28,7 +28,7 @@ returns-clause-ok c =
       h,
       l,
       c.in_ok-history.ensures.ok,
-      subst (λ (p : Part). IsLegality (machine_of p h) h.events l) c.chosen.ensures c.in_ok-legality.ensures,
+      subst (λ (a : Meaning). IsLegality (machine_of a.part h) h.events l) c.chosen.ensures c.in_ok-legality.ensures,
       c.in_ok-legality_ending.ensures.status,
       c.in_ok-legality_ending.ensures.text,
     )

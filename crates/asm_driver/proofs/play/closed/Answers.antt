@@ -7,13 +7,13 @@ use Rattle.asm_driver.proofs.play.closed.Goals as goal
 pub close-requires-clause-of_this : goal.close-requires-clause-of_this
 close-requires-clause-of_this c κs =
     let s = c.args.storage.now in
-    subst (All (IsOf s)) (sym c.as_slice.ensures.value) (of_storage _ _ s 0 _ _ _ c.requires.turns)
+    subst (All (IsOf s)) (sym c.as_slice.ensures.value) (of_storage _ s 0 _ _ _ c.requires.turns)
 
 pub close-requires-clause-ascending : goal.close-requires-clause-ascending
 close-requires-clause-ascending c κs =
     let s = c.args.storage.now in
     range_rises 0 _ _
-    (ap (λ agents. ids (accounts agents)) c.as_slice.ensures.value ∙ ids_are _ _ s 0 _ _ _ c.requires.turns)
+    (ap (λ agents. ids (accounts agents)) c.as_slice.ensures.value ∙ ids_are _ s 0 _ _ _ c.requires.turns)
 
 pub returns-in-Ok-clause-played : goal.returns-in-Ok-clause-played
 returns-in-Ok-clause-played c =

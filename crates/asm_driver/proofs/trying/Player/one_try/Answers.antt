@@ -15,20 +15,20 @@ returns-in-Err g c =
     c.args.step.now (Err c.in-Err.fault)) c.as_ref.ensures.value c.in-Err.ensures in
     ended_by_fault meaning (meaning c.args.self.now.aggregator.now) c.args.agent.now c.read.new.agent
     c.keeps_laws.ensures c.args.step.now c.args.places.now c.in_ok-reading.reading
-    c.requires.reads c.in_ok-reading.ensures (c.keeps_laws.ensures c.args.self.now.aggregator.now) c.in-Err.fault
+    c.requires.reads c.in_ok-reading.ensures c.in-Err.fault
     c.in_ok-stopped-in-Err.field-0 c.in_ok-stopped-in-Err.ensures move
 
 -- the move was fired
 pub returns : goal.returns
 returns g c =
     let meaning = g.A.Aggregator.meaning in
-    let part = (meaning c.args.self.now.aggregator.now).part in
+    let own = meaning c.args.self.now.aggregator.now in
     let move = subst (λ (o : Option ReadingView). IsStepMove (meaning c.args.self.now.aggregator.now) (read_value o)
     c.args.step.now (Ok c.in-Ok.instrs)) c.as_ref.ensures.value c.in-Ok.ensures in
     let named = c.as_slice.ensures.value ∙ c.in_ok-reads.ensures in
     let tried = subst (λ (ns : List Named). HasTried meaning c.read.new.agent c.fire.new.agent ns c.in-Ok.instrs
     c.in_ok-reply.reply) named c.in_ok-reply.ensures in
-    subst (λ (o : Option Outcome). IsTry meaning part c.args.agent.now c.fire.new.agent c.args.step.now o)
+    subst (λ (o : Option Outcome). IsTry meaning own c.args.agent.now c.fire.new.agent c.args.step.now o)
     (sym c.outcome.ensures)
     (ended_by_fire meaning (meaning c.args.self.now.aggregator.now) c.args.agent.now c.read.new.agent
     c.keeps_laws.ensures c.args.step.now c.args.places.now c.in_ok-reading.reading

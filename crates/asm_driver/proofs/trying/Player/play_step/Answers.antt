@@ -33,7 +33,7 @@ loop-tried-init g c = refl
 pub returns-in-Some : goal.returns-in-Some
 returns-in-Some g c =
     let meaning = g.A.Aggregator.meaning in
-    let ended = subst (λ (o : Option Outcome). IsTry meaning (meaning c.args.self.now.aggregator.now).part
+    let ended = subst (λ (o : Option Outcome). IsTry meaning (meaning c.args.self.now.aggregator.now)
     c.loop-tried.agent c.one_try.new.agent c.args.step.now o)
     c.in-Some.is c.in_ok-outcome.ensures in
     inr (c.loop-tried.tried, tries_left _ c.loop-tried-test.true, c.loop-tried.agent, c.loop-tried.invariant, ended)
@@ -42,7 +42,7 @@ returns-in-Some g c =
 pub loop-tried-preserved : goal.loop-tried-preserved
 loop-tried-preserved g c =
     let meaning = g.A.Aggregator.meaning in
-    let again = subst (λ (o : Option Outcome). IsTry meaning (meaning c.args.self.now.aggregator.now).part
+    let again = subst (λ (o : Option Outcome). IsTry meaning (meaning c.args.self.now.aggregator.now)
     c.loop-tried.agent c.one_try.new.agent c.args.step.now o)
     c.in-None.is c.in_ok-outcome.ensures in
     let on : suc c.loop-tried.tried ≡ c.loop-tried.tried + 1 = omega arith in
