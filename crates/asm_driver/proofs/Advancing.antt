@@ -1,6 +1,6 @@
 -- How a step's move comes about, block by block.
-use Rattle.std.proofs.Common.{◌≡◌, inl, inr, ℕ, ◌+◌, ◌<◌, length, drop, get_or, List, [], ◌∷◌, ◌++◌, Contains, Option}
-use Rattle.std.proofs.Common.{Some, None, Result, Ok, Err, IsOk, IsErr, unwrap_or, refl, sym, ap, ◌∙◌, subst}
+use Rattle.std.proofs.Common.{◌≡◌, ℕ, ◌+◌, ◌<◌, length, drop, get_or, List, [], ◌∷◌, ◌++◌, Contains, cond, Option, Some}
+use Rattle.std.proofs.Common.{None, Result, Ok, Err, IsOk, IsErr, unwrap_or, refl, sym, ap, ◌∙◌, subst}
 use Rattle.std.proofs.lemmas.List.Elements.{Contains-append_right}
 use Rattle.asm_element.specs.Place.{Place}
 use Rattle.asm_update.specs.Aggregator.{Meaning}
@@ -15,13 +15,14 @@ use Rattle.asm_driver.specs.Blocks.{move_in}
 use Rattle.asm_driver.specs.Reads.{taken, changed, named}
 use Rattle.asm_driver.specs.Sequencing.{Stop, FaultyTerm, Clashes, fired, fire_move, fire_block, on_state}
 use Rattle.asm_driver.specs.Sequencing.{fire_blocks, IsReadOf, IsStopped, IsStepMove, IsNext, IsFrame, Extends}
-use Rattle.asm_driver.specs.Sequencing.{composed_on, IsMany}
+use Rattle.asm_driver.specs.Sequencing.{fitting, composed_on, on_move, on_fired, on_composed, step_move_on}
 use Rattle.asm_driver.specs.declared.block.Block.{Block}
 use Rattle.asm_driver.specs.declared.step.Step.{Step}
 use Rattle.std.proofs.lemmas.Bool.{false≢true}
 use Rattle.std.proofs.lemmas.List.{drop_more}
 use Rattle.asm_driver.specs.declared.step.StepFault.{StepFault}
 use Rattle.asm_driver.specs.declared.step.StepFault.TheVariants.{Term, Clash as Clashing, Large, Many, Memory}
+use Rattle.asm_driver.proofs.Faults.{above, at_most}
 use Rattle.asm_driver.proofs.Agreeing.{Agree, agree_left, agree_right, same_move, same_update_set, same_clash}
 
 -- firing what is done so far leaves this state; before the first block there is nothing to fire
@@ -36,8 +37,8 @@ pub record IsPlayed (a : Meaning) (old : Old) (step : Step) (frames : Frames) (d
   pub blocks : (A : State) → IsReadOf A old step →
       fire_blocks a.part A step ≡ fire_blocks a.part (under A frames) (left ++ last ∷ [])
   pub moved : (A : State) → IsReadOf A old step → IsDoneBy a.part A done (under A frames)
-  pub many : (A : State) → IsReadOf A old step → IsMany a (under A frames) done (left ++ last ∷ []) →
-      IsMany a A None step
+  pub composed : (A : State) → IsReadOf A old step →
+      step_move_on a A None step ≡ step_move_on a (under A frames) done (left ++ last ∷ [])
 
 pub at_start : (a : Meaning) (old : Old) (left : List Block) (last : Block) →
     IsPlayed a old (left ++ last ∷ []) [] None left last
@@ -45,7 +46,7 @@ at_start a old left last = record {
   names = λ l there. there;
   blocks = λ A read. refl;
   moved = λ A read. refl;
-  many = λ A read many. many;
+  composed = λ A read. refl;
 }
 
 under-push : (A : State) (frames : Frames) (U : Updates) → under A (frames ++ U ∷ []) ≡ overwrite (under A frames) U
@@ -70,16 +71,49 @@ extended a A B None M C proper is extends = (λ i. fire a.part (is i) (extends i
 extended a A B (Some D) M C proper is extends =
     extends.0 A proper (fired_ok a.part A B D is) ∙ after_done a.part A B D M is
 
--- what is done and the next move compose to
+-- what is done and the next move compose to, and why they don't
 composed_is : (a : Meaning) (done : Option Move) (M C : Move) → Extends a done M (Ok C) → composed_on a done M ≡ Ok C
 composed_is a None M C extends = ap Ok (sym extends)
-composed_is a (Some D) M C extends = extends.1
+composed_is a (Some D) M C (keeps, composed, few) =
+    ap fitting composed ∙ ap (λ b. cond b (Err Many) (Ok C)) (at_most 4096 (length C) few)
 
--- where too many instructions come together, they are what these compose to
+clashes_so : (a : Meaning) (done : Option Move) (M : Move) (clash : Clash) → Extends a done M (Err (Clashing clash)) →
+    composed_on a done M ≡ Err (Clashing clash)
+clashes_so a None M clash extends = absurd extends
+clashes_so a (Some D) M clash extends = ap fitting extends.1
+
+too_large : (a : Meaning) (done : Option Move) (M : Move) (l : Place) → Extends a done M (Err (Large l)) →
+    composed_on a done M ≡ Err (Large l)
+too_large a None M l extends = absurd extends
+too_large a (Some D) M l extends = ap fitting extends.1
+
 too_many : (a : Meaning) (done : Option Move) (M : Move) → Extends a done M (Err Many) →
-    (C : Move) × (composed_on a done M ≡ Ok C) × (4096 < length C)
+    composed_on a done M ≡ Err Many
 too_many a None M extends = absurd extends
-too_many a (Some D) M extends = extends
+too_many a (Some D) M (C, composed, many) =
+    ap fitting composed ∙ ap (λ b. cond b (Err Many) (Ok C)) (above 4096 (length C) many)
+
+-- the move of a step whose first block has this move, or none, and is followed by others
+first_move : (a : Meaning) (A : State) (done : Option Move) (b : Block) (left : List Block) (last : Block) (M : Move) →
+    move_in (val A) b ≡ Some M →
+    step_move_on a A done (b ∷ (left ++ last ∷ []))
+    ≡ on_fired (λ B. on_composed (λ C. step_move_on a B (Some C) (left ++ last ∷ [])) (composed_on a done M))
+    (fire a.part A M)
+first_move a A done b [] last M is =
+    ap (on_move (λ N. on_fired (λ B. on_composed (λ C. step_move_on a B (Some C) (last ∷ [])) (composed_on a done N))
+    (fire a.part A N))) is
+first_move a A done b (c ∷ left) last M is =
+    ap (on_move (λ N. on_fired (λ B. on_composed (λ C. step_move_on a B (Some C) (c ∷ (left ++ last ∷ [])))
+    (composed_on a done N)) (fire a.part A N))) is
+
+no_first_move : (a : Meaning) (A : State) (done : Option Move) (b : Block) (left : List Block) (last : Block) →
+    move_in (val A) b ≡ None → step_move_on a A done (b ∷ (left ++ last ∷ [])) ≡ Err Term
+no_first_move a A done b [] last is =
+    ap (on_move (λ N. on_fired (λ B. on_composed (λ C. step_move_on a B (Some C) (last ∷ [])) (composed_on a done N))
+    (fire a.part A N))) is
+no_first_move a A done b (c ∷ left) last is =
+    ap (on_move (λ N. on_fired (λ B. on_composed (λ C. step_move_on a B (Some C) (c ∷ (left ++ last ∷ [])))
+    (composed_on a done N)) (fire a.part A N))) is
 
 clash_of : (r : Result State Clash) → IsErr r → (clash : Clash) × (r ≡ Err clash)
 clash_of (Ok A) h = absurd (false≢true h)
@@ -95,9 +129,9 @@ refused : (a : Meaning) (A B : State) (done : Option Move) (M : Move) (fault : S
     IsDoneBy a.part A done B → Extends a done M (Err fault) → IsRefusal fault → IsErr (fire a.part B M)
 refused a A B None M fault proper is extends refusal = absurd extends
 refused a A B (Some D) M (Clashing clash) proper is extends refusal =
-    subst IsErr (after_done a.part A B D M is) (extends A proper)
+    subst IsErr (after_done a.part A B D M is) (extends.0 A proper)
 refused a A B (Some D) M (Large l) proper is extends refusal =
-    subst IsErr (after_done a.part A B D M is) (extends A proper)
+    subst IsErr (after_done a.part A B D M is) (extends.0 A proper)
 refused a A B (Some D) M Term proper is extends refusal = absurd refusal
 refused a A B (Some D) M Many proper is extends refusal = absurd refusal
 refused a A B (Some D) M Memory proper is extends refusal = absurd refusal
@@ -140,8 +174,12 @@ module _ (a : Meaning) (old : Old) (step : Step) (frames : Frames) (done : Optio
 
       -- a faulty term stops the blocks
       pub faulty_term : move_in (seen_through frames old) b ≡ None → (A : State) → IsReadOf A old step →
-          fire_blocks part A step ≡ Err FaultyTerm
-      faulty_term is A read = stops A read FaultyTerm (ap (fire_move part (under A frames)) (sym (move_is A read) ∙ is))
+          (step_move_on a A None step ≡ Err Term) × (fire_blocks part A step ≡ Err FaultyTerm)
+      faulty_term is A read =
+          let none = sym (move_is A read) ∙ is in (
+            played.composed A read ∙ no_first_move a (under A frames) done b left last none,
+            stops A read FaultyTerm (ap (fire_move part (under A frames)) none),
+          )
 
       -- what is answered where the block has no move
       pub next_fault : (fault : StepFault) → IsNext (move_in (seen_through frames old) b) (Err fault) →
@@ -161,15 +199,24 @@ module _ (a : Meaning) (old : Old) (step : Step) (frames : Frames) (done : Optio
             Agree (seen_through frames old) (val (under A frames)) (changed b)
         changes_seen A read = agree_left _ _ (changed b) _ (agree_right _ _ (taken b) _ (all_seen A read))
 
+        -- what comes after the block's move
+        abbrev after : State → Result Move StepFault
+        after B = on_composed (λ C. step_move_on a B (Some C) (left ++ last ∷ [])) (composed_on a done M)
+
+        goes_on : (A : State) → IsReadOf A old step →
+            step_move_on a A None step ≡ on_fired after (fire part (under A frames) M)
+        goes_on A read =
+            played.composed A read ∙ first_move a (under A frames) done b left last M (sym (move_is A read) ∙ is)
+
         -- a block that clashes stops the blocks
         pub clashing_block : (clash : Clash) → IsLeastClash part (seen_through frames old) M clash → (A : State) →
             IsReadOf A old step →
-            IsStopped (fire_blocks part A step)
+            (step_move_on a A None step ≡ Err (Clashing clash)) × IsStopped (fire_blocks part A step)
         clashing_block clash least A read =
-            let there = same_clash part _ _ b M is (changes_seen A read) clash least in (
-              clash,
-              stops A read (Clashes clash)
-                  (fires_block A read ∙ ap fired (fire_clash part (under A frames) M clash there)),
+            let there = same_clash part _ _ b M is (changes_seen A read) clash least in
+            let clashes = fire_clash part (under A frames) M clash there in (
+              goes_on A read ∙ ap (on_fired after) clashes,
+              (clash, stops A read (Clashes clash) (fires_block A read ∙ ap fired clashes)),
             )
 
         -- what is answered where the block has no update set
@@ -181,29 +228,35 @@ module _ (a : Meaning) (old : Old) (step : Step) (frames : Frames) (done : Optio
         frame_fault Many least = absurd least
         frame_fault Memory least = λ A read. tt
 
-        never_fires : (A : State) → IsReadOf A old step → (fault : StepFault) → Extends a done M (Err fault) →
-            IsRefusal fault →
-            IsStopped (fire_blocks part A step)
-        never_fires A read fault extends refusal =
-            let clash = clash_of (fire part (under A frames) M)
-            (refused a A (under A frames) done M fault read.proper (played.moved A read) extends refusal) in
-            (clash.0, stops A read (Clashes clash.0) (fires_block A read ∙ ap fired clash.1))
-
-        -- what is answered where the block doesn't compose with what is done
-        pub compose_fault : (fault : StepFault) → Extends a done M (Err fault) → IsStepMove a old step (Err fault)
-        compose_fault Term extends = absurd (no_term a done M extends)
-        compose_fault (Clashing clash) extends = λ A read. never_fires A read (Clashing clash) extends tt
-        compose_fault (Large l) extends = λ A read. never_fires A read (Large l) extends tt
-        compose_fault Many extends = λ A read.
-            let long = too_many a done M extends in
-            played.many A read (M, long.0, sym (move_is A read) ∙ is, long.1, inl long.2)
-        compose_fault Memory extends = λ A read. tt
-
         module _ (U : Updates) (updates : IsUpdateSet part (seen_through frames old) M U) where
           fires : (A : State) → IsReadOf A old step → fire part (under A frames) M ≡ Ok (under A (frames ++ U ∷ []))
           fires A read =
               fire_updates part (under A frames) M U (same_update_set part _ _ b M is (changes_seen A read) U updates)
               ∙ ap Ok (sym (under-push A frames U))
+
+          fires_on : (A : State) → IsReadOf A old step →
+              step_move_on a A None step
+              ≡ on_composed (λ C. step_move_on a (under A (frames ++ U ∷ [])) (Some C) (left ++ last ∷ []))
+              (composed_on a done M)
+          fires_on A read = goes_on A read ∙ ap (on_fired after) (fires A read)
+
+          -- a block that fires isn't refused
+          not_refused : (A : State) → IsReadOf A old step → (fault : StepFault) → Extends a done M (Err fault) →
+              IsRefusal fault → ⊥
+          not_refused A read fault extends refusal =
+              false≢true (subst IsErr (fires A read)
+              (refused a A (under A frames) done M fault read.proper (played.moved A read) extends refusal))
+
+          -- what is answered where the block doesn't compose with what is done
+          pub compose_fault : (fault : StepFault) → Extends a done M (Err fault) → IsStepMove a old step (Err fault)
+          compose_fault Term extends = absurd (no_term a done M extends)
+          compose_fault (Clashing clash) extends = λ A read. absurd (not_refused A read (Clashing clash) extends tt)
+          compose_fault (Large l) extends = λ A read. absurd (not_refused A read (Large l) extends tt)
+          compose_fault Many extends = λ A read.
+              fires_on A read
+              ∙ ap (on_composed (λ C. step_move_on a (under A (frames ++ U ∷ [])) (Some C) (left ++ last ∷ [])))
+              (too_many a done M extends)
+          compose_fault Memory extends = λ A read. tt
 
           -- one more block is a frame, and composed to what is done
           pub one_more : (C : Move) → Extends a done M (Ok C) →
@@ -218,28 +271,32 @@ module _ (a : Meaning) (old : Old) (step : Step) (frames : Frames) (done : Optio
                 (fires_block A read ∙ ap fired (fires A read));
             moved = λ A read.
                 extended a A (under A frames) done M C read.proper (played.moved A read) extends ∙ fires A read;
-            many = λ A read later.
-                played.many A read (
-                  M,
-                  C,
-                  sym (move_is A read) ∙ is,
-                  composed_is a done M C extends,
-                  inr (under A (frames ++ U ∷ []), fires A read, later),
-                );
+            composed = λ A read.
+                fires_on A read
+                ∙ ap (on_composed (λ C. step_move_on a (under A (frames ++ U ∷ [])) (Some C) (left ++ last ∷ [])))
+                (composed_is a done M C extends);
           }
 
   module _ (last : Block) (played : IsPlayed a old step frames done [] last) where
+    same_last : (A : State) → IsReadOf A old step → (M : Option Move) → move_in (seen_through frames old) last ≡ M →
+        move_in (val (under A frames)) last ≡ M
+    same_last A read M is =
+        sym (same_move (seen_through frames old) (val (under A frames)) last (seen_is [] last played A read)) ∙ is
+
     last_is : (A : State) → IsReadOf A old step → (M : Option Move) → move_in (seen_through frames old) last ≡ M →
         fire_blocks part A step ≡ fire_move part (under A frames) M
     last_is A read M is =
-        let same = same_move (seen_through frames old) (val (under A frames)) last (seen_is [] last played A read) in
         played.blocks A read ∙ on_state-ok (fire_block part (under A frames) last)
-        ∙ ap (fire_move part (under A frames)) (sym same ∙ is)
+        ∙ ap (fire_move part (under A frames)) (same_last A read M is)
+
+    last_move : (A : State) → IsReadOf A old step → (M : Option Move) → move_in (seen_through frames old) last ≡ M →
+        step_move_on a A None step ≡ on_move (composed_on a done) M
+    last_move A read M is = played.composed A read ∙ ap (on_move (composed_on a done)) (same_last A read M is)
 
     -- what is answered where the last block has no move
     pub last_fault : (fault : StepFault) → IsNext (move_in (seen_through frames old) last) (Err fault) →
         IsStepMove a old step (Err fault)
-    last_fault Term is = λ A read. last_is A read None is
+    last_fault Term is = λ A read. (last_move A read None is, last_is A read None is)
     last_fault (Clashing clash) is = absurd is
     last_fault (Large l) is = absurd is
     last_fault Many is = absurd is
@@ -256,16 +313,21 @@ module _ (a : Meaning) (old : Old) (step : Step) (frames : Frames) (done : Optio
 
       -- the last block, composed to what is done, is the step's move
       pub last_answer : (answer : Result Move StepFault) → Extends a done M answer → IsStepMove a old step answer
-      last_answer (Ok C) extends = λ A read.
-          last_is A read (Some M) is
-          ∙ ap fired (sym (extended a A (under A frames) done M C read.proper (played.moved A read) extends))
+      last_answer (Ok C) extends = λ A read. (
+        last_move A read (Some M) is ∙ composed_is a done M C extends,
+        last_is A read (Some M) is
+            ∙ ap fired (sym (extended a A (under A frames) done M C read.proper (played.moved A read) extends)),
+      )
       last_answer (Err Term) extends = absurd (no_term a done M extends)
-      last_answer (Err (Clashing clash)) extends = λ A read. last_refused A read (Clashing clash) extends tt
-      last_answer (Err (Large l)) extends = λ A read. last_refused A read (Large l) extends tt
-      last_answer (Err Many) extends = λ A read.
-          let same = same_move (seen_through frames old) (val (under A frames)) last (seen_is [] last played A read) in
-          let long = too_many a done M extends in
-          played.many A read (M, long.0, sym same ∙ is, long.1, inl long.2)
+      last_answer (Err (Clashing clash)) extends = λ A read. (
+        last_move A read (Some M) is ∙ clashes_so a done M clash extends,
+        last_refused A read (Clashing clash) extends tt,
+      )
+      last_answer (Err (Large l)) extends = λ A read. (
+        last_move A read (Some M) is ∙ too_large a done M l extends,
+        last_refused A read (Large l) extends tt,
+      )
+      last_answer (Err Many) extends = λ A read. last_move A read (Some M) is ∙ too_many a done M extends
       last_answer (Err Memory) extends = λ A read. tt
 
 -- the block at a place is the first of those that are left there

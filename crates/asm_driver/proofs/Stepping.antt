@@ -1,12 +1,13 @@
 -- Steps that were played, one after another.
 use Rattle.std.proofs.Common.{◌≡◌, ◌⊎◌, inl, inr, ℕ, zero, suc, ◌+◌, ◌-◌, ◌*◌, ◌≤◌, min, List, [], ◌∷◌, ◌++◌, length}
-use Rattle.std.proofs.Common.{take, map, All, None, Ok, append_assoc, append-nil, length-append, arith, refl, sym, ap, subst}
-use Rattle.std.proofs.Common.{◌∙◌}
+use Rattle.std.proofs.Common.{take, map, All, None, Ok, Err, append_assoc, append-nil, length-append, arith, refl, sym}
+use Rattle.std.proofs.Common.{ap, subst, ◌∙◌}
 use Rattle.std.proofs.lemmas.List.Elements.{All-nil, All-append}
 use mathlib.Core.List.{IsPrefix}
 use Rattle.asm_update.specs.Aggregator.{Meaning}
 use Rattle.asm_update.specs.Fire.{fire}
 use Rattle.asm_update.specs.Move.{Move}
+use Rattle.asm_update.specs.declared.clash.Clash.{Clash}
 use Rattle.asm_storage.specs.Agents.{event_of, moves_seen}
 use Rattle.asm_storage.specs.Machine.{Machine, state_of}
 use Rattle.asm_storage.specs.Storage.{AgentAt, StorageView, IsSameAgent, machine_of}
@@ -17,11 +18,13 @@ use Rattle.asm_storage.specs.declared.receipt.Entry.{Entry}
 use Rattle.asm_storage.specs.declared.receipt.Receipt.{Receipt}
 use Rattle.asm_storage.proofs.Lists.{take-prefix}
 use Rattle.asm_driver.specs.Plays.{AreProper, Plays}
-use Rattle.asm_driver.specs.Sequencing.{Stop, Clashes, fire_blocks, IsStopped, IsMany}
-use Rattle.asm_driver.specs.Told.{IsIdle, IsFiring, StopsWith, Clashing, Outgrows, stale_fire, stale_fires, EndsWith, IsTold}
-use Rattle.asm_driver.specs.Told.{AreTold}
+use Rattle.asm_driver.specs.Sequencing.{fire_blocks, step_move_on, StandsFor}
+use Rattle.asm_driver.specs.Told.{IsIdle, IsFiring, IsClashing, HasFault, Outgrows, stale_fire, stale_fires, EndsWith}
+use Rattle.asm_driver.specs.Told.{IsTold, AreTold}
 use Rattle.asm_driver.specs.Trying.{Adds, EndsStale, IsAgain, IsEnded, Tried, IsStepPlayed}
 use Rattle.asm_driver.specs.declared.step.Step.{Step}
+use Rattle.asm_driver.specs.declared.step.StepFault.{StepFault}
+use Rattle.asm_driver.specs.declared.step.StepFault.TheVariants as fault
 use Rattle.asm_driver.specs.declared.outcome.Outcome.{Outcome}
 use Rattle.asm_driver.specs.declared.outcome.Outcome.TheVariants as outcome
 use Rattle.asm_driver.proofs.Properness.{proper_prefix}
@@ -63,9 +66,10 @@ stale_once id more (first, r, l, is, stale) =
 module _ (own : Meaning) (m : Machine) (q : List Move) (step : Step) where
   idle_before : (o : Outcome) (xs es : List Event) → All IsIdle xs → IsTold own m q step o es →
       IsTold own m q step o (xs ++ es)
-  idle_before (outcome.Fired k) xs es idle told = idle_front (IsFiring m q step k) xs es idle told
+  idle_before (outcome.Fired k) xs es idle told = idle_front (IsFiring own m q step k) xs es idle told
   idle_before outcome.Full xs es idle told = idle_front (λ e. e.answer ≡ answer.Fire reply.Full) xs es idle told
-  idle_before (outcome.Clash c) xs es idle told = (All-append IsIdle xs es idle told.0, told.1)
+  idle_before (outcome.Clash c) xs es idle (inl told) = inl (idle_front (IsClashing own m q step c) xs es idle told)
+  idle_before (outcome.Clash c) xs es idle (inr told) = inr (All-append IsIdle xs es idle told.0, told.1)
   idle_before outcome.Term xs es idle told = (All-append IsIdle xs es idle told.0, told.1)
   idle_before (outcome.Large l) xs es idle told = (All-append IsIdle xs es idle told.0, told.1)
   idle_before outcome.Many xs es idle told = (All-append IsIdle xs es idle told.0, told.1)
@@ -74,35 +78,32 @@ module _ (own : Meaning) (m : Machine) (q : List Move) (step : Step) where
 
 -- what was told of some moves is so of more
 module _ (own : Meaning) (m : Machine) (q r : List Move) (p : IsPrefix q r) where
-  stops_later : (step : Step) (stop : Stop) → StopsWith m q step stop → StopsWith m r step stop
-  stops_later step stop (n, le, is) = (
+  fault_later : (step : Step) (f : StepFault) → HasFault own m q step f → HasFault own m r step f
+  fault_later step f (n, le, stands) = (
     n,
     omega (arith, le, prefix_length q r p),
-    ap (λ w. fire_blocks m.part (state_of m w) step) (sym (take-prefix n q r p le)) ∙ is,
+    subst (λ w. StandsFor own (state_of m w) step (Err f)) (take-prefix n q r p le) stands,
   )
-
-  clashing_later : (step : Step) → Clashing m q step → Clashing m r step
-  clashing_later step (n, le, is) = (
-    n,
-    omega (arith, le, prefix_length q r p),
-    subst (λ w. IsStopped (fire_blocks m.part (state_of m w) step)) (take-prefix n q r p le) is,
-  )
-
-  clash_later : (step : Step) (stop : Stop) → StopsWith m q step stop ⊎ Clashing m q step →
-      StopsWith m r step stop ⊎ Clashing m r step
-  clash_later step stop (inl is) = inl (stops_later step stop is)
-  clash_later step stop (inr is) = inr (clashing_later step is)
 
   outgrows_later : (step : Step) → Outgrows own m q step → Outgrows own m r step
   outgrows_later step (inl reads) = inl reads
-  outgrows_later step (inr (n, le, is)) = inr (
-    n,
-    omega (arith, le, prefix_length q r p),
-    subst (λ w. IsMany own (state_of m w) None step) (take-prefix n q r p le) is,
-  )
+  outgrows_later step (inr has) = inr (fault_later step fault.Many has)
 
-  firing_later : (step : Step) (k : ℕ) (e : Event) → IsFiring m q step k e → IsFiring m r step k e
-  firing_later step k e (reads, M, call, answer, some, whole, (B, fires, blocks)) =
+  clashing_later : (step : Step) (c : Clash) (e : Event) → IsClashing own m q step c e → IsClashing own m r step c e
+  clashing_later step c e (reads, M, call, answer, n, le, move, blocks) =
+      let same = take-prefix n q r p le in (
+        reads,
+        M,
+        call,
+        answer,
+        n,
+        omega (arith, le, prefix_length q r p),
+        subst (λ w. step_move_on own (state_of m w) None step ≡ Ok M) same move,
+        ap (λ w. fire_blocks m.part (state_of m w) step) (sym same) ∙ blocks,
+      )
+
+  firing_later : (step : Step) (k : ℕ) (e : Event) → IsFiring own m q step k e → IsFiring own m r step k e
+  firing_later step k e (reads, M, call, answer, some, whole, move, (B, fires, blocks)) =
       let counted = sym (take_length k q) ∙ ap length whole ∙ length-append (take (k - 1) q) (M ∷ []) in
       let within : k ≤ length q = omega (arith, counted, take_length (k - 1) q, some) in
       let first = take-prefix (k - 1) q r p (omega (arith, within)) in (
@@ -112,6 +113,7 @@ module _ (own : Meaning) (m : Machine) (q r : List Move) (p : IsPrefix q r) wher
         answer,
         some,
         sym (take-prefix k q r p within) ∙ whole ∙ ap (λ w. w ++ M ∷ []) first,
+        subst (λ w. step_move_on own (state_of m w) None step ≡ Ok M) first move,
         (
           B,
           subst (λ w. fire m.part (state_of m w) M ≡ Ok B) first fires,
@@ -122,9 +124,11 @@ module _ (own : Meaning) (m : Machine) (q r : List Move) (p : IsPrefix q r) wher
   told_later : (step : Step) (o : Outcome) (es : List Event) → IsTold own m q step o es → IsTold own m r step o es
   told_later step (outcome.Fired k) es told = (told.0, told.1, told.2, told.3, firing_later step k told.1 told.4)
   told_later step outcome.Full es told = told
-  told_later step (outcome.Clash c) es told = (told.0, clash_later step (Clashes c) told.1)
-  told_later step outcome.Term es told = (told.0, stops_later step _ told.1)
-  told_later step (outcome.Large l) es told = (told.0, clashing_later step told.1)
+  told_later step (outcome.Clash c) es (inl told) =
+      inl (told.0, told.1, told.2, told.3, clashing_later step c told.1 told.4)
+  told_later step (outcome.Clash c) es (inr told) = inr (told.0, fault_later step (fault.Clash c) told.1)
+  told_later step outcome.Term es told = (told.0, fault_later step fault.Term told.1)
+  told_later step (outcome.Large l) es told = (told.0, fault_later step (fault.Large l) told.1)
   told_later step outcome.Many es told = (told.0, outgrows_later step told.1)
   told_later step outcome.GaveUp es (all, (busy, lost, tries)) =
       (all, (busy, omega (arith, lost, prefix_length q r p), tries))

@@ -31,9 +31,8 @@ use Rattle.asm_storage.specs.declared.receipt.Receipt.{Receipt}
 use Rattle.asm_storage.proofs.Run.{same_value_from}
 use Rattle.asm_driver.specs.Plays.{AreProper}
 use Rattle.asm_driver.specs.Reads.{AreReads}
-use Rattle.asm_driver.specs.Sequencing.{Stop, FaultyTerm, Clashes, fired, fire_blocks, IsReadOf, IsStopped, IsMany}
-use Rattle.asm_driver.specs.Sequencing.{IsStepMove}
-use Rattle.asm_driver.specs.Told.{IsIdle, IsFiring, StopsWith, Clashing, EndsWith, IsTold}
+use Rattle.asm_driver.specs.Sequencing.{fired, fire_blocks, step_move_on, IsReadOf, StandsFor, IsStepMove}
+use Rattle.asm_driver.specs.Told.{IsIdle, IsFiring, IsClashing, HasFault, EndsWith, IsTold}
 use Rattle.asm_driver.specs.Trying.{value_among, read_value, name_at, names_of, HasRead, HasTried, outcome_of}
 use Rattle.asm_driver.specs.Trying.{IsEndOf, Adds, IsTry}
 use Rattle.asm_driver.specs.declared.step.Step.{Step}
@@ -73,7 +72,7 @@ adds_none old = record {
   added = sym (append-nil old.account.receipts);
 }
 
--- a receipt of a read is idle, and so is one of a stale or a clashing fire
+-- a receipt of a read is idle, and so is one of a stale fire
 idle_read : (id stood n : ℕ) (places : List Place) (vs : List Value) →
     IsIdle (event_of id (receipt_at stood (call.Read places) (answer.Read n vs)))
 idle_read id stood n places vs = ((λ bad. cc bad), (λ k bad. cc bad))
@@ -81,10 +80,6 @@ idle_read id stood n places vs = ((λ bad. cc bad), (λ k bad. cc bad))
 idle_stale : (id stood : ℕ) (reads : List Named) (M : Move) (l : Place) →
     IsIdle (event_of id (receipt_at stood (call.Fire reads M) (answer.Fire (reply.Stale l))))
 idle_stale id stood reads M l = ((λ bad. cc bad), (λ k bad. cc bad))
-
-idle_clash : (id stood : ℕ) (reads : List Named) (M : Move) (c : Clash) →
-    IsIdle (event_of id (receipt_at stood (call.Fire reads M) (answer.Fire (reply.Clash c))))
-idle_clash id stood reads M c = ((λ bad. cc bad), (λ k bad. cc bad))
 
 -- where no named location is stale, each keeps its value
 stays : (k : Place) (ls : List Place) → fold lesser (Some k) ls ≡ None → ⊥
@@ -237,60 +232,24 @@ module _ {A : Type 0} (meaning : A → Meaning) where
           same l there ∙ sym (value_mapped (val (state_of m here)) places l there)
           ∙ (λ n. value_among (sym is.locations n) (sym values n) l)
 
-    -- the read tells what stops the blocks
-    stops_here : (stop : Stop) → AreProper old.storage.init here →
-        fire_blocks m.part (state_of m here) step ≡ Err stop → StopsWith m here step stop
-    stops_here stop proper is = (
+    -- the state that was read has the fault
+    fault_here : (f : StepFault) → IsStepMove own (read_value reading) step (Err f) → AreProper old.storage.init here →
+        HasFault own m here step f
+    fault_here f move proper = (
       length here,
       omega arith,
-      ap (λ q. fire_blocks m.part (state_of m q) step)
-          (take_all (length here) here (omega arith)) ∙ is,
-    )
-
-    clashing_here : AreProper old.storage.init here →
-        (c : Clash) × (fire_blocks m.part (state_of m here) step ≡ Err (Clashes c)) → Clashing m here step
-    clashing_here proper is = (
-      length here,
-      omega arith,
-      (is.0, ap (λ q. fire_blocks m.part (state_of m q) step) (take_all (length here) here (omega arith)) ∙ is.1),
+      subst (λ q. StandsFor own (state_of m q) step (Err f)) (sym (take_all (length here) here (omega arith)))
+          (move (state_of m here) (read_of here proper (λ l there. refl))),
     )
 
     -- a step that has no move ends
-    fault_told : (f : StepFault) (o : Outcome) (es : List Event) → IsEndOf f o →
-        IsStepMove own (read_value reading) step (Err f) → All IsIdle es →
-        m.part ≡ own.part → AreProper old.storage.init here → IsTold own m here step o es
-    fault_told fault.Term o es is move idle same proper =
-        subst (λ p. IsTold own m here step p es) (sym is) (
-          idle,
-          stops_here FaultyTerm proper
-              (subst (λ p. fire_blocks p (state_of m here) step ≡ Err FaultyTerm) (sym same)
-              (move (state_of m here) (read_of here proper (λ l there. refl)))),
-        )
-    fault_told (fault.Clash c) o es is move idle same proper =
-        subst (λ p. IsTold own m here step p es) (sym is) (
-          idle,
-          inr (clashing_here proper
-              (subst (λ p. IsStopped (fire_blocks p (state_of m here) step)) (sym same)
-              (move (state_of m here) (read_of here proper (λ l there. refl))))),
-        )
-    fault_told (fault.Large l) o es is move idle same proper =
-        subst (λ p. IsTold own m here step p es) (sym is) (
-          idle,
-          clashing_here proper
-              (subst (λ p. IsStopped (fire_blocks p (state_of m here) step)) (sym same)
-              (move (state_of m here) (read_of here proper (λ l there. refl)))),
-        )
-    fault_told fault.Many o es is move idle same proper =
-        subst (λ p. IsTold own m here step p es) (sym is) (
-          idle,
-          inr (
-            length here,
-            omega arith,
-            subst (λ q. IsMany own (state_of m q) None step) (sym (take_all (length here) here (omega arith)))
-                (move (state_of m here) (read_of here proper (λ l there. refl))),
-          ),
-        )
-    fault_told fault.Memory o es is move idle same proper = absurd is
+    fault_told : (f : StepFault) (o : Outcome) (es : List Event) → IsEndOf f o → All IsIdle es →
+        HasFault own m here step f → IsTold own m here step o es
+    fault_told fault.Term o es is idle has = subst (λ p. IsTold own m here step p es) (sym is) (idle, has)
+    fault_told (fault.Clash c) o es is idle has = subst (λ p. IsTold own m here step p es) (sym is) (inr (idle, has))
+    fault_told (fault.Large l) o es is idle has = subst (λ p. IsTold own m here step p es) (sym is) (idle, has)
+    fault_told fault.Many o es is idle has = subst (λ p. IsTold own m here step p es) (sym is) (idle, inr has)
+    fault_told fault.Memory o es is idle has = absurd is
 
     not_given_up : (f : StepFault) (o : Outcome) → IsEndOf f o → o ≢ outcome.GaveUp
     not_given_up fault.Term o is bad = let no : outcome.Term ≡ outcome.GaveUp = sym is ∙ bad in cc no
@@ -308,8 +267,8 @@ module _ {A : Type 0} (meaning : A → Meaning) where
           record {
             more = had.more;
             adds = had.adds;
-            told = fault_told f o (map (event_of old.account.id) had.more) is
-                move had.idle;
+            told = λ same proper.
+                fault_told f o (map (event_of old.account.id) had.more) is had.idle (fault_here f move proper);
           },
           not_given_up f o is,
         )
@@ -339,13 +298,15 @@ module _ {A : Type 0} (meaning : A → Meaning) where
             (subst (λ (ls : List Place). Contains ls l) (sym is.locations) there) in
             sym value ∙ ap (λ w. val (state_of m w) l) (taken_prefix here q r.number number p)
 
-      -- and the move is that of the blocks
-      blocks_fire : (q : List Move) → m.part ≡ own.part → AreProper old.storage.init q → IsPrefix here q →
-          least_stale m.part m.init q reads_named ≡ None →
+      -- and the move stands for the step
+      stands : (q : List Move) → AreProper old.storage.init q → IsPrefix here q →
+          least_stale m.part m.init q reads_named ≡ None → StandsFor own (state_of m q) step (Ok M)
+      stands q proper p none = move (state_of m q) (read_of q proper (unchanged q p none))
+
+      blocks_fire : (q : List Move) → m.part ≡ own.part → StandsFor own (state_of m q) step (Ok M) →
           fire_blocks m.part (state_of m q) step ≡ fired (fire m.part (state_of m q) M)
-      blocks_fire q same proper p none =
-          subst (λ p. fire_blocks p (state_of m q) step ≡ fired (fire p (state_of m q) M)) (sym same)
-          (move (state_of m q) (read_of q proper (unchanged q p none)))
+      blocks_fire q same stands =
+          subst (λ p. fire_blocks p (state_of m q) step ≡ fired (fire p (state_of m q) M)) (sym same) stands.1
 
       -- the events of the read, and then that of the fire
       events_of : (r : Receipt) →
@@ -397,18 +358,20 @@ module _ {A : Type 0} (meaning : A → Meaning) where
               adds = adds_then old mid new had.more (r ∷ []) had.adds adds;
               told = λ same proper.
                   let proper_q = proper_prefix old.storage.init q all (M ∷ [], sym moves_more) proper in
-                  ends (IsFiring m all step k) r (
+                  let stands_q = stands q proper_q before by.fresh in
+                  ends (IsFiring own m all step k) r (
                     reads_named,
                     M,
                     refl,
                     refl,
                     omega (arith, by.number),
                     whole,
+                    subst (λ w. step_move_on own (state_of m w) None step ≡ Ok M) (sym first) stands_q.0,
                     (
                       by.state,
                       subst (λ w. fire m.part (state_of m w) M ≡ Ok by.state) (sym first) by.fires,
                       subst (λ w. fire_blocks m.part (state_of m w) step ≡ Ok by.state) (sym first)
-                          (blocks_fire q same proper_q before by.fresh ∙ ap fired by.fires),
+                          (blocks_fire q same stands_q ∙ ap fired by.fires),
                     ),
                   );
             },
@@ -443,15 +406,20 @@ module _ {A : Type 0} (meaning : A → Meaning) where
             record {
               more = had.more ++ r ∷ [];
               adds = answered_adds (reply.Clash c) is.begins is.agent;
-              told = λ same proper. (
-                all_idle r (idle_clash old.account.id (length new.account.seen) reads_named M c),
-                inl (
-                  length all,
-                  omega arith,
-                  ap (λ q. fire_blocks m.part (state_of m q) step) (take_all (length all) all (omega arith))
-                      ∙ blocks_fire all same proper before by.0 ∙ ap fired by.1,
-                ),
-              );
+              told = λ same proper.
+                  let stands_here = stands all proper before by.0 in
+                  let whole = take_all (length all) all (omega arith) in
+                  inl (ends (IsClashing own m all step c) r (
+                    reads_named,
+                    M,
+                    refl,
+                    refl,
+                    length all,
+                    omega arith,
+                    subst (λ q. step_move_on own (state_of m q) None step ≡ Ok M) (sym whole) stands_here.0,
+                    ap (λ q. fire_blocks m.part (state_of m q) step) whole ∙ blocks_fire all same stands_here
+                        ∙ ap fired by.1,
+                  ));
             },
             (λ bad. cc bad),
           )

@@ -6,6 +6,7 @@ use Rattle.asm_update.specs.Aggregator.{Meaning}
 use Rattle.asm_update.specs.Fire.{fire}
 use Rattle.asm_update.specs.Move.{Move}
 use Rattle.asm_update.specs.State.{State}
+use Rattle.asm_update.specs.declared.clash.Clash.{Clash}
 use Rattle.asm_state.specs.declared.named.Named.{Named}
 use Rattle.asm_storage.specs.Machine.{Machine, state_of}
 use Rattle.asm_storage.specs.declared.call.Call.TheVariants as call
@@ -14,8 +15,10 @@ use Rattle.asm_storage.specs.declared.call.Answer.{Answer}
 use Rattle.asm_storage.specs.declared.call.Answer.TheVariants as answer
 use Rattle.asm_storage.specs.declared.history.Event.{Event}
 use Rattle.asm_driver.specs.Reads.{AreReads}
-use Rattle.asm_driver.specs.Sequencing.{Stop, FaultyTerm, Clashes, fire_blocks, IsStopped, IsMany}
+use Rattle.asm_driver.specs.Sequencing.{Clashes, fire_blocks, step_move_on, StandsFor}
 use Rattle.asm_driver.specs.declared.step.Step.{Step}
+use Rattle.asm_driver.specs.declared.step.StepFault.{StepFault}
+use Rattle.asm_driver.specs.declared.step.StepFault.TheVariants as fault
 use Rattle.asm_driver.specs.declared.outcome.Outcome.{Outcome}
 use Rattle.asm_driver.specs.declared.outcome.Outcome.TheVariants as outcome
 
@@ -27,28 +30,29 @@ after m q n = state_of m (take n q)
 abbrev pub IsIdle : Event → Type 0
 IsIdle e = (e.answer ≢ answer.Fire reply.Full) × ((k : ℕ) → e.answer ≢ answer.Fire (reply.Fired k))
 
--- the event fired the k-th of the moves, which leaves what the blocks of the step, fired in turn, leave on the state
--- before it
-abbrev pub IsFiring : Machine → List Move → Step → ℕ → Event → Type 0
-IsFiring m q step k e =
+-- the event fired the k-th of the moves, which is that of the step on the state before it, and leaves what the blocks
+-- of the step, fired in turn, leave there
+abbrev pub IsFiring : Meaning → Machine → List Move → Step → ℕ → Event → Type 0
+IsFiring own m q step k e =
     (reads : List Named) × (M : Move) × (e.call ≡ call.Fire reads M) × (e.answer ≡ answer.Fire (reply.Fired k))
-    × (1 ≤ k) × (take k q ≡ take (k - 1) q ++ M ∷ [])
+    × (1 ≤ k) × (take k q ≡ take (k - 1) q ++ M ∷ []) × (step_move_on own (after m q (k - 1)) None step ≡ Ok M)
     × ((B : State) × (fire m.part (after m q (k - 1)) M ≡ Ok B) × (fire_blocks m.part (after m q (k - 1)) step ≡ Ok B))
 
--- on the state that some first moves leave, the blocks of the step stop so
-abbrev pub StopsWith : Machine → List Move → Step → Stop → Type 0
-StopsWith m q step stop = (n : ℕ) × (n ≤ length q) × (fire_blocks m.part (after m q n) step ≡ Err stop)
+-- the event is a fire that was answered by this clash, of the step's move on the state that some first moves leave; the
+-- clash is that of the blocks there, fired in turn
+abbrev pub IsClashing : Meaning → Machine → List Move → Step → Clash → Event → Type 0
+IsClashing own m q step clash e =
+    (reads : List Named) × (M : Move) × (e.call ≡ call.Fire reads M) × (e.answer ≡ answer.Fire (reply.Clash clash))
+    × (n : ℕ) × (n ≤ length q) × (step_move_on own (after m q n) None step ≡ Ok M)
+    × (fire_blocks m.part (after m q n) step ≡ Err (Clashes clash))
 
--- on the state that some first moves leave, some clash stops the blocks of the step
-abbrev pub Clashing : Machine → List Move → Step → Type 0
-Clashing m q step = (n : ℕ) × (n ≤ length q) × IsStopped (fire_blocks m.part (after m q n) step)
+-- on the state that some first moves leave, the step has this fault, and its blocks stop as it tells
+abbrev pub HasFault : Meaning → Machine → List Move → Step → StepFault → Type 0
+HasFault own m q step f = (n : ℕ) × (n ≤ length q) × StandsFor own (after m q n) step (Err f)
 
--- The step reads more than 256 locations; or, on the state that some first moves leave, its blocks up to some block
--- compose to more than 4,096 instructions.
+-- the step reads more than 256 locations, or its moves compose to more than 4,096 instructions
 abbrev pub Outgrows : Meaning → Machine → List Move → Step → Type 0
-Outgrows own m q step =
-    ((ls : List Place) × AreReads step ls × (256 < length ls))
-    ⊎ ((n : ℕ) × (n ≤ length q) × IsMany own (after m q n) None step)
+Outgrows own m q step = ((ls : List Place) × AreReads step ls × (256 < length ls)) ⊎ HasFault own m q step fault.Many
 
 -- 1 for the answer of a stale fire, else 0
 abbrev pub stale_fire : Answer → ℕ
@@ -71,11 +75,12 @@ EndsWith P es = (idle : List Event) × (e : Event) × (es ≡ idle ++ e ∷ []) 
 
 -- the events are those of a step with this outcome, by an aggregator of this meaning
 abbrev pub IsTold : Meaning → Machine → List Move → Step → Outcome → List Event → Type 0
-IsTold own m q step (outcome.Fired k) es = EndsWith (IsFiring m q step k) es
+IsTold own m q step (outcome.Fired k) es = EndsWith (IsFiring own m q step k) es
 IsTold own m q step outcome.Full es = EndsWith (λ e. e.answer ≡ answer.Fire reply.Full) es
-IsTold own m q step (outcome.Clash clash) es = All IsIdle es × (StopsWith m q step (Clashes clash) ⊎ Clashing m q step)
-IsTold own m q step outcome.Term es = All IsIdle es × StopsWith m q step FaultyTerm
-IsTold own m q step (outcome.Large l) es = All IsIdle es × Clashing m q step
+IsTold own m q step (outcome.Clash clash) es =
+    EndsWith (IsClashing own m q step clash) es ⊎ (All IsIdle es × HasFault own m q step (fault.Clash clash))
+IsTold own m q step outcome.Term es = All IsIdle es × HasFault own m q step fault.Term
+IsTold own m q step (outcome.Large l) es = All IsIdle es × HasFault own m q step (fault.Large l)
 IsTold own m q step outcome.Many es = All IsIdle es × Outgrows own m q step
 IsTold own m q step outcome.GaveUp es = All IsIdle es × IsGivenUp q es
 

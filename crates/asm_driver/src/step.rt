@@ -228,14 +228,16 @@ fn extended<A: Aggregator>(
 }
 
 /// The one move that stands for the step, in the states that have what `reading` gives at the
-/// locations that the step reads: firing it leaves what firing the blocks in turn leaves.
+/// locations that the step reads: firing it leaves what firing the blocks in turn leaves. It is what
+/// the blocks' moves compose to, each evaluated on the state that the blocks before it leave.
 ///
 /// The faults are found block by block. `StepFault::Term` comes where a term of the block is faulty
 /// in the state before it. `Clash` comes where a block that others follow clashes, or where it and
 /// the blocks before it don't compose, and `Large` where an amount is then above 4,294,967,295: the
 /// blocks in turn then clash too. `Many` comes where more than 4,096 instructions come together, and
 /// `Memory` only where memory was refused. A step of one block has the instructions of the block, also
-/// where they clash. Source: sequential composition, by Börger and Stärk; the pushed states are
+/// where they clash; the last of several blocks clashes when the move is fired, unless it doesn't
+/// compose. Source: sequential composition, by Börger and Stärk; the pushed states are
 /// CoreASM's.
 pub fn step_move<A: Aggregator, L: Lookup>(
     alloc: Global,

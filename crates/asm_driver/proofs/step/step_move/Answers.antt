@@ -55,7 +55,8 @@ returns-in_err-composed g c =
     c.in_err-composed.field-0.0 p.1 p.2
     (compose_fault a old c.args.step.now c.loop-block.overlay c.loop-block.done c.block-item.result
     (drop (c.loop-block.block-index + 1) items) c.step.inside.last played
-    c.in_ok-next.next c.in_ok-next.ensures c.in_err-composed.field-0.0 c.in_err-composed.ensures)
+    c.in_ok-next.next c.in_ok-next.ensures c.in_ok-frame.frame c.in_ok-frame.ensures
+    c.in_err-composed.field-0.0 c.in_err-composed.ensures)
 
 pub loop-block-preserved : goal.loop-block-preserved
 loop-block-preserved g c =
