@@ -9,6 +9,7 @@ use Rattle.std.proofs.lemmas.List.{take_all}
 use Rattle.std.proofs.lemmas.List.Folds.{list_any-append}
 use Rattle.std.proofs.lemmas.List.Sums.{sum_by_more, sum_by-take-le}
 use Rattle.std.proofs.lemmas.Bool.Decides.{nat_tests}
+use Rattle.asm_element.proofs.BagTree.{count-set_count}
 use Rattle.asm_element.specs.Element.{element_cmp, element_cmp_total}
 use Rattle.asm_element.specs.declared.element.Element.{Element}
 use Rattle.asm_element.specs.declared.value.Value.TheVariants as values
@@ -24,7 +25,7 @@ use Rattle.asm_aggregate.specs.BagMeaning.{bag_side, is_either_large}
 use Rattle.asm_aggregate.specs.declared.side.Side.{Side}
 use Rattle.asm_aggregate.specs.declared.side.Side.TheVariants.{Added, Removed}
 use Rattle.asm_aggregate.specs.laws.SetAlgebra.{same_element, contains-empty, contains-elements_by, found}
-use Rattle.asm_aggregate.specs.laws.BagAlgebra.{has, Small, held, renewed, unnamed, count-set_count, get-renewed}
+use Rattle.asm_aggregate.specs.laws.BagAlgebra.{has, Small, held, renewed, unnamed, get-renewed}
 use Rattle.asm_aggregate.specs.laws.BagAlgebra.{small_held, small_below, same_counts}
 use Rattle.asm_aggregate.specs.laws.BagLaws.{short, large, tabled, none_short, none_large}
 use Rattle.asm_aggregate.proofs.SetSteps.{IsItem}

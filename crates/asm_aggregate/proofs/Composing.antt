@@ -2,7 +2,7 @@
 use Rattle.std.proofs.Common.{◌≡◌, ◌≢◌, Bool, true, false, cond, ◌&&◌, T, List, [], ◌∷◌, ◌++◌, map, refl, sym, ap}
 use Rattle.std.proofs.Common.{subst, ◌∙◌, unwrap_or, append_assoc, append-nil, length-append, All, ◌+◌, ◌<◌, ◌≤◌}
 use Rattle.std.proofs.Common.{length, arith}
-use Rattle.std.specs.Prelude.{Result, Ok, Err, Option, None, Some, is_some, filter}
+use Rattle.std.specs.Prelude.{Result, Ok, Err, None, Some, is_some, filter}
 use Rattle.std.specs.Ordering.{eq_by_cmp, is_lt}
 use Rattle.std.specs.List.{filter_map}
 use Rattle.std.specs.FinMap as finite
@@ -20,7 +20,8 @@ use Rattle.asm_update.specs.Move.{Move, actions_at, writes}
 use Rattle.asm_update.specs.declared.action.Action.{Action}
 use Rattle.asm_update.specs.declared.errors.JoinError.{JoinError}
 use Rattle.asm_update.specs.declared.errors.JoinError.TheVariants as join_error
-use Rattle.asm_update.proofs.FireLemmas.{in_locations}
+use Rattle.asm_element.specs.Set.{same_unit}
+use Rattle.asm_update.proofs.FireLemmas.{in_locations, places}
 use Rattle.asm_aggregate.specs.Bundle.{Bundle, bundle_of, AreGroups, HaveRoom}
 use Rattle.asm_aggregate.specs.Compose.{composed, composed_at, composition, before, in_turn, placed, IsComposition}
 use Rattle.asm_aggregate.specs.Compose.{IsComposedList, IsLimited, IsRefusalAt, KeepsSequence}
@@ -29,14 +30,12 @@ use Rattle.asm_aggregate.specs.declared.composition.ComposeError.TheVariants as 
 use Rattle.asm_aggregate.proofs.Bundles.{some_is, nothing, no_actions}
 use Rattle.asm_aggregate.proofs.Grouped.{actions_at-append, bundle_or_none}
 use Rattle.asm_aggregate.proofs.Sequence.{composition_is_sequence, refusal_never_fires}
-use Rattle.asm_aggregate.proofs.Walked.{find_in, rising_rest, first_gone}
+use Rattle.asm_element.specs.Ascending.{rising_rest, first_gone}
+use Rattle.asm_aggregate.proofs.Walked.{find_in}
 
 -- the same locations, with nothing at them
 abbrev units : {X : Type 0} → List (Place × X) → List (Place × Unit {0})
 units es = map (λ e. (e.0, tt)) es
-
-abbrev places : {X : Type 0} → List (Place × X) → List Place
-places es = map (λ e. e.0) es
 
 below-units : {X : Type 0} (k : Place) (es : List (Place × X)) →
     below_all location_cmp k (units es) ≡ below_all location_cmp k es
@@ -61,12 +60,6 @@ find-units (e ∷ es) q = by_test (eq_by_cmp location_cmp q e.0) (find-units es 
 places-units : {X : Type 0} (es : List (Place × X)) → places (units es) ≡ places es
 places-units [] = refl
 places-units (e ∷ es) = ap (λ ls. e.0 ∷ ls) (places-units es)
-
-same_unit : (x y : Option (Unit {0})) → is_some x ≡ is_some y → x ≡ y
-same_unit None None h = refl
-same_unit None (Some y) h = cc
-same_unit (Some x) None h = cc
-same_unit (Some x) (Some y) h = refl
 
 -- a map that has the locations of a move has them in the move's order
 same_places : {X : Type 0} (m : finite.FinMap location_cmp X) (W : Move) →
@@ -182,7 +175,7 @@ module _ (a : Meaning) (M N : Move) where
         composed a b s ≡ Ok actions → next ≡ finite.remove seconds k → longer ≡ list ++ placed k actions →
         IsComposing a M N rest next longer
     composing_goes_on s actions next longer is gave taken appended = record {
-      rising = rising_rest k b rest rises;
+      rising = rising_rest location_cmp k b rest rises;
       firsts = λ l c h. had.firsts l c (ap (find_in l) step ∙ later l c h (eq_by_cmp location_cmp l k) refl);
       others = λ l h. by_test l h (eq_by_cmp location_cmp l k) refl;
       rest =
@@ -194,14 +187,14 @@ module _ (a : Meaning) (M N : Move) where
           cond t (Some b) (find_in l rest) ≡ Some c
       later l c h true e =
           let no : None ≡ Some c =
-          sym (ap (λ p. find_in p rest) (same_location l k e) ∙ first_gone k b rest rises) ∙ h in cc
+          sym (ap (λ p. find_in p rest) (same_location l k e) ∙ first_gone location_cmp k b rest rises) ∙ h in cc
       later l c h false e = h
 
       by_test : (l : Place) → is_some (find_in l rest) ≡ true → (t : Bool) → eq_by_cmp location_cmp l k ≡ t →
           unwrap_or (finite.get next l) (bundle_of []) ≡ bundle_of (actions_at N l)
       by_test l h true e =
           absurd (false≢true
-          (sym (ap is_some (ap (λ p. find_in p rest) (same_location l k e) ∙ first_gone k b rest rises)) ∙ h))
+          (sym (ap is_some (ap (λ p. find_in p rest) (same_location l k e) ∙ first_gone location_cmp k b rest rises)) ∙ h))
       by_test l h false e =
           ap (λ o. unwrap_or o (bundle_of []))
           (ap (λ (m : finite.FinMap location_cmp Bundle). finite.get m l) taken

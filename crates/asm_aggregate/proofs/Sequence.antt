@@ -4,9 +4,7 @@ use Rattle.std.proofs.Common.{sym, ap, subst, ◌∙◌, unwrap_or, All}
 use Rattle.std.specs.Prelude.{Result, Ok, Err, IsOk, IsErr, Option, None, Some, filter}
 use Rattle.std.specs.declared.cmp.Ordering.TheVariants.{Less}
 use Rattle.std.specs.Ordering.{eq_by_cmp}
-use Rattle.std.specs.List.{list_any}
 use Rattle.std.specs.FinMap as finite
-use Rattle.std.specs.FinMap.Entries.{below_all}
 use Rattle.std.proofs.lemmas.Bool.{false≢true}
 use Rattle.std.proofs.lemmas.List.Elements.{All-nil, All-cons, All-head, All-tail}
 use Rattle.std.proofs.lemmas.List.Folds.{list_any-append}
@@ -24,12 +22,12 @@ use Rattle.asm_update.specs.declared.action.Action.{Action}
 use Rattle.asm_update.specs.declared.action.Instruction.{Instruction}
 use Rattle.asm_update.specs.declared.clash.Clash.{Clash}
 use Rattle.asm_update.proofs.FireLemmas.{stored, stored_or, stored_reads, get-overwrite, same_state, in_locations}
-use Rattle.asm_update.proofs.FireLemmas.{fired_updates, fired_clash, fire_clash, val-fired, val-unwritten}
+use Rattle.asm_update.proofs.FireLemmas.{is_in, fired_updates, fired_clash, fire_clash, val-fired, val-unwritten}
 use Rattle.asm_aggregate.specs.Compose.{composition, composed_at, before, in_turn, placed, IsSequence, NeverFires}
 use Rattle.asm_aggregate.proofs.Bundles.{some_is, no_actions}
 use Rattle.asm_aggregate.proofs.Composed.{gives, composed_is_sequence, refused_is_clash}
 use Rattle.asm_aggregate.proofs.Grouped.{actions_at-append, unwritten}
-use Rattle.asm_aggregate.proofs.Walked.{first, second, apart}
+use Rattle.asm_element.specs.Ascending.{both_T, not_among}
 
 found_all : (P : Value → Type 0) (es : List (Place × Value)) (q : Place) (v : Value) →
     All P (map (λ (e : Place × Value). e.1) es) → finite.find location_cmp q es ≡ Some v → P v
@@ -136,25 +134,14 @@ module _ (part : Part) where
       by_answers (Ok D) (Err c) h k = absurd (no_clash_there D c h k)
       by_answers (Err c) s h k = sym (fire_clash part B N c (same_clash c (fired_clash part A M c h))) ∙ k
 
--- whether a location stands in a list
-abbrev is_in : List Place → Place → Bool
-is_in ls q = list_any (eq_by_cmp location_cmp q) ls
-
 abbrev Apart : List Place → Type 0
 Apart [] = Unit {0}
 Apart (l ∷ ls) = (is_in ls l ≡ false) × Apart ls
 
-not_in : {X : Type 0} (k : Place) (es : List (Place × X)) → T (below_all location_cmp k es) →
-    is_in (map (λ (e : Place × X). e.0) es) k ≡ false
-not_in k [] h = refl
-not_in {X} k (e ∷ es) h =
-    ap (λ b. b || is_in (map (λ (e : Place × X). e.0) es) k) (apart (location_cmp k e.0) (first _ _ h))
-    ∙ not_in k es (second _ _ h)
-
 all_apart : {X : Type 0} (es : List (Place × X)) → T (finite.is_sorted location_cmp es) →
     Apart (map (λ (e : Place × X). e.0) es)
 all_apart [] h = tt
-all_apart (e ∷ es) h = (not_in e.0 es (first _ _ h), all_apart es (second _ _ h))
+all_apart (e ∷ es) h = let parts = both_T _ _ h in (not_among location_cmp e.0 es parts.0, all_apart es parts.1)
 
 actions_placed : (l q : Place) (actions : List Action) (b : Bool) → eq_by_cmp location_cmp l q ≡ b →
     actions_at (placed l actions) q ≡ cond b actions []

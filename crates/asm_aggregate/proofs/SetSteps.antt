@@ -6,13 +6,14 @@ use Rattle.std.specs.List.{list_any}
 use Rattle.std.specs.Ordering.{eq_by_cmp}
 use Rattle.std.proofs.lemmas.List.{take_more, take_all}
 use Rattle.std.proofs.lemmas.List.Folds.{list_any-append}
+use Rattle.asm_element.proofs.SetTree.{contains-insert}
 use Rattle.asm_element.specs.Element.{element_cmp}
 use Rattle.asm_element.specs.declared.element.Element.{Element}
 use Rattle.asm_element.specs.Set.{ElementSet, empty, contains, insert, remove, elements, same_set}
 use Rattle.asm_element.specs.Tests.{or_false, and_true, or_comm, or_assoc}
 use Rattle.asm_update.specs.declared.action.Action.{Action}
 use Rattle.asm_aggregate.specs.Sets.{union, difference, is_the, with_element, elements_by}
-use Rattle.asm_aggregate.specs.laws.SetAlgebra.{contains-insert, contains-remove, contains-elements, contains-union}
+use Rattle.asm_aggregate.specs.laws.SetAlgebra.{contains-remove, contains-elements, contains-union}
 use Rattle.asm_aggregate.specs.laws.SetAlgebra.{contains-empty, contains-difference, contains-with_element}
 use Rattle.asm_aggregate.specs.laws.SetAlgebra.{contains-elements_by}
 

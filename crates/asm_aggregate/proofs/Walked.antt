@@ -1,14 +1,14 @@
 -- A walk of a move's groups in ascending order, which aggregates one location more at a time.
-use Rattle.std.proofs.Common.{◌≡◌, Bool, true, false, cond, ◌&&◌, T, List, [], ◌∷◌, Some, None, refl, sym, ap, subst}
+use Rattle.std.proofs.Common.{◌≡◌, Bool, true, false, cond, T, List, [], ◌∷◌, Some, None, refl, sym, ap, subst}
 use Rattle.std.proofs.Common.{◌∙◌}
 use Rattle.std.specs.Prelude.{Option, Ok, Err, IsOk, IsSomeAnd}
-use Rattle.std.specs.declared.cmp.Ordering.{Ordering}
-use Rattle.std.specs.declared.cmp.Ordering.TheVariants.{Less, Equal, Greater}
-use Rattle.std.specs.Ordering.{eq_by_cmp, is_eq, is_lt}
+use Rattle.std.specs.declared.cmp.Ordering.TheVariants.{Less}
+use Rattle.std.specs.Ordering.{eq_by_cmp, is_eq}
 use Rattle.std.specs.FinMap as finite
 use Rattle.std.specs.FinMap.Entries.{below_all}
 use Rattle.std.proofs.lemmas.Bool.{false≢true}
 use Rattle.asm_element.specs.Place.{Place, location_cmp, location_cmp_total, same_location}
+use Rattle.asm_element.specs.Ascending.{both_T, is_less, rising_rest, first_gone}
 use Rattle.asm_element.specs.Tests.{itself}
 use Rattle.asm_element.specs.declared.value.Value.{Value}
 use Rattle.asm_update.specs.Move.{Move, actions_at, writes}
@@ -24,52 +24,18 @@ use Rattle.asm_update.specs.declared.errors.ResultError.TheVariants.{Cause as Re
 use Rattle.asm_aggregate.specs.Bundle.{Bundle, bundle_of, bundle_at, bundle_result, AreGroups, IsWritten, IsAggregate}
 use Rattle.asm_aggregate.proofs.Bundles.{some_is, written_bundle}
 
-pub first : (a b : Bool) → T (a && b) → T a
-first true b p = tt
-first false b p = p
-
-pub second : (a b : Bool) → T (a && b) → T b
-second true b p = p
-second false b p = absurd p
-
-pub rising_rest : {X : Type 0} (k : Place) (v : X) (rest : List (Place × X)) →
-    T (finite.is_sorted location_cmp ((k, v) ∷ rest)) → T (finite.is_sorted location_cmp rest)
-rising_rest k v rest h = second _ _ h
-
-pub apart : (o : Ordering) → T (is_lt o) → is_eq o ≡ false
-apart Less h = refl
-apart Equal h = absurd h
-apart Greater h = absurd h
-
-is_less : (o : Ordering) → T (is_lt o) → o ≡ Less
-is_less Less h = refl
-is_less Equal h = absurd h
-is_less Greater h = absurd h
-
--- a location below all of a list isn't in it
-none_below : {X : Type 0} (k : Place) (es : List (Place × X)) → T (below_all location_cmp k es) →
-    finite.find location_cmp k es ≡ None
-none_below k [] h = refl
-none_below k (e ∷ es) h =
-    ap (λ b. cond b (Some e.1) (finite.find location_cmp k es)) (apart (location_cmp k e.0) (first _ _ h))
-    ∙ none_below k es (second _ _ h)
-
-pub first_gone : {X : Type 0} (k : Place) (v : X) (rest : List (Place × X)) →
-    T (finite.is_sorted location_cmp ((k, v) ∷ rest)) → finite.find location_cmp k rest ≡ None
-first_gone k v rest h = none_below k rest (first _ _ h)
-
--- nor is one below the first
+-- a location below the first isn't there
 lower_than : {X : Type 0} (l k : Place) (es : List (Place × X)) → location_cmp l k ≡ Less →
     T (below_all location_cmp k es) → finite.find location_cmp l es ≡ None
 lower_than l k [] lt h = refl
 lower_than l k (e ∷ es) lt h =
     ap (λ o. cond (is_eq o) (Some e.1) (finite.find location_cmp l es))
-    (location_cmp_total.trans l k e.0 lt (is_less _ (first _ _ h))) ∙ lower_than l k es lt (second _ _ h)
+    (location_cmp_total.trans l k e.0 lt (is_less _ (both_T _ _ h).0)) ∙ lower_than l k es lt (both_T _ _ h).1
 
 pub none_lower : {X : Type 0} (l k : Place) (v : X) (rest : List (Place × X)) → location_cmp l k ≡ Less →
     T (finite.is_sorted location_cmp ((k, v) ∷ rest)) → finite.find location_cmp l ((k, v) ∷ rest) ≡ None
 none_lower l k v rest lt h =
-    ap (λ o. cond (is_eq o) (Some v) (finite.find location_cmp l rest)) lt ∙ lower_than l k rest lt (first _ _ h)
+    ap (λ o. cond (is_eq o) (Some v) (finite.find location_cmp l rest)) lt ∙ lower_than l k rest lt (both_T _ _ h).0
 
 abbrev pub find_in : {X : Type 0} → Place → List (Place × X) → Option X
 find_in l es = finite.find location_cmp l es
@@ -127,7 +93,7 @@ module _ (part : Part) (old : Old) (M : Move) where
     pub walk_goes_on : (v : Value) (next : Updates) → bundle_result part (old k) b ≡ Ok v →
         next ≡ finite.insert updates k v → IsWalked part old M rest next
     walk_goes_on v next gave is = record {
-      rising = rising_rest k b rest rises;
+      rising = rising_rest location_cmp k b rest rises;
       left_has = λ l c h. had.left_has l c (ap (find_in l) step ∙ later l c h (eq_by_cmp location_cmp l k) refl);
       done = λ l h w. by_test l h w (eq_by_cmp location_cmp l k) refl;
       others = λ l w. got l
@@ -141,7 +107,7 @@ module _ (part : Part) (old : Old) (M : Move) where
           cond t (Some b) (find_in l rest) ≡ Some c
       later l c h true e =
           let no : None ≡ Some c =
-          sym (ap (λ p. find_in p rest) (same_location l k e) ∙ first_gone k b rest rises) ∙ h in cc
+          sym (ap (λ p. find_in p rest) (same_location l k e) ∙ first_gone location_cmp k b rest rises) ∙ h in cc
       later l c h false e = h
 
       by_test : (l : Place) → find_in l rest ≡ None → writes M l ≡ true → (t : Bool) → eq_by_cmp location_cmp l k ≡ t →

@@ -3,7 +3,6 @@ mod Evaluated
 mod Gathering
 mod Agreeing
 mod Advancing
-mod Floats
 mod Lines
 mod Outcomes
 mod Pieces

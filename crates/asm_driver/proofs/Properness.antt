@@ -1,17 +1,16 @@
 -- What moves leave of a state that a program can hold is such a state again.
-use Rattle.std.proofs.Common.{◌≡◌, ◌++◌, Bool, true, false, cond, ◌||◌, ◌&&◌, T, List, [], ◌∷◌, map, refl, sym, ap}
+use Rattle.std.proofs.Common.{◌≡◌, ◌++◌, Bool, true, false, cond, ◌||◌, T, List, [], ◌∷◌, map, refl, sym, ap}
 use Rattle.std.proofs.Common.{subst, ◌∙◌, All, Option, Some, None, Result, Ok, Err, unwrap_or, IsSomeAnd, is_some}
 use Rattle.std.specs.List.{filter, filter_map}
 use Rattle.std.specs.FinMap as finite
 use Rattle.std.specs.FinMap.Entries.{below_all}
-use Rattle.std.specs.Ordering.{eq_by_cmp, is_lt, is_eq}
-use Rattle.std.specs.declared.cmp.Ordering.{Ordering}
-use Rattle.std.specs.declared.cmp.Ordering.TheVariants.{Less, Equal, Greater}
+use Rattle.std.specs.Ordering.{eq_by_cmp}
 use Rattle.std.proofs.lemmas.Bool.{false≢true}
 use Rattle.std.proofs.lemmas.List.Elements.{All-nil, All-cons, All-head, All-tail}
 use mathlib.Core.List.{IsPrefix}
 use Rattle.asm_element.specs.Place.{Place, location_cmp, location_cmp_total, same_location}
 use Rattle.asm_element.specs.Place as place
+use Rattle.asm_element.specs.Ascending.{both_T, none_below}
 use Rattle.asm_element.specs.Tests.{ok_is, itself}
 use Rattle.asm_element.specs.Value as value
 use Rattle.asm_element.specs.declared.value.Value.{Value}
@@ -32,26 +31,6 @@ use Rattle.asm_driver.specs.Plays.{AreProper}
 some_is : {X : Type 0} (x y : X) → ◌≡◌ {A = Option X} (Some x) (Some y) → x ≡ y
 some_is x y e = cc
 
-both_first : (a b : Bool) → T (a && b) → T a
-both_first true b p = tt
-both_first false b p = absurd p
-
-both_second : (a b : Bool) → T (a && b) → T b
-both_second true b p = p
-both_second false b p = absurd p
-
-unlike : (o : Ordering) → T (is_lt o) → is_eq o ≡ false
-unlike Less h = refl
-unlike Equal h = absurd h
-unlike Greater h = absurd h
-
-not_below : (k : Place) (es : List (Place × Value)) → T (below_all location_cmp k es) →
-    finite.find location_cmp k es ≡ None
-not_below k [] h = refl
-not_below k (e ∷ es) h =
-    ap (λ b. cond b (Some e.1) (finite.find location_cmp k es)) (unlike (location_cmp k e.0) (both_first _ _ h))
-    ∙ not_below k es (both_second _ _ h)
-
 -- what is kept at a location
 abbrev IsKept : Place → Value → Type 0
 IsKept q v = place.IsProper q × value.IsProper v × (value.is_undef v ≡ false)
@@ -67,7 +46,7 @@ later_found : (e : Place × Value) (es : List (Place × Value)) → T (below_all
     (q : Place) (v : Value) → finite.find location_cmp q es ≡ Some v → (b : Bool) → eq_by_cmp location_cmp q e.0 ≡ b →
     IsKept q v
 later_found e es below found q v is true same =
-    let none = ap (λ p. finite.find location_cmp p es) (same_location q e.0 same) ∙ not_below e.0 es below in
+    let none = ap (λ p. finite.find location_cmp p es) (same_location q e.0 same) ∙ none_below location_cmp e.0 es below in
     absurd (let bad : ◌≡◌ {A = Option Value} None (Some v) = sym none ∙ is in cc)
 later_found e es below found q v is false same = found q v
     (ap (λ b. cond b (Some e.1) (finite.find location_cmp q es)) same ∙ is)
@@ -84,8 +63,8 @@ each_found [] sorted found =
 each_found (e ∷ es) sorted found =
     let mine = found e.0 e.1
     (ap (λ b. cond b (Some e.1) (finite.find location_cmp e.0 es)) (itself location_cmp_total e.0)) in
-    let rest = each_found es (both_second _ _ sorted)
-    (λ q v is. later_found e es (both_first _ _ sorted) found q v is (eq_by_cmp location_cmp q e.0) refl) in
+    let rest = each_found es (both_T _ _ sorted).1
+    (λ q v is. later_found e es (both_T _ _ sorted).0 found q v is (eq_by_cmp location_cmp q e.0) refl) in
     record {
       locations = All-cons place.IsProper e.0 _ mine.0 rest.locations;
       values = All-cons value.IsProper e.1 _ mine.1 rest.values;

@@ -11,15 +11,14 @@ use Rattle.asm_update.specs.declared.clash.Clash.{Clash}
 use Rattle.asm_storage.specs.Agents.{event_of, moves_seen}
 use Rattle.asm_storage.specs.Machine.{Machine, state_of}
 use Rattle.asm_storage.specs.Storage.{AgentAt, StorageView, IsSameAgent, machine_of}
-use Rattle.asm_storage.specs.declared.call.Answer.TheVariants as answer
-use Rattle.asm_storage.specs.declared.call.Reply.TheVariants as reply
 use Rattle.asm_storage.specs.declared.history.Event.{Event}
 use Rattle.asm_storage.specs.declared.receipt.Entry.{Entry}
 use Rattle.asm_storage.specs.declared.receipt.Receipt.{Receipt}
 use Rattle.asm_storage.proofs.Lists.{take-prefix}
 use Rattle.asm_driver.specs.Plays.{AreProper, Plays}
 use Rattle.asm_driver.specs.Sequencing.{fire_blocks, step_move_on, StandsFor}
-use Rattle.asm_driver.specs.Told.{IsIdle, IsFiring, IsClashing, HasFault, Outgrows, stale_fire, stale_fires, EndsWith}
+use Rattle.asm_driver.specs.Told.{IsIdle, IsFiring, IsClashing, HasNoRoom, HasFault, Outgrows}
+use Rattle.asm_driver.specs.Told.{stale_fire, stale_fires, EndsWith}
 use Rattle.asm_driver.specs.Told.{IsTold, AreTold}
 use Rattle.asm_driver.specs.Trying.{Adds, EndsStale, IsAgain, IsEnded, Tried, IsStepPlayed}
 use Rattle.asm_driver.specs.declared.step.Step.{Step}
@@ -67,7 +66,7 @@ module _ (own : Meaning) (m : Machine) (q : List Move) (step : Step) where
   idle_before : (o : Outcome) (xs es : List Event) → All IsIdle xs → IsTold own m q step o es →
       IsTold own m q step o (xs ++ es)
   idle_before (outcome.Fired k) xs es idle told = idle_front (IsFiring own m q step k) xs es idle told
-  idle_before outcome.Full xs es idle told = idle_front (λ e. e.answer ≡ answer.Fire reply.Full) xs es idle told
+  idle_before outcome.Full xs es idle told = idle_front (HasNoRoom own m q step) xs es idle told
   idle_before (outcome.Clash c) xs es idle (inl told) = inl (idle_front (IsClashing own m q step c) xs es idle told)
   idle_before (outcome.Clash c) xs es idle (inr told) = inr (All-append IsIdle xs es idle told.0, told.1)
   idle_before outcome.Term xs es idle told = (All-append IsIdle xs es idle told.0, told.1)
@@ -102,6 +101,20 @@ module _ (own : Meaning) (m : Machine) (q r : List Move) (p : IsPrefix q r) wher
         ap (λ w. fire_blocks m.part (state_of m w) step) (sym same) ∙ blocks,
       )
 
+  no_room_later : (step : Step) (e : Event) → HasNoRoom own m q step e → HasNoRoom own m r step e
+  no_room_later step e (reads, M, call, answer, n, le, many, move, (B, blocks)) =
+      let same = take-prefix n q r p le in (
+        reads,
+        M,
+        call,
+        answer,
+        n,
+        omega (arith, le, prefix_length q r p),
+        many,
+        subst (λ w. step_move_on own (state_of m w) None step ≡ Ok M) same move,
+        (B, ap (λ w. fire_blocks m.part (state_of m w) step) (sym same) ∙ blocks),
+      )
+
   firing_later : (step : Step) (k : ℕ) (e : Event) → IsFiring own m q step k e → IsFiring own m r step k e
   firing_later step k e (reads, M, call, answer, some, whole, move, (B, fires, blocks)) =
       let counted = sym (take_length k q) ∙ ap length whole ∙ length-append (take (k - 1) q) (M ∷ []) in
@@ -123,7 +136,7 @@ module _ (own : Meaning) (m : Machine) (q r : List Move) (p : IsPrefix q r) wher
 
   told_later : (step : Step) (o : Outcome) (es : List Event) → IsTold own m q step o es → IsTold own m r step o es
   told_later step (outcome.Fired k) es told = (told.0, told.1, told.2, told.3, firing_later step k told.1 told.4)
-  told_later step outcome.Full es told = told
+  told_later step outcome.Full es told = (told.0, told.1, told.2, told.3, no_room_later step told.1 told.4)
   told_later step (outcome.Clash c) es (inl told) =
       inl (told.0, told.1, told.2, told.3, clashing_later step c told.1 told.4)
   told_later step (outcome.Clash c) es (inr told) = inr (told.0, fault_later step (fault.Clash c) told.1)

@@ -1,25 +1,25 @@
 -- One try of a step: what its read and its fire leave, and what its outcome tells.
 use Rattle.std.proofs.Common.{◌≡◌, ◌≢◌, inl, inr, ℕ, zero, suc, ◌+◌, ◌-◌, ◌≤◌, Bool, true, false, cond, nat_lt, List}
-use Rattle.std.proofs.Common.{[], ◌∷◌, ◌++◌, length, take, map, fold, All, Option, Some, None, Result, Ok, Err}
+use Rattle.std.proofs.Common.{[], ◌∷◌, ◌++◌, length, take, map, All, Option, Some, None, Result, Ok, Err}
 use Rattle.std.proofs.Common.{Contains, append_assoc, append-nil, length-append, arith, refl, sym, ap, subst, ◌∙◌}
-use Rattle.std.specs.List.{filter}
-use Rattle.std.specs.Ordering.{is_lt}
+use Rattle.std.specs.List.{AllByRecursion}
+use Rattle.std.proofs.lemmas.Bool.Decides.{nat_tests}
 use Rattle.std.proofs.lemmas.List.{take_at, take_all}
 use Rattle.std.proofs.lemmas.List.Elements.{All-nil, All-cons, All-append}
 use mathlib.Core.List.{IsPrefix}
-use Rattle.asm_element.specs.Place.{Place, location_cmp}
+use Rattle.asm_element.specs.Place.{Place}
 use Rattle.asm_element.specs.declared.value.Value.{Value}
 use Rattle.asm_update.specs.Aggregator.{Meaning, AggregatorLaws}
 use Rattle.asm_update.specs.Fire.{fire}
 use Rattle.asm_update.specs.Move.{Move}
 use Rattle.asm_update.specs.State.{State, val}
 use Rattle.asm_update.specs.declared.clash.Clash.{Clash}
-use Rattle.asm_state.specs.Stands.{is_stale}
-use Rattle.asm_state.specs.Verdict.{lesser, least, least_stale}
+use Rattle.asm_state.specs.Stands.{is_stale, after_move}
+use Rattle.asm_state.specs.Verdict.{least_stale}
 use Rattle.asm_state.specs.declared.named.Named.{Named}
 use Rattle.asm_storage.specs.Agents.{event_of, moves_seen}
 use Rattle.asm_storage.specs.Calls.{ReadingView, read_answer, receipt_at, IsAnswered}
-use Rattle.asm_storage.specs.Machine.{Machine, state_of, taken_reply, firing_reply, fire_reply, reply_to}
+use Rattle.asm_storage.specs.Machine.{Machine, state_of, firing_reply, fire_reply, reply_to}
 use Rattle.asm_storage.specs.Storage.{AgentAt, StorageView, machine_of, has_looked}
 use Rattle.asm_storage.specs.declared.call.Answer.TheVariants as answer
 use Rattle.asm_storage.specs.declared.call.Call.TheVariants as call
@@ -28,11 +28,11 @@ use Rattle.asm_storage.specs.declared.call.Reply.TheVariants as reply
 use Rattle.asm_storage.specs.declared.history.Event.{Event}
 use Rattle.asm_storage.specs.declared.receipt.Entry.{Entry}
 use Rattle.asm_storage.specs.declared.receipt.Receipt.{Receipt}
-use Rattle.asm_storage.proofs.Run.{same_value_from}
+use Rattle.asm_storage.proofs.Run.{same_value_from, fresh_each, fired_reply}
 use Rattle.asm_driver.specs.Plays.{AreProper}
 use Rattle.asm_driver.specs.Reads.{AreReads}
 use Rattle.asm_driver.specs.Sequencing.{fired, fire_blocks, step_move_on, IsReadOf, StandsFor, IsStepMove}
-use Rattle.asm_driver.specs.Told.{IsIdle, IsFiring, IsClashing, HasFault, EndsWith, IsTold}
+use Rattle.asm_driver.specs.Told.{IsIdle, IsFiring, IsClashing, HasNoRoom, HasFault, EndsWith, IsTold}
 use Rattle.asm_driver.specs.Trying.{value_among, read_value, name_at, names_of, HasRead, HasTried, outcome_of}
 use Rattle.asm_driver.specs.Trying.{IsEndOf, Adds, IsTry}
 use Rattle.asm_driver.specs.declared.step.Step.{Step}
@@ -82,68 +82,19 @@ idle_stale : (id stood : ℕ) (reads : List Named) (M : Move) (l : Place) →
 idle_stale id stood reads M l = ((λ bad. cc bad), (λ k bad. cc bad))
 
 -- where no named location is stale, each keeps its value
-stays : (k : Place) (ls : List Place) → fold lesser (Some k) ls ≡ None → ⊥
-stays k [] none = cc
-stays k (l ∷ ls) none = here (is_lt (location_cmp l k)) none (stays l ls) (stays k ls) where
-  here : (b : Bool) → fold lesser (cond b (Some l) (Some k)) ls ≡ None → (fold lesser (Some l) ls ≡ None → ⊥) →
-      (fold lesser (Some k) ls ≡ None → ⊥) → ⊥
-  here true e one other = one e
-  here false e one other = other e
-
-none_stale : (test : Named → Bool) (n : ℕ) (ps : List Place) →
-    least (map (λ (r : Named). r.at) (filter test (map (name_at n) ps))) ≡ None →
-    (l : Place) → Contains ps l → test (name_at n l) ≡ false
-none_stale test n [] none l there = absurd (omega (arith, there.1))
-none_stale test n (p ∷ ps) none l there = here (test (name_at n p)) refl none there
-    (λ rest. none_stale test n ps rest l) where
-      here : (b : Bool) → test (name_at n p) ≡ b →
-          least (map (λ (r : Named). r.at)
-          (cond b (name_at n p ∷ filter test (map (name_at n) ps)) (filter test (map (name_at n) ps)))) ≡ None →
-          Contains (p ∷ ps) l →
-          (least (map (λ (r : Named). r.at) (filter test (map (name_at n) ps))) ≡ None → Contains ps l →
-          test (name_at n l) ≡ false) →
-          test (name_at n l) ≡ false
-      here true e none there later = absurd
-          (stays p (map (λ (r : Named). r.at) (filter test (map (name_at n) ps))) none)
-      here false e none (zero, lt, is) later = subst (λ k. test (name_at n k) ≡ false) is e
-      here false e none (suc k, lt, is) later = later none (k, omega (arith, lt), is)
+each_named : (test : Named → Bool) (n : ℕ) (ps : List Place) →
+    AllByRecursion (λ r. test r ≡ false) (map (name_at n) ps) → (l : Place) → Contains ps l → test (name_at n l) ≡ false
+each_named test n [] all l there = absurd (omega (arith, there.1))
+each_named test n (p ∷ ps) all l (zero, lt, is) = subst (λ k. test (name_at n k) ≡ false) is all.0
+each_named test n (p ∷ ps) all l (suc k, lt, is) = each_named test n ps all.1 l (k, omega (arith, lt), is)
 
 fresh_value : (m : Machine) (q : List Move) (r : ReadingView) →
     least_stale m.part m.init q (names_of (Some r)) ≡ None → r.number ≤ length q →
     (l : Place) → Contains r.places l → val (state_of m (take r.number q)) l ≡ val (state_of m q) l
 fresh_value m q r none le l there =
+    let test : Named → Bool = λ n. is_stale m.part m.init q n.at n.number in
     same_value_from m m.init q l r.number
-    (none_stale (λ n. is_stale m.part m.init q n.at n.number) r.number r.places none l there) le
-
--- what a reply tells
-record IsFiredBy (m : Machine) (q : List Move) (reads : List Named) (M : Move) (k : ℕ) : Type 0 where
-  number : k ≡ length q + 1
-  state : State
-  fires : fire m.part (state_of m q) M ≡ Ok state
-  fresh : least_stale m.part m.init q reads ≡ None
-
-taken_fired : (capacity number k : ℕ) → reply.Fired k ≡ taken_reply capacity number → k ≡ number + 1
-taken_fired capacity number k = here (nat_lt number capacity) where
-  here : (b : Bool) → reply.Fired k ≡ cond b (reply.Fired (number + 1)) reply.Full → k ≡ number + 1
-  here true is = cc is
-  here false is = absurd (cc is)
-
-fired_by : (m : Machine) (q : List Move) (reads : List Named) (M : Move) (k : ℕ) →
-    answer.Fire (reply.Fired k) ≡ reply_to m q (call.Fire reads M) → IsFiredBy m q reads M k
-fired_by m q reads M k is = by_stale (least_stale m.part m.init q reads) refl told where
-  told : reply.Fired k ≡ fire_reply m q M (least_stale m.part m.init q reads)
-  told = cc is
-
-  by_answer : (o : Result State Clash) → fire m.part (state_of m q) M ≡ o → reply.Fired k ≡ firing_reply m q o →
-      least_stale m.part m.init q reads ≡ None → IsFiredBy m q reads M k
-  by_answer (Ok B) e is none = record
-      { number = taken_fired m.capacity (length q) k is; state = B; fires = e; fresh = none }
-  by_answer (Err c) e is none = absurd (cc is)
-
-  by_stale : (o : Option Place) → least_stale m.part m.init q reads ≡ o → reply.Fired k ≡ fire_reply m q M o →
-      IsFiredBy m q reads M k
-  by_stale (Some l) e is = absurd (cc is)
-  by_stale None e is = by_answer (fire m.part (state_of m q) M) refl is e
+    (each_named test r.number r.places (fresh_each test (names_of (Some r)) none) l there) le
 
 clashed_by : (m : Machine) (q : List Move) (reads : List Named) (M : Move) (c : Clash) →
     answer.Fire (reply.Clash c) ≡ reply_to m q (call.Fire reads M) →
@@ -165,6 +116,42 @@ clashed_by m q reads M c is = by_stale (least_stale m.part m.init q reads) refl 
       (least_stale m.part m.init q reads ≡ None) × (fire m.part (state_of m q) M ≡ Err c)
   by_stale (Some l) e is = absurd (cc is)
   by_stale None e is = (e, by_answer (fire m.part (state_of m q) M) refl is)
+
+not_below : (n c : ℕ) → nat_lt n c ≡ false → c ≤ n
+not_below n c e = grind (arith, nat_tests)
+
+-- what a fire that found no room tells
+record FoundNoRoom (m : Machine) (q : List Move) (reads : List Named) (M : Move) : Type 0 where
+  many : m.capacity ≤ length q
+  state : State
+  fires : fire m.part (state_of m q) M ≡ Ok state
+  fresh : least_stale m.part m.init q reads ≡ None
+
+no_room_by : (m : Machine) (q : List Move) (reads : List Named) (M : Move) →
+    answer.Fire reply.Full ≡ reply_to m q (call.Fire reads M) → FoundNoRoom m q reads M
+no_room_by m q reads M is = by_stale (least_stale m.part m.init q reads) refl told where
+  told : reply.Full ≡ fire_reply m q M (least_stale m.part m.init q reads)
+  told = cc is
+
+  not_taken : (b : Bool) → nat_lt (length q) m.capacity ≡ b →
+      reply.Full ≡ cond b (reply.Fired (length q + 1)) reply.Full → m.capacity ≤ length q
+  not_taken true e is = absurd (cc is)
+  not_taken false e is = not_below (length q) m.capacity e
+
+  by_answer : (o : Result State Clash) → fire m.part (state_of m q) M ≡ o → reply.Full ≡ firing_reply m q o →
+      least_stale m.part m.init q reads ≡ None → FoundNoRoom m q reads M
+  by_answer (Ok B) e is none = record {
+    many = not_taken (nat_lt (length q) m.capacity) refl is;
+    state = B;
+    fires = e;
+    fresh = none;
+  }
+  by_answer (Err d) e is none = absurd (cc is)
+
+  by_stale : (o : Option Place) → least_stale m.part m.init q reads ≡ o → reply.Full ≡ fire_reply m q M o →
+      FoundNoRoom m q reads M
+  by_stale (Some l) e is = absurd (cc is)
+  by_stale None e is = by_answer (fire m.part (state_of m q) M) refl is e
 
 -- an agent that read, or fired, has a receipt more
 record HasRead1 {A : Type 0} (old mid : AgentAt A) : Type 0 where
@@ -346,7 +333,8 @@ module _ {A : Type 0} (meaning : A → Meaning) where
           (ap (λ (a : AgentAt A). a.account.receipts) agent) is.begins (entry ∷ [], sym longer) in
           let moves_more : all ≡ q ++ M ∷ [] = ap moves_seen longer
           ∙ mapped_both (λ (x : Entry). x.instrs) seen (entry ∷ []) in
-          let by = fired_by m q reads_named M k (replied (reply.Fired k) q is.reply) in
+          let by = fired_reply m q reads_named M k (replied (reply.Fired k) q is.reply) in
+          let B = after_move m.part (state_of m q) M in
           let first : take (k - 1) all ≡ q = ap (take (k - 1)) moves_more
           ∙ take_at q (M ∷ []) (k - 1) (omega (arith, by.number)) in
           let whole : take k all ≡ take (k - 1) all ++ M ∷ [] =
@@ -368,9 +356,9 @@ module _ {A : Type 0} (meaning : A → Meaning) where
                     whole,
                     subst (λ w. step_move_on own (state_of m w) None step ≡ Ok M) (sym first) stands_q.0,
                     (
-                      by.state,
-                      subst (λ w. fire m.part (state_of m w) M ≡ Ok by.state) (sym first) by.fires,
-                      subst (λ w. fire_blocks m.part (state_of m w) step ≡ Ok by.state) (sym first)
+                      B,
+                      subst (λ w. fire m.part (state_of m w) M ≡ Ok B) (sym first) by.fires,
+                      subst (λ w. fire_blocks m.part (state_of m w) step ≡ Ok B) (sym first)
                           (blocks_fire q same stands_q ∙ ap fired by.fires),
                     ),
                   );
@@ -424,11 +412,31 @@ module _ {A : Type 0} (meaning : A → Meaning) where
             (λ bad. cc bad),
           )
       ended_by_fire (Some reply.Full) is =
+          let all = moves_seen new.account.seen in
+          let by = no_room_by m all reads_named M (replied reply.Full all is.reply) in
+          let before = prefix_mapped (λ (x : Entry). x.instrs) mid.account.seen new.account.seen is.begins in
           let r = receipt_at (length new.account.seen) (call.Fire reads_named M) (answer.Fire reply.Full) in (
             record {
               more = had.more ++ r ∷ [];
               adds = answered_adds reply.Full is.begins is.agent;
-              told = λ same proper. ends (λ e. e.answer ≡ answer.Fire reply.Full) r refl;
+              told = λ same proper.
+                  let stands_here = stands all proper before by.fresh in
+                  let whole = take_all (length all) all (omega arith) in
+                  ends (HasNoRoom own m all step) r (
+                    reads_named,
+                    M,
+                    refl,
+                    refl,
+                    length all,
+                    omega arith,
+                    by.many,
+                    subst (λ q. step_move_on own (state_of m q) None step ≡ Ok M) (sym whole) stands_here.0,
+                    (
+                      by.state,
+                      ap (λ q. fire_blocks m.part (state_of m q) step) whole ∙ blocks_fire all same stands_here
+                          ∙ ap fired by.fires,
+                    ),
+                  );
             },
             (λ bad. cc bad),
           )

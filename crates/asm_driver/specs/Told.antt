@@ -46,6 +46,14 @@ IsClashing own m q step clash e =
     × (n : ℕ) × (n ≤ length q) × (step_move_on own (after m q n) None step ≡ Ok M)
     × (fire_blocks m.part (after m q n) step ≡ Err (Clashes clash))
 
+-- the event is a fire that found no room, of the step's move on the state that some first moves leave, of which there
+-- are as many as the storage takes; the blocks, fired in turn there, leave a state
+abbrev pub HasNoRoom : Meaning → Machine → List Move → Step → Event → Type 0
+HasNoRoom own m q step e =
+    (reads : List Named) × (M : Move) × (e.call ≡ call.Fire reads M) × (e.answer ≡ answer.Fire reply.Full)
+    × (n : ℕ) × (n ≤ length q) × (m.capacity ≤ n) × (step_move_on own (after m q n) None step ≡ Ok M)
+    × ((B : State) × (fire_blocks m.part (after m q n) step ≡ Ok B))
+
 -- on the state that some first moves leave, the step has this fault, and its blocks stop as it tells
 abbrev pub HasFault : Meaning → Machine → List Move → Step → StepFault → Type 0
 HasFault own m q step f = (n : ℕ) × (n ≤ length q) × StandsFor own (after m q n) step (Err f)
@@ -76,7 +84,7 @@ EndsWith P es = (idle : List Event) × (e : Event) × (es ≡ idle ++ e ∷ []) 
 -- the events are those of a step with this outcome, by an aggregator of this meaning
 abbrev pub IsTold : Meaning → Machine → List Move → Step → Outcome → List Event → Type 0
 IsTold own m q step (outcome.Fired k) es = EndsWith (IsFiring own m q step k) es
-IsTold own m q step outcome.Full es = EndsWith (λ e. e.answer ≡ answer.Fire reply.Full) es
+IsTold own m q step outcome.Full es = EndsWith (HasNoRoom own m q step) es
 IsTold own m q step (outcome.Clash clash) es =
     EndsWith (IsClashing own m q step clash) es ⊎ (All IsIdle es × HasFault own m q step (fault.Clash clash))
 IsTold own m q step outcome.Term es = All IsIdle es × HasFault own m q step fault.Term

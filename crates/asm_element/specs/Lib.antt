@@ -1,4 +1,5 @@
 pub mod Tests
+pub mod Ascending
 pub mod Element
 pub mod Place
 pub mod Set

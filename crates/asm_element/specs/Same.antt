@@ -1,5 +1,5 @@
 -- `==` of elements, locations, sets, bags and values tells whether they are the same.
-use Rattle.std.specs.Prelude.{◌≡◌, ℕ, Bool, true, false, ◌&&◌, ◌==◌, List, [], ◌∷◌, refl}
+use Rattle.std.specs.Prelude.{◌≡◌, ℕ, Bool, true, ◌&&◌, ◌==◌, List, [], ◌∷◌, refl}
 use Rattle.std.proofs.Common.{sym, ap, ◌∙◌}
 use Rattle.std.specs.Cmp.{IsEquivalence, Equal-is, decided, unsigned_Decides}
 use Rattle.std.specs.Cmp.Lexicographic.{pointwise}

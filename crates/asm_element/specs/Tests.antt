@@ -1,7 +1,7 @@
 -- Laws of tests and answers that the proofs of several crates share; what std has stands here under the same names.
-use Rattle.std.specs.Prelude.{◌≡◌, Bool, true, false, cond, not, ◌||◌, ◌&&◌, Option, Some}
+use Rattle.std.specs.Prelude.{◌≡◌, Bool, true, false, cond, not, ◌||◌, Option, Some}
 use Rattle.std.specs.Prelude.{Result, Ok, Err, OnErr, is_some, refl}
-use Rattle.std.proofs.Common.{sym, ap, ◌∙◌}
+use Rattle.std.proofs.Common.{sym, ◌∙◌}
 use Rattle.std.proofs.lemmas.Bool.{false≢true}
 use Rattle.std.specs.declared.cmp.Ordering.{Ordering}
 use Rattle.std.specs.Ordering.{eq_by_cmp}

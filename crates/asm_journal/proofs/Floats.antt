@@ -49,7 +49,7 @@ element_no_float (elements.Text s) = refl
 count_no_float : (p : Element × ℕ) → has_float (count_json_of p) ≡ false
 count_no_float p = rw (element_no_float p.0) refl
 
-location_no_float : (p : Place) → has_float (location_json_of p) ≡ false
+pub location_no_float : (p : Place) → has_float (location_json_of p) ≡ false
 location_no_float p = list_no_float element_json_of element_no_float p.args
 
 value_no_float : (v : Value) → has_float (value_json_of v) ≡ false
@@ -57,7 +57,7 @@ value_no_float (values.Plain x) = element_no_float x
 value_no_float (values.Set s) = rw (list_no_float element_json_of element_no_float (set.elements s)) refl
 value_no_float (values.Bag b) = rw (list_no_float count_json_of count_no_float (bag.entries b)) refl
 
-pair_no_float : (e : Place × Value) → has_float (pair_json_of e) ≡ false
+pub pair_no_float : (e : Place × Value) → has_float (pair_json_of e) ≡ false
 pair_no_float e = rw (location_no_float e.0, value_no_float e.1) refl
 
 instruction_no_float : (i : Instruction) → has_float (instruction_json_of i) ≡ false

@@ -1,8 +1,6 @@
 -- Sets, bags and states from lists, from the last item to the first.
-use Rattle.std.proofs.Common.{◌≡◌, ◌<◌, ◌≤◌, ◌+◌, ℕ, zero, suc, Bool, true, false, cond, ◌||◌, not, List, [], ◌∷◌, ◌++◌, Option, Some, None, unwrap_or, refl, sym, ap, subst, ◌∙◌, append_assoc, true≢false, arith}
+use Rattle.std.proofs.Common.{◌≡◌, ◌<◌, ◌≤◌, ◌+◌, ℕ, zero, suc, Bool, true, false, cond, ◌||◌, not, List, [], ◌∷◌, ◌++◌, Option, Some, unwrap_or, refl, sym, ap, subst, ◌∙◌, append_assoc, true≢false, arith}
 use Rattle.std.specs.Prelude.{nat_lt, is_some}
-use Rattle.std.specs.Borrow.{Bor}
-use Rattle.std.specs.Option.{option_copied}
 use Rattle.std.specs.List.{IsDistinct, list_any, AllByRecursion}
 use Rattle.std.specs.Map.{keys_of}
 use Rattle.std.specs.Ordering.{eq_by_cmp}
@@ -129,10 +127,6 @@ bag-more p done b c made above none put =
     (more_distinct element_cmp p.0 (keys_of done) new made.0, put ∙ ap (bag.set_count b p.0) sum ∙ ap (λ r. bag.set_count r p.0 p.1) made.1)
 
 -- ---- states
-
-pub some_copied : {X : Type 0} (o : Option (Bor X)) → is_some (option_copied o) ≡ is_some o
-some_copied None = refl
-some_copied (Some x) = refl
 
 -- the locations that were seen are those of the list
 abbrev pub AreSeen : Updates → List (Place × Value) → Type 0

@@ -1,16 +1,16 @@
 -- Sets, bags and states are those of their entries, and no key of them stands twice.
-use Rattle.std.proofs.Common.{◌≡◌, ◌<◌, ℕ, zero, suc, Bool, true, false, cond, ◌&&◌, List, [], ◌∷◌}
-use Rattle.std.proofs.Common.{Some, None, T, refl, sym, ap, ◌∙◌, arith}
+use Rattle.std.proofs.Common.{◌≡◌, ◌<◌, ℕ, zero, suc, false, cond, List, [], ◌∷◌}
+use Rattle.std.proofs.Common.{Some, None, T, sym, ap, ◌∙◌, arith}
 use Rattle.std.specs.Prelude.{All}
 use Rattle.std.specs.FinMap as finite
 use Rattle.std.specs.FinMap.Entries.{is_sorted, below_all}
 use Rattle.std.specs.List.{AllByRecursion}
 use Rattle.std.specs.Map.{keys_of, values_of}
-use Rattle.std.specs.Ordering.{eq_by_cmp, is_lt, is_eq}
+use Rattle.std.specs.Ordering.{eq_by_cmp}
 use Rattle.std.specs.declared.cmp.Ordering.{Ordering}
-use Rattle.std.specs.declared.cmp.Ordering.TheVariants.{Less, Equal, Greater}
 use Rattle.std.proofs.lemmas.List.Elements.{recursion_from_All}
 use Rattle.std.proofs.lemmas.Map.Keys.{IsDistinct-cons}
+use Rattle.asm_element.specs.Ascending.{both_T, less_apart}
 use Rattle.asm_element.specs.Element.{element_cmp, element_cmp_total, element_cmp-IsAntisymmetric}
 use Rattle.asm_element.specs.Place.{Place, location_cmp}
 use Rattle.asm_element.specs.Value as value
@@ -29,27 +29,18 @@ use Rattle.asm_journal.proofs.Gathered.{none_distinct}
 
 -- ---- keys
 
-both_true : (a b : Bool) → T (a && b) → T a × T b
-both_true true b h = (tt, h)
-both_true false b h = absurd h
-
-below : (r : Ordering) → T (is_lt r) → is_eq r ≡ false
-below Less h = refl
-below Equal h = absurd h
-below Greater h = absurd h
-
 module _ {K X : Type 0} (cmp : K → K → Ordering) where
   others : (k : K) (es : List (K × X)) → T (below_all cmp k es)
       → AllByRecursion (λ y. eq_by_cmp cmp k y ≡ false) (keys_of es)
   others k [] h = tt
   others k (e ∷ es) h =
-      let parts = both_true _ _ h in
-      (below (cmp k e.0) parts.0, others k es parts.1)
+      let parts = both_T _ _ h in
+      (less_apart (cmp k e.0) parts.0, others k es parts.1)
 
   distinct : (es : List (K × X)) → T (is_sorted cmp es) → AreDistinct cmp (keys_of es)
   distinct [] h = none_distinct cmp
   distinct (e ∷ es) h =
-      let parts = both_true _ _ h in
+      let parts = both_T _ _ h in
       IsDistinct-cons (eq_by_cmp cmp) e.0 (keys_of es) (others e.0 es parts.0) (distinct es parts.1)
 
 -- what holds of the keys and of the values holds of the entries

@@ -1,12 +1,11 @@
 -- Legal histories, event by event, and the check of one event.
-use Rattle.std.proofs.Common.{◌≡◌, ◌↔◌, ◌<◌, ◌+◌, ℕ, suc, Bool, true, false, List, [], ◌∷◌, ◌++◌, length, get_or, take, drop, map, Option, Some, None, Ok, nat_lt, cond, refl, sym, ap, ap₂, subst, ◌∙◌, append_assoc, append-nil, arith}
+use Rattle.std.proofs.Common.{◌≡◌, ◌↔◌, ◌<◌, ◌+◌, ℕ, suc, Bool, true, false, List, [], ◌∷◌, ◌++◌, length, get_or, take, drop, map, Option, Some, None, Ok, nat_lt, cond, refl, sym, ap, ap₂, subst, ◌∙◌, append-nil, arith}
 use Rattle.std.specs.Prelude.{IsTrue}
 use Rattle.std.specs.List.{cons_option}
 use Rattle.std.proofs.Math.Seq.{split_at}
 use Rattle.std.proofs.lemmas.Bool.{true≢false}
 use Rattle.std.proofs.lemmas.Bool.Decides.{nat_tests}
 use Rattle.std.proofs.lemmas.List.{take_more, length-take-le}
-use Rattle.std.proofs.lemmas.List.Elements.{filter_map-append}
 use Rattle.asm_element.specs.Place.{Place}
 use Rattle.asm_element.specs.declared.value.Value.{Value}
 use Rattle.asm_update.specs.Move.{Move}
@@ -20,7 +19,7 @@ use Rattle.asm_state.specs.declared.verdict.Verdict.{Verdict}
 use Rattle.asm_state.specs.declared.verdict.Verdict.TheVariants as verdict
 use Rattle.asm_state.proofs.Judged.{same_old}
 use Rattle.asm_storage.specs.Machine.{Machine, state_of, reply_to, firing_reply, fire_reply}
-use Rattle.asm_storage.specs.History.{move_of, moves, IsLegal}
+use Rattle.asm_storage.specs.History.{move_of, moves}
 use Rattle.asm_storage.specs.declared.call.Call.{Call}
 use Rattle.asm_storage.specs.declared.call.Call.TheVariants as call
 use Rattle.asm_storage.specs.declared.call.Reply.{Reply}
@@ -28,29 +27,11 @@ use Rattle.asm_storage.specs.declared.call.Reply.TheVariants as reply
 use Rattle.asm_storage.specs.declared.call.Answer.{Answer}
 use Rattle.asm_storage.specs.declared.call.Answer.TheVariants as answer
 use Rattle.asm_storage.specs.declared.history.Event.{Event}
+use Rattle.asm_storage.proofs.Legal.{IsLegalFrom, legal-append, legal-from}
 use Rattle.asm_journal.specs.Check.{machine, IsFirstWrong, verdict_reply, is_fired, IsStep}
 use Rattle.asm_journal.proofs.Moves.{moves-push}
 
 -- ---- legal from some moves on
-
--- each answer is the reply after the moves and those of the events before it
-abbrev pub IsLegalFrom : Machine → List Move → List Event → Type 0
-IsLegalFrom m q [] = Unit {0}
-IsLegalFrom m q (e ∷ h) = (e.answer ≡ reply_to m q e.call) × IsLegalFrom m (q ++ moves (e ∷ [])) h
-
-moves-cons : (q : List Move) (e : Event) (h : List Event) → (q ++ moves (e ∷ [])) ++ moves h ≡ q ++ moves (e ∷ h)
-moves-cons q e h = append_assoc q (moves (e ∷ [])) (moves h) ∙ ap (λ r. q ++ r) (sym (filter_map-append move_of (e ∷ []) h))
-
-legal-append : (m : Machine) (q : List Move) (g h : List Event) → IsLegalFrom m q g → IsLegalFrom m (q ++ moves g) h → IsLegalFrom m q (g ++ h)
-legal-append m q [] h left right = subst (λ r. IsLegalFrom m r h) (append-nil q) right
-legal-append m q (e ∷ g) h left right = (left.0, legal-append m (q ++ moves (e ∷ [])) g h left.1 (subst (λ r. IsLegalFrom m r h) (sym (moves-cons q e g)) right))
-
-legal_at : (m : Machine) (q : List Move) (before after : List Event) (e : Event) → IsLegalFrom m q (before ++ e ∷ after) → e.answer ≡ reply_to m (q ++ moves before) e.call
-legal_at m q [] after e legal = subst (λ r. e.answer ≡ reply_to m r e.call) (sym (append-nil q)) legal.0
-legal_at m q (b ∷ before) after e legal = subst (λ r. e.answer ≡ reply_to m r e.call) (moves-cons q b before) (legal_at m (q ++ moves (b ∷ [])) before after e legal.1)
-
-pub legal_from : (m : Machine) (h : List Event) → IsLegalFrom m [] h → IsLegal m h
-legal_from m h legal before after e is = legal_at m [] before after e (subst (IsLegalFrom m []) (sym is) legal)
 
 legal-push : (m : Machine) (h : List Event) (e : Event) → IsLegalFrom m [] h → e.answer ≡ reply_to m (moves h) e.call → IsLegalFrom m [] (h ++ e ∷ [])
 legal-push m h e left right = legal-append m [] h (e ∷ []) left (right, tt)
@@ -79,7 +60,7 @@ module _ (part : Part) (init : State) (capacity : ℕ) (events : List Event) (i 
     after = drop (suc i) events;
     stands = ap (λ x. take i events ++ x ∷ drop (suc i) events) here ∙ sym (split_at events i e within);
     counted = length-take-le i events (omega (arith, within));
-    legal = legal_from (machine part init capacity) (take i events) checked.1;
+    legal = legal-from (machine part init capacity) (take i events) checked.1;
     wrong = subst (IsStep part capacity e old new) false_is step init (moves (take i events)) checked.0;
   }
 

@@ -1,10 +1,9 @@
 -- The moves of a history, one event at a time, and firing them.
-use Rattle.std.proofs.Common.{◌≡◌, Bool, true, false, cond, List, [], ◌∷◌, ◌++◌, Some, None, refl, sym, ap, ◌∙◌, append-nil}
+use Rattle.std.proofs.Common.{◌≡◌, Bool, true, false, cond, List, [], ◌∷◌, ◌++◌, Some, refl, sym, ap, ◌∙◌}
 use Rattle.std.specs.Prelude.{T}
 use Rattle.std.specs.List.{cons_option}
 use Rattle.std.specs.Ordering.{eq_by_cmp}
 use Rattle.std.specs.FinMap as finite
-use Rattle.std.specs.FinMap.Entries
 use Rattle.std.proofs.lemmas.List.Elements.{filter_map-append}
 use Rattle.asm_element.specs.declared.value.Value.{Value}
 use Rattle.asm_element.specs.Place.{Place, location_cmp, same_location}
@@ -13,7 +12,7 @@ use Rattle.asm_update.specs.State.{State, Updates, val, write, overwrite}
 use Rattle.asm_update.specs.Fire.{Part, state_or, IsUpdateSet, IsLeastClash}
 use Rattle.asm_update.specs.declared.clash.Clash.{Clash}
 use Rattle.asm_update.proofs.FireLemmas.{fire_updates, fire_clash, stored, stored_or, get-write, get-overwrite, same_state}
-use Rattle.asm_aggregate.specs.laws.BagAlgebra.{both_T, less_apart}
+use Rattle.asm_element.specs.Ascending.{rising_rest, first_gone}
 use Rattle.asm_state.specs.Stands.{after_move}
 use Rattle.asm_storage.specs.declared.history.Event.{Event}
 use Rattle.asm_storage.specs.History.{move_of, moves}
@@ -22,12 +21,6 @@ use Rattle.asm_storage.specs.History.{move_of, moves}
 
 pub moves-push : (h : List Event) (e : Event) → moves (h ++ e ∷ []) ≡ moves h ++ cons_option (move_of e) []
 moves-push h e = filter_map-append move_of h (e ∷ [])
-
-pub moves-push_fired : (h : List Event) (e : Event) (M : Move) → move_of e ≡ Some M → moves (h ++ e ∷ []) ≡ moves h ++ M ∷ []
-moves-push_fired h e M is = moves-push h e ∙ ap (λ o. moves h ++ cons_option o []) is
-
-pub moves-push_quiet : (h : List Event) (e : Event) → move_of e ≡ None → moves (h ++ e ∷ []) ≡ moves h
-moves-push_quiet h e is = moves-push h e ∙ ap (λ o. moves h ++ cons_option o []) is ∙ append-nil (moves h)
 
 -- ---- the state after a move, from what aggregation answers
 
@@ -44,19 +37,14 @@ abbrev pub written_with : State → List (Place × Value) → State
 written_with A [] = A
 written_with A (e ∷ es) = written_with (write A e.0 e.1) es
 
--- a location below all those of a list isn't among them
-none_below : (l : Place) (es : List (Place × Value)) → T (Entries.below_all location_cmp l es) → finite.find location_cmp l es ≡ None
-none_below l [] h = refl
-none_below l (e ∷ es) h = ap (λ b. cond b (Some e.1) (finite.find location_cmp l es)) (less_apart _ (both_T _ _ h).0) ∙ none_below l es (both_T _ _ h).1
-
 get-written : (A : State) (es : List (Place × Value)) (q : Place) → T (finite.is_sorted location_cmp es) → finite.get (written_with A es) q ≡ stored_or (finite.find location_cmp q es) (finite.get A q)
 get-written A [] q sorted = refl
 get-written A (e ∷ es) q sorted =
-    get-written (write A e.0 e.1) es q (both_T _ _ sorted).1
+    get-written (write A e.0 e.1) es q (rising_rest location_cmp e.0 e.1 es sorted)
     ∙ ap (stored_or (finite.find location_cmp q es)) (get-write A e.0 e.1 q)
     ∙ by_test (eq_by_cmp location_cmp q e.0) refl where
       by_test : (b : Bool) → eq_by_cmp location_cmp q e.0 ≡ b → stored_or (finite.find location_cmp q es) (cond b (stored e.1) (finite.get A q)) ≡ stored_or (cond b (Some e.1) (finite.find location_cmp q es)) (finite.get A q)
-      by_test true is = ap (λ o. stored_or o (stored e.1)) (ap (λ l. finite.find location_cmp l es) (same_location q e.0 is) ∙ none_below e.0 es (both_T _ _ sorted).0)
+      by_test true is = ap (λ o. stored_or o (stored e.1)) (ap (λ l. finite.find location_cmp l es) (same_location q e.0 is) ∙ first_gone location_cmp e.0 e.1 es sorted)
       by_test false is = refl
 
 pub written_updates : (A : State) (U : Updates) → written_with A (finite.entries U) ≡ overwrite A U

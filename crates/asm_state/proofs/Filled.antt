@@ -1,33 +1,11 @@
 -- Entries that come in one by one from a list in ascending order: what is left of the list, over what came in.
-use Rattle.std.proofs.Common.{◌≡◌, Bool, true, false, cond, ◌&&◌, T, List, [], ◌∷◌, Option, Some, None, refl, sym, ap, ◌∙◌, subst}
-use Rattle.std.specs.declared.cmp.Ordering.{Ordering}
-use Rattle.std.specs.declared.cmp.Ordering.TheVariants.{Less, Equal, Greater}
-use Rattle.std.specs.Ordering.{eq_by_cmp, is_eq, is_lt}
+use Rattle.std.proofs.Common.{◌≡◌, Bool, true, false, cond, T, List, ◌∷◌, Option, Some, None, refl, sym, ap, ◌∙◌, subst}
+use Rattle.std.specs.Ordering.{eq_by_cmp}
 use Rattle.std.specs.Option.{option_map}
 use Rattle.std.specs.FinMap as finite
-use Rattle.std.specs.FinMap.Entries.{below_all}
 use Rattle.asm_element.specs.Place.{Place, location_cmp, location_cmp_total, location_cmp-IsAntisymmetric, same_location}
+use Rattle.asm_element.specs.Ascending.{first_gone}
 use Rattle.asm_state.specs.Follow.{over}
-
-first : (a b : Bool) → T (a && b) → T a
-first true b p = tt
-first false b p = p
-
-second : (a b : Bool) → T (a && b) → T b
-second true b p = p
-second false b p = absurd p
-
-pub rising_rest : {X : Type 0} (k : Place) (v : X) (rest : List (Place × X)) → T (finite.is_sorted location_cmp ((k, v) ∷ rest)) → T (finite.is_sorted location_cmp rest)
-rising_rest k v rest h = second _ _ h
-
-apart : (o : Ordering) → T (is_lt o) → is_eq o ≡ false
-apart Less h = refl
-apart Equal h = absurd h
-apart Greater h = absurd h
-
-none_below : {X : Type 0} (k : Place) (es : List (Place × X)) → T (below_all location_cmp k es) → finite.find location_cmp k es ≡ None
-none_below k [] h = refl
-none_below k (e ∷ es) h = ap (λ b. cond b (Some e.1) (finite.find location_cmp k es)) (apart (location_cmp k e.0) (first _ _ h)) ∙ none_below k es (second _ _ h)
 
 over_none : {X : Type 0} (x : Option X) → over x None ≡ x
 over_none (Some w) = refl
@@ -39,7 +17,7 @@ module _ {X Y : Type 0} (f : X → Y) where
       over (option_map f (finite.find location_cmp q rest)) (cond (eq_by_cmp location_cmp q k) (Some (f v)) x) ≡ over (option_map f (finite.find location_cmp q ((k, v) ∷ rest))) x
   over_step k v rest q x sorted = by_test (eq_by_cmp location_cmp q k) refl where
     by_test : (b : Bool) → eq_by_cmp location_cmp q k ≡ b → over (option_map f (finite.find location_cmp q rest)) (cond b (Some (f v)) x) ≡ over (option_map f (cond b (Some v) (finite.find location_cmp q rest))) x
-    by_test true e = ap (λ o. over (option_map f o) (Some (f v))) (ap (λ p. finite.find location_cmp p rest) (same_location q k e) ∙ none_below k rest (first _ _ sorted))
+    by_test true e = ap (λ o. over (option_map f o) (Some (f v))) (ap (λ p. finite.find location_cmp p rest) (same_location q k e) ∙ first_gone location_cmp k v rest sorted)
     by_test false e = refl
 
   -- the same of an insertion

@@ -12,7 +12,7 @@ use Rattle.asm_storage.specs.declared.receipt.Entry.{Entry}
 use Rattle.asm_update.specs.Move.{Move}
 use Rattle.asm_storage.specs.Machine.{Machine, reply_to}
 use Rattle.asm_storage.specs.History.{fired_move, moves, move_of}
-use Rattle.asm_storage.specs.Agents.{AgentView, moves_seen, is_fired, next_after, StandInOrder, StandsInRow, IsAgent, event_of, is_quiet_at, is_move_at, quiet_at, fired_at, round, rounds, has_receipt, IsGathered}
+use Rattle.asm_storage.specs.Agents.{AgentView, ids, moves_seen, is_fired, next_after, StandInOrder, StandsInRow, IsAgent, event_of, is_quiet_at, is_move_at, quiet_at, fired_at, round, rounds, has_receipt, IsGathered}
 use Rattle.asm_storage.proofs.Lists.{Each-map_filter, Each-flat_map, Each-weaker, slice_get-prefix, slice_get-lt, slice_get-map, take-slice_get}
 use Rattle.asm_storage.proofs.Kept.{stood_le, next_fired, stood_within, take-moves_seen}
 use Rattle.asm_storage.proofs.Legal.{IsLegalFrom, legal-append, legal_quiet, moves-append}
@@ -101,9 +101,6 @@ rises_above x [] rises = tt
 rises_above x (y ∷ xs) rises =
     let first : x < y = rises 0 (omega arith) in
     (first, Each-weaker (λ z. y < z) (λ z. x < z) (λ z lt. omega (arith, lt, first)) xs (rises_above y xs (rises_tail x (y ∷ xs) rises)))
-
-abbrev ids : List AgentView → List ℕ
-ids agents = map (λ a. a.id) agents
 
 no_events : (f : AgentView → List Event) (i : ℕ) (agents : List AgentView) → AllByRecursion (λ j. i < j) (ids agents) → AllByRecursion (λ a. (f a ≡ []) ⊎ (a.id ≡ i)) agents → flat_map f agents ≡ []
 no_events f i [] above each = refl

@@ -29,10 +29,10 @@ use Rattle.asm_storage.proofs.Legal.{IsLegalFrom, moves-append}
 
 -- what Fired tells
 pub record IsFiredReply (m : Machine) (q : List Move) (reads : List Named) (M : Move) (k : ℕ) : Type 0 where
-  number : k ≡ length q + 1
-  room : length q < m.capacity
-  fires : fire m.part (state_of m q) M ≡ Ok (after_move m.part (state_of m q) M)
-  fresh : least_stale m.part m.init q reads ≡ None
+  pub number : k ≡ length q + 1
+  pub room : length q < m.capacity
+  pub fires : fire m.part (state_of m q) M ≡ Ok (after_move m.part (state_of m q) M)
+  pub fresh : least_stale m.part m.init q reads ≡ None
 
 taken_fired : (capacity number k : ℕ) → reply.Fired k ≡ taken_reply capacity number → (k ≡ number + 1) × (number < capacity)
 taken_fired capacity number k = here (nat_lt number capacity) refl where
@@ -122,7 +122,7 @@ stays k (l ∷ ls) none = here (is_lt (location_cmp l k)) none (stays l ls) (sta
   here false e one other = other e
 
 -- where none is stale, no named location is
-fresh_each : (test : Named → Bool) (reads : List Named) → least (map (λ (r : Named). r.at) (filter test reads)) ≡ None → AllByRecursion (λ r. test r ≡ false) reads
+pub fresh_each : (test : Named → Bool) (reads : List Named) → least (map (λ (r : Named). r.at) (filter test reads)) ≡ None → AllByRecursion (λ r. test r ≡ false) reads
 fresh_each test [] none = tt
 fresh_each test (r ∷ reads) none = here (test r) refl none (fresh_each test reads) where
   here : (b : Bool) → test r ≡ b → least (map (λ (r : Named). r.at) (cond b (r ∷ filter test reads) (filter test reads))) ≡ None → (least (map (λ (r : Named). r.at) (filter test reads)) ≡ None → AllByRecursion (λ r. test r ≡ false) reads) → (test r ≡ false) × AllByRecursion (λ r. test r ≡ false) reads

@@ -1,10 +1,10 @@
 -- That firing as a function, and as what holds of each location, are the same.
-use Rattle.std.proofs.Common.{◌≡◌, ◌↔◌, Bool, true, false, cond, ◌||◌, ◌&&◌, List, [], ◌∷◌, map, Option, Some, None, refl, sym, ap, subst, ◌∙◌, unwrap_or}
+use Rattle.std.proofs.Common.{◌≡◌, ◌↔◌, Bool, true, false, cond, ◌||◌, List, [], ◌∷◌, map, Option, Some, None, refl, sym, ap, subst, ◌∙◌, unwrap_or}
 use Rattle.std.specs.Prelude.{Result, Ok, Err, IsOk, IsSomeAnd, T, is_some}
 use Rattle.std.specs.List.{list_any}
 use Rattle.std.specs.declared.cmp.Ordering.{Ordering}
 use Rattle.std.specs.declared.cmp.Ordering.TheVariants.{Less, Equal, Greater}
-use Rattle.std.specs.Ordering.{eq_by_cmp, is_eq, is_lt, is_gt, ordering_reverse}
+use Rattle.std.specs.Ordering.{eq_by_cmp, is_eq, is_gt, ordering_reverse}
 use Rattle.std.specs.FinMap as finite
 use Rattle.std.specs.FinMap.Entries
 use Rattle.std.proofs.lemmas.Bool.{false≢true}
@@ -16,6 +16,7 @@ use Rattle.asm_update.specs.State.{State, Updates, val, write, write_all, overwr
 use Rattle.asm_update.specs.Fire.{Part, Old, Outcome, outcome_at, written, locations, gathered, aggregated, overwritten, fire, IsUpdateSet, IsLeastClash}
 use Rattle.asm_update.specs.declared.clash.Clash.{Clash}
 use Rattle.asm_element.specs.Value.{undef_is}
+use Rattle.asm_element.specs.Ascending.{both_T, is_less}
 use Rattle.asm_element.specs.Tests.{flipped, itself, is_some-cond, ok_is, err_is, or_right}
 
 -- what a state holds for a value
@@ -49,7 +50,7 @@ pub same_state : (A B : State) → ((q : Place) → finite.get A q ≡ finite.ge
 same_state A B is = finite.same_map location_cmp_total location_cmp-IsAntisymmetric A B is
 
 -- whether a location stands in a list
-abbrev is_in : List Place → Place → Bool
+abbrev pub is_in : List Place → Place → Bool
 is_in ls q = list_any (eq_by_cmp location_cmp q) ls
 
 has_written : (M : Move) (q : Place) → is_some (finite.get (written M) q) ≡ writes M q
@@ -67,32 +68,19 @@ abbrev Rising : List Place → Type 0
 Rising [] = Unit {0}
 Rising (l ∷ ls) = ((q : Place) → is_in ls q ≡ true → location_cmp l q ≡ Less) × Rising ls
 
-first_of : (a b : Bool) → T (a && b) → T a
-first_of true b p = tt
-first_of false b p = absurd p
-
-second_of : (a b : Bool) → T (a && b) → T b
-second_of true b p = p
-second_of false b p = absurd p
-
-is_less : (o : Ordering) → T (is_lt o) → o ≡ Less
-is_less Less p = refl
-is_less Equal p = absurd p
-is_less Greater p = absurd p
-
-abbrev places : {X : Type 0} → List (Place × X) → List Place
+abbrev pub places : {X : Type 0} → List (Place × X) → List Place
 places es = map (λ e. e.0) es
 
 below_each : {X : Type 0} (x : Place) (es : List (Place × X)) (q : Place) → T (Entries.below_all location_cmp x es) → is_in (places es) q ≡ true → location_cmp x q ≡ Less
 below_each x [] q h k = cc
-below_each x (e ∷ es) q h k = by_test (eq_by_cmp location_cmp q e.0) refl k (below_each x es q (second_of _ _ h)) where
+below_each x (e ∷ es) q h k = by_test (eq_by_cmp location_cmp q e.0) refl k (below_each x es q (both_T _ _ h).1) where
   by_test : (b : Bool) → eq_by_cmp location_cmp q e.0 ≡ b → (b || is_in (places es) q) ≡ true → (is_in (places es) q ≡ true → location_cmp x q ≡ Less) → location_cmp x q ≡ Less
-  by_test true is k later = ap (location_cmp x) (same_location q e.0 is) ∙ is_less _ (first_of _ _ h)
+  by_test true is k later = ap (location_cmp x) (same_location q e.0 is) ∙ is_less _ (both_T _ _ h).0
   by_test false is k later = later k
 
 rising : {X : Type 0} (es : List (Place × X)) → T (finite.is_sorted location_cmp es) → Rising (places es)
 rising [] h = tt
-rising (e ∷ es) h = (λ q. below_each e.0 es q (first_of _ _ h), rising es (second_of _ _ h))
+rising (e ∷ es) h = (λ q. below_each e.0 es q (both_T _ _ h).0, rising es (both_T _ _ h).1)
 
 rising_locations : (M : Move) → Rising (locations M)
 rising_locations M = rising (finite.entries (written M)) (finite.entries_sorted (written M))

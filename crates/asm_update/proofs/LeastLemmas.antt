@@ -1,5 +1,5 @@
 -- The least location, among the first instructions, that has two values.
-use Rattle.std.proofs.Common.{◌≡◌, ℕ, suc, ◌+◌, ◌<◌, Bool, true, false, cond, [], ◌∷◌, length, get_or, below_more, MatchOption, Option, Some, None, Bor, ◌≤◌, refl, sym, ap, subst, ◌∙◌, arith, inl, inr, ⊎_elim}
+use Rattle.std.proofs.Common.{◌≡◌, ℕ, suc, ◌+◌, ◌<◌, true, false, cond, [], ◌∷◌, length, get_or, below_more, MatchOption, Option, Some, None, Bor, ◌≤◌, refl, sym, ap, subst, ◌∙◌, arith, inl, inr, ⊎_elim}
 use Rattle.std.specs.Prelude.{◌⊎◌}
 use Rattle.std.specs.Prelude as list
 use Rattle.std.specs.List.{filter_map}

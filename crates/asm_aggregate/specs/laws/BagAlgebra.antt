@@ -2,9 +2,7 @@
 use Rattle.std.proofs.Common.{◌≡◌, ℕ, zero, suc, ◌+◌, ◌<◌, ◌^◌, Bool, true, false, cond, ◌&&◌, ◌||◌, List, [], ◌∷◌}
 use Rattle.std.proofs.Common.{map, refl, sym, ap, subst, ◌∙◌, arith, add-zero, zero-add, nat_lt}
 use Rattle.std.specs.Prelude.{Option, None, Some, unwrap_or, IfSome, is_some, sum_by, All, IsPermutation, T}
-use Rattle.std.specs.declared.cmp.Ordering.{Ordering}
-use Rattle.std.specs.declared.cmp.Ordering.TheVariants.{Less, Equal, Greater}
-use Rattle.std.specs.Ordering.{eq_by_cmp, is_lt, is_eq}
+use Rattle.std.specs.Ordering.{eq_by_cmp}
 use Rattle.std.specs.List.{list_any, list_all}
 use Rattle.std.specs.FinMap as finite
 use Rattle.std.specs.FinMap.Entries.{is_sorted, below_all, is_some-find, find}
@@ -14,6 +12,7 @@ use Rattle.std.proofs.lemmas.List.Folds.{list_all-append}
 use Rattle.std.proofs.lemmas.List.Sums.{sum_by-append}
 use Rattle.std.proofs.lemmas.Map.Views.{All-from_any}
 use Rattle.asm_element.specs.Element as element
+use Rattle.asm_element.specs.Ascending.{both_T, not_among}
 use Rattle.asm_element.specs.Tests.{itself, neither}
 use Rattle.asm_element.specs.Element.{element_cmp, element_cmp_total, element_cmp-IsAntisymmetric, element_eq-equiv}
 use Rattle.asm_element.specs.declared.element.Element.{Element}
@@ -90,16 +89,6 @@ pub get-set_count : (b : ElementBag) (e : Element) (n : ℕ) (q : Element) →
 get-set_count b e zero q = finite.get-remove element_cmp_total b e q
 get-set_count b e (suc n) q = finite.get-insert element_cmp_total b e (suc n) q
 
-counted_at : (b : Bool) (x y : Option ℕ) → unwrap_or (cond b x y) 0 ≡ cond b (unwrap_or x 0) (unwrap_or y 0)
-counted_at true x y = refl
-counted_at false x y = refl
-
-pub count-set_count : (b : ElementBag) (e : Element) (n : ℕ) (q : Element) →
-    count (set_count b e n) q ≡ cond (eq_by_cmp element_cmp q e) n (count b q)
-count-set_count b e n q =
-    ap (λ o. unwrap_or o 0) (get-set_count b e n q) ∙ counted_at (eq_by_cmp element_cmp q e) (held n) (finite.get b q)
-    ∙ ap (λ m. cond (eq_by_cmp element_cmp q e) m (count b q)) (held_count n)
-
 get-recounted : (b : ElementBag) (f : Element → ℕ) (es : List Element) (q : Element) →
     finite.get (recounted b f es) q ≡ cond (has q es) (held (f q)) (finite.get b q)
 get-recounted b f [] q = refl
@@ -169,22 +158,6 @@ same_counts b c h = finite.same_map element_cmp_total element_cmp-IsAntisymmetri
 abbrev first_of : {X : Type 0} → List (Element × X) → List Element
 first_of es = map (λ e. e.0) es
 
-pub both_T : (b c : Bool) → T (b && c) → T b × T c
-both_T true c h = (tt, h)
-both_T false c h = absurd h
-
-pub less_apart : (o : Ordering) → T (is_lt o) → is_eq o ≡ false
-less_apart Less h = refl
-less_apart Equal h = absurd h
-less_apart Greater h = refl
-
-not_below : {X : Type 0} (k : Element) (es : List (Element × X)) → T (below_all element_cmp k es) →
-    has k (first_of es) ≡ false
-not_below k [] h = refl
-not_below k (e ∷ es) h =
-    let both = both_T (is_lt (element_cmp k e.0)) (below_all element_cmp k es) h in
-    ap (λ b. b || has k (first_of es)) (less_apart (element_cmp k e.0) both.0) ∙ not_below k es both.1
-
 -- the counts of a bag, one by one and at each element
 found_count : (P : ℕ → Type 0) (es : List (Element × ℕ)) (q : Element) → All P (map (λ e. e.1) es) →
     IfSome (find element_cmp q es) P
@@ -209,7 +182,8 @@ all_counts P (e ∷ es) sorted h =
     All-cons P e.1 (map (λ e. e.1) es)
     (subst (λ (b : Bool). IfSome (cond b (Some e.1) (find element_cmp e.0 es)) P) (itself element_cmp_total e.0)
     (h e.0))
-    (all_counts P es both.1 (λ q. at q (eq_by_cmp element_cmp q e.0) refl (not_below e.0 es both.0) (h q))) where
+    (all_counts P es both.1
+    (λ q. at q (eq_by_cmp element_cmp q e.0) refl (not_among element_cmp e.0 es both.0) (h q))) where
       nothing : (o : Option ℕ) → is_some o ≡ false → IfSome o P
       nothing None h = tt
       nothing (Some n) h = cc
@@ -242,7 +216,7 @@ total_sorted : (f : Element → ℕ) (es : List (Element × Unit {0})) (q : Elem
 total_sorted f [] q h = refl
 total_sorted f (e ∷ es) q h =
     let both = both_T (below_all element_cmp e.0 es) (is_sorted element_cmp es) h in
-    at (eq_by_cmp element_cmp q e.0) refl (not_below e.0 es both.0) (total_sorted f es q both.1) where
+    at (eq_by_cmp element_cmp q e.0) refl (not_among element_cmp e.0 es both.0) (total_sorted f es q both.1) where
       at : (b : Bool) → eq_by_cmp element_cmp q e.0 ≡ b → has e.0 (first_of es) ≡ false →
           total f (first_of es) q ≡ cond (has q (first_of es)) (f q) 0 →
           cond b (f e.0) 0 + total f (first_of es) q ≡ cond (b || has q (first_of es)) (f q) 0

@@ -11,11 +11,12 @@ use Rattle.std.proofs.lemmas.List.Elements.{All-head, All-tail}
 use Rattle.std.proofs.lemmas.List.Folds.{list_any-append, list_all-append}
 use Rattle.std.proofs.lemmas.List.Sorted.{list_any-IsPermutation}
 use Rattle.std.proofs.lemmas.Map.Views.{All-from_any}
+use Rattle.asm_element.proofs.SetTree.{contains-insert}
 use Rattle.asm_element.specs.Element as element
 use Rattle.asm_element.specs.Element.{element_cmp, element_cmp_total, element_cmp-IsAntisymmetric, element_eq-equiv}
 use Rattle.asm_element.specs.declared.element.Element.{Element}
-use Rattle.asm_element.specs.Tests.{itself, neither, or_false, or_true, or_swap, is_some-cond}
-use Rattle.asm_element.specs.Set.{ElementSet, empty, contains, insert, remove, elements, from_list, same_set}
+use Rattle.asm_element.specs.Tests.{itself, neither, or_false, or_true, or_swap}
+use Rattle.asm_element.specs.Set.{ElementSet, empty, contains, remove, elements, from_list, same_set}
 use Rattle.asm_update.specs.Action.{is_of, AllProper, IsProper}
 use Rattle.asm_update.specs.declared.action.Action.{Action}
 use Rattle.asm_update.specs.declared.action.Action.TheVariants.{SetAdd, SetRemove}
@@ -52,10 +53,6 @@ no_length (x ∷ xs) h = absurd (omega arith)
 pub elements-empty : elements empty ≡ []
 elements-empty =
     ap (map (λ e. e.0)) (no_length _ (sym (finite.len-entries empty) ∙ finite.len-empty element_cmp (Unit {0})))
-
-pub contains-insert : (s : ElementSet) (e q : Element) →
-    contains (insert s e) q ≡ (eq_by_cmp element_cmp q e || contains s q)
-contains-insert s e q = ap is_some (finite.get-insert element_cmp_total s e tt q) ∙ is_some-cond _ tt (finite.get s q)
 
 pub contains-remove : (s : ElementSet) (e q : Element) →
     contains (remove s e) q ≡ (not (eq_by_cmp element_cmp q e) && contains s q)

@@ -1,4 +1,4 @@
-use Rattle.asm_driver.proofs.Floats.{location_no_float}
+use Rattle.asm_journal.proofs.Floats.{location_no_float}
 use Rattle.asm_driver.proofs.report.push_location.Goals as goal
 
 pub push_json-requires : goal.push_json-requires

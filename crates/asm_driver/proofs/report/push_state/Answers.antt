@@ -5,7 +5,7 @@ use Rattle.asm_element.specs.declared.value.Value.{Value}
 use Rattle.asm_journal.specs.Value.{pair_json_of}
 use Rattle.asm_driver.specs.Report.{entry_line}
 use Rattle.asm_driver.proofs.Lines.{left_more}
-use Rattle.asm_driver.proofs.Floats.{pair_no_float}
+use Rattle.asm_journal.proofs.Floats.{pair_no_float}
 use Rattle.asm_driver.proofs.report.push_state.Goals as goal
 
 pub push_json-requires : goal.push_json-requires

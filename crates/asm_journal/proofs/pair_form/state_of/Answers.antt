@@ -5,7 +5,8 @@ use Rattle.std.proofs.lemmas.List.{map-append}
 use Rattle.asm_element.specs.Place.{Place, location_cmp}
 use Rattle.asm_element.specs.declared.value.Value.{Value}
 use Rattle.asm_update.specs.State.{write}
-use Rattle.asm_journal.proofs.Gathered.{one_back, none_distinct, none_seen, seen-more, state-twice, state-more, some_copied}
+use Rattle.asm_journal.proofs.Gathered.{one_back, none_distinct, none_seen, seen-more, state-twice, state-more}
+use Rattle.asm_storage.proofs.Moves.{some_copied}
 use Rattle.asm_journal.proofs.Values.{places_of}
 use Rattle.asm_journal.proofs.pair_form.state_of.Goals as goal
 

@@ -6,7 +6,7 @@ use Rattle.asm_update.specs.Fire.{state_of}
 use Rattle.asm_state.specs.Stands.{after_move}
 use Rattle.asm_state.proofs.Writers.{state_of-push}
 use Rattle.asm_storage.specs.History.{moves}
-use Rattle.asm_journal.proofs.Moves.{moves-push_fired, moves-push_quiet}
+use Rattle.asm_storage.proofs.Moves.{moves-push_fired, moves-push_quiet}
 use Rattle.asm_journal.proofs.replaying.replay.Goals as goal
 use Rattle.asm_journal.proofs.replaying.replay.Goals.{in-Some+in_ok-fire_or_keep, in_default}
 

@@ -5,7 +5,8 @@ use Rattle.asm_element.specs.Place.{Place, location_cmp, location_cmp_total}
 use Rattle.asm_element.specs.declared.value.Value.{Value}
 use Rattle.asm_state.specs.View.{Entries}
 use Rattle.asm_state.specs.Follow.{written_by, entry_after}
-use Rattle.asm_state.proofs.Filled.{rising_start, rising_rest, insert_step}
+use Rattle.asm_element.specs.Ascending.{rising_rest}
+use Rattle.asm_state.proofs.Filled.{rising_start, insert_step}
 use Rattle.asm_state.proofs.Room.{found_first, room_kept, room_later}
 use Rattle.asm_state.proofs.entries.Entries.fill.Goals as goal
 
@@ -35,7 +36,7 @@ loop-at-preserved c =
     let sorted = subst (λ (es : List (Place × Value)). T (finite.is_sorted location_cmp es)) step before.rising in
     let inserted = c.put_over.ensures ∙ ap (λ w. finite.insert old k w) c.by.ensures in
     record {
-      rising = rising_rest k v rest sorted;
+      rising = rising_rest location_cmp k v rest sorted;
       room = λ q h.
           ap (λ (m : Entries). is_some (finite.get m q)) inserted ∙ ap is_some (finite.get-insert location_cmp_total old k (written_by n v) q)
           ∙ room_kept (eq_by_cmp location_cmp q k) (written_by n v) (finite.get old q) (before.room q (ap (λ (es : List (Place × Value)). is_some (finite.find location_cmp q es)) step ∙ room_later (eq_by_cmp location_cmp q k) v (finite.find location_cmp q rest) h));

@@ -4,7 +4,8 @@ use Rattle.std.specs.Option.{option_map}
 use Rattle.asm_element.specs.Place.{Place, location_cmp}
 use Rattle.asm_element.specs.declared.value.Value.{Value}
 use Rattle.asm_state.specs.Follow.{over}
-use Rattle.asm_state.proofs.Filled.{rising_start, rising_rest, over_start, insert_step}
+use Rattle.asm_element.specs.Ascending.{rising_rest}
+use Rattle.asm_state.proofs.Filled.{rising_start, over_start, insert_step}
 use Rattle.asm_state.proofs.Opened.{opened, opened_stands, opened_stored}
 use Rattle.asm_state.proofs.state.State.new.Goals as goal
 
@@ -25,7 +26,7 @@ loop-at-preserved c =
     let step = c.in-Some.ensures.steps in
     let sorted = subst (λ (es : List (Place × Value)). T (finite.is_sorted location_cmp es)) step before.rising in
     record {
-      rising = rising_rest k v rest sorted;
+      rising = rising_rest location_cmp k v rest sorted;
       done = λ q.
           insert_step opened k v rest c.loop-at.entries c.put.new.self k (opened v) c.in_ok-put.ensures.ok (λ _. k) (λ _. opened v) sorted q
           ∙ ap (λ (es : List (Place × Value)). over (option_map opened (finite.find location_cmp q es)) (finite.get c.loop-at.entries q)) (sym step) ∙ before.done q;
