@@ -11,7 +11,7 @@ use Rattle.asm_element.specs.declared.value.Value.{Value}
 use Rattle.asm_element.specs.declared.value.Value.TheVariants as values
 use Rattle.asm_element.specs.Bag.{ElementBag, count}
 use Rattle.asm_element.specs.Bag as bag
-use Rattle.asm_update.specs.Answer.{IsOutcome, IsJoined}
+use Rattle.asm_update.specs.Aggregator.{IsOutcome, IsJoined}
 use Rattle.asm_update.specs.Action.{is_of}
 use Rattle.asm_update.specs.Aggregator.{Joined, Refused, TooLarge}
 use Rattle.asm_update.specs.Fire.{Outcome}

@@ -14,7 +14,7 @@ use Rattle.asm_element.specs.Tests.{itself}
 use Rattle.asm_element.specs.declared.value.Value.{Value}
 use Rattle.asm_update.specs.Action.{is_partial, regular_value, IsProperInstruction}
 use Rattle.asm_update.specs.Aggregator.{Meaning, AggregatorLaws, Joined, Refusal, Refused, TooLarge}
-use Rattle.asm_update.specs.Answer.{IsJoined}
+use Rattle.asm_update.specs.Aggregator.{IsJoined}
 use Rattle.asm_update.specs.Fire.{first, written, locations}
 use Rattle.asm_update.specs.Move.{Move, actions_at, writes}
 use Rattle.asm_update.specs.declared.action.Action.{Action}

@@ -14,7 +14,7 @@ use Rattle.asm_element.specs.declared.value.Value.{Value}
 use Rattle.asm_update.specs.Move.{Move, actions_at, writes}
 use Rattle.asm_update.specs.State.{Updates}
 use Rattle.asm_update.specs.Fire.{Part, Old, Outcome, outcome_at, IsUpdateSet, IsLeastClash}
-use Rattle.asm_update.specs.Answer.{IsOutcome}
+use Rattle.asm_update.specs.Aggregator.{IsOutcome}
 use Rattle.asm_update.specs.declared.clash.AggError.{AggError}
 use Rattle.asm_update.specs.declared.clash.AggError.TheVariants.{Clash as Clashes, Memory}
 use Rattle.asm_update.specs.declared.clash.Cause.{Cause}

@@ -1,6 +1,6 @@
 ghost use Rattle.std.specs.Prelude.{◌≡◌, OnOk};
 ghost use Rattle.std.specs.FinMap as finite;
-ghost use Rattle.asm_update.specs.Answer.{IsOutcome};
+ghost use Rattle.asm_update.specs.Aggregator.{IsOutcome};
 ghost use Rattle.asm_update.specs.declared.clash.AggError.TheVariants as agg_error;
 ghost use Rattle.asm_update.specs.declared.clash.Clash as clashes;
 ghost use Rattle.asm_update.specs.declared.errors.ResultError.TheVariants as result_error;

@@ -1,6 +1,6 @@
 use crate::tests::Act::{self, Add, BagAdd, BagRemove, Remove};
 use crate::tests::Old::{self, Bag, Num, Set};
-use crate::tests::{do_at, is_clash, is_wanted, pairs, put_at, state_of};
+use crate::tests::{do_at, is_clash, is_wanted, location, pairs, put_at, state_of};
 use crate::*;
 use asm_update::{Aggregator, Cause, Instructions};
 use std::alloc::{AllocError, Global};
@@ -308,4 +308,16 @@ static BY_PAIRS: [Row; 2] = [
 fn any_aggregator_composes(rt: HostRuntime) -> Result<(), Fail> {
     compose_all(&rt, rt.alloc(), &SetAgg, &BY_SETS)?;
     compose_all(&rt, rt.alloc(), &pairs(), &BY_PAIRS)
+}
+
+#[test]
+fn errors_have_their_texts(rt: HostRuntime) -> Result<(), Fail> {
+    let alloc = rt.alloc();
+    let large = ComposeError::Large(location(alloc, "b")?).to_string(alloc)?;
+    assert!(rt; large.as_str() == "a composed amount is above 4,294,967,295");
+    let many = ComposeError::ManyInstructions.to_string(alloc)?;
+    assert!(rt; many.as_str() == "more than 4,096 instructions");
+    let memory = ComposeError::Memory.to_string(alloc)?;
+    assert!(rt; memory.as_str() == "out of memory");
+    Ok(())
 }

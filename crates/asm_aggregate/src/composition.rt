@@ -1,6 +1,6 @@
 ghost use Rattle.std.specs.Prelude.{◌≡◌, ◌≢◌, ◌++◌, ◌∷◌, [], OnOk, Ok, Some, None, IsSome};
 ghost use Rattle.asm_update.specs.Aggregator.{after};
-ghost use Rattle.asm_update.specs.Answer.{IsOutcome, IsJoined};
+ghost use Rattle.asm_update.specs.Aggregator.{IsOutcome, IsJoined};
 ghost use Rattle.asm_update.specs.Fire.{Outcome};
 ghost use Rattle.asm_update.specs.declared.action.Action.TheVariants.{Regular};
 ghost use Rattle.asm_aggregate.specs.Compose.{own_clash, cause_of, as_regular, composed, placed};
@@ -28,10 +28,10 @@ pub enum ComposeError {
     #[error("the two moves clash")]
     Clash(Clash),
     /// At the least location that refuses an amount would be above 4,294,967,295.
-    #[error("a composed amount is above 4294967295")]
+    #[error("a composed amount is above 4,294,967,295")]
     Large(Location),
     /// No location refuses, and there would be more than 4,096 instructions.
-    #[error("more than 4096 instructions")]
+    #[error("more than 4,096 instructions")]
     ManyInstructions,
     /// The memory that the call asked for was refused.
     #[error("out of memory")]

@@ -3,7 +3,7 @@ ghost use Rattle.std.specs.Option.{option_copied};
 ghost use Rattle.std.specs.List.{list_all};
 ghost use Rattle.asm_element.specs.Value.{undef};
 ghost use Rattle.asm_update.specs.Action.{is_of};
-ghost use Rattle.asm_update.specs.Answer.{IsOutcome};
+ghost use Rattle.asm_update.specs.Aggregator.{IsOutcome};
 ghost use Rattle.asm_aggregate.specs.Families as families;
 
 use asm_element::Value;

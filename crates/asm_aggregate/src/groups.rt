@@ -6,7 +6,7 @@ ghost use Rattle.std.specs.FinMap as map;
 ghost use Rattle.asm_element.specs.Place.{Place};
 ghost use Rattle.asm_element.specs.Value.{undef};
 ghost use Rattle.asm_update.specs.Action.{is_partial};
-ghost use Rattle.asm_update.specs.Answer.{IsOutcome};
+ghost use Rattle.asm_update.specs.Aggregator.{IsOutcome};
 ghost use Rattle.asm_update.specs.declared.action.Action.{Action};
 ghost use Rattle.asm_update.specs.declared.action.Action.TheVariants.{Regular};
 ghost use Rattle.asm_aggregate.specs.Bundle.{bundle_of, AreGroups, HaveRoom, by_place, with_room};

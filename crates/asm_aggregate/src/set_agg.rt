@@ -6,7 +6,7 @@ ghost use Rattle.asm_element.specs.Value.{undef};
 ghost use Rattle.asm_element.specs.declared.value.Value.TheVariants as values;
 ghost use Rattle.asm_update.specs.Action.{is_of};
 ghost use Rattle.asm_update.specs.Aggregator.{Refused};
-ghost use Rattle.asm_update.specs.Answer.{IsOutcome, IsJoined};
+ghost use Rattle.asm_update.specs.Aggregator.{IsOutcome, IsJoined};
 ghost use Rattle.asm_update.specs.declared.action.Family.TheVariants as family;
 ghost use Rattle.asm_update.specs.declared.clash.Cause.TheVariants.{Mixed, Both, Against};
 ghost use Rattle.asm_aggregate.specs.Families.{is_kind};

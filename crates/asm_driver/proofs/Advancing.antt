@@ -200,11 +200,11 @@ module _ (a : Meaning) (old : Old) (step : Step) (frames : Frames) (done : Optio
         changes_seen A read = agree_left _ _ (changed b) _ (agree_right _ _ (taken b) _ (all_seen A read))
 
         -- what comes after the block's move
-        abbrev after : State → Result Move StepFault
-        after B = on_composed (λ C. step_move_on a B (Some C) (left ++ last ∷ [])) (composed_on a done M)
+        abbrev onward : State → Result Move StepFault
+        onward B = on_composed (λ C. step_move_on a B (Some C) (left ++ last ∷ [])) (composed_on a done M)
 
         goes_on : (A : State) → IsReadOf A old step →
-            step_move_on a A None step ≡ on_fired after (fire part (under A frames) M)
+            step_move_on a A None step ≡ on_fired onward (fire part (under A frames) M)
         goes_on A read =
             played.composed A read ∙ first_move a (under A frames) done b left last M (sym (move_is A read) ∙ is)
 
@@ -215,7 +215,7 @@ module _ (a : Meaning) (old : Old) (step : Step) (frames : Frames) (done : Optio
         clashing_block clash least A read =
             let there = same_clash part _ _ b M is (changes_seen A read) clash least in
             let clashes = fire_clash part (under A frames) M clash there in (
-              goes_on A read ∙ ap (on_fired after) clashes,
+              goes_on A read ∙ ap (on_fired onward) clashes,
               (clash, stops A read (Clashes clash) (fires_block A read ∙ ap fired clashes)),
             )
 
@@ -238,7 +238,7 @@ module _ (a : Meaning) (old : Old) (step : Step) (frames : Frames) (done : Optio
               step_move_on a A None step
               ≡ on_composed (λ C. step_move_on a (under A (frames ++ U ∷ [])) (Some C) (left ++ last ∷ []))
               (composed_on a done M)
-          fires_on A read = goes_on A read ∙ ap (on_fired after) (fires A read)
+          fires_on A read = goes_on A read ∙ ap (on_fired onward) (fires A read)
 
           -- a block that fires isn't refused
           not_refused : (A : State) → IsReadOf A old step → (fault : StepFault) → Extends a done M (Err fault) →

@@ -41,7 +41,7 @@ pub struct Played {
 #[derive(Clone, Copy, Debug, PartialEq, Eq, Error)]
 pub enum RunError {
     /// The capacity is not in the range from 1 to 1,048,576.
-    #[error("a capacity outside 1 to 1,048,576")]
+    #[error("the capacity is not in 1 to 1,048,576")]
     BadCapacity,
     /// A thread for an agent couldn't be started.
     #[error("no thread")]

@@ -12,11 +12,11 @@ use std::sync::atomic::{AtomicU64, Ordering};
 use std::test::Fail;
 use std::thread::Threads;
 
-const ADDITION: &str = "[[[\"bagadd\",[\"b\"],1,1]]]";
+const ADDITION: &str = r#"[[["bagadd",["b"],1,1]]]"#;
 
-const SUM: &str = "[[[\"put\",[\"n\"],{\"sum\":[{\"val\":[\"n\"]},1]}]]]";
+const SUM: &str = r#"[[["put",["n"],{"sum":[{"val":["n"]},1]}]]]"#;
 
-const RESET: &str = "[[[\"put\",[\"n\"],0]]]";
+const RESET: &str = r#"[[["put",["n"],0]]]"#;
 
 /// Appends an agent with the step so many times.
 fn push_agent(text: &mut String, step: &str, count: usize) -> Result<(), Fail> {
@@ -33,9 +33,9 @@ fn push_agent(text: &mut String, step: &str, count: usize) -> Result<(), Fail> {
 
 /// The script of these agents, each with a step that it has so many times.
 fn script_of(alloc: Global, init: &str, agents: &[(&str, usize)]) -> Result<Script, Fail> {
-    let mut text = String::from_str(alloc, "{\"init\":[")?;
+    let mut text = String::from_str(alloc, r#"{"init":["#)?;
     text.push_str(init)?;
-    text.push_str("],\"agents\":[")?;
+    text.push_str(r#"],"agents":["#)?;
     for (index, agent) in agents.iter().enumerate() {
         if index > 0 {
             text.push_str(",")?;
@@ -107,7 +107,7 @@ fn four_agents_add_to_one_bag(rt: HostRuntime) -> Result<(), Fail> {
         (ADDITION, 50),
         (ADDITION, 50),
     ];
-    let played = play_behind(&rt, alloc, "[[\"b\"],{\"bag\":[]}]", &agents, &Open)?;
+    let played = play_behind(&rt, alloc, r#"[["b"],{"bag":[]}]"#, &agents, &Open)?;
     assert_eq!(rt; number_of_ones(alloc, &played, "b")?, 200);
     Ok(())
 }
@@ -116,7 +116,7 @@ fn four_agents_add_to_one_bag(rt: HostRuntime) -> Result<(), Fail> {
 fn four_agents_count_to_100(rt: HostRuntime) -> Result<(), Fail> {
     let alloc = rt.alloc();
     let agents = [(SUM, 25usize), (SUM, 25), (SUM, 25), (SUM, 25)];
-    let played = play_behind(&rt, alloc, "[[\"n\"],0]", &agents, &Open)?;
+    let played = play_behind(&rt, alloc, r#"[["n"],0]"#, &agents, &Open)?;
     assert!(rt; has_number(alloc, &played, "n", 100)?);
     Ok(())
 }
@@ -158,7 +158,7 @@ fn agents_play_at_once(rt: HostRuntime) -> Result<(), Fail> {
         missed: AtomicU64::new(0),
     };
     let agents = [(RESET, 1usize), (RESET, 1)];
-    let played = play_behind(&rt, rt.alloc(), "[[\"n\"],0]", &agents, &gate)?;
+    let played = play_behind(&rt, rt.alloc(), r#"[["n"],0]"#, &agents, &gate)?;
     assert_eq!(rt; gate.missed.load(Ordering::SeqCst), 0);
     assert_eq!(rt; played.history.moves(), 2);
     Ok(())
@@ -214,7 +214,7 @@ fn overtaken<R: Threads + Wait + Sync>(rt: &R, alloc: Global) -> Result<Played, 
     play_behind(
         rt,
         alloc,
-        "[[\"n\"],0]",
+        r#"[["n"],0]"#,
         &[(SUM, 1usize), (RESET, 1001)],
         &gate,
     )
@@ -241,13 +241,13 @@ fn an_agent_gives_up_after_1001_tries(rt: HostRuntime) -> Result<(), Fail> {
 /// by turns.
 fn push_mixed(text: &mut String, agent: usize, step: usize) -> Result<(), Fail> {
     match step % 4 {
-        0 => write!(text, "[[[\"add\",[\"s\"],{}]]]", step)?,
-        1 => write!(text, "[[[\"remove\",[\"s\"],{}]]]", agent)?,
+        0 => write!(text, r#"[[["add",["s"],{}]]]"#, step)?,
+        1 => write!(text, r#"[[["remove",["s"],{}]]]"#, agent)?,
         2 => text.push_str(SUM)?,
         _ => write!(
             text,
-            "[[[\"put\",[\"m\",{}],{}]]]",
-            agent, "{\"val\":[\"n\"]}"
+            r#"[[["put",["m",{}],{}]]]"#,
+            agent, r#"{"val":["n"]}"#
         )?,
     }
     Ok(())
@@ -268,7 +268,7 @@ fn push_mixed_agent(text: &mut String, agent: usize) -> Result<(), Fail> {
 fn mixed_script(alloc: Global) -> Result<Script, Fail> {
     let mut text = String::from_str(
         alloc,
-        "{\"init\":[[[\"s\"],{\"set\":[]}],[[\"n\"],0]],\"agents\":[",
+        r#"{"init":[[["s"],{"set":[]}],[["n"],0]],"agents":["#,
     )?;
     for agent in 0..16usize {
         text.push_str(if agent > 0 { "," } else { "" })?;

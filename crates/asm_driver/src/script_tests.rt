@@ -1,6 +1,9 @@
 //! Texts at the limits of a script, and the cause for which each of the others is refused.
+use crate::outcome::RunError;
 use crate::parsing::parse_script;
 use crate::script::{ScriptCause, ScriptError};
+use crate::step::StepFault;
+use crate::term::TermFault;
 use std::alloc::{AllocError, Global};
 use std::test::Fail;
 
@@ -47,13 +50,13 @@ fn many_judged(
     cause: Option<ScriptCause>,
 ) -> Result<bool, Fail> {
     let mut text = String::new(alloc);
-    push_all(&mut text, &["{\"init\":[],\"agents\":[", before])?;
+    push_all(&mut text, &[r#"{"init":[],"agents":["#, before])?;
     push_many(&mut text, item, count)?;
     push_all(&mut text, &[behind, "]}"])?;
     Ok(is_judged(alloc, &text, cause)?)
 }
 
-const ADD: &str = "[\"add\",[\"s\"],1]";
+const ADD: &str = r#"["add",["s"],1]"#;
 
 #[test]
 fn agents_up_to_256(rt: HostRuntime) -> Result<(), Fail> {
@@ -108,18 +111,18 @@ fn the_first_cause_is_told(rt: HostRuntime) -> Result<(), Fail> {
 fn other_shapes_are_no_scripts(rt: HostRuntime) -> Result<(), Fail> {
     for text in [
         "[]",
-        "{\"agents\":[]}",
-        "{\"init\":[],\"agents\":{}}",
-        "{\"init\":[],\"agents\":[],\"z\":1}",
-        "{\"init\":[],\"agents\":[[[1]]]}",
-        "{\"init\":[],\"agents\":[[],[[1]]]}",
-        "{\"init\":[],\"agents\":[[[[[\"set\",[\"x\"],1]]]]]}",
-        "{\"init\":[],\"agents\":[[[[[\"put\",[\"x\"]]]]]]}",
-        "{\"init\":[],\"agents\":[[[[[\"put\",[\"x\"],1,2]]]]]}",
-        "{\"init\":[],\"agents\":[[[[[\"put\",[\"x\"],{\"sum\":[1]}]]]]]}",
-        "{\"init\":[],\"agents\":[[[[[\"put\",[\"x\"],{\"sum\":[1,2,3]}]]]]]}",
-        "{\"init\":[],\"agents\":[[[[[\"put\",[\"x\"],{\"val\":[\"x\"],\"z\":1}]]]]]}",
-        "{\"init\":[],\"agents\":[[[[[\"bagadd\",[\"x\"],1,0]]]]]}",
+        r#"{"agents":[]}"#,
+        r#"{"init":[],"agents":{}}"#,
+        r#"{"init":[],"agents":[],"z":1}"#,
+        r#"{"init":[],"agents":[[[1]]]}"#,
+        r#"{"init":[],"agents":[[],[[1]]]}"#,
+        r#"{"init":[],"agents":[[[[["set",["x"],1]]]]]}"#,
+        r#"{"init":[],"agents":[[[[["put",["x"]]]]]]}"#,
+        r#"{"init":[],"agents":[[[[["put",["x"],1,2]]]]]}"#,
+        r#"{"init":[],"agents":[[[[["put",["x"],{"sum":[1]}]]]]]}"#,
+        r#"{"init":[],"agents":[[[[["put",["x"],{"sum":[1,2,3]}]]]]]}"#,
+        r#"{"init":[],"agents":[[[[["put",["x"],{"val":["x"],"z":1}]]]]]}"#,
+        r#"{"init":[],"agents":[[[[["bagadd",["x"],1,0]]]]]}"#,
     ] {
         assert!(rt;
             is_judged(rt.alloc(), text, Some(ScriptCause::Shape))?,
@@ -132,8 +135,8 @@ fn other_shapes_are_no_scripts(rt: HostRuntime) -> Result<(), Fail> {
 #[test]
 fn keys_stand_in_either_order(rt: HostRuntime) -> Result<(), Fail> {
     for text in [
-        "{\"init\":[],\"agents\":[[[[[\"put\",[\"x\"],{\"val\":[\"x\"]}]]]]]}",
-        "{\"agents\":[[[[[\"put\",[\"x\"],{\"sum\":[1,{\"val\":[\"x\"]}]}]]]]],\"init\":[]}",
+        r#"{"init":[],"agents":[[[[["put",["x"],{"val":["x"]}]]]]]}"#,
+        r#"{"agents":[[[[["put",["x"],{"sum":[1,{"val":["x"]}]}]]]]],"init":[]}"#,
     ] {
         assert!(rt; is_judged(rt.alloc(), text, None)?, "{text}");
     }
@@ -145,8 +148,8 @@ fn a_cut_text_is_not_json(rt: HostRuntime) -> Result<(), Fail> {
     for text in [
         "",
         "{",
-        "{\"init\":[],\"agents\":[[",
-        "{\"init\":[],\"agents\":[]",
+        r#"{"init":[],"agents":[["#,
+        r#"{"init":[],"agents":[]"#,
         "{}}",
     ] {
         assert!(rt;
@@ -166,12 +169,9 @@ fn deep_judged(
     cause: Option<ScriptCause>,
 ) -> Result<bool, Fail> {
     let mut text = String::new(alloc);
-    push_all(
-        &mut text,
-        &["{\"init\":[],\"agents\":[[[[[\"put\",[\"x\"],"],
-    )?;
+    push_all(&mut text, &[r#"{"init":[],"agents":[[[[["put",["x"],"#])?;
     for _ in 0..sums {
-        text.push_str("{\"sum\":[1,")?;
+        text.push_str(r#"{"sum":[1,"#)?;
     }
     text.push_str(term)?;
     for _ in 0..sums {
@@ -184,8 +184,8 @@ fn deep_judged(
 #[test]
 fn terms_nest_as_deep_as_json(rt: HostRuntime) -> Result<(), Fail> {
     for (term, sums, cause) in [
-        ("{\"bag\":[[1,1]]}", 59, None),
-        ("{\"set\":[]}", 60, Some(ScriptCause::NotJson)),
+        (r#"{"bag":[[1,1]]}"#, 59, None),
+        (r#"{"set":[]}"#, 60, Some(ScriptCause::NotJson)),
     ] {
         assert!(rt; deep_judged(rt.alloc(), term, sums, cause)?);
     }
@@ -200,17 +200,17 @@ fn numbered_judged(
     cause: Option<ScriptCause>,
 ) -> Result<bool, Fail> {
     let mut text = String::new(alloc);
-    push_all(&mut text, &["{\"init\":[],\"agents\":[[[", before])?;
+    push_all(&mut text, &[r#"{"init":[],"agents":[[["#, before])?;
     push_numbered(&mut text, item, count)?;
     push_all(&mut text, &[behind, "]]]}"])?;
     Ok(is_judged(alloc, &text, cause)?)
 }
 
-const READ: (&str, &str) = ("[\"put\",[\"x\"],{\"val\":[\"y\",", "]}]");
+const READ: (&str, &str) = (r#"["put",["x"],{"val":["y","#, "]}]");
 
-const TARGET: (&str, &str) = ("[\"add\",[\"y\",", "],1]");
+const TARGET: (&str, &str) = (r#"["add",["y","#, "],1]");
 
-const AGAIN: &str = ",[\"put\",[\"x\"],{\"val\":[\"y\",0]}]]";
+const AGAIN: &str = r#",["put",["x"],{"val":["y",0]}]]"#;
 
 #[test]
 fn reads_up_to_256(rt: HostRuntime) -> Result<(), Fail> {
@@ -224,5 +224,28 @@ fn reads_up_to_256(rt: HostRuntime) -> Result<(), Fail> {
     ] {
         assert!(rt; numbered_judged(rt.alloc(), (before, item, count, behind), cause)?);
     }
+    Ok(())
+}
+
+#[test]
+fn errors_have_their_texts(rt: HostRuntime) -> Result<(), Fail> {
+    let alloc = rt.alloc();
+    for (error, want) in [
+        (
+            RunError::BadCapacity,
+            "the capacity is not in 1 to 1,048,576",
+        ),
+        (RunError::NoThread, "no thread"),
+        (RunError::Missing(3), "missing move 3"),
+        (RunError::Memory, "out of memory"),
+    ] {
+        assert!(rt; error.to_string(alloc)?.as_str() == want, "{want}");
+    }
+    let script = ScriptError::BadScript(ScriptCause::Blocks).to_string(alloc)?;
+    assert!(rt; script.as_str() == "bad script: Blocks");
+    let step = StepFault::Many.to_string(alloc)?;
+    assert!(rt; step.as_str() == "more than 4,096 instructions");
+    let term = TermFault::Faulty.to_string(alloc)?;
+    assert!(rt; term.as_str() == "a faulty term");
     Ok(())
 }

@@ -34,7 +34,7 @@ pub enum StepFault {
     #[error("too large an amount")]
     Large(Location),
     /// The move that stands for the blocks would have more than 4,096 instructions.
-    #[error("more than 4096 instructions")]
+    #[error("more than 4,096 instructions")]
     Many,
     /// The memory that the call asked for was refused.
     #[error("out of memory")]

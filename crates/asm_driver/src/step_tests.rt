@@ -103,7 +103,7 @@ fn script_of(alloc: Global, init: &str, step: &str) -> Result<Script, Fail> {
     write!(
         text,
         "{}{}{}{}{}",
-        "{\"init\":", init, ",\"agents\":[[", step, "]]}"
+        r#"{"init":"#, init, r#","agents":[["#, step, "]]}"
     )?;
     Ok(parse_script(alloc, text.as_bytes())?)
 }

@@ -306,7 +306,11 @@ static NO_JOURNALS: [(&str, &str); 7] = [
     ("", "journal cut\n"),
     ("{", "journal line 1: not JSON\n"),
     ("{}\n", "journal line 1: shape\n"),
-    ("{\"version\":3}\n", "journal version\n"),
+    (
+        r#"{"version":3}
+"#,
+        "journal version\n",
+    ),
     (
         r#"{"agents":0,"capacity":8,"events":1,"init":[],"version":1}
 "#,

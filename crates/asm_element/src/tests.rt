@@ -208,3 +208,14 @@ fn undef_alone_is_undef(rt: HostRuntime) -> Result<(), Fail> {
     assert!(rt; !Value::Set(ElemSet::new(alloc)).is_undef());
     Ok(())
 }
+
+#[test]
+fn errors_have_their_texts(rt: HostRuntime) -> Result<(), Fail> {
+    for (error, want) in [
+        (LocationError::BadName, "not a name"),
+        (LocationError::ManyArgs, "more than 8 arguments"),
+    ] {
+        assert!(rt; error.to_string(rt.alloc())?.as_str() == want, "{want}");
+    }
+    Ok(())
+}

@@ -59,7 +59,8 @@ const TWO_FULL: &str =
 fn journal(alloc: Global, events: &[&str]) -> Result<String, AllocError> {
     let count = events.len();
     let mut text = format!(in alloc;
-        "{{\"agents\":2,\"capacity\":2,\"events\":{count},\"init\":[[[\"x\"],7]],\"version\":1}}\n"
+        r#"{{"agents":2,"capacity":2,"events":{count},"init":[[["x"],7]],"version":1}}
+"#
     )?;
     for event in events {
         text.push_str(event)?;

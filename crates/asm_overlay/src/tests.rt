@@ -223,3 +223,13 @@ fn an_overlay_stands_over_another(rt: HostRuntime) -> Result<(), Fail> {
     assert!(rt; gives(alloc, &below, "y", Some(5))?);
     Ok(())
 }
+
+#[test]
+fn errors_have_their_texts(rt: HostRuntime) -> Result<(), Fail> {
+    let alloc = rt.alloc();
+    let deep = OverlayError::Deep(UpdateSet::new(alloc)).to_string(alloc)?;
+    assert!(rt; deep.as_str() == "more than 64 frames");
+    let memory = OverlayError::Memory(UpdateSet::new(alloc)).to_string(alloc)?;
+    assert!(rt; memory.as_str() == "out of memory");
+    Ok(())
+}

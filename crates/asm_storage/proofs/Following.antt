@@ -19,9 +19,6 @@ use Rattle.asm_storage.specs.Storage.{StorageView, AgentAt, has_looked, machine_
 use Rattle.asm_storage.proofs.Kept.{take-moves_seen, seen_more}
 use Rattle.asm_storage.proofs.Lists.{slice_get-lt, slice_get-map, take-slice_get, length-prefix}
 
-pub prefix-refl : {X : Type 0} (xs : List X) → IsPrefix xs xs
-prefix-refl xs = ([], append-nil xs)
-
 pub prefix-trans : {X : Type 0} (xs ys zs : List X) → IsPrefix xs ys → IsPrefix ys zs → IsPrefix xs zs
 prefix-trans xs ys zs p q = (p.0 ++ q.0, sym (append_assoc xs p.0 q.0) ∙ (ap (λ w. w ++ q.0) p.1 ∙ q.1))
 
@@ -71,10 +68,6 @@ fresh_following m s stands = record {
 }
 
 module _ {A : Type 0} (meaning : A → Meaning) (s : StorageView A) where
-  -- nothing was looked at
-  pub looks_none : (p : AgentPart) → IsPartOf meaning s p → LooksOn meaning s p p
-  looks_none p part = record { agent = refl; seen = prefix-refl p.progress.seen; part = part }
-
   pub looks_then : (old mid new : AgentPart) → LooksOn meaning s old mid → LooksOn meaning s mid new →
       LooksOn meaning s old new
   looks_then old mid new first more = record {

@@ -147,9 +147,6 @@ seen_each m all agents g = pair agents (recursion_from_All _ agents g.each) (rec
   pair [] p q = tt
   pair (a ∷ xs) p q = (record { agent = p.0; prefix = q.0 }, pair xs p.1 q.1)
 
-abbrev FiredFact : Machine → List Entry → ℕ → Event → Type 0
-FiredFact m all n e = IsAt m all n e × (is_some (move_of e) ≡ true)
-
 -- an event that fired at n has the row's entry at n
 fired_entry : (m : Machine) (all : List Entry) (n : ℕ) (e : Event) → IsAt m all n e → is_some (move_of e) ≡ true → (x : Entry) × (slice_get all n ≡ Some x) × (e.agent ≡ x.agent) × (move_of e ≡ Some x.instrs)
 fired_entry m all n e at fired = here (move_of e) refl fired where

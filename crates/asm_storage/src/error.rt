@@ -57,7 +57,7 @@ impl From<AllocError> for FireError {
 #[derive(Debug, Drop, PartialEq, Eq, Error)]
 pub enum StorageError {
     /// The capacity is 0 or above 1,048,576. This is found before any memory is asked for.
-    #[error("the capacity is not in 1 to 1048576")]
+    #[error("the capacity is not in 1 to 1,048,576")]
     BadCapacity,
     /// The memory that the call asked for was refused.
     #[error("out of memory")]

@@ -351,3 +351,24 @@ fn a_call_that_was_refused_memory_can_be_made_again(rt: HostRuntime) -> Result<(
     }
     Ok(())
 }
+
+#[test]
+fn errors_have_their_texts(rt: HostRuntime) -> Result<(), Fail> {
+    let alloc = rt.alloc();
+    let storage = StorageError::BadCapacity.to_string(alloc)?;
+    assert!(rt; storage.as_str() == "the capacity is not in 1 to 1,048,576");
+    let agents = AgentsError::BadAgents.to_string(alloc)?;
+    assert!(rt; agents.as_str() == "not 1 to 256 agents");
+    let read = ReadError::ManyLocations.to_string(alloc)?;
+    assert!(rt; read.as_str() == "more than 256 locations");
+    let close = CloseError::Missing(3).to_string(alloc)?;
+    assert!(rt; close.as_str() == "move 3 has no receipt");
+    for (error, want) in [
+        (FireError::ManyReads, "more than 256 named reads"),
+        (FireError::Busy { from: 0, to: 64 }, "64 offers were lost"),
+        (FireError::Memory, "out of memory"),
+    ] {
+        assert!(rt; error.to_string(alloc)?.as_str() == want, "{want}");
+    }
+    Ok(())
+}

@@ -1,7 +1,10 @@
--- What an aggregator means: the families it owns, what a group gives, what two lists in a row join to; and its laws.
+-- What an aggregator means: the families it owns, what a group gives, what two lists in a row join to; its laws; and
+-- what its calls answer.
 use Rattle.std.specs.Prelude.{◌≡◌, ◌≢◌, Bool, true, false, List, [], ◌∷◌, ◌++◌, IsPermutation}
 use Rattle.std.specs.Prelude.{Result, Ok, Err, Option, None, Some, unwrap_or}
 use Rattle.std.specs.List.{list_any, list_all}
+use Rattle.std.specs.declared.vec.Vec.{Vec}
+use Rattle.std.specs.declared.alloc.Global.{Global}
 use Rattle.asm_element.specs.Value as value
 use Rattle.asm_element.specs.declared.value.Value.{Value}
 use Rattle.asm_update.specs.Action.{is_of, is_partial, kind_of, AllProper}
@@ -10,6 +13,10 @@ use Rattle.asm_update.specs.declared.action.Action.{Action}
 use Rattle.asm_update.specs.declared.action.Family.{Family}
 use Rattle.asm_update.specs.declared.clash.Cause.{Cause}
 use Rattle.asm_update.specs.declared.clash.Cause.TheVariants.{Mixed}
+use Rattle.asm_update.specs.declared.errors.ResultError.{ResultError}
+use Rattle.asm_update.specs.declared.errors.ResultError.TheVariants as result_error
+use Rattle.asm_update.specs.declared.errors.JoinError.{JoinError}
+use Rattle.asm_update.specs.declared.errors.JoinError.TheVariants as join_error
 
 -- why two lists have no join: a cause, or an amount that no partial update can have
 pub data Refusal : Type 0 where
@@ -67,3 +74,16 @@ pub record AggregatorLaws (a : Meaning) : Type 0 where
   pub join_family : (f : Family) (first second joined : List Action) →
       a.joins first second ≡ Ok joined → list_any (is_of f) joined ≡ true →
       list_any (is_of f) (first ++ second) ≡ true
+
+-- a call answers this outcome: its value, or its cause; want of memory tells nothing
+abbrev pub IsOutcome : Result Value ResultError → Outcome → Type 0
+IsOutcome (Ok value) outcome = outcome ≡ Ok value
+IsOutcome (Err (result_error.Cause cause)) outcome = outcome ≡ Err cause
+IsOutcome (Err result_error.Memory) outcome = Unit {0}
+
+-- a call answers this join: its list, or its refusal; want of memory tells nothing
+abbrev pub IsJoined : Result (Vec Action Global) JoinError → Joined → Type 0
+IsJoined (Ok actions) joined = joined ≡ Ok actions.items
+IsJoined (Err (join_error.Cause cause)) joined = joined ≡ Err (Refused cause)
+IsJoined (Err join_error.Large) joined = joined ≡ Err TooLarge
+IsJoined (Err join_error.Memory) joined = Unit {0}

@@ -5,4 +5,3 @@ pub mod Fire
 pub mod Equal
 pub mod Group
 pub mod Aggregator
-pub mod Answer

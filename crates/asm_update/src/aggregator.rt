@@ -3,8 +3,7 @@ ghost use Rattle.std.specs.Option.{option_copied};
 ghost use Rattle.std.specs.List.{list_all};
 ghost use Rattle.asm_element.specs.Value.{undef};
 ghost use Rattle.asm_update.specs.Action.{is_partial};
-ghost use Rattle.asm_update.specs.Aggregator.{Meaning, AggregatorLaws};
-ghost use Rattle.asm_update.specs.Answer.{IsOutcome, IsJoined};
+ghost use Rattle.asm_update.specs.Aggregator.{Meaning, AggregatorLaws, IsOutcome, IsJoined};
 
 use crate::action::{Action, Family};
 use crate::errors::{JoinError, ResultError};
@@ -14,11 +13,22 @@ use std::alloc::Global;
 
 /// What partial updates mean: the result of a group, and the list that stands for two in a row (CoreASM's aggregation).
 ///
-/// Every aggregator keeps three laws. The result doesn't depend on the order of a group. A group
-/// with partials of two families, or of one that isn't owned, is `Mixed`. And a join is the
-/// sequence: where the first list has a result, the joined list gives what the second gives on it,
-/// an empty list leaving the value as it is; where two lists have no join, no value lets the first
-/// and then the second have results.
+/// An implementation says in `meaning` what its calls compute, and proves in `laws` that this keeps ten laws:
+///
+/// 1. The order of the partial updates of a group is no matter (`any_order`).
+/// 2. Partial updates that aren't all of one family that is owned are `Mixed` (`mixed`).
+/// 3. Where the first list has a result on a value, the joined list gives on that value what the second gives on
+///    the result, causes included. An empty list leaves each value as it is (`join_is_sequence`).
+/// 4. Where a join is refused, no value lets the first and then the second list have results (`refused_join`).
+/// 5. The regular value of a group is its result, or the group has a cause (`regular_result`).
+/// 6. Which of the two it is doesn't depend on the old value (`regular_decides`).
+/// 7. Partial updates of a family have a result only on a base of the family's kind, and the result is of that
+///    kind (`kind_kept`).
+/// 8. What is proper stays proper (`proper_kept`).
+/// 9. A joined list has partial updates alone (`join_is_partial`).
+/// 10. Each of them is of a family that stands in one of the two lists (`join_family`).
+///
+/// Laws 3 and 4 speak of what a program can hold, and of two lists that aren't both empty.
 pub trait Aggregator {
     /// The families that it owns, what a group gives, and what two lists join to.
     ghost meaning: { Self → Meaning };

@@ -24,7 +24,7 @@ pub enum JoinError {
     #[error("the updates of a location have no result")]
     Cause(Cause),
     /// A joined amount would be above 4,294,967,295.
-    #[error("a joined amount is above 4294967295")]
+    #[error("a joined amount is above 4,294,967,295")]
     Large,
     /// The memory that the call asked for was refused.
     #[error("out of memory")]

@@ -19,7 +19,7 @@ const INSTRUCTIONS_LIMIT: usize = 4096;
 #[derive(Clone, Copy, Debug, PartialEq, Eq, Error)]
 pub enum InstructionsError {
     /// There are 4,096 instructions already; this is found before memory is asked for.
-    #[error("more than 4096 instructions")]
+    #[error("more than 4,096 instructions")]
     ManyInstructions,
     /// The memory that the call asked for was refused.
     #[error("out of memory")]

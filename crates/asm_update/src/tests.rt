@@ -286,3 +286,32 @@ fn a_group_has_what_it_was_made_of(rt: HostRuntime) -> Result<(), Fail> {
     assert_eq!(rt; group.partials()[0], Action::SetAdd(Element::Num(1)));
     Ok(())
 }
+
+/// A clash at a location without arguments.
+fn clash_at(alloc: Global, name: &str) -> Result<Clash, Fail> {
+    let at = location(alloc, name, &[])?;
+    let cause = Cause::Two;
+    Ok(Clash { at, cause })
+}
+
+#[test]
+fn errors_have_their_texts(rt: HostRuntime) -> Result<(), Fail> {
+    let alloc = rt.alloc();
+    let full = InstructionsError::ManyInstructions.to_string(alloc)?;
+    assert!(rt; full.as_str() == "more than 4,096 instructions");
+    let clash = AggError::Clash(clash_at(alloc, "x")?).to_string(alloc)?;
+    assert!(rt; clash.as_str() == "the updates clash");
+    let result = ResultError::Cause(Cause::Kind).to_string(alloc)?;
+    assert!(rt; result.as_str() == "the updates of a location have no result");
+    for (error, want) in [
+        (
+            JoinError::Cause(Cause::Both),
+            "the updates of a location have no result",
+        ),
+        (JoinError::Large, "a joined amount is above 4,294,967,295"),
+        (JoinError::Memory, "out of memory"),
+    ] {
+        assert!(rt; error.to_string(alloc)?.as_str() == want, "{want}");
+    }
+    Ok(())
+}

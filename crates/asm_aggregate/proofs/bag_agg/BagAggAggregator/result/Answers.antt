@@ -5,7 +5,7 @@ use Rattle.std.proofs.lemmas.Result.{err_from_is_err_and}
 use Rattle.asm_element.specs.Bag as bag
 use Rattle.asm_element.specs.Value.{undef}
 use Rattle.asm_element.specs.declared.value.Value.TheVariants as values
-use Rattle.asm_update.specs.Answer.{IsOutcome}
+use Rattle.asm_update.specs.Aggregator.{IsOutcome}
 use Rattle.asm_aggregate.specs.BagMeaning.{bag_result}
 use Rattle.asm_aggregate.proofs.BagTables.{IsOnBag, short_result, large_result, bag_answer, copied_some}
 use Rattle.asm_aggregate.proofs.Exits.{handed_on}
