@@ -8,7 +8,7 @@ use Rattle.std.specs.Ordering.{eq_by_cmp}
 use Rattle.std.proofs.lemmas.List.{take_all}
 use Rattle.std.proofs.lemmas.List.Folds.{list_any-append}
 use Rattle.std.proofs.lemmas.List.Sums.{sum_by_more, sum_by-take-le}
-use Rattle.std.proofs.lemmas.Bool.Decides.{nat_tests}
+use Rattle.std.proofs.lemmas.Bool.{lt-ltb}
 use Rattle.asm_element.proofs.BagTree.{count-set_count}
 use Rattle.asm_element.specs.Element.{element_cmp, element_cmp_total}
 use Rattle.asm_element.specs.declared.element.Element.{Element}
@@ -154,15 +154,12 @@ named_if side actions q some = at (has q (named actions)) refl where
   at true e = e
   at false e = let none = unnamed side actions q e in absurd (omega (arith, none, some))
 
-less_is : (n m : ℕ) → n < m → nat_lt n m ≡ true
-less_is n m h = grind (arith, nat_tests)
-
 pub is_short : (b : ElementBag) (actions : List Action) → (e : Element) × (count b e < amount_in Removed actions e) →
     short b actions ≡ true
 is_short b actions less =
     let here = less.1 in
     passes_somewhere (λ e. nat_lt (count b e) (amount_in Removed actions e)) (named actions) less.0
-    (named_if Removed actions less.0 (omega (arith, here))) (less_is _ _ less.1)
+    (named_if Removed actions less.0 (omega (arith, here))) (lt-ltb _ _ less.1)
 
 pub not_short : (b rest : ElementBag) (actions : List Action) →
     IsMoreBy (count rest) (count b) (amount_in Removed actions) → short b actions ≡ false
@@ -177,7 +174,7 @@ is_above b rest actions small h more =
     let below = small_below b more.0 small in
     let new : 4294967295 < new_count b actions more.0 = omega (arith, here, above) in
     passes_somewhere (λ e. is_large (new_count b actions e)) (named actions) more.0
-    (named_if Added actions more.0 (omega (arith, here, above, below))) (less_is _ _ new)
+    (named_if Added actions more.0 (omega (arith, here, above, below))) (lt-ltb _ _ new)
 
 pub result_is : (b rest last : ElementBag) (actions : List Action) → Small b → Small last →
     IsMoreBy (count rest) (count b) (amount_in Removed actions) →

@@ -11,9 +11,8 @@ use Rattle.asm_element.specs.declared.value.Value.{Value}
 use Rattle.asm_element.specs.declared.value.Value.TheVariants as values
 use Rattle.asm_element.specs.Bag.{ElementBag, count}
 use Rattle.asm_element.specs.Bag as bag
-use Rattle.asm_update.specs.Aggregator.{IsOutcome, IsJoined}
+use Rattle.asm_update.specs.Aggregator.{Joined, Refused, TooLarge, IsOutcome, IsJoined}
 use Rattle.asm_update.specs.Action.{is_of}
-use Rattle.asm_update.specs.Aggregator.{Joined, Refused, TooLarge}
 use Rattle.asm_update.specs.Fire.{Outcome}
 use Rattle.asm_update.specs.declared.action.Action.{Action}
 use Rattle.asm_update.specs.declared.action.Family.TheVariants.{Bag}

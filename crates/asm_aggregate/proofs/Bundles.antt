@@ -4,6 +4,7 @@ use Rattle.std.proofs.Common.{ap, ◌∙◌}
 use Rattle.std.specs.Prelude.{Option, None, Some, IsSome, filter}
 use Rattle.std.specs.Ordering.{eq_by_cmp}
 use Rattle.std.proofs.lemmas.Bool.{false≢true}
+use Rattle.std.proofs.lemmas.Option.{same_Some}
 use Rattle.asm_element.specs.Place.{Place, location_cmp}
 use Rattle.std.specs.List.{filter_map}
 use Rattle.std.proofs.lemmas.List.Elements.{filter-append, filter_map-append}
@@ -18,9 +19,6 @@ use Rattle.asm_update.specs.declared.action.Action.{Action}
 use Rattle.asm_update.specs.declared.action.Action.TheVariants.{Regular, SetAdd, SetRemove, BagAdd, BagRemove}
 use Rattle.asm_update.specs.declared.action.Instruction.{Instruction}
 use Rattle.asm_aggregate.specs.Bundle.{Bundle, bundle_of, IsWritten}
-
-pub some_is : {X : Type 0} (x y : X) → Some x ≡ Some y → x ≡ y
-some_is x y e = cc
 
 abbrev pub parts : Option Value → Bool → List Action → Bundle
 parts r d ps = record { regular = r; differ = d; partials = ps }
@@ -56,7 +54,7 @@ module _ (G : List Action) (v : Value) (r : Option Value) (d : Bool) (ps : List 
         parts r d ps ≡ bundle_from (vs ++ v ∷ []) (filter is_partial G)
     by_cases [] e = let no : None ≡ Some u = sym (λ i. (e i).regular) ∙ some in cc
     by_cases (w ∷ us) e =
-        let is : w ≡ u = some_is _ _ (sym (λ i. (e i).regular) ∙ some) in
+        let is : w ≡ u = same_Some _ _ (sym (λ i. (e i).regular) ∙ some) in
         e ∙ (λ i. parts (Some w) (sym (differ_more w us true (ap (λ x. value_eq x v) is ∙ same) ∙ or_false _) i)
         (filter is_partial G))
 
@@ -67,7 +65,7 @@ module _ (G : List Action) (v : Value) (r : Option Value) (d : Bool) (ps : List 
         parts r true ps ≡ bundle_from (vs ++ v ∷ []) (filter is_partial G)
     by_cases [] e = let no : None ≡ Some u = sym (λ i. (e i).regular) ∙ some in cc
     by_cases (w ∷ us) e =
-        let is : w ≡ u = some_is _ _ (sym (λ i. (e i).regular) ∙ some) in
+        let is : w ≡ u = same_Some _ _ (sym (λ i. (e i).regular) ∙ some) in
         λ i. parts (e i).regular (sym (differ_more w us false (ap (λ x. value_eq x v) is ∙ other) ∙ or_true _) i)
         (e i).partials
 

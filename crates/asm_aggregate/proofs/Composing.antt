@@ -1,20 +1,20 @@
 -- A walk of the locations of two moves in ascending order, which composes one location more at a time.
 use Rattle.std.proofs.Common.{◌≡◌, ◌≢◌, Bool, true, false, cond, ◌&&◌, T, List, [], ◌∷◌, ◌++◌, map, refl, sym, ap}
-use Rattle.std.proofs.Common.{subst, ◌∙◌, unwrap_or, append_assoc, append-nil, length-append, All, ◌+◌, ◌<◌, ◌≤◌}
-use Rattle.std.proofs.Common.{length, arith}
+use Rattle.std.proofs.Common.{subst, ◌∙◌, unwrap_or, append_assoc, append-nil, All, ◌+◌, ◌≤◌}
+use Rattle.std.proofs.Common.{length}
 use Rattle.std.specs.Prelude.{Result, Ok, Err, None, Some, is_some, filter}
 use Rattle.std.specs.Ordering.{eq_by_cmp, is_lt}
 use Rattle.std.specs.List.{filter_map}
 use Rattle.std.specs.FinMap as finite
 use Rattle.std.specs.FinMap.Entries.{below_all}
 use Rattle.std.proofs.lemmas.Bool.{false≢true}
+use Rattle.std.proofs.lemmas.Option.{same_Some}
 use Rattle.asm_element.specs.Place.{Place, location_cmp, location_cmp_total, location_cmp-IsAntisymmetric}
 use Rattle.asm_element.specs.Place.{same_location}
 use Rattle.asm_element.specs.Tests.{itself}
 use Rattle.asm_element.specs.declared.value.Value.{Value}
 use Rattle.asm_update.specs.Action.{is_partial, regular_value, IsProperInstruction}
-use Rattle.asm_update.specs.Aggregator.{Meaning, AggregatorLaws, Joined, Refusal, Refused, TooLarge}
-use Rattle.asm_update.specs.Aggregator.{IsJoined}
+use Rattle.asm_update.specs.Aggregator.{Meaning, AggregatorLaws, Joined, Refusal, Refused, TooLarge, IsJoined}
 use Rattle.asm_update.specs.Fire.{first, written, locations}
 use Rattle.asm_update.specs.Move.{Move, actions_at, writes}
 use Rattle.asm_update.specs.declared.action.Action.{Action}
@@ -27,7 +27,7 @@ use Rattle.asm_aggregate.specs.Compose.{composed, composed_at, composition, befo
 use Rattle.asm_aggregate.specs.Compose.{IsComposedList, IsLimited, IsRefusalAt, KeepsSequence}
 use Rattle.asm_aggregate.specs.declared.composition.ComposeError.{ComposeError}
 use Rattle.asm_aggregate.specs.declared.composition.ComposeError.TheVariants as compose_error
-use Rattle.asm_aggregate.proofs.Bundles.{some_is, nothing, no_actions}
+use Rattle.asm_aggregate.proofs.Bundles.{nothing, no_actions}
 use Rattle.asm_aggregate.proofs.Grouped.{actions_at-append, bundle_or_none}
 use Rattle.asm_aggregate.proofs.Sequence.{composition_is_sequence, refusal_never_fires}
 use Rattle.asm_element.specs.Ascending.{rising_rest, first_gone}
@@ -135,7 +135,7 @@ module _ (a : Meaning) (M N : Move) where
     by_test : (l : Place) (b : Bundle) (t : Bool) → writes (M ++ N) l ≡ t →
         cond (writes (M ++ N) l) (Some (bundle_of (actions_at M l))) None ≡ Some b →
         (writes (M ++ N) l ≡ true) × (b ≡ bundle_of (actions_at M l))
-    by_test l b true w h = (w, some_is _ _ (sym h ∙ ap (λ t. cond t (Some (bundle_of (actions_at M l))) None) w))
+    by_test l b true w h = (w, same_Some _ _ (sym h ∙ ap (λ t. cond t (Some (bundle_of (actions_at M l))) None) w))
     by_test l b false w h =
         let no : None ≡ Some b = ap (λ t. cond t (Some (bundle_of (actions_at M l))) None) (sym w) ∙ h in cc
 
@@ -228,28 +228,6 @@ module _ (a : Meaning) (M N : Move) where
       left ≡ [] → IsComposing a M N left seconds list → composition a M N ≡ Ok list
   composing_ends left seconds list none had =
       sym had.rest ∙ ap (λ es. before list (in_turn (turns a M N es))) none ∙ ap (λ L. Ok L) (append-nil list)
-
--- an item that goes from what is left to what is done
-pub one_done : {X : Type 0} (done : List X) (x : X) (rest all left : List X) → done ++ left ≡ all → left ≡ x ∷ rest →
-    (done ++ x ∷ []) ++ rest ≡ all
-one_done done x rest all left whole step = append_assoc done (x ∷ []) rest ∙ ap (λ l. done ++ l) (sym step) ∙ whole
-
-pub none_to_do : {X : Type 0} (done all left : List X) → done ++ left ≡ all → left ≡ [] → done ≡ all
-none_to_do done all left whole none = sym (append-nil done) ∙ ap (λ l. done ++ l) (sym none) ∙ whole
-
-pub more_than_done : {X : Type 0} (done : List X) (x : X) (rest all left : List X) → done ++ left ≡ all →
-    left ≡ x ∷ rest → length done < length all
-more_than_done done x rest all left whole step =
-    let size : length done + length (x ∷ rest) ≡ length all =
-    sym (length-append done (x ∷ rest)) ∙ ap length (ap (λ l. done ++ l) (sym step) ∙ whole) in
-    omega (arith, size)
-
--- one action placed
-pub one_placed : (done : Move) (l : Place) (x : Action) (rest left : List Action) (all : Move) →
-    done ++ placed l left ≡ all → left ≡ x ∷ rest → (done ++ record { at = l; action = x } ∷ []) ++ placed l rest ≡ all
-one_placed done l x rest left all whole step =
-    append_assoc done (record { at = l; action = x } ∷ []) (placed l rest) ∙ ap (λ xs. done ++ placed l xs) (sym step)
-    ∙ whole
 
 -- the list is the answer, or it is too long
 pub limited_list : (a : Meaning) (M N list : Move) (answer : Result Move ComposeError) → composition a M N ≡ Ok list →

@@ -2,8 +2,7 @@
 use Rattle.std.proofs.Common.{◌≡◌, ℕ, ◌<◌, Bool, true, false, List, [], ◌∷◌, sym, subst}
 use Rattle.std.specs.Prelude.{Result, Ok, Err, if◌then◌else◌}
 use Rattle.asm_element.specs.declared.element.Element.{Element}
-use Rattle.asm_update.specs.Aggregator.{Joined, Refusal, Refused as Refuses, TooLarge}
-use Rattle.asm_update.specs.Aggregator.{IsOutcome, IsJoined}
+use Rattle.asm_update.specs.Aggregator.{Joined, Refusal, Refused as Refuses, TooLarge, IsOutcome, IsJoined}
 use Rattle.asm_update.specs.Fire.{Outcome}
 use Rattle.asm_update.specs.declared.action.Action.{Action}
 use Rattle.asm_update.specs.declared.clash.Cause.TheVariants.{Short, Large, Mixed, Both}

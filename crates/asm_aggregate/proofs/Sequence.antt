@@ -6,6 +6,7 @@ use Rattle.std.specs.declared.cmp.Ordering.TheVariants.{Less}
 use Rattle.std.specs.Ordering.{eq_by_cmp}
 use Rattle.std.specs.FinMap as finite
 use Rattle.std.proofs.lemmas.Bool.{false≢true}
+use Rattle.std.proofs.lemmas.Option.{same_Some}
 use Rattle.std.proofs.lemmas.List.Elements.{All-nil, All-cons, All-head, All-tail}
 use Rattle.std.proofs.lemmas.List.Folds.{list_any-append}
 use Rattle.asm_element.specs.Place.{Place, location_cmp, location_cmp_total, same_location}
@@ -24,7 +25,7 @@ use Rattle.asm_update.specs.declared.clash.Clash.{Clash}
 use Rattle.asm_update.proofs.FireLemmas.{stored, stored_or, stored_reads, get-overwrite, same_state, in_locations}
 use Rattle.asm_update.proofs.FireLemmas.{is_in, fired_updates, fired_clash, fire_clash, val-fired, val-unwritten}
 use Rattle.asm_aggregate.specs.Compose.{composition, composed_at, before, in_turn, placed, IsSequence, NeverFires}
-use Rattle.asm_aggregate.proofs.Bundles.{some_is, no_actions}
+use Rattle.asm_aggregate.proofs.Bundles.{no_actions}
 use Rattle.asm_aggregate.proofs.Composed.{gives, composed_is_sequence, refused_is_clash}
 use Rattle.asm_aggregate.proofs.Grouped.{actions_at-append, unwritten}
 use Rattle.asm_element.specs.Ascending.{both_T, not_among}
@@ -37,7 +38,7 @@ found_all P (e ∷ es) q v all h =
     (found_all P es q v (All-tail P e.1 (map (λ (e : Place × Value). e.1) es) all)) where
       by_test : (b : Bool) → cond b (Some e.1) (finite.find location_cmp q es) ≡ Some v →
           (finite.find location_cmp q es ≡ Some v → P v) → P v
-      by_test true h later = subst P (some_is _ _ h) (All-head P e.1 (map (λ (e : Place × Value). e.1) es) all)
+      by_test true h later = subst P (same_Some _ _ h) (All-head P e.1 (map (λ (e : Place × Value). e.1) es) all)
       by_test false h later = later h
 
 -- a state that keeps no undef is told by its values

@@ -7,6 +7,7 @@ use Rattle.std.specs.Ordering.{eq_by_cmp, is_eq}
 use Rattle.std.specs.FinMap as finite
 use Rattle.std.specs.FinMap.Entries.{below_all}
 use Rattle.std.proofs.lemmas.Bool.{false≢true}
+use Rattle.std.proofs.lemmas.Option.{same_Some}
 use Rattle.asm_element.specs.Place.{Place, location_cmp, location_cmp_total, same_location}
 use Rattle.asm_element.specs.Ascending.{both_T, is_less, rising_rest, first_gone}
 use Rattle.asm_element.specs.Tests.{itself}
@@ -22,7 +23,7 @@ use Rattle.asm_update.specs.declared.clash.Clash.{Clash}
 use Rattle.asm_update.specs.declared.errors.ResultError.{ResultError}
 use Rattle.asm_update.specs.declared.errors.ResultError.TheVariants.{Cause as Refused}
 use Rattle.asm_aggregate.specs.Bundle.{Bundle, bundle_of, bundle_at, bundle_result, AreGroups, IsWritten, IsAggregate}
-use Rattle.asm_aggregate.proofs.Bundles.{some_is, written_bundle}
+use Rattle.asm_aggregate.proofs.Bundles.{written_bundle}
 
 -- a location below the first isn't there
 lower_than : {X : Type 0} (l k : Place) (es : List (Place × X)) → location_cmp l k ≡ Less →
@@ -64,7 +65,7 @@ module _ (part : Part) (old : Old) (M : Move) where
 
     by_test : (l : Place) (b : Bundle) (t : Bool) → writes M l ≡ t → bundle_at M l ≡ Some b →
         (writes M l ≡ true) × (b ≡ bundle_of (actions_at M l))
-    by_test l b true w h = (w, some_is _ _ (sym h ∙ ap (λ t. cond t (Some (bundle_of (actions_at M l))) None) w))
+    by_test l b true w h = (w, same_Some _ _ (sym h ∙ ap (λ t. cond t (Some (bundle_of (actions_at M l))) None) w))
     by_test l b false w h =
         let no : None ≡ Some b = ap (λ t. cond t (Some (bundle_of (actions_at M l))) None) (sym w) ∙ h in cc
 

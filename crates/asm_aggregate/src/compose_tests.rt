@@ -1,6 +1,6 @@
 use crate::tests::Act::{self, Add, BagAdd, BagRemove, Remove};
 use crate::tests::Old::{self, Bag, Num, Set};
-use crate::tests::{do_at, is_clash, is_wanted, location, pairs, put_at, state_of};
+use crate::tests::{do_at, is_clash, is_wanted, location, pairs, put_at, state_with};
 use crate::*;
 use asm_update::{Aggregator, Cause, Instructions};
 use std::alloc::{AllocError, Global};
@@ -230,7 +230,7 @@ fn fires(
     old: Old,
     want: Result<Old, Cause>,
 ) -> Result<bool, Fail> {
-    let state = state_of(alloc, old)?;
+    let state = state_with(alloc, old)?;
     is_wanted(alloc, aggregate(alloc, &standard(), &state, list), want)
 }
 

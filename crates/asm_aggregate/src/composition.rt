@@ -1,6 +1,5 @@
 ghost use Rattle.std.specs.Prelude.{◌≡◌, ◌≢◌, ◌++◌, ◌∷◌, [], OnOk, Ok, Some, None, IsSome};
-ghost use Rattle.asm_update.specs.Aggregator.{after};
-ghost use Rattle.asm_update.specs.Aggregator.{IsOutcome, IsJoined};
+ghost use Rattle.asm_update.specs.Aggregator.{after, IsOutcome, IsJoined};
 ghost use Rattle.asm_update.specs.Fire.{Outcome};
 ghost use Rattle.asm_update.specs.declared.action.Action.TheVariants.{Regular};
 ghost use Rattle.asm_aggregate.specs.Compose.{own_clash, cause_of, as_regular, composed, placed};

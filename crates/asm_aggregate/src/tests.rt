@@ -141,7 +141,7 @@ fn move_of(alloc: Global, puts: &[Old], partials: &[Act]) -> Result<Instructions
     Ok(list)
 }
 
-pub(crate) fn state_of(alloc: Global, old: Old) -> Result<PlainState, Fail> {
+pub(crate) fn state_with(alloc: Global, old: Old) -> Result<PlainState, Fail> {
     let at = location(alloc, "x")?;
     let value = value_of(alloc, old)?;
     let mut state = PlainState::new(alloc);
@@ -199,7 +199,7 @@ fn aggregate_on<A: Aggregator>(
 }
 
 fn aggregates<A: Aggregator>(alloc: Global, aggregator: &A, row: Row) -> Result<bool, Fail> {
-    let state = state_of(alloc, row.0)?;
+    let state = state_with(alloc, row.0)?;
     let instructions = move_of(alloc, row.1, row.2)?;
     let answer = aggregate_on(alloc, aggregator, state, instructions);
     is_wanted(alloc, answer, row.3)

@@ -12,17 +12,16 @@ use Rattle.asm_update.proofs.FireLemmas.{fire_updates, fire_clash}
 use Rattle.asm_overlay.specs.Frames.{Frames, under, topmost, seen_through}
 use Rattle.asm_overlay.proofs.FrameLemmas.{val-under}
 use Rattle.asm_driver.specs.Blocks.{move_in}
-use Rattle.asm_driver.specs.Reads.{taken, changed, named}
-use Rattle.asm_driver.specs.Sequencing.{Stop, FaultyTerm, Clashes, fired, fire_move, fire_block, on_state}
+use Rattle.asm_driver.specs.StepReads.{taken, changed, named}
+use Rattle.asm_driver.specs.Sequencing.{Stop, FaultyTerm, Clashes, fired_or_stopped, fire_move, fire_block, on_state}
 use Rattle.asm_driver.specs.Sequencing.{fire_blocks, IsReadOf, IsStopped, IsStepMove, IsNext, IsFrame, Extends}
 use Rattle.asm_driver.specs.Sequencing.{fitting, composed_on, on_move, on_fired, on_composed, step_move_on}
 use Rattle.asm_driver.specs.declared.block.Block.{Block}
 use Rattle.asm_driver.specs.declared.step.Step.{Step}
-use Rattle.std.proofs.lemmas.Bool.{false≢true}
+use Rattle.std.proofs.lemmas.Bool.{false≢true, lt-ltb, le-ltb}
 use Rattle.std.proofs.lemmas.List.{drop_more}
 use Rattle.asm_driver.specs.declared.step.StepFault.{StepFault}
 use Rattle.asm_driver.specs.declared.step.StepFault.TheVariants.{Term, Clash as Clashing, Large, Many, Memory}
-use Rattle.asm_driver.proofs.Faults.{above, at_most}
 use Rattle.asm_driver.proofs.Agreeing.{Agree, agree_left, agree_right, same_move, same_update_set, same_clash}
 
 -- firing what is done so far leaves this state; before the first block there is nothing to fire
@@ -31,7 +30,7 @@ IsDoneBy part A None B = A ≡ B
 IsDoneBy part A (Some M) B = fire part A M ≡ Ok B
 
 -- the blocks before those that are left were pushed as frames and composed to what is done
-pub record IsPlayed (a : Meaning) (old : Old) (step : Step) (frames : Frames) (done : Option Move) (left : List Block)
+pub record AreSequenced (a : Meaning) (old : Old) (step : Step) (frames : Frames) (done : Option Move) (left : List Block)
     (last : Block) : Type 0 where
   pub names : (l : Place) → Contains (named (left ++ last ∷ [])) l → Contains (named step) l
   pub blocks : (A : State) → IsReadOf A old step →
@@ -41,7 +40,7 @@ pub record IsPlayed (a : Meaning) (old : Old) (step : Step) (frames : Frames) (d
       step_move_on a A None step ≡ step_move_on a (under A frames) done (left ++ last ∷ [])
 
 pub at_start : (a : Meaning) (old : Old) (left : List Block) (last : Block) →
-    IsPlayed a old (left ++ last ∷ []) [] None left last
+    AreSequenced a old (left ++ last ∷ []) [] None left last
 at_start a old left last = record {
   names = λ l there. there;
   blocks = λ A read. refl;
@@ -75,7 +74,7 @@ extended a A B (Some D) M C proper is extends =
 composed_is : (a : Meaning) (done : Option Move) (M C : Move) → Extends a done M (Ok C) → composed_on a done M ≡ Ok C
 composed_is a None M C extends = ap Ok (sym extends)
 composed_is a (Some D) M C (keeps, composed, few) =
-    ap fitting composed ∙ ap (λ b. cond b (Err Many) (Ok C)) (at_most 4096 (length C) few)
+    ap fitting composed ∙ ap (λ b. cond b (Err Many) (Ok C)) (le-ltb 4096 (length C) few)
 
 clashes_so : (a : Meaning) (done : Option Move) (M : Move) (clash : Clash) → Extends a done M (Err (Clashing clash)) →
     composed_on a done M ≡ Err (Clashing clash)
@@ -91,7 +90,7 @@ too_many : (a : Meaning) (done : Option Move) (M : Move) → Extends a done M (E
     composed_on a done M ≡ Err Many
 too_many a None M extends = absurd extends
 too_many a (Some D) M (C, composed, many) =
-    ap fitting composed ∙ ap (λ b. cond b (Err Many) (Ok C)) (above 4096 (length C) many)
+    ap fitting composed ∙ ap (λ b. cond b (Err Many) (Ok C)) (lt-ltb 4096 (length C) many)
 
 -- the move of a step whose first block has this move, or none, and is followed by others
 first_move : (a : Meaning) (A : State) (done : Option Move) (b : Block) (left : List Block) (last : Block) (M : Move) →
@@ -120,13 +119,13 @@ clash_of (Ok A) h = absurd (false≢true h)
 clash_of (Err clash) h = (clash, refl)
 
 -- the faults that no state survives
-abbrev IsRefusal : StepFault → Type 0
-IsRefusal (Clashing clash) = Unit {0}
-IsRefusal (Large l) = Unit {0}
-IsRefusal _ = ⊥
+abbrev IsLasting : StepFault → Type 0
+IsLasting (Clashing clash) = Unit {0}
+IsLasting (Large l) = Unit {0}
+IsLasting _ = ⊥
 
 refused : (a : Meaning) (A B : State) (done : Option Move) (M : Move) (fault : StepFault) → IsProper A →
-    IsDoneBy a.part A done B → Extends a done M (Err fault) → IsRefusal fault → IsErr (fire a.part B M)
+    IsDoneBy a.part A done B → Extends a done M (Err fault) → IsLasting fault → IsErr (fire a.part B M)
 refused a A B None M fault proper is extends refusal = absurd extends
 refused a A B (Some D) M (Clashing clash) proper is extends refusal =
     subst IsErr (after_done a.part A B D M is) (extends.0 A proper)
@@ -149,13 +148,13 @@ module _ (a : Meaning) (old : Old) (step : Step) (frames : Frames) (done : Optio
   part = a.part
 
   -- where a state was read, what is seen through the frames is what stands in the state that they leave
-  seen_is : (left : List Block) (last : Block) → IsPlayed a old step frames done left last → (A : State) →
+  seen_is : (left : List Block) (last : Block) → AreSequenced a old step frames done left last → (A : State) →
       IsReadOf A old step →
       Agree (seen_through frames old) (val (under A frames)) (named (left ++ last ∷ []))
   seen_is left last played A read l there =
       sym (val-under A frames l ∙ ap (unwrap_or (topmost frames l)) (read.same l (played.names l there)))
 
-  module _ (b : Block) (left : List Block) (last : Block) (played : IsPlayed a old step frames done (b ∷ left) last)
+  module _ (b : Block) (left : List Block) (last : Block) (played : AreSequenced a old step frames done (b ∷ left) last)
     where
       all_seen : (A : State) → IsReadOf A old step →
           Agree (seen_through frames old) (val (under A frames)) (taken b ++ (changed b ++ named (left ++ last ∷ [])))
@@ -192,7 +191,7 @@ module _ (a : Meaning) (old : Old) (step : Step) (frames : Frames) (done : Optio
 
       module _ (M : Move) (is : move_in (seen_through frames old) b ≡ Some M) where
         fires_block : (A : State) → IsReadOf A old step →
-            fire_block part (under A frames) b ≡ fired (fire part (under A frames) M)
+            fire_block part (under A frames) b ≡ fired_or_stopped (fire part (under A frames) M)
         fires_block A read = ap (fire_move part (under A frames)) (sym (move_is A read) ∙ is)
 
         changes_seen : (A : State) → IsReadOf A old step →
@@ -216,7 +215,7 @@ module _ (a : Meaning) (old : Old) (step : Step) (frames : Frames) (done : Optio
             let there = same_clash part _ _ b M is (changes_seen A read) clash least in
             let clashes = fire_clash part (under A frames) M clash there in (
               goes_on A read ∙ ap (on_fired onward) clashes,
-              (clash, stops A read (Clashes clash) (fires_block A read ∙ ap fired clashes)),
+              (clash, stops A read (Clashes clash) (fires_block A read ∙ ap fired_or_stopped clashes)),
             )
 
         -- what is answered where the block has no update set
@@ -242,7 +241,7 @@ module _ (a : Meaning) (old : Old) (step : Step) (frames : Frames) (done : Optio
 
           -- a block that fires isn't refused
           not_refused : (A : State) → IsReadOf A old step → (fault : StepFault) → Extends a done M (Err fault) →
-              IsRefusal fault → ⊥
+              IsLasting fault → ⊥
           not_refused A read fault extends refusal =
               false≢true (subst IsErr (fires A read)
               (refused a A (under A frames) done M fault read.proper (played.moved A read) extends refusal))
@@ -260,7 +259,7 @@ module _ (a : Meaning) (old : Old) (step : Step) (frames : Frames) (done : Optio
 
           -- one more block is a frame, and composed to what is done
           pub one_more : (C : Move) → Extends a done M (Ok C) →
-              IsPlayed a old step (frames ++ U ∷ []) (Some C) left last
+              AreSequenced a old step (frames ++ U ∷ []) (Some C) left last
           one_more C extends = record {
             names = λ l there.
                 played.names l (subst (λ (ls : List Place). Contains ls l) (sym (named_first b left last))
@@ -268,7 +267,7 @@ module _ (a : Meaning) (old : Old) (step : Step) (frames : Frames) (done : Optio
             blocks = λ A read.
                 played.blocks A read
                 ∙ ap (on_state (λ B. fire_blocks part B (left ++ last ∷ [])))
-                (fires_block A read ∙ ap fired (fires A read));
+                (fires_block A read ∙ ap fired_or_stopped (fires A read));
             moved = λ A read.
                 extended a A (under A frames) done M C read.proper (played.moved A read) extends ∙ fires A read;
             composed = λ A read.
@@ -277,7 +276,7 @@ module _ (a : Meaning) (old : Old) (step : Step) (frames : Frames) (done : Optio
                 (composed_is a done M C extends);
           }
 
-  module _ (last : Block) (played : IsPlayed a old step frames done [] last) where
+  module _ (last : Block) (played : AreSequenced a old step frames done [] last) where
     same_last : (A : State) → IsReadOf A old step → (M : Option Move) → move_in (seen_through frames old) last ≡ M →
         move_in (val (under A frames)) last ≡ M
     same_last A read M is =
@@ -304,19 +303,19 @@ module _ (a : Meaning) (old : Old) (step : Step) (frames : Frames) (done : Optio
 
     module _ (M : Move) (is : move_in (seen_through frames old) last ≡ Some M) where
       last_refused : (A : State) → IsReadOf A old step → (fault : StepFault) → Extends a done M (Err fault) →
-          IsRefusal fault →
+          IsLasting fault →
           IsStopped (fire_blocks part A step)
       last_refused A read fault extends refusal =
           let clash = clash_of (fire part (under A frames) M)
           (refused a A (under A frames) done M fault read.proper (played.moved A read) extends refusal) in
-          (clash.0, last_is A read (Some M) is ∙ ap fired clash.1)
+          (clash.0, last_is A read (Some M) is ∙ ap fired_or_stopped clash.1)
 
       -- the last block, composed to what is done, is the step's move
       pub last_answer : (answer : Result Move StepFault) → Extends a done M answer → IsStepMove a old step answer
       last_answer (Ok C) extends = λ A read. (
         last_move A read (Some M) is ∙ composed_is a done M C extends,
         last_is A read (Some M) is
-            ∙ ap fired (sym (extended a A (under A frames) done M C read.proper (played.moved A read) extends)),
+            ∙ ap fired_or_stopped (sym (extended a A (under A frames) done M C read.proper (played.moved A read) extends)),
       )
       last_answer (Err Term) extends = absurd (no_term a done M extends)
       last_answer (Err (Clashing clash)) extends = λ A read. (

@@ -19,9 +19,9 @@ use Rattle.asm_update.specs.declared.action.Action.TheVariants as action
 use Rattle.asm_update.specs.declared.action.Instruction.{Instruction}
 use Rattle.asm_update.specs.declared.clash.Cause.TheVariants.{Two}
 use Rattle.asm_update.specs.declared.clash.Clash.{Clash}
-use Rattle.asm_driver.specs.Terms.{term_value, element_of, number_of, sum_value, locations_in}
+use Rattle.asm_driver.specs.Terms.{term_value, given_element, given_number, sum_value, locations_in}
 use Rattle.asm_driver.specs.Blocks.{action_in, instruction_in, move_in}
-use Rattle.asm_driver.specs.Reads.{term_of, target_of, taken, changed}
+use Rattle.asm_driver.specs.StepReads.{term_of, target_of, taken, changed}
 use Rattle.asm_driver.specs.declared.term.Term.{Term}
 use Rattle.asm_driver.specs.declared.term.Term.TheVariants as term
 use Rattle.asm_driver.specs.declared.term.Term.TheVariants.{Val, Sum'}
@@ -49,14 +49,14 @@ module _ (old new : Old) where
   same_term (Sum' p a q b) same =
       let one = same_term a (agree_left old new (locations_in a) (locations_in b) same) in
       let other = same_term b (agree_right old new (locations_in a) (locations_in b) same) in
-      λ i. sum_value (number_of (one i)) (number_of (other i))
+      λ i. sum_value (given_number (one i)) (given_number (other i))
 
   same_action : (a : TermAction) → Agree old new (locations_in (term_of a)) → action_in old a ≡ action_in new a
   same_action (Put t) same = ap (option_map action.Regular) (same_term t same)
-  same_action (Add t) same = ap (λ v. option_map action.SetAdd (element_of v)) (same_term t same)
-  same_action (Remove t) same = ap (λ v. option_map action.SetRemove (element_of v)) (same_term t same)
-  same_action (BagAdd t n) same = ap (λ v. option_map (λ e. action.BagAdd e n) (element_of v)) (same_term t same)
-  same_action (BagRemove t n) same = ap (λ v. option_map (λ e. action.BagRemove e n) (element_of v)) (same_term t same)
+  same_action (Add t) same = ap (λ v. option_map action.SetAdd (given_element v)) (same_term t same)
+  same_action (Remove t) same = ap (λ v. option_map action.SetRemove (given_element v)) (same_term t same)
+  same_action (BagAdd t n) same = ap (λ v. option_map (λ e. action.BagAdd e n) (given_element v)) (same_term t same)
+  same_action (BagRemove t n) same = ap (λ v. option_map (λ e. action.BagRemove e n) (given_element v)) (same_term t same)
 
   -- so the block has the same move in both
   pub same_move : (b : Block) → Agree old new (taken b) → move_in old b ≡ move_in new b

@@ -10,7 +10,7 @@ use Rattle.clap.specs.declared.error.kind.ErrorKind.{ErrorKind}
 use Rattle.clap.specs.declared.error.kind.ErrorKind.TheVariants as kind
 use Rattle.asm_driver.specs.Words.{Words, program, faults, program_with, run_with, Asks, AsksFor, IsNoCommand}
 use Rattle.asm_driver.specs.Words.{IsRefusal, IsMadeOf}
-use Rattle.asm_driver.specs.Words.{Gives, Refuses, Helps, Answers}
+use Rattle.asm_driver.specs.Words.{Gives, RefusesWords, Helps, Answers}
 use Rattle.asm_driver.specs.declared.words.Request.{Request}
 use Rattle.asm_driver.specs.declared.words.Request.TheVariants.{Run, Check}
 use Rattle.asm_driver.specs.declared.words.WordsError.{WordsError}
@@ -79,7 +79,7 @@ gives example words n (Err Memory) is ok err e = refl
 
 refuses : (example words : Words) (k : ErrorKind) (ks : Kinds) (r : Result Request WordsError) →
     faults example ≡ k ∷ ks → ¬ IsAmong kind.DisplayHelp (k ∷ ks) → IfOk r (AsksFor words) →
-    IfErr r (IsRefusal words) → words ≡ example → Refuses r
+    IfErr r (IsRefusal words) → words ≡ example → RefusesWords r
 refuses example words k ks (Ok m) is without ok err e = let none : k ∷ ks ≡ [] = sym is
     ∙ subst (λ w. faults w ≡ []) e ok.0 in absurd (cc (none))
 refuses example words k ks (Err (Help text)) is without ok err e = absurd

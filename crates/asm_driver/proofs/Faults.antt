@@ -5,7 +5,6 @@ use Rattle.std.proofs.lemmas.List.{append-nil}
 use Rattle.std.proofs.lemmas.List.Folds.{list_any-append}
 use Rattle.std.specs.Prelude.{nat_lt, ◌||◌}
 use Rattle.std.specs.List.{flat_map, list_any}
-use Rattle.std.proofs.lemmas.Bool.Decides.{nat_tests}
 use Rattle.std.proofs.lemmas.Bool.Decides.{same_from_decides}
 use Rattle.std.proofs.lemmas.Map.Keys.{IsDistinct-from_sorted}
 use Rattle.std.proofs.lemmas.Map.Made.{is_member-Decides, length-from_keys}
@@ -13,10 +12,12 @@ use Rattle.std.specs.Bool.{Decides}
 use Rattle.std.specs.Cmp.{IsEquivalence, eq_by_cmp_equiv}
 use Rattle.std.specs.Ordering.{eq_by_cmp}
 use Rattle.std.specs.Set.{is_member}
+use Rattle.std.proofs.lemmas.Bool.{lt-ltb, le-ltb}
+use Rattle.std.proofs.lemmas.Grind.{flat_map-append}
 use Rattle.asm_element.specs.Place.{Place, location_cmp, location_cmp_total, same_location}
 use Rattle.serde_json.specs.Data.{Data}
 use Rattle.asm_journal.specs.Shape.{two_of}
-use Rattle.asm_driver.specs.Reads.{named, AreReads}
+use Rattle.asm_driver.specs.StepReads.{named, AreReads}
 use Rattle.asm_driver.specs.declared.block.Block.{Block}
 use Rattle.asm_driver.specs.declared.step.Step.{Step}
 use Rattle.asm_driver.specs.declared.parsing.Written.{Written}
@@ -25,13 +26,7 @@ use Rattle.asm_driver.specs.declared.script.ScriptCause.TheVariants.{Agents, Blo
 use Rattle.asm_driver.specs.declared.script.ScriptError.{ScriptError}
 use Rattle.asm_driver.specs.declared.script.ScriptError.TheVariants.{BadScript, Memory}
 use Rattle.asm_driver.specs.Script.{when, is_long, IsLong, reads_count, step_faults, agent_faults, faults, IsFirst}
-use Rattle.asm_driver.specs.Script.{HasForm, IsRefused}
-
-pub above : (m n : ℕ) → m < n → nat_lt m n ≡ true
-above m n h = grind (arith, nat_tests)
-
-pub at_most : (m n : ℕ) → n ≤ m → nat_lt m n ≡ false
-at_most m n h = grind (arith, nat_tests)
+use Rattle.asm_driver.specs.Script.{HasForm, IsRefusedScript}
 
 -- ---- a step
 
@@ -43,14 +38,14 @@ pub no_block : (s : Step) → length s ≡ 0 → IsFirst (step_faults s) (BadScr
 no_block s none = (
   _,
   ap (λ t. by_answers t (nat_lt 65 (length s)) (list_any is_long s) (nat_lt 256 (reads_count s)))
-      (above (length s) 1 (omega (arith, none))),
+      (lt-ltb (length s) 1 (omega (arith, none))),
 )
 
 pub many_blocks : (s : Step) → 65 < length s → IsFirst (step_faults s) (BadScript Blocks)
 many_blocks s many = (
   _,
   ap₂ (λ t u. by_answers t u (list_any is_long s) (nat_lt 256 (reads_count s)))
-      (at_most (length s) 1 (omega (arith, many))) (above 65 (length s) many),
+      (le-ltb (length s) 1 (omega (arith, many))) (lt-ltb 65 (length s) many),
 )
 
 -- with 1 to 65 blocks
@@ -58,8 +53,8 @@ module _ (s : Step) (some : 1 ≤ length s) (few : length s ≤ 65) where
   pub long_block : (e : ScriptError) → IsLong (list_any is_long s) e → IsFirst (step_faults s) e
   long_block (BadScript cause) h = (
     when (nat_lt 256 (reads_count s)) Reads,
-    ap₂ (λ t u. by_answers t u (list_any is_long s) (nat_lt 256 (reads_count s))) (at_most (length s) 1 some)
-        (at_most 65 (length s) few)
+    ap₂ (λ t u. by_answers t u (list_any is_long s) (nat_lt 256 (reads_count s))) (le-ltb (length s) 1 some)
+        (le-ltb 65 (length s) few)
         ∙ ap (λ t. by_answers false false t (nat_lt 256 (reads_count s))) h.1
         ∙ ap (λ x. x ∷ when (nat_lt 256 (reads_count s)) Reads) (sym h.0),
   )
@@ -67,15 +62,15 @@ module _ (s : Step) (some : 1 ≤ length s) (few : length s ≤ 65) where
 
   short_blocks : list_any is_long s ≡ false → step_faults s ≡ when (nat_lt 256 (reads_count s)) Reads
   short_blocks short =
-      ap₂ (λ t u. by_answers t u (list_any is_long s) (nat_lt 256 (reads_count s))) (at_most (length s) 1 some)
-      (at_most 65 (length s) few)
+      ap₂ (λ t u. by_answers t u (list_any is_long s) (nat_lt 256 (reads_count s))) (le-ltb (length s) 1 some)
+      (le-ltb 65 (length s) few)
       ∙ ap (λ t. by_answers false false t (nat_lt 256 (reads_count s))) short
 
   pub many_reads : list_any is_long s ≡ false → 256 < reads_count s → IsFirst (step_faults s) (BadScript Reads)
-  many_reads short many = ([], short_blocks short ∙ ap (λ t. when t Reads) (above 256 (reads_count s) many))
+  many_reads short many = ([], short_blocks short ∙ ap (λ t. when t Reads) (lt-ltb 256 (reads_count s) many))
 
   pub no_fault : list_any is_long s ≡ false → reads_count s ≤ 256 → step_faults s ≡ []
-  no_fault short few_reads = short_blocks short ∙ ap (λ t. when t Reads) (at_most 256 (reads_count s) few_reads)
+  no_fault short few_reads = short_blocks short ∙ ap (λ t. when t Reads) (le-ltb 256 (reads_count s) few_reads)
 
 -- a list that has what the step reads, each once, is as long as these are many
 pub count_of_reads : (step : Step) (ls : List Place) → AreReads step ls → length ls ≡ reads_count step
@@ -108,12 +103,6 @@ one_done done new x y rest all left whole step added is =
 
 pub none_left : {X : Type 0} (done all left : List X) → done ++ left ≡ all → left ≡ [] → done ≡ all
 none_left done all left whole none = sym (append-nil done) ∙ ap (λ l. done ++ l) (sym none) ∙ whole
-
-flat_map-append : {X Y : Type 0} (f : X → List Y) (xs ys : List X) → flat_map f (xs ++ ys) ≡ flat_map f xs
-    ++ flat_map f ys
-flat_map-append f [] ys = refl
-flat_map-append f (x ∷ xs) ys = ap (λ l. f x ++ l) (flat_map-append f xs ys)
-    ∙ sym (append_assoc (f x) (flat_map f xs) (flat_map f ys))
 
 -- no fault so far, and none in the next
 pub none_more : {X : Type 0} (f : X → List ScriptCause) (done : List X) (x : X) → flat_map f done ≡ [] → f x ≡ [] →
@@ -151,17 +140,17 @@ long_more done x rest all left Memory whole step so_far is = tt
 
 -- with few agents the faults are those of their steps
 pub few_agents : (agents : List (List Step)) → length agents ≤ 256 → faults agents ≡ flat_map agent_faults agents
-few_agents agents few = ap (λ t. when t Agents ++ flat_map agent_faults agents) (at_most 256 (length agents) few)
+few_agents agents few = ap (λ t. when t Agents ++ flat_map agent_faults agents) (le-ltb 256 (length agents) few)
 
 -- too many agents are the first fault
 pub many_agents : (agents : List (List Step)) → 256 < length agents → IsFirst (faults agents) (BadScript Agents)
 many_agents agents many = (
   flat_map agent_faults agents,
-  ap (λ t. when t Agents ++ flat_map agent_faults agents) (above 256 (length agents) many),
+  ap (λ t. when t Agents ++ flat_map agent_faults agents) (lt-ltb 256 (length agents) many),
 )
 
 pub beyond : (bytes : List ℕ) (w : Written) → HasForm bytes w → (e : ScriptError) → IsFirst (faults w.agents) e →
-    IsRefused bytes e
+    IsRefusedScript bytes e
 beyond bytes w form (BadScript cause) first = inr (inr (w, form, first))
 beyond bytes w form Memory first = tt
 

@@ -10,7 +10,7 @@ use Rattle.std.specs.List.Sorted.{IsPermutation, IsSorted, IsStrictlySortedBy}
 use Rattle.std.specs.Cmp.{eq_by_cmp_equiv}
 use Rattle.std.specs.Ordering.{eq_by_cmp}
 use Rattle.asm_element.specs.Place.{Place, location_cmp, location_cmp_total, same_location}
-use Rattle.asm_driver.specs.Reads.{taken, changed, named, AreReads}
+use Rattle.asm_driver.specs.StepReads.{taken, changed, named, AreReads}
 use Rattle.asm_driver.specs.declared.block.Block.{Block}
 use Rattle.asm_driver.specs.declared.step.Step.{Step}
 

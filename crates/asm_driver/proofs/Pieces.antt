@@ -3,7 +3,7 @@ use Rattle.std.proofs.Common.{◌≡◌, ℕ, ◌-◌, ◌==◌, true, List, [],
 use Rattle.std.proofs.Common.{Some, sym, ap, ◌∙◌, append_assoc, append-nil, take-append-drop, arith}
 use Rattle.std.specs.Prelude.{Result, Ok, Err, OnOk}
 use Rattle.std.proofs.Math.Seq.{take-append_seam}
-use Rattle.std.specs.Io.KnownBytes.{Appends, Keeps, Consumes}
+use Rattle.std.specs.Io.KnownBytes.{Appends, Keeps}
 use Rattle.std.proofs.lemmas.Grind.{common_steps}
 
 pub drop_whole : (n : ℕ) (s : List ℕ) → take (length s - n) (drop n s) ≡ drop n s
@@ -27,14 +27,6 @@ whole_out (Some x) (Some y) (Some z) text done rest e nil p q =
 
 pub nothing_left : (s : List ℕ) → true ≡ (length s == 0) → s ≡ []
 nothing_left s e = grind (arith, common_steps)
-
--- a read of no bytes consumed none
-pub none_more : (a b c : Option (List ℕ)) (bytes none : List ℕ) → none ≡ [] → Consumes a b bytes → Consumes b c none →
-    Consumes a c bytes
-none_more None b c bytes none e p q = tt
-none_more (Some x) None c bytes none e p q = absurd p
-none_more (Some x) (Some y) None bytes none e p q = absurd q
-none_more (Some x) (Some y) (Some z) bytes none e p q = p ∙ ap (λ l. bytes ++ l) (q ∙ ap (λ l. l ++ z) e)
 
 -- what had gone out is the first part of the text
 pub some_out : (a b c : Option (List ℕ)) (text done rest : List ℕ) → text ≡ done ++ rest → Appends a b done →

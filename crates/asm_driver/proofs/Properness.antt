@@ -6,6 +6,7 @@ use Rattle.std.specs.FinMap as finite
 use Rattle.std.specs.FinMap.Entries.{below_all}
 use Rattle.std.specs.Ordering.{eq_by_cmp}
 use Rattle.std.proofs.lemmas.Bool.{false≢true}
+use Rattle.std.proofs.lemmas.Option.{same_Some}
 use Rattle.std.proofs.lemmas.List.Elements.{All-nil, All-cons, All-head, All-tail}
 use mathlib.Core.List.{IsPrefix}
 use Rattle.asm_element.specs.Place.{Place, location_cmp, location_cmp_total, same_location}
@@ -27,9 +28,6 @@ use Rattle.asm_update.specs.declared.clash.Clash.{Clash}
 use Rattle.asm_update.specs.declared.clash.Cause.TheVariants.{Two}
 use Rattle.asm_update.proofs.FireLemmas.{stored_or, get-overwrite, has_updated, fired_updates}
 use Rattle.asm_driver.specs.Plays.{AreProper}
-
-some_is : {X : Type 0} (x y : X) → ◌≡◌ {A = Option X} (Some x) (Some y) → x ≡ y
-some_is x y e = cc
 
 -- what is kept at a location
 abbrev IsKept : Place → Value → Type 0
@@ -85,7 +83,7 @@ found_kept (e ∷ es) each q v is =
           cond b (Some e.1) (finite.find location_cmp q es) ≡ Some v →
           (finite.find location_cmp q es ≡ Some v → IsKept q v) → IsKept q v
       by_test true same is later =
-          let here : e.1 ≡ v = some_is _ _ is in (
+          let here : e.1 ≡ v = same_Some _ _ is in (
             subst place.IsProper (sym (same_location q e.0 same)) (All-head place.IsProper e.0 _ each.locations),
             subst value.IsProper here (All-head value.IsProper e.1 _ each.values),
             subst (λ w. value.is_undef w ≡ false) here (All-head (λ w. value.is_undef w ≡ false) e.1 _ each.no_undef),
@@ -137,7 +135,7 @@ written_proper (x ∷ M) l h is = by_test (eq_by_cmp location_cmp x.at l) refl i
 first_proper : (G : List Action) → AllProper G → (v : Value) → first (filter_map regular_value G) ≡ Some v →
     value.IsProper v
 first_proper [] h v is = absurd cc
-first_proper (Regular u ∷ G) h v is = subst value.IsProper (some_is u v is) (All-head IsProper (Regular u) G h)
+first_proper (Regular u ∷ G) h v is = subst value.IsProper (same_Some u v is) (All-head IsProper (Regular u) G h)
 first_proper (SetAdd e ∷ G) h v is = first_proper G (All-tail IsProper (SetAdd e) G h) v is
 first_proper (SetRemove e ∷ G) h v is = first_proper G (All-tail IsProper (SetRemove e) G h) v is
 first_proper (BagAdd e n ∷ G) h v is = first_proper G (All-tail IsProper (BagAdd e n) G h) v is
@@ -184,7 +182,7 @@ module _ {a : Meaning} (laws : AggregatorLaws a) where
         place.IsProper q → value.IsProper u → IsKept q v
     by_undef q u v true e is pq pu = absurd cc
     by_undef q u v false e is pq pu =
-        let same : u ≡ v = some_is u v is in
+        let same : u ≡ v = same_Some u v is in
         (pq, subst value.IsProper same pu, subst (λ w. value.is_undef w ≡ false) same e)
 
     by_update : (q : Place) (v : Value) (o : Option Value) → finite.get updates.0 q ≡ o →

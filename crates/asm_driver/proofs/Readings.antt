@@ -2,6 +2,8 @@
 use Rattle.std.proofs.Common.{◌≡◌, ℕ, zero, suc, ◌+◌, ◌≤◌, Bool, true, false, cond, List, [], ◌∷◌, ◌++◌, length, map}
 use Rattle.std.proofs.Common.{take, drop, Some, slice_get, Contains, refl, sym, ap, ◌∙◌, arith}
 use Rattle.std.specs.Ordering.{eq_by_cmp}
+use Rattle.std.proofs.lemmas.List.{drop_all, map-append}
+use Rattle.asm_storage.proofs.Lists.{take-slice_get}
 use Rattle.asm_element.specs.Place.{Place, location_cmp, location_cmp_total, same_location}
 use Rattle.asm_element.specs.Tests.{itself}
 use Rattle.asm_element.specs.Value.{undef}
@@ -19,20 +21,9 @@ left_suc (y ∷ xs) (suc i) x is = left_suc xs i x is
 pub left_at : {X : Type 0} (xs : List X) (i : ℕ) (x : X) → slice_get xs i ≡ Some x → drop i xs ≡ x ∷ drop (i + 1) xs
 left_at xs i x is = let on : suc i ≡ i + 1 = omega arith in left_suc xs i x is ∙ ap (λ n. x ∷ drop n xs) on
 
-pub drop_end : {X : Type 0} (xs : List X) (i : ℕ) → length xs ≤ i → drop i xs ≡ []
-drop_end [] zero le = refl
-drop_end [] (suc i) le = refl
-drop_end (x ∷ xs) zero le = absurd (omega arith)
-drop_end (x ∷ xs) (suc i) le = drop_end xs i (omega arith)
-
-take_suc : {X : Type 0} (xs : List X) (i : ℕ) (x : X) → slice_get xs i ≡ Some x → take (suc i) xs ≡ take i xs ++ x ∷ []
-take_suc [] i x is = absurd cc
-take_suc (y ∷ xs) zero x is = let e : y ≡ x = cc is in ap (λ z. z ∷ []) e
-take_suc (y ∷ xs) (suc i) x is = ap (λ zs. y ∷ zs) (take_suc xs i x is)
-
 take_more_at : {X : Type 0} (xs : List X) (i : ℕ) (x : X) → slice_get xs i ≡ Some x →
     take (i + 1) xs ≡ take i xs ++ x ∷ []
-take_more_at xs i x is = let on : i + 1 ≡ suc i = omega arith in ap (λ n. take n xs) on ∙ take_suc xs i x is
+take_more_at xs i x is = let on : i + 1 ≡ suc i = omega arith in ap (λ n. take n xs) on ∙ take-slice_get xs i x is
 
 -- the values from place i on tell the value at l, as all of them do
 abbrev pub TellsFrom : ReadingView → Place → ℕ → Type 0
@@ -58,7 +49,7 @@ module _ (r : ReadingView) (l : Place) (i : ℕ) (told : TellsFrom r l i) (p : P
 -- nothing is left
 pub tells_none : (r : ReadingView) (l : Place) (i : ℕ) → TellsFrom r l i → length r.places ≤ i →
     value_among r.places r.values l ≡ undef
-tells_none r l i told le = told ∙ ap (λ ps. value_among ps (drop i r.values) l) (drop_end r.places i le)
+tells_none r l i told le = told ∙ ap (λ ps. value_among ps (drop i r.values) l) (drop_all i r.places le)
 
 -- the value read is the value
 pub value_mapped : (f : Place → Value) (ps : List Place) (l : Place) → Contains ps l → value_among ps (map f ps) l ≡ f l
@@ -75,10 +66,6 @@ value_mapped f (p ∷ ps) l there = by_test (eq_by_cmp location_cmp p l) refl th
   by_test false other (suc k, lt, is) later =
       ap (λ b. cond b (f p) (value_among ps (map f ps) l)) other ∙ later (k, omega (arith, lt), is)
 
-pub mapped_both : {X Y : Type 0} (f : X → Y) (xs ys : List X) → map f (xs ++ ys) ≡ map f xs ++ map f ys
-mapped_both f [] ys = refl
-mapped_both f (x ∷ xs) ys = ap (λ zs. f x ∷ zs) (mapped_both f xs ys)
-
 -- one name more
 pub named_more : (r : ReadingView) (i : ℕ) (old new : List Named) (n : Named) →
     old ≡ map (name_at r.number) (take i r.places) →
@@ -86,5 +73,5 @@ pub named_more : (r : ReadingView) (i : ℕ) (old new : List Named) (n : Named) 
     new ≡ map (name_at r.number) (take (i + 1) r.places)
 named_more r i old new n was at number is =
     let name : n ≡ name_at r.number n.at = (λ j. record { at = n.at; number = number j }) in
-    is ∙ (λ j. was j ++ name j ∷ []) ∙ sym (mapped_both (name_at r.number) (take i r.places) (n.at ∷ []))
+    is ∙ (λ j. was j ++ name j ∷ []) ∙ sym (map-append (name_at r.number) (take i r.places) (n.at ∷ []))
     ∙ ap (map (name_at r.number)) (sym (take_more_at r.places i n.at at))

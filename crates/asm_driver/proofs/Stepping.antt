@@ -1,20 +1,21 @@
 -- Steps that were played, one after another.
-use Rattle.std.proofs.Common.{◌≡◌, ◌⊎◌, inl, inr, ℕ, zero, suc, ◌+◌, ◌-◌, ◌*◌, ◌≤◌, min, List, [], ◌∷◌, ◌++◌, length}
+use Rattle.std.proofs.Common.{◌≡◌, ◌⊎◌, inl, inr, ℕ, zero, suc, ◌+◌, ◌-◌, ◌*◌, ◌≤◌, List, [], ◌∷◌, ◌++◌, length}
 use Rattle.std.proofs.Common.{take, map, All, None, Ok, Err, append_assoc, append-nil, length-append, arith, refl, sym}
 use Rattle.std.proofs.Common.{ap, subst, ◌∙◌}
 use Rattle.std.proofs.lemmas.List.Elements.{All-nil, All-append}
+use Rattle.std.proofs.lemmas.List.{map-append, length-map, length-take}
 use mathlib.Core.List.{IsPrefix}
 use Rattle.asm_update.specs.Aggregator.{Meaning}
 use Rattle.asm_update.specs.Fire.{fire}
 use Rattle.asm_update.specs.Move.{Move}
 use Rattle.asm_update.specs.declared.clash.Clash.{Clash}
 use Rattle.asm_storage.specs.Agents.{event_of, moves_seen}
-use Rattle.asm_storage.specs.Machine.{Machine, state_of}
+use Rattle.asm_storage.specs.Machine.{Machine, machine_state}
 use Rattle.asm_storage.specs.Storage.{AgentAt, StorageView, IsSameAgent, machine_of}
 use Rattle.asm_storage.specs.declared.history.Event.{Event}
 use Rattle.asm_storage.specs.declared.receipt.Entry.{Entry}
 use Rattle.asm_storage.specs.declared.receipt.Receipt.{Receipt}
-use Rattle.asm_storage.proofs.Lists.{take-prefix}
+use Rattle.asm_storage.proofs.Lists.{take-prefix, length-prefix}
 use Rattle.asm_driver.specs.Plays.{AreProper, Plays}
 use Rattle.asm_driver.specs.Sequencing.{fire_blocks, step_move_on, StandsFor}
 use Rattle.asm_driver.specs.Told.{IsIdle, IsFiring, IsClashing, HasNoRoom, HasFault, Outgrows}
@@ -27,17 +28,7 @@ use Rattle.asm_driver.specs.declared.step.StepFault.TheVariants as fault
 use Rattle.asm_driver.specs.declared.outcome.Outcome.{Outcome}
 use Rattle.asm_driver.specs.declared.outcome.Outcome.TheVariants as outcome
 use Rattle.asm_driver.proofs.Properness.{proper_prefix}
-use Rattle.asm_driver.proofs.Readings.{mapped_both}
-use Rattle.asm_driver.proofs.Tries.{prefix_length, prefix_mapped, adds_then, adds_none}
-
-take_length : {X : Type 0} (n : ℕ) (xs : List X) → length (take n xs) ≡ min n (length xs)
-take_length zero xs = omega arith
-take_length (suc n) [] = omega arith
-take_length (suc n) (x ∷ xs) = omega (arith, take_length n xs)
-
-mapped_length : {X Y : Type 0} (f : X → Y) (xs : List X) → length (map f xs) ≡ length xs
-mapped_length f [] = refl
-mapped_length f (x ∷ xs) = omega (arith, mapped_length f xs)
+use Rattle.asm_driver.proofs.Tries.{prefix_mapped, adds_then, adds_none}
 
 -- idle events in front change nothing
 idle_front : (P : Event → Type 0) (xs es : List Event) → All IsIdle xs → EndsWith P es → EndsWith P (xs ++ es)
@@ -58,7 +49,7 @@ stale_both (x ∷ xs) ys = omega (arith, stale_both xs ys)
 stale_once : (id : ℕ) (more : List Receipt) → EndsStale more → 1 ≤ stale_fires (map (event_of id) more)
 stale_once id more (first, r, l, is, stale) =
     let events : map (event_of id) more ≡ map (event_of id) first ++ event_of id r ∷ [] =
-    ap (map (event_of id)) is ∙ mapped_both (event_of id) first (r ∷ []) in
+    ap (map (event_of id)) is ∙ map-append (event_of id) first (r ∷ []) in
     let one : stale_fire r.answer ≡ 1 = ap stale_fire stale in
     omega (arith, ap stale_fires events, stale_both (map (event_of id) first) (event_of id r ∷ []), one)
 
@@ -80,8 +71,8 @@ module _ (own : Meaning) (m : Machine) (q r : List Move) (p : IsPrefix q r) wher
   fault_later : (step : Step) (f : StepFault) → HasFault own m q step f → HasFault own m r step f
   fault_later step f (n, le, stands) = (
     n,
-    omega (arith, le, prefix_length q r p),
-    subst (λ w. StandsFor own (state_of m w) step (Err f)) (take-prefix n q r p le) stands,
+    omega (arith, le, length-prefix q r p),
+    subst (λ w. StandsFor own (machine_state m w) step (Err f)) (take-prefix n q r p le) stands,
   )
 
   outgrows_later : (step : Step) → Outgrows own m q step → Outgrows own m r step
@@ -96,9 +87,9 @@ module _ (own : Meaning) (m : Machine) (q r : List Move) (p : IsPrefix q r) wher
         call,
         answer,
         n,
-        omega (arith, le, prefix_length q r p),
-        subst (λ w. step_move_on own (state_of m w) None step ≡ Ok M) same move,
-        ap (λ w. fire_blocks m.part (state_of m w) step) (sym same) ∙ blocks,
+        omega (arith, le, length-prefix q r p),
+        subst (λ w. step_move_on own (machine_state m w) None step ≡ Ok M) same move,
+        ap (λ w. fire_blocks m.part (machine_state m w) step) (sym same) ∙ blocks,
       )
 
   no_room_later : (step : Step) (e : Event) → HasNoRoom own m q step e → HasNoRoom own m r step e
@@ -109,16 +100,16 @@ module _ (own : Meaning) (m : Machine) (q r : List Move) (p : IsPrefix q r) wher
         call,
         answer,
         n,
-        omega (arith, le, prefix_length q r p),
+        omega (arith, le, length-prefix q r p),
         many,
-        subst (λ w. step_move_on own (state_of m w) None step ≡ Ok M) same move,
-        (B, ap (λ w. fire_blocks m.part (state_of m w) step) (sym same) ∙ blocks),
+        subst (λ w. step_move_on own (machine_state m w) None step ≡ Ok M) same move,
+        (B, ap (λ w. fire_blocks m.part (machine_state m w) step) (sym same) ∙ blocks),
       )
 
   firing_later : (step : Step) (k : ℕ) (e : Event) → IsFiring own m q step k e → IsFiring own m r step k e
   firing_later step k e (reads, M, call, answer, some, whole, move, (B, fires, blocks)) =
-      let counted = sym (take_length k q) ∙ ap length whole ∙ length-append (take (k - 1) q) (M ∷ []) in
-      let within : k ≤ length q = omega (arith, counted, take_length (k - 1) q, some) in
+      let counted = sym (length-take k q) ∙ ap length whole ∙ length-append (take (k - 1) q) (M ∷ []) in
+      let within : k ≤ length q = omega (arith, counted, length-take (k - 1) q, some) in
       let first = take-prefix (k - 1) q r p (omega (arith, within)) in (
         reads,
         M,
@@ -126,11 +117,11 @@ module _ (own : Meaning) (m : Machine) (q r : List Move) (p : IsPrefix q r) wher
         answer,
         some,
         sym (take-prefix k q r p within) ∙ whole ∙ ap (λ w. w ++ M ∷ []) first,
-        subst (λ w. step_move_on own (state_of m w) None step ≡ Ok M) first move,
+        subst (λ w. step_move_on own (machine_state m w) None step ≡ Ok M) first move,
         (
           B,
-          subst (λ w. fire m.part (state_of m w) M ≡ Ok B) first fires,
-          subst (λ w. fire_blocks m.part (state_of m w) step ≡ Ok B) first blocks,
+          subst (λ w. fire m.part (machine_state m w) M ≡ Ok B) first fires,
+          subst (λ w. fire_blocks m.part (machine_state m w) step ≡ Ok B) first blocks,
         ),
       )
 
@@ -144,7 +135,7 @@ module _ (own : Meaning) (m : Machine) (q r : List Move) (p : IsPrefix q r) wher
   told_later step (outcome.Large l) es told = (told.0, fault_later step (fault.Large l) told.1)
   told_later step outcome.Many es told = (told.0, outgrows_later step told.1)
   told_later step outcome.GaveUp es (all, (busy, lost, tries)) =
-      (all, (busy, omega (arith, lost, prefix_length q r p), tries))
+      (all, (busy, omega (arith, lost, length-prefix q r p), tries))
 
   pub are_told_later : (ss : List Step) (os : List Outcome) (es : List Event) → AreTold own m q ss os es →
       AreTold own m r ss os es
@@ -182,7 +173,7 @@ record AddsIdle {A : Type 0} (n : ℕ) (old new : AgentAt A) : Type 0 where
 added_events : {A : Type 0} (old mid : AgentAt A) (xs ys : List Receipt) → IsSameAgent old mid →
     map (event_of old.account.id) (xs ++ ys) ≡ map (event_of old.account.id) xs ++ map (event_of mid.account.id) ys
 added_events old mid xs ys same =
-    mapped_both (event_of old.account.id) xs ys
+    map-append (event_of old.account.id) xs ys
     ∙ ap (λ (i : ℕ). map (event_of old.account.id) xs ++ map (event_of i) ys) (sym same.id)
 
 -- one try more
@@ -210,7 +201,7 @@ adds_try n old mid new first again = record {
       × (suc n ≤ stale_fires (map (event_of old.account.id) (first.more ++ again.more)) + busy)
   by_cause (inl stale) = (
     first.busy,
-    omega (arith, first.lost, prefix_length mid.account.seen new.account.seen again.adds.begins),
+    omega (arith, first.lost, length-prefix mid.account.seen new.account.seen again.adds.begins),
     omega (arith, first.tries, both, stale_once mid.account.id again.more stale),
   )
   by_cause (inr longer) = (suc first.busy, omega (arith, first.lost, longer), omega (arith, first.tries, both))
@@ -244,7 +235,7 @@ module _ {A : Type 0} (meaning : A → Meaning) (own : Meaning) where
           all.idle,
           (
             all.busy,
-            omega (arith, all.lost, mapped_length (λ (x : Entry). x.instrs) new.account.seen),
+            omega (arith, all.lost, length-map new.account.seen (λ (x : Entry). x.instrs)),
             omega (arith, all.tries, count),
           ),
         );

@@ -2,9 +2,9 @@
 use Rattle.std.proofs.Common.{◌≡◌, ℕ, zero, suc, List, Option, Some, None, codes, refl, sym, ap, subst, ◌∙◌}
 use Rattle.std.specs.Prelude.{option_map}
 use Rattle.serde_json.specs.Data.{Items}
-use Rattle.asm_journal.specs.Shape.{Reads, IsOnly}
+use Rattle.asm_journal.specs.Shape.{IsParsed, IsOnly}
 use Rattle.asm_journal.proofs.Actions.{kind_of_word}
-use Rattle.asm_driver.specs.Reads.{term_of}
+use Rattle.asm_driver.specs.StepReads.{term_of}
 use Rattle.asm_driver.specs.TermForm.{IsTermForm, IsCounted, word_of, AreOperands, IsActionForm}
 use Rattle.asm_driver.specs.declared.term.Term.{Term}
 use Rattle.asm_driver.specs.declared.block.TermAction.{TermAction}
@@ -34,49 +34,49 @@ kind_of_word-word (BagAdd t n) = refl
 kind_of_word-word (BagRemove t n) = refl
 
 -- the action of this kind, amount and term
-abbrev action_of : ℕ → ℕ → Term → TermAction
-action_of zero n t = Put t
-action_of (suc zero) n t = Add t
-action_of (suc (suc zero)) n t = Remove t
-action_of (suc (suc (suc zero))) n t = BagAdd t n
-action_of (suc (suc (suc (suc _)))) n t = BagRemove t n
+abbrev term_action_from : ℕ → ℕ → Term → TermAction
+term_action_from zero n t = Put t
+term_action_from (suc zero) n t = Add t
+term_action_from (suc (suc zero)) n t = Remove t
+term_action_from (suc (suc (suc zero))) n t = BagAdd t n
+term_action_from (suc (suc (suc (suc _)))) n t = BagRemove t n
 
-action_of-parts : (a : TermAction) → action_of (kind_number a) (amount_of a) (term_of a) ≡ a
-action_of-parts (Put t) = refl
-action_of-parts (Add t) = refl
-action_of-parts (Remove t) = refl
-action_of-parts (BagAdd t n) = refl
-action_of-parts (BagRemove t n) = refl
+term_action_from-parts : (a : TermAction) → term_action_from (kind_number a) (amount_of a) (term_of a) ≡ a
+term_action_from-parts (Put t) = refl
+term_action_from-parts (Add t) = refl
+term_action_from-parts (Remove t) = refl
+term_action_from-parts (BagAdd t n) = refl
+term_action_from-parts (BagRemove t n) = refl
 
 -- an action is made of its parts by the kind of its word
 made_by : (word : List ℕ) (a : TermAction) → word ≡ word_of a → a
-    ≡ action_of (kind_of_word word) (amount_of a) (term_of a)
+    ≡ term_action_from (kind_of_word word) (amount_of a) (term_of a)
 made_by word a named =
-    sym (action_of-parts a)
-    ∙ ap (λ k. action_of k (amount_of a) (term_of a)) (sym (kind_of_word-word a) ∙ ap kind_of_word (sym named))
+    sym (term_action_from-parts a)
+    ∙ ap (λ k. term_action_from k (amount_of a) (term_of a)) (sym (kind_of_word-word a) ∙ ap kind_of_word (sym named))
 
 -- reading the operands of a word's action is reading the action
 module _ {X : Type 0} (make : X → TermAction) (part : TermAction → X) (word : List ℕ) (ds : Items)
     (named : (x : X) → word ≡ word_of (make x))
-    (made : (a : TermAction) → action_of (kind_of_word word) (amount_of a) (term_of a) ≡ make (part a)) where
-  read_as : (o : Option X) → Reads (λ x. AreOperands (make x)) ds o → Reads (IsActionForm word) ds (option_map make o)
+    (made : (a : TermAction) → term_action_from (kind_of_word word) (amount_of a) (term_of a) ≡ make (part a)) where
+  read_as : (o : Option X) → IsParsed (λ x. AreOperands (make x)) ds o → IsParsed (IsActionForm word) ds (option_map make o)
   read_as (Some x) h = (named x, h)
   read_as None h = λ a form. h (part a) (subst (λ b. AreOperands b ds) (made_by word a form.0 ∙ made a) form.1)
 
 of_kind : (word known : List ℕ) (a : TermAction) → word ≡ known →
-    action_of (kind_of_word word) (amount_of a) (term_of a) ≡ action_of (kind_of_word known) (amount_of a) (term_of a)
-of_kind word known a is = ap (λ w. action_of (kind_of_word w) (amount_of a) (term_of a)) is
+    term_action_from (kind_of_word word) (amount_of a) (term_of a) ≡ term_action_from (kind_of_word known) (amount_of a) (term_of a)
+of_kind word known a is = ap (λ w. term_action_from (kind_of_word w) (amount_of a) (term_of a)) is
 
-pub put_read : (word : List ℕ) (ds : Items) (o : Option Term) → word ≡ codes "put" → Reads (IsOnly IsTermForm) ds o →
-    Reads (IsActionForm word) ds (option_map Put o)
+pub put_read : (word : List ℕ) (ds : Items) (o : Option Term) → word ≡ codes "put" → IsParsed (IsOnly IsTermForm) ds o →
+    IsParsed (IsActionForm word) ds (option_map Put o)
 put_read word ds o is h = read_as Put term_of word ds (λ t. is) (λ a. of_kind word _ a is) o h
 
-pub add_read : (word : List ℕ) (ds : Items) (o : Option Term) → word ≡ codes "add" → Reads (IsOnly IsTermForm) ds o →
-    Reads (IsActionForm word) ds (option_map Add o)
+pub add_read : (word : List ℕ) (ds : Items) (o : Option Term) → word ≡ codes "add" → IsParsed (IsOnly IsTermForm) ds o →
+    IsParsed (IsActionForm word) ds (option_map Add o)
 add_read word ds o is h = read_as Add term_of word ds (λ t. is) (λ a. of_kind word _ a is) o h
 
 pub remove_read : (word : List ℕ) (ds : Items) (o : Option Term) → word ≡ codes "remove" →
-    Reads (IsOnly IsTermForm) ds o → Reads (IsActionForm word) ds (option_map Remove o)
+    IsParsed (IsOnly IsTermForm) ds o → IsParsed (IsActionForm word) ds (option_map Remove o)
 remove_read word ds o is h = read_as Remove term_of word ds (λ t. is) (λ a. of_kind word _ a is) o h
 
 abbrev counted_in : TermAction → Term × ℕ

@@ -3,9 +3,10 @@ use Rattle.std.proofs.Common.{◌≡◌, ◌≢◌, inl, inr, ℕ, zero, suc, �
 use Rattle.std.proofs.Common.{[], ◌∷◌, ◌++◌, length, take, map, All, Option, Some, None, Result, Ok, Err}
 use Rattle.std.proofs.Common.{Contains, append_assoc, append-nil, length-append, arith, refl, sym, ap, subst, ◌∙◌}
 use Rattle.std.specs.List.{AllByRecursion}
-use Rattle.std.proofs.lemmas.Bool.Decides.{nat_tests}
-use Rattle.std.proofs.lemmas.List.{take_at, take_all}
+use Rattle.std.proofs.lemmas.List.{take_at, take_all, map-append}
 use Rattle.std.proofs.lemmas.List.Elements.{All-nil, All-cons, All-append}
+use Rattle.std.proofs.lemmas.Bool.{ltb-false}
+use Rattle.asm_storage.proofs.Lists.{length-prefix}
 use mathlib.Core.List.{IsPrefix}
 use Rattle.asm_element.specs.Place.{Place}
 use Rattle.asm_element.specs.declared.value.Value.{Value}
@@ -19,7 +20,7 @@ use Rattle.asm_state.specs.Verdict.{least_stale}
 use Rattle.asm_state.specs.declared.named.Named.{Named}
 use Rattle.asm_storage.specs.Agents.{event_of, moves_seen}
 use Rattle.asm_storage.specs.Calls.{ReadingView, read_answer, receipt_at, IsAnswered}
-use Rattle.asm_storage.specs.Machine.{Machine, state_of, firing_reply, fire_reply, reply_to}
+use Rattle.asm_storage.specs.Machine.{Machine, machine_state, firing_reply, fire_reply, reply_to}
 use Rattle.asm_storage.specs.Storage.{AgentAt, StorageView, machine_of, has_looked}
 use Rattle.asm_storage.specs.declared.call.Answer.TheVariants as answer
 use Rattle.asm_storage.specs.declared.call.Call.TheVariants as call
@@ -30,8 +31,8 @@ use Rattle.asm_storage.specs.declared.receipt.Entry.{Entry}
 use Rattle.asm_storage.specs.declared.receipt.Receipt.{Receipt}
 use Rattle.asm_storage.proofs.Run.{same_value_from, fresh_each, fired_reply}
 use Rattle.asm_driver.specs.Plays.{AreProper}
-use Rattle.asm_driver.specs.Reads.{AreReads}
-use Rattle.asm_driver.specs.Sequencing.{fired, fire_blocks, step_move_on, IsReadOf, StandsFor, IsStepMove}
+use Rattle.asm_driver.specs.StepReads.{AreReads}
+use Rattle.asm_driver.specs.Sequencing.{fired_or_stopped, fire_blocks, step_move_on, IsReadOf, StandsFor, IsStepMove}
 use Rattle.asm_driver.specs.Told.{IsIdle, IsFiring, IsClashing, HasNoRoom, HasFault, EndsWith, IsTold}
 use Rattle.asm_driver.specs.Trying.{value_among, read_value, name_at, names_of, HasRead, HasTried, outcome_of}
 use Rattle.asm_driver.specs.Trying.{IsEndOf, Adds, IsTry}
@@ -41,16 +42,13 @@ use Rattle.asm_driver.specs.declared.step.StepFault.TheVariants as fault
 use Rattle.asm_driver.specs.declared.outcome.Outcome.{Outcome}
 use Rattle.asm_driver.specs.declared.outcome.Outcome.TheVariants as outcome
 use Rattle.asm_driver.proofs.Properness.{moves_proper, proper_prefix}
-use Rattle.asm_driver.proofs.Readings.{value_mapped, mapped_both}
+use Rattle.asm_driver.proofs.Readings.{value_mapped}
 
 pub prefix_trans : {X : Type 0} (xs ys zs : List X) → IsPrefix xs ys → IsPrefix ys zs → IsPrefix xs zs
 prefix_trans xs ys zs p q = (p.0 ++ q.0, sym (append_assoc xs p.0 q.0) ∙ ap (λ w. w ++ q.0) p.1 ∙ q.1)
 
-pub prefix_length : {X : Type 0} (xs ys : List X) → IsPrefix xs ys → length xs ≤ length ys
-prefix_length xs ys p = omega (arith, length-append xs p.0, ap length p.1)
-
 pub prefix_mapped : {X Y : Type 0} (f : X → Y) (xs ys : List X) → IsPrefix xs ys → IsPrefix (map f xs) (map f ys)
-prefix_mapped f xs ys p = (map f p.0, sym (mapped_both f xs p.0) ∙ ap (map f) p.1)
+prefix_mapped f xs ys p = (map f p.0, sym (map-append f xs p.0) ∙ ap (map f) p.1)
 
 -- the first of a longer list
 pub taken_prefix : {X : Type 0} (xs ys : List X) (n : ℕ) → n ≡ length xs → IsPrefix xs ys → take n ys ≡ xs
@@ -90,7 +88,7 @@ each_named test n (p ∷ ps) all l (suc k, lt, is) = each_named test n ps all.1 
 
 fresh_value : (m : Machine) (q : List Move) (r : ReadingView) →
     least_stale m.part m.init q (names_of (Some r)) ≡ None → r.number ≤ length q →
-    (l : Place) → Contains r.places l → val (state_of m (take r.number q)) l ≡ val (state_of m q) l
+    (l : Place) → Contains r.places l → val (machine_state m (take r.number q)) l ≡ val (machine_state m q) l
 fresh_value m q r none le l there =
     let test : Named → Bool = λ n. is_stale m.part m.init q n.at n.number in
     same_value_from m m.init q l r.number
@@ -98,7 +96,7 @@ fresh_value m q r none le l there =
 
 clashed_by : (m : Machine) (q : List Move) (reads : List Named) (M : Move) (c : Clash) →
     answer.Fire (reply.Clash c) ≡ reply_to m q (call.Fire reads M) →
-    (least_stale m.part m.init q reads ≡ None) × (fire m.part (state_of m q) M ≡ Err c)
+    (least_stale m.part m.init q reads ≡ None) × (fire m.part (machine_state m q) M ≡ Err c)
 clashed_by m q reads M c is = by_stale (least_stale m.part m.init q reads) refl told where
   told : reply.Clash c ≡ fire_reply m q M (least_stale m.part m.init q reads)
   told = cc is
@@ -107,24 +105,21 @@ clashed_by m q reads M c is = by_stale (least_stale m.part m.init q reads) refl 
   not_taken true is = cc is
   not_taken false is = cc is
 
-  by_answer : (o : Result State Clash) → fire m.part (state_of m q) M ≡ o → reply.Clash c ≡ firing_reply m q o →
-      fire m.part (state_of m q) M ≡ Err c
+  by_answer : (o : Result State Clash) → fire m.part (machine_state m q) M ≡ o → reply.Clash c ≡ firing_reply m q o →
+      fire m.part (machine_state m q) M ≡ Err c
   by_answer (Ok B) e is = absurd (not_taken (nat_lt (length q) m.capacity) is)
   by_answer (Err d) e is = let same : c ≡ d = cc is in e ∙ ap Err (sym same)
 
   by_stale : (o : Option Place) → least_stale m.part m.init q reads ≡ o → reply.Clash c ≡ fire_reply m q M o →
-      (least_stale m.part m.init q reads ≡ None) × (fire m.part (state_of m q) M ≡ Err c)
+      (least_stale m.part m.init q reads ≡ None) × (fire m.part (machine_state m q) M ≡ Err c)
   by_stale (Some l) e is = absurd (cc is)
-  by_stale None e is = (e, by_answer (fire m.part (state_of m q) M) refl is)
-
-not_below : (n c : ℕ) → nat_lt n c ≡ false → c ≤ n
-not_below n c e = grind (arith, nat_tests)
+  by_stale None e is = (e, by_answer (fire m.part (machine_state m q) M) refl is)
 
 -- what a fire that found no room tells
 record FoundNoRoom (m : Machine) (q : List Move) (reads : List Named) (M : Move) : Type 0 where
   many : m.capacity ≤ length q
   state : State
-  fires : fire m.part (state_of m q) M ≡ Ok state
+  fires : fire m.part (machine_state m q) M ≡ Ok state
   fresh : least_stale m.part m.init q reads ≡ None
 
 no_room_by : (m : Machine) (q : List Move) (reads : List Named) (M : Move) →
@@ -136,9 +131,9 @@ no_room_by m q reads M is = by_stale (least_stale m.part m.init q reads) refl to
   not_taken : (b : Bool) → nat_lt (length q) m.capacity ≡ b →
       reply.Full ≡ cond b (reply.Fired (length q + 1)) reply.Full → m.capacity ≤ length q
   not_taken true e is = absurd (cc is)
-  not_taken false e is = not_below (length q) m.capacity e
+  not_taken false e is = ltb-false (length q) m.capacity e
 
-  by_answer : (o : Result State Clash) → fire m.part (state_of m q) M ≡ o → reply.Full ≡ firing_reply m q o →
+  by_answer : (o : Result State Clash) → fire m.part (machine_state m q) M ≡ o → reply.Full ≡ firing_reply m q o →
       least_stale m.part m.init q reads ≡ None → FoundNoRoom m q reads M
   by_answer (Ok B) e is none = record {
     many = not_taken (nat_lt (length q) m.capacity) refl is;
@@ -151,7 +146,7 @@ no_room_by m q reads M is = by_stale (least_stale m.part m.init q reads) refl to
   by_stale : (o : Option Place) → least_stale m.part m.init q reads ≡ o → reply.Full ≡ fire_reply m q M o →
       FoundNoRoom m q reads M
   by_stale (Some l) e is = absurd (cc is)
-  by_stale None e is = by_answer (fire m.part (state_of m q) M) refl is e
+  by_stale None e is = by_answer (fire m.part (machine_state m q) M) refl is e
 
 -- an agent that read, or fired, has a receipt more
 record HasRead1 {A : Type 0} (old mid : AgentAt A) : Type 0 where
@@ -205,18 +200,18 @@ module _ {A : Type 0} (meaning : A → Meaning) where
 
     -- a state of more moves in which what was read is as it was is one that was read
     read_of : (q : List Move) → AreProper old.storage.init q →
-        ((l : Place) → Contains places l → val (state_of m q) l ≡ val (state_of m here) l) →
-        IsReadOf (state_of m q) (read_value reading) step
+        ((l : Place) → Contains places l → val (machine_state m q) l ≡ val (machine_state m here) l) →
+        IsReadOf (machine_state m q) (read_value reading) step
     read_of q proper same = record {
       proper = moves_proper (laws old.storage.agg) old.storage.init q proper.state proper.moves;
       same = λ l there. by_reading reading read l ((reads.named l).1 there);
     } where
       by_reading : (o : Option ReadingView) → HasRead meaning old mid places o → (l : Place) → Contains places l →
-          val (state_of m q) l ≡ read_value o l
+          val (machine_state m q) l ≡ read_value o l
       by_reading None none l there = absurd (omega (arith, (subst (λ (ls : List Place). Contains ls l) none.0 there).1))
       by_reading (Some r) is l there =
-          let values : r.values ≡ map (val (state_of m here)) places = cc is.reply in
-          same l there ∙ sym (value_mapped (val (state_of m here)) places l there)
+          let values : r.values ≡ map (val (machine_state m here)) places = cc is.reply in
+          same l there ∙ sym (value_mapped (val (machine_state m here)) places l there)
           ∙ (λ n. value_among (sym is.locations n) (sym values n) l)
 
     -- the state that was read has the fault
@@ -225,8 +220,8 @@ module _ {A : Type 0} (meaning : A → Meaning) where
     fault_here f move proper = (
       length here,
       omega arith,
-      subst (λ q. StandsFor own (state_of m q) step (Err f)) (sym (take_all (length here) here (omega arith)))
-          (move (state_of m here) (read_of here proper (λ l there. refl))),
+      subst (λ q. StandsFor own (machine_state m q) step (Err f)) (sym (take_all (length here) here (omega arith)))
+          (move (machine_state m here) (read_of here proper (λ l there. refl))),
     )
 
     -- a step that has no move ends
@@ -272,34 +267,34 @@ module _ {A : Type 0} (meaning : A → Meaning) where
 
       -- where no name is stale, what was read is as it was
       unchanged : (q : List Move) → IsPrefix here q → least_stale m.part m.init q reads_named ≡ None →
-          (l : Place) → Contains places l → val (state_of m q) l ≡ val (state_of m here) l
+          (l : Place) → Contains places l → val (machine_state m q) l ≡ val (machine_state m here) l
       unchanged q p none l there = by_reading reading read none where
         by_reading : (o : Option ReadingView) → HasRead meaning old mid places o →
             least_stale m.part m.init q (names_of o) ≡ None →
-            val (state_of m q) l ≡ val (state_of m here) l
+            val (machine_state m q) l ≡ val (machine_state m here) l
         by_reading None empty none = absurd
             (omega (arith, (subst (λ (ls : List Place). Contains ls l) empty.0 there).1))
         by_reading (Some r) is none =
             let number : r.number ≡ length here = cc is.reply in
-            let value = fresh_value m q r none (omega (arith, number, prefix_length here q p)) l
+            let value = fresh_value m q r none (omega (arith, number, length-prefix here q p)) l
             (subst (λ (ls : List Place). Contains ls l) (sym is.locations) there) in
-            sym value ∙ ap (λ w. val (state_of m w) l) (taken_prefix here q r.number number p)
+            sym value ∙ ap (λ w. val (machine_state m w) l) (taken_prefix here q r.number number p)
 
       -- and the move stands for the step
       stands : (q : List Move) → AreProper old.storage.init q → IsPrefix here q →
-          least_stale m.part m.init q reads_named ≡ None → StandsFor own (state_of m q) step (Ok M)
-      stands q proper p none = move (state_of m q) (read_of q proper (unchanged q p none))
+          least_stale m.part m.init q reads_named ≡ None → StandsFor own (machine_state m q) step (Ok M)
+      stands q proper p none = move (machine_state m q) (read_of q proper (unchanged q p none))
 
-      blocks_fire : (q : List Move) → m.part ≡ own.part → StandsFor own (state_of m q) step (Ok M) →
-          fire_blocks m.part (state_of m q) step ≡ fired (fire m.part (state_of m q) M)
+      blocks_fire : (q : List Move) → m.part ≡ own.part → StandsFor own (machine_state m q) step (Ok M) →
+          fire_blocks m.part (machine_state m q) step ≡ fired_or_stopped (fire m.part (machine_state m q) M)
       blocks_fire q same stands =
-          subst (λ p. fire_blocks p (state_of m q) step ≡ fired (fire p (state_of m q) M)) (sym same) stands.1
+          subst (λ p. fire_blocks p (machine_state m q) step ≡ fired_or_stopped (fire p (machine_state m q) M)) (sym same) stands.1
 
       -- the events of the read, and then that of the fire
       events_of : (r : Receipt) →
           map (event_of old.account.id) (had.more ++ r ∷ []) ≡ map (event_of old.account.id) had.more ++ event_of
           old.account.id r ∷ []
-      events_of r = mapped_both (event_of old.account.id) had.more (r ∷ [])
+      events_of r = map-append (event_of old.account.id) had.more (r ∷ [])
 
       ends : (P : Event → Type 0) (r : Receipt) → P (event_of old.account.id r) →
           EndsWith P (map (event_of old.account.id) (had.more ++ r ∷ []))
@@ -332,9 +327,9 @@ module _ {A : Type 0} (meaning : A → Meaning) where
           (ap (λ (a : AgentAt A). a.storage) agent) (ap (λ (a : AgentAt A). a.account.id) agent)
           (ap (λ (a : AgentAt A). a.account.receipts) agent) is.begins (entry ∷ [], sym longer) in
           let moves_more : all ≡ q ++ M ∷ [] = ap moves_seen longer
-          ∙ mapped_both (λ (x : Entry). x.instrs) seen (entry ∷ []) in
+          ∙ map-append (λ (x : Entry). x.instrs) seen (entry ∷ []) in
           let by = fired_reply m q reads_named M k (replied (reply.Fired k) q is.reply) in
-          let B = after_move m.part (state_of m q) M in
+          let B = after_move m.part (machine_state m q) M in
           let first : take (k - 1) all ≡ q = ap (take (k - 1)) moves_more
           ∙ take_at q (M ∷ []) (k - 1) (omega (arith, by.number)) in
           let whole : take k all ≡ take (k - 1) all ++ M ∷ [] =
@@ -354,12 +349,12 @@ module _ {A : Type 0} (meaning : A → Meaning) where
                     refl,
                     omega (arith, by.number),
                     whole,
-                    subst (λ w. step_move_on own (state_of m w) None step ≡ Ok M) (sym first) stands_q.0,
+                    subst (λ w. step_move_on own (machine_state m w) None step ≡ Ok M) (sym first) stands_q.0,
                     (
                       B,
-                      subst (λ w. fire m.part (state_of m w) M ≡ Ok B) (sym first) by.fires,
-                      subst (λ w. fire_blocks m.part (state_of m w) step ≡ Ok B) (sym first)
-                          (blocks_fire q same stands_q ∙ ap fired by.fires),
+                      subst (λ w. fire m.part (machine_state m w) M ≡ Ok B) (sym first) by.fires,
+                      subst (λ w. fire_blocks m.part (machine_state m w) step ≡ Ok B) (sym first)
+                          (blocks_fire q same stands_q ∙ ap fired_or_stopped by.fires),
                     ),
                   );
             },
@@ -404,9 +399,9 @@ module _ {A : Type 0} (meaning : A → Meaning) where
                     refl,
                     length all,
                     omega arith,
-                    subst (λ q. step_move_on own (state_of m q) None step ≡ Ok M) (sym whole) stands_here.0,
-                    ap (λ q. fire_blocks m.part (state_of m q) step) whole ∙ blocks_fire all same stands_here
-                        ∙ ap fired by.1,
+                    subst (λ q. step_move_on own (machine_state m q) None step ≡ Ok M) (sym whole) stands_here.0,
+                    ap (λ q. fire_blocks m.part (machine_state m q) step) whole ∙ blocks_fire all same stands_here
+                        ∙ ap fired_or_stopped by.1,
                   ));
             },
             (λ bad. cc bad),
@@ -430,11 +425,11 @@ module _ {A : Type 0} (meaning : A → Meaning) where
                     length all,
                     omega arith,
                     by.many,
-                    subst (λ q. step_move_on own (state_of m q) None step ≡ Ok M) (sym whole) stands_here.0,
+                    subst (λ q. step_move_on own (machine_state m q) None step ≡ Ok M) (sym whole) stands_here.0,
                     (
                       by.state,
-                      ap (λ q. fire_blocks m.part (state_of m q) step) whole ∙ blocks_fire all same stands_here
-                          ∙ ap fired by.fires,
+                      ap (λ q. fire_blocks m.part (machine_state m q) step) whole ∙ blocks_fire all same stands_here
+                          ∙ ap fired_or_stopped by.fires,
                     ),
                   );
             },
@@ -459,5 +454,5 @@ module _ {A : Type 0} (meaning : A → Meaning) where
           added = ap (λ (a : AgentAt A). a.account.receipts) is.agent ∙ sym (append-nil mid.account.receipts);
         });
         idle = subst (λ rs. All IsIdle (map (event_of old.account.id) rs)) (sym (append-nil had.more)) had.idle;
-        cause = inr (omega (arith, is.longer, prefix_length old.account.seen mid.account.seen had.adds.begins));
+        cause = inr (omega (arith, is.longer, length-prefix old.account.seen mid.account.seen had.adds.begins));
       }

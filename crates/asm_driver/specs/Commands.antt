@@ -13,7 +13,7 @@ use Rattle.asm_journal.specs.declared.fault.JournalError.TheVariants as journal_
 use Rattle.asm_driver.specs.Plan.{Plan}
 use Rattle.asm_driver.specs.Play.{IsNoCapacity, IsPlayOf}
 use Rattle.asm_driver.specs.Report.{line, report_of}
-use Rattle.asm_driver.specs.Script.{ReadsAs, IsRefused}
+use Rattle.asm_driver.specs.Script.{IsScriptOf, IsRefusedScript}
 use Rattle.asm_driver.specs.Standard.{standard_part}
 use Rattle.asm_driver.specs.declared.outcome.Played.{Played}
 use Rattle.asm_driver.specs.declared.refusal.Refusal.{Refusal}
@@ -26,11 +26,11 @@ use Rattle.asm_driver.specs.declared.words.Request.TheVariants.{Run, Check}
 
 -- the bytes are a script
 abbrev pub IsScript : List ℕ → Type 0
-IsScript bytes = (plan : Plan) × ReadsAs bytes plan
+IsScript bytes = (plan : Plan) × IsScriptOf bytes plan
 
 -- the script of these bytes, played with this capacity, leaves this
 abbrev pub IsPlayed : List ℕ → ℕ → Played → Type 0
-IsPlayed bytes capacity p = (plan : Plan) × ReadsAs bytes plan × IsPlayOf plan capacity p
+IsPlayed bytes capacity p = (plan : Plan) × IsScriptOf bytes plan × IsPlayOf plan capacity p
 
 -- what is written of a played script: its journal where that is asked for, and else its report
 abbrev pub text_of_played : Bool → Played → List ℕ
@@ -38,8 +38,8 @@ text_of_played true p = text_of p.history
 text_of_played false p = report_of standard_part p
 
 -- the text of the script of these bytes, played with this capacity
-abbrev pub IsRun : List ℕ → ℕ → Bool → List ℕ → Type 0
-IsRun bytes capacity asked text =
+abbrev pub IsRunText : List ℕ → ℕ → Bool → List ℕ → Type 0
+IsRunText bytes capacity asked text =
     (p : Played) × IsPlayed bytes capacity p × (text ≡ text_of_played asked p)
 
 -- why nothing is written of a played script: the journal is asked for, and the history is beyond a journal's limits;
@@ -52,7 +52,7 @@ IsNoText asked p r = ⊥
 -- why these bytes aren't played: they are no script; the capacity is out of range; a thread couldn't be started, or a
 -- move has no receipt; what was played has no text; want of memory tells nothing
 abbrev pub IsNoRun : List ℕ → ℕ → Bool → Refusal → Type 0
-IsNoRun bytes capacity asked (refusal.BadScript cause) = IsRefused bytes (BadScript cause)
+IsNoRun bytes capacity asked (refusal.BadScript cause) = IsRefusedScript bytes (BadScript cause)
 IsNoRun bytes capacity asked refusal.Words = IsScript bytes × IsNoCapacity capacity
 IsNoRun bytes capacity asked refusal.NoThread = IsScript bytes
 IsNoRun bytes capacity asked (refusal.Missing k) = IsScript bytes
@@ -88,7 +88,7 @@ IsNoCheck bytes r = ⊥
 
 -- what is asked is done with these bytes: the status and the text
 abbrev pub IsDone : List ℕ → Request → ℕ → List ℕ → Type 0
-IsDone bytes (Run capacity asked) status text = (status ≡ 0) × IsRun bytes capacity asked text
+IsDone bytes (Run capacity asked) status text = (status ≡ 0) × IsRunText bytes capacity asked text
 IsDone bytes Check status text = IsCheck bytes status text
 
 -- why it isn't done

@@ -8,7 +8,7 @@ pub mod Turns
 pub mod Play
 pub mod Terms
 pub mod Blocks
-pub mod Reads
+pub mod StepReads
 pub mod Sequencing
 pub mod TermForm
 pub mod Script

@@ -87,7 +87,7 @@ pub record Output : Type 0 where
   pub flushed : Bool
 
 -- the whole text went out and is flushed
-pub record IsWritten (o : Output) (text : List ℕ) : Type 0 where
+pub record WentOut (o : Output) (text : List ℕ) : Type 0 where
   pub all : Appends o.held o.holds text
   pub whole : o.failed ≡ false
   pub flushed : o.flushed ≡ true
@@ -99,7 +99,7 @@ pub record IsCut (o : Output) (text : List ℕ) : Type 0 where
 
 -- the text went out, or the output failed: then the status is 4
 abbrev pub Writes : Output → ℕ → List ℕ → ℕ → Type 0
-Writes o status text result = ((result ≡ status) × IsWritten o text) ⊎ ((result ≡ 4) × IsCut o text)
+Writes o status text result = ((result ≡ status) × WentOut o text) ⊎ ((result ≡ 4) × IsCut o text)
 
 -- the refusal that is shown: where there is no memory for the number in its line, want of memory is shown
 abbrev pub IsShown : Refusal → Refusal → Type 0

@@ -9,7 +9,7 @@ use Rattle.asm_journal.specs.Reading.{IsJson}
 use Rattle.asm_journal.specs.Shape.{IsListForm, two_of}
 use Rattle.asm_journal.specs.Value.{IsStateForm}
 use Rattle.asm_driver.specs.Plan.{Plan}
-use Rattle.asm_driver.specs.Reads.{named}
+use Rattle.asm_driver.specs.StepReads.{named}
 use Rattle.asm_driver.specs.TermForm.{IsInstructionForm}
 use Rattle.asm_driver.specs.declared.block.Block.{Block}
 use Rattle.asm_driver.specs.declared.step.Step.{Step}
@@ -78,17 +78,17 @@ abbrev pub IsPlanOf : Written → Plan → Type 0
 IsPlanOf w p = (faults w.agents ≡ []) × (p ≡ record { init = w.init; agents = w.agents })
 
 -- the bytes are a script of this plan
-abbrev pub ReadsAs : List ℕ → Plan → Type 0
-ReadsAs bytes p = (w : Written) × HasForm bytes w × IsPlanOf w p
+abbrev pub IsScriptOf : List ℕ → Plan → Type 0
+IsScriptOf bytes p = (w : Written) × HasForm bytes w × IsPlanOf w p
 
 -- Why the bytes are no script: they are not JSON; or JSON of another shape; or the first fault of what is written.
 -- Want of memory tells nothing.
-abbrev pub IsRefused : List ℕ → ScriptError → Type 0
-IsRefused bytes (BadScript cause) =
+abbrev pub IsRefusedScript : List ℕ → ScriptError → Type 0
+IsRefusedScript bytes (BadScript cause) =
     ((cause ≡ NotJson) × ((d : Data) → ¬ IsJson bytes d))
     ⊎ ((cause ≡ Shape) × ((d : Data) × IsJson bytes d × ((w : Written) → ¬ IsScriptForm w d)))
     ⊎ ((w : Written) × HasForm bytes w × IsFirst (faults w.agents) (BadScript cause))
-IsRefused bytes Memory = Unit {0}
+IsRefusedScript bytes Memory = Unit {0}
 
 -- the bytes are not JSON; want of memory tells nothing
 abbrev pub IsNotJson : List ℕ → ScriptError → Type 0

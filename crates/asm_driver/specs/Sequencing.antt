@@ -9,7 +9,7 @@ use Rattle.asm_update.specs.State.{State, Updates, IsProper, val}
 use Rattle.asm_aggregate.specs.Compose.{composition, IsSequence, NeverFires}
 use Rattle.asm_update.specs.declared.clash.Clash.{Clash}
 use Rattle.asm_driver.specs.Blocks.{move_in}
-use Rattle.asm_driver.specs.Reads.{named}
+use Rattle.asm_driver.specs.StepReads.{named}
 use Rattle.asm_driver.specs.declared.block.Block.{Block}
 use Rattle.asm_driver.specs.declared.step.Step.{Step}
 use Rattle.asm_driver.specs.declared.step.StepFault.{StepFault}
@@ -21,13 +21,13 @@ pub data Stop : Type 0 where
   Clashes : Clash → Stop
 
 -- what firing leaves, or why it stops
-abbrev pub fired : Result State Clash → Result State Stop
-fired (Ok A) = Ok A
-fired (Err clash) = Err (Clashes clash)
+abbrev pub fired_or_stopped : Result State Clash → Result State Stop
+fired_or_stopped (Ok A) = Ok A
+fired_or_stopped (Err clash) = Err (Clashes clash)
 
 -- what firing the move leaves, if there is one; where a term was faulty there is none
 abbrev pub fire_move : Part → State → Option Move → Result State Stop
-fire_move part A (Some M) = fired (fire part A M)
+fire_move part A (Some M) = fired_or_stopped (fire part A M)
 fire_move part A None = Err FaultyTerm
 
 -- the state that a block leaves; its terms have their values in the state before it
@@ -97,7 +97,7 @@ step_move_on a A before (b ∷ c ∷ bs) =
 -- clash stops them in turn.
 abbrev pub StandsFor : Meaning → State → Step → Result Move StepFault → Type 0
 StandsFor a A step (Ok M) =
-    (step_move_on a A None step ≡ Ok M) × (fire_blocks a.part A step ≡ fired (fire a.part A M))
+    (step_move_on a A None step ≡ Ok M) × (fire_blocks a.part A step ≡ fired_or_stopped (fire a.part A M))
 StandsFor a A step (Err Term) = (step_move_on a A None step ≡ Err Term) × (fire_blocks a.part A step ≡ Err FaultyTerm)
 StandsFor a A step (Err (Clashing clash)) =
     (step_move_on a A None step ≡ Err (Clashing clash)) × IsStopped (fire_blocks a.part A step)

@@ -35,18 +35,18 @@ sum_value (Some m) (Some n) = if is_in_range (m +ℤ n) then Some (Plain (Num (m
 sum_value _ _ = None
 
 -- the plain value that there is, if there is one
-abbrev pub element_of : Option Value → Option Element
-element_of = option_and_then plain_in
+abbrev pub given_element : Option Value → Option Element
+given_element = option_and_then plain_in
 
 -- the number that there is, if there is one
-abbrev pub number_of : Option Value → Option ℤ
-number_of v = option_and_then number_in (element_of v)
+abbrev pub given_number : Option Value → Option ℤ
+given_number v = option_and_then number_in (given_element v)
 
 -- the value of a term where this is the value at each location; a faulty term has none
 abbrev pub term_value : Old → Term → Option Value
 term_value old (term.Value v) = Some v
 term_value old (Val l) = Some (old l)
-term_value old (Sum' p a q b) = sum_value (number_of (term_value old a)) (number_of (term_value old b))
+term_value old (Sum' p a q b) = sum_value (given_number (term_value old a)) (given_number (term_value old b))
 
 -- the locations whose values a term takes
 abbrev pub locations_in : Term → List Place

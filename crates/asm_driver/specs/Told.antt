@@ -8,13 +8,13 @@ use Rattle.asm_update.specs.Move.{Move}
 use Rattle.asm_update.specs.State.{State}
 use Rattle.asm_update.specs.declared.clash.Clash.{Clash}
 use Rattle.asm_state.specs.declared.named.Named.{Named}
-use Rattle.asm_storage.specs.Machine.{Machine, state_of}
+use Rattle.asm_storage.specs.Machine.{Machine, machine_state}
 use Rattle.asm_storage.specs.declared.call.Call.TheVariants as call
 use Rattle.asm_storage.specs.declared.call.Reply.TheVariants as reply
 use Rattle.asm_storage.specs.declared.call.Answer.{Answer}
 use Rattle.asm_storage.specs.declared.call.Answer.TheVariants as answer
 use Rattle.asm_storage.specs.declared.history.Event.{Event}
-use Rattle.asm_driver.specs.Reads.{AreReads}
+use Rattle.asm_driver.specs.StepReads.{AreReads}
 use Rattle.asm_driver.specs.Sequencing.{Clashes, fire_blocks, step_move_on, StandsFor}
 use Rattle.asm_driver.specs.declared.step.Step.{Step}
 use Rattle.asm_driver.specs.declared.step.StepFault.{StepFault}
@@ -23,8 +23,8 @@ use Rattle.asm_driver.specs.declared.outcome.Outcome.{Outcome}
 use Rattle.asm_driver.specs.declared.outcome.Outcome.TheVariants as outcome
 
 -- the state that the first n moves leave
-abbrev pub after : Machine → List Move → ℕ → State
-after m q n = state_of m (take n q)
+abbrev pub state_at : Machine → List Move → ℕ → State
+state_at m q n = machine_state m (take n q)
 
 -- the event is no fired move, and was not refused for want of room
 abbrev pub IsIdle : Event → Type 0
@@ -35,28 +35,29 @@ IsIdle e = (e.answer ≢ answer.Fire reply.Full) × ((k : ℕ) → e.answer ≢ 
 abbrev pub IsFiring : Meaning → Machine → List Move → Step → ℕ → Event → Type 0
 IsFiring own m q step k e =
     (reads : List Named) × (M : Move) × (e.call ≡ call.Fire reads M) × (e.answer ≡ answer.Fire (reply.Fired k))
-    × (1 ≤ k) × (take k q ≡ take (k - 1) q ++ M ∷ []) × (step_move_on own (after m q (k - 1)) None step ≡ Ok M)
-    × ((B : State) × (fire m.part (after m q (k - 1)) M ≡ Ok B) × (fire_blocks m.part (after m q (k - 1)) step ≡ Ok B))
+    × (1 ≤ k) × (take k q ≡ take (k - 1) q ++ M ∷ []) × (step_move_on own (state_at m q (k - 1)) None step ≡ Ok M)
+    × ((B : State) × (fire m.part (state_at m q (k - 1)) M ≡ Ok B)
+    × (fire_blocks m.part (state_at m q (k - 1)) step ≡ Ok B))
 
 -- the event is a fire that was answered by this clash, of the step's move on the state that some first moves leave; the
 -- clash is that of the blocks there, fired in turn
 abbrev pub IsClashing : Meaning → Machine → List Move → Step → Clash → Event → Type 0
 IsClashing own m q step clash e =
     (reads : List Named) × (M : Move) × (e.call ≡ call.Fire reads M) × (e.answer ≡ answer.Fire (reply.Clash clash))
-    × (n : ℕ) × (n ≤ length q) × (step_move_on own (after m q n) None step ≡ Ok M)
-    × (fire_blocks m.part (after m q n) step ≡ Err (Clashes clash))
+    × (n : ℕ) × (n ≤ length q) × (step_move_on own (state_at m q n) None step ≡ Ok M)
+    × (fire_blocks m.part (state_at m q n) step ≡ Err (Clashes clash))
 
 -- the event is a fire that found no room, of the step's move on the state that some first moves leave, of which there
 -- are as many as the storage takes; the blocks, fired in turn there, leave a state
 abbrev pub HasNoRoom : Meaning → Machine → List Move → Step → Event → Type 0
 HasNoRoom own m q step e =
     (reads : List Named) × (M : Move) × (e.call ≡ call.Fire reads M) × (e.answer ≡ answer.Fire reply.Full)
-    × (n : ℕ) × (n ≤ length q) × (m.capacity ≤ n) × (step_move_on own (after m q n) None step ≡ Ok M)
-    × ((B : State) × (fire_blocks m.part (after m q n) step ≡ Ok B))
+    × (n : ℕ) × (n ≤ length q) × (m.capacity ≤ n) × (step_move_on own (state_at m q n) None step ≡ Ok M)
+    × ((B : State) × (fire_blocks m.part (state_at m q n) step ≡ Ok B))
 
 -- on the state that some first moves leave, the step has this fault, and its blocks stop as it tells
 abbrev pub HasFault : Meaning → Machine → List Move → Step → StepFault → Type 0
-HasFault own m q step f = (n : ℕ) × (n ≤ length q) × StandsFor own (after m q n) step (Err f)
+HasFault own m q step f = (n : ℕ) × (n ≤ length q) × StandsFor own (state_at m q n) step (Err f)
 
 -- the step reads more than 256 locations, or its moves compose to more than 4,096 instructions
 abbrev pub Outgrows : Meaning → Machine → List Move → Step → Type 0

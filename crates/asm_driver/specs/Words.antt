@@ -120,11 +120,11 @@ Gives wanted (Ok r) = r ≡ wanted
 Gives wanted (Err e) = e ≡ Memory
 
 -- the words are refused as bad, unless memory is refused
-abbrev pub Refuses : Result Request WordsError → Type 0
-Refuses (Ok r) = ⊥
-Refuses (Err (Help text)) = ⊥
-Refuses (Err Bad) = Unit {0}
-Refuses (Err Memory) = Unit {0}
+abbrev pub RefusesWords : Result Request WordsError → Type 0
+RefusesWords (Ok r) = ⊥
+RefusesWords (Err (Help text)) = ⊥
+RefusesWords (Err Bad) = Unit {0}
+RefusesWords (Err Memory) = Unit {0}
 
 -- help is answered, unless memory is refused
 abbrev pub Helps : Result Request WordsError → Type 0
@@ -142,12 +142,12 @@ pub record Answers (words : Words) (r : Result Request WordsError) : Type 0 wher
   pub leading_zero : words ≡ run_with (codes "--capacity" ∷ codes "08" ∷ []) → Gives (Run 8 false) r
   pub joined : words ≡ run_with (codes "--capacity=8" ∷ []) → Gives (Run 8 false) r
   pub greatest : words ≡ run_with (codes "--capacity" ∷ codes "1048576" ∷ []) → Gives (Run 1048576 false) r
-  pub above : words ≡ run_with (codes "--capacity" ∷ codes "1048577" ∷ []) → Refuses r
-  pub zero : words ≡ run_with (codes "--capacity" ∷ codes "0" ∷ []) → Refuses r
-  pub further : words ≡ run_with (codes "more" ∷ []) → Refuses r
-  pub none : words ≡ program_with [] → Refuses r
+  pub above : words ≡ run_with (codes "--capacity" ∷ codes "1048577" ∷ []) → RefusesWords r
+  pub zero : words ≡ run_with (codes "--capacity" ∷ codes "0" ∷ []) → RefusesWords r
+  pub further : words ≡ run_with (codes "more" ∷ []) → RefusesWords r
+  pub none : words ≡ program_with [] → RefusesWords r
   pub check : words ≡ program_with (codes "check" ∷ []) → Gives Check r
-  pub check_further : words ≡ program_with (codes "check" ∷ codes "more" ∷ []) → Refuses r
+  pub check_further : words ≡ program_with (codes "check" ∷ codes "more" ∷ []) → RefusesWords r
   pub help : words ≡ program_with (codes "--help" ∷ []) → Helps r
   pub run_help : words ≡ run_with (codes "--help" ∷ []) → Helps r
   pub check_help : words ≡ program_with (codes "check" ∷ codes "--help" ∷ []) → Helps r

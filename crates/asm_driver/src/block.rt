@@ -1,6 +1,6 @@
 //! Blocks: instructions with terms.
 ghost use Rattle.std.specs.Prelude.{◌≡◌, ◌↔◌, ◌<◌, ◌≤◌, length, vec_len, IfSome, IsNone};
-ghost use Rattle.asm_driver.specs.Terms.{term_value, element_of, IsEvaluated};
+ghost use Rattle.asm_driver.specs.Terms.{term_value, given_element, IsEvaluated};
 ghost use Rattle.asm_driver.specs.Blocks.{action_in, instruction_in, move_in};
 
 use crate::term::{Term, TermFault, evaluate};
@@ -81,7 +81,7 @@ impl Block {
 
 /// The element that a term stands for.
 fn element<L: Lookup>(alloc: Global, term: &Term, lookup: &L) -> Result<Element, TermFault>
-    ensures { IsEvaluated (element_of (term_value (L.value_at lookup.now) term.now)) result }
+    ensures { IsEvaluated (given_element (term_value (L.value_at lookup.now) term.now)) result }
 {
     match evaluate(alloc, term, lookup)? {
         Value::Plain(element) => Ok(element),

@@ -1,6 +1,6 @@
 //! What the commands do with the input.
 ghost use Rattle.std.specs.Prelude.{◌≡◌, IfOk, IfErr, string_bytes};
-ghost use Rattle.asm_driver.specs.Commands.{text_of_played, IsNoText, IsRun, IsNoRun, IsCheck, IsNoCheck};
+ghost use Rattle.asm_driver.specs.Commands.{text_of_played, IsNoText, IsRunText, IsNoRun, IsCheck, IsNoCheck};
 ghost use Rattle.asm_driver.specs.Commands.{legality_line, legality_status, IsDone, IsNotDone};
 
 use crate::aggregator::chosen;
@@ -45,7 +45,7 @@ fn run<T: Threads + Wait + Sync>(
     capacity: u32,
     journal: bool,
 ) -> Result<String, Refusal>
-    ensures ok { IfOk result (λ text. IsRun bytes.now capacity journal (string_bytes text)) }
+    ensures ok { IfOk result (λ text. IsRunText bytes.now capacity journal (string_bytes text)) }
     ensures err { IfErr result (IsNoRun bytes.now capacity journal) }
 {
     let script = parse_script(alloc, bytes)?;

@@ -2,10 +2,10 @@
 ghost use Rattle.std.specs.Prelude.{◌≡◌, [], IfOk, IfErr, false};
 ghost use Rattle.std.specs.List.{list_any};
 ghost use Rattle.serde_json.specs.View.{view};
-ghost use Rattle.asm_journal.specs.Shape.{Reads as ReadsForm};
+ghost use Rattle.asm_journal.specs.Shape.{IsParsed as ReadsForm};
 ghost use Rattle.asm_journal.specs.Reading.{IsJson};
 ghost use Rattle.asm_driver.specs.Script.{IsNotJson, IsScriptForm, is_long, IsLong, step_faults, agent_faults};
-ghost use Rattle.asm_driver.specs.Script.{faults, IsFirst, IsPlanOf, ReadsAs, IsRefused};
+ghost use Rattle.asm_driver.specs.Script.{faults, IsFirst, IsPlanOf, IsScriptOf, IsRefusedScript};
 
 use crate::block::{Block, TermInstruction};
 use crate::script::{AGENTS_LIMIT, Script, ScriptCause, ScriptError};
@@ -147,8 +147,8 @@ fn script_of(alloc: Global, written: Written) -> Result<Script, ScriptError>
 /// `BadScript` names the first of the causes, in the order in which `ScriptCause` lists them; the last
 /// three are looked for agent by agent and step by step. `Memory` comes only where memory was refused.
 pub fn parse_script(alloc: Global, bytes: &[u8]) -> Result<Script, ScriptError>
-    ensures ok { IfOk result (ReadsAs bytes.now) }
-    ensures err { IfErr result (IsRefused bytes.now) }
+    ensures ok { IfOk result (IsScriptOf bytes.now) }
+    ensures err { IfErr result (IsRefusedScript bytes.now) }
 {
     let json = json_of(alloc, bytes)?;
     match written_of(alloc, &json)? {

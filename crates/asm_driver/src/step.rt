@@ -5,7 +5,7 @@ ghost use Rattle.asm_driver.specs.Terms.{locations_in};
 ghost use Rattle.asm_overlay.specs.Frames.{seen_through};
 ghost use Rattle.asm_driver.specs.Blocks.{move_in};
 ghost use Rattle.asm_driver.specs.Sequencing.{IsNext, IsFrame, Extends, IsStepMove};
-ghost use Rattle.asm_driver.specs.Reads.{term_of, target_of, taken, changed, AreReads};
+ghost use Rattle.asm_driver.specs.StepReads.{term_of, target_of, taken, changed, AreReads};
 
 use crate::block::{Block, TermAction, block_move};
 use crate::term::{Term, TermFault};

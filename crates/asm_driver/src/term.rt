@@ -1,6 +1,6 @@
 //! Terms: what a script writes in place of a value.
 ghost use Rattle.std.specs.Prelude.{◌≡◌};
-ghost use Rattle.asm_driver.specs.Terms.{term_value, number_of, IsEvaluated};
+ghost use Rattle.asm_driver.specs.Terms.{term_value, given_number, IsEvaluated};
 
 use asm_element::{Element, Location, Value};
 use asm_update::Lookup;
@@ -44,7 +44,7 @@ impl From<AllocError> for TermFault {
 
 /// The number that the value is, if it is one.
 fn number_in(value: &Value) -> Option<i64>
-    ensures { result ≡ number_of (Some value.now) }
+    ensures { result ≡ given_number (Some value.now) }
 {
     match value {
         Value::Plain(Element::Num(n)) => Some(*n),
@@ -54,7 +54,7 @@ fn number_in(value: &Value) -> Option<i64>
 
 /// The number that the term stands for, if it is one.
 fn number<L: Lookup>(term: &Term, lookup: &L) -> Option<i64>
-    ensures { result ≡ number_of (term_value (L.value_at lookup.now) term.now) }
+    ensures { result ≡ given_number (term_value (L.value_at lookup.now) term.now) }
 {
     match term {
         Term::Value(value) => number_in(value),

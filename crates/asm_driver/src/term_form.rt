@@ -2,7 +2,7 @@
 ghost use Rattle.std.specs.Prelude.{◌≡◌, ◌≢◌, ◌∷◌, [], List, ℕ, IfOk, IfSome, IfNone, option_map};
 ghost use Rattle.serde_json.specs.Data.{Data, Items, Members, member};
 ghost use Rattle.serde_json.specs.View.{view, items_of, items_view, members_view};
-ghost use Rattle.asm_journal.specs.Shape.{Reads, IsOnly, one_of};
+ghost use Rattle.asm_journal.specs.Shape.{IsParsed, IsOnly, one_of};
 ghost use Rattle.asm_journal.specs.Set.{IsAmountForm};
 ghost use Rattle.asm_journal.specs.Instruction.{instruction_of};
 ghost use Rattle.asm_driver.specs.TermForm.{sum_json_of, IsTermForm, IsCounted, IsActionForm, IsInstructionForm};
@@ -70,7 +70,7 @@ fn terms_of(json: &Json) -> Option<(&Json, &Json)>
 /// The term of which this is the form. It recurses as deep as the value nests, at most 127 levels in what
 /// was read from a text.
 fn read_term(alloc: Global, json: &Json) -> Result<Option<Term>, AllocError>
-    ensures { IfOk result (Reads IsTermForm (view json.now)) }
+    ensures { IfOk result (IsParsed IsTermForm (view json.now)) }
 {
     if let Some(value) = Value::from_json(alloc, json)? {
         return Ok(Some(Term::Value(value)));
@@ -103,7 +103,7 @@ impl FromJson for Term {
 
 /// The one term that the items are.
 fn read_only(alloc: Global, items: &[Json]) -> Result<Option<Term>, AllocError>
-    ensures { IfOk result (Reads (IsOnly IsTermForm) (items_view items.now)) }
+    ensures { IfOk result (IsParsed (IsOnly IsTermForm) (items_view items.now)) }
 {
     let mut items = items.iter();
     match (items.next(), items.next()) {
@@ -114,7 +114,7 @@ fn read_only(alloc: Global, items: &[Json]) -> Result<Option<Term>, AllocError>
 
 /// An amount: a whole number from 1 to 4,294,967,295.
 fn read_amount(json: &Json) -> Option<Amount>
-    ensures { Reads IsAmountForm (view json.now) result }
+    ensures { IsParsed IsAmountForm (view json.now) result }
 {
     let number = json.as_u64()?;
     Amount::new(u32::try_from(number).ok()?)
@@ -122,7 +122,7 @@ fn read_amount(json: &Json) -> Option<Amount>
 
 /// The term and the amount that the two items are.
 fn read_counted(alloc: Global, items: &[Json]) -> Result<Option<(Term, Amount)>, AllocError>
-    ensures { IfOk result (Reads (λ p. IsCounted p.0 p.1) (items_view items.now)) }
+    ensures { IfOk result (IsParsed (λ p. IsCounted p.0 p.1) (items_view items.now)) }
 {
     let Some((term, amount)) = two_of(items) else {
         return Ok(None);
@@ -154,7 +154,7 @@ fn read_action(
     word: &str,
     operands: &[Json],
 ) -> Result<Option<TermAction>, AllocError>
-    ensures { IfOk result (Reads (IsActionForm word.now) (items_view operands.now)) }
+    ensures { IfOk result (IsParsed (IsActionForm word.now) (items_view operands.now)) }
 {
     match word {
         "put" => Ok(read_only(alloc, operands)?.map(TermAction::Put)),

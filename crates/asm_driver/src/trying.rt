@@ -3,7 +3,7 @@ ghost use Rattle.std.specs.Prelude.{◌≡◌, ◌≤◌, length, IfOk};
 ghost use Rattle.std.specs.Option.{option_copied};
 ghost use Rattle.asm_update.specs.Aggregator.{AggregatorLaws};
 ghost use Rattle.asm_driver.specs.Plays.{Plays};
-ghost use Rattle.asm_driver.specs.Reads.{AreReads};
+ghost use Rattle.asm_driver.specs.StepReads.{AreReads};
 ghost use Rattle.asm_driver.specs.Trying.{names_of, outcome_of, HasRead, HasTried, IsEndOf, IsTry, IsStepPlayed};
 
 use crate::gate::Passage;

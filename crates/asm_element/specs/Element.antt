@@ -56,19 +56,19 @@ both_tied Equal b e = (refl, e)
 both_tied Greater b e = cc
 
 -- the element with this rank, number and bytes
-abbrev element_of : ℕ → ℤ → List ℕ → Element
-element_of zero n bytes = Undef
-element_of (suc zero) n bytes = Truth false
-element_of (suc (suc zero)) n bytes = Truth true
-element_of (suc (suc (suc zero))) n bytes = Num n
-element_of (suc (suc (suc (suc _)))) n bytes = Text bytes
+abbrev element_from : ℕ → ℤ → List ℕ → Element
+element_from zero n bytes = Undef
+element_from (suc zero) n bytes = Truth false
+element_from (suc (suc zero)) n bytes = Truth true
+element_from (suc (suc (suc zero))) n bytes = Num n
+element_from (suc (suc (suc (suc _)))) n bytes = Text bytes
 
-element_of-parts : (x : Element) → element_of (rank_of x) (number_of x) (bytes_of x) ≡ x
-element_of-parts Undef = refl
-element_of-parts (Truth false) = refl
-element_of-parts (Truth true) = refl
-element_of-parts (Num n) = refl
-element_of-parts (Text bytes) = refl
+element_from-parts : (x : Element) → element_from (rank_of x) (number_of x) (bytes_of x) ≡ x
+element_from-parts Undef = refl
+element_from-parts (Truth false) = refl
+element_from-parts (Truth true) = refl
+element_from-parts (Num n) = refl
+element_from-parts (Text bytes) = refl
 
 -- elements that tie are the same element
 pub element_cmp-IsAntisymmetric : IsAntisymmetric element_cmp
@@ -78,4 +78,4 @@ element_cmp-IsAntisymmetric x y e =
     let rank = nat_cmp-IsAntisymmetric _ _ parts.0 in
     let number = int_cmp-IsAntisymmetric _ _ others.0 in
     let bytes = slice_cmp-IsAntisymmetric nat_cmp-IsAntisymmetric _ _ others.1 in
-    sym (element_of-parts x) ∙ (λ i. element_of (rank i) (number i) (bytes i)) ∙ element_of-parts y
+    sym (element_from-parts x) ∙ (λ i. element_from (rank i) (number i) (bytes i)) ∙ element_from-parts y

@@ -10,7 +10,7 @@ use Rattle.asm_element.specs.declared.value.Value.TheVariants.{Plain}
 use Rattle.asm_update.specs.Action.{kind_number, amount_of, content_of}
 use Rattle.asm_update.specs.declared.action.Action.{Action}
 use Rattle.asm_update.specs.declared.action.Action.TheVariants.{Regular, SetAdd, SetRemove, BagAdd, BagRemove}
-use Rattle.asm_journal.specs.Shape.{Reads, IsOnly}
+use Rattle.asm_journal.specs.Shape.{IsParsed, IsOnly}
 use Rattle.asm_journal.specs.Element.{IsElementForm}
 use Rattle.asm_journal.specs.Set.{IsCounted}
 use Rattle.asm_journal.specs.Value.{IsValueForm}
@@ -38,42 +38,42 @@ element_in (Plain e) = e
 element_in _ = Undef
 
 -- the action of this kind, amount and content
-abbrev pub action_of : ℕ → ℕ → Value → Action
-action_of zero n v = Regular v
-action_of (suc zero) n v = SetAdd (element_in v)
-action_of (suc (suc zero)) n v = SetRemove (element_in v)
-action_of (suc (suc (suc zero))) n v = BagAdd (element_in v) n
-action_of (suc (suc (suc (suc _)))) n v = BagRemove (element_in v) n
+abbrev pub action_from : ℕ → ℕ → Value → Action
+action_from zero n v = Regular v
+action_from (suc zero) n v = SetAdd (element_in v)
+action_from (suc (suc zero)) n v = SetRemove (element_in v)
+action_from (suc (suc (suc zero))) n v = BagAdd (element_in v) n
+action_from (suc (suc (suc (suc _)))) n v = BagRemove (element_in v) n
 
-action_of-parts : (a : Action) → action_of (kind_number a) (amount_of a) (content_of a) ≡ a
-action_of-parts (Regular v) = refl
-action_of-parts (SetAdd e) = refl
-action_of-parts (SetRemove e) = refl
-action_of-parts (BagAdd e n) = refl
-action_of-parts (BagRemove e n) = refl
+action_from-parts : (a : Action) → action_from (kind_number a) (amount_of a) (content_of a) ≡ a
+action_from-parts (Regular v) = refl
+action_from-parts (SetAdd e) = refl
+action_from-parts (SetRemove e) = refl
+action_from-parts (BagAdd e n) = refl
+action_from-parts (BagRemove e n) = refl
 
 -- an action is made of its parts by the kind of its word
-pub made_by : (word : List ℕ) (a : Action) → word ≡ word_of a → a ≡ action_of (kind_of_word word) (amount_of a) (content_of a)
+pub made_by : (word : List ℕ) (a : Action) → word ≡ word_of a → a ≡ action_from (kind_of_word word) (amount_of a) (content_of a)
 made_by word a named =
-    sym (action_of-parts a) ∙ ap (λ k. action_of k (amount_of a) (content_of a)) (sym (kind_of_word-word a) ∙ ap kind_of_word (sym named))
+    sym (action_from-parts a) ∙ ap (λ k. action_from k (amount_of a) (content_of a)) (sym (kind_of_word-word a) ∙ ap kind_of_word (sym named))
 
 -- reading the operands of a word's action is reading the action
 module _ {X : Type 0} (make : X → Action) (part : Action → X) (word : List ℕ) (ds : Items)
-    (named : (x : X) → word ≡ word_of (make x)) (made : (a : Action) → action_of (kind_of_word word) (amount_of a) (content_of a) ≡ make (part a)) where
-  read_as : (o : Option X) → Reads (λ x. AreOperands (make x)) ds o → Reads (IsActionForm word) ds (option_map make o)
+    (named : (x : X) → word ≡ word_of (make x)) (made : (a : Action) → action_from (kind_of_word word) (amount_of a) (content_of a) ≡ make (part a)) where
+  read_as : (o : Option X) → IsParsed (λ x. AreOperands (make x)) ds o → IsParsed (IsActionForm word) ds (option_map make o)
   read_as (Some x) h = (named x, h)
   read_as None h = λ a form. h (part a) (subst (λ b. AreOperands b ds) (made_by word a form.0 ∙ made a) form.1)
 
-of_kind : (word known : List ℕ) (a : Action) → word ≡ known → action_of (kind_of_word word) (amount_of a) (content_of a) ≡ action_of (kind_of_word known) (amount_of a) (content_of a)
-of_kind word known a is = ap (λ w. action_of (kind_of_word w) (amount_of a) (content_of a)) is
+of_kind : (word known : List ℕ) (a : Action) → word ≡ known → action_from (kind_of_word word) (amount_of a) (content_of a) ≡ action_from (kind_of_word known) (amount_of a) (content_of a)
+of_kind word known a is = ap (λ w. action_from (kind_of_word w) (amount_of a) (content_of a)) is
 
-pub put_read : (word : List ℕ) (ds : Items) (o : Option Value) → word ≡ codes "put" → Reads (IsOnly IsValueForm) ds o → Reads (IsActionForm word) ds (option_map Regular o)
+pub put_read : (word : List ℕ) (ds : Items) (o : Option Value) → word ≡ codes "put" → IsParsed (IsOnly IsValueForm) ds o → IsParsed (IsActionForm word) ds (option_map Regular o)
 put_read word ds o is h = read_as Regular content_of word ds (λ v. is) (λ a. of_kind word _ a is) o h
 
-pub add_read : (word : List ℕ) (ds : Items) (o : Option Element) → word ≡ codes "add" → Reads (IsOnly IsElementForm) ds o → Reads (IsActionForm word) ds (option_map SetAdd o)
+pub add_read : (word : List ℕ) (ds : Items) (o : Option Element) → word ≡ codes "add" → IsParsed (IsOnly IsElementForm) ds o → IsParsed (IsActionForm word) ds (option_map SetAdd o)
 add_read word ds o is h = read_as SetAdd (λ a. element_in (content_of a)) word ds (λ e. is) (λ a. of_kind word _ a is) o h
 
-pub remove_read : (word : List ℕ) (ds : Items) (o : Option Element) → word ≡ codes "remove" → Reads (IsOnly IsElementForm) ds o → Reads (IsActionForm word) ds (option_map SetRemove o)
+pub remove_read : (word : List ℕ) (ds : Items) (o : Option Element) → word ≡ codes "remove" → IsParsed (IsOnly IsElementForm) ds o → IsParsed (IsActionForm word) ds (option_map SetRemove o)
 remove_read word ds o is h = read_as SetRemove (λ a. element_in (content_of a)) word ds (λ e. is) (λ a. of_kind word _ a is) o h
 
 abbrev counted_in : Action → Element × ℕ

@@ -4,7 +4,7 @@ use Rattle.std.proofs.Common.{length, get_or, max, Bool, true, false, not, Some,
 use Rattle.std.proofs.Common.{option_and_then, refl, sym, ap, ap₂, subst, ◌∙◌, arith, inl, inr, append-nil}
 use Rattle.std.specs.Prelude.{⊤}
 use Rattle.std.specs.List.{AllByRecursion}
-use Rattle.std.proofs.lemmas.Bool.{and_parts, cases_lt, cases_eq}
+use Rattle.std.proofs.lemmas.Bool.{and_parts, cases_lt, cases_eq, not-true, eqb-false}
 use Rattle.std.proofs.lemmas.List.Elements.{All-append, All-from_recursion}
 use Rattle.std.proofs.lemmas.Str.{IsUtf8-append, IsUtf8-from_ascii}
 use Rattle.std.proofs.lemmas.List.{get_or_past, get_or_default}
@@ -128,9 +128,6 @@ mutual
   members_depth-outline no_members = refl
   members_depth-outline (member k d ms) = ap₂ max (depth-outline d) (members_depth-outline ms)
 
-abbrev whole : json.Parse json.Json → List Token → Data → Type 0
-whole p ts d = option_and_then of_json (option_and_then (λ r. json.if_last r.0 r.1) (p ts)) ≡ Some d
-
 pub read-compact_text : (d : Data) → IsClean d → depth d ≤ max_depth → read (compact_text d) ≡ Some d
 read-compact_text d h shallow =
     let j = outline d in
@@ -190,17 +187,10 @@ abbrev no_feed : List ℕ → Bool
 no_feed [] = true
 no_feed (x ∷ xs) = not (x == 10) && no_feed xs
 
-not_true : (b : Bool) → not b ≡ true → b ≡ false
-not_true true e = absurd cc
-not_true false e = refl
-
-apart : (x : ℕ) → (x == 10) ≡ false → x ≡ 10 → ⊥
-apart x e same = absurd (cc (subst (λ y. (y == 10) ≡ false) same e))
-
 by_recursion : (xs : List ℕ) → no_feed xs ≡ true → AllByRecursion (λ b. b ≢ 10) xs
 by_recursion [] e = tt
 by_recursion (x ∷ xs) e =
-    let p = and_parts (not (x == 10)) (no_feed xs) e in (apart x (not_true _ p.0), by_recursion xs p.1)
+    let p = and_parts (not (x == 10)) (no_feed xs) e in (eqb-false x 10 (not-true _ p.0), by_recursion xs p.1)
 
 tested : (xs : List ℕ) → no_feed xs ≡ true → HasNoLineFeed xs
 tested xs e = All-from_recursion (λ b. b ≢ 10) xs (by_recursion xs e)

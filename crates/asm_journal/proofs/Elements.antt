@@ -1,5 +1,5 @@
 -- Elements and locations: what reading them finds, and that a value is the form of one at most.
-use Rattle.std.proofs.Common.{◌≡◌, ◌<◌, ◌≤◌, ℕ, ℤ, pos, negsuc, Bool, true, false, List, [], ◌∷◌, length, map, Result, Ok, Err, refl, sym, ap, ap₂, subst, ◌∙◌, true≢false, arith}
+use Rattle.std.proofs.Common.{◌≡◌, ◌<◌, ◌≤◌, ℕ, ℤ, pos, negsuc, Bool, true, false, List, [], ◌∷◌, length, map, Result, Ok, Err, refl, sym, ap, ap₂, subst, ◌∙◌, arith}
 use Rattle.std.specs.Prelude.{◌↔◌, IfOk, IsTrue}
 use Rattle.std.specs.Result.{result_ok}
 use Rattle.std.specs.List.{AllByRecursion}
@@ -13,8 +13,9 @@ use Rattle.asm_element.specs.declared.element.Element.{Element}
 use Rattle.asm_element.specs.declared.element.Element.TheVariants as elements
 use Rattle.asm_element.specs.declared.location.LocationError.{LocationError}
 use Rattle.asm_element.specs.declared.location.LocationError.TheVariants.{BadName, ManyArgs}
-use Rattle.asm_journal.specs.Shape.{AreForms, Reads}
+use Rattle.asm_journal.specs.Shape.{AreForms, IsParsed}
 use Rattle.asm_journal.specs.Element.{element_json_of, location_json_of, IsElementForm, IsLocationForm}
+use Rattle.asm_journal.proofs.Answered.{true_and_false}
 use Rattle.asm_journal.proofs.Arrays.{IsOnce}
 
 -- ---- one at most
@@ -86,9 +87,6 @@ is_true : (b : Bool) → (b ≡ false → ⊥) → IsTrue b
 is_true true h = refl
 is_true false h = absurd (h refl)
 
-not_false : (b : Bool) → IsTrue b → b ≡ false → ⊥
-not_false b t e = true≢false (sym t ∙ e)
-
 abbrev read_place : List ℕ → List Element → Place
 read_place name args = record { name = name; args = args }
 
@@ -96,7 +94,7 @@ pub location_read : (d : Data) (name : List ℕ) (ds : Items) (args : List Eleme
     → n ≡ length args → d ≡ array (item (string name) ds) → AreForms IsElementForm args ds
     → IfOk r (λ l. l ≡ record { name = name; args = args })
     → ((r ≡ Err BadName) ↔ (is_name name ≡ false)) → ((r ≡ Err ManyArgs) ↔ (IsTrue (is_name name) × (8 < n)))
-    → Reads IsLocationForm d (result_ok r)
+    → IsParsed IsLocationForm d (result_ok r)
 location_read d name ds args n (Ok l) count is forms ok bad many =
     let parts = forms_are args ds forms in
     let named = is_true (is_name name) (λ e. let wrong = bad.1 e in absurd cc) in
@@ -108,7 +106,7 @@ location_read d name ds args n (Ok l) count is forms ok bad many =
 location_read d name ds args n (Err BadName) count is forms ok bad many = λ p h.
     let parts = forms_are args ds forms in
     let same = location_json_once p (read_place name args) (sym h.1 ∙ is ∙ ap (λ es. array (item (string name) es)) parts.0) in
-    not_false (is_name name) (subst (λ q. IsTrue (is_name q.name)) same h.0.0) (bad.0 refl)
+    true_and_false (is_name name) (subst (λ q. IsTrue (is_name q.name)) same h.0.0) (bad.0 refl)
 location_read d name ds args n (Err ManyArgs) count is forms ok bad many = λ p h.
     let parts = forms_are args ds forms in
     let same = location_json_once p (read_place name args) (sym h.1 ∙ is ∙ ap (λ es. array (item (string name) es)) parts.0) in

@@ -22,7 +22,7 @@ use Rattle.asm_storage.specs.declared.call.Reply.TheVariants as reply
 use Rattle.asm_storage.specs.declared.call.Answer.{Answer}
 use Rattle.asm_storage.specs.declared.call.Answer.TheVariants as answer
 use Rattle.asm_storage.specs.declared.history.Event.{Event}
-use Rattle.asm_journal.specs.Shape.{Reads, IsOnly, one_of, two_of, three_of, IsNumberForm, IsListForm}
+use Rattle.asm_journal.specs.Shape.{IsParsed, IsOnly, one_of, two_of, three_of, IsNumberForm, IsListForm}
 use Rattle.asm_journal.specs.Element.{IsElementForm, IsLocationForm}
 use Rattle.asm_journal.specs.Value.{IsValueForm}
 use Rattle.asm_journal.specs.Instruction.{AreOperands, IsActionForm, instruction_of, IsInstructionForm}
@@ -32,7 +32,7 @@ use Rattle.asm_journal.proofs.Arrays.{IsOnce, same_pair, same_one, same_key, sam
 use Rattle.asm_journal.proofs.Elements.{element_once, location_once}
 use Rattle.asm_journal.proofs.Sets.{counted_once}
 use Rattle.asm_journal.proofs.Values.{value_once}
-use Rattle.asm_journal.proofs.Actions.{kind_of_word, action_of, made_by}
+use Rattle.asm_journal.proofs.Actions.{kind_of_word, action_from, made_by}
 
 -- ---- shapes
 
@@ -59,7 +59,7 @@ same_only a b e = cc
 only_once : {X : Type 0} (F : X → Data → Type 0) → IsOnce F → IsOnce (IsOnly F)
 only_once F once x y ds h k = once x y k.0 (subst (F x) (same_only _ _ (sym h.1 ∙ k.1)) h.2) k.2
 
-operands_once : (kind n m : ℕ) (v w : Value) (ds : Items) → AreOperands (action_of kind n v) ds → AreOperands (action_of kind m w) ds → action_of kind n v ≡ action_of kind m w
+operands_once : (kind n m : ℕ) (v w : Value) (ds : Items) → AreOperands (action_from kind n v) ds → AreOperands (action_from kind m w) ds → action_from kind n v ≡ action_from kind m w
 operands_once zero n m v w ds h k = ap Regular (only_once IsValueForm value_once _ _ ds h k)
 operands_once (suc zero) n m v w ds h k = ap SetAdd (only_once IsElementForm element_once _ _ ds h k)
 operands_once (suc (suc zero)) n m v w ds h k = ap SetRemove (only_once IsElementForm element_once _ _ ds h k)
@@ -219,7 +219,7 @@ event_once x y d h k =
 
 -- ---- reading
 
-pub clash_read : (d e : Data) (o : Option Clash) → d ≡ one_of (codes "clash") e → Reads IsClashForm e o → Reads IsReplyForm d (option_map reply.Clash o)
+pub clash_read : (d e : Data) (o : Option Clash) → d ≡ one_of (codes "clash") e → IsParsed IsClashForm e o → IsParsed IsReplyForm d (option_map reply.Clash o)
 clash_read d e (Some c) is h = (e, is, h)
 clash_read d e None is h = none where
   none : (r : Reply) → IsReplyForm r d → ⊥

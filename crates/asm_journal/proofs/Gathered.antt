@@ -6,8 +6,8 @@ use Rattle.std.specs.Map.{keys_of}
 use Rattle.std.specs.Ordering.{eq_by_cmp}
 use Rattle.std.specs.declared.cmp.Ordering.{Ordering}
 use Rattle.std.specs.FinMap as finite
-use Rattle.std.proofs.lemmas.Bool.Decides.{nat_tests}
 use Rattle.std.proofs.lemmas.Map.Keys.{IsDistinct-cons, IsDistinct-head, IsDistinct-tail}
+use Rattle.std.proofs.lemmas.Bool.{not-false, not-true, lt-ltb}
 use Rattle.asm_element.specs.Element.{element_cmp, element_cmp_total}
 use Rattle.asm_element.specs.Place.{Place, location_cmp, location_cmp_total}
 use Rattle.asm_element.specs.declared.element.Element.{Element}
@@ -68,23 +68,15 @@ module _ {K : Type 0} (cmp : K → K → Ordering) where
 
 -- ---- sets
 
-is_there : (b : Bool) → not b ≡ false → b ≡ true
-is_there true e = refl
-is_there false e = cc
-
-is_new : (b : Bool) → not b ≡ true → b ≡ false
-is_new true e = cc
-is_new false e = refl
-
 stands_in : (s : set.ElementSet) (done : List Element) (x : Element) → IsSetOf s done → stands element_cmp x done ≡ set.contains s x
 stands_in s done x made = sym (contains-from_list done x) ∙ ap (λ r. set.contains r x) (sym made.1)
 
 pub set-twice : (xs : List Element) (x : Element) (done all : List Element) (s : set.ElementSet) → xs ++ x ∷ done ≡ all → IsSetOf s done → not (set.contains s x) ≡ false → (t : set.ElementSet) → IsSetOf t all → ⊥
-set-twice xs x done all s whole made there t h = twice element_cmp xs x done all whole (stands_in s done x made ∙ is_there _ there) h.0
+set-twice xs x done all s whole made there t h = twice element_cmp xs x done all whole (stands_in s done x made ∙ not-false _ there) h.0
 
 pub set-more : (x : Element) (done : List Element) (s t : set.ElementSet) → IsSetOf s done → not (set.contains s x) ≡ true → t ≡ set.insert s x → IsSetOf t (x ∷ done)
 set-more x done s t made new inserted =
-    (more_distinct element_cmp x done (stands_in s done x made ∙ is_new _ new) made.0, inserted ∙ ap (λ r. set.insert r x) made.1)
+    (more_distinct element_cmp x done (stands_in s done x made ∙ not-true _ new) made.0, inserted ∙ ap (λ r. set.insert r x) made.1)
 
 -- ---- bags
 
@@ -95,15 +87,12 @@ Counts = List (Element × ℕ)
 abbrev pub ArePositive : Counts → Type 0
 ArePositive = AllByRecursion (λ p. 1 ≤ p.1)
 
-positive : (n : ℕ) → 0 < n → nat_lt 0 n ≡ true
-positive n h = grind (arith, nat_tests)
-
 -- a bag has an element just where its list has it
 count-bag_of : (ps : Counts) (x : Element) → ArePositive ps → nat_lt 0 (bag.count (bag_of ps) x) ≡ stands element_cmp x (keys_of ps)
 count-bag_of [] x h = ap (λ o. nat_lt 0 (unwrap_or o 0)) (finite.get-empty element_cmp x)
 count-bag_of (p ∷ ps) x h = by_count p.1 h.0 (count-bag_of ps x h.1) where
   by_test : (b : Bool) (n : ℕ) → nat_lt 0 (unwrap_or (cond b (Some (suc n)) (finite.get (bag_of ps) x)) 0) ≡ (b || nat_lt 0 (bag.count (bag_of ps) x))
-  by_test true n = positive (suc n) (omega arith)
+  by_test true n = lt-ltb 0 (suc n) (omega arith)
   by_test false n = refl
 
   by_count : (n : ℕ) → 1 ≤ n → nat_lt 0 (bag.count (bag_of ps) x) ≡ stands element_cmp x (keys_of ps) → nat_lt 0 (bag.count (bag.set_count (bag_of ps) p.0 n) x) ≡ (eq_by_cmp element_cmp x p.0 || stands element_cmp x (keys_of ps))
@@ -118,7 +107,7 @@ counts_in b done x made above = sym (count-bag_of done x above) ∙ ap (λ r. na
 
 pub bag-twice : (xs : Counts) (p : Element × ℕ) (done all : Counts) (b : bag.ElementBag) → xs ++ p ∷ done ≡ all → IsBagOf b done → ArePositive done → 0 < bag.count b p.0 → (c : bag.ElementBag) → IsBagOf c all → ⊥
 bag-twice xs p done all b whole made above there c h =
-    twice_key element_cmp xs p done all whole (counts_in b done p.0 made above ∙ positive _ there) h.0
+    twice_key element_cmp xs p done all whole (counts_in b done p.0 made above ∙ lt-ltb 0 _ there) h.0
 
 pub bag-more : (p : Element × ℕ) (done : Counts) (b c : bag.ElementBag) → IsBagOf b done → ArePositive done → bag.count b p.0 ≡ 0 → c ≡ bag.set_count b p.0 (bag.count b p.0 + p.1) → IsBagOf c (p ∷ done)
 bag-more p done b c made above none put =

@@ -1,10 +1,8 @@
 -- Legal histories, event by event, and the check of one event.
-use Rattle.std.proofs.Common.{◌≡◌, ◌↔◌, ◌<◌, ◌+◌, ℕ, suc, Bool, true, false, List, [], ◌∷◌, ◌++◌, length, get_or, take, drop, map, Option, Some, None, Ok, nat_lt, cond, refl, sym, ap, ap₂, subst, ◌∙◌, append-nil, arith}
+use Rattle.std.proofs.Common.{◌≡◌, ◌↔◌, ◌<◌, ◌+◌, ℕ, suc, Bool, true, false, List, [], ◌∷◌, ◌++◌, length, get_or, take, drop, map, Option, Some, None, Ok, refl, sym, ap, ap₂, subst, ◌∙◌, append-nil, arith}
 use Rattle.std.specs.Prelude.{IsTrue}
 use Rattle.std.specs.List.{cons_option}
 use Rattle.std.proofs.Math.Seq.{split_at}
-use Rattle.std.proofs.lemmas.Bool.{true≢false}
-use Rattle.std.proofs.lemmas.Bool.Decides.{nat_tests}
 use Rattle.std.proofs.lemmas.List.{take_more, length-take-le}
 use Rattle.asm_element.specs.Place.{Place}
 use Rattle.asm_element.specs.declared.value.Value.{Value}
@@ -18,7 +16,7 @@ use Rattle.asm_state.specs.declared.named.Named.{Named}
 use Rattle.asm_state.specs.declared.verdict.Verdict.{Verdict}
 use Rattle.asm_state.specs.declared.verdict.Verdict.TheVariants as verdict
 use Rattle.asm_state.proofs.Judged.{same_old}
-use Rattle.asm_storage.specs.Machine.{Machine, state_of, reply_to, firing_reply, fire_reply}
+use Rattle.asm_storage.specs.Machine.{Machine, machine_state, reply_to, firing_reply, fire_reply}
 use Rattle.asm_storage.specs.History.{move_of, moves}
 use Rattle.asm_storage.specs.declared.call.Call.{Call}
 use Rattle.asm_storage.specs.declared.call.Call.TheVariants as call
@@ -28,7 +26,8 @@ use Rattle.asm_storage.specs.declared.call.Answer.{Answer}
 use Rattle.asm_storage.specs.declared.call.Answer.TheVariants as answer
 use Rattle.asm_storage.specs.declared.history.Event.{Event}
 use Rattle.asm_storage.proofs.Legal.{IsLegalFrom, legal-append, legal-from}
-use Rattle.asm_journal.specs.Check.{machine, IsFirstWrong, verdict_reply, is_fired, IsStep}
+use Rattle.asm_journal.specs.Check.{machine, IsFirstWrong, verdict_reply, was_fired, IsStep}
+use Rattle.asm_journal.proofs.Answered.{true_and_false}
 use Rattle.asm_journal.proofs.Moves.{moves-push}
 
 -- ---- legal from some moves on
@@ -69,14 +68,11 @@ module _ (part : Part) (init : State) (capacity : ℕ) (events : List Event) (i 
 same_read : (n k : ℕ) (vs ws : List Value) → answer.Read n vs ≡ answer.Read k ws → (n ≡ k) × (vs ≡ ws)
 same_read n k vs ws e = (cc, cc)
 
-pub not_both : (b : Bool) → IsTrue b → b ≡ false → ⊥
-not_both b true_is false_is = true≢false (sym true_is ∙ false_is)
-
 pub read_step : (part : Part) (capacity : ℕ) (e : Event) (s : StateView) (places : List Place) (n : ℕ) (vs : List Value) (b : Bool)
     → e.call ≡ call.Read places → e.answer ≡ answer.Read n vs → (IsTrue b ↔ ((n ≡ s.number) × (map (value_at s) places ≡ vs))) → IsStep part capacity e s s b
 read_step part capacity e s places n vs true call-is answer-is tells = λ init q stands.
     let is = tells.0 refl in
-    let values : vs ≡ map (val (state_of (machine part init capacity) q)) places = sym is.1 ∙ ap (λ (f : Place → Value). map f places) (same_old part init q s stands) in
+    let values : vs ≡ map (val (machine_state (machine part init capacity) q)) places = sym is.1 ∙ ap (λ (f : Place → Value). map f places) (same_old part init q s stands) in
     let answered = answer-is ∙ ap₂ answer.Read (is.0 ∙ stands.number) values ∙ sym (ap (reply_to (machine part init capacity) q) call-is) in
     let quiet : move_of e ≡ None = ap₂ fired call-is answer-is in
     (answered, subst (Stands part init s) (sym (ap (λ o. q ++ cons_option o []) quiet ∙ append-nil q)) stands) where
@@ -85,7 +81,7 @@ read_step part capacity e s places n vs true call-is answer-is tells = λ init q
 read_step part capacity e s places n vs false call-is answer-is tells = λ init q stands same.
     let parts = same_read _ _ _ _ (sym answer-is ∙ same ∙ ap (reply_to (machine part init capacity) q) call-is) in
     let values = ap (λ (f : Place → Value). map f places) (same_old part init q s stands) ∙ sym parts.1 in
-    not_both false (tells.1 (parts.0 ∙ sym stands.number, values)) refl
+    true_and_false false (tells.1 (parts.0 ∙ sym stands.number, values)) refl
 
 -- ---- one fire
 
@@ -95,9 +91,9 @@ module _ (part : Part) (capacity : ℕ) (e : Event) (old : StateView) (reads : L
   verdict_is : (init : State) (q : List Move) (w : Verdict) → IsVerdict part init q reads M (Ok w) → fire_reply (machine part init capacity) q M (least_stale part init q reads) ≡ verdict_reply capacity (length q) w
   verdict_is init q (verdict.Stale l) h = ap (fire_reply (machine part init capacity) q M) h
   verdict_is init q (verdict.Clash c) h =
-      ap (fire_reply (machine part init capacity) q M) h.0 ∙ ap (λ a. firing_reply (machine part init capacity) q (overwritten (state_of (machine part init capacity) q) a)) h.1
+      ap (fire_reply (machine part init capacity) q M) h.0 ∙ ap (λ a. firing_reply (machine part init capacity) q (overwritten (machine_state (machine part init capacity) q) a)) h.1
   verdict_is init q (verdict.Ready U) h =
-      ap (fire_reply (machine part init capacity) q M) h.0 ∙ ap (λ a. firing_reply (machine part init capacity) q (overwritten (state_of (machine part init capacity) q) a)) h.1
+      ap (fire_reply (machine part init capacity) q M) h.0 ∙ ap (λ a. firing_reply (machine part init capacity) q (overwritten (machine_state (machine part init capacity) q) a)) h.1
 
   -- the reply after the moves is the verdict's
   replied : (init : State) (q : List Move) → Stands part init old q → reply_to (machine part init capacity) q e.call ≡ answer.Fire (verdict_reply capacity old.number v)
@@ -115,29 +111,20 @@ module _ (part : Part) (capacity : ℕ) (e : Event) (old : StateView) (reads : L
   move-is : (s : Reply) → r ≡ s → move_of e ≡ move_of (record { agent = e.agent; call = call.Fire reads M; answer = answer.Fire s })
   move-is s is = ap₂ (λ c a. move_of (record { agent = e.agent; call = c; answer = a })) call-is (answer-is ∙ ap answer.Fire is)
 
-  pub quiet_fire : r ≡ verdict_reply capacity old.number v → is_fired r ≡ false → IsStep part capacity e old old true
+  pub quiet_fire : r ≡ verdict_reply capacity old.number v → was_fired r ≡ false → IsStep part capacity e old old true
   quiet_fire is none = λ init q stands.
       (right is init q stands, subst (Stands part init old) (sym (ap (λ o. q ++ cons_option o []) (move-is r refl ∙ quiet r none) ∙ append-nil q)) stands) where
-        quiet : (s : Reply) → is_fired s ≡ false → move_of (record { agent = e.agent; call = call.Fire reads M; answer = answer.Fire s }) ≡ None
+        quiet : (s : Reply) → was_fired s ≡ false → move_of (record { agent = e.agent; call = call.Fire reads M; answer = answer.Fire s }) ≡ None
         quiet (reply.Fired k) none = absurd cc
         quiet (reply.Stale l) none = refl
         quiet (reply.Clash c) none = refl
         quiet reply.Full none = refl
 
-  pub taken_fire : (new : StateView) → r ≡ verdict_reply capacity old.number v → is_fired r ≡ true → ((init : State) (q : List Move) → Stands part init old q → Stands part init new (q ++ M ∷ [])) → IsStep part capacity e old new true
+  pub taken_fire : (new : StateView) → r ≡ verdict_reply capacity old.number v → was_fired r ≡ true → ((init : State) (q : List Move) → Stands part init old q → Stands part init new (q ++ M ∷ [])) → IsStep part capacity e old new true
   taken_fire new is fired followed = λ init q stands.
       (right is init q stands, subst (Stands part init new) (sym (ap (λ o. q ++ cons_option o []) (move-is r refl ∙ taken r fired))) (followed init q stands)) where
-        taken : (s : Reply) → is_fired s ≡ true → move_of (record { agent = e.agent; call = call.Fire reads M; answer = answer.Fire s }) ≡ Some M
+        taken : (s : Reply) → was_fired s ≡ true → move_of (record { agent = e.agent; call = call.Fire reads M; answer = answer.Fire s }) ≡ Some M
         taken (reply.Fired k) fired = refl
         taken (reply.Stale l) fired = absurd cc
         taken (reply.Clash c) fired = absurd cc
         taken reply.Full fired = absurd cc
-
--- a move is fired below the capacity alone
-pub below_capacity : (capacity number : ℕ) (v : Verdict) (r : Reply) → r ≡ verdict_reply capacity number v → is_fired r ≡ true → number < capacity
-below_capacity capacity number (verdict.Stale l) r is fired = absurd (let no : false ≡ true = sym (ap is_fired is) ∙ fired in cc)
-below_capacity capacity number (verdict.Clash c) r is fired = absurd (let no : false ≡ true = sym (ap is_fired is) ∙ fired in cc)
-below_capacity capacity number (verdict.Ready U) r is fired = by_test (nat_lt number capacity) refl where
-  by_test : (b : Bool) → nat_lt number capacity ≡ b → number < capacity
-  by_test true below = grind (arith, nat_tests)
-  by_test false above = absurd (let no : false ≡ true = sym (ap is_fired (is ∙ ap (λ t. cond t (reply.Fired (number + 1)) reply.Full) above)) ∙ fired in cc)

@@ -1,10 +1,10 @@
 -- Reading what an array's items make.
 use Rattle.std.proofs.Common.{◌≡◌, List, [], ◌∷◌, map, Option, Some, None, sym, subst}
 use Rattle.serde_json.specs.Data.{Data, Items, no_items, item}
-use Rattle.asm_journal.specs.Shape.{Reads, AreForms, IsListForm, IsMadeForm}
+use Rattle.asm_journal.specs.Shape.{IsParsed, AreForms, IsListForm, IsMadeForm}
 use Rattle.asm_journal.proofs.Arrays.{IsOnce, list_once}
 
-pub made_read : {X Y : Type 0} (F : X → Data → Type 0) (M : Y → List X → Type 0) → IsOnce F → (d : Data) (xs : List X) (o : Option Y) → IsListForm F xs d → Reads M xs o → Reads (IsMadeForm F M) d o
+pub made_read : {X Y : Type 0} (F : X → Data → Type 0) (M : Y → List X → Type 0) → IsOnce F → (d : Data) (xs : List X) (o : Option Y) → IsListForm F xs d → IsParsed M xs o → IsParsed (IsMadeForm F M) d o
 made_read F M once d xs (Some y) form made = (xs, form, made)
 made_read F M once d xs None form made = λ y h. made y (subst (M y) (list_once F once h.0 xs d h.1 form) h.2)
 

@@ -14,7 +14,7 @@ use Rattle.asm_journal.specs.Text.{header_with}
 use Rattle.asm_journal.specs.Shape.{number_json_of}
 use Rattle.asm_journal.specs.Reading.{HasNoLineFeed, BeginsWithLine, HasLine, IsJson, IsHeader, HasEvents, ReadsAs}
 use Rattle.asm_journal.specs.Fault.{HasOtherVersion, BreaksLine, BreaksHeader, BreaksEvent, BreaksBehind, IsRefused}
-use Rattle.asm_journal.specs.Fault.{IsAnswer}
+use Rattle.asm_journal.specs.Fault.{GivesHistory}
 use Rattle.asm_journal.proofs.Once.{NoFeed, same_split, line_once, header_once, history_once}
 
 no_feed_inside : (a r : List ℕ) → NoFeed (a ++ 10 ∷ r) → ⊥
@@ -109,7 +109,7 @@ not_both text h e other (inr b) p =
 
 -- what reads as a history is answered so, unless memory runs out
 pub answered : (text : List ℕ) (r : Result History JournalError) → IfOk r (ReadsAs text) → IfErr r (IsRefused text)
-    → (h : History) → ReadsAs text h → IsAnswer h r
+    → (h : History) → ReadsAs text h → GivesHistory h r
 answered text (Ok g) ok err h p = history_once text g h ok p
 answered text (Err Cut) ok err h p = absurd (not_both text h Cut (λ e. cc) err p)
 answered text (Err (NotJson n)) ok err h p = absurd (not_both text h (NotJson n) (λ e. cc) err p)

@@ -9,8 +9,8 @@ use Rattle.asm_element.specs.declared.element.Element.{Element}
 use Rattle.asm_element.specs.declared.element.Element.TheVariants as elements
 use Rattle.asm_element.specs.declared.value.Value.{Value}
 use Rattle.asm_element.specs.declared.value.Value.TheVariants as values
-use Rattle.asm_journal.specs.declared.pair_form.Pair.{Pair}
-use Rattle.asm_journal.specs.Shape.{Reads, IsListForm, one_of}
+use Rattle.asm_journal.specs.declared.pair_form.StatePair.{StatePair}
+use Rattle.asm_journal.specs.Shape.{IsParsed, IsListForm, one_of}
 use Rattle.asm_journal.specs.Element.{element_json_of, IsLocationForm}
 use Rattle.asm_journal.specs.Set.{IsSetForm, IsBagForm}
 use Rattle.asm_journal.specs.Value.{IsValueForm, IsPairForm}
@@ -58,7 +58,7 @@ mapped f None r h = sym h
 mapped f (Some x) None h = absurd h
 mapped f (Some x) (Some y) h = ap Some (sym h)
 
-pub value_of_set : (d items : Data) (o : Option set.ElementSet) → d ≡ one_of (codes "set") items → Reads IsSetForm items o → Reads IsValueForm d (option_map values.Set o)
+pub value_of_set : (d items : Data) (o : Option set.ElementSet) → d ≡ one_of (codes "set") items → IsParsed IsSetForm items o → IsParsed IsValueForm d (option_map values.Set o)
 value_of_set d items (Some s) is h = (items, is, h)
 value_of_set d items None is h = none where
   none : (v : _) → IsValueForm v d → ⊥
@@ -66,7 +66,7 @@ value_of_set d items None is h = none where
   none (values.Set s) k = h s (subst (IsSetForm s) (same_one _ _ _ (sym k.1 ∙ is)) k.2)
   none (values.Bag b) k = not_both _ _ (sym is ∙ k.1)
 
-pub value_of_bag : (d items : Data) (o : Option bag.ElementBag) → d ≡ one_of (codes "bag") items → Reads IsBagForm items o → Reads IsValueForm d (option_map values.Bag o)
+pub value_of_bag : (d items : Data) (o : Option bag.ElementBag) → d ≡ one_of (codes "bag") items → IsParsed IsBagForm items o → IsParsed IsValueForm d (option_map values.Bag o)
 value_of_bag d items (Some b) is h = (items, is, h)
 value_of_bag d items None is h = none where
   none : (v : _) → IsValueForm v d → ⊥
@@ -76,14 +76,14 @@ value_of_bag d items None is h = none where
 
 -- ---- locations with their values that are read, as pairs
 
-abbrev pub place_of : Pair → Place × Value
+abbrev pub place_of : StatePair → Place × Value
 place_of = λ p. (p.0, p.1)
 
-abbrev pub places_of : List Pair → List (Place × Value)
+abbrev pub places_of : List StatePair → List (Place × Value)
 places_of = map place_of
 
-abbrev pub IsReadPair : Pair → Data → Type 0
+abbrev pub IsReadPair : StatePair → Data → Type 0
 IsReadPair = λ p. IsPairForm (p.0, p.1)
 
-pub no_places : (d : Data) → ((ps : List Pair) → IsListForm IsReadPair ps d → ⊥) → (qs : List (Place × Value)) → IsListForm IsPairForm qs d → ⊥
+pub no_places : (d : Data) → ((ps : List StatePair) → IsListForm IsReadPair ps d → ⊥) → (qs : List (Place × Value)) → IsListForm IsPairForm qs d → ⊥
 no_places = no_list_seen place_of (λ p. record { 0 = p.0; 1 = p.1 }) IsPairForm (λ p. refl)

@@ -49,9 +49,9 @@ verdict_reply capacity number (verdict.Clash c) = reply.Clash c
 verdict_reply capacity number (verdict.Ready U) = taken_reply capacity number
 
 -- whether the move was fired
-abbrev pub is_fired : Reply → Bool
-is_fired (reply.Fired k) = true
-is_fired _ = false
+abbrev pub was_fired : Reply → Bool
+was_fired (reply.Fired k) = true
+was_fired _ = false
 
 -- the moves with that of the event, if it has one
 abbrev pub moves_with : List Move → Event → List Move

@@ -65,12 +65,12 @@ answer_json_of (answer.Read number values) =
 answer_json_of (answer.Fire r) = reply_json_of r
 
 -- {"agent":..,"call":..,"reply":..}
-abbrev pub event_of : Data → Data → Data → Data
-event_of agent call reply = three_of (codes "agent") agent (codes "call") call (codes "reply") reply
+abbrev pub event_object : Data → Data → Data → Data
+event_object agent call reply = three_of (codes "agent") agent (codes "call") call (codes "reply") reply
 
 -- {"agent":N,"call":CALL,"reply":REPLY}
 abbrev pub event_json_of : Event → Data
-event_json_of e = event_of (number_json_of e.agent) (call_json_of e.call) (answer_json_of e.answer)
+event_json_of e = event_object (number_json_of e.agent) (call_json_of e.call) (answer_json_of e.answer)
 
 -- ---- what is read
 
@@ -119,7 +119,7 @@ IsAnswerForm (answer.Fire r) d = IsReplyForm r d
 -- the number of an agent, the form of a call, and the form of an answer
 abbrev pub IsEventForm : Event → Data → Type 0
 IsEventForm e d =
-    (agent call reply : Data) × (d ≡ event_of agent call reply)
+    (agent call reply : Data) × (d ≡ event_object agent call reply)
     × IsNumberForm e.agent agent × IsCallForm e.call call × IsAnswerForm e.answer reply
 
 -- an event that fits a history with so many agents

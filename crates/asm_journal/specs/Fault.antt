@@ -55,9 +55,9 @@ abbrev pub IsRefused : List ℕ → JournalError → Type 0
 IsRefused text e = BreaksHeader text e ⊎ BreaksBehind text e
 
 -- the history, or want of memory
-abbrev pub IsAnswer : History → Result History JournalError → Type 0
-IsAnswer h (Ok g) = g ≡ h
-IsAnswer h (Err e) = e ≡ Memory
+abbrev pub GivesHistory : History → Result History JournalError → Type 0
+GivesHistory h (Ok g) = g ≡ h
+GivesHistory h (Err e) = e ≡ Memory
 
 -- A text that reads as a history is refused for want of memory alone.
 abbrev pub RefusedReadsAsNone : Type 0

@@ -7,9 +7,9 @@ use Rattle.serde_json.specs.Data.{Data, number, array, object, unsigned, Items, 
 use Rattle.serde_json.specs.View.{items_of}
 
 -- what reading answers: the x that the value is a form of, or None where it is a form of none
-abbrev pub Reads : {X J : Type 0} → (X → J → Type 0) → J → Option X → Type 0
-Reads IsForm d (Some x) = IsForm x d
-Reads {X} IsForm d None = (x : X) → ¬ IsForm x d
+abbrev pub IsParsed : {X J : Type 0} → (X → J → Type 0) → J → Option X → Type 0
+IsParsed IsForm d (Some x) = IsForm x d
+IsParsed {X} IsForm d None = (x : X) → ¬ IsForm x d
 
 -- as many values as items, each the form of the item in its place
 abbrev pub AreForms : {X : Type 0} → (X → Data → Type 0) → List X → Items → Type 0

@@ -1,7 +1,7 @@
 //! The JSON of answers: the number and values of a read, and the replies to a fire.
 ghost use Rattle.std.specs.Prelude.{◌≡◌, IfOk, codes, map};
 ghost use Rattle.serde_json.specs.View.{view};
-ghost use Rattle.asm_journal.specs.Shape.{Reads, list_of, two_of, number_json_of};
+ghost use Rattle.asm_journal.specs.Shape.{IsParsed, list_of, two_of, number_json_of};
 ghost use Rattle.asm_journal.specs.Value.{value_json_of};
 ghost use Rattle.asm_journal.specs.Event.{word_of_cause, clash_json_of, reply_json_of, answer_json_of};
 ghost use Rattle.asm_journal.specs.Event.{IsCauseForm, IsClashForm, IsReplyForm, IsAnswerForm};
@@ -33,7 +33,7 @@ fn word_of(cause: Cause) -> &'static str
 
 /// The cause that a value is the word of.
 fn read_cause(json: &Json) -> Option<Cause>
-    ensures { Reads IsCauseForm (view json.now) result }
+    ensures { IsParsed IsCauseForm (view json.now) result }
 {
     match json.as_str()? {
         "Two" => Some(Cause::Two),
@@ -134,7 +134,7 @@ impl ToJson for Answer {
 
 /// The answer to a read with this number and these values.
 fn read_values(alloc: Global, number: &Json, values: &Json) -> Result<Option<Answer>, AllocError>
-    ensures { IfOk result (Reads IsAnswerForm
+    ensures { IfOk result (IsParsed IsAnswerForm
         (two_of (codes "number") (view number.now) (codes "values") (view values.now))) }
 {
     let Some(number) = read_number(number) else {

@@ -2,7 +2,7 @@
 ghost use Rattle.std.specs.Prelude.{◌≡◌, ◌≢◌, ◌++◌, [], ◌∷◌, IfOk, IfSome, IfNone, OnOk, map, option_map};
 ghost use Rattle.serde_json.specs.Data.{Data};
 ghost use Rattle.serde_json.specs.View.{view, items_of, items_view};
-ghost use Rattle.asm_journal.specs.Shape.{Reads, AreForms, IsListForm, IsOnly, list_of};
+ghost use Rattle.asm_journal.specs.Shape.{IsParsed, AreForms, IsListForm, IsOnly, list_of};
 
 use crate::listed::Listed;
 use serde_json::Value as Json;
@@ -19,7 +19,7 @@ pub trait FromJson: Drop {
     fn from_json(alloc: Global, json: &Json) -> Result<Option<Self>, AllocError>
     where
         Self: Sized,
-        ensures { IfOk result (λ o. Reads is_form (view json.now) o) };
+        ensures { IfOk result (λ o. IsParsed is_form (view json.now) o) };
 }
 
 /// A value that is written as JSON.
@@ -36,7 +36,7 @@ pub(crate) fn read_items<T: FromJson>(
     alloc: Global,
     items: &[Json],
 ) -> Result<Option<Vec<T>>, AllocError>
-    ensures { IfOk result (λ o. Reads (AreForms T.is_form) (items_view items.now)
+    ensures { IfOk result (λ o. IsParsed (AreForms T.is_form) (items_view items.now)
         (option_map (λ v. v.items) o)) }
 {
     let mut found = Vec::new(alloc);
@@ -65,7 +65,7 @@ impl<T: FromJson> FromJson for Listed<T> {
 
 /// What the one item is the form of.
 pub(crate) fn read_only<T: FromJson>(alloc: Global, items: &[Json]) -> Result<Option<T>, AllocError>
-    ensures { IfOk result (Reads (IsOnly T.is_form) (items_view items.now)) }
+    ensures { IfOk result (IsParsed (IsOnly T.is_form) (items_view items.now)) }
 {
     let mut items = items.iter();
     match (items.next(), items.next()) {

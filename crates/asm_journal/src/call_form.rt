@@ -1,7 +1,7 @@
 //! The JSON of calls: reads, and fires with their named reads.
 ghost use Rattle.std.specs.Prelude.{◌≡◌, IfOk, codes, map};
 ghost use Rattle.serde_json.specs.View.{view};
-ghost use Rattle.asm_journal.specs.Shape.{Reads, list_of, one_of, two_of};
+ghost use Rattle.asm_journal.specs.Shape.{IsParsed, list_of, one_of, two_of};
 ghost use Rattle.asm_journal.specs.Event.{named_json_of, move_json_of, call_json_of};
 ghost use Rattle.asm_journal.specs.Event.{IsNamedForm, IsMoveForm, IsMoveOf, IsCallForm};
 
@@ -55,7 +55,7 @@ impl ToJson for Instructions {
 
 /// The move of these instructions, unless there are more than 4,096.
 fn move_of(alloc: Global, list: Vec<Instruction>) -> Result<Option<Instructions>, AllocError>
-    ensures { IfOk result (Reads IsMoveOf list.items) }
+    ensures { IfOk result (IsParsed IsMoveOf list.items) }
 {
     if list.len() > 4096 {
         return Ok(None);
@@ -105,7 +105,7 @@ impl ToJson for Call {
 
 /// The fire with these instructions and these named reads.
 fn read_fire(alloc: Global, instrs: &Json, reads: &Json) -> Result<Option<Call>, AllocError>
-    ensures { IfOk result (Reads IsCallForm
+    ensures { IfOk result (IsParsed IsCallForm
         (two_of (codes "fire") (view instrs.now) (codes "reads") (view reads.now))) }
 {
     let Some(instrs) = Instructions::from_json(alloc, instrs)? else {
@@ -122,7 +122,7 @@ fn read_fire(alloc: Global, instrs: &Json, reads: &Json) -> Result<Option<Call>,
 
 /// The read of these locations.
 fn read_read(alloc: Global, places: &Json) -> Result<Option<Call>, AllocError>
-    ensures { IfOk result (Reads IsCallForm (one_of (codes "read") (view places.now))) }
+    ensures { IfOk result (IsParsed IsCallForm (one_of (codes "read") (view places.now))) }
 {
     match Listed::<Location>::from_json(alloc, places)? {
         Some(places) => Ok(Some(Call::Read(Items::new(places.into_vec())))),

@@ -1,7 +1,7 @@
 //! Whether a history is one of the storage of one thread.
 ghost use Rattle.std.specs.Prelude.{◌≡◌, ◌↔◌, map, IsTrue, IfOk};
 ghost use Rattle.asm_state.specs.View.{value_at};
-ghost use Rattle.asm_journal.specs.Check.{machine_of, IsLegality, verdict_reply, is_fired, IsStep};
+ghost use Rattle.asm_journal.specs.Check.{machine_of, IsLegality, verdict_reply, was_fired, IsStep};
 
 use asm_element::{Location, Value};
 use asm_state::{State, Verdict};
@@ -60,7 +60,7 @@ fn is_reply(verdict: &Verdict, capacity: u32, number: u32, reply: &Reply) -> boo
 
 /// Whether the move was fired.
 fn is_fired(reply: &Reply) -> bool
-    ensures { result ≡ is_fired reply.now }
+    ensures { result ≡ was_fired reply.now }
 {
     matches!(reply, Reply::Fired(_))
 }

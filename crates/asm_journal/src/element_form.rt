@@ -1,7 +1,7 @@
 //! The JSON of elements and locations.
 ghost use Rattle.std.specs.Prelude.{◌≡◌, IfOk};
 ghost use Rattle.serde_json.specs.View.{view};
-ghost use Rattle.asm_journal.specs.Shape.{Reads};
+ghost use Rattle.asm_journal.specs.Shape.{IsParsed};
 ghost use Rattle.asm_journal.specs.Element.{element_json_of, location_json_of, IsElementForm, IsLocationForm};
 
 use crate::array::{FromJson, ToJson, push_items, read_items};
@@ -81,7 +81,7 @@ pub fn location_json(alloc: Global, location: &Location) -> Result<Json, AllocEr
 ///
 /// `AllocError` comes only where memory was refused.
 pub fn read_location(alloc: Global, json: &Json) -> Result<Option<Location>, AllocError>
-    ensures { IfOk result (Reads IsLocationForm (view json.now)) }
+    ensures { IfOk result (IsParsed IsLocationForm (view json.now)) }
 {
     Location::from_json(alloc, json)
 }

@@ -2,7 +2,7 @@
 ghost use Rattle.std.specs.Prelude.{◌≡◌, ◌≢◌, ◌∷◌, [], List, ℕ, map, IfOk, IfSome, IfNone};
 ghost use Rattle.serde_json.specs.Data.{Data, Items, string, number, unsigned};
 ghost use Rattle.serde_json.specs.View.{view, items_view};
-ghost use Rattle.asm_journal.specs.Shape.{Reads};
+ghost use Rattle.asm_journal.specs.Shape.{IsParsed};
 ghost use Rattle.asm_journal.specs.Element.{location_json_of};
 ghost use Rattle.asm_journal.specs.Instruction.{IsActionForm, instruction_of, instruction_json_of, IsInstructionForm};
 
@@ -80,7 +80,7 @@ fn parts_of(json: &Json) -> Option<(&str, &Json, &[Json])>
 
 /// The action that the word names, with these operands.
 fn read_action(alloc: Global, word: &str, operands: &[Json]) -> Result<Option<Action>, AllocError>
-    ensures { IfOk result (Reads (IsActionForm word.now) (items_view operands.now)) }
+    ensures { IfOk result (IsParsed (IsActionForm word.now) (items_view operands.now)) }
 {
     match word {
         "put" => Ok(read_only::<Value>(alloc, operands)?.map(Action::Regular)),
@@ -131,7 +131,7 @@ pub fn instruction_json(alloc: Global, instruction: &Instruction) -> Result<Json
 ///
 /// `AllocError` comes only where memory was refused.
 pub fn read_instruction(alloc: Global, json: &Json) -> Result<Option<Instruction>, AllocError>
-    ensures { IfOk result (Reads IsInstructionForm (view json.now)) }
+    ensures { IfOk result (IsParsed IsInstructionForm (view json.now)) }
 {
     Instruction::from_json(alloc, json)
 }

@@ -1,7 +1,7 @@
 //! The JSON of states: locations with their values.
 ghost use Rattle.std.specs.Prelude.{◌≡◌, IfOk, map};
 ghost use Rattle.serde_json.specs.View.{view};
-ghost use Rattle.asm_journal.specs.Shape.{Reads};
+ghost use Rattle.asm_journal.specs.Shape.{IsParsed};
 ghost use Rattle.asm_journal.specs.Value.{pair_json_of, IsPairForm, IsStateOf, IsStateForm};
 
 use crate::array::{FromJson, ToJson, pair_of, two_items};
@@ -13,12 +13,12 @@ use std::alloc::{AllocError, Global};
 
 /// A location with its value.
 #[derive(Drop)]
-pub(crate) struct Pair(Location, Value);
+pub(crate) struct StatePair(Location, Value);
 
-impl FromJson for Pair {
+impl FromJson for StatePair {
     ghost is_form = { λ p. IsPairForm (p.0, p.1) };
 
-    fn from_json(alloc: Global, json: &Json) -> Result<Option<Pair>, AllocError> {
+    fn from_json(alloc: Global, json: &Json) -> Result<Option<StatePair>, AllocError> {
         let Some((at, value)) = two_items(json) else {
             return Ok(None);
         };
@@ -28,17 +28,17 @@ impl FromJson for Pair {
         let Some(value) = Value::from_json(alloc, value)? else {
             return Ok(None);
         };
-        Ok(Some(Pair(at, value)))
+        Ok(Some(StatePair(at, value)))
     }
 }
 
 /// The state of the pairs, unless a location stands twice.
-fn state_of(alloc: Global, mut pairs: Vec<Pair>) -> Result<Option<PlainState>, AllocError>
-    ensures { IfOk result (Reads IsStateOf (map (λ p. (p.0, p.1)) pairs.items)) }
+fn state_from(alloc: Global, mut pairs: Vec<StatePair>) -> Result<Option<PlainState>, AllocError>
+    ensures { IfOk result (IsParsed IsStateOf (map (λ p. (p.0, p.1)) pairs.items)) }
 {
     let mut state = PlainState::new(alloc);
     let mut seen = UpdateSet::new(alloc);
-    while let Some(Pair(at, value)) = pairs.pop() {
+    while let Some(StatePair(at, value)) = pairs.pop() {
         if seen.get(&at).is_some() {
             return Ok(None);
         }
@@ -52,8 +52,8 @@ impl FromJson for PlainState {
     ghost is_form = { IsStateForm };
 
     fn from_json(alloc: Global, json: &Json) -> Result<Option<PlainState>, AllocError> {
-        match Listed::<Pair>::from_json(alloc, json)? {
-            Some(pairs) => state_of(alloc, pairs.into_vec()),
+        match Listed::<StatePair>::from_json(alloc, json)? {
+            Some(pairs) => state_from(alloc, pairs.into_vec()),
             None => Ok(None),
         }
     }

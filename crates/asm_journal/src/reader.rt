@@ -5,10 +5,10 @@ ghost use Rattle.serde_json.specs.View.{view};
 ghost use Rattle.asm_storage.specs.History.{Fits};
 ghost use Rattle.asm_storage.specs.declared.history.Event.{Event as Item};
 ghost use Rattle.asm_storage.specs.declared.history.History.{History as Log};
-ghost use Rattle.asm_journal.specs.Shape.{Reads};
+ghost use Rattle.asm_journal.specs.Shape.{IsParsed};
 ghost use Rattle.asm_journal.specs.Event.{IsEventBelow};
 ghost use Rattle.asm_journal.specs.Reading.{AreNumbers, HasLine, IsHeader, HasEvents, ReadsAs};
-ghost use Rattle.asm_journal.specs.Fault.{HasOtherVersion, BreaksHeader, BreaksEvent, IsRefused, IsAnswer};
+ghost use Rattle.asm_journal.specs.Fault.{HasOtherVersion, BreaksHeader, BreaksEvent, IsRefused, GivesHistory};
 
 use crate::array::FromJson;
 use crate::event_form::event_fits;
@@ -71,7 +71,7 @@ fn limits_of(agents: &Json, capacity: &Json, events: &Json, version: &Json) -> O
 
 /// The header that a value is.
 fn header_from(alloc: Global, json: &Json) -> Result<Option<Header>, AllocError>
-    ensures { IfOk result (Reads (λ h d. IsHeader h.limits.agents h.limits.capacity h.limits.events
+    ensures { IfOk result (IsParsed (λ h d. IsHeader h.limits.agents h.limits.capacity h.limits.events
         h.init d) (view json.now)) }
 {
     let members = five_members(json, "agents", "capacity", "events", "init", "version");
@@ -175,7 +175,7 @@ pub fn from_text(alloc: Global, bytes: &[u8]) -> Result<History, JournalError>
     ensures ok { IfOk result (ReadsAs bytes.now) }
     ensures err { IfErr result (IsRefused bytes.now) }
     // What reads as a history is answered so, unless memory runs out.
-    ensures only { (h : Log) → ReadsAs bytes.now h → IsAnswer h result }
+    ensures only { (h : Log) → ReadsAs bytes.now h → GivesHistory h result }
     // What was read may be written.
     ensures fits { IfOk result Fits }
 {

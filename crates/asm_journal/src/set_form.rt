@@ -1,7 +1,7 @@
 //! The JSON of sets and bags: written in ascending order, and read in any.
 ghost use Rattle.std.specs.Prelude.{◌≡◌, IfOk, map, option_map};
 ghost use Rattle.serde_json.specs.View.{view, items_view};
-ghost use Rattle.asm_journal.specs.Shape.{Reads};
+ghost use Rattle.asm_journal.specs.Shape.{IsParsed};
 ghost use Rattle.asm_journal.specs.Set.{count_json_of, set_json_of, bag_json_of, IsSetOf, IsSetForm};
 ghost use Rattle.asm_journal.specs.Set.{IsAmountForm, IsCounted, IsCountForm, IsBagOf, IsBagForm};
 
@@ -27,7 +27,7 @@ impl ToJson for ElemSet {
 
 /// The set of the elements, unless one stands twice.
 fn set_of(alloc: Global, mut elements: Vec<Element>) -> Result<Option<ElemSet>, AllocError>
-    ensures { IfOk result (Reads IsSetOf elements.items) }
+    ensures { IfOk result (IsParsed IsSetOf elements.items) }
 {
     let mut set = ElemSet::new(alloc);
     while let Some(element) = elements.pop() {
@@ -70,7 +70,7 @@ impl ToJson for ElemBag {
 
 /// A count of a bag, or an amount: a whole number from 1 to 4,294,967,295.
 fn read_amount(json: &Json) -> Option<Amount>
-    ensures { Reads IsAmountForm (view json.now) result }
+    ensures { IsParsed IsAmountForm (view json.now) result }
 {
     let number = json.as_u64()?;
     Amount::new(u32::try_from(number).ok()?)
@@ -82,7 +82,7 @@ pub(crate) struct Counted(pub(crate) Element, pub(crate) Amount);
 
 /// The element and the count that these two items are.
 pub(crate) fn read_counted(alloc: Global, items: &[Json]) -> Result<Option<Counted>, AllocError>
-    ensures { IfOk result (λ o. Reads IsCounted (items_view items.now)
+    ensures { IfOk result (λ o. IsParsed IsCounted (items_view items.now)
         (option_map (λ c. (c.0, c.1)) o)) }
 {
     let Some((element, amount)) = two_of(items) else {
@@ -110,7 +110,7 @@ impl FromJson for Counted {
 
 /// The bag with these counts, unless an element stands twice.
 fn bag_of(alloc: Global, mut counts: Vec<Counted>) -> Result<Option<ElemBag>, AllocError>
-    ensures { IfOk result (Reads IsBagOf (map (λ c. (c.0, c.1)) counts.items)) }
+    ensures { IfOk result (IsParsed IsBagOf (map (λ c. (c.0, c.1)) counts.items)) }
 {
     let mut bag = ElemBag::new(alloc);
     while let Some(Counted(element, amount)) = counts.pop() {

@@ -1,7 +1,7 @@
 //! The JSON of values.
 ghost use Rattle.std.specs.Prelude.{◌≡◌, IfOk};
 ghost use Rattle.serde_json.specs.View.{view};
-ghost use Rattle.asm_journal.specs.Shape.{Reads};
+ghost use Rattle.asm_journal.specs.Shape.{IsParsed};
 ghost use Rattle.asm_journal.specs.Value.{value_json_of, IsValueForm};
 
 use crate::array::{FromJson, ToJson};
@@ -52,7 +52,7 @@ pub fn value_json(alloc: Global, value: &Value) -> Result<Json, AllocError>
 ///
 /// `AllocError` comes only where memory was refused.
 pub fn read_value(alloc: Global, json: &Json) -> Result<Option<Value>, AllocError>
-    ensures { IfOk result (Reads IsValueForm (view json.now)) }
+    ensures { IfOk result (IsParsed IsValueForm (view json.now)) }
 {
     Value::from_json(alloc, json)
 }

@@ -163,7 +163,7 @@ fn the_topmost_frame_wins(rt: HostRuntime) -> Result<(), Fail> {
     play(&rt, rt.alloc(), &mut overlay, &TOPMOST)
 }
 
-fn state_of(alloc: Global, puts: &[Put]) -> Result<PlainState, Fail> {
+fn state_with(alloc: Global, puts: &[Put]) -> Result<PlainState, Fail> {
     let mut state = PlainState::new(alloc);
     for put in puts {
         state.set(location(alloc, put.0)?, value(put.1))?;
@@ -196,7 +196,7 @@ fn gives<L: Lookup>(
 #[test]
 fn undef_in_a_frame_hides_the_value_below(rt: HostRuntime) -> Result<(), Fail> {
     let alloc = rt.alloc();
-    let state = state_of(alloc, &[Put("x", Some(1)), Put("y", Some(2))])?;
+    let state = state_with(alloc, &[Put("x", Some(1)), Put("y", Some(2))])?;
     let overlay = overlay_of(alloc, &[Put("x", None)])?;
     assert!(rt; holds(alloc, &overlay, Put("x", None))?);
     let over = Over::new(&overlay, &state);
@@ -209,7 +209,7 @@ fn undef_in_a_frame_hides_the_value_below(rt: HostRuntime) -> Result<(), Fail> {
 #[test]
 fn an_overlay_stands_over_another(rt: HostRuntime) -> Result<(), Fail> {
     let alloc = rt.alloc();
-    let state = state_of(
+    let state = state_with(
         alloc,
         &[Put("x", Some(1)), Put("y", Some(2)), Put("z", Some(3))],
     )?;

@@ -3,6 +3,7 @@ use Rattle.std.proofs.Common.{◌≡◌, Bool, true, false, cond, T, List, ◌�
 use Rattle.std.specs.Ordering.{eq_by_cmp}
 use Rattle.std.specs.Option.{option_map}
 use Rattle.std.specs.FinMap as finite
+use Rattle.std.proofs.lemmas.Iterator.Adapters.{option_map_id}
 use Rattle.asm_element.specs.Place.{Place, location_cmp, location_cmp_total, location_cmp-IsAntisymmetric, same_location}
 use Rattle.asm_element.specs.Ascending.{first_gone}
 use Rattle.asm_state.specs.Follow.{over}
@@ -40,10 +41,6 @@ module _ {X Y : Type 0} (f : X → Y) where
 pub rising_start : {X : Type 0} (m : finite.FinMap location_cmp X) (left : List (Place × X)) → left ≡ finite.entries m → T (finite.is_sorted location_cmp left)
 rising_start m left all = subst (λ es. T (finite.is_sorted location_cmp es)) (sym all) (finite.entries_sorted m)
 
-same_option : {X : Type 0} (x : Option X) → option_map (λ w. w) x ≡ x
-same_option (Some w) = refl
-same_option None = refl
-
 -- all came in, each as it was
 pub all_copied : {X : Type 0} (m new : finite.FinMap location_cmp X) → ((q : Place) → finite.get new q ≡ option_map (λ w. w) (finite.get m q)) → new ≡ m
-all_copied m new each = finite.same_map location_cmp_total location_cmp-IsAntisymmetric new m (λ q. each q ∙ same_option (finite.get m q))
+all_copied m new each = finite.same_map location_cmp_total location_cmp-IsAntisymmetric new m (λ q. each q ∙ option_map_id (finite.get m q))

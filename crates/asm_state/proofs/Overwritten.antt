@@ -1,7 +1,6 @@
 -- The test of staleness finds just the moves that overwrite a location.
-use Rattle.std.proofs.Common.{◌≡◌, ℕ, zero, suc, ◌+◌, ◌<◌, nat_lt, true, List, [], ◌∷◌, is_ok, arith, refl, ap, sym, ◌∙◌, ◌⊎◌, inl, inr}
-use Rattle.std.proofs.lemmas.Bool.{or_cases, or_left, or_right, and_parts, and_from}
-use Rattle.std.proofs.lemmas.Bool.Decides.{nat_tests}
+use Rattle.std.proofs.Common.{◌≡◌, ℕ, zero, suc, ◌+◌, ◌<◌, true, List, [], ◌∷◌, is_ok, arith, refl, ap, sym, ◌∙◌, ◌⊎◌, inl, inr}
+use Rattle.std.proofs.lemmas.Bool.{or_cases, or_left, or_right, and_parts, and_from, lt-ltb, ltb-true}
 use Rattle.asm_element.specs.Place.{Place}
 use Rattle.asm_update.specs.Move.{Move, writes}
 use Rattle.asm_update.specs.State.{State}
@@ -38,17 +37,11 @@ tested part A (N ∷ q) l (suc number) zero M o = absurd (omega (arith, o.above)
 tested part A (N ∷ q) l (suc number) (suc k) M o =
     tested part (after_move part A N) q l number k M (record { above = omega (arith, o.above); move = o.move; fires = o.fires; writes_it = o.writes_it })
 
-below : (n w : ℕ) → nat_lt n w ≡ true → n < w
-below n w h = grind (arith, nat_tests)
-
-is_below : (n w : ℕ) → n < w → nat_lt n w ≡ true
-is_below n w h = grind (arith, nat_tests)
-
 pub last_writer : (part : Part) (A : State) (q : List Move) (l : Place) → IsLastWriter part A q l (writer part A q l)
 last_writer part A q l = record {
   tested = λ number. stale_is part A q l number;
   stated = λ number. (
-    λ lt. found part A q l number (stale_is part A q l number ∙ is_below number (writer part A q l) lt),
-    λ s. below number (writer part A q l) (sym (stale_is part A q l number) ∙ tested part A q l number s.0 s.1 s.2),
+    λ lt. found part A q l number (stale_is part A q l number ∙ lt-ltb number (writer part A q l) lt),
+    λ s. ltb-true number (writer part A q l) (sym (stale_is part A q l number) ∙ tested part A q l number s.0 s.1 s.2),
   );
 }

@@ -2,6 +2,7 @@
 use Rattle.std.proofs.Common.{◌≡◌, ℕ, ◌+◌, ◌-◌, ◌^◌, ◌≤◌, min, List, [], ◌∷◌, ◌++◌, length, take, Option, Some, None}
 use Rattle.std.proofs.Common.{IfSome, IfNone, Bor, slice_get, add-one, append-nil, append_assoc, arith, refl, ap, sym, ◌∙◌, subst}
 use Rattle.std.proofs.lemmas.List.{take_all, length-map}
+use Rattle.std.proofs.lemmas.Option.{slice_get_within}
 use Rattle.std.proofs.lemmas.List.Elements.{All-from_recursion}
 use mathlib.Core.List.{IsPrefix}
 use Rattle.asm_row.specs.Seat.{SeatView}
@@ -17,7 +18,7 @@ use Rattle.asm_storage.specs.Machine.{Machine}
 use Rattle.asm_storage.specs.Part.{account_of, IsFollowing, IsPartOf, LooksOn}
 use Rattle.asm_storage.specs.Storage.{StorageView, AgentAt, has_looked, machine_of}
 use Rattle.asm_storage.proofs.Kept.{take-moves_seen, seen_more}
-use Rattle.asm_storage.proofs.Lists.{slice_get-lt, slice_get-map, take-slice_get, length-prefix}
+use Rattle.asm_storage.proofs.Lists.{slice_get-map, take-slice_get, length-prefix}
 
 pub prefix-trans : {X : Type 0} (xs ys zs : List X) → IsPrefix xs ys → IsPrefix ys zs → IsPrefix xs zs
 prefix-trans xs ys zs p q = (p.0 ++ q.0, sym (append_assoc xs p.0 q.0) ∙ (ap (λ w. w ++ q.0) p.1 ∙ q.1))
@@ -34,7 +35,7 @@ pub following_next : (m : Machine) (seen : List Entry) (old new : StateView) (x 
     ((init : State) (q : List Move) → Stands m.part init old q → Stands m.part init new (q ++ x.instrs ∷ [])) →
     IsFollowing m seen new
 following_next m seen old new x f at number next =
-    let lt = slice_get-lt seen old.number x at in
+    let lt = slice_get_within seen old.number x at in
     let last = slice_get-map (λ (e : Entry). e.instrs) seen old.number x at in
     let one_more : take (old.number + 1) (moves_seen seen) ≡ take old.number (moves_seen seen) ++ x.instrs ∷ [] =
     ap (λ n. take n (moves_seen seen)) (add-one old.number) ∙ take-slice_get (moves_seen seen) old.number x.instrs last in

@@ -39,7 +39,7 @@ firing_ok : (m : Machine) (q : List Move) (r : Result State Clash) → IsOk r �
 firing_ok m q (Ok B) h = refl
 firing_ok m q (Err c) h = absurd (cc h)
 
-reply_none : (m : Machine) (seen : List Entry) (reads : List Named) (M : Move) (r : Reply) → least_stale m.part m.init (moves_seen seen) reads ≡ None → firing_reply m (moves_seen seen) (fire m.part (machine.state_of m (moves_seen seen)) M) ≡ r → answer.Fire r ≡ reply_to m (moves_seen seen) (call.Fire reads M)
+reply_none : (m : Machine) (seen : List Entry) (reads : List Named) (M : Move) (r : Reply) → least_stale m.part m.init (moves_seen seen) reads ≡ None → firing_reply m (moves_seen seen) (fire m.part (machine.machine_state m (moves_seen seen)) M) ≡ r → answer.Fire r ≡ reply_to m (moves_seen seen) (call.Fire reads M)
 reply_none m seen reads M r none fired = ap answer.Fire (sym (ap (fire_reply m (moves_seen seen) M) none ∙ fired))
 
 pub judged_reply : (m : Machine) (seen : List Entry) (reads : List Named) (M : Move) (full : Bool) (o : Option Reply) → MatchBool full (length seen ≡ m.capacity) (length seen < m.capacity) → IsReplyAt m.part m.init (moves_seen seen) full reads M o → IsJudged m seen reads M o

@@ -4,7 +4,7 @@ use Rattle.std.specs.List.{filter, flat_map, AllByRecursion, All}
 use Rattle.std.specs.List.Sorted.{IsStrictlyIncreasing}
 use Rattle.std.proofs.lemmas.List.Elements.{recursion_from_All, All-from_recursion, filter-append}
 use Rattle.std.proofs.lemmas.List.{map-append}
-use Rattle.std.proofs.lemmas.Bool.{eqb-true}
+use Rattle.std.proofs.lemmas.Bool.{eqb-true, eqb-false}
 use Rattle.asm_storage.specs.declared.receipt.Receipt.{Receipt}
 use Rattle.asm_storage.specs.declared.history.Event.{Event}
 use Rattle.asm_storage.specs.Machine.{Machine}
@@ -76,7 +76,7 @@ split n (r ∷ rs) order = first (nat_eq r.stood n) refl (is_fired r) refl (spli
       let s = more (subst (λ k. StandInOrder k rs) next order.1) in
       record { front = r ∷ s.front; rest = s.rest; is = ap (λ xs. r ∷ xs) s.is; at_n = rw (e, f) (ap (λ xs. r ∷ xs) s.at_n); here = (eqb-true r.stood n e, s.here); order = s.order }
   first false e f is_f more =
-      let above : n < r.stood = omega (arith, order.0, differ e) in
+      let above : n < r.stood = omega (arith, order.0, eqb-false r.stood n e) in
       let from : StandInOrder (n + 1) (r ∷ rs) = (omega arith, order.1) in
       record {
         front = [];
@@ -86,9 +86,6 @@ split n (r ∷ rs) order = first (nat_eq r.stood n) refl (is_fired r) refl (spli
         here = tt;
         order = from;
       }
-    where
-      differ : nat_eq r.stood n ≡ false → r.stood ≡ n → ⊥
-      differ e same = absurd (let t = eq-eqb r.stood n same in cc)
 
 filter_none : (test : Receipt → Bool) (k n : ℕ) → ((r : Receipt) → test r ≡ true → r.stood ≡ k) → n < k → (rs : List Receipt) → AllByRecursion (λ r. r.stood ≡ n) rs → filter test rs ≡ []
 filter_none test k n says lt [] here = refl

@@ -4,6 +4,7 @@ use Rattle.std.specs.List.{filter, flat_map, list_any, AllByRecursion}
 use Rattle.std.specs.List.Sorted.{IsStrictlyIncreasing}
 use Rattle.std.proofs.lemmas.List.Elements.{recursion_from_All}
 use Rattle.std.proofs.lemmas.List.{take_all, length-map}
+use Rattle.std.proofs.lemmas.Option.{slice_get_within}
 use Rattle.std.proofs.lemmas.Bool.{eqb-true, and_parts, cases_lt}
 use mathlib.Core.List.{IsPrefix}
 use Rattle.asm_storage.specs.declared.receipt.Receipt.{Receipt}
@@ -13,7 +14,7 @@ use Rattle.asm_update.specs.Move.{Move}
 use Rattle.asm_storage.specs.Machine.{Machine, reply_to}
 use Rattle.asm_storage.specs.History.{fired_move, moves, move_of}
 use Rattle.asm_storage.specs.Agents.{AgentView, ids, moves_seen, is_fired, next_after, StandInOrder, StandsInRow, IsAgent, event_of, is_quiet_at, is_move_at, quiet_at, fired_at, round, rounds, has_receipt, IsGathered}
-use Rattle.asm_storage.proofs.Lists.{Each-map_filter, Each-flat_map, Each-weaker, slice_get-prefix, slice_get-lt, slice_get-map, take-slice_get}
+use Rattle.asm_storage.proofs.Lists.{Each-map_filter, Each-flat_map, Each-weaker, slice_get-prefix, slice_get-map, take-slice_get}
 use Rattle.asm_storage.proofs.Kept.{stood_le, next_fired, stood_within, take-moves_seen}
 use Rattle.asm_storage.proofs.Legal.{IsLegalFrom, legal-append, legal_quiet, moves-append}
 
@@ -199,7 +200,7 @@ quiet_part m all n h each =
 -- past the end of the row nothing fired
 fired_past : (m : Machine) (all : List Entry) (n : ℕ) (h : List Event) → length all ≤ n → AllByRecursion (λ e. IsAt m all n e × (is_some (move_of e) ≡ true)) h → h ≡ []
 fired_past m all n [] past each = refl
-fired_past m all n (e ∷ h) past each = let entry = fired_entry m all n e each.0.0 each.0.1 in absurd (omega (arith, slice_get-lt all n entry.0 entry.1))
+fired_past m all n (e ∷ h) past each = let entry = fired_entry m all n e each.0.0 each.0.1 in absurd (omega (arith, slice_get_within all n entry.0 entry.1))
 
 fired_part : (m : Machine) (all : List Entry) (n : ℕ) (h : List Event) → length h ≡ 1 → AllByRecursion (λ e. IsAt m all n e × (is_some (move_of e) ≡ true)) h → IsPart m all (take n (moves_seen all)) (take (suc n) (moves_seen all)) h
 fired_part m all n [] one each = absurd cc

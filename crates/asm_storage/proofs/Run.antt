@@ -22,8 +22,8 @@ use Rattle.asm_update.proofs.FireLemmas.{val-unwritten}
 use Rattle.asm_state.specs.Stands.{after_move, overwrites, is_stale}
 use Rattle.asm_state.specs.Verdict.{lesser, least, least_stale}
 use Rattle.asm_state.proofs.Writers.{state_of-push}
-use Rattle.asm_storage.specs.Machine.{Machine, state_of, taken_reply, firing_reply, fire_reply, reply_to}
-use Rattle.asm_storage.specs.History.{fired_move, moves, move_of, IsRun, steps_from, step_and, IsCoherentAt, IsCoherent, number_of, numbers, count_up}
+use Rattle.asm_storage.specs.Machine.{Machine, machine_state, taken_reply, firing_reply, fire_reply, reply_to}
+use Rattle.asm_storage.specs.History.{fired_move, moves, move_of, IsRun, steps_from, step_and, IsCoherentAt, IsCoherent, fired_number, numbers, count_up}
 use Rattle.asm_storage.proofs.Lists.{Each-weaker}
 use Rattle.asm_storage.proofs.Legal.{IsLegalFrom, moves-append}
 
@@ -31,7 +31,7 @@ use Rattle.asm_storage.proofs.Legal.{IsLegalFrom, moves-append}
 pub record IsFiredReply (m : Machine) (q : List Move) (reads : List Named) (M : Move) (k : ℕ) : Type 0 where
   pub number : k ≡ length q + 1
   pub room : length q < m.capacity
-  pub fires : fire m.part (state_of m q) M ≡ Ok (after_move m.part (state_of m q) M)
+  pub fires : fire m.part (machine_state m q) M ≡ Ok (after_move m.part (machine_state m q) M)
   pub fresh : least_stale m.part m.init q reads ≡ None
 
 taken_fired : (capacity number k : ℕ) → reply.Fired k ≡ taken_reply capacity number → (k ≡ number + 1) × (number < capacity)
@@ -44,7 +44,7 @@ firing_fired : (m : Machine) (q : List Move) (k : ℕ) (o : Result State Clash) 
 firing_fired m q k (Ok B) is = let t = taken_fired m.capacity (length q) k is in (B, refl, t.0, t.1)
 firing_fired m q k (Err c) is = absurd (cc is)
 
-fire_fired : (m : Machine) (q : List Move) (M : Move) (k : ℕ) (o : Option Place) → reply.Fired k ≡ fire_reply m q M o → (o ≡ None) × (reply.Fired k ≡ firing_reply m q (fire m.part (state_of m q) M))
+fire_fired : (m : Machine) (q : List Move) (M : Move) (k : ℕ) (o : Option Place) → reply.Fired k ≡ fire_reply m q M o → (o ≡ None) × (reply.Fired k ≡ firing_reply m q (fire m.part (machine_state m q) M))
 fire_fired m q M k (Some l) is = absurd (cc is)
 fire_fired m q M k None is = (refl, is)
 
@@ -52,7 +52,7 @@ pub fired_reply : (m : Machine) (q : List Move) (reads : List Named) (M : Move) 
 fired_reply m q reads M k is =
     let r : reply.Fired k ≡ fire_reply m q M (least_stale m.part m.init q reads) = cc is in
     let f = fire_fired m q M k (least_stale m.part m.init q reads) r in
-    let t = firing_fired m q k (fire m.part (state_of m q) M) f.1 in
+    let t = firing_fired m q k (fire m.part (machine_state m q) M) f.1 in
     record { number = t.2; room = t.3; fires = rw t.1 refl; fresh = f.0 }
 
 -- an event's move, by its call and answer
@@ -65,18 +65,18 @@ fired_cases (call.Fire reads instrs) (answer.Read n vs) M is = absurd (cc is)
 fired_cases (call.Read places) a M is = absurd (cc is)
 
 -- the fired moves of a legal history are a run
-pub run_from : (m : Machine) (q : List Move) (h : List Event) → IsLegalFrom m q h → IsRun m (state_of m q) (steps_from m (state_of m q) h)
+pub run_from : (m : Machine) (q : List Move) (h : List Event) → IsLegalFrom m q h → IsRun m (machine_state m q) (steps_from m (machine_state m q) h)
 run_from m q [] legal = tt
 run_from m q (e ∷ h) legal = here (move_of e) refl (run_from m (q ++ moves (e ∷ [])) h legal.1) where
-  here : (o : Option Move) → move_of e ≡ o → IsRun m (state_of m (q ++ cons_option (move_of e) [])) (steps_from m (state_of m (q ++ cons_option (move_of e) [])) h) → IsRun m (state_of m q) (step_and m (state_of m q) e.agent o (λ B. steps_from m B h))
-  here None is rest = subst (λ r. IsRun m (state_of m r) (steps_from m (state_of m r) h)) (ap (λ o. q ++ cons_option o []) is ∙ append-nil q) rest
+  here : (o : Option Move) → move_of e ≡ o → IsRun m (machine_state m (q ++ cons_option (move_of e) [])) (steps_from m (machine_state m (q ++ cons_option (move_of e) [])) h) → IsRun m (machine_state m q) (step_and m (machine_state m q) e.agent o (λ B. steps_from m B h))
+  here None is rest = subst (λ r. IsRun m (machine_state m r) (steps_from m (machine_state m r) h)) (ap (λ o. q ++ cons_option o []) is ∙ append-nil q) rest
   here (Some M) is rest =
       let c = fired_cases e.call e.answer M is in
       let f = fired_reply m q c.0 M c.1 (sym c.3 ∙ legal.0 ∙ ap (reply_to m q) c.2) in
-      (f.fires, subst (λ (B : State). IsRun m B (steps_from m B h)) (ap (λ o. state_of m (q ++ cons_option o [])) is ∙ state_of-push m.part m.init q M) rest)
+      (f.fires, subst (λ (B : State). IsRun m B (steps_from m B h)) (ap (λ o. machine_state m (q ++ cons_option o [])) is ∙ state_of-push m.part m.init q M) rest)
 
 -- a reply has the next number where it fires a move, and none otherwise
-told : (m : Machine) (q : List Move) (c : Call) (a : Answer) → a ≡ reply_to m q c → ((number_of a ≡ None) × (fired_move c a ≡ None)) ⊎ ((M : Move) × (number_of a ≡ Some (length q + 1)) × (fired_move c a ≡ Some M))
+told : (m : Machine) (q : List Move) (c : Call) (a : Answer) → a ≡ reply_to m q c → ((fired_number a ≡ None) × (fired_move c a ≡ None)) ⊎ ((M : Move) × (fired_number a ≡ Some (length q + 1)) × (fired_move c a ≡ Some M))
 told m q (call.Read places) (answer.Read n vs) is = inl (refl, refl)
 told m q (call.Read places) (answer.Fire r) is = absurd (cc is)
 told m q (call.Fire reads instrs) (answer.Read n vs) is = absurd (cc is)
@@ -89,7 +89,7 @@ told m q (call.Fire reads instrs) (answer.Fire reply.Full) is = inl (refl, refl)
 pub numbered_from : (m : Machine) (q : List Move) (h : List Event) → IsLegalFrom m q h → numbers h ≡ count_up (length q + 1) (length (moves h))
 numbered_from m q [] legal = refl
 numbered_from m q (e ∷ h) legal = here (told m q e.call e.answer legal.0) (numbered_from m (q ++ moves (e ∷ [])) h legal.1) where
-  here : ((number_of e.answer ≡ None) × (fired_move e.call e.answer ≡ None)) ⊎ ((M : Move) × (number_of e.answer ≡ Some (length q + 1)) × (fired_move e.call e.answer ≡ Some M)) → numbers h ≡ count_up (length (q ++ moves (e ∷ [])) + 1) (length (moves h)) → numbers (e ∷ h) ≡ count_up (length q + 1) (length (moves (e ∷ h)))
+  here : ((fired_number e.answer ≡ None) × (fired_move e.call e.answer ≡ None)) ⊎ ((M : Move) × (fired_number e.answer ≡ Some (length q + 1)) × (fired_move e.call e.answer ≡ Some M)) → numbers h ≡ count_up (length (q ++ moves (e ∷ [])) + 1) (length (moves h)) → numbers (e ∷ h) ≡ count_up (length q + 1) (length (moves (e ∷ h)))
   here (inl t) rest =
       let len : length (q ++ moves (e ∷ [])) ≡ length q = ap (λ o. length (q ++ cons_option o [])) t.1 ∙ ap length (append-nil q) in
       ap (λ o. cons_option o (numbers h)) t.0 ∙ rest ∙ ap (λ k. count_up (k + 1) (length (moves h))) len ∙ sym (ap (λ o. count_up (length q + 1) (length (cons_option o (moves h)))) t.1)
@@ -135,11 +135,11 @@ coherent_at m q (call.Read places) k is all begins = tt
 coherent_at m q (call.Fire reads instrs) k is all begins =
     let f = fired_reply m q reads instrs k is in
     let before : k - 1 ≡ length q = omega (arith, f.number) in
-    rw before (All-from_recursion (λ r. r.number ≤ length q → val (state_of m (take r.number all)) r.at ≡ val (state_of m (take (length q) all)) r.at) reads
-    (Each-weaker (λ r. is_stale m.part m.init q r.at r.number ≡ false) (λ r. r.number ≤ length q → val (state_of m (take r.number all)) r.at ≡ val (state_of m (take (length q) all)) r.at)
+    rw before (All-from_recursion (λ r. r.number ≤ length q → val (machine_state m (take r.number all)) r.at ≡ val (machine_state m (take (length q) all)) r.at) reads
+    (Each-weaker (λ r. is_stale m.part m.init q r.at r.number ≡ false) (λ r. r.number ≤ length q → val (machine_state m (take r.number all)) r.at ≡ val (machine_state m (take (length q) all)) r.at)
     (λ r fresh le.
     let short : take r.number all ≡ take r.number q = sym (take-take r.number (length q) all le) ∙ ap (take r.number) begins in
-    ap (λ w. val (state_of m w) r.at) short ∙ same_value_from m m.init q r.at r.number fresh le ∙ sym (ap (λ w. val (state_of m w) r.at) begins))
+    ap (λ w. val (machine_state m w) r.at) short ∙ same_value_from m m.init q r.at r.number fresh le ∙ sym (ap (λ w. val (machine_state m w) r.at) begins))
     reads (fresh_each (λ r. is_stale m.part m.init q r.at r.number) reads f.fresh)))
 
 coherent_from : (m : Machine) → (q : List Move) (h : List Event) (all : List Move) → q ++ moves h ≡ all → IsLegalFrom m q h → AllByRecursion (λ e. (k : ℕ) → e.answer ≡ answer.Fire (reply.Fired k) → IsCoherentAt m all e.call (k - 1)) h

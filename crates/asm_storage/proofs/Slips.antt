@@ -1,5 +1,5 @@
 -- Receipts beside their agents' ids, sorted by place, are the merged history.
-use Rattle.std.proofs.Common.{◌≡◌, ℕ, zero, suc, ◌+◌, ◌*◌, ◌/◌, ◌%◌, ◌<◌, ◌≤◌, Bool, true, false, not, ◌&&◌, cond, nat_eq, eq-eqb, List, [], ◌∷◌, ◌++◌, length, take, get_or, map, append_assoc, append-nil, arith, refl, ap, sym, ◌∙◌, subst}
+use Rattle.std.proofs.Common.{◌≡◌, ℕ, zero, suc, ◌+◌, ◌*◌, ◌/◌, ◌%◌, ◌<◌, ◌≤◌, Bool, true, false, not, ◌&&◌, cond, nat_eq, List, [], ◌∷◌, ◌++◌, length, take, get_or, map, append_assoc, append-nil, arith, refl, ap, sym, ◌∙◌, subst}
 use Rattle.std.specs.List.{filter, flat_map, AllByRecursion}
 use Rattle.std.specs.List.Sorted.{IsPermutation, IsNonDecreasingBy, IsStableByKey, ties}
 use Rattle.std.specs.Ordering.{nat_cmp, is_lt}
@@ -7,7 +7,7 @@ use Rattle.std.proofs.lemmas.List.Elements.{filter-append, filter_agree, All-fro
 use Rattle.std.proofs.lemmas.List.Sorted.{All-permutation}
 use Rattle.std.proofs.lemmas.List.{map-append, take_more}
 use Rattle.std.proofs.lemmas.List.Concat.{flat_map-append}
-use Rattle.std.proofs.lemmas.Bool.{eqb-true}
+use Rattle.std.proofs.lemmas.Bool.{eqb-true, eqb-false}
 use Rattle.std.proofs.lemmas.Bool.Decides.{nat_tests}
 use Rattle.asm_storage.specs.declared.receipt.Receipt.{Receipt}
 use Rattle.asm_storage.specs.declared.history.Event.{Event}
@@ -110,9 +110,7 @@ some_slip : (n : ℕ) → (s : Slip) × (place_of s ≡ n)
 some_slip n = here (nat_eq (n % 2) 1) refl where
   here : (b : Bool) → nat_eq (n % 2) 1 ≡ b → (s : Slip) × (place_of s ≡ n)
   here true e = (record { agent = 0; receipt = record { ref_ptr = (0, 0); now = record { call = call.Fire [] []; answer = answer.Fire (reply.Fired 0); stood = n / 2 } } }, omega (arith, eqb-true (n % 2) 1 e))
-  here false e = (record { agent = 0; receipt = record { ref_ptr = (0, 0); now = record { call = call.Fire [] []; answer = answer.Fire reply.Full; stood = n / 2 } } }, omega (arith, differ e)) where
-    differ : nat_eq (n % 2) 1 ≡ false → n % 2 ≡ 1 → ⊥
-    differ e same = absurd (let t = eq-eqb (n % 2) 1 same in cc)
+  here false e = (record { agent = 0; receipt = record { ref_ptr = (0, 0); now = record { call = call.Fire [] []; answer = answer.Fire reply.Full; stood = n / 2 } } }, omega (arith, eqb-false (n % 2) 1 e))
 
 ties_eq : (a b : ℕ) → (not (is_lt (nat_cmp a b)) && not (is_lt (nat_cmp b a))) ≡ nat_eq b a
 ties_eq a b = grind (arith, nat_tests)

@@ -13,7 +13,7 @@ use Rattle.asm_storage.specs.declared.call.Answer.{Answer}
 use Rattle.asm_storage.specs.declared.call.Answer.TheVariants as answer
 use Rattle.asm_storage.specs.declared.history.Event.{Event}
 use Rattle.asm_storage.specs.declared.history.History.{History}
-use Rattle.asm_storage.specs.Machine.{Machine, state_of, reply_to}
+use Rattle.asm_storage.specs.Machine.{Machine, machine_state, reply_to}
 
 -- the move of a fire that was answered Fired
 abbrev pub fired_move : Call → Answer → Option Move
@@ -63,7 +63,7 @@ steps_from m A (e ∷ h) = step_and m A e.agent (move_of e) (λ B. steps_from m 
 abbrev pub IsCoherentAt : Machine → List Move → Call → ℕ → Type 0
 IsCoherentAt m q (call.Read places) before = Unit {0}
 IsCoherentAt m q (call.Fire reads instrs) before = All (λ r. r.number ≤ before →
-    val (state_of m (take r.number q)) r.at ≡ val (state_of m (take before q)) r.at) reads
+    val (machine_state m (take r.number q)) r.at ≡ val (machine_state m (take before q)) r.at) reads
 
 -- each fired move does
 abbrev pub IsCoherent : Machine → List Event → Type 0
@@ -71,13 +71,13 @@ IsCoherent m h = All (λ e. (k : ℕ) →
     e.answer ≡ answer.Fire (reply.Fired k) → IsCoherentAt m (moves h) e.call (k - 1)) h
 
 -- the number that a Fired event answers
-abbrev pub number_of : Answer → Option ℕ
-number_of (answer.Fire (reply.Fired k)) = Some k
-number_of _ = None
+abbrev pub fired_number : Answer → Option ℕ
+fired_number (answer.Fire (reply.Fired k)) = Some k
+fired_number _ = None
 
 -- the numbers of the fired moves, in order
 abbrev pub numbers : List Event → List ℕ
-numbers h = filter_map (λ e. number_of e.answer) h
+numbers h = filter_map (λ e. fired_number e.answer) h
 
 -- so many numbers, from one up
 abbrev pub count_up : ℕ → ℕ → List ℕ

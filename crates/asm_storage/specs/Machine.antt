@@ -22,8 +22,8 @@ pub record Machine : Type 0 where
   pub capacity : ℕ
 
 -- the state that these moves leave, each fired in its turn
-abbrev pub state_of : Machine → List Move → State
-state_of m q = firing.state_of m.part m.init q
+abbrev pub machine_state : Machine → List Move → State
+machine_state m q = firing.state_of m.part m.init q
 
 -- the reply to a move that fires: it is taken while there is room
 abbrev pub taken_reply : ℕ → ℕ → Reply
@@ -37,9 +37,9 @@ firing_reply m q (Err clash) = reply.Clash clash
 -- the reply to a move, where this is its least stale location: stale before a clash, and a clash before full
 abbrev pub fire_reply : Machine → List Move → Move → Option Place → Reply
 fire_reply m q M (Some l) = reply.Stale l
-fire_reply m q M None = firing_reply m q (fire m.part (state_of m q) M)
+fire_reply m q M None = firing_reply m q (fire m.part (machine_state m q) M)
 
 -- what the storage of one thread answers to a call after these moves
 abbrev pub reply_to : Machine → List Move → Call → Answer
-reply_to m q (call.Read places) = answer.Read (length q) (map (val (state_of m q)) places)
+reply_to m q (call.Read places) = answer.Read (length q) (map (val (machine_state m q)) places)
 reply_to m q (call.Fire reads instrs) = answer.Fire (fire_reply m q instrs (least_stale m.part m.init q reads))

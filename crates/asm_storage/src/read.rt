@@ -2,7 +2,7 @@ ghost use Rattle.std.specs.Prelude.{◌≡◌, map, length, IfOk, OnOk, OnErr};
 ghost use mathlib.Core.List.{IsPrefix};
 ghost use Rattle.asm_update.specs.State.{val};
 ghost use Rattle.asm_storage.specs.declared.call.Call.TheVariants as call;
-ghost use Rattle.asm_storage.specs.Machine.{state_of, reply_to};
+ghost use Rattle.asm_storage.specs.Machine.{machine_state, reply_to};
 ghost use Rattle.asm_storage.specs.Agents.{moves_seen};
 ghost use Rattle.asm_storage.specs.Storage.{machine_of, with_receipt, last_look, IsReplyOf, Missed};
 ghost use Rattle.asm_storage.specs.Calls.{receipt_at, read_answer, IsRead};
@@ -55,7 +55,8 @@ impl AgentPart {
         requires part { IsPartOf A.meaning storage.now self.now }
         requires level { self.now.state.number ≡ length self.now.progress.seen }
         ensures { IfOk result (λ values. values ≡
-            map (val (state_of (machine_of A.meaning storage.now) (moves_seen self.now.progress.seen))) places.now) }
+            map (val (machine_state (machine_of A.meaning storage.now) (moves_seen self.now.progress.seen)))
+            places.now) }
     {
         let _ = storage;
         values_at(alloc, &self.state, places)

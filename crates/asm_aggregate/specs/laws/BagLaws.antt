@@ -3,6 +3,7 @@ use Rattle.std.proofs.Common.{◌≡◌, ◌≢◌, ℕ, ◌+◌, ◌-◌, ◌<�
 use Rattle.std.proofs.Common.{◌++◌, refl, sym, ap, subst, ◌∙◌, arith, nat_lt}
 use Rattle.std.specs.Prelude.{Ok, Err, Option, None, Some, unwrap_or, is_some, IsPermutation}
 use Rattle.std.specs.List.{list_any, list_all}
+use Rattle.std.proofs.lemmas.Bool.{not-false, ltb-false, le-ltb}
 use Rattle.std.proofs.lemmas.Bool.Decides.{nat_tests}
 use Rattle.std.proofs.lemmas.List.Elements.{All-head}
 use Rattle.std.proofs.lemmas.List.Sums.{sum_by-append}
@@ -30,7 +31,7 @@ use Rattle.asm_aggregate.specs.declared.side.Side.{Side}
 use Rattle.asm_aggregate.specs.declared.side.Side.TheVariants.{Added, Removed}
 use Rattle.asm_aggregate.specs.laws.FamilyLemmas.{family_is, all_of_one, all-IsPermutation, all_partial, joined_family}
 use Rattle.asm_aggregate.specs.laws.FamilyLemmas.{nil_parts}
-use Rattle.asm_aggregate.specs.laws.TableLemmas.{passed, not_false}
+use Rattle.asm_aggregate.specs.laws.TableLemmas.{passed}
 use Rattle.asm_aggregate.specs.laws.SetAlgebra.{elements-empty}
 use Rattle.asm_aggregate.specs.laws.BagAlgebra.{has, Small, held, renewed, unnamed, fails_everywhere, none_passes}
 use Rattle.asm_aggregate.specs.laws.BagAlgebra.{get-renewed, count-renewed, small_renewed, small_below, small_held}
@@ -52,28 +53,22 @@ tabled b actions =
 at_none : (n m : ℕ) → m ≡ 0 → nat_lt n m ≡ false
 at_none n m h = grind (arith, nat_tests)
 
-not_more : (n m : ℕ) → nat_lt n m ≡ false → m ≤ n
-not_more n m h = grind (arith, nat_tests)
-
-no_more : (n m : ℕ) → m ≤ n → nat_lt n m ≡ false
-no_more n m h = grind (arith, nat_tests)
-
 small_number : (n : ℕ) → is_large n ≡ false → n < 2 ^ 32
-small_number n h = let k = not_more 4294967295 n h in omega arith
+small_number n h = let k = ltb-false 4294967295 n h in omega arith
 
 pub not_large : (n : ℕ) → n < 2 ^ 32 → is_large n ≡ false
-not_large n h = no_more 4294967295 n (omega arith)
+not_large n h = le-ltb 4294967295 n (omega arith)
 
 short_none : (b : ElementBag) (actions : List Action) → short b actions ≡ false → (q : Element) →
     amount_in Removed actions q ≤ count b q
 short_none b actions h q =
-    not_more _ _ (fails_everywhere (λ e. nat_lt (count b e) (amount_in Removed actions e)) (named actions) h
+    ltb-false _ _ (fails_everywhere (λ e. nat_lt (count b e) (amount_in Removed actions e)) (named actions) h
     (λ e out. at_none (count b e) _ (unnamed Removed actions e out)) q)
 
 pub none_short : (b : ElementBag) (actions : List Action) → ((q : Element) → amount_in Removed actions q ≤ count b q) →
     short b actions ≡ false
 none_short b actions h =
-    none_passes (λ e. nat_lt (count b e) (amount_in Removed actions e)) (named actions) (λ q. no_more _ _ (h q))
+    none_passes (λ e. nat_lt (count b e) (amount_in Removed actions e)) (named actions) (λ q. le-ltb _ _ (h q))
 
 large_none : (b : ElementBag) (actions : List Action) → Small b → large b actions ≡ false → (q : Element) →
     new_count b actions q < 2 ^ 32
@@ -170,8 +165,8 @@ had_result old w regular partials h =
     let enough = passed _ _ _ _ alone.1 in
     let small = passed _ _ _ _ enough.1 in
     record {
-      bags = not_false _ bags.0;
-      on_bag = not_false _ kind.0;
+      bags = not-false _ bags.0;
+      on_bag = not-false _ kind.0;
       alone = alone.0;
       enough = enough.0;
       small = small.0;
@@ -211,8 +206,8 @@ gave_on_bag b w actions p h =
     record { enough = enough.0; small = small.0; is = ok_is _ _ small.1 }
 
 -- the joined list, and its amounts
-abbrev joined_list : List Action → List Action → List Action
-joined_list first second = bag_actions (joined_amount first second) (named (first ++ second))
+abbrev bag_joined : List Action → List Action → List Action
+bag_joined first second = bag_actions (joined_amount first second) (named (first ++ second))
 
 none_outside : (side : Side) (first second : List Action) (q : Element) →
     has q (named (first ++ second)) ≡ false → joined_amount first second side q ≡ 0
@@ -225,12 +220,12 @@ none_outside side first second q out = at side (none Added) (none Removed) where
   at Added a r = omega (arith, a, r)
   at Removed a r = omega (arith, a, r)
 
-amount-joined_list : (side : Side) (first second : List Action) (q : Element) →
-    amount_in side (joined_list first second) q ≡ joined_amount first second side q
-amount-joined_list side first second q =
+amount-bag_joined : (side : Side) (first second : List Action) (q : Element) →
+    amount_in side (bag_joined first second) q ≡ joined_amount first second side q
+amount-bag_joined side first second q =
     amount-bag_actions side (joined_amount first second) (first ++ second) q (none_outside side first second q)
 
-joined_bags : (first second : List Action) → list_all (is_of Bag) (joined_list first second) ≡ true
+joined_bags : (first second : List Action) → list_all (is_of Bag) (bag_joined first second) ≡ true
 joined_bags first second = all-bag_actions (joined_amount first second) (named (first ++ second))
 
 enough_for_both : (n r1 a1 r2 : ℕ) → r1 ≤ n → r1 + (r2 - a1) ≤ n → r2 ≤ (n - r1) + a1
@@ -243,11 +238,11 @@ counts_of_both : (n r1 a1 r2 a2 : ℕ) → r1 ≤ n → (n - (r1 + (r2 - a1))) +
 counts_of_both n r1 a1 r2 a2 h = omega arith
 
 alike : (b : ElementBag) (first second : List Action) → Small b → short b first ≡ false → large b first ≡ false →
-    Alike b (joined_list first second) (renewed b first) second
+    Alike b (bag_joined first second) (renewed b first) second
 alike b first second p enough small =
     let there = short_none b first enough in
-    let removed = amount-joined_list Removed first second in
-    let added = amount-joined_list Added first second in
+    let removed = amount-bag_joined Removed first second in
+    let added = amount-bag_joined Added first second in
     let between : (q : Element) → count (renewed b first) q ≡ new_count b first q = λ q. count-renewed b first q p in
     record {
       small_left = p;
@@ -268,12 +263,12 @@ alike b first second p enough small =
 
 on_bag : (b : ElementBag) (w : Value) (first second : List Action) → Small b → list_all (is_of Bag) second ≡ true →
     after bag_meaning (values.Bag b) first ≡ Ok w →
-    after bag_meaning (values.Bag b) (joined_list first second) ≡ after bag_meaning w second
+    after bag_meaning (values.Bag b) (bag_joined first second) ≡ after bag_meaning w second
 on_bag b w first second p bags h =
     let gave = gave_on_bag b w first p h in
     let both = alike b first second p gave.enough gave.small in
-    after_on_bag b (joined_list first second) p (joined_bags first second)
-    ∙ tabled_alike b (joined_list first second) (renewed b first) second both
+    after_on_bag b (bag_joined first second) p (joined_bags first second)
+    ∙ tabled_alike b (bag_joined first second) (renewed b first) second both
     ∙ sym (ap (λ u. after bag_meaning u second) (sym gave.is)
     ∙ after_on_bag (renewed b first) second both.small_right bags)
 
@@ -310,29 +305,29 @@ joined_from_none Removed second q = omega arith
 
 -- a list that isn't empty joins, after nothing, to one that isn't empty
 some_remain : (second : List Action) → AllProper second → list_all (is_of Bag) second ≡ true → second ≢ [] →
-    joined_list [] second ≢ []
+    bag_joined [] second ≢ []
 some_remain second proper bags ne is =
     let has = has_amount second proper bags ne in
     let some = has.some in
     let none : 0 ≡ amount_in has.side second has.element =
-    sym (ap (λ l. amount_in has.side l has.element) is) ∙ amount-joined_list has.side [] second has.element
+    sym (ap (λ l. amount_in has.side l has.element) is) ∙ amount-bag_joined has.side [] second has.element
     ∙ joined_from_none has.side second has.element in
     absurd (omega (arith, some, none))
 
 off_bag : (v w : Value) (first second : List Action) → is_kind Bag v ≡ false → AllProper second →
     list_all (is_of Bag) second ≡ true → first ++ second ≢ [] → after bag_meaning v first ≡ Ok w →
-    after bag_meaning v (joined_list first second) ≡ after bag_meaning w second
+    after bag_meaning v (bag_joined first second) ≡ after bag_meaning w second
 off_bag v w first second off proper bags ne h =
     let start = off_bag_empty v w first off h in
     let some : second ≢ [] = λ none. ne (ap (λ xs. xs ++ second) start.0 ∙ none) in
-    let some_joined : joined_list first second ≢ [] =
-    subst (λ (l : List Action). joined_list l second ≢ []) (sym start.0) (some_remain second proper bags some) in
-    after_off_bag v (joined_list first second) off (joined_bags first second) some_joined
+    let some_joined : bag_joined first second ≢ [] =
+    subst (λ (l : List Action). bag_joined l second ≢ []) (sym start.0) (some_remain second proper bags some) in
+    after_off_bag v (bag_joined first second) off (joined_bags first second) some_joined
     ∙ sym (ap (λ u. after bag_meaning u second) (sym start.1) ∙ after_off_bag v second off bags some)
 
 in_sequence : (v w : Value) (first second : List Action) → value.IsProper v → AllProper second →
     list_all (is_of Bag) second ≡ true → first ++ second ≢ [] → after bag_meaning v first ≡ Ok w →
-    after bag_meaning v (joined_list first second) ≡ after bag_meaning w second
+    after bag_meaning v (bag_joined first second) ≡ after bag_meaning w second
 in_sequence (values.Bag b) w first second pv proper bags ne h = on_bag b w first second (small_bag b pv.1) bags h
 in_sequence v w first second pv proper bags ne h = off_bag v w first second refl proper bags ne h
 
@@ -340,7 +335,7 @@ in_sequence v w first second pv proper bags ne h = off_bag v w first second refl
 record HadJoin (first second list : List Action) : Type 0 where
   bags_first : list_all (is_of Bag) first ≡ true
   bags_second : list_all (is_of Bag) second ≡ true
-  gave : joined_list first second ≡ list
+  gave : bag_joined first second ≡ list
 
 had_join : (first second list : List Action) → bag_joins first second ≡ Ok list → HadJoin first second list
 had_join first second list h =
@@ -348,8 +343,8 @@ had_join first second list h =
     let second_bags = passed _ _ _ _ first_bags.1 in
     let small = passed _ _ _ _ second_bags.1 in
     record {
-      bags_first = not_false _ first_bags.0;
-      bags_second = not_false _ second_bags.0;
+      bags_first = not-false _ first_bags.0;
+      bags_second = not-false _ second_bags.0;
       gave = ok_is _ _ small.1;
     }
 
@@ -432,7 +427,7 @@ join_all : (first second list : List Action) → bag_joins first second ≡ Ok l
 join_all first second list h =
     ap (list_all (is_of Bag)) (sym (had_join first second list h).gave) ∙ joined_bags first second
 
-no_names : joined_list [] [] ≡ []
+no_names : bag_joined [] [] ≡ []
 no_names = ap (bag_actions (joined_amount [] [])) elements-empty
 
 join_family : (f : Family) (first second list : List Action) → bag_joins first second ≡ Ok list →
@@ -445,7 +440,7 @@ join_family f first second list join h =
       both = join_all first second list join;
     })
     (λ none. let parts = nil_parts first second none in
-    sym had.gave ∙ (λ i. joined_list (parts.0 i) (parts.1 i)) ∙ no_names) h
+    sym had.gave ∙ (λ i. bag_joined (parts.0 i) (parts.1 i)) ∙ no_names) h
 
 pub bag_laws : AggregatorLaws bag_meaning
 bag_laws = record {

@@ -6,6 +6,8 @@ use Rattle.std.specs.Option.{option_map_or, option_and_then}
 use Rattle.std.specs.List.{list_any, list_all}
 use Rattle.std.proofs.lemmas.List.Folds.{list_all-append}
 use Rattle.std.proofs.lemmas.List.Sorted.{list_any-IsPermutation}
+use Rattle.std.proofs.lemmas.Option.{same_Some}
+use Rattle.asm_element.specs.Tests.{or_true}
 pub use Rattle.asm_element.specs.Tests.{both as both_true, neither as none_true}
 use Rattle.asm_update.specs.Action.{family_of, family_eq, is_of, is_partial}
 use Rattle.asm_update.specs.declared.action.Action.{Action}
@@ -31,12 +33,9 @@ family_is f (Some g) h = ap Some (sym (same_family f g h))
 pub is_family : (f : Family) (o : Option Family) → o ≡ Some f → option_map_or (family_eq f) o false ≡ true
 is_family f o h = ap (λ o. option_map_or (family_eq f) o false) h ∙ family_itself f
 
-some_is : (f g : Family) → (let wrap : Family → Option Family = λ z. Some z in wrap f ≡ wrap g) → f ≡ g
-some_is f g h = cc
-
 -- an action, and so a value, is of one family
 pub one_family : (f g : Family) (o : Option Family) → o ≡ Some f → o ≡ Some g → f ≡ g
-one_family f g o h k = some_is f g (sym h ∙ k)
+one_family f g o h k = same_Some f g (sym h ∙ k)
 
 pub first_of_all : (p : Action → Bool) (x : Action) (xs : List Action) → list_all p (x ∷ xs) ≡ true → p x ≡ true
 first_of_all p x xs h = (both_true (p x) (list_all p xs) h).0
@@ -96,10 +95,6 @@ all_of_rest f (x ∷ xs) h only =
     (λ i. here (family_of x) refl (first_of_all is_partial x xs h) i && list_all (is_of f) xs)
     ∙ all_of_rest f xs (rest_of_all is_partial x xs h)
     (λ g k. only g (ap (λ b. is_of g x || b) k ∙ or_true (is_of g x))) where
-      or_true : (b : Bool) → (b || true) ≡ true
-      or_true true = refl
-      or_true false = refl
-
       here : (o : Option Family) → family_of x ≡ o → is_partial x ≡ true → is_of f x ≡ true
       here None e h = let none : is_partial x ≡ false = ap is_some e in cc
       here (Some g) e h =
@@ -125,7 +120,7 @@ common_all f (x ∷ xs) h = by_family (family_of x) refl h where
   by_rest : (g : Family) (b : Bool) → family_of x ≡ Some g → list_all (is_of g) xs ≡ b → chosen b g ≡ Some f →
       (is_of f x && list_all (is_of f) xs) ≡ true
   by_rest g true e k h =
-      let same : g ≡ f = some_is g f h in
+      let same : g ≡ f = same_Some g f h in
       (λ i. is_family f (family_of x) (e ∙ ap Some same) i && list_all (is_of f) xs)
       ∙ subst (λ (f : Family). list_all (is_of f) xs ≡ true) same k
   by_rest g false e k h = cc

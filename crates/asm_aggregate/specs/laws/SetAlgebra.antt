@@ -1,5 +1,5 @@
 -- Members of the sets that the definitions of set updates make.
-use Rattle.std.proofs.Common.{◌≡◌, ◌≢◌, Bool, true, false, cond, not, ◌&&◌, ◌||◌, List, [], ◌∷◌, ◌++◌, map, length}
+use Rattle.std.proofs.Common.{◌≡◌, ◌≢◌, Bool, true, false, cond, not, ◌&&◌, ◌||◌, List, [], ◌∷◌, ◌++◌, map}
 use Rattle.std.proofs.Common.{refl, sym, ap, subst, ◌∙◌, arith}
 use Rattle.std.specs.Prelude.{Option, None, Some, is_some, IfSome, All, IsPermutation}
 use Rattle.std.specs.Cmp.{Equal-is}
@@ -7,6 +7,7 @@ use Rattle.std.specs.Ordering.{eq_by_cmp}
 use Rattle.std.specs.List.{list_any, list_all}
 use Rattle.std.specs.FinMap as finite
 use Rattle.std.proofs.lemmas.Bool.{false≢true}
+use Rattle.std.proofs.lemmas.List.{nil_from_length}
 use Rattle.std.proofs.lemmas.List.Elements.{All-head, All-tail}
 use Rattle.std.proofs.lemmas.List.Folds.{list_any-append, list_all-append}
 use Rattle.std.proofs.lemmas.List.Sorted.{list_any-IsPermutation}
@@ -46,13 +47,9 @@ is_some-kept false (Some u) = refl
 pub contains-empty : (q : Element) → contains empty q ≡ false
 contains-empty q = ap is_some (finite.get-empty element_cmp q)
 
-no_length : {X : Type 0} (xs : List X) → length xs ≡ 0 → xs ≡ []
-no_length [] h = refl
-no_length (x ∷ xs) h = absurd (omega arith)
-
 pub elements-empty : elements empty ≡ []
 elements-empty =
-    ap (map (λ e. e.0)) (no_length _ (sym (finite.len-entries empty) ∙ finite.len-empty element_cmp (Unit {0})))
+    ap (map (λ e. e.0)) (nil_from_length _ (sym (finite.len-entries empty) ∙ finite.len-empty element_cmp (Unit {0})))
 
 pub contains-remove : (s : ElementSet) (e q : Element) →
     contains (remove s e) q ≡ (not (eq_by_cmp element_cmp q e) && contains s q)

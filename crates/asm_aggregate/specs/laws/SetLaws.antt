@@ -2,6 +2,7 @@
 use Rattle.std.proofs.Common.{◌≡◌, ◌≢◌, true, false, not, ◌&&◌, ◌||◌, List, [], ◌∷◌, ◌++◌, refl, sym, ap, subst, ◌∙◌}
 use Rattle.std.specs.Prelude.{Ok, Err, Option, None, Some, unwrap_or, IsPermutation}
 use Rattle.std.specs.List.{list_any, list_all}
+use Rattle.std.proofs.lemmas.Bool.{not-false}
 use Rattle.asm_element.specs.declared.element.Element.{Element}
 use Rattle.asm_element.specs.Set.{ElementSet, empty, contains, same_set}
 use Rattle.asm_element.specs.Value as value
@@ -21,7 +22,7 @@ use Rattle.asm_aggregate.specs.declared.side.Side.{Side}
 use Rattle.asm_aggregate.specs.declared.side.Side.TheVariants.{Added, Removed}
 use Rattle.asm_aggregate.specs.laws.FamilyLemmas.{family_is, all_of_one, all-IsPermutation, all_partial, joined_family}
 use Rattle.asm_aggregate.specs.laws.FamilyLemmas.{nil_parts}
-use Rattle.asm_aggregate.specs.laws.TableLemmas.{passed, not_false}
+use Rattle.asm_aggregate.specs.laws.TableLemmas.{passed}
 use Rattle.asm_aggregate.specs.laws.SetAlgebra.{elements_by-IsPermutation, elements_on-set_actions, all-set_actions}
 use Rattle.asm_aggregate.specs.laws.SetAlgebra.{contains-empty, apart, not_meeting, contains_updated, one_step}
 use Rattle.asm_aggregate.specs.laws.SetAlgebra.{never_both}
@@ -58,8 +59,8 @@ had_result old w regular partials h =
     let parted = passed _ _ _ _ kind.1 in
     let agrees = passed _ _ _ _ parted.1 in
     record {
-      fair = record { sets = not_false _ sets.0; parted = parted.0 };
-      on_set = not_false _ kind.0;
+      fair = record { sets = not-false _ sets.0; parted = parted.0 };
+      on_set = not-false _ kind.0;
       gave = ok_is _ _ agrees.1;
     }
 
@@ -86,21 +87,21 @@ record AreFair (first second : List Action) : Type 0 where
   one : Fair first
   two : Fair second
 
-abbrev joined_list : List Action → List Action → List Action
-joined_list first second = set_actions (joined_elements first second)
+abbrev set_joined : List Action → List Action → List Action
+set_joined first second = set_actions (joined_elements first second)
 
-joined_fair : (first second : List Action) → AreFair first second → Fair (joined_list first second)
+joined_fair : (first second : List Action) → AreFair first second → Fair (set_joined first second)
 joined_fair first second fair =
     let a1 = elements_on Added first in
     let r1 = elements_on Removed first in
     let a2 = elements_on Added second in
     let r2 = elements_on Removed second in
-    let is : (side : Side) → elements_on side (joined_list first second) ≡ joined_elements first second side =
+    let is : (side : Side) → elements_on side (set_joined first second) ≡ joined_elements first second side =
     λ side. elements_on-set_actions side (joined_elements first second) in
     record {
       sets = all-set_actions (joined_elements first second);
-      parted = not_meeting (elements_on Added (joined_list first second))
-          (elements_on Removed (joined_list first second)) (λ e.
+      parted = not_meeting (elements_on Added (set_joined first second))
+          (elements_on Removed (set_joined first second)) (λ e.
           (λ i. contains (is Added i) e && contains (is Removed i) e)
           ∙ (λ i. contains_updated a1 a2 r2 e i && contains_updated r1 r2 a2 e i)
           ∙ never_both (contains a1 e) (contains r1 e) (contains a2 e) (contains r2 e)
@@ -114,7 +115,7 @@ off_set_empty v w (x ∷ xs) off h = let on = (had_result v w None (x ∷ xs) h)
 
 off_set : (v w : Value) (first second : List Action) → is_kind Set v ≡ false → AreFair first second →
     first ++ second ≢ [] → after set_meaning v first ≡ Ok w →
-    after set_meaning v (joined_list first second) ≡ after set_meaning w second
+    after set_meaning v (set_joined first second) ≡ after set_meaning w second
 off_set v w first second off fair ne h =
     let start = off_set_empty v w first off h in
     let some : second ≢ [] = λ none. ne (ap (λ xs. xs ++ second) start.0 ∙ none) in
@@ -123,13 +124,13 @@ off_set v w first second off fair ne h =
 
 -- the joined list leaves the members that the second leaves after the first
 one_after_other : (s : ElementSet) (first second : List Action) (e : Element) →
-    contains (updated s (joined_list first second)) e ≡ contains (updated (updated s first) second) e
+    contains (updated s (set_joined first second)) e ≡ contains (updated (updated s first) second) e
 one_after_other s first second e =
     let a1 = elements_on Added first in
     let r1 = elements_on Removed first in
     let a2 = elements_on Added second in
     let r2 = elements_on Removed second in
-    let both = joined_list first second in
+    let both = set_joined first second in
     let is : (side : Side) → elements_on side both ≡ joined_elements first second side =
     λ side. elements_on-set_actions side (joined_elements first second) in
     contains_updated s (elements_on Added both) (elements_on Removed both) e
@@ -141,7 +142,7 @@ one_after_other s first second e =
 
 on_set : (s : ElementSet) (w : Value) (first second : List Action) → AreFair first second →
     after set_meaning (values.Set s) first ≡ Ok w →
-    after set_meaning (values.Set s) (joined_list first second) ≡ after set_meaning w second
+    after set_meaning (values.Set s) (set_joined first second) ≡ after set_meaning w second
 on_set s w first second fair h =
     let between : values.Set (updated s first) ≡ w = ok_is _ _ (sym (after_on_set s first fair.one) ∙ h) in
     after_on_set s _ (joined_fair first second fair)
@@ -149,14 +150,14 @@ on_set s w first second fair h =
     ∙ sym (ap (λ u. after set_meaning u second) (sym between) ∙ after_on_set (updated s first) second fair.two)
 
 in_sequence : (v w : Value) (first second : List Action) → AreFair first second → first ++ second ≢ [] →
-    after set_meaning v first ≡ Ok w → after set_meaning v (joined_list first second) ≡ after set_meaning w second
+    after set_meaning v first ≡ Ok w → after set_meaning v (set_joined first second) ≡ after set_meaning w second
 in_sequence (values.Set s) w first second fair ne h = on_set s w first second fair h
 in_sequence v w first second fair ne h = off_set v w first second refl fair ne h
 
 -- what two lists that have a join tell
 record HadJoin (first second list : List Action) : Type 0 where
   fair : AreFair first second
-  gave : joined_list first second ≡ list
+  gave : set_joined first second ≡ list
 
 had_join : (first second list : List Action) → set_joins first second ≡ Ok list → HadJoin first second list
 had_join first second list h =
@@ -166,8 +167,8 @@ had_join first second list h =
     let parted2 = passed _ _ _ _ sets2.1 in
     record {
       fair = record {
-        one = record { sets = not_false _ sets1.0; parted = parted1.0 };
-        two = record { sets = not_false _ sets2.0; parted = parted2.0 };
+        one = record { sets = not-false _ sets1.0; parted = parted1.0 };
+        two = record { sets = not-false _ sets2.0; parted = parted2.0 };
       };
       gave = ok_is _ _ parted2.1;
     }
@@ -222,7 +223,7 @@ join_family f first second list join h =
       both = join_all first second list join;
     })
     (λ none. let parts = nil_parts first second none in
-    sym had.gave ∙ (λ i. joined_list (parts.0 i) (parts.1 i)) ∙ none_from_none) h
+    sym had.gave ∙ (λ i. set_joined (parts.0 i) (parts.1 i)) ∙ none_from_none) h
 
 pub set_laws : AggregatorLaws set_meaning
 set_laws = record {

@@ -1,5 +1,5 @@
 -- Tables of causes that give a value.
-use Rattle.std.proofs.Common.{◌≡◌, Bool, true, false, cond, not, refl}
+use Rattle.std.proofs.Common.{◌≡◌, Bool, true, false, cond, refl}
 use Rattle.std.specs.Prelude.{Result, Ok, Err}
 
 -- a test of the table failed, where it gives a value
@@ -7,7 +7,3 @@ pub passed : {A E : Type 0} (b : Bool) (cause : E) (rest : Result A E) (w : A) �
     (b ≡ false) × (rest ≡ Ok w)
 passed true cause rest w h = cc
 passed false cause rest w h = (refl, h)
-
-pub not_false : (b : Bool) → not b ≡ false → b ≡ true
-not_false true h = refl
-not_false false h = cc

@@ -1,6 +1,6 @@
 use Rattle.std.proofs.Common.{◌≡◌, ℕ, Bool, List, Result, Ok, Err, IfOk, IfErr, refl, string_bytes}
 use Rattle.std.proofs.lemmas.Result.{err_from_is_err_and}
-use Rattle.asm_driver.specs.Commands.{text_of_played, IsScript, IsPlayed, IsNoText, IsRun, IsNoRun}
+use Rattle.asm_driver.specs.Commands.{text_of_played, IsScript, IsPlayed, IsNoText, IsRunText, IsNoRun}
 use Rattle.asm_driver.specs.Play.{IsNoCapacity}
 use Rattle.asm_driver.specs.Refusal.{refusal_of_run}
 use Rattle.asm_driver.specs.declared.outcome.Played.{Played}
@@ -40,7 +40,7 @@ returns-in_err-played-clause-err g c =
 -- the text of a play, by what makes its bytes
 told : {X : Type 0} (bytes_of : X → List ℕ) (bytes : List ℕ) (capacity : ℕ) (asked : Bool) (p : Played)
     (r : Result X Refusal) → IsPlayed bytes capacity p → IfOk r (λ text. bytes_of text ≡ text_of_played asked p) →
-    IfOk r (λ text. IsRun bytes capacity asked (bytes_of text))
+    IfOk r (λ text. IsRunText bytes capacity asked (bytes_of text))
 told bytes_of bytes capacity asked p (Ok text) is h = (p, is, h)
 told bytes_of bytes capacity asked p (Err r) is h = tt
 

@@ -12,7 +12,7 @@ returns-then-count-len-clause-large g c =
     let size = c.in_ok-count.ensures.bound in
     let room : length c.read.new.buffer ≡ c.min-room.result = search rules in (
       c.loop-bytes.bytes.items ++ part,
-      Consumes-trans _ _ _ _ _ was.0 c.in_ok-count.ensures.bytes.0,
+      Consumes-trans _ _ _ _ _ was.consumed c.in_ok-count.ensures.bytes.0,
       length-append c.loop-bytes.bytes.items part
           ∙ omega (
             arith,
@@ -23,7 +23,7 @@ returns-then-count-len-clause-large g c =
             size.1,
             c.len-in-loop-bytes.ensures,
             c.if-count-len.true,
-            was.1,
+            was.within,
           ),
     )
 
@@ -34,7 +34,7 @@ returns-then-count-len-clause-some g c =
     let size = c.in_ok-count.ensures.bound in
     let room : length c.read.new.buffer ≡ c.min-room.result = search rules in (
       c.loop-bytes.bytes.items ++ part,
-      Consumes-trans _ _ _ _ _ was.0 c.in_ok-count.ensures.bytes.0,
+      Consumes-trans _ _ _ _ _ was.consumed c.in_ok-count.ensures.bytes.0,
       omega (
         arith,
         length-append c.loop-bytes.bytes.items part,
@@ -43,7 +43,7 @@ returns-then-count-len-clause-some g c =
         c.len.ensures,
         size.0,
         size.1,
-        was.1,
+        was.within,
       ),
     )
 
@@ -54,14 +54,14 @@ returns-in_err-extend_from_slice-clause-some g c =
     let size = c.in_ok-count.ensures.bound in
     let some : TakesSome (g.S.Source.remaining c.args.input.now) (g.S.Source.remaining c.read.new.self) = (
       c.loop-bytes.bytes.items ++ part,
-      Consumes-trans _ _ _ _ _ was.0 c.in_ok-count.ensures.bytes.0,
+      Consumes-trans _ _ _ _ _ was.consumed c.in_ok-count.ensures.bytes.0,
       omega (
         arith,
         length-append c.loop-bytes.bytes.items part,
         size.1,
         c.len-in-loop-bytes.ensures,
         c.if-count-len.false,
-        was.1,
+        was.within,
       ),
     ) in
     on_err _ some

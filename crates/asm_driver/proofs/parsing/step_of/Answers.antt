@@ -2,7 +2,7 @@ use Rattle.std.proofs.Common.{◌≡◌, ◌≤◌, ◌<◌, length, sym, ap, su
 use Rattle.std.proofs.lemmas.Result.{err_from_is_err_and}
 use Rattle.std.specs.List.{list_any}
 use Rattle.asm_driver.specs.Script.{is_long, IsLong}
-use Rattle.asm_driver.specs.Reads.{AreReads}
+use Rattle.asm_driver.specs.StepReads.{AreReads}
 use Rattle.asm_driver.proofs.Faults.{no_block, many_blocks, long_block, many_reads, no_fault, count_of_reads}
 use Rattle.asm_driver.proofs.parsing.step_of.Goals as goal
 

@@ -2,7 +2,7 @@ use Rattle.std.proofs.Common.{sym, ◌∙◌, subst}
 use Rattle.serde_json.specs.View.{view}
 use Rattle.asm_journal.specs.Shape.{IsListForm}
 use Rattle.asm_journal.specs.Value.{IsStateForm}
-use Rattle.asm_journal.proofs.Answered.{Reads-none}
+use Rattle.asm_journal.proofs.Answered.{IsParsed-none}
 use Rattle.asm_driver.specs.Script.{IsAgentForm}
 use Rattle.asm_driver.proofs.Faults.{same_members}
 use Rattle.asm_driver.proofs.parsing.written_of.Goals as goal
@@ -12,10 +12,10 @@ returns-in_default-2 c = λ w h.
     let agents = view c.in-Some.agents.now in
     let same = same_members _ _ _ _ _ _ (sym h.2 ∙ c.in-Some.ensures.some) in
     let F = IsListForm IsAgentForm in
-    Reads-none F agents _ c.in_default-2.is c.in_ok-agents.ensures w.agents (subst (F w.agents) same.0 h.3)
+    IsParsed-none F agents _ c.in_default-2.is c.in_ok-agents.ensures w.agents (subst (F w.agents) same.0 h.3)
 
 pub returns-in-None : goal.returns-in-None
 returns-in-None c = λ w h.
     let init = view c.in-Some.init.now in
     let same = same_members _ _ _ _ _ _ (sym h.2 ∙ c.in-Some.ensures.some) in
-    Reads-none IsStateForm init _ c.in-None.is c.in_ok-init.ensures w.init (subst (IsStateForm w.init) same.1 h.4)
+    IsParsed-none IsStateForm init _ c.in-None.is c.in_ok-init.ensures w.init (subst (IsStateForm w.init) same.1 h.4)

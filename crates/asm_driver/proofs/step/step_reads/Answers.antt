@@ -1,7 +1,7 @@
 use Rattle.std.proofs.Common.{List, ◌++◌, sym, ap, ◌∙◌}
 use Rattle.std.proofs.lemmas.List.{take_all}
 use Rattle.asm_element.specs.Place.{Place}
-use Rattle.asm_driver.specs.Reads.{named, taken}
+use Rattle.asm_driver.specs.StepReads.{named, taken}
 use Rattle.asm_driver.proofs.Gathering.{gathered, named-gathered, reads_from}
 use Rattle.asm_driver.proofs.step.step_reads.Goals as goal
 

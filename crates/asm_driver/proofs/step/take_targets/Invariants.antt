@@ -1,5 +1,5 @@
 use Rattle.std.proofs.Common.{◌≡◌, ◌++◌, take}
-use Rattle.asm_driver.specs.Reads.{changed}
+use Rattle.asm_driver.specs.StepReads.{changed}
 use Rattle.asm_driver.proofs.step.take_targets.Given as goal
 
 -- what the instructions so far have was appended

@@ -1,5 +1,5 @@
 use Rattle.std.proofs.Common.{◌≡◌, ◌++◌, take}
-use Rattle.asm_driver.specs.Reads.{taken}
+use Rattle.asm_driver.specs.StepReads.{taken}
 use Rattle.asm_driver.proofs.step.take_terms.Given as goal
 
 -- what the instructions so far have was appended

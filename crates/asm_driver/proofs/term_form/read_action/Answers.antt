@@ -1,7 +1,7 @@
 use Rattle.std.proofs.Common.{subst}
 use Rattle.serde_json.specs.View.{items_view}
-use Rattle.asm_journal.specs.Shape.{Reads}
-use Rattle.asm_journal.proofs.Answered.{Reads-none}
+use Rattle.asm_journal.specs.Shape.{IsParsed}
+use Rattle.asm_journal.proofs.Answered.{IsParsed-none}
 use Rattle.asm_journal.proofs.Values.{mapped}
 use Rattle.asm_driver.specs.TermForm.{IsCounted, IsActionForm}
 use Rattle.asm_driver.specs.declared.block.TermAction.TheVariants.{Put, Add, Remove}
@@ -13,7 +13,7 @@ returns-in_ok-read_only-in-put c =
     let word = c.args.word.now in
     let ds = items_view c.args.operands.now in
     let o = c.in_ok-read_only-in-put.field-0 in
-    subst (Reads (IsActionForm word) ds) (mapped Put o c.map.result c.map.ensures.cases)
+    subst (IsParsed (IsActionForm word) ds) (mapped Put o c.map.result c.map.ensures.cases)
     (put_read word ds o c.in-put.is c.in_ok-read_only-in-put.ensures)
 
 pub returns-in_ok-read_only-in-add : goal.returns-in_ok-read_only-in-add
@@ -21,7 +21,7 @@ returns-in_ok-read_only-in-add c =
     let word = c.args.word.now in
     let ds = items_view c.args.operands.now in
     let o = c.in_ok-read_only-in-add.field-0 in
-    subst (Reads (IsActionForm word) ds) (mapped Add o c.map-in-add.result c.map-in-add.ensures.cases)
+    subst (IsParsed (IsActionForm word) ds) (mapped Add o c.map-in-add.result c.map-in-add.ensures.cases)
     (add_read word ds o c.in-add.is c.in_ok-read_only-in-add.ensures)
 
 pub returns-in_ok-read_only-in-remove : goal.returns-in_ok-read_only-in-remove
@@ -29,17 +29,17 @@ returns-in_ok-read_only-in-remove c =
     let word = c.args.word.now in
     let ds = items_view c.args.operands.now in
     let o = c.in_ok-read_only-in-remove.field-0 in
-    subst (Reads (IsActionForm word) ds) (mapped Remove o c.map-in-remove.result c.map-in-remove.ensures.cases)
+    subst (IsParsed (IsActionForm word) ds) (mapped Remove o c.map-in-remove.result c.map-in-remove.ensures.cases)
     (remove_read word ds o c.in-remove.is c.in_ok-read_only-in-remove.ensures)
 
 pub returns-in-None : goal.returns-in-None
 returns-in-None c =
     let ds = items_view c.args.operands.now in
     no_bagadd c.args.word.now ds c.in-bagadd.is
-    (Reads-none (λ p. IsCounted p.0 p.1) ds _ c.in-None.is c.in_ok-term-in-bagadd.ensures)
+    (IsParsed-none (λ p. IsCounted p.0 p.1) ds _ c.in-None.is c.in_ok-term-in-bagadd.ensures)
 
 pub returns-in-None-2 : goal.returns-in-None-2
 returns-in-None-2 c =
     let ds = items_view c.args.operands.now in
     no_bagremove c.args.word.now ds c.in-bagremove.is
-    (Reads-none (λ p. IsCounted p.0 p.1) ds _ c.in-None-2.is c.in_ok-term-in-bagremove.ensures)
+    (IsParsed-none (λ p. IsCounted p.0 p.1) ds _ c.in-None-2.is c.in_ok-term-in-bagremove.ensures)

@@ -1,11 +1,11 @@
 use Rattle.serde_json.specs.View.{view}
 use Rattle.asm_journal.specs.Shape.{IsListForm}
 use Rattle.asm_journal.specs.Element.{IsLocationForm}
-use Rattle.asm_journal.proofs.Answered.{Reads-none}
+use Rattle.asm_journal.proofs.Answered.{IsParsed-none}
 use Rattle.asm_journal.proofs.Events.{no_read}
 use Rattle.asm_journal.proofs.call_form.read_read.Goals as goal
 
 pub returns-in-None : goal.returns-in-None
 returns-in-None c =
     let d = view c.args.places.now in
-    no_read d (Reads-none (IsListForm IsLocationForm) d _ c.in-None.is c.in_ok-places.ensures)
+    no_read d (IsParsed-none (IsListForm IsLocationForm) d _ c.in-None.is c.in_ok-places.ensures)

@@ -2,16 +2,15 @@ use Rattle.std.proofs.Common.{refl, subst}
 use Rattle.serde_json.specs.View.{view}
 use Rattle.asm_storage.specs.History.{EventFits}
 use Rattle.asm_journal.specs.Event.{IsEventForm}
-use Rattle.asm_journal.proofs.Answered.{Reads-some, Reads-none}
+use Rattle.asm_journal.proofs.Answered.{IsParsed-some, IsParsed-none, true_and_false}
 use Rattle.asm_journal.proofs.Events.{event_once}
-use Rattle.asm_journal.proofs.Legal.{not_both}
 use Rattle.asm_journal.proofs.reader.read_event.Goals as goal
 use Rattle.asm_journal.proofs.reader.read_event.Goals.{in_default-via-in-Some+else-event_fits, in_default-via-in_default}
 
 pub returns-in-Some-clause-ok : goal.returns-in-Some-clause-ok
 returns-in-Some-clause-ok c =
     let d = view c.in_ok-json.json in
-    let some = Reads-some IsEventForm d _ c.in-Some.event c.in-Some.is c.in_ok-event.ensures in
+    let some = IsParsed-some IsEventForm d _ c.in-Some.event c.in-Some.is c.in_ok-event.ensures in
     (d, c.in_ok-json.ensures.ok, (some, c.event_fits.ensures.0 c.if-event_fits.true))
 
 pub returns-clause-err : goal.returns-clause-err
@@ -24,10 +23,10 @@ returns-clause-err c =
         c.in_ok-json.ensures.ok,
         elim c.in_default.branch [
           | in_default-via-in-Some+else-event_fits w ↦ λ e h.
-              let some = Reads-some IsEventForm d _ w.in-Some.event w.in-Some.is c.in_ok-event.ensures in
+              let some = IsParsed-some IsEventForm d _ w.in-Some.event w.in-Some.is c.in_ok-event.ensures in
               let same = event_once e w.in-Some.event d h.0 some in
-              not_both w.event_fits.result (w.event_fits.ensures.1 (subst (EventFits c.args.agents) same h.1)) w.if-event_fits.false
-          | in_default-via-in_default w ↦ λ e h. Reads-none IsEventForm d _ w.in_default.is c.in_ok-event.ensures e h.0
+              true_and_false w.event_fits.result (w.event_fits.ensures.1 (subst (EventFits c.args.agents) same h.1)) w.if-event_fits.false
+          | in_default-via-in_default w ↦ λ e h. IsParsed-none IsEventForm d _ w.in_default.is c.in_ok-event.ensures e h.0
         ],
       ),
     )

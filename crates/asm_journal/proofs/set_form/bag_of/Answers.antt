@@ -8,23 +8,33 @@ use Rattle.asm_element.specs.Element.{element_cmp}
 use Rattle.asm_journal.proofs.set_form.bag_of.Goals as goal
 
 pub loop-element-init : goal.loop-element-init
-loop-element-init c = ([], append-nil _, (none_distinct element_cmp, c.new-bag.ensures), tt)
+loop-element-init c = record {
+  done = [];
+  whole = append-nil _;
+  made = (none_distinct element_cmp, c.new-bag.ensures);
+  positive = tt;
+}
 
 pub returns-then-count-gt0 : goal.returns-then-count-gt0
 returns-then-count-gt0 c =
     let l = c.loop-element in
     let p : Element × ℕ = (c.in-Some.field-0.0, c.in-Some.field-0.1) in
     let popped = ap counts_of c.in-Some.ensures.items ∙ map-append _ c.pop.new.self.items _ in
-    let whole = one_back _ p _ l.invariant.0 _ l.invariant.1 popped in
-    bag-twice _ p l.invariant.0 _ l.bag whole l.invariant.2 l.invariant.3 (subst (λ n. 0 < n) c.count.ensures c.if-count-gt0.true)
+    let whole = one_back _ p _ l.invariant.done _ l.invariant.whole popped in
+    bag-twice _ p l.invariant.done _ l.bag whole l.invariant.made l.invariant.positive (subst (λ n. 0 < n) c.count.ensures c.if-count-gt0.true)
 
 pub loop-element-preserved : goal.loop-element-preserved
 loop-element-preserved c =
     let l = c.loop-element in
     let p : Element × ℕ = (c.in-Some.field-0.0, c.in-Some.field-0.1) in
     let popped = ap counts_of c.in-Some.ensures.items ∙ map-append _ c.pop.new.self.items _ in
-    let whole = one_back _ p _ l.invariant.0 _ l.invariant.1 popped in
+    let whole = one_back _ p _ l.invariant.done _ l.invariant.whole popped in
     let none : bag.count l.bag p.0 ≡ 0 = omega (arith, c.count.ensures, c.if-count-gt0.false) in
     let put = c.in_ok-put.ensures.ok ∙ ap (λ n. bag.set_count l.bag p.0 (bag.count l.bag p.0 + n)) c.get.ensures.value in
     let positive = subst (λ n. 1 ≤ n) c.get.ensures.value (subst (λ n. 1 ≤ n) (sym c.get.ensures.value) c.get.ensures.positive) in
-    (p ∷ l.invariant.0, whole, bag-more p l.invariant.0 l.bag _ l.invariant.2 l.invariant.3 none put, (positive, l.invariant.3))
+    record {
+      done = p ∷ l.invariant.done;
+      whole = whole;
+      made = bag-more p l.invariant.done l.bag _ l.invariant.made l.invariant.positive none put;
+      positive = (positive, l.invariant.positive);
+    }

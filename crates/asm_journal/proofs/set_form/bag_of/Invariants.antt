@@ -10,4 +10,9 @@ decreases-loop-element l = vec_len l.counts
 
 -- the bag is that of the last counts
 abbrev pub invariant-loop-element : goal.invariant-loop-element
-invariant-loop-element l = (done : List (Element × ℕ)) × (counts_of l.counts.items ++ done ≡ counts_of l.fn.counts.items) × IsBagOf l.bag done × ArePositive done
+invariant-loop-element l = record {
+  done : List (Element × ℕ);
+  whole : counts_of l.counts.items ++ done ≡ counts_of l.fn.counts.items;
+  made : IsBagOf l.bag done;
+  positive : ArePositive done;
+}

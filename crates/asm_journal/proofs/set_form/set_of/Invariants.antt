@@ -8,4 +8,8 @@ decreases-loop-element l = vec_len l.elements
 
 -- the set is that of the last elements
 abbrev pub invariant-loop-element : goal.invariant-loop-element
-invariant-loop-element l = (done : List Element) × (l.elements.items ++ done ≡ l.fn.elements.items) × IsSetOf l.set done
+invariant-loop-element l = record {
+  done : List Element;
+  whole : l.elements.items ++ done ≡ l.fn.elements.items;
+  made : IsSetOf l.set done;
+}

@@ -1,7 +1,7 @@
 use Rattle.std.proofs.Common.{subst}
 use Rattle.serde_json.specs.View.{view}
 use Rattle.asm_storage.specs.declared.call.Reply.TheVariants as reply
-use Rattle.asm_journal.specs.Shape.{Reads}
+use Rattle.asm_journal.specs.Shape.{IsParsed}
 use Rattle.asm_journal.specs.Event.{IsReplyForm}
 use Rattle.asm_journal.proofs.Values.{mapped}
 use Rattle.asm_journal.proofs.Events.{clash_read}
@@ -11,4 +11,4 @@ pub returns-in_ok-from_json-in-Some-member_of-3 : goal.returns-in_ok-from_json-i
 returns-in_ok-from_json-in-Some-member_of-3 c =
     let d = view c.args.json.now in
     let o = c.in_ok-from_json-in-Some-member_of-3.field-0 in
-    subst (Reads IsReplyForm d) (mapped reply.Clash o c.map-in-Some-member_of-3.result c.map-in-Some-member_of-3.ensures.cases) (clash_read d (view c.in-Some-member_of-3.clash.now) o c.in-Some-member_of-3.ensures.some c.in_ok-from_json-in-Some-member_of-3.ensures)
+    subst (IsParsed IsReplyForm d) (mapped reply.Clash o c.map-in-Some-member_of-3.result c.map-in-Some-member_of-3.ensures.cases) (clash_read d (view c.in-Some-member_of-3.clash.now) o c.in-Some-member_of-3.ensures.some c.in_ok-from_json-in-Some-member_of-3.ensures)

@@ -1,11 +1,11 @@
 use Rattle.std.proofs.Common.{subst}
 use Rattle.std.proofs.lemmas.Result.{IfOk-weaker}
 use Rattle.serde_json.specs.View.{view}
-use Rattle.asm_journal.specs.Shape.{Reads, IsListForm}
+use Rattle.asm_journal.specs.Shape.{IsParsed, IsListForm}
 use Rattle.asm_journal.specs.Instruction.{IsInstructionForm}
 use Rattle.asm_journal.specs.Event.{IsMoveOf}
 use Rattle.asm_journal.proofs.Made.{made_read}
-use Rattle.asm_journal.proofs.Answered.{Reads-some, Reads-none}
+use Rattle.asm_journal.proofs.Answered.{IsParsed-some, IsParsed-none}
 use Rattle.asm_journal.proofs.Events.{instruction_once}
 use Rattle.asm_journal.proofs.call_form.InstructionsFromJson.from_json.Goals as goal
 
@@ -13,8 +13,8 @@ pub returns-in-Some : goal.returns-in-Some
 returns-in-Some c =
     let d = view c.args.json.now in
     let list = c.in-Some.list in
-    let form = Reads-some (IsListForm IsInstructionForm) d _ list c.in-Some.is c.in_ok-list.ensures in
-    IfOk-weaker c.move_of.result _ _ (λ o h. made_read IsInstructionForm IsMoveOf instruction_once d list o form (subst (λ items. Reads IsMoveOf items o) c.into_vec.ensures h)) c.move_of.ensures
+    let form = IsParsed-some (IsListForm IsInstructionForm) d _ list c.in-Some.is c.in_ok-list.ensures in
+    IfOk-weaker c.move_of.result _ _ (λ o h. made_read IsInstructionForm IsMoveOf instruction_once d list o form (subst (λ items. IsParsed IsMoveOf items o) c.into_vec.ensures h)) c.move_of.ensures
 
 pub returns-in-None : goal.returns-in-None
-returns-in-None c = λ M h. Reads-none (IsListForm IsInstructionForm) (view c.args.json.now) _ c.in-None.is c.in_ok-list.ensures h.0 h.1
+returns-in-None c = λ M h. IsParsed-none (IsListForm IsInstructionForm) (view c.args.json.now) _ c.in-None.is c.in_ok-list.ensures h.0 h.1

@@ -1,20 +1,20 @@
 use Rattle.std.proofs.Common.{subst}
 use Rattle.std.proofs.lemmas.Result.{IfOk-weaker}
 use Rattle.serde_json.specs.View.{view}
-use Rattle.asm_journal.specs.Shape.{Reads, IsListForm}
+use Rattle.asm_journal.specs.Shape.{IsParsed, IsListForm}
 use Rattle.asm_journal.specs.Value.{IsPairForm, IsStateOf}
 use Rattle.asm_journal.proofs.Made.{made_read, list_seen}
 use Rattle.asm_journal.proofs.Values.{IsReadPair, place_of, places_of, no_places, pair_once}
-use Rattle.asm_journal.proofs.Answered.{Reads-some, Reads-none}
+use Rattle.asm_journal.proofs.Answered.{IsParsed-some, IsParsed-none}
 use Rattle.asm_journal.proofs.pair_form.PlainStateFromJson.from_json.Goals as goal
 
 pub returns-in-Some : goal.returns-in-Some
 returns-in-Some c =
     let d = view c.args.json.now in
     let ps = places_of c.in-Some.pairs in
-    let form = list_seen place_of IsPairForm c.in-Some.pairs d (Reads-some (IsListForm IsReadPair) d _ c.in-Some.pairs c.in-Some.is c.in_ok-pairs.ensures) in
-    IfOk-weaker c.state_of.result _ _ (λ o h. made_read IsPairForm IsStateOf pair_once d ps o form (subst (λ items. Reads IsStateOf (places_of items) o) c.into_vec.ensures h)) c.state_of.ensures
+    let form = list_seen place_of IsPairForm c.in-Some.pairs d (IsParsed-some (IsListForm IsReadPair) d _ c.in-Some.pairs c.in-Some.is c.in_ok-pairs.ensures) in
+    IfOk-weaker c.state_from.result _ _ (λ o h. made_read IsPairForm IsStateOf pair_once d ps o form (subst (λ items. IsParsed IsStateOf (places_of items) o) c.into_vec.ensures h)) c.state_from.ensures
 
 pub returns-in-None : goal.returns-in-None
 returns-in-None c = λ A h.
-    no_places (view c.args.json.now) (Reads-none (IsListForm IsReadPair) (view c.args.json.now) _ c.in-None.is c.in_ok-pairs.ensures) h.0 h.1
+    no_places (view c.args.json.now) (IsParsed-none (IsListForm IsReadPair) (view c.args.json.now) _ c.in-None.is c.in_ok-pairs.ensures) h.0 h.1

@@ -3,14 +3,14 @@ use Rattle.std.specs.Prelude.{option_map}
 use Rattle.std.proofs.lemmas.Result.{IfOk-weaker}
 use Rattle.serde_json.specs.Data.{Data, Items, array}
 use Rattle.serde_json.specs.View.{view, items_view}
-use Rattle.asm_journal.specs.Shape.{Reads}
+use Rattle.asm_journal.specs.Shape.{IsParsed}
 use Rattle.asm_journal.specs.Set.{IsCounted}
 use Rattle.asm_journal.specs.declared.set_form.Counted.{Counted}
 use Rattle.asm_journal.proofs.Arrays.{array_is, same_array}
 use Rattle.asm_journal.proofs.Sets.{IsCountedForm}
 use Rattle.asm_journal.proofs.set_form.CountedFromJson.from_json.Goals as goal
 
-counted : (d : Data) (ds : Items) (o : Option Counted) → d ≡ array ds → Reads IsCounted ds (option_map (λ c. (c.0, c.1)) o) → Reads IsCountedForm d o
+counted : (d : Data) (ds : Items) (o : Option Counted) → d ≡ array ds → IsParsed IsCounted ds (option_map (λ c. (c.0, c.1)) o) → IsParsed IsCountedForm d o
 counted d ds (Some c) is h = (ds, is, h)
 counted d ds None is h = λ c k. h (c.0, c.1) (subst (IsCounted (c.0, c.1)) (same_array _ _ (sym k.1 ∙ is)) k.2)
 

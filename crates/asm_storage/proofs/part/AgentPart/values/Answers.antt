@@ -3,7 +3,7 @@ use Rattle.asm_element.specs.Place.{Place}
 use Rattle.asm_update.specs.State.{val}
 use Rattle.asm_state.specs.View.{value_at}
 use Rattle.asm_storage.specs.Agents.{moves_seen}
-use Rattle.asm_storage.specs.Machine.{state_of}
+use Rattle.asm_storage.specs.Machine.{machine_state}
 use Rattle.asm_storage.specs.Storage.{machine_of}
 use Rattle.asm_storage.proofs.Following.{stands_for_all}
 use Rattle.asm_storage.proofs.part.AgentPart.values.Goals as goal
@@ -13,5 +13,5 @@ returns g c =
     let p = c.args.self.now in
     let m = machine_of g.A.Aggregator.meaning c.args.storage.now in
     let stands = stands_for_all m p.progress.seen p.state c.requires.part.following c.requires.level in
-    let same : value_at p.state ≡ val (state_of m (moves_seen p.progress.seen)) = λ i l. stands.values l i in
+    let same : value_at p.state ≡ val (machine_state m (moves_seen p.progress.seen)) = λ i l. stands.values l i in
     subst (λ (old : Place → _). IfOk c.values_at.result (λ values. values ≡ map old c.args.places.now)) same c.values_at.ensures

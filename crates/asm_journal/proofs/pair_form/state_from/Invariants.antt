@@ -4,12 +4,16 @@ use Rattle.asm_element.specs.declared.value.Value.{Value}
 use Rattle.asm_journal.specs.Value.{IsStateOf}
 use Rattle.asm_journal.proofs.Gathered.{AreSeen}
 use Rattle.asm_journal.proofs.Values.{places_of}
-use Rattle.asm_journal.proofs.pair_form.state_of.Given as goal
+use Rattle.asm_journal.proofs.pair_form.state_from.Given as goal
 
 abbrev pub decreases-loop-at : goal.decreases-loop-at
 decreases-loop-at l = vec_len l.pairs
 
 -- the state is that of the last pairs, and their locations are those that were seen
 abbrev pub invariant-loop-at : goal.invariant-loop-at
-invariant-loop-at l =
-    (done : List (Place × Value)) × (places_of l.pairs.items ++ done ≡ places_of l.fn.pairs.items) × IsStateOf l.state done × AreSeen l.seen done
+invariant-loop-at l = record {
+  done : List (Place × Value);
+  whole : places_of l.pairs.items ++ done ≡ places_of l.fn.pairs.items;
+  made : IsStateOf l.state done;
+  seen : AreSeen l.seen done;
+}
