@@ -76,7 +76,7 @@ fn is_composed(
 }
 
 /// The composition of the two moves, which are dropped.
-fn compose_of<A: Aggregator>(
+pub(crate) fn compose_of<A: Aggregator>(
     alloc: Global,
     aggregator: &A,
     first: Instructions,

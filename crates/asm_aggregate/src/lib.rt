@@ -17,9 +17,13 @@ pub use pair::{Pair, standard};
 pub use set_agg::SetAgg;
 
 #[cfg(test)]
+mod bag_tests;
+#[cfg(test)]
 mod compose_tests;
 #[cfg(test)]
 mod example;
+#[cfg(test)]
+mod join_tests;
 #[cfg(test)]
 mod lookup_tests;
 #[cfg(test)]

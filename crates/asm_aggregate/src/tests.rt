@@ -14,13 +14,14 @@ use std::alloc::{AllocError, Global};
 use std::process::Abort;
 use std::test::Fail;
 
-/// A value, in few letters. A bag has these counts of e and of f.
+/// A value, in few letters. A bag has these counts of e and of f, or counts of the named texts.
 #[derive(Clone, Copy)]
 pub(crate) enum Old {
     Undef,
     Num(i64),
     Set(&'static [i64]),
     Bag(u32, u32),
+    Counts(&'static [(&'static str, u32)]),
 }
 
 /// A partial update, in few letters.
@@ -33,7 +34,7 @@ pub(crate) enum Act {
 }
 
 use Act::{Add, BagAdd, BagRemove, Remove};
-use Old::{Bag, Num, Set, Undef};
+use Old::{Bag, Counts, Num, Set, Undef};
 
 #[derive(Debug, Drop)]
 struct Zero;
@@ -69,12 +70,21 @@ fn bag_of(alloc: Global, e: u32, f: u32) -> Result<Value, Fail> {
     Ok(Value::Bag(bag))
 }
 
+fn counts_of(alloc: Global, counts: &[(&'static str, u32)]) -> Result<Value, Fail> {
+    let mut bag = ElemBag::new(alloc);
+    for (name, n) in counts {
+        put_text(alloc, &mut bag, name, *n)?;
+    }
+    Ok(Value::Bag(bag))
+}
+
 pub(crate) fn value_of(alloc: Global, value: Old) -> Result<Value, Fail> {
     match value {
         Undef => Ok(Value::Plain(Element::Undef)),
         Num(n) => Ok(Value::Plain(Element::Num(n))),
         Set(numbers) => set_of(alloc, numbers),
         Bag(e, f) => bag_of(alloc, e, f),
+        Counts(counts) => counts_of(alloc, counts),
     }
 }
 
@@ -93,7 +103,7 @@ pub(crate) fn action_of(alloc: Global, action: Act) -> Result<Action, Fail> {
     })
 }
 
-fn actions_of(alloc: Global, actions: &[Act]) -> Result<Vec<Action>, Fail> {
+pub(crate) fn actions_of(alloc: Global, actions: &[Act]) -> Result<Vec<Action>, Fail> {
     let mut list = Vec::new(alloc);
     for action in actions {
         list.push(action_of(alloc, *action)?)?;
@@ -159,7 +169,12 @@ pub(crate) fn updates_of(alloc: Global, value: Old) -> Result<UpdateSet, Fail> {
 
 /// What stands at x, what a move puts there, its partial updates there, and what the aggregator makes of them.
 #[derive(Clone, Copy)]
-struct Row(Old, &'static [Old], &'static [Act], Result<Old, Cause>);
+pub(crate) struct Row(
+    pub(crate) Old,
+    pub(crate) &'static [Old],
+    pub(crate) &'static [Act],
+    pub(crate) Result<Old, Cause>,
+);
 
 pub(crate) fn is_clash(clash: &Clash, name: &str, cause: Cause) -> bool {
     clash.at.name() == name && clash.at.args().is_empty() && clash.cause == cause
@@ -189,7 +204,7 @@ pub(crate) fn is_wanted(
 }
 
 /// What the move gives on the state, both of which are dropped.
-fn aggregate_on<A: Aggregator>(
+pub(crate) fn aggregate_on<A: Aggregator>(
     alloc: Global,
     aggregator: &A,
     state: PlainState,
@@ -205,7 +220,7 @@ fn aggregates<A: Aggregator>(alloc: Global, aggregator: &A, row: Row) -> Result<
     is_wanted(alloc, answer, row.3)
 }
 
-fn are_partial(actions: &[Action]) -> bool
+pub(crate) fn are_partial(actions: &[Action]) -> bool
     ensures { result ≡ list_all is_partial actions.now }
 {
     actions.iter().all(|action| action.family().is_some())
@@ -281,7 +296,7 @@ fn judges<A: Aggregator>(alloc: Global, aggregator: &A, row: Row) -> Result<bool
     Ok(aggregates(alloc, aggregator, row)? && (!is_group || results(alloc, aggregator, row)?))
 }
 
-fn judge_all<R: Abort, A: Aggregator>(
+pub(crate) fn judge_all<R: Abort, A: Aggregator>(
     rt: &R,
     alloc: Global,
     aggregator: &A,
@@ -364,163 +379,6 @@ fn causes_come_in_the_order_of_the_table(rt: HostRuntime) -> Result<(), Fail> {
     judge_all(&rt, rt.alloc(), &BagAgg, &A_SET_FOR_BAGS)
 }
 
-/// What is done first, what is done then, and what joins the two.
-#[derive(Clone, Copy)]
-struct Joint(
-    &'static [Act],
-    &'static [Act],
-    Result<&'static [Act], JoinError>,
-);
-
-fn are_actions(
-    alloc: Global,
-    actions: &[Action],
-    want: Result<&[Act], JoinError>,
-) -> Result<bool, Fail> {
-    match want {
-        Ok(wanted) => Ok(actions == actions_of(alloc, wanted)?.as_slice()),
-        Err(_) => Ok(false),
-    }
-}
-
-/// Whether they are the wanted actions, or it is the wanted refusal. The error is want of memory.
-fn is_joined(
-    alloc: Global,
-    answer: Result<Vec<Action>, JoinError>,
-    want: Result<&[Act], JoinError>,
-) -> Result<bool, Fail> {
-    match answer {
-        Ok(actions) => are_actions(alloc, actions.as_slice(), want),
-        Err(JoinError::Memory) => Err(Fail::from(AllocError)),
-        Err(error) => match want {
-            Ok(_) => Ok(false),
-            Err(wanted) => Ok(error == wanted),
-        },
-    }
-}
-
-fn join_by<R: Abort, A: Aggregator>(
-    rt: &R,
-    alloc: Global,
-    aggregator: &A,
-    first: &[Action],
-    second: &[Action],
-) -> Result<Vec<Action>, JoinError> {
-    assert!(rt; !first.is_empty());
-    assert!(rt; are_partial(first));
-    assert!(rt; are_partial(second));
-    aggregator.join(alloc, first, second)
-}
-
-/// What joins the two lists, which are dropped.
-fn join_of<R: Abort, A: Aggregator>(
-    rt: &R,
-    alloc: Global,
-    aggregator: &A,
-    first: Vec<Action>,
-    second: Vec<Action>,
-) -> Result<Vec<Action>, JoinError> {
-    join_by(rt, alloc, aggregator, first.as_slice(), second.as_slice())
-}
-
-fn joins<R: Abort, A: Aggregator>(
-    rt: &R,
-    alloc: Global,
-    aggregator: &A,
-    row: Joint,
-) -> Result<bool, Fail> {
-    let first = actions_of(alloc, row.0)?;
-    let second = actions_of(alloc, row.1)?;
-    let answer = join_of(rt, alloc, aggregator, first, second);
-    is_joined(alloc, answer, row.2)
-}
-
-fn join_all<R: Abort, A: Aggregator>(
-    rt: &R,
-    alloc: Global,
-    aggregator: &A,
-    rows: &[Joint],
-) -> Result<(), Fail> {
-    for (k, row) in rows.iter().enumerate() {
-        assert!(rt; joins(rt, alloc, aggregator, *row)?, "at row {k}");
-    }
-    Ok(())
-}
-
-static SET_JOINTS: [Joint; 2] = [
-    Joint(&[Add(1)], &[Add(2), Remove(1)], Ok(&[Add(2), Remove(1)])),
-    Joint(
-        &[Add(1)],
-        &[BagAdd("e", 1)],
-        Err(JoinError::Cause(Cause::Kind)),
-    ),
-];
-
-#[test]
-fn joins_of_sets(rt: HostRuntime) -> Result<(), Fail> {
-    join_all(&rt, rt.alloc(), &standard(), &SET_JOINTS)
-}
-
-static BAG_JOINTS: [Joint; 3] = [
-    Joint(
-        &[BagAdd("e", 3)],
-        &[BagRemove("e", 5)],
-        Ok(&[BagRemove("e", 2)]),
-    ),
-    Joint(
-        &[BagAdd("e", 3), BagRemove("f", 1)],
-        &[BagRemove("e", 1), BagAdd("f", 4)],
-        Ok(&[BagAdd("e", 2), BagAdd("f", 4), BagRemove("f", 1)]),
-    ),
-    Joint(
-        &[BagRemove("e", u32::MAX)],
-        &[BagRemove("e", 1)],
-        Err(JoinError::Large),
-    ),
-];
-
-#[test]
-fn joins_of_bags(rt: HostRuntime) -> Result<(), Fail> {
-    join_all(&rt, rt.alloc(), &standard(), &BAG_JOINTS)
-}
-
-static CANCELLING: [Joint; 3] = [
-    Joint(
-        &[BagRemove("e", 1)],
-        &[BagAdd("e", 1)],
-        Ok(&[BagAdd("e", 1), BagRemove("e", 1)]),
-    ),
-    Joint(&[BagAdd("e", 1)], &[BagRemove("e", 1)], Ok(&[])),
-    Joint(
-        &[Add(1), Remove(2)],
-        &[Add(2), Remove(1)],
-        Ok(&[Add(2), Remove(1)]),
-    ),
-];
-
-#[test]
-fn joins_that_cancel(rt: HostRuntime) -> Result<(), Fail> {
-    join_all(&rt, rt.alloc(), &standard(), &CANCELLING)
-}
-
-static NOTHING_AFTER: [Joint; 2] = [
-    Joint(
-        &[BagAdd("e", 1), BagAdd("e", 1)],
-        &[],
-        Ok(&[BagAdd("e", 2)]),
-    ),
-    Joint(
-        &[Add(1), Remove(1)],
-        &[],
-        Err(JoinError::Cause(Cause::Both)),
-    ),
-];
-
-#[test]
-fn joins_with_nothing_after(rt: HostRuntime) -> Result<(), Fail> {
-    join_all(&rt, rt.alloc(), &standard(), &NOTHING_AFTER)
-}
-
 /// An aggregator that owns no family.
 #[derive(Debug, Drop)]
 pub(crate) struct Nobody;
@@ -567,13 +425,10 @@ static BY_PAIRS: [Row; 2] = [
     Row(Bag(1, 0), &[], &[BagAdd("e", 1)], Ok(Bag(2, 0))),
 ];
 
-static JOINTS_BY_PAIRS: [Joint; 1] = [Joint(&[Add(1)], &[Remove(1)], Ok(&[Remove(1)]))];
-
 #[test]
 fn a_pair_of_pairs_owns_what_its_parts_own(rt: HostRuntime) -> Result<(), Fail> {
     assert!(rt; owns_both(&pairs()));
-    judge_all(&rt, rt.alloc(), &pairs(), &BY_PAIRS)?;
-    join_all(&rt, rt.alloc(), &pairs(), &JOINTS_BY_PAIRS)
+    judge_all(&rt, rt.alloc(), &pairs(), &BY_PAIRS)
 }
 
 fn two_clashes(alloc: Global) -> Result<Instructions, Fail> {

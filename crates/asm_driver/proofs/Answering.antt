@@ -193,6 +193,15 @@ none : faults (program_with []) ≡ kind.MissingSubcommand ∷ []
 unfolding clap_on_literals faults
 none = refl
 
+other_command : faults (program_with (codes "play" ∷ [])) ≡ kind.UnknownArgument ∷ kind.InvalidSubcommand ∷ []
+unfolding clap_on_literals faults
+other_command = refl
+
+neither_helps : ¬ IsAmong kind.DisplayHelp (kind.UnknownArgument ∷ kind.InvalidSubcommand ∷ [])
+neither_helps (inl h) = cc h
+neither_helps (inr (inl h)) = cc h
+neither_helps (inr (inr h)) = h
+
 check_further : faults (program_with (codes "check" ∷ codes "more" ∷ [])) ≡ kind.UnknownArgument ∷ []
 unfolding clap_on_literals faults
 check_further = refl
@@ -223,6 +232,7 @@ answers words r ok err = record {
   zero = refuses _ words _ _ r zero (no_help _ (λ e. cc (e))) ok err;
   further = refuses _ words _ _ r further (no_help _ (λ e. cc (e))) ok err;
   none = refuses _ words _ _ r none (no_help _ (λ e. cc (e))) ok err;
+  other = refuses _ words _ _ r other_command neither_helps ok err;
   check = gives _ words _ r checked ok err;
   check_further = refuses _ words _ _ r check_further (no_help _ (λ e. cc (e))) ok err;
   help = helps _ words r help ok err;

@@ -9,8 +9,10 @@ use mathlib.Core.List.{IsPrefix}
 use Rattle.asm_update.specs.Aggregator.{Meaning}
 use Rattle.asm_storage.specs.Agents.{AgentView, IsHistoryOf, event_of, id_bound, ids, moves_seen}
 use Rattle.asm_storage.specs.History.{moves, own, IsLegal}
-use Rattle.asm_storage.specs.Storage.{StorageView, AgentAt, IsOf, accounts, at_start}
+use Rattle.asm_storage.specs.Storage.{StorageView, AgentAt, IsMissing, IsOf, accounts, at_start}
 use Rattle.asm_storage.specs.Storage as storage
+use Rattle.asm_storage.specs.declared.error.CloseError.{CloseError}
+use Rattle.asm_storage.specs.declared.error.CloseError.TheVariants as close_error
 use Rattle.asm_storage.specs.declared.history.Event.{Event}
 use Rattle.asm_driver.proofs.Stepping.{are_told_later}
 use Rattle.asm_driver.proofs.ProperMoves.{proper_first}
@@ -20,10 +22,12 @@ use Rattle.asm_driver.specs.Play.{AreTurns, IsPlayOf}
 use Rattle.asm_driver.specs.Plays.{AreProper, Plays}
 use Rattle.asm_driver.specs.Standard.{standard_meaning, standard_part}
 use Rattle.asm_driver.specs.Told.{AreTold}
-use Rattle.asm_driver.specs.Turns.{ArePlayed}
+use Rattle.asm_driver.specs.Turns.{refusal_told, ArePlayed, IsNotClosed}
 use Rattle.asm_driver.specs.declared.step.Step.{Step}
 use Rattle.asm_driver.specs.declared.outcome.Outcome.{Outcome}
 use Rattle.asm_driver.specs.declared.outcome.Played.{Played}
+use Rattle.asm_driver.specs.declared.outcome.RunError.{RunError}
+use Rattle.asm_driver.specs.declared.outcome.RunError.TheVariants as run_error
 
 module _ {A : Type 0} (meaning : A → Meaning) (s : StorageView A) where
   -- each of them is of the storage
@@ -124,6 +128,25 @@ range_rises id n xs is = subst IsStrictlyIncreasing (sym is) (λ k lt.
     let here = get_or-range_with_len id n k 0 (omega (arith, lt, less)) in
     let next = get_or-range_with_len id n (k + 1) 0 (omega (arith, lt, less)) in
     omega (arith, here, next))
+
+-- a refusal to close, as an error of the run
+refusal_kept : (agents : List AgentView) (e : CloseError) → IsMissing agents e → IsNotClosed agents (refusal_told e)
+refusal_kept agents (close_error.Missing k) missing = missing
+refusal_kept agents close_error.Memory missing = tt
+
+-- the refusal to close what was lent
+pub not_closed : {A : Type 0} (lent agents : List (AgentAt A)) (e : CloseError) (r : RunError) → lent ≡ agents →
+    IsMissing (accounts lent) e → r ≡ refusal_told e → IsNotClosed (accounts agents) r
+not_closed lent agents e r same missing told =
+    subst (λ q. IsNotClosed (accounts q) r) same
+    (subst (IsNotClosed (accounts lent)) (sym told) (refusal_kept (accounts lent) e missing))
+
+-- no refusal to close is that of a capacity
+pub told_later : (e : CloseError) (r : RunError) → r ≡ refusal_told e → r ≢ run_error.BadCapacity
+told_later (close_error.Missing k) r told bad =
+    let no : run_error.Missing k ≡ run_error.BadCapacity = sym told ∙ bad in cc no
+told_later close_error.Memory r told bad =
+    let no : run_error.Memory ≡ run_error.BadCapacity = sym told ∙ bad in cc no
 
 -- the history that the agents of a script close to is a play of it
 pub closes : {A : Type 0} (meaning : A → Meaning) (s : StorageView A) (plan : Plan) (lent agents : List (AgentAt A))

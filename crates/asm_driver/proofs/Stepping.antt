@@ -1,10 +1,11 @@
 -- Steps that were played, one after another.
-use Rattle.std.proofs.Common.{◌≡◌, ◌⊎◌, inl, inr, ℕ, zero, suc, ◌+◌, ◌-◌, ◌*◌, ◌≤◌, List, [], ◌∷◌, ◌++◌, length}
+use Rattle.std.proofs.Common.{◌≡◌, ◌≢◌, inl, inr, ℕ, zero, suc, ◌+◌, ◌-◌, ◌*◌, ◌≤◌, List, [], ◌∷◌, ◌++◌, length}
 use Rattle.std.proofs.Common.{take, map, All, None, Ok, Err, append_assoc, append-nil, length-append, arith, refl, sym}
 use Rattle.std.proofs.Common.{ap, subst, ◌∙◌}
 use Rattle.std.proofs.lemmas.List.Elements.{All-nil, All-append}
 use Rattle.std.proofs.lemmas.List.{map-append, length-map, length-take}
 use mathlib.Core.List.{IsPrefix}
+use Rattle.asm_element.specs.Place.{Place}
 use Rattle.asm_update.specs.Aggregator.{Meaning}
 use Rattle.asm_update.specs.Fire.{fire}
 use Rattle.asm_update.specs.Move.{Move}
@@ -19,15 +20,16 @@ use Rattle.asm_storage.proofs.Lists.{take-prefix, length-prefix}
 use Rattle.asm_driver.specs.Plays.{AreProper, Plays}
 use Rattle.asm_driver.specs.Sequencing.{fire_blocks, step_move_on, StandsFor}
 use Rattle.asm_driver.specs.Told.{IsIdle, IsFiring, IsClashing, HasNoRoom, HasFault, Outgrows}
-use Rattle.asm_driver.specs.Told.{stale_fire, stale_fires, EndsWith}
+use Rattle.asm_driver.specs.Told.{stale_fires, reads_among, AreTries, HasTries, EndsWith}
 use Rattle.asm_driver.specs.Told.{IsTold, AreTold}
-use Rattle.asm_driver.specs.Trying.{Adds, EndsStale, IsAgain, IsEnded, Tried, IsStepPlayed}
+use Rattle.asm_driver.specs.Trying.{Adds, IsAgain, IsVain, Tried, IsStepPlayed}
 use Rattle.asm_driver.specs.declared.step.Step.{Step}
 use Rattle.asm_driver.specs.declared.step.StepFault.{StepFault}
 use Rattle.asm_driver.specs.declared.step.StepFault.TheVariants as fault
 use Rattle.asm_driver.specs.declared.outcome.Outcome.{Outcome}
 use Rattle.asm_driver.specs.declared.outcome.Outcome.TheVariants as outcome
 use Rattle.asm_driver.proofs.Properness.{proper_prefix}
+use Rattle.asm_driver.proofs.Counts.{stale_both, reads_both, tries_more, no_tries, few_reads}
 use Rattle.asm_driver.proofs.Tries.{prefix_mapped, adds_then, adds_none}
 
 -- idle events in front change nothing
@@ -40,19 +42,6 @@ idle_front P xs es idle ends = (
   ends.4,
 )
 
--- stale fires are counted in turn
-stale_both : (xs ys : List Event) → stale_fires (xs ++ ys) ≡ stale_fires xs + stale_fires ys
-stale_both [] ys = omega arith
-stale_both (x ∷ xs) ys = omega (arith, stale_both xs ys)
-
--- a try that ended stale counts
-stale_once : (id : ℕ) (more : List Receipt) → EndsStale more → 1 ≤ stale_fires (map (event_of id) more)
-stale_once id more (first, r, l, is, stale) =
-    let events : map (event_of id) more ≡ map (event_of id) first ++ event_of id r ∷ [] =
-    ap (map (event_of id)) is ∙ map-append (event_of id) first (r ∷ []) in
-    let one : stale_fire r.answer ≡ 1 = ap stale_fire stale in
-    omega (arith, ap stale_fires events, stale_both (map (event_of id) first) (event_of id r ∷ []), one)
-
 module _ (own : Meaning) (m : Machine) (q : List Move) (step : Step) where
   idle_before : (o : Outcome) (xs es : List Event) → All IsIdle xs → IsTold own m q step o es →
       IsTold own m q step o (xs ++ es)
@@ -63,8 +52,7 @@ module _ (own : Meaning) (m : Machine) (q : List Move) (step : Step) where
   idle_before outcome.Term xs es idle told = (All-append IsIdle xs es idle told.0, told.1)
   idle_before (outcome.Large l) xs es idle told = (All-append IsIdle xs es idle told.0, told.1)
   idle_before outcome.Many xs es idle told = (All-append IsIdle xs es idle told.0, told.1)
-  idle_before outcome.GaveUp xs es idle (all, (busy, lost, tries)) =
-      (All-append IsIdle xs es idle all, (busy, lost, omega (arith, tries, stale_both xs es)))
+  idle_before outcome.GaveUp xs es idle told = All-append IsIdle xs es idle told
 
 -- what was told of some moves is so of more
 module _ (own : Meaning) (m : Machine) (q r : List Move) (p : IsPrefix q r) where
@@ -134,22 +122,40 @@ module _ (own : Meaning) (m : Machine) (q r : List Move) (p : IsPrefix q r) wher
   told_later step outcome.Term es told = (told.0, fault_later step fault.Term told.1)
   told_later step (outcome.Large l) es told = (told.0, fault_later step (fault.Large l) told.1)
   told_later step outcome.Many es told = (told.0, outgrows_later step told.1)
-  told_later step outcome.GaveUp es (all, (busy, lost, tries)) =
-      (all, (busy, omega (arith, lost, length-prefix q r p), tries))
+  told_later step outcome.GaveUp es told = told
+
+  tries_later : (step : Step) (o : Outcome) (es : List Event) → HasTries q step o es → HasTries r step o es
+  tries_later step outcome.GaveUp es has = record {
+    places = has.places;
+    reads = has.reads;
+    tries = has.tries;
+    busy = has.busy;
+    lost = omega (arith, has.lost, length-prefix q r p);
+    counted = has.counted;
+  }
+  tries_later step _ es has = has
 
   pub are_told_later : (ss : List Step) (os : List Outcome) (es : List Event) → AreTold own m q ss os es →
       AreTold own m r ss os es
   are_told_later [] [] es told = told
   are_told_later [] (o ∷ os) es told = absurd told
   are_told_later (s ∷ ss) [] es told = absurd told
-  are_told_later (s ∷ ss) (o ∷ os) es told =
-      (told.0, told.1, told.2, told_later s o told.0 told.3, are_told_later ss os told.1 told.4)
+  are_told_later (s ∷ ss) (o ∷ os) es told = (
+    told.0,
+    told.1,
+    told.2,
+    told_later s o told.0 told.3,
+    tries_later s o told.0 told.4,
+    are_told_later ss os told.1 told.5,
+  )
 
 -- one step more
 are_told_more : (own : Meaning) (m : Machine) (q : List Move) (ss : List Step) (os : List Outcome)
     (es fs : List Event) (s : Step) (o : Outcome) →
-    AreTold own m q ss os es → IsTold own m q s o fs → AreTold own m q (ss ++ s ∷ []) (os ++ o ∷ []) (es ++ fs)
-are_told_more own m q [] [] es fs s o told last = (fs, [], ap (λ w. w ++ fs) told ∙ sym (append-nil fs), last, refl)
+    AreTold own m q ss os es → IsTold own m q s o fs × HasTries q s o fs →
+    AreTold own m q (ss ++ s ∷ []) (os ++ o ∷ []) (es ++ fs)
+are_told_more own m q [] [] es fs s o told last =
+    (fs, [], ap (λ w. w ++ fs) told ∙ sym (append-nil fs), last.0, last.1, refl)
 are_told_more own m q [] (p ∷ os) es fs s o told last = absurd told
 are_told_more own m q (t ∷ ss) [] es fs s o told last = absurd told
 are_told_more own m q (t ∷ ss) (p ∷ os) es fs s o told last = (
@@ -157,17 +163,25 @@ are_told_more own m q (t ∷ ss) (p ∷ os) es fs s o told last = (
   told.1 ++ fs,
   ap (λ w. w ++ fs) told.2 ∙ append_assoc told.0 told.1 fs,
   told.3,
-  are_told_more own m q ss os told.1 fs s o told.4 last,
+  told.4,
+  are_told_more own m q ss os told.1 fs s o told.5 last,
 )
 
+-- at most 1,000 tries in vain, and the last one
+few_tries : (q : List Move) (step : Step) (o : Outcome) (es : List Event) → o ≢ outcome.GaveUp →
+    stale_fires es ≤ 1000 → reads_among es ≤ 1001 → HasTries q step o es
+few_tries q step outcome.GaveUp es ended stale reads = absurd (ended refl)
+few_tries q step _ es ended stale reads = (stale, reads)
+
 -- the receipts of so many tries that ended in nothing
-record AddsIdle {A : Type 0} (n : ℕ) (old new : AgentAt A) : Type 0 where
+record AddsIdle {A : Type 0} (places : List Place) (n : ℕ) (old new : AgentAt A) : Type 0 where
   more : List Receipt
   adds : Adds old new more
   idle : All IsIdle (map (event_of old.account.id) more)
   busy : ℕ
   lost : length old.account.seen + 64 * busy ≤ length new.account.seen
-  tries : n ≤ stale_fires (map (event_of old.account.id) more) + busy
+  counted : stale_fires (map (event_of old.account.id) more) + busy ≡ n
+  tries : AreTries n places (map (event_of old.account.id) more)
 
 -- the events of receipts that were added in turn
 added_events : {A : Type 0} (old mid : AgentAt A) (xs ys : List Receipt) → IsSameAgent old mid →
@@ -177,15 +191,17 @@ added_events old mid xs ys same =
     ∙ ap (λ (i : ℕ). map (event_of old.account.id) xs ++ map (event_of i) ys) (sym same.id)
 
 -- one try more
-adds_try : {A : Type 0} (n : ℕ) (old mid new : AgentAt A) → AddsIdle n old mid → IsAgain mid new →
-    AddsIdle (suc n) old new
-adds_try n old mid new first again = record {
+adds_try : {A : Type 0} (places : List Place) (n : ℕ) (old mid new : AgentAt A) → AddsIdle places n old mid →
+    IsAgain places mid new → AddsIdle places (suc n) old new
+adds_try places n old mid new first again = record {
   more = first.more ++ again.more;
   adds = adds_then old mid new first.more again.more first.adds again.adds;
   idle = subst (All IsIdle) (sym events) (All-append IsIdle _ _ first.idle again.idle);
-  busy = counted.0;
-  lost = counted.1;
-  tries = counted.2;
+  busy = all.0;
+  lost = all.1;
+  counted = all.2;
+  tries = subst (AreTries (suc n) places) (sym events) (tries_more places n
+      (map (event_of old.account.id) first.more) (map (event_of mid.account.id) again.more) first.tries again.tries);
 } where
   events : map (event_of old.account.id) (first.more ++ again.more)
       ≡ map (event_of old.account.id) first.more ++ map (event_of mid.account.id) again.more
@@ -196,57 +212,86 @@ adds_try n old mid new first again = record {
   both = ap stale_fires events
       ∙ stale_both (map (event_of old.account.id) first.more) (map (event_of mid.account.id) again.more)
 
-  by_cause : EndsStale again.more ⊎ (length mid.account.seen + 64 ≤ length new.account.seen) →
+  by_cause : IsVain mid new again.more →
       (busy : ℕ) × (length old.account.seen + 64 * busy ≤ length new.account.seen)
-      × (suc n ≤ stale_fires (map (event_of old.account.id) (first.more ++ again.more)) + busy)
-  by_cause (inl stale) = (
+      × (stale_fires (map (event_of old.account.id) (first.more ++ again.more)) + busy ≡ suc n)
+  by_cause (inl (ends, one)) = (
     first.busy,
     omega (arith, first.lost, length-prefix mid.account.seen new.account.seen again.adds.begins),
-    omega (arith, first.tries, both, stale_once mid.account.id again.more stale),
+    omega (arith, first.counted, both, one),
   )
-  by_cause (inr longer) = (suc first.busy, omega (arith, first.lost, longer), omega (arith, first.tries, both))
+  by_cause (inr (none, longer)) =
+      (suc first.busy, omega (arith, first.lost, longer), omega (arith, first.counted, both, none))
 
-  counted : (busy : ℕ) × (length old.account.seen + 64 * busy ≤ length new.account.seen)
-      × (suc n ≤ stale_fires (map (event_of old.account.id) (first.more ++ again.more)) + busy)
-  counted = by_cause again.cause
+  all : (busy : ℕ) × (length old.account.seen + 64 * busy ≤ length new.account.seen)
+      × (stale_fires (map (event_of old.account.id) (first.more ++ again.more)) + busy ≡ suc n)
+  all = by_cause again.cause
 
-tried_adds : {A : Type 0} (n : ℕ) (old new : AgentAt A) → Tried n old new → AddsIdle n old new
-tried_adds {A} zero old new same = record {
+tried_adds : {A : Type 0} (places : List Place) (n : ℕ) (old new : AgentAt A) → Tried places n old new →
+    AddsIdle places n old new
+tried_adds {A} places zero old new same = record {
   more = [];
   adds = subst (λ (a : AgentAt A). Adds old a []) same (adds_none old);
   idle = All-nil IsIdle;
   busy = 0;
   lost = omega (arith, ap (λ (a : AgentAt A). length a.account.seen) same);
-  tries = omega arith;
+  counted = refl;
+  tries = no_tries places;
 }
-tried_adds {A} (suc n) old new (mid, before, again) = adds_try n old mid new (tried_adds n old mid before) again
+tried_adds {A} places (suc n) old new (mid, before, again) =
+    adds_try places n old mid new (tried_adds places n old mid before) again
+
+-- the receipts that the agent has more are those of all tries of a step, and tell its outcome
+record HasEnded {A : Type 0} (meaning : A → Meaning) (own : Meaning) (old new : AgentAt A) (step : Step)
+    (o : Outcome) : Type 0 where
+  more : List Receipt
+  adds : Adds old new more
+  tries : HasTries (moves_seen new.account.seen) step o (map (event_of old.account.id) more)
+  told : (meaning old.storage.agg).part ≡ own.part → AreProper old.storage.init (moves_seen new.account.seen) →
+      IsTold own (machine_of meaning old.storage) (moves_seen new.account.seen) step o
+      (map (event_of old.account.id) more)
 
 module _ {A : Type 0} (meaning : A → Meaning) (own : Meaning) where
   -- a step that was played ended
   step_ended : (old new : AgentAt A) (step : Step) (o : Outcome) → IsStepPlayed meaning own old new step o →
-      IsEnded meaning own old new step o
-  step_ended old new step o (inl (is, n, count, tried)) =
-      let all = tried_adds n old new tried in
-      subst (IsEnded meaning own old new step) (sym is)
+      HasEnded meaning own old new step o
+  step_ended old new step o (places, reads, inl (is, n, count, tried)) =
+      let all = tried_adds places n old new tried in
+      subst (HasEnded meaning own old new step) (sym is)
       (record {
         more = all.more;
         adds = all.adds;
-        told = λ same proper. (
-          all.idle,
-          (
-            all.busy,
-            omega (arith, all.lost, length-map new.account.seen (λ (x : Entry). x.instrs)),
-            omega (arith, all.tries, count),
-          ),
-        );
+        tries = record {
+          places = places;
+          reads = reads;
+          tries = subst (λ k. AreTries k places (map (event_of old.account.id) all.more)) count all.tries;
+          busy = all.busy;
+          lost = omega (arith, all.lost, length-map new.account.seen (λ (x : Entry). x.instrs));
+          counted = all.counted ∙ count;
+        };
+        told = λ same proper. all.idle;
       })
-  step_ended old new step o (inr (n, few, mid, tried, ended)) =
-      let first = tried_adds n old mid tried in
+  step_ended old new step o (places, reads, inr (n, few, mid, tried, ended)) =
+      let first = tried_adds places n old mid tried in
       let last = ended.0 in
       let q = moves_seen new.account.seen in
+      let events = added_events old mid first.more last.more first.adds.same in
+      let early = map (event_of old.account.id) first.more in
+      let late = map (event_of mid.account.id) last.more in
+      let stale : stale_fires (map (event_of old.account.id) (first.more ++ last.more)) ≤ 1000 =
+      omega (arith, ap stale_fires events, stale_both early late, first.counted, last.fresh, few) in
+      let read : reads_among (map (event_of old.account.id) (first.more ++ last.more)) ≤ 1001 = omega (
+        arith,
+        ap reads_among events,
+        reads_both early late,
+        few_reads places n early first.tries,
+        last.once,
+        few,
+      ) in
       record {
         more = first.more ++ last.more;
         adds = adds_then old mid new first.more last.more first.adds last.adds;
+        tries = few_tries q step o (map (event_of old.account.id) (first.more ++ last.more)) ended.1 stale read;
         told = λ same proper.
             let told = subst (λ (s : StorageView A). (meaning s.agg).part ≡ own.part → AreProper s.init q →
             IsTold own (machine_of meaning s) q step o (map (event_of mid.account.id) last.more))
@@ -289,7 +334,8 @@ module _ {A : Type 0} (meaning : A → Meaning) (own : Meaning) where
             let told = subst (λ (t : StorageView A). (meaning t.agg).part ≡ own.part → AreProper t.init r →
             IsTold own (machine_of meaning t) r s o (map (event_of mid.account.id) last.more)) before.same.storage
             last.told same proper in
+            let tries = last.tries in
             subst (AreTold own m r (ss ++ s ∷ []) (os ++ o ∷ []))
             (sym (added_events old mid before.more last.more before.same))
-            (are_told_more own m r ss os _ _ s o first told);
+            (are_told_more own m r ss os _ _ s o first (told, tries));
       }

@@ -34,14 +34,16 @@ use Rattle.asm_driver.specs.Plays.{AreProper}
 use Rattle.asm_driver.specs.StepReads.{AreReads}
 use Rattle.asm_driver.specs.Sequencing.{fired_or_stopped, fire_blocks, step_move_on, IsReadOf, StandsFor, IsStepMove}
 use Rattle.asm_driver.specs.Told.{IsIdle, IsFiring, IsClashing, HasNoRoom, HasFault, EndsWith, IsTold}
+use Rattle.asm_driver.specs.Told.{stale_fire, stale_fires, read_once, reads_among, AreTries}
 use Rattle.asm_driver.specs.Trying.{value_among, read_value, name_at, names_of, HasRead, HasTried, outcome_of}
-use Rattle.asm_driver.specs.Trying.{IsEndOf, Adds, IsTry}
+use Rattle.asm_driver.specs.Trying.{IsEndOf, Adds, IsAgain, IsTry}
 use Rattle.asm_driver.specs.declared.step.Step.{Step}
 use Rattle.asm_driver.specs.declared.step.StepFault.{StepFault}
 use Rattle.asm_driver.specs.declared.step.StepFault.TheVariants as fault
 use Rattle.asm_driver.specs.declared.outcome.Outcome.{Outcome}
 use Rattle.asm_driver.specs.declared.outcome.Outcome.TheVariants as outcome
 use Rattle.asm_driver.proofs.Properness.{moves_proper, proper_prefix}
+use Rattle.asm_driver.proofs.Counts.{stale_both, reads_both, tries_with, few_reads}
 use Rattle.asm_driver.proofs.Readings.{value_mapped}
 
 pub prefix_trans : {X : Type 0} (xs ys zs : List X) → IsPrefix xs ys → IsPrefix ys zs → IsPrefix xs zs
@@ -148,19 +150,55 @@ no_room_by m q reads M is = by_stale (least_stale m.part m.init q reads) refl to
   by_stale (Some l) e is = absurd (cc is)
   by_stale None e is = by_answer (fire m.part (machine_state m q) M) refl is e
 
--- an agent that read, or fired, has a receipt more
-record HasRead1 {A : Type 0} (old mid : AgentAt A) : Type 0 where
+-- a fire that names nothing isn't stale
+not_stale : (m : Machine) (q : List Move) (M : Move) (l : Place) →
+    answer.Fire (reply.Stale l) ≡ reply_to m q (call.Fire [] M) → ⊥
+not_stale m q M l is = by_answer (fire m.part (machine_state m q) M) told where
+  told : reply.Stale l ≡ firing_reply m q (fire m.part (machine_state m q) M)
+  told = cc is
+
+  not_taken : (b : Bool) → reply.Stale l ≡ cond b (reply.Fired (length q + 1)) reply.Full → ⊥
+  not_taken true is = cc is
+  not_taken false is = cc is
+
+  by_answer : (o : Result State Clash) → reply.Stale l ≡ firing_reply m q o → ⊥
+  by_answer (Ok B) is = not_taken (nat_lt (length q) m.capacity) is
+  by_answer (Err d) is = cc is
+
+-- a try of the same locations that ended, and one that is to be made again
+pub try_ended : {A : Type 0} (meaning : A → Meaning) (own : Meaning) (old new : AgentAt A) (step : Step)
+    (ps qs : List Place) (x : Option Outcome) (o : Outcome) → x ≡ Some o → IsTry meaning own old new step ps x →
+    IsTry meaning own old new step qs (Some o)
+try_ended meaning own old new step ps qs x o is tried = subst (IsTry meaning own old new step ps) is tried
+
+pub try_again : {A : Type 0} (meaning : A → Meaning) (own : Meaning) (old new : AgentAt A) (step : Step)
+    (ps qs : List Place) (x : Option Outcome) → ps ≡ qs → x ≡ None → IsTry meaning own old new step ps x →
+    IsAgain qs old new
+try_again meaning own old new step ps qs x same is tried =
+    subst (λ rs. IsAgain rs old new) same (subst (IsTry meaning own old new step ps) is tried)
+
+-- an agent that read has a receipt more, where it read anything
+record HasRead1 {A : Type 0} (places : List Place) (old mid : AgentAt A) : Type 0 where
   more : List Receipt
   adds : Adds old mid more
   idle : All IsIdle (map (event_of old.account.id) more)
+  tries : AreTries 1 places (map (event_of old.account.id) more)
+  fresh : stale_fires (map (event_of old.account.id) more) ≡ 0
+
+-- one read, of a step that reads something
+one_read : (ps : List Place) (es : List Event) → ps ≢ [] → reads_among es ≡ 1 → AreTries 1 ps es
+one_read [] es some is = absurd (some refl)
+one_read (p ∷ ps) es some is = is
 
 module _ {A : Type 0} (meaning : A → Meaning) where
   read_adds : (old mid : AgentAt A) (places : List Place) (o : Option ReadingView) →
-      HasRead meaning old mid places o → HasRead1 old mid
+      HasRead meaning old mid places o → HasRead1 places old mid
   read_adds old mid places None read = record {
     more = [];
     adds = subst (λ (a : AgentAt A). Adds old a []) (sym read.1) (adds_none old);
     idle = All-nil IsIdle;
+    tries = subst (λ (ps : List Place). AreTries 1 ps []) (sym read.0) refl;
+    fresh = refl;
   }
   read_adds old mid places (Some r) read =
       let receipt = receipt_at (length mid.account.seen) (call.Read places) (read_answer r) in
@@ -168,14 +206,16 @@ module _ {A : Type 0} (meaning : A → Meaning) where
         more = receipt ∷ [];
         adds = record {
           same = record {
-            storage = ap (λ (a : AgentAt A). a.storage) read.agent;
-            id = ap (λ (a : AgentAt A). a.account.id) read.agent;
+            storage = ap (λ (a : AgentAt A). a.storage) read.1.agent;
+            id = ap (λ (a : AgentAt A). a.account.id) read.1.agent;
           };
-          begins = read.begins;
-          added = ap (λ (a : AgentAt A). a.account.receipts) read.agent;
+          begins = read.1.begins;
+          added = ap (λ (a : AgentAt A). a.account.receipts) read.1.agent;
         };
         idle = All-cons IsIdle _ [] (idle_read old.account.id (length mid.account.seen) r.number places r.values)
             (All-nil IsIdle);
+        tries = one_read places (map (event_of old.account.id) (receipt ∷ [])) read.0 refl;
+        fresh = refl;
       }
 
   fire_adds : (mid new : AgentAt A) (reads : List Named) (M : Move) (stood : ℕ) (r : Reply) (seen : List Entry) →
@@ -210,9 +250,9 @@ module _ {A : Type 0} (meaning : A → Meaning) where
           val (machine_state m q) l ≡ read_value o l
       by_reading None none l there = absurd (omega (arith, (subst (λ (ls : List Place). Contains ls l) none.0 there).1))
       by_reading (Some r) is l there =
-          let values : r.values ≡ map (val (machine_state m here)) places = cc is.reply in
+          let values : r.values ≡ map (val (machine_state m here)) places = cc is.1.reply in
           same l there ∙ sym (value_mapped (val (machine_state m here)) places l there)
-          ∙ (λ n. value_among (sym is.locations n) (sym values n) l)
+          ∙ (λ n. value_among (sym is.1.locations n) (sym values n) l)
 
     -- the state that was read has the fault
     fault_here : (f : StepFault) → IsStepMove own (read_value reading) step (Err f) → AreProper old.storage.init here →
@@ -243,12 +283,14 @@ module _ {A : Type 0} (meaning : A → Meaning) where
     -- the try of a step that has no move
     pub ended_by_fault : (f : StepFault) (o : Outcome) → IsEndOf f o →
         IsStepMove own (read_value reading) step (Err f) →
-        IsTry meaning own old mid step (Some o)
+        IsTry meaning own old mid step places (Some o)
     ended_by_fault f o is move =
         let had = read_adds old mid places reading read in (
           record {
             more = had.more;
             adds = had.adds;
+            fresh = had.fresh;
+            once = few_reads places 1 (map (event_of old.account.id) had.more) had.tries;
             told = λ same proper.
                 fault_told f o (map (event_of old.account.id) had.more) is had.idle (fault_here f move proper);
           },
@@ -259,7 +301,7 @@ module _ {A : Type 0} (meaning : A → Meaning) where
       abbrev reads_named : List Named
       reads_named = names_of reading
 
-      had : HasRead1 old mid
+      had : HasRead1 places old mid
       had = read_adds old mid places reading read
 
       storage_is : mid.storage ≡ old.storage
@@ -275,9 +317,9 @@ module _ {A : Type 0} (meaning : A → Meaning) where
         by_reading None empty none = absurd
             (omega (arith, (subst (λ (ls : List Place). Contains ls l) empty.0 there).1))
         by_reading (Some r) is none =
-            let number : r.number ≡ length here = cc is.reply in
+            let number : r.number ≡ length here = cc is.1.reply in
             let value = fresh_value m q r none (omega (arith, number, length-prefix here q p)) l
-            (subst (λ (ls : List Place). Contains ls l) (sym is.locations) there) in
+            (subst (λ (ls : List Place). Contains ls l) (sym is.1.locations) there) in
             sym value ∙ ap (λ w. val (machine_state m w) l) (taken_prefix here q r.number number p)
 
       -- and the move stands for the step
@@ -306,6 +348,27 @@ module _ {A : Type 0} (meaning : A → Meaning) where
           (All-append IsIdle (map (event_of old.account.id) had.more) (event_of old.account.id r ∷ []) had.idle
           (All-cons IsIdle _ [] idle (All-nil IsIdle)))
 
+      -- with the receipt of a fire that wasn't stale
+      none_stale : (r : Receipt) → stale_fire r.answer ≡ 0 →
+          stale_fires (map (event_of old.account.id) (had.more ++ r ∷ [])) ≡ 0
+      none_stale r is = omega (
+        arith,
+        ap stale_fires (events_of r),
+        stale_both (map (event_of old.account.id) had.more) (event_of old.account.id r ∷ []),
+        had.fresh,
+        is,
+      )
+
+      read_at_most : (r : Receipt) → read_once r.answer ≡ 0 →
+          reads_among (map (event_of old.account.id) (had.more ++ r ∷ [])) ≤ 1
+      read_at_most r is = omega (
+        arith,
+        ap reads_among (events_of r),
+        reads_both (map (event_of old.account.id) had.more) (event_of old.account.id r ∷ []),
+        few_reads places 1 (map (event_of old.account.id) had.more) had.tries,
+        is,
+      )
+
       replied : (r : Reply) (q : List Move) →
           answer.Fire r ≡ reply_to (machine_of meaning mid.storage) q (call.Fire reads_named M) →
           answer.Fire r ≡ reply_to m q (call.Fire reads_named M)
@@ -314,7 +377,7 @@ module _ {A : Type 0} (meaning : A → Meaning) where
 
       -- the fire was answered Fired
       fired_told : (k : ℕ) → IsAnswered meaning mid new reads_named M (reply.Fired k) →
-          IsTry meaning own old new step (Some (outcome.Fired k))
+          IsTry meaning own old new step places (Some (outcome.Fired k))
       fired_told k is =
           let agent = is.agent in
           let seen = take (k - 1) new.account.seen in
@@ -339,6 +402,8 @@ module _ {A : Type 0} (meaning : A → Meaning) where
             record {
               more = had.more ++ r ∷ [];
               adds = adds_then old mid new had.more (r ∷ []) had.adds adds;
+              fresh = none_stale r refl;
+              once = read_at_most r refl;
               told = λ same proper.
                   let proper_q = proper_prefix old.storage.init q all (M ∷ [], sym moves_more) proper in
                   let stands_q = stands q proper_q before by.fresh in
@@ -377,9 +442,18 @@ module _ {A : Type 0} (meaning : A → Meaning) where
           (ap (λ (a : AgentAt A). a.account.id) agent) (ap (λ (a : AgentAt A). a.account.receipts) agent) begins
           ([], append-nil new.account.seen))
 
+      -- where a fire was stale, something was read
+      reads_some : (l : Place) → IsAnswered meaning mid new reads_named M (reply.Stale l) → places ≢ []
+      reads_some l is none =
+          by_reading reading read (replied (reply.Stale l) (moves_seen new.account.seen) is.reply) where
+            by_reading : (o : Option ReadingView) → HasRead meaning old mid places o →
+                answer.Fire (reply.Stale l) ≡ reply_to m (moves_seen new.account.seen) (call.Fire (names_of o) M) → ⊥
+            by_reading None read is = not_stale m (moves_seen new.account.seen) M l is
+            by_reading (Some r) read is = read.0 none
+
       -- the fire was answered, or it was busy
       pub ended_by_fire : (o : Option Reply) → HasTried meaning mid new reads_named M o →
-          IsTry meaning own old new step (outcome_of o)
+          IsTry meaning own old new step places (outcome_of o)
       ended_by_fire (Some (reply.Fired k)) is = fired_told k is
       ended_by_fire (Some (reply.Clash c)) is =
           let all = moves_seen new.account.seen in
@@ -389,6 +463,8 @@ module _ {A : Type 0} (meaning : A → Meaning) where
             record {
               more = had.more ++ r ∷ [];
               adds = answered_adds (reply.Clash c) is.begins is.agent;
+              fresh = none_stale r refl;
+              once = read_at_most r refl;
               told = λ same proper.
                   let stands_here = stands all proper before by.0 in
                   let whole = take_all (length all) all (omega arith) in
@@ -414,6 +490,8 @@ module _ {A : Type 0} (meaning : A → Meaning) where
             record {
               more = had.more ++ r ∷ [];
               adds = answered_adds reply.Full is.begins is.agent;
+              fresh = none_stale r refl;
+              once = read_at_most r refl;
               told = λ same proper.
                   let stands_here = stands all proper before by.fresh in
                   let whole = take_all (length all) all (omega arith) in
@@ -437,11 +515,24 @@ module _ {A : Type 0} (meaning : A → Meaning) where
           )
       ended_by_fire (Some (reply.Stale l)) is =
           let r = receipt_at (length new.account.seen) (call.Fire reads_named M) (answer.Fire (reply.Stale l)) in
+          let one : stale_fire r.answer ≡ 1 = refl in
           record {
             more = had.more ++ r ∷ [];
             adds = answered_adds (reply.Stale l) is.begins is.agent;
             idle = all_idle r (idle_stale old.account.id (length new.account.seen) reads_named M l);
-            cause = inl (had.more, r, l, refl, refl);
+            tries = subst (AreTries 1 places) (sym (events_of r))
+                (tries_with places 1 (map (event_of old.account.id) had.more) (event_of old.account.id r ∷ [])
+                (reads_some l is) had.tries refl);
+            cause = inl (
+              (had.more, r, l, refl, refl),
+              omega (
+                arith,
+                ap stale_fires (events_of r),
+                stale_both (map (event_of old.account.id) had.more) (event_of old.account.id r ∷ []),
+                had.fresh,
+                one,
+              ),
+            );
           }
       ended_by_fire None is = record {
         more = had.more ++ [];
@@ -454,5 +545,10 @@ module _ {A : Type 0} (meaning : A → Meaning) where
           added = ap (λ (a : AgentAt A). a.account.receipts) is.agent ∙ sym (append-nil mid.account.receipts);
         });
         idle = subst (λ rs. All IsIdle (map (event_of old.account.id) rs)) (sym (append-nil had.more)) had.idle;
-        cause = inr (omega (arith, is.longer, length-prefix old.account.seen mid.account.seen had.adds.begins));
+        tries = subst (λ rs. AreTries 1 places (map (event_of old.account.id) rs)) (sym (append-nil had.more))
+            had.tries;
+        cause = inr (
+          subst (λ rs. stale_fires (map (event_of old.account.id) rs) ≡ 0) (sym (append-nil had.more)) had.fresh,
+          omega (arith, is.longer, length-prefix old.account.seen mid.account.seen had.adds.begins),
+        );
       }

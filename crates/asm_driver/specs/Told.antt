@@ -74,9 +74,36 @@ abbrev pub stale_fires : List Event → ℕ
 stale_fires [] = 0
 stale_fires (e ∷ es) = stale_fire e.answer + stale_fires es
 
--- Of 1,001 tries each was stale, but for some that were busy: they lost 64 offers each, to as many moves.
-abbrev pub IsGivenUp : List Move → List Event → Type 0
-IsGivenUp q es = (busy : ℕ) × (64 * busy ≤ length q) × (1001 ≤ stale_fires es + busy)
+-- 1 for the answer of a read, else 0
+abbrev pub read_once : Answer → ℕ
+read_once (answer.Read number values) = 1
+read_once (answer.Fire r) = 0
+
+-- how many of the events are reads
+abbrev pub reads_among : List Event → ℕ
+reads_among [] = 0
+reads_among (e ∷ es) = read_once e.answer + reads_among es
+
+-- So many tries in vain of a step that reads these locations left these events: a read each; where the step reads none,
+-- no events at all.
+abbrev pub AreTries : ℕ → List Place → List Event → Type 0
+AreTries n [] es = es ≡ []
+AreTries n (p ∷ ps) es = reads_among es ≡ n
+
+-- The events are those of exactly 1,001 tries of the step. Each was answered stale, but for some that were busy: they
+-- lost 64 offers each, to as many moves.
+pub record IsGivenUp (q : List Move) (step : Step) (es : List Event) : Type 0 where
+  pub places : List Place
+  pub reads : AreReads step places
+  pub tries : AreTries 1001 places es
+  pub busy : ℕ
+  pub lost : 64 * busy ≤ length q
+  pub counted : stale_fires es + busy ≡ 1001
+
+-- the tries of a step with this outcome: 1,001 in vain where it was given up, else at most 1,000, and then the last one
+abbrev pub HasTries : List Move → Step → Outcome → List Event → Type 0
+HasTries q step outcome.GaveUp es = IsGivenUp q step es
+HasTries q step _ es = (stale_fires es ≤ 1000) × (reads_among es ≤ 1001)
 
 -- the events are idle but for the last, which is so
 abbrev pub EndsWith : (Event → Type 0) → List Event → Type 0
@@ -91,12 +118,13 @@ IsTold own m q step (outcome.Clash clash) es =
 IsTold own m q step outcome.Term es = All IsIdle es × HasFault own m q step fault.Term
 IsTold own m q step (outcome.Large l) es = All IsIdle es × HasFault own m q step (fault.Large l)
 IsTold own m q step outcome.Many es = All IsIdle es × Outgrows own m q step
-IsTold own m q step outcome.GaveUp es = All IsIdle es × IsGivenUp q es
+IsTold own m q step outcome.GaveUp es = All IsIdle es
 
--- one outcome for each step, and the events are those of the steps, in order
+-- one outcome for each step, and the events are those of the steps' tries, in order
 abbrev pub AreTold : Meaning → Machine → List Move → List Step → List Outcome → List Event → Type 0
 AreTold own m q [] [] es = es ≡ []
 AreTold own m q [] (o ∷ os) es = ⊥
 AreTold own m q (s ∷ ss) [] es = ⊥
 AreTold own m q (s ∷ ss) (o ∷ os) es =
-    (mine rest : List Event) × (es ≡ mine ++ rest) × IsTold own m q s o mine × AreTold own m q ss os rest
+    (mine rest : List Event) × (es ≡ mine ++ rest) × IsTold own m q s o mine × HasTries q s o mine
+    × AreTold own m q ss os rest

@@ -18,7 +18,8 @@ use Rattle.asm_storage.specs.declared.call.Reply.{Reply}
 use Rattle.asm_storage.specs.declared.call.Reply.TheVariants as reply
 use Rattle.asm_storage.specs.declared.receipt.Receipt.{Receipt}
 use Rattle.asm_driver.specs.Plays.{AreProper}
-use Rattle.asm_driver.specs.Told.{IsIdle, IsTold}
+use Rattle.asm_driver.specs.StepReads.{AreReads}
+use Rattle.asm_driver.specs.Told.{stale_fires, reads_among, AreTries, IsIdle, IsTold}
 use Rattle.asm_driver.specs.declared.step.Step.{Step}
 use Rattle.asm_driver.specs.declared.step.StepFault.{StepFault}
 use Rattle.asm_driver.specs.declared.step.StepFault.TheVariants as fault
@@ -45,10 +46,10 @@ abbrev pub names_of : Option ReadingView → List Named
 names_of None = []
 names_of (Some r) = map (name_at r.number) r.places
 
--- the read of a step: there is none where it reads no location
+-- the read of a step: there is none where, and only where, it reads no location
 abbrev pub HasRead : {A : Type 0} → (A → Meaning) → AgentAt A → AgentAt A → List Place → Option ReadingView → Type 0
 HasRead meaning old new places None = (places ≡ []) × (new ≡ old)
-HasRead meaning old new places (Some r) = IsRead meaning old new places r
+HasRead meaning old new places (Some r) = (places ≢ []) × IsRead meaning old new places r
 
 -- 64 offers were lost: as many entries more were seen at least
 pub record WasBusy {A : Type 0} (old new : AgentAt A) : Type 0 where
@@ -88,34 +89,52 @@ abbrev pub EndsStale : List Receipt → Type 0
 EndsStale more = (first : List Receipt) × (r : Receipt) × (l : Place) × (more ≡ first ++ r ∷ [])
     × (r.answer ≡ answer.Fire (reply.Stale l))
 
--- a try that ended in nothing: its fire was stale or busy
-pub record IsAgain {A : Type 0} (old new : AgentAt A) : Type 0 where
+-- why a try ended in nothing: it left one stale fire, which is its last receipt, or none, as 64 offers were lost
+abbrev pub IsVain : {A : Type 0} → AgentAt A → AgentAt A → List Receipt → Type 0
+IsVain old new more =
+    (EndsStale more × (stale_fires (map (event_of old.account.id) more) ≡ 1))
+    ⊎ ((stale_fires (map (event_of old.account.id) more) ≡ 0)
+    × (length old.account.seen + 64 ≤ length new.account.seen))
+
+-- a try, of a step that reads these locations, that ended in nothing: its fire was stale or busy
+pub record IsAgain {A : Type 0} (places : List Place) (old new : AgentAt A) : Type 0 where
   pub more : List Receipt
   pub adds : Adds old new more
   pub idle : All IsIdle (map (event_of old.account.id) more)
-  pub cause : EndsStale more ⊎ (length old.account.seen + 64 ≤ length new.account.seen)
+  pub tries : AreTries 1 places (map (event_of old.account.id) more)
+  pub cause : IsVain old new more
 
--- the receipts that the agent has more tell the step's outcome
+-- the receipts that the agent has more are those of one try, and tell the step's outcome
 pub record IsEnded {A : Type 0} (meaning : A → Meaning) (own : Meaning) (old new : AgentAt A) (step : Step)
     (o : Outcome) : Type 0 where
   pub more : List Receipt
   pub adds : Adds old new more
+  pub fresh : stale_fires (map (event_of old.account.id) more) ≡ 0
+  pub once : reads_among (map (event_of old.account.id) more) ≤ 1
   pub told : (meaning old.storage.agg).part ≡ own.part → AreProper old.storage.init (moves_seen new.account.seen) →
       IsTold own (machine_of meaning old.storage) (moves_seen new.account.seen) step o
       (map (event_of old.account.id) more)
 
 -- one try of a step: it ended with an outcome, which isn't that it was given up, or is to be tried again
-abbrev pub IsTry : {A : Type 0} → (A → Meaning) → Meaning → AgentAt A → AgentAt A → Step → Option Outcome → Type 0
-IsTry meaning own old new step None = IsAgain old new
-IsTry meaning own old new step (Some o) = IsEnded meaning own old new step o × (o ≢ outcome.GaveUp)
+abbrev pub IsTry : {A : Type 0} → (A → Meaning) → Meaning → AgentAt A → AgentAt A → Step → List Place →
+    Option Outcome → Type 0
+IsTry meaning own old new step places None = IsAgain places old new
+IsTry meaning own old new step places (Some o) = IsEnded meaning own old new step o × (o ≢ outcome.GaveUp)
 
--- so many tries in a row ended in nothing
-abbrev pub Tried : {A : Type 0} → ℕ → AgentAt A → AgentAt A → Type 0
-Tried zero old new = old ≡ new
-Tried {A} (suc n) old new = (mid : AgentAt A) × Tried n old mid × IsAgain mid new
+-- so many tries in a row, of a step that reads these locations, ended in nothing
+abbrev pub Tried : {A : Type 0} → List Place → ℕ → AgentAt A → AgentAt A → Type 0
+Tried places zero old new = old ≡ new
+Tried {A} places (suc n) old new = (mid : AgentAt A) × Tried places n old mid × IsAgain places mid new
+
+-- a step that reads these locations was given up after 1,001 tries, or ended after at most 1,000 in nothing
+abbrev pub IsPlayedBy : {A : Type 0} → (A → Meaning) → Meaning → AgentAt A → AgentAt A → Step → Outcome →
+    List Place → Type 0
+IsPlayedBy {A} meaning own old new step o places =
+    ((o ≡ outcome.GaveUp) × (n : ℕ) × (n ≡ 1001) × Tried places n old new)
+    ⊎ ((n : ℕ) × (n ≤ 1000) × (mid : AgentAt A) × Tried places n old mid
+    × IsTry meaning own mid new step places (Some o))
 
 -- A step was played: it was given up after 1,001 tries that ended in nothing, or ended after at most 1,000 of them.
 abbrev pub IsStepPlayed : {A : Type 0} → (A → Meaning) → Meaning → AgentAt A → AgentAt A → Step → Outcome → Type 0
-IsStepPlayed {A} meaning own old new step o =
-    ((o ≡ outcome.GaveUp) × (n : ℕ) × (n ≡ 1001) × Tried n old new)
-    ⊎ ((n : ℕ) × (n ≤ 1000) × (mid : AgentAt A) × Tried n old mid × IsTry meaning own mid new step (Some o))
+IsStepPlayed meaning own old new step o =
+    (places : List Place) × AreReads step places × IsPlayedBy meaning own old new step o places

@@ -1,7 +1,10 @@
 -- What the agents of a storage leave when each played its steps, and how faults of playing are told.
 use Rattle.std.specs.Prelude.{◌+◌, ℕ, List, [], ◌∷◌, get_or}
 use Rattle.asm_update.specs.Aggregator.{Meaning}
-use Rattle.asm_storage.specs.Storage.{AgentAt, StorageView, at_start}
+use Rattle.asm_storage.specs.Agents.{AgentView}
+use Rattle.asm_storage.specs.Storage.{AgentAt, StorageView, at_start, IsMissing}
+use Rattle.asm_storage.specs.declared.error.CloseError.{CloseError}
+use Rattle.asm_storage.specs.declared.error.CloseError.TheVariants as close_error
 use Rattle.asm_driver.specs.Plays.{Plays}
 use Rattle.asm_driver.specs.declared.outcome.Outcome.{Outcome}
 use Rattle.asm_driver.specs.declared.outcome.RunError.{RunError}
@@ -26,3 +29,16 @@ ArePlayed meaning own s id _ _ _ = ⊥
 abbrev pub fault_told : Fault → RunError
 fault_told NoThread = run_error.NoThread
 fault_told Memory = run_error.Memory
+
+-- a refusal to close as an error of the run
+abbrev pub refusal_told : CloseError → RunError
+refusal_told (close_error.Missing k) = run_error.Missing k
+refusal_told close_error.Memory = run_error.Memory
+
+-- why these agents weren't closed: the move without a receipt is the one that their storage tells, and else memory was
+-- wanting
+abbrev pub IsNotClosed : List AgentView → RunError → Type 0
+IsNotClosed agents (run_error.Missing k) = IsMissing agents (close_error.Missing k)
+IsNotClosed agents run_error.Memory = Unit {0}
+IsNotClosed agents run_error.NoThread = ⊥
+IsNotClosed agents run_error.BadCapacity = ⊥

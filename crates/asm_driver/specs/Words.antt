@@ -146,6 +146,7 @@ pub record Answers (words : Words) (r : Result Request WordsError) : Type 0 wher
   pub zero : words ≡ run_with (codes "--capacity" ∷ codes "0" ∷ []) → RefusesWords r
   pub further : words ≡ run_with (codes "more" ∷ []) → RefusesWords r
   pub none : words ≡ program_with [] → RefusesWords r
+  pub other : words ≡ program_with (codes "play" ∷ []) → RefusesWords r
   pub check : words ≡ program_with (codes "check" ∷ []) → Gives Check r
   pub check_further : words ≡ program_with (codes "check" ∷ codes "more" ∷ []) → RefusesWords r
   pub help : words ≡ program_with (codes "--help" ∷ []) → Helps r

@@ -1,5 +1,5 @@
 -- What a list of jobs gives.
-use Rattle.std.specs.Prelude.{List, [], ◌∷◌}
+use Rattle.std.specs.Prelude.{List, [], ◌∷◌, Result, Ok, Err}
 use Rattle.asm_driver.specs.declared.workers.Fault.{Fault}
 use Rattle.asm_driver.specs.declared.workers.Fault.TheVariants.{NoThread, Memory}
 
@@ -14,3 +14,11 @@ GivesEach gives (j ∷ jobs) [] = ⊥
 abbrev pub told_first : Fault → Fault → Fault
 told_first NoThread _ = NoThread
 told_first Memory other = other
+
+-- the fault that is told of two halves: that of one, the first to be told of two, and want of memory where there is
+-- none, as what both gave was to be put together
+abbrev pub fault_of_both : {X Y : Type 0} → Result X Fault → Result Y Fault → Fault
+fault_of_both (Ok x) (Ok y) = Memory
+fault_of_both (Ok x) (Err g) = g
+fault_of_both (Err f) (Ok y) = f
+fault_of_both (Err f) (Err g) = told_first f g

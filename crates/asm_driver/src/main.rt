@@ -4,8 +4,16 @@
 pub mod aggregator;
 pub mod block;
 pub mod commands;
+#[cfg(test)]
+mod example_tests;
 pub mod gate;
+#[cfg(test)]
+mod gate_tests;
 pub mod input;
+#[cfg(test)]
+mod journal_tests;
+#[cfg(test)]
+mod meeting_tests;
 pub mod noted;
 pub mod outcome;
 pub mod output;
@@ -18,7 +26,11 @@ mod port_tests;
 pub mod program;
 mod proper;
 pub mod refusal;
+#[cfg(test)]
+mod refusal_tests;
 pub mod report;
+#[cfg(test)]
+mod run_tests;
 pub mod script;
 #[cfg(test)]
 mod script_tests;

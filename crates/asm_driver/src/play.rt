@@ -1,11 +1,11 @@
 //! Playing a script: its agents on one storage, each on a thread of its own.
 ghost use Rattle.std.specs.Prelude.{◌≡◌, ◌≢◌, ◌↔◌, ◌≤◌, List, [], IfOk, IfErr, IsErrOf, get_or, length, map};
 ghost use Rattle.std.specs.List.{range_with_len};
-ghost use Rattle.asm_storage.specs.Storage.{at_start};
+ghost use Rattle.asm_storage.specs.Storage.{accounts, at_start};
 ghost use Rattle.asm_driver.specs.Play.{IsNoCapacity, IsPlayOf};
 ghost use Rattle.asm_driver.specs.Plays.{Plays};
 ghost use Rattle.asm_driver.specs.Standard.{standard_meaning, standard_part};
-ghost use Rattle.asm_driver.specs.Turns.{steps_at, fault_told, ArePlayed};
+ghost use Rattle.asm_driver.specs.Turns.{steps_at, fault_told, refusal_told, ArePlayed, IsNotClosed};
 ghost use Rattle.asm_driver.specs.Works.{GivesEach};
 
 use crate::aggregator::{Standard, chosen};
@@ -36,6 +36,17 @@ impl From<Fault> for RunError {
         match fault {
             Fault::NoThread => RunError::NoThread,
             Fault::Memory => RunError::Memory,
+        }
+    }
+}
+
+impl From<CloseError> for RunError {
+    ghost from_gives = { λ e r. r ≡ refusal_told e };
+
+    fn from(error: CloseError) -> RunError {
+        match error {
+            CloseError::Missing(number) => RunError::Missing(number),
+            CloseError::Memory => RunError::Memory,
         }
     }
 }
@@ -189,6 +200,7 @@ fn closed<'s>(
         script.now.agents ended.agents.items ended.outcomes.items }
     ensures played { IfOk result (IsPlayOf script.now (length storage.now.row)) }
     ensures later { IfErr result (λ e. e ≢ RunError.BadCapacity) }
+    ensures missing { IfErr result (IsNotClosed (accounts ended.entry.agents.items)) }
 {
     let Ended { agents, outcomes } = ended;
     match storage.close(alloc, agents.as_slice()) {
@@ -199,8 +211,7 @@ fn closed<'s>(
                 outcomes: Items::new(outcomes),
             })
         }
-        Err(CloseError::Missing(number)) => Err(RunError::Missing(number)),
-        Err(CloseError::Memory) => Err(RunError::Memory),
+        Err(error) => Err(RunError::from(error)),
     }
 }
 

@@ -188,12 +188,32 @@ fn an_input_of_one_byte_at_a_time(rt: HostRuntime) -> Result<(), Fail> {
 
 /// Takes as many bytes as it has room for. Then a write takes none, or fails; its flush may fail.
 #[derive(Drop)]
-struct Short {
+pub(crate) struct Short {
     taken: Vec<u8>,
     room: usize,
     fails: bool,
     flushes: bool,
     calls: usize,
+}
+
+impl Short {
+    /// With so much room, after which it fails or not, and whose flush works or not.
+    pub(crate) fn new(
+        alloc: Global,
+        (room, fails, flushes): (usize, bool, bool),
+    ) -> Result<Short, AllocError> {
+        Ok(Short {
+            taken: Vec::with_capacity(alloc, 512)?,
+            room,
+            fails,
+            flushes,
+            calls: 0,
+        })
+    }
+
+    pub(crate) fn taken(&self) -> &[u8] {
+        self.taken.as_slice()
+    }
 }
 
 impl Write for Short {
@@ -229,18 +249,12 @@ impl Write for Short {
 fn fails_over<T: Threads + Wait + Sync>(
     rt: &T,
     alloc: Global,
-    (room, fails, flushes): (usize, bool, bool),
+    ending: (usize, bool, bool),
     calls: usize,
     text: &str,
 ) -> Result<bool, AllocError> {
     let mut input = ONE_PUT.as_bytes();
-    let mut output = Short {
-        taken: Vec::with_capacity(alloc, 64)?,
-        room,
-        fails,
-        flushes,
-        calls: 0,
-    };
+    let mut output = Short::new(alloc, ending)?;
     let status = status_of(rt, alloc, "run", &mut input, &mut output)?;
     if matches!(output.taken.as_slice().first(), Some(b'o')) {
         return Err(AllocError);

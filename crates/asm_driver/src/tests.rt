@@ -13,11 +13,11 @@ use std::sync::Wait;
 use std::test::Fail;
 use std::thread::Threads;
 
-const RUN: [&str; 2] = ["asm_driver", "run"];
+pub(crate) const RUN: [&str; 2] = ["asm_driver", "run"];
 
-const JOURNAL: [&str; 3] = ["asm_driver", "run", "--journal"];
+pub(crate) const JOURNAL: [&str; 3] = ["asm_driver", "run", "--journal"];
 
-const CHECK: [&str; 2] = ["asm_driver", "check"];
+pub(crate) const CHECK: [&str; 2] = ["asm_driver", "check"];
 
 const ONE_PUT: &str = r#"{"init":[],"agents":[[[[["put",["x"],1]]]]]}"#;
 
@@ -35,7 +35,7 @@ pub(crate) fn words_of(alloc: Global, words: &[&str]) -> Result<Vec<String>, All
 
 /// The status and what is written. The error is want of memory, also where the program tells of it: an output for
 /// which there is none is a fault to the program.
-fn run<T: Threads + Wait + Sync>(
+pub(crate) fn run<T: Threads + Wait + Sync>(
     rt: &T,
     alloc: Global,
     words: &[&str],
@@ -51,7 +51,7 @@ fn run<T: Threads + Wait + Sync>(
 }
 
 /// Whether the program ends with this status, and writes this.
-fn ends<T: Threads + Wait + Sync>(
+pub(crate) fn ends<T: Threads + Wait + Sync>(
     rt: &T,
     alloc: Global,
     words: &[&str],
@@ -64,7 +64,7 @@ fn ends<T: Threads + Wait + Sync>(
 
 /// The first of the rows, each an input and what is to be written, with which the program doesn't end so; none where it
 /// does with each of them.
-fn first_wrong<T: Threads + Wait + Sync>(
+pub(crate) fn first_wrong<T: Threads + Wait + Sync>(
     rt: &T,
     alloc: Global,
     words: &[&str],
@@ -231,7 +231,10 @@ fn reports_of_sequences(rt: HostRuntime) -> Result<(), Fail> {
     Ok(())
 }
 
-const SEQUENCE_JOURNAL: &str =
+pub(crate) const SEQUENCE: &str =
+    r#"{"init":[[["s"],{"set":[]}]],"agents":[[[[["add",["s"],1]],[["put",["y"],{"val":["s"]}]]]]]}"#;
+
+pub(crate) const SEQUENCE_JOURNAL: &str =
     r#"{"agents":1,"capacity":4096,"events":2,"init":[[["s"],{"set":[]}]],"version":1}
 {"agent":0,"call":{"read":[["s"]]},"reply":{"number":0,"values":[{"set":[]}]}}
 {"agent":0,"call":{"fire":[["add",["s"],1],["put",["y"],{"set":[1]}]],"reads":[[["s"],0]]},"reply":{"fired":1}}
@@ -249,10 +252,7 @@ static JOURNALS: [(&str, &str); 3] = [
 {"agent":0,"call":{"fire":[["put",["x"],1]],"reads":[]},"reply":{"fired":1}}
 "#,
     ),
-    (
-        r#"{"init":[[["s"],{"set":[]}]],"agents":[[[[["add",["s"],1]],[["put",["y"],{"val":["s"]}]]]]]}"#,
-        SEQUENCE_JOURNAL,
-    ),
+    (SEQUENCE, SEQUENCE_JOURNAL),
 ];
 
 #[test]
@@ -338,7 +338,7 @@ fn texts_that_are_no_journals(rt: HostRuntime) -> Result<(), Fail> {
 }
 
 /// A script of so many agents with so many steps each, all alike.
-fn script_of(
+pub(crate) fn script_of(
     alloc: Global,
     init: &str,
     agents: usize,
@@ -366,7 +366,7 @@ fn script_of(
 
 const BAG_STEP: &str = r#"[[["bagadd",["b"],"e",1]]]"#;
 
-const SUM_STEP: &str = r#"[[["put",["n"],{"sum":[{"val":["n"]},1]}]]]"#;
+pub(crate) const SUM_STEP: &str = r#"[[["put",["n"],{"sum":[{"val":["n"]},1]}]]]"#;
 
 #[test]
 fn agents_share_the_storage(rt: HostRuntime) -> Result<(), Fail> {

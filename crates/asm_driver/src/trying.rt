@@ -145,7 +145,7 @@ impl<'a, A: Aggregator + Sync + Drop, P: Passage> Player<'a, A, P> {
         requires few { length places.now ≤ 256 }
         requires reads { AreReads step.now places.now }
         ensures { IfOk result (
-            IsTry A.meaning (A.meaning self.now.aggregator.now) agent.old agent.new step.now) }
+            IsTry A.meaning (A.meaning self.now.aggregator.now) agent.old agent.new step.now places.now) }
     {
         keeps_laws(self.aggregator);
         let reading = self.read(rt, agent, calls, places)?;

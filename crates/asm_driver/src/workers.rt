@@ -1,8 +1,8 @@
 //! Jobs, each done on a thread of its own.
-ghost use Rattle.std.specs.Prelude.{◌≡◌, ◌<◌, ◌++◌, IfOk, IsOkAnd, vec_len};
+ghost use Rattle.std.specs.Prelude.{◌≡◌, ◌<◌, ◌++◌, IfOk, IfErr, IsOkAnd, vec_len};
 ghost use Rattle.std.specs.Thread.{IsSync};
 ghost use denote.Param.Send.{IsSend};
-ghost use Rattle.asm_driver.specs.Works.{GivesEach, told_first};
+ghost use Rattle.asm_driver.specs.Works.{GivesEach, told_first, fault_of_both};
 ghost use Rattle.asm_driver.specs.declared.workers.Fault.TheVariants as faults;
 
 use std::alloc::{AllocError, AllocFailed, Global};
@@ -160,14 +160,16 @@ fn joined<X: Drop>(
     first: Result<Vec<X>, Fault>,
     second: Result<Vec<X>, Fault>,
 ) -> Result<Vec<X>, Fault>
-    ensures { IfOk result (λ done. IsOkAnd first (λ a. IsOkAnd second (λ b. done.items ≡ a.items ++ b.items))) }
+    ensures done { IfOk result (λ done. IsOkAnd first (λ a. IsOkAnd second (λ b. done.items ≡ a.items ++ b.items))) }
+    ensures fault { IfErr result (λ f. f ≡ fault_of_both first second) }
 {
     match (first, second) {
         (Ok(mut done), Ok(mut more)) => {
             done.append(&mut more)?;
             Ok(done)
         }
-        (Ok(_), Err(fault)) | (Err(fault), Ok(_)) => Err(fault),
+        (Ok(_), Err(fault)) => Err(fault),
+        (Err(fault), Ok(_)) => Err(fault),
         (Err(fault), Err(other)) => Err(fault.first(other)),
     }
 }

@@ -14,6 +14,7 @@ use Rattle.asm_journal.specs.Text.{header_with}
 abbrev pub IsJson : List ℕ → Data → Type 0
 IsJson bytes d = IsUtf8 bytes × (read bytes ≡ Some d)
 
+-- none of the bytes is a line feed
 abbrev pub HasNoLineFeed : List ℕ → Type 0
 HasNoLineFeed bytes = All (λ b. b ≢ 10) bytes
 

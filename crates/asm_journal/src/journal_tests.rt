@@ -16,19 +16,20 @@ pub(crate) const BLOCKS: &str =
 "#;
 
 /// Two agents that fire at different locations.
-const AGENTS: &str = r#"{"agents":2,"capacity":8,"events":2,"init":[],"version":1}
+pub(crate) const AGENTS: &str = r#"{"agents":2,"capacity":8,"events":2,"init":[],"version":1}
 {"agent":1,"call":{"fire":[["put",["y"],1]],"reads":[]},"reply":{"fired":1}}
 {"agent":0,"call":{"fire":[["put",["x"],1]],"reads":[]},"reply":{"fired":2}}
 "#;
 
 /// A read that is stale after a write of the same value.
-const SAME_VALUE: &str = r#"{"agents":2,"capacity":8,"events":3,"init":[[["x"],7]],"version":1}
+pub(crate) const SAME_VALUE: &str =
+    r#"{"agents":2,"capacity":8,"events":3,"init":[[["x"],7]],"version":1}
 {"agent":0,"call":{"read":[["x"]]},"reply":{"number":0,"values":[7]}}
 {"agent":1,"call":{"fire":[["put",["x"],7]],"reads":[]},"reply":{"fired":1}}
 {"agent":0,"call":{"fire":[["put",["y"],1]],"reads":[[["x"],0]]},"reply":{"stale":["x"]}}
 "#;
 
-fn location(alloc: Global, name: &str) -> Result<Location, Fail> {
+pub(crate) fn location(alloc: Global, name: &str) -> Result<Location, Fail> {
     Ok(Location::new(String::from_str(alloc, name)?, Vec::new(alloc))?)
 }
 
@@ -97,17 +98,21 @@ fn blocks(alloc: Global) -> Result<History, Fail> {
 }
 
 /// Whether the history fits a journal and is written as this text.
-fn is_written(alloc: Global, history: &History, text: &str) -> Result<bool, AllocError> {
+pub(crate) fn is_written(alloc: Global, history: &History, text: &str) -> Result<bool, AllocError> {
     Ok(history.fits() && to_text(alloc, history)?.as_str() == text)
 }
 
 /// Whether the text is read as this history.
-fn is_read(alloc: Global, text: &str, history: &History) -> Result<bool, JournalError> {
+pub(crate) fn is_read(alloc: Global, text: &str, history: &History) -> Result<bool, JournalError> {
     Ok(from_text(alloc, text.as_bytes())? == *history)
 }
 
 /// Whether the text is read as a history that is judged so, and is written as the same text.
-fn goes_both_ways(alloc: Global, text: &str, told: Legality) -> Result<bool, JournalError> {
+pub(crate) fn goes_both_ways(
+    alloc: Global,
+    text: &str,
+    told: Legality,
+) -> Result<bool, JournalError> {
     let history = from_text(alloc, text.as_bytes())?;
     Ok(check(alloc, &standard(), &history)? == told && is_written(alloc, &history, text)?)
 }
@@ -134,7 +139,7 @@ fn journals_are_read_judged_and_written(rt: HostRuntime) -> Result<(), Fail> {
 }
 
 /// The first fault of a text, or none.
-fn fault_of(alloc: Global, text: &[u8]) -> Result<Option<JournalError>, AllocError> {
+pub(crate) fn fault_of(alloc: Global, text: &[u8]) -> Result<Option<JournalError>, AllocError> {
     match from_text(alloc, text) {
         Ok(_) => Ok(None),
         Err(JournalError::Memory) => Err(AllocError),

@@ -39,7 +39,15 @@ pub use writing::to_text;
 #[cfg(test)]
 mod check_tests;
 #[cfg(test)]
+mod clash_tests;
+#[cfg(test)]
+mod closing_tests;
+#[cfg(test)]
+mod equality_tests;
+#[cfg(test)]
 mod form_tests;
+#[cfg(test)]
+mod header_tests;
 #[cfg(test)]
 mod journal_tests;
 #[cfg(test)]

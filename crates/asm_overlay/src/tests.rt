@@ -193,6 +193,27 @@ fn gives<L: Lookup>(
     })
 }
 
+/// Whether what shows the one value is equal to what shows the other.
+fn are_equal_held(one: Option<i64>, other: Option<i64>) -> bool {
+    let (one, other) = (value(one), value(other));
+    Seen::Held(&one) == Seen::Held(&other)
+}
+
+fn is_held_equal_to_below(number: Option<i64>) -> bool {
+    let held = value(number);
+    Seen::Held(&held) == Seen::Below
+}
+
+#[test]
+fn what_is_seen_is_equal_by_its_value(rt: HostRuntime) {
+    assert!(rt; are_equal_held(Some(1), Some(1)));
+    assert!(rt; are_equal_held(None, None));
+    assert!(rt; !are_equal_held(Some(1), Some(2)));
+    assert!(rt; !are_equal_held(Some(1), None));
+    assert!(rt; !is_held_equal_to_below(Some(1)));
+    assert!(rt; !is_held_equal_to_below(None));
+}
+
 #[test]
 fn undef_in_a_frame_hides_the_value_below(rt: HostRuntime) -> Result<(), Fail> {
     let alloc = rt.alloc();

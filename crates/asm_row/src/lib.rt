@@ -8,6 +8,8 @@
 //! holds the row and follows it in one value keeps a `Progress` in place of a seat.
 #![tactic(auto)]
 
+#[cfg(test)]
+mod drop_tests;
 mod known;
 mod mark;
 mod progress;

@@ -266,3 +266,70 @@ fn a_follow_of_16_updates_writes_all_or_nothing(rt: HostRuntime) -> Result<(), F
 fn a_follow_of_4096_updates_writes_all_or_nothing(rt: HostRuntime) -> Result<(), Fail> {
     follow_writes_all_or_nothing(&rt, rt.alloc(), 4096)
 }
+
+/// A verdict that tells that the location of this name is stale.
+fn stale_at(alloc: Global, name: &str) -> Result<Verdict, Fail> {
+    Ok(Verdict::Stale(location(alloc, name)?))
+}
+
+fn are_equal(alloc: Global, one: &str, two: &str) -> Result<bool, Fail> {
+    let one = stale_at(alloc, one)?;
+    let two = stale_at(alloc, two)?;
+    Ok(one == two)
+}
+
+#[test]
+fn stale_verdicts_are_equal_at_one_location_alone(rt: HostRuntime) -> Result<(), Fail> {
+    assert!(rt; are_equal(rt.alloc(), "x", "x")?);
+    assert!(rt; !are_equal(rt.alloc(), "x", "y")?);
+    Ok(())
+}
+
+/// A state where a move wrote n(0), n(1) and so on, 256 locations.
+fn written_at_256<R: Abort>(rt: &R, alloc: Global) -> Result<State, Fail> {
+    let puts = many_puts(alloc, 256)?;
+    let mut state = half_held(alloc, 256)?;
+    assert!(rt; state.number() == 0);
+    state.follow(alloc, &standard(), &puts)?;
+    Ok(state)
+}
+
+/// Reads of n(0), n(1) and so on, 256 of them, at number 1, and those from this one on at number 0.
+fn reads_stale_from(alloc: Global, first: i64) -> Result<Vec<Named>, Fail> {
+    let mut named = Vec::new(alloc);
+    for n in 0i64..256 {
+        let at = location_at(alloc, n)?;
+        let number = if n < first { 1 } else { 0 };
+        named.push(Named { at, number })?;
+    }
+    Ok(named)
+}
+
+/// What becomes of a move that writes undef at y, and names those reads.
+fn verdict_from(alloc: Global, state: &State, first: i64) -> Result<Verdict, Fail> {
+    let named = reads_stale_from(alloc, first)?;
+    let instructions = move_of(alloc, &[Put("y", None)])?;
+    Ok(state.judge(alloc, &standard(), named.as_slice(), &instructions)?)
+}
+
+fn is_stale_from(alloc: Global, state: &State, first: i64) -> Result<bool, Fail> {
+    let at = location_at(alloc, first)?;
+    let verdict = verdict_from(alloc, state, first)?;
+    Ok(verdict == Verdict::Stale(at))
+}
+
+fn is_ready(alloc: Global, state: &State) -> Result<bool, Fail> {
+    let verdict = verdict_from(alloc, state, 256)?;
+    Ok(is_wanted(&verdict, Want::Undef("y")))
+}
+
+#[test]
+fn each_of_256_reads_is_judged(rt: HostRuntime) -> Result<(), Fail> {
+    let (rt, alloc) = (&rt, rt.alloc());
+    let state = written_at_256(rt, alloc)?;
+    assert!(rt; is_ready(alloc, &state)?);
+    for first in [255i64, 100, 0] {
+        assert!(rt; is_stale_from(alloc, &state, first)?, "from {first}");
+    }
+    Ok(())
+}

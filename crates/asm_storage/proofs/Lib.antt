@@ -7,6 +7,7 @@ pub mod Kept
 pub mod Legal
 pub mod Lists
 pub mod Moves
+pub mod Numbered
 pub mod Own
 pub mod Places
 pub mod Rounds

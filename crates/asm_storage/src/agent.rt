@@ -139,7 +139,7 @@ impl<'s, A: Aggregator + Sync + Drop> Agent<'s, A> {
     /// It looks at the row until it finds nothing more, has its state follow what it found, and keeps a
     /// receipt. `ReadError::ManyLocations` comes exactly for more locations, before anything else; `Memory`
     /// only where memory was refused. After an error no receipt was added, and after `Memory` it may have
-    /// seen more.
+    /// seen more. Contracts don't tell what stands in the row: that a read adds no move there is tested.
     pub fn read(&mut self, alloc: Global, places: &[Location]) -> Result<Reading, ReadError>
         ensures same { IsSameAgent self.old self.new }
         ensures answered { IfOk result (IsRead A.meaning self.old self.new places.now) }
@@ -167,8 +167,11 @@ impl<'s, A: Aggregator + Sync + Drop> Agent<'s, A> {
     ///
     /// `FireError::ManyReads` comes exactly for more named locations, before anything else; `Busy` where 64
     /// offers of this call were lost, with what had been seen at its start and at its end; `Memory` only
-    /// where memory was refused, and never after an offer that was won. After an error nothing was fired and
-    /// no receipt was added, and after `Busy` and `Memory` it may have seen more.
+    /// where memory was refused, and never after an offer that was won. After an error the agent has won no
+    /// offer more and no receipt was added, and after `Busy` and `Memory` it may have seen more.
+    ///
+    /// Contracts don't tell what stands in the row: that the call adds the move that it fires, and no other,
+    /// and that `between` is called before each offer is tested.
     pub fn try_fire_with<F: FnMut()>(
         &mut self,
         alloc: Global,

@@ -54,7 +54,8 @@ impl<A: Aggregator + Sync + Drop> Storage<A> {
     /// the capacity of the storage and one more than the greatest number of an agent, or 0. Its events stand
     /// by the number of moves at which they were answered: for each number those that fired nothing, agent by
     /// agent, and then the move with the next number. It is legal, has each agent's calls once and in their
-    /// order, and its fired moves are a run of the machine. Nothing changes, and the call may be made again.
+    /// order, and its fired moves are a run of the machine. The agents stay as they are, and the call may be
+    /// made again; that it adds no move to the row is tested, as contracts don't tell what stands there.
     ///
     /// `CloseError::Missing` has the least number of a move that one of the agents has seen and none has a
     /// receipt of, and comes exactly where there is one, apart from `Memory`, which comes only where memory

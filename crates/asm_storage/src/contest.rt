@@ -1,9 +1,9 @@
 //! Fires in whose turns another agent fires first, as plain data.
 ghost use Rattle.asm_storage.specs.Storage.{IsSameAgent};
 
+use crate::closed::Close;
 use crate::rows::{
-    Act, At, Close, Put, Standard, Step, Two, Want, Who, counts, move_of, named_of, storage_of,
-    two_of,
+    Act, At, Put, Standard, Step, Two, Want, Who, counts, move_of, named_of, storage_of, two_of,
 };
 use crate::*;
 use asm_state::Named;

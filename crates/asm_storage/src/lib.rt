@@ -8,17 +8,27 @@
 
 mod agent;
 mod call;
+#[cfg(test)]
+mod closed;
 mod closing;
 #[cfg(test)]
 mod contest;
 mod copying;
+#[cfg(test)]
+mod crowd;
+#[cfg(test)]
+mod equality;
 mod error;
 mod fire;
+#[cfg(test)]
+mod held;
 mod history;
 #[cfg(test)]
 mod limits;
 mod merging;
 mod missing;
+#[cfg(test)]
+mod naming;
 mod part;
 mod read;
 mod reading;

@@ -1,8 +1,9 @@
 //! The limits of a storage and of its calls, and what they leave where they refuse.
 ghost use Rattle.asm_storage.specs.Storage.{IsSameAgent};
 
+use crate::closed::Close;
 use crate::rows::{
-    Act, At, Close, Put, Standard, Step, Two, Want, Who, location, performs, places_of, receipt_of,
+    Act, At, Put, Standard, Step, Two, Want, Who, location, performs, places_of, receipt_of,
     storage_of, two_of,
 };
 use crate::*;
@@ -126,7 +127,11 @@ fn places_many(alloc: Global, n: usize) -> Result<Vec<Location>, Fail> {
     Ok(places)
 }
 
-fn reads_many(alloc: Global, agent: &mut Agent<'_, Standard>, n: usize) -> Result<bool, Fail>
+pub(crate) fn reads_many(
+    alloc: Global,
+    agent: &mut Agent<'_, Standard>,
+    n: usize,
+) -> Result<bool, Fail>
     ensures { IsSameAgent agent.old agent.new }
 {
     let places = places_many(alloc, n)?;
@@ -157,7 +162,11 @@ fn named_many(alloc: Global, n: usize) -> Result<Vec<Named>, Fail> {
     Ok(reads)
 }
 
-fn names_many(alloc: Global, agent: &mut Agent<'_, Standard>, n: usize) -> Result<bool, Fail>
+pub(crate) fn names_many(
+    alloc: Global,
+    agent: &mut Agent<'_, Standard>,
+    n: usize,
+) -> Result<bool, Fail>
     ensures { IsSameAgent agent.old agent.new }
 {
     let reads = named_many(alloc, n)?;
@@ -200,7 +209,7 @@ fn at_most_256_locations_are_read_or_named(rt: HostRuntime) -> Result<(), Fail> 
     Ok(())
 }
 
-fn reading_of(
+pub(crate) fn reading_of(
     alloc: Global,
     agent: &mut Agent<'_, Standard>,
     places: Vec<Location>,
@@ -228,7 +237,7 @@ fn reading_of_two(alloc: Global) -> Result<Reading, Fail> {
     put_and_read(alloc, two)
 }
 
-fn is_num(value: &Value, number: i64) -> bool {
+pub(crate) fn is_num(value: &Value, number: i64) -> bool {
     *value == Value::Plain(Element::Num(number))
 }
 

@@ -1,10 +1,9 @@
 //! Calls of two agents on one storage as plain data, each with the answer that it has to get.
-ghost use Rattle.std.specs.Prelude.{◌≡◌, ◌<◌, map, All};
+ghost use Rattle.std.specs.Prelude.{◌≡◌, ◌<◌, map};
 ghost use Rattle.std.specs.List.{range_with_len};
-ghost use Rattle.std.specs.List.Sorted.{IsStrictlyIncreasing};
-ghost use Rattle.asm_storage.specs.Agents.{ids};
-ghost use Rattle.asm_storage.specs.Storage.{accounts, at_start, IsOf, IsSameAgent};
+ghost use Rattle.asm_storage.specs.Storage.{at_start, IsSameAgent};
 
+use crate::closed::Close;
 use crate::*;
 use asm_aggregate::{BagAgg, Pair, SetAgg, standard};
 use asm_element::{Element, Items, Location, Value};
@@ -181,7 +180,7 @@ fn reads(
 }
 
 /// Whether a fire is answered so. The error is want of memory.
-fn fires(
+pub(crate) fn fires(
     alloc: Global,
     agent: &mut Agent<'_, Standard>,
     reads: &[Named],
@@ -316,92 +315,6 @@ fn two_from<'s>(storage: &'s Storage<Standard>, mut agents: Vec<Agent<'s, Standa
 
 pub(crate) fn two_of(alloc: Global, storage: &Storage<Standard>) -> Result<Two<'_>, Fail> {
     Ok(two_from(storage, storage.agents(alloc, 2)?))
-}
-
-/// What closing gives.
-#[derive(Clone, Copy)]
-pub(crate) enum Close {
-    /// This move is missing.
-    Missing(u32),
-    /// So many moves, in events of these agents.
-    Events(u32, &'static [u32]),
-    /// So many moves, in so many events.
-    Counted(u32, usize),
-}
-
-fn is_by(events: &[Event], agents: &[u32]) -> bool {
-    events
-        .iter()
-        .map(|event| event.agent)
-        .eq(agents.iter().copied())
-}
-
-fn is_closed(closed: &Result<History, CloseError>, want: Close) -> bool {
-    match (closed, want) {
-        (Ok(history), Close::Events(moves, by)) => {
-            history.fits() && history.moves() == moves && is_by(history.events.as_slice(), by)
-        }
-        (Ok(history), Close::Counted(moves, events)) => {
-            history.fits() && history.moves() == moves && history.events.as_slice().len() == events
-        }
-        (Err(CloseError::Missing(number)), Close::Missing(wanted)) => *number == wanted,
-        _ => false,
-    }
-}
-
-/// Whether closing gives this, and again the same. The error is want of memory.
-fn closes(
-    alloc: Global,
-    storage: &Storage<Standard>,
-    agents: &[Agent<'_, Standard>],
-    want: Close,
-) -> Result<bool, AllocError>
-    requires of_this { All (IsOf storage.now) agents.now }
-    requires ascending { IsStrictlyIncreasing (ids (accounts agents.now)) }
-{
-    let closed = storage.close(alloc, agents);
-    let again = storage.close(alloc, agents);
-    if closed == Err(CloseError::Memory) || again == Err(CloseError::Memory) {
-        return Err(AllocError);
-    }
-    Ok(is_closed(&closed, want) && again == closed)
-}
-
-fn all_hold(answers: [Result<bool, AllocError>; 3]) -> Result<bool, AllocError> {
-    for answer in answers {
-        if !answer? {
-            return Ok(false);
-        }
-    }
-    Ok(true)
-}
-
-impl Two<'_> {
-    /// Whether closing gives these with the first agent alone and with both, and nothing with none.
-    pub(crate) fn closes(
-        self,
-        alloc: Global,
-        alone: Close,
-        both: Close,
-    ) -> Result<bool, AllocError> {
-        let Two { storage, a, b } = self;
-        let agents = [a, b];
-        all_hold([
-            closes(alloc, storage, &agents[..0], Close::Events(0, &[])),
-            closes(alloc, storage, &agents[..1], alone),
-            closes(alloc, storage, &agents, both),
-        ])
-    }
-
-    /// Whether closing with both gives this; it is made once more where memory was refused.
-    pub(crate) fn closes_in_the_end(self, alloc: Global, both: Close) -> Result<bool, AllocError> {
-        let Two { storage, a, b } = self;
-        let agents = [a, b];
-        match closes(alloc, storage, &agents, both) {
-            Err(_) => closes(alloc, storage, &agents, both),
-            is_right => is_right,
-        }
-    }
 }
 
 /// Calls of two agents on a storage of this capacity where x has this value, and what closing gives then: with

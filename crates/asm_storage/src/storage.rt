@@ -38,7 +38,9 @@ impl<A: Aggregator + Sync + Drop> Model for Storage<A> {
 }
 
 impl<A: Aggregator + Sync + Drop> Storage<A> {
-    /// A storage of which no move was fired, for at most `capacity` moves, from 1 to 1,048,576.
+    /// A storage for at most `capacity` moves, from 1 to 1,048,576.
+    ///
+    /// No move stands in its row; contracts don't tell that, and it is tested.
     ///
     /// `StorageError::BadCapacity` comes exactly for another capacity, before any memory is asked for;
     /// `Memory` only where memory was refused.
@@ -66,7 +68,7 @@ impl<A: Aggregator + Sync + Drop> Storage<A> {
     }
 
     /// So many agents, from 1 to 256, with the numbers from 0 up; they have seen nothing, and have no
-    /// receipts. A second call numbers from 0 again.
+    /// receipts. A second call numbers from 0 again. That the call adds no move to the row is tested.
     ///
     /// `AgentsError::BadAgents` comes exactly for another number, before any memory is asked for;
     /// `Memory` only where memory was refused.

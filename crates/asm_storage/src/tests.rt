@@ -1,5 +1,6 @@
+use crate::closed::Close;
 use crate::contest::{Contest, Outcome, contend_all};
-use crate::rows::{Act, At, Close, Put, Row, Step, Want, Who, check_all};
+use crate::rows::{Act, At, Put, Row, Step, Want, Who, check_all};
 use Act::{Fire, Read};
 use Step::{Ask, Count, Learn, Receipts};
 use Who::{A, B};
@@ -179,7 +180,37 @@ fn a_mark_and_a_look_tell_the_same_moves(rt: HostRuntime) -> Result<(), Fail> {
     check_all(&rt, rt.alloc(), &MARKS)
 }
 
-static CONTESTS: [Contest; 11] = [
+static CONTESTS: [Contest; 13] = [
+    Contest {
+        capacity: 8,
+        before: 0,
+        ahead: 0,
+        reads: &[],
+        others: &[Put("x", 5)],
+        times: 1,
+        fires_twice: false,
+        outcome: Outcome::Answered(Want::Fired(2)),
+        seen: 2,
+        misses: 2,
+        again: None,
+        alone: Close::Missing(1),
+        both: Close::Events(2, &[1, 0]),
+    },
+    Contest {
+        capacity: 200,
+        before: 0,
+        ahead: 0,
+        reads: &[],
+        others: &[],
+        times: u32::MAX,
+        fires_twice: false,
+        outcome: Outcome::Busy(0, 64),
+        seen: 64,
+        misses: 64,
+        again: None,
+        alone: Close::Missing(1),
+        both: Close::Counted(64, 64),
+    },
     Contest {
         capacity: 200,
         before: 0,

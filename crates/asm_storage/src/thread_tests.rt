@@ -2,7 +2,8 @@
 ghost use Rattle.std.specs.Prelude.{◌≡◌, All, IfOk};
 ghost use Rattle.asm_storage.specs.Storage.{IsSameAgent};
 
-use crate::rows::{Close, Put, Standard, Two, location, move_of, places_of, storage_of};
+use crate::closed::Close;
+use crate::rows::{Put, Standard, Two, location, move_of, places_of, storage_of};
 use crate::*;
 use asm_aggregate::standard;
 use asm_element::{ElemBag, Element, Location, Value};

@@ -1,7 +1,7 @@
 use Rattle.std.proofs.Common.{◌∙◌, ap, sym, subst, All}
 use Rattle.asm_storage.specs.Agents.{ids}
 use Rattle.asm_storage.specs.Storage.{accounts, IsOf}
-use Rattle.asm_driver.proofs.Closed.{closes, ids_are, of_storage, range_rises}
+use Rattle.asm_driver.proofs.Closed.{closes, ids_are, not_closed, of_storage, range_rises, told_later}
 use Rattle.asm_driver.proofs.play.closed.Goals as goal
 
 pub close-requires-clause-of_this : goal.close-requires-clause-of_this
@@ -21,3 +21,10 @@ returns-in-Ok-clause-played c =
     closes _ s _ _ _ _ _ c.as_slice.ensures.value c.requires.part c.requires.init c.requires.turns
     c.in-Ok.ensures.history c.in-Ok.ensures.init c.in-Ok.ensures.capacity c.in-Ok.ensures.agents c.new.ensures
     c.proper_history.ensures
+
+pub returns-clause-later : goal.returns-clause-later
+returns-clause-later c = told_later _ _ c.from.ensures
+
+pub returns-clause-missing : goal.returns-clause-missing
+returns-clause-missing c =
+    not_closed _ _ _ _ c.as_slice.ensures.value c.in-Err.ensures.missing c.from.ensures

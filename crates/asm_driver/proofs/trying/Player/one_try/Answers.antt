@@ -28,7 +28,7 @@ returns g c =
     let named = c.as_slice.ensures.value ∙ c.in_ok-reads.ensures in
     let tried = subst (λ (ns : List Named). HasTried meaning c.read.new.agent c.fire.new.agent ns c.in-Ok.instrs
     c.in_ok-reply.reply) named c.in_ok-reply.ensures in
-    subst (λ (o : Option Outcome). IsTry meaning own c.args.agent.now c.fire.new.agent c.args.step.now o)
+    subst (λ (o : Option Outcome). IsTry meaning own c.args.agent.now c.fire.new.agent c.args.step.now c.args.places.now o)
     (sym c.outcome.ensures)
     (ended_by_fire meaning (meaning c.args.self.now.aggregator.now) c.args.agent.now c.read.new.agent
     c.keeps_laws.ensures c.args.step.now c.args.places.now c.in_ok-reading.reading

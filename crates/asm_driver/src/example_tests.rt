@@ -1,0 +1,127 @@
+//! The scripts of the folder `examples`, each with the report that stands beside it: the same texts, letter for letter.
+use crate::tests::{RUN, first_wrong};
+use std::test::Fail;
+
+static EXAMPLES: [(&str, &str); 4] = [
+    (
+        r#"{"init":[],"agents":[[[[["put",["x"],1]]]]]}
+"#,
+        r#"[["x"],1]
+moves 1
+"#,
+    ),
+    (
+        r#"{
+  "init": [
+    [["light", "north"], "red"],
+    [["light", "east"], "green"],
+    [["waiting", "north"], 3]
+  ],
+  "agents": [
+    [
+      [[["put", ["light", "east"], "yellow"]]],
+      [[["put", ["light", "east"], "red"], ["put", ["light", "north"], "green"]]],
+      [[["put", ["waiting", "north"], 2], ["put", ["waiting", "north"], 1]]],
+      [[["put", ["waiting", "north"], null], ["put", ["turn"], 1]]]
+    ]
+  ]
+}
+"#,
+        r#"[["light","east"],"red"]
+[["light","north"],"green"]
+[["turn"],1]
+moves 3
+agent 0 step 2 clash ["waiting","north"] Two
+"#,
+    ),
+    (
+        r#"{
+  "init": [
+    [["shelf"], {"bag": [["atlas", 2], ["novel", 1]]}],
+    [["readers"], {"set": ["ada"]}],
+    [["loans", "ada"], {"bag": []}]
+  ],
+  "agents": [
+    [
+      [[["bagremove", ["shelf"], "atlas", 1], ["bagadd", ["loans", "ada"], "atlas", 1]]],
+      [[["add", ["readers"], "bob"], ["put", ["loans", "bob"], {"bag": []}]]],
+      [[["bagremove", ["shelf"], "novel", 2], ["bagadd", ["loans", "bob"], "novel", 2]]],
+      [[["add", ["readers"], "eve"], ["remove", ["readers"], "eve"]]]
+    ]
+  ]
+}
+"#,
+        r#"[["loans","ada"],{"bag":[["atlas",1]]}]
+[["loans","bob"],{"bag":[]}]
+[["readers"],{"set":["ada","bob"]}]
+[["shelf"],{"bag":[["atlas",1],["novel",1]]}]
+moves 2
+agent 0 step 2 clash ["shelf"] Short
+agent 0 step 3 clash ["readers"] Both
+"#,
+    ),
+    (
+        r#"{
+  "init": [
+    [["account", "anna"], 100],
+    [["account", "ben"], 50],
+    [["account", "clara"], 0],
+    [["booked"], {"bag": []}]
+  ],
+  "agents": [
+    [
+      [
+        [
+          ["put", ["account", "anna"], {"sum": [{"val": ["account", "anna"]}, -30]}],
+          ["put", ["account", "ben"], {"sum": [{"val": ["account", "ben"]}, 30]}],
+          ["bagadd", ["booked"], "anna", 1]
+        ],
+        [["put", ["total"], {"sum": [{"sum": [{"val": ["account", "anna"]}, {"val": ["account", "ben"]}]}, {"val": ["account", "clara"]}]}]]
+      ]
+    ],
+    [
+      [
+        [
+          ["put", ["account", "anna"], {"sum": [{"val": ["account", "anna"]}, -10]}],
+          ["put", ["account", "clara"], {"sum": [{"val": ["account", "clara"]}, 10]}],
+          ["bagadd", ["booked"], "anna", 1]
+        ],
+        [["put", ["total"], {"sum": [{"sum": [{"val": ["account", "anna"]}, {"val": ["account", "ben"]}]}, {"val": ["account", "clara"]}]}]]
+      ]
+    ],
+    [
+      [
+        [
+          ["put", ["account", "ben"], {"sum": [{"val": ["account", "ben"]}, -20]}],
+          ["put", ["account", "clara"], {"sum": [{"val": ["account", "clara"]}, 20]}],
+          ["bagadd", ["booked"], "ben", 1]
+        ],
+        [["put", ["total"], {"sum": [{"sum": [{"val": ["account", "anna"]}, {"val": ["account", "ben"]}]}, {"val": ["account", "clara"]}]}]]
+      ],
+      [
+        [
+          ["put", ["account", "ben"], {"sum": [{"val": ["account", "ben"]}, -5]}],
+          ["put", ["account", "clara"], {"sum": [{"val": ["account", "clara"]}, 5]}],
+          ["bagadd", ["booked"], "ben", 1]
+        ],
+        [["put", ["total"], {"sum": [{"sum": [{"val": ["account", "anna"]}, {"val": ["account", "ben"]}]}, {"val": ["account", "clara"]}]}]]
+      ]
+    ]
+  ]
+}
+"#,
+        r#"[["account","anna"],60]
+[["account","ben"],55]
+[["account","clara"],35]
+[["booked"],{"bag":[["anna",2],["ben",2]]}]
+[["total"],150]
+moves 4
+"#,
+    ),
+];
+
+#[test]
+fn reports_of_examples(rt: HostRuntime) -> Result<(), Fail> {
+    assert_eq!(rt; first_wrong(&rt, rt.alloc(), &RUN, 0, &EXAMPLES)?, None);
+    Ok(())
+}

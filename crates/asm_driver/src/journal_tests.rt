@@ -1,0 +1,147 @@
+//! Journals that are cut, altered or written to an output that fails.
+use crate::port_tests::Short;
+use crate::program::run_main;
+use crate::tests::{CHECK, JOURNAL, SEQUENCE, SEQUENCE_JOURNAL, ends, first_wrong, words_of};
+use std::alloc::{AllocError, Global};
+use std::sync::Wait;
+use std::test::Fail;
+use std::thread::Threads;
+
+/// What is told of the journal where it ends before this place: at the end of a line, before its line feed or after it,
+/// that it is cut, and inside a line that the line is no JSON.
+fn line_of_cut(alloc: Global, journal: &str, place: usize) -> Result<String, AllocError> {
+    let text = journal.as_bytes();
+    let mut line: usize = 1;
+    let mut begins = true;
+    for byte in text[..place.min(text.len())].iter() {
+        begins = *byte == b'\n';
+        if begins {
+            line = line.saturating_add(1);
+        }
+    }
+    if begins || matches!(text.get(place), Some(b'\n')) {
+        return String::from_str(alloc, "journal cut\n");
+    }
+    format!(in alloc; "journal line {line}: not JSON\n")
+}
+
+/// Whether the program tells that of the journal that ends before this place.
+fn is_told_as_cut<T: Threads + Wait + Sync>(
+    rt: &T,
+    alloc: Global,
+    journal: &str,
+    place: usize,
+) -> Result<bool, AllocError> {
+    let wanted = line_of_cut(alloc, journal, place)?;
+    let Some(first) = journal.get(..place) else {
+        return Ok(false);
+    };
+    ends(rt, alloc, &CHECK, first, (2, wanted.as_str()))
+}
+
+#[test]
+fn journals_that_are_cut(rt: HostRuntime) -> Result<(), Fail> {
+    for place in 0..SEQUENCE_JOURNAL.len() {
+        assert!(rt;
+            is_told_as_cut(&rt, rt.alloc(), SEQUENCE_JOURNAL, place)?,
+            "{place}"
+        );
+    }
+    Ok(())
+}
+
+static ALTERED: [(&str, &str); 7] = [
+    (
+        r#"{"agents":1,"capacity":4096,"events":2,"init":[[["s"],{"set":[]}]],"version":1}
+{"agent":1,"call":{"read":[["s"]]},"reply":{"number":0,"values":[{"set":[]}]}}
+{"agent":0,"call":{"fire":[["add",["s"],1],["put",["y"],{"set":[1]}]],"reads":[[["s"],0]]},"reply":{"fired":1}}
+"#,
+        "journal line 2: shape\n",
+    ),
+    (
+        r#"{"agents":1,"capacity":4096,"events":2,"init":[[["s"],{"set":[]}]],"version":1}
+{"agent":0,"call":{"read":[["s"]]},"reply":{"number":0,"values":[]}}
+{"agent":0,"call":{"fire":[["add",["s"],1],["put",["y"],{"set":[1]}]],"reads":[[["s"],0]]},"reply":{"fired":1}}
+"#,
+        "journal line 2: shape\n",
+    ),
+    (
+        r#"{"agents":1,"capacity":4096,"events":2,"init":[[["s"],{"set":[]}]],"version":1}
+{"agent":0,"call":{"read":[["s"]]},"reply":{"number":0,"values":[{"set":[]}]}}
+{"agent":0,"call":{"fire":[["add",["s"],1],["put",["y"],{"set":[1]}]],"reads":[[["s"],0]]},"reply":{"fired":1.0}}
+"#,
+        "journal line 3: shape\n",
+    ),
+    (
+        r#"{"agents":1,"capacity":0,"events":2,"init":[[["s"],{"set":[]}]],"version":1}
+{"agent":0,"call":{"read":[["s"]]},"reply":{"number":0,"values":[{"set":[]}]}}
+{"agent":0,"call":{"fire":[["add",["s"],1],["put",["y"],{"set":[1]}]],"reads":[[["s"],0]]},"reply":{"fired":1}}
+"#,
+        "journal line 1: shape\n",
+    ),
+    (
+        r#"{"agents":1,"capacity":4096,"events":2,"init":[[["s"],{"set":[]}]],"version":"1"}
+{"agent":0,"call":{"read":[["s"]]},"reply":{"number":0,"values":[{"set":[]}]}}
+{"agent":0,"call":{"fire":[["add",["s"],1],["put",["y"],{"set":[1]}]],"reads":[[["s"],0]]},"reply":{"fired":1}}
+"#,
+        "journal line 1: shape\n",
+    ),
+    (
+        r#"{"agents":1,"capacity":4096,"events":2,"init":[[["s"],{"set":[]}]],"version":1}
+{"agent":0,"call":{"read":[["s"]]},"reply":{"number":0,"values":[{"set":[]}]}}
+
+"#,
+        "journal line 3: not JSON\n",
+    ),
+    (
+        r#"{"agents":1,"capacity":4096,"events":2,"init":[[["s"],{"set":[]}]],"version":1}
+{"agent":0,"call":{"read":[["s"]]},"reply":{"number":0,"values":[{"set":[]}]}}
+{"agent":0,"call":{"fire":[["add",["s"],1],["put",["y"],{"set":[1]}]],"reads":[[["s"],0]]},"reply":{"fired":1}}
+{"agent":0,"call":{"read":[["s"]]},"reply":{"number":1,"values":[{"set":[1]}]}}
+"#,
+        "journal line 4: shape\n",
+    ),
+];
+
+#[test]
+fn journals_that_are_altered(rt: HostRuntime) -> Result<(), Fail> {
+    assert_eq!(rt; first_wrong(&rt, rt.alloc(), &CHECK, 2, &ALTERED)?, None);
+    Ok(())
+}
+
+#[test]
+fn a_full_storage_has_as_many_moves_as_it_takes(rt: HostRuntime) -> Result<(), Fail> {
+    let journal = r#"{"agents":1,"capacity":4096,"events":2,"init":[[["s"],{"set":[]}]],"version":1}
+{"agent":0,"call":{"read":[["s"]]},"reply":{"number":0,"values":[{"set":[]}]}}
+{"agent":0,"call":{"fire":[["add",["s"],1],["put",["y"],{"set":[1]}]],"reads":[[["s"],0]]},"reply":"full"}
+"#;
+    assert!(rt; ends(&rt, rt.alloc(), &CHECK, journal, (1, "illegal 1\n"))?);
+    Ok(())
+}
+
+/// Whether the program, when its output fails or takes nothing after so many bytes, ends with status 4, and these bytes
+/// of the journal went out. The error is want of memory: its line begins otherwise than a journal.
+fn ends_after<T: Threads + Wait + Sync>(
+    rt: &T,
+    alloc: Global,
+    room: usize,
+    fails: bool,
+) -> Result<bool, AllocError> {
+    let mut input = SEQUENCE.as_bytes();
+    let mut output = Short::new(alloc, (room, fails, true))?;
+    let words = words_of(alloc, &JOURNAL)?;
+    let status = run_main(rt, alloc, words, &mut input, &mut output);
+    if status == 3 || matches!(output.taken().first(), Some(b'o' | b'n')) {
+        return Err(AllocError);
+    }
+    Ok(status == 4 && SEQUENCE_JOURNAL.as_bytes().get(..room) == Some(output.taken()))
+}
+
+#[test]
+fn journals_to_outputs_that_fail(rt: HostRuntime) -> Result<(), Fail> {
+    for room in 0..SEQUENCE_JOURNAL.len() {
+        assert!(rt; ends_after(&rt, rt.alloc(), room, true)?, "{room}");
+        assert!(rt; ends_after(&rt, rt.alloc(), room, false)?, "{room}");
+    }
+    Ok(())
+}

@@ -1,0 +1,129 @@
+"""The families of partial updates: what a group of them makes of a value, and what two lists in sequence come to.
+
+A further family is a class of its own here, with an entry in FAMILIES, and a word in `moves.py`.
+"""
+
+from collections import Counter
+from collections.abc import Iterable
+from typing import NamedTuple, Protocol
+
+from jsontext import U32
+from values import BagValue, Element, SetValue, Value
+
+MAX_COUNT = U32[-1]
+
+
+class Partial(NamedTuple):
+    """A partial update: of sets (whose amount is 1 and means nothing), or of bags."""
+
+    family: str
+    adds: bool
+    element: Element
+    amount: int = 1
+
+
+class NoResult(Exception):
+    """A group has no result, for the cause that is told."""
+
+    def __init__(self, cause: str) -> None:
+        super().__init__(cause)
+        self.cause = cause
+
+
+class TooLarge(Exception):
+    """Two lists of partial updates in sequence come to too large an amount."""
+
+
+class Family(Protocol):
+    def applied(self, base: Value, is_regular: bool, partials: list[Partial]) -> Value:
+        """Answers what the partial updates make of the base, which is the group's regular value or the old value."""
+
+    def check_alone(self, partials: list[Partial]) -> None:
+        """Raises the cause by which these alone have a result on no value."""
+
+    def joined(self, first: list[Partial], second: list[Partial]) -> list[Partial]:
+        """Answers the list that does on each value what the first and then the second do."""
+
+
+class SetFamily:
+    def applied(self, base: Value, is_regular: bool, partials: list[Partial]) -> Value:
+        if not isinstance(base, SetValue):
+            raise NoResult("Kind")
+        self.check_alone(partials)
+        added, removed = _parts(partials)
+        if is_regular and (not added <= base.members or removed & base.members):
+            raise NoResult("Against")
+        return base if is_regular else SetValue((base.members - removed) | added)
+
+    def check_alone(self, partials: list[Partial]) -> None:
+        added, removed = _parts(partials)
+        if added & removed:
+            raise NoResult("Both")
+
+    def joined(self, first: list[Partial], second: list[Partial]) -> list[Partial]:
+        added_1, removed_1 = _parts(first)
+        added_2, removed_2 = _parts(second)
+        added = (added_1 - removed_2) | added_2
+        removed = (removed_1 - added_2) | removed_2
+        return [
+            *(Partial("set", True, it) for it in sorted(added)),
+            *(Partial("set", False, it) for it in sorted(removed)),
+        ]
+
+
+class BagFamily:
+    def applied(self, base: Value, is_regular: bool, partials: list[Partial]) -> Value:
+        if not isinstance(base, BagValue):
+            raise NoResult("Kind")
+        if is_regular:
+            raise NoResult("Against")
+        added, removed = _sums(partials)
+        old = base.counts
+        if any(removed[it] > old.get(it, 0) for it in removed):
+            raise NoResult("Short")
+        every = {*old, *added, *removed}
+        new = {it: old.get(it, 0) - removed[it] + added[it] for it in every}
+        if any(count > MAX_COUNT for count in new.values()):
+            raise NoResult("Large")
+        return BagValue({it: count for it, count in new.items() if count})
+
+    def check_alone(self, partials: list[Partial]) -> None:
+        """Each list of partial updates of bags has a result on some bag, large amounts aside."""
+
+    def joined(self, first: list[Partial], second: list[Partial]) -> list[Partial]:
+        added_1, removed_1 = _sums(first)
+        added_2, removed_2 = _sums(second)
+        every = sorted({*added_1, *removed_1, *added_2, *removed_2})
+        added = [(it, added_2[it] + max(0, added_1[it] - removed_2[it])) for it in every]
+        removed = [(it, removed_1[it] + max(0, removed_2[it] - added_1[it])) for it in every]
+        if any(amount > MAX_COUNT for _, amount in [*added, *removed]):
+            raise TooLarge
+        return [
+            *(Partial("bag", True, it, amount) for it, amount in added if amount),
+            *(Partial("bag", False, it, amount) for it, amount in removed if amount),
+        ]
+
+
+FAMILIES: dict[str, Family] = {"set": SetFamily(), "bag": BagFamily()}
+
+
+def family_of(partials: Iterable[Partial]) -> Family:
+    """Answers the one family of these; of two they are mixed."""
+    names = {it.family for it in partials}
+    if len(names) != 1:
+        raise NoResult("Mixed")
+    return FAMILIES[names.pop()]
+
+
+def _parts(partials: list[Partial]) -> tuple[set[Element], set[Element]]:
+    added = {it.element for it in partials if it.adds}
+    removed = {it.element for it in partials if not it.adds}
+    return added, removed
+
+
+def _sums(partials: list[Partial]) -> tuple[Counter[Element], Counter[Element]]:
+    added: Counter[Element] = Counter()
+    removed: Counter[Element] = Counter()
+    for it in partials:
+        (added if it.adds else removed)[it.element] += it.amount
+    return added, removed

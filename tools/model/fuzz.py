@@ -1,0 +1,264 @@
+#!/usr/bin/env python3
+"""Runs the program and the model on random inputs, and compares status and output byte for byte.
+
+    fuzz.py PROGRAM [--seed S] [--inputs N] [--seconds T] [--jobs J] [--only KIND] [--save DIR]
+
+Each difference is printed, and its input saved with its words. The last lines count what the runs came to. The status
+is 1 where there was a difference. One seed and number always make the same inputs, whatever the jobs; journals of
+several agents are as the threads ran.
+"""
+
+import argparse
+import multiprocessing
+import re
+import subprocess
+import sys
+import tempfile
+import time
+from collections import Counter
+from collections.abc import Iterator
+from pathlib import Path
+from random import Random
+from typing import NamedTuple
+
+import model
+from altered import changed, changed_journal, cut, spelled
+from inputs import Maker
+from journal import BadJournal, read_journal, write_journal
+from play import SeveralAgents
+from runs import NoRun, check_run
+from script import read_script
+
+TIME_LIMIT = 120
+# How often each kind of input is made; see `trials`.
+KINDS = {
+    "script": 25,
+    "spelled": 8,
+    "sequence": 6,
+    "apart": 5,
+    "changed": 22,
+    "cut": 10,
+    "journal": 8,
+    "history": 12,
+    "contending": 1,
+    "words": 3,
+    "large": 1,
+    "long": 0.05,
+}
+CAPACITIES = ["1", "2", "3", "5", "+4", "007", "1048576"]
+BAD_WORDS = [
+    *[[], [""], ["Run"], ["rewrite"], ["run", "check"], ["check", "run"], ["check", "--journal"], ["run", "x"]],
+    *[["run", "--capacity"], ["run", "--capacity", "0"], ["run", "--capacity", "1048577"], ["run", "--capacity="]],
+    *[["run", "--capacity", it] for it in ["-1", "1.0", "1e2", "0x8", " 8", "8 ", "++8", "+", "٣", 30 * "9"]],
+    *[["run", "--capacity", "1", "--capacity", "1"], ["run", "--journal", "--journal"], ["run", "--journal=1"]],
+    *[["run", "--cap", "8"], ["run", "-j"], ["--journal", "run"], ["--capacity", "8", "run"], ["run", "--Journal"]],
+]
+
+
+class Trial(NamedTuple):
+    """Words and an input that the program and the model are given."""
+
+    words: list[str]
+    text: bytes
+
+
+class Difference(NamedTuple):
+    trial: Trial
+    told: str
+
+
+class Job(NamedTuple):
+    program: str
+    seed: str
+    number: int
+    kinds: list[str]
+
+
+class Done(NamedTuple):
+    counts: Counter[str]
+    differences: list[Difference]
+
+
+class Fuzz:
+    """What the input of one number comes to."""
+
+    def __init__(self, job: Job) -> None:
+        self.program = job.program
+        self.random = Random(f"{job.seed} {job.number}")
+        self.maker = Maker(self.random)
+        weights = [KINDS[kind] for kind in job.kinds]
+        self.kind = self.random.choices(job.kinds, weights)[0]
+        self.counts: Counter[str] = Counter()
+        self.differences: list[Difference] = []
+
+    def done(self) -> Done:
+        if self.kind == "contending":
+            self.contend()
+        else:
+            for trial in self.trials():
+                self.compare(trial)
+        return Done(self.counts, self.differences)
+
+    def trials(self) -> Iterator[Trial]:
+        random, maker = self.random, self.maker
+        words = ["run", *self.capacity()]
+        # A report doesn't show what a move names and in which order its instructions stand; a journal does.
+        either = random.choice([words, words, [*words, "--journal"]])
+        if self.kind == "history":
+            yield from self.journals(write_journal(maker.history()))
+        elif self.kind == "words":
+            yield Trial(random.choice(BAD_WORDS), b'{"init":[],"agents":[]}')
+        elif self.kind == "long":
+            yield Trial(random.choice([words, ["check"]]), self.long_text())
+        elif self.kind == "apart":
+            yield Trial(["run"], self.text(maker.apart()))
+        elif self.kind == "sequence":
+            yield Trial(either, self.text(maker.sequence()))
+        elif self.kind == "large":
+            yield Trial(either, self.text(maker.large()))
+        elif self.kind == "journal":
+            trial = Trial([*words, "--journal"], self.text(maker.script()))
+            yield from self.journals(self.compare(trial).output)
+        elif self.kind == "changed":
+            yield Trial(words, self.text(changed(maker.script(), random)))
+        elif self.kind == "cut":
+            yield Trial(random.choice([words, words, ["check"]]), cut(self.text(maker.script()), random))
+        else:
+            yield Trial(either, self.text(maker.script(), self.kind == "script"))
+
+    def journals(self, text: bytes) -> Iterator[Trial]:
+        yield Trial(["check"], text)
+        for _ in range(3):
+            yield Trial(["check"], changed_journal(text, self.random))
+
+    def capacity(self) -> list[str]:
+        pick = self.random.random()
+        if pick < 0.7:
+            return []
+        given = self.random.choice(CAPACITIES)
+        return ["--capacity", given] if pick < 0.95 else [f"--capacity={given}"]
+
+    def text(self, value: object, is_plain: bool = False) -> bytes:
+        return spelled(value, self.random, is_plain or self.random.random() < 0.5).encode()
+
+    def long_text(self) -> bytes:
+        script = self.text(self.maker.script(), is_plain=True)
+        return script.ljust(model.MAX_INPUT + self.random.choice([-1, 0, 1, 2]))
+
+    def compare(self, trial: Trial) -> model.Answer:
+        """Answers what the program did, and notes where the model differs."""
+        ran = self.ran(trial)
+        try:
+            said = model.answer(trial.words, trial.text)
+        except SeveralAgents:
+            self.counts["left out, as the order of several agents may show"] += 1
+            return ran
+        self.counts["inputs"] += 1
+        self.counts.update(sorts_of(ran))
+        if ran != said:
+            self.differences.append(Difference(trial, f"program {shown(ran)}\n  model   {shown(said)}"))
+        return ran
+
+    def ran(self, trial: Trial) -> model.Answer:
+        try:
+            ended = subprocess.run(
+                [self.program, *trial.words],
+                input=trial.text,
+                stdout=subprocess.PIPE,
+                stderr=subprocess.DEVNULL,
+                timeout=TIME_LIMIT,
+                check=False,
+            )
+        except subprocess.TimeoutExpired:
+            return model.Answer(-1, b"did not end\n")
+        return model.Answer(ended.returncode, ended.stdout)
+
+    def contend(self) -> None:
+        """Runs several agents, and has their journal checked by the model and by the program."""
+        capacity = self.random.choice([4096, 4096, 4096, 20, 200])
+        words = ["run", "--capacity", str(capacity), "--journal"]
+        trial = Trial(words, self.text(self.maker.contending(), is_plain=True))
+        ran = self.ran(trial)
+        self.counts["runs of several agents that contend"] += 1
+        try:
+            history = read_journal(ran.output)
+            check_run(read_script(trial.text), capacity, history)
+        except (BadJournal, NoRun) as error:
+            self.differences.append(Difference(trial, f"program {shown(ran)}\n  model   {error}"))
+            return
+        self.counts.update(f"there answered {type(it.reply).__name__}" for it in history.events)
+        legal = f"legal {len(history.events)} {history.moves()}\n".encode()
+        check = Trial(["check"], ran.output)
+        if self.compare(check) != model.Answer(0, legal):
+            self.differences.append(Difference(check, "a journal of the program isn't legal"))
+
+
+def sorts_of(ran: model.Answer) -> set[str]:
+    """Answers which sorts of line the output has, without its numbers and locations."""
+    if ran.status or ran.output[:1] not in (b"[", b"{", b"m", b"l"):
+        line = ran.output.decode(errors="replace").strip()
+        return {f"status {ran.status} {re.sub('[0-9]+', 'N', line)}"}
+    if ran.output[:1] == b"l":
+        return {"status 0 legal"}
+    if ran.output[:1] == b"{":
+        return {"status 0 journal"}
+    steps = re.findall(r"^agent \d+ step \d+ (\w+)(?: .* (\w+)$)?", ran.output.decode(), re.M)
+    return {f"status 0 step {' '.join(it).strip()}" for it in steps} or {"status 0 all steps fired"}
+
+
+def shown(answer: model.Answer) -> str:
+    return f"status {answer.status}: {answer.output[:300]!r}"
+
+
+def work(job: Job) -> Done:
+    return Fuzz(job).done()
+
+
+def save(difference: Difference, number: int, folder: Path) -> None:
+    """Saves the input, with its words in a file beside it, one a line."""
+    folder.mkdir(parents=True, exist_ok=True)
+    name = folder / f"difference_{number}"
+    name.write_bytes(difference.trial.text)
+    name.with_suffix(".args").write_text("".join(f"{word}\n" for word in difference.trial.words))
+    print(f"{name} ({' '.join(difference.trial.words)}):\n  {difference.told}", flush=True)
+
+
+def read_arguments() -> argparse.Namespace:
+    parser = argparse.ArgumentParser(description="Compares the program with the model on random inputs.")
+    parser.add_argument("program")
+    parser.add_argument("--seed", default="0")
+    parser.add_argument("--inputs", type=int, default=10000, help="a journal counts with those that are made of it")
+    parser.add_argument("--seconds", type=float, default=float("inf"), help="ends earlier, after this time")
+    parser.add_argument("--jobs", type=int, default=2)
+    parser.add_argument("--only", choices=KINDS, help="inputs of this kind alone")
+    parser.add_argument("--save", type=Path, help="the folder for inputs that differ; a new one by default")
+    return parser.parse_args()
+
+
+def main() -> int:
+    given = read_arguments()
+    program = str(Path(given.program).resolve())
+    kinds = [given.only] if given.only else list(KINDS)
+    jobs = [Job(program, given.seed, number, kinds) for number in range(given.inputs)]
+    batch = 32 * given.jobs
+    counts: Counter[str] = Counter()
+    differences = 0
+    end = time.monotonic() + given.seconds
+    with multiprocessing.Pool(given.jobs) as pool:
+        for first in range(0, given.inputs, batch):
+            if time.monotonic() > end:
+                break
+            for done in pool.imap_unordered(work, jobs[first : first + batch]):
+                counts += done.counts
+                for difference in done.differences:
+                    given.save = given.save or Path(tempfile.mkdtemp(prefix="fuzz_"))
+                    save(difference, differences, given.save)
+                    differences += 1
+    for sort, count in sorted(counts.items()):
+        print(f"{count:8} {sort}")
+    print(f"seed {given.seed}: {counts['inputs']} inputs, {differences} differences")
+    return 1 if differences else 0
+
+
+if __name__ == "__main__":
+    sys.exit(main())

@@ -1,0 +1,210 @@
+"""Random scripts and histories, most of them good, for `fuzz.py`."""
+
+from random import Random
+
+from journal import Clashed, Event, Fire, Fired, Full, History, Read, Stale, Storage, Values
+from jsontext import Json
+from moves import Move, read_instruction
+from values import Location, read_location, read_state, read_value
+
+NUMBERS = [0, 1, 1, 2, 3, 7, 10, -1, -2, 2**63 - 1, -(2**63), 2**63 - 2, 2**31, 2**32]
+TEXTS = ["", "a", "b", "B", "e", "é", "ÿ", "\U0001f600", "\ue000", '"\\/', "\n\t\x00\x1f\x7f", "x" * 70]
+AMOUNTS = [1, 1, 1, 2, 3, 5, 2**31, 2**32 - 2, 2**32 - 1]
+# What a location mostly holds is told by the first letter of its name; of x it may be anything.
+KINDS = "sssbbbnnx"
+CAUSES = ["Two", "Mixed", "Kind", "Both", "Against", "Short", "Large"]
+
+
+class Maker:
+    """Makes scripts over few locations and elements, so that groups, clashes and stale reads are common."""
+
+    def __init__(self, random: Random) -> None:
+        self.random = random
+        self.elements = [self.fresh_element() for _ in range(random.randint(2, 5))]
+        ends = random.choices(["", "", "1", "_A9", 63 * "z"], k=random.randint(1, 4))
+        self.names = [random.choice(KINDS) + end for end in ends]
+        self.places = [self.place() for _ in range(random.randint(1, 7))]
+        self.lines = random.choice([[0, 1], [0, 1, 1, 2, 2, 3, 6]])
+        self.strange = random.choice([0.0, 0.0, 0.02, 0.1, 0.3])
+        self.heavy = random.choice([0.1, 0.4, 0.9])
+
+    def chance(self, part: float) -> bool:
+        return self.random.random() < part
+
+    def fresh_element(self) -> Json:
+        pick = self.random.random()
+        if pick < 0.45:
+            return self.random.choice(NUMBERS)
+        if pick < 0.85:
+            return self.random.choice(TEXTS)
+        return self.random.choice([None, True, False])
+
+    def element(self) -> Json:
+        return self.random.choice(self.elements)
+
+    def place(self) -> list[Json]:
+        name = self.random.choice(self.names)
+        count = self.random.choice([0, 0, 0, 1, 1, 2, 8, 8])
+        return [name, *(self.fresh_element() for _ in range(count))]
+
+    def distinct(self, most: int) -> list[Json]:
+        found: list[Json] = []
+        for it in (self.element() for _ in range(self.random.randint(0, most))):
+            if not any(type(it) is type(other) and it == other for other in found):
+                found.append(it)
+        return found
+
+    def set(self) -> Json:
+        return {"set": self.distinct(4)}
+
+    def bag(self) -> Json:
+        return {"bag": [[it, self.random.choice(AMOUNTS)] for it in self.distinct(3)]}
+
+    def value_at(self, at: list[Json]) -> Json:
+        kind = at[0][0] if not self.chance(self.strange) else self.random.choice("sbnx")
+        if kind == "s":
+            return self.set()
+        if kind == "b":
+            return self.bag()
+        return self.random.choice(NUMBERS) if kind == "n" else self.element()
+
+    def init(self) -> list[Json]:
+        chosen = {str(it): it for it in self.places if self.chance(0.9)}
+        return [[at, self.value_at(at)] for at in chosen.values()]
+
+    def term(self, at: list[Json], depth: int = 0) -> Json:
+        pick = self.random.random()
+        if pick < 0.2 and (at[0][0] == "n" or self.chance(self.strange)) and depth < 3:
+            return {"sum": [self.term(at, depth + 1), self.term(at, depth + 1)]}
+        if pick < 0.45:
+            alike = [it for it in self.places if it[0][0] == at[0][0]] or self.places
+            return {"val": self.random.choice(alike)}
+        return self.value_at(at)
+
+    def part(self) -> Json:
+        if self.chance(self.strange):
+            return self.random.choice([self.term(["n"]), self.set(), {"val": self.random.choice(self.places)}])
+        return self.element()
+
+    def instruction(self) -> Json:
+        at = self.random.choice(self.places)
+        kind = at[0][0] if not self.chance(self.strange) else self.random.choice("sbnx")
+        if kind == "s" and not self.chance(0.2):
+            return [self.random.choice(["add", "add", "remove"]), at, self.part()]
+        if kind == "b" and not self.chance(0.2):
+            amount = self.random.choice(AMOUNTS) if self.chance(self.heavy) else 1
+            return [self.random.choice(["bagadd", "bagadd", "bagremove"]), at, self.part(), amount]
+        return ["put", at, self.term(at)]
+
+    def block(self) -> Json:
+        return [self.instruction() for _ in range(self.random.choice(self.lines))]
+
+    def step(self) -> Json:
+        count = self.random.choice([1, 1, 1, 2, 2, 3, 5])
+        return [self.block() for _ in range(count)]
+
+    def steps(self) -> Json:
+        return [self.step() for _ in range(self.random.choice([0, 1, 1, 2, 3, 5, 9]))]
+
+    def script(self) -> Json:
+        """Makes a script of one agent that moves, among others that don't."""
+        agents: list[Json] = [[] for _ in range(self.random.choice([0, 0, 0, 0, 1, 3]))]
+        agents.insert(self.random.randint(0, len(agents)), self.steps())
+        return {"init": self.init(), "agents": agents}
+
+    def sequence(self) -> Json:
+        """Makes a script of steps of several blocks, mostly of partial updates with large amounts."""
+        self.places, self.elements = [["b"], ["s"]], self.elements[:2]
+        self.strange, self.heavy, self.lines = 0.0, 0.9, [1, 1, 2]
+        steps: list[Json] = []
+        for _ in range(self.random.randint(1, 6)):
+            steps.append([self.block() for _ in range(self.random.randint(2, 4))])
+        return {"init": self.init(), "agents": [steps]}
+
+    def apart(self) -> Json:
+        """Makes a script of several agents, no two of which touch one location."""
+        init: list[Json] = []
+        agents: list[Json] = []
+        places = self.places
+        for name in "CDEFGH"[: self.random.randint(2, 6)]:
+            self.places = [[it[0][:63] + name, *it[1:]] for it in places]
+            init += self.init()
+            agents.append(self.steps())
+        return {"init": init, "agents": agents}
+
+    def large(self) -> Json:
+        """Makes a script at or beyond a limit."""
+        near = self.random.choice([-1, 0, 1])
+        many: list[Json] = [["put", ["n", it], it] for it in range(4096 + near)]
+        reads: list[Json] = [["put", ["x"], {"val": ["n", it]}] for it in range(256 + near)]
+        steps: list[Json] = self.random.choice(
+            [
+                [[many]],
+                [[many[: 2048 + near], [["add", ["s", it], it] for it in range(2048)]]],
+                [[many, [["put", ["n", 0], 9]]]],
+                [[reads], [[["put", ["x"], 1]]]],
+                [[self.block() for _ in range(65 + near)]],
+                [self.step() for _ in range(40)],
+                [[]],
+            ]
+        )
+        idle: list[Json] = [[] for _ in range(self.random.choice([0, 0, 0, 255 + near]))]
+        return {"init": self.init(), "agents": [steps, *idle]}
+
+    def contending(self) -> Json:
+        """Makes a script of several agents that touch three locations."""
+        self.places = [["s"], ["b"], ["n"]]
+        self.elements = [1, "e", True]
+        step: list[Json] = [[["put", ["n"], {"sum": [{"val": ["n"]}, 1]}]]]
+        agents: list[Json] = []
+        for _ in range(self.random.randint(2, 16)):
+            count = self.random.randint(1, 50)
+            agents.append([step if self.chance(0.3) else self.step() for _ in range(count)])
+        return {"init": [[["s"], {"set": []}], [["b"], {"bag": []}], [["n"], 0]], "agents": agents}
+
+    def history(self) -> History:
+        """Makes a history of several agents with old reads, of calls that no script makes."""
+        agents = self.random.choice([1, 2, 3, 256])
+        history = History(read_state(self.init()), self.random.choice([1, 3, 4096]), agents)
+        storage = Storage(history.init, history.capacity)
+        for _ in range(self.random.choice([0, 1, 2, 5, 12])):
+            call = self.call(storage.number)
+            event = Event(self.random.randrange(agents), call, storage.reply(call))
+            history.events.append(event)
+        if history.events and self.chance(0.3):
+            at = self.random.randrange(len(history.events))
+            event = history.events[at]
+            history.events[at] = event._replace(reply=self.other_reply(event))
+        return history
+
+    def call(self, number: int) -> Read | Fire:
+        if self.chance(0.3):
+            return Read([self.location() for _ in range(self.random.randint(0, 4))])
+        late = self.random.choice([-1, 0, 0, 0, 1, 2, 5])
+        named = [
+            (self.location(), max(0, number - late))
+            for _ in range(self.random.choice([0, 0, 1, 3, 6]))
+        ]
+        return Fire(self.move(), named)
+
+    def move(self) -> Move:
+        return [read_instruction(self.known(self.instruction())) for _ in range(self.random.randint(0, 4))]
+
+    def known(self, line: Json) -> Json:
+        """Puts a value, or an element, in the place of an instruction's term."""
+        content = self.value_at(line[1]) if line[0] == "put" else self.element()
+        return [*line[:2], content, *line[3:]]
+
+    def location(self) -> Location:
+        return read_location(self.random.choice(self.places))
+
+    def other_reply(self, event: Event) -> Values | Fired | Stale | Clashed | Full:
+        if isinstance(event.reply, Values):
+            number = max(0, event.reply.number + self.random.choice([-1, 0, 1]))
+            values = list(event.reply.values)
+            if values:
+                values[self.random.randrange(len(values))] = read_value(self.value_at(["x"]))
+            return Values(number, values)
+        number = self.random.randint(0, 3)
+        clashed = Clashed(self.location(), self.random.choice(CAUSES))
+        return self.random.choice([Fired(number), Stale(self.location()), clashed, Full()])

@@ -1,0 +1,268 @@
+"""Histories and their journals: writing, reading with every fault in order, and the check of each answer."""
+
+from dataclasses import dataclass, field
+from typing import NamedTuple, Union
+
+import jsontext
+from jsontext import U32, U64, I64, Json, is_whole
+from moves import (
+    MAX_INSTRUCTIONS,
+    Clash,
+    Move,
+    instruction_json,
+    read_instruction,
+    updates_on,
+)
+from script import MAX_AGENTS, MAX_READS
+from values import (
+    UNDEF,
+    Location,
+    State,
+    Value,
+    WrongShape,
+    entries,
+    has_key,
+    items,
+    location_json,
+    members,
+    pairs_json,
+    read_all,
+    read_location,
+    read_state,
+    read_value,
+    value_json,
+    whole,
+    write_to,
+)
+
+# The version that is written, and those that are read.
+VERSION = 1
+VERSIONS = (1,)
+CAPACITIES = range(1, 2**20 + 1)
+CAUSES = ("Two", "Mixed", "Kind", "Both", "Against", "Short", "Large")
+
+
+class Read(NamedTuple):
+    places: list[Location]
+
+
+class Fire(NamedTuple):
+    move: Move
+    reads: list[tuple[Location, int]]
+
+
+class Values(NamedTuple):
+    number: int
+    values: list[Value]
+
+
+class Fired(NamedTuple):
+    number: int
+
+
+class Stale(NamedTuple):
+    at: Location
+
+
+class Clashed(NamedTuple):
+    at: Location
+    cause: str
+
+
+class Full(NamedTuple):
+    """As many moves were fired as the capacity."""
+
+
+Call = Union[Read, Fire]
+Reply = Union[Values, Fired, Stale, Clashed, Full]
+
+
+class Event(NamedTuple):
+    agent: int
+    call: Call
+    reply: Reply
+
+
+@dataclass
+class History:
+    init: State
+    capacity: int
+    agents: int
+    events: list[Event] = field(default_factory=list)
+
+    def moves(self) -> int:
+        return sum(isinstance(event.reply, Fired) for event in self.events)
+
+
+class BadJournal(Exception):
+    """The journal is refused, for the fault that is told."""
+
+
+class Storage:
+    """The storage of one thread: what it answers to each call, and the state that the fired moves leave."""
+
+    def __init__(self, init: State, capacity: int) -> None:
+        self.state = dict(init)
+        self.capacity = capacity
+        self.number = 0
+        self.writers: dict[Location, int] = {}
+
+    def reply(self, call: Call) -> Reply:
+        """Answers the call; a move that is answered Fired is fired."""
+        if isinstance(call, Read):
+            return Values(self.number, [self.state.get(at, UNDEF) for at in call.places])
+        stale = [at for at, number in call.reads if self.writers.get(at, 0) > number]
+        if stale:
+            return Stale(min(stale))
+        try:
+            written = updates_on(self.state, call.move)
+        except Clash as clash:
+            return Clashed(clash.at, clash.cause)
+        if self.number >= self.capacity:
+            return Full()
+        self.number += 1
+        for at, value in written.items():
+            write_to(self.state, at, value)
+            self.writers[at] = self.number
+        return Fired(self.number)
+
+
+def first_illegal(history: History) -> int | None:
+    """Answers the number of the first event whose answer is another than that of a storage of one thread."""
+    storage = Storage(history.init, history.capacity)
+    for number, event in enumerate(history.events):
+        given = storage.reply(event.call)
+        if type(given) is not type(event.reply) or given != event.reply:
+            return number
+    return None
+
+
+def write_journal(history: History) -> bytes:
+    header = {
+        "agents": history.agents,
+        "capacity": history.capacity,
+        "events": len(history.events),
+        "init": pairs_json(history.init),
+        "version": VERSION,
+    }
+    lines = [header, *map(_event_json, history.events)]
+    return "".join(jsontext.write(line) + "\n" for line in lines).encode()
+
+
+def _event_json(event: Event) -> Json:
+    call: Json
+    if isinstance(event.call, Read):
+        call = {"read": [location_json(at) for at in event.call.places]}
+    else:
+        reads: Json = [[location_json(at), number] for at, number in event.call.reads]
+        call = {"fire": [instruction_json(it) for it in event.call.move], "reads": reads}
+    return {"agent": event.agent, "call": call, "reply": _reply_json(event.reply)}
+
+
+def _reply_json(reply: Reply) -> Json:
+    if isinstance(reply, Values):
+        return {"number": reply.number, "values": [value_json(it) for it in reply.values]}
+    if isinstance(reply, Fired):
+        return {"fired": reply.number}
+    if isinstance(reply, Stale):
+        return {"stale": location_json(reply.at)}
+    if isinstance(reply, Clashed):
+        return {"clash": [location_json(reply.at), reply.cause]}
+    return "full"
+
+
+def read_journal(text: bytes) -> History:
+    """Reads a journal, or raises its first fault."""
+    lines = _Lines(text)
+    value = lines.next()
+    version = value.get("version") if isinstance(value, dict) else None
+    if (is_whole(version, I64) or is_whole(version, U64)) and version not in VERSIONS:
+        raise BadJournal("journal version")
+    try:
+        history, events = _read_header(value)
+    except WrongShape as error:
+        raise _no_shape(1) from error
+    for number in range(2, events + 2):
+        value = lines.next()
+        try:
+            history.events.append(_read_event(value, history.agents))
+        except WrongShape as error:
+            raise _no_shape(number) from error
+    if lines.is_left():
+        raise _no_shape(events + 2)
+    return history
+
+
+def _no_shape(number: int) -> BadJournal:
+    return BadJournal(f"journal line {number}: shape")
+
+
+class _Lines:
+    """The lines of a journal, one after the other."""
+
+    def __init__(self, text: bytes) -> None:
+        *self.ended, self.last = text.split(b"\n")
+        self.number = 0
+
+    def is_left(self) -> bool:
+        return self.number < len(self.ended) or bool(self.last)
+
+    def next(self) -> Json:
+        """Answers the value of the next line, or raises the fault that the line has whatever should stand there."""
+        if not self.is_left():
+            raise BadJournal("journal cut")
+        has_feed = self.number < len(self.ended)
+        line = self.ended[self.number] if has_feed else self.last
+        self.number += 1
+        try:
+            value = jsontext.read(line)
+        except jsontext.NotJson as error:
+            raise BadJournal(f"journal line {self.number}: not JSON") from error
+        if not has_feed:
+            raise BadJournal("journal cut")
+        return value
+
+
+def _read_header(value: Json) -> tuple[History, int]:
+    """Answers the history without its events, and how many these are."""
+    agents, capacity, events, init, _ = entries(
+        value, "agents", "capacity", "events", "init", "version"
+    )
+    if not any(is_whole(value["version"], range(it, it + 1)) for it in VERSIONS):
+        raise WrongShape
+    most = range(MAX_AGENTS + 1)
+    history = History(read_state(init), whole(capacity, CAPACITIES), whole(agents, most))
+    return history, whole(events, U32)
+
+
+def _read_event(value: Json, agents: int) -> Event:
+    agent, call, reply = entries(value, "agent", "call", "reply")
+    number = whole(agent, range(agents))
+    if has_key(call, "read"):
+        places = read_all(call["read"], read_location, MAX_READS)
+        at, values = entries(reply, "number", "values")
+        read = Values(whole(at, U32), [read_value(it) for it in members(values, len(places))])
+        return Event(number, Read(places), read)
+    fire, reads = entries(call, "fire", "reads")
+    move = read_all(fire, read_instruction, MAX_INSTRUCTIONS)
+    return Event(number, Fire(move, read_all(reads, _read_named, MAX_READS)), _read_reply(reply))
+
+
+def _read_named(value: Json) -> tuple[Location, int]:
+    at, number = members(value, 2)
+    return read_location(at), whole(number, U32)
+
+
+def _read_reply(value: Json) -> Reply:
+    if value == "full":
+        return Full()
+    if has_key(value, "fired"):
+        return Fired(whole(value["fired"], U32))
+    if has_key(value, "stale"):
+        return Stale(read_location(value["stale"]))
+    if not has_key(value, "clash"):
+        raise WrongShape
+    at, cause = members(value["clash"], 2)
+    if cause not in CAUSES:
+        raise WrongShape
+    return Clashed(read_location(at), cause)

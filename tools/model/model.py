@@ -1,0 +1,102 @@
+#!/usr/bin/env python3
+"""A second implementation of the program, for comparison: slow, plain, and written from the page on formats in docs/.
+
+It takes the program's words, reads its standard input, and ends with its status: `run [--capacity N] [--journal]` and
+`check`. It plays one agent after the other, and so refuses, with status 70, a script of several agents whose output may
+depend on the order of their moves. It has no text of help.
+"""
+
+import re
+import sys
+from typing import NamedTuple
+
+from journal import CAPACITIES, BadJournal, first_illegal, read_journal, write_journal
+from play import SeveralAgents, play, report
+from script import BadScript, read_script
+
+MAX_INPUT = 2**24
+DEFAULT_CAPACITY = 4096
+REFUSED = 70
+
+
+class Answer(NamedTuple):
+    status: int
+    output: bytes
+
+
+class RunWords(NamedTuple):
+    capacity: int
+    is_journal: bool
+
+
+def answer(words: list[str], text: bytes) -> Answer:
+    """Answers what the program does with these words, its own name not among them, and this input."""
+    given = read_words(words)
+    if given is None:
+        return line(2, "bad words")
+    if len(text) > MAX_INPUT:
+        return line(2, "input too large")
+    try:
+        return check(text) if given == "check" else run(given, text)
+    except BadScript as error:
+        return line(2, f"bad script: {error}")
+    except BadJournal as error:
+        return line(2, str(error))
+
+
+def line(status: int, text: str) -> Answer:
+    return Answer(status, f"{text}\n".encode())
+
+
+def run(given: RunWords, text: bytes) -> Answer:
+    played = play(read_script(text), given.capacity, given.is_journal)
+    return Answer(0, write_journal(played.history) if given.is_journal else report(played))
+
+
+def check(text: bytes) -> Answer:
+    history = read_journal(text)
+    illegal = first_illegal(history)
+    if illegal is not None:
+        return line(1, f"illegal {illegal}")
+    return line(0, f"legal {len(history.events)} {history.moves()}")
+
+
+def read_words(words: list[str]) -> RunWords | str | None:
+    """Answers what the words ask for, or None where they are refused; an option may be given once."""
+    if words == ["check"]:
+        return "check"
+    if words[:1] != ["run"]:
+        return None
+    capacity, is_journal = None, False
+    rest = iter(words[1:])
+    for word in rest:
+        name, equals, text = word.partition("=")
+        if name == "--capacity" and capacity is None:
+            capacity = read_capacity(text if equals else next(rest, ""))
+            if capacity is None:
+                return None
+        elif word == "--journal" and not is_journal:
+            is_journal = True
+        else:
+            return None
+    return RunWords(DEFAULT_CAPACITY if capacity is None else capacity, is_journal)
+
+
+def read_capacity(text: str) -> int | None:
+    if not re.fullmatch(r"\+?[0-9]{1,4000}", text, re.ASCII):
+        return None
+    return int(text) if int(text) in CAPACITIES else None
+
+
+def main() -> int:
+    try:
+        given = answer(sys.argv[1:], sys.stdin.buffer.read(MAX_INPUT + 1))
+    except SeveralAgents:
+        print("model: the output may depend on the order of the agents' moves", file=sys.stderr)
+        return REFUSED
+    sys.stdout.buffer.write(given.output)
+    return given.status
+
+
+if __name__ == "__main__":
+    sys.exit(main())

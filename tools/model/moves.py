@@ -1,0 +1,179 @@
+"""Moves: their JSON forms, what firing one makes of a state, and what two in sequence come to."""
+
+from collections import defaultdict
+from collections.abc import Callable
+from typing import NamedTuple, TypeVar, Union
+
+from families import NoResult, Partial, TooLarge, family_of
+from jsontext import Json
+from values import (
+    COUNTS,
+    UNDEF,
+    Element,
+    Location,
+    State,
+    Value,
+    WrongShape,
+    element_json,
+    items,
+    location_json,
+    read_element,
+    read_location,
+    read_value,
+    value_json,
+    whole,
+)
+
+
+class Put(NamedTuple):
+    """A regular update."""
+
+    value: Value
+
+
+Action = Union[Put, Partial]
+Instruction = tuple[Location, Action]
+Move = list[Instruction]
+Content = TypeVar("Content")
+
+MAX_INSTRUCTIONS = 4096
+# The words of partial updates: family, whether they add, and whether an amount stands behind the element.
+WORDS = {
+    "add": ("set", True, False),
+    "remove": ("set", False, False),
+    "bagadd": ("bag", True, True),
+    "bagremove": ("bag", False, True),
+}
+
+
+class Clash(Exception):
+    def __init__(self, at: Location, cause: str) -> None:
+        super().__init__(at, cause)
+        self.at = at
+        self.cause = cause
+
+
+class LargeAmount(Exception):
+    def __init__(self, at: Location) -> None:
+        super().__init__(at)
+        self.at = at
+
+
+class ManyInstructions(Exception):
+    """The composed move has more instructions than a move may have."""
+
+
+def read_instruction(value: Json) -> Instruction:
+    return read_with(value, read_value, read_element)
+
+
+def read_with(
+    value: Json, read_put: Callable[[Json], Content], read_part: Callable[[Json], Content]
+) -> tuple[Location, Union[Put, Partial]]:
+    """Reads an instruction, what it puts by the one reader and the element of a partial update by the other."""
+    listed = items(value, 4)
+    if len(listed) < 3 or not isinstance(listed[0], str):
+        raise WrongShape
+    word, at, content, *rest = listed
+    if word == "put" and not rest:
+        return read_location(at), Put(read_put(content))
+    if word not in WORDS or len(rest) != WORDS[word][2]:
+        raise WrongShape
+    family, adds, _ = WORDS[word]
+    amount = whole(rest[0], COUNTS) if rest else 1
+    return read_location(at), Partial(family, adds, read_part(content), amount)
+
+
+def instruction_json(instruction: Instruction) -> Json:
+    at, action = instruction
+    if isinstance(action, Put):
+        return ["put", location_json(at), value_json(action.value)]
+    for word, (family, adds, has_amount) in WORDS.items():
+        if (family, adds) == (action.family, action.adds):
+            amounts = [action.amount] if has_amount else []
+            return [word, location_json(at), element_json(action.element), *amounts]
+    raise AssertionError(action)
+
+
+def grouped(move: Move) -> dict[Location, list[Action]]:
+    groups: dict[Location, list[Action]] = defaultdict(list)
+    for at, action in move:
+        groups[at].append(action)
+    return groups
+
+
+def split(group: list[Action]) -> tuple[list[Value], list[Partial]]:
+    """Answers the regular values of a group, which are one, none or a clash, and its partial updates."""
+    regular: list[Value] = []
+    for action in group:
+        if isinstance(action, Put) and action.value not in regular:
+            regular.append(action.value)
+    if len(regular) > 1:
+        raise NoResult("Two")
+    return regular, [it for it in group if isinstance(it, Partial)]
+
+
+def result(old: Value, group: list[Action]) -> Value:
+    regular, partials = split(group)
+    if not partials:
+        return regular[0]
+    base = regular[0] if regular else old
+    return family_of(partials).applied(base, bool(regular), partials)
+
+
+def updates(look_up: Callable[[Location], Value], move: Move) -> dict[Location, Value]:
+    """Answers what the move writes, or raises the clash at the least location that has no result."""
+    written: dict[Location, Value] = {}
+    for at, group in sorted(grouped(move).items()):
+        try:
+            written[at] = result(look_up(at), group)
+        except NoResult as error:
+            raise Clash(at, error.cause) from error
+    return written
+
+
+def updates_on(state: State, move: Move) -> dict[Location, Value]:
+    return updates(lambda at: state.get(at, UNDEF), move)
+
+
+def composed(first: Move, second: Move) -> Move:
+    """Answers the move that does what the two do in sequence."""
+    sides = grouped(first), grouped(second)
+    both: Move = []
+    for at in sorted({*sides[0], *sides[1]}):
+        try:
+            actions = _composed_groups(sides[0].get(at, []), sides[1].get(at, []))
+        except NoResult as error:
+            raise Clash(at, error.cause) from error
+        except TooLarge as error:
+            raise LargeAmount(at) from error
+        both += [(at, action) for action in actions]
+    if len(both) > MAX_INSTRUCTIONS:
+        raise ManyInstructions
+    return both
+
+
+def _alone(group: list[Action]) -> list[Value]:
+    """Answers the regular value of a group, if it has one, or raises the cause that it has on each old value."""
+    regular, partials = split(group)
+    if regular:
+        return [result(UNDEF, group)]
+    if partials:
+        family_of(partials).check_alone(partials)
+    return []
+
+
+def _composed_groups(first: list[Action], second: list[Action]) -> list[Action]:
+    before = _alone(first)
+    regular, partials = split(second)
+    if regular:
+        return [Put(value) for value in _alone(second)]
+    if before:
+        return [Put(result(before[0], second) if second else before[0])]
+    _alone(second)
+    earlier = split(first)[1]
+    sides = [family_of(side) for side in (earlier, partials) if side]
+    if sides[0] is not sides[-1]:
+        raise NoResult("Kind")
+    return list(sides[0].joined(earlier, partials))
+

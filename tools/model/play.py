@@ -1,0 +1,93 @@
+"""Plays scripts, one agent after the other, and writes their reports."""
+
+from typing import NamedTuple
+
+import jsontext
+from families import Partial
+from journal import Clashed, Event, Fire, Fired, Full, History, Read, Stale, Storage, Values
+from moves import Clash, LargeAmount, ManyInstructions
+from script import NoTerm, Script, Step, reads, step_move
+from values import Location, State, location_json, pairs_json
+
+
+class SeveralAgents(Exception):
+    """The output may depend on the order in which the agents' moves are fired."""
+
+
+class Played(NamedTuple):
+    history: History
+    final: State
+    # The lines of the steps that didn't fire.
+    lines: list[str]
+
+
+def play(script: Script, capacity: int, is_journal: bool) -> Played:
+    """Plays the script, if its output is the same in whichever order the agents move."""
+    playing = [steps for steps in script.agents if steps]
+    if len(playing) > 1 and (is_journal or not _is_apart(playing, capacity)):
+        raise SeveralAgents
+    storage = Storage(script.init, capacity)
+    history = History(script.init, capacity, len(script.agents))
+    lines: list[str] = []
+    for agent, steps in enumerate(script.agents):
+        for number, step in enumerate(steps):
+            outcome = _play_step(storage, history, agent, step)
+            if outcome:
+                lines.append(f"agent {agent} step {number} {outcome}")
+    return Played(history, storage.state, lines)
+
+
+def report(played: Played) -> bytes:
+    pairs = [jsontext.write(pair) for pair in pairs_json(played.final)]
+    lines = [*pairs, f"moves {played.history.moves()}", *played.lines]
+    return "".join(line + "\n" for line in lines).encode()
+
+
+def step_fault(step: Step, reading: State) -> str | Fire:
+    """Answers the move that the step fires on what was read, naming nothing, or the outcome that it has before."""
+    try:
+        return Fire(step_move(step, reading), [])
+    except NoTerm:
+        return "term"
+    except Clash as clash:
+        return clash_line(clash.at, clash.cause)
+    except LargeAmount as large:
+        return f"large {jsontext.write(location_json(large.at))}"
+    except ManyInstructions:
+        return "many"
+
+
+def clash_line(at: Location, cause: str) -> str:
+    return f"clash {jsontext.write(location_json(at))} {cause}"
+
+
+def _play_step(storage: Storage, history: History, agent: int, step: Step) -> str | None:
+    """Answers the outcome of a step that didn't fire. No other agent moves meanwhile, so nothing is stale."""
+    places = reads(step)
+    reading: State = {}
+    if places:
+        answer = storage.reply(Read(places))
+        assert isinstance(answer, Values)
+        history.events.append(Event(agent, Read(places), answer))
+        reading = dict(zip(places, answer.values))
+    fire = step_fault(step, reading)
+    if isinstance(fire, str):
+        return fire
+    call = Fire(fire.move, [(at, storage.number) for at in places])
+    reply = storage.reply(call)
+    history.events.append(Event(agent, call, reply))
+    assert not isinstance(reply, Stale)
+    if isinstance(reply, Clashed):
+        return clash_line(reply.at, reply.cause)
+    return "full" if isinstance(reply, Full) else None
+
+
+def _is_apart(playing: list[list[Step]], capacity: int) -> bool:
+    """Tells that no two agents touch one location, and that the storage has room for each step."""
+    touched = [{at for step in steps for at in _touched(step)} for steps in playing]
+    is_disjoint = sum(map(len, touched)) == len(set().union(*touched))
+    return is_disjoint and sum(map(len, playing)) <= capacity
+
+
+def _touched(step: Step) -> set[Location]:
+    return {at for block in step for at, _ in block} | set(reads(step))

@@ -1,0 +1,169 @@
+"""Scripts: their JSON form, the limits that are checked after it, and what a step's terms and blocks come to."""
+
+from collections.abc import Callable
+from dataclasses import dataclass
+from typing import NamedTuple, Union
+
+import jsontext
+from families import Partial
+from jsontext import I64, Json
+from moves import MAX_INSTRUCTIONS, Move, Put, composed, read_with, updates
+from values import (
+    NUMBER,
+    UNDEF,
+    Location,
+    State,
+    Value,
+    WrongShape,
+    entries,
+    has_key,
+    is_element,
+    items,
+    members,
+    read_all,
+    read_location,
+    read_state,
+    read_value,
+)
+
+MAX_AGENTS = 256
+MAX_BLOCKS = 65
+MAX_READS = 256
+
+
+class Val(NamedTuple):
+    """The term that is the value of a location."""
+
+    at: Location
+
+
+class Sum(NamedTuple):
+    left: "Term"
+    right: "Term"
+
+
+class Known(NamedTuple):
+    """The term that is a value."""
+
+    value: Value
+
+
+Term = Union[Known, Val, Sum]
+# An instruction with terms: what it puts, or the element of a partial update, is a term.
+Block = list[tuple[Location, Union[Put, Partial]]]
+Step = list[Block]
+LookUp = Callable[[Location], Value]
+
+
+class BadScript(Exception):
+    """The script is refused, for the cause that is told."""
+
+
+class NoTerm(Exception):
+    """A term of the step has no value."""
+
+
+@dataclass
+class Script:
+    init: State
+    agents: list[list[Step]]
+
+
+def read_script(text: bytes) -> Script:
+    """Reads a script, or raises the first cause why it is refused."""
+    try:
+        init, agents = entries(jsontext.read(text), "init", "agents")
+        script = Script(read_state(init), read_all(agents, _read_agent))
+    except jsontext.NotJson as error:
+        raise BadScript("not JSON") from error
+    except WrongShape as error:
+        raise BadScript("shape") from error
+    if len(script.agents) > MAX_AGENTS:
+        raise BadScript("agents")
+    for steps in script.agents:
+        for step in steps:
+            _check_step(step)
+    return script
+
+
+def _read_agent(value: Json) -> list[Step]:
+    return [[read_all(block, _read_line) for block in items(step)] for step in items(value)]
+
+
+def _read_line(value: Json) -> tuple[Location, Union[Put, Partial]]:
+    return read_with(value, read_term, read_term)
+
+
+def read_term(value: Json) -> Term:
+    if has_key(value, "val"):
+        return Val(read_location(value["val"]))
+    if has_key(value, "sum"):
+        return Sum(*map(read_term, members(value["sum"], 2)))
+    return Known(read_value(value))
+
+
+def _check_step(step: Step) -> None:
+    if not 1 <= len(step) <= MAX_BLOCKS:
+        raise BadScript("blocks")
+    if any(len(block) > MAX_INSTRUCTIONS for block in step):
+        raise BadScript("instructions")
+    if len(reads(step)) > MAX_READS:
+        raise BadScript("reads")
+
+
+def reads(step: Step) -> list[Location]:
+    """Answers what the step names under `val`, and the targets of partial updates in all blocks but the last."""
+    found: set[Location] = set()
+    for number, block in enumerate(step, 1):
+        for at, action in block:
+            is_partial = isinstance(action, Partial)
+            if is_partial and number < len(step):
+                found.add(at)
+            _gather(action.element if is_partial else action.value, found)
+    return sorted(found)
+
+
+def _gather(term: Term, found: set[Location]) -> None:
+    if isinstance(term, Val):
+        found.add(term.at)
+    elif isinstance(term, Sum):
+        _gather(term.left, found)
+        _gather(term.right, found)
+
+
+def step_move(step: Step, reading: State) -> Move:
+    """Answers the one move that the blocks come to, each on what was read as those before it overwrite it."""
+    seen = dict(reading)
+    whole: Move = []
+    for number, block in enumerate(step):
+        move = [_evaluated(line, seen) for line in block]
+        if number + 1 < len(step):
+            seen.update(updates(lambda at: seen.get(at, UNDEF), move))
+        whole = composed(whole, move) if number else move
+    return whole
+
+
+def _evaluated(
+    line: tuple[Location, Union[Put, Partial]], seen: State
+) -> tuple[Location, Union[Put, Partial]]:
+    at, action = line
+    if isinstance(action, Put):
+        return at, Put(_value(action.value, seen))
+    element = _value(action.element, seen)
+    if not is_element(element):
+        raise NoTerm
+    return at, action._replace(element=element)
+
+
+def _value(term: Term, seen: State) -> Value:
+    if isinstance(term, Known):
+        return term.value
+    if isinstance(term, Val):
+        return seen.get(term.at, UNDEF)
+    both = [_value(term.left, seen), _value(term.right, seen)]
+    if not all(is_element(it) and it[0] == NUMBER for it in both):
+        raise NoTerm
+    total = both[0][1] + both[1][1]
+    if total not in I64:
+        raise NoTerm
+    return (NUMBER, total)

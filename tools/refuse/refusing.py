@@ -1,0 +1,96 @@
+"""Runs a program with each of its allocations refused in turn, by the library that `refuse.c` is built into."""
+
+import os
+import subprocess
+import tempfile
+from collections import Counter
+from collections.abc import Callable, Iterator
+from concurrent.futures import ThreadPoolExecutor
+from itertools import count
+from pathlib import Path
+from typing import NamedTuple
+
+TIME_LIMIT = 120
+DID_NOT_END = -1000
+
+
+class Ended(NamedTuple):
+    """How a run ended; a signal's number is negative."""
+
+    status: int
+    output: bytes
+
+    def __str__(self) -> str:
+        status = "it did not end" if self.status == DID_NOT_END else f"status {self.status}"
+        return f"{status}, {self.output[-500:].decode(errors='backslashreplace')!r}"
+
+
+class Sweep(NamedTuple):
+    """The runs of one program: what those came to that ended well, and which ended otherwise."""
+
+    sorts: Counter[str]
+    faults: dict[int, Ended]
+    is_whole: bool
+
+
+class Refuser:
+    """The built library, in a folder of its own that lasts as long as this."""
+
+    def __init__(self, jobs: int) -> None:
+        self.jobs = jobs
+        self.folder = tempfile.TemporaryDirectory(prefix="refuse_")
+        self.library = f"{self.folder.name}/refuse.so"
+        source = Path(__file__).with_name("refuse.c")
+        compiler = os.environ.get("CC", "cc")
+        subprocess.run(
+            [compiler, "-O2", "-shared", "-fPIC", "-o", self.library, source], check=True
+        )
+
+    def run(self, words: list[str], text: bytes, number: int = 0) -> tuple[Ended, bool]:
+        """Runs the program with the call of this number refused (of 0: none); tells also whether one was refused."""
+        mark = Path(f"{self.folder.name}/mark_{number}")
+        given = {"LD_PRELOAD": self.library, "FAIL_AT": str(number), "REFUSED_MARK": str(mark)}
+        try:
+            ran = subprocess.run(
+                words,
+                input=text,
+                stdout=subprocess.PIPE,
+                stderr=subprocess.STDOUT,
+                env={**os.environ, **given},
+                timeout=TIME_LIMIT,
+                check=False,
+            )
+            ended = Ended(ran.returncode, ran.stdout)
+        except subprocess.TimeoutExpired as error:
+            ended = Ended(DID_NOT_END, error.stdout or b"")
+        is_refused = mark.exists()
+        mark.unlink(missing_ok=True)
+        return ended, is_refused
+
+    def sweep(
+        self,
+        words: list[str],
+        text: bytes,
+        sort_of: Callable[[Ended], str | None],
+        most: int | None = None,
+    ) -> Sweep:
+        """Refuses each call in turn until none is refused, or as many as `most`; `sort_of` is None for a bad end."""
+        sorts: Counter[str] = Counter()
+        faults: dict[int, Ended] = {}
+        for number, (ended, is_refused) in enumerate(self.runs(words, text), 1):
+            if not is_refused or (most is not None and number > most):
+                return Sweep(sorts, faults, not is_refused)
+            sort = sort_of(ended)
+            if sort is None:
+                faults[number] = ended
+            else:
+                sorts[sort] += 1
+        raise AssertionError("the runs have no end of their own")
+
+    def runs(self, words: list[str], text: bytes) -> Iterator[tuple[Ended, bool]]:
+        """Answers the runs in the order of the calls that they refuse, some of them made beside each other."""
+        at_once = 4 * self.jobs
+        with ThreadPoolExecutor(self.jobs) as pool:
+            for first in count(1, at_once):
+                numbers = range(first, first + at_once)
+                yield from pool.map(lambda number: self.run(words, text, number), numbers)
