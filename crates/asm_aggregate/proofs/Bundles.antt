@@ -16,8 +16,9 @@ use Rattle.asm_update.specs.Action.{is_partial, regular_value}
 use Rattle.asm_update.specs.Fire.{first}
 use Rattle.asm_update.specs.Move.{Move, actions_at, are_different, writes}
 use Rattle.asm_update.specs.declared.action.Action.{Action}
-use Rattle.asm_update.specs.declared.action.Action.TheVariants.{Regular, SetAdd, SetRemove, BagAdd, BagRemove}
+use Rattle.asm_update.specs.declared.action.Action.TheVariants.{Regular}
 use Rattle.asm_update.specs.declared.action.Instruction.{Instruction}
+use Rattle.asm_update.proofs.ActionLemmas.{IsRegular, IsPartial, kinds, partial_none}
 use Rattle.asm_aggregate.specs.Bundle.{Bundle, bundle_of, IsWritten}
 
 abbrev pub parts : Option Value → Bool → List Action → Bundle
@@ -70,18 +71,10 @@ module _ (G : List Action) (v : Value) (r : Option Value) (d : Bool) (ps : List 
         (e i).partials
 
 partial_value : (x : Action) → is_partial x ≡ true → filter_map regular_value (x ∷ []) ≡ []
-partial_value (Regular v) h = cc
-partial_value (SetAdd e) h = refl
-partial_value (SetRemove e) h = refl
-partial_value (BagAdd e n) h = refl
-partial_value (BagRemove e n) h = refl
+partial_value x h = rw (partial_none x h) refl
 
 partial_kept : (x : Action) → is_partial x ≡ true → filter is_partial (x ∷ []) ≡ x ∷ []
-partial_kept (Regular v) h = cc
-partial_kept (SetAdd e) h = refl
-partial_kept (SetRemove e) h = refl
-partial_kept (BagAdd e n) h = refl
-partial_kept (BagRemove e n) h = refl
+partial_kept x h = rw h refl
 
 -- a partial update more
 pub one_partial : (G : List Action) (x : Action) (r : Option Value) (d : Bool) (ps : List Action) →
@@ -94,20 +87,15 @@ one_partial G x r d ps h part =
     ((filter-append is_partial G (x ∷ []) ∙ ap (λ ys. filter is_partial G ++ ys) (partial_kept x part)) i))
 
 pub partial_unless : (x : Action) → ((v : Value) → x ≡ Regular v → ⊥) → is_partial x ≡ true
-partial_unless (Regular v) h = absurd (h v refl)
-partial_unless (SetAdd e) h = refl
-partial_unless (SetRemove e) h = refl
-partial_unless (BagAdd e n) h = refl
-partial_unless (BagRemove e n) h = refl
+partial_unless x h = elim (kinds x) [ IsRegular v e ↦ absurd (h v e) | IsPartial p n ↦ p ]
 
 -- what is written has an action
 pub nothing : (xs : List Action) → filter_map regular_value xs ≡ [] → filter is_partial xs ≡ [] → xs ≡ []
 nothing [] h k = refl
-nothing (Regular v ∷ xs) h k = cc
-nothing (SetAdd e ∷ xs) h k = cc
-nothing (SetRemove e ∷ xs) h k = cc
-nothing (BagAdd e n ∷ xs) h k = cc
-nothing (BagRemove e n ∷ xs) h k = cc
+nothing (x ∷ xs) h k = elim (kinds x) [
+  | IsRegular v e ↦ let some = rw e at h in cc
+  | IsPartial p n ↦ let some = rw p at k in cc
+]
 
 pub no_actions : (M : Move) (l : Place) → actions_at M l ≡ [] → writes M l ≡ false
 no_actions [] l h = refl

@@ -3,7 +3,7 @@ use Rattle.std.proofs.Common.{◌≡◌, ◌≢◌, Bool, true, false, cond, Lis
 use Rattle.std.specs.Prelude.{Ok, Err, None, Some, filter}
 use Rattle.std.specs.List.{list_all, filter_map}
 use Rattle.std.proofs.lemmas.List.Elements.{All-nil}
-use Rattle.asm_element.specs.Tests.{ok_is}
+use Rattle.asm_element.specs.Tests.{both, ok_is}
 use Rattle.asm_element.specs.Value as value
 use Rattle.asm_element.specs.Value.{undef}
 use Rattle.asm_element.specs.declared.value.Value.{Value}
@@ -12,8 +12,9 @@ use Rattle.asm_update.specs.Aggregator.{Meaning, AggregatorLaws, Joined, Refusal
 use Rattle.asm_update.specs.Fire.{Part, Outcome, first, group_result, res}
 use Rattle.asm_update.specs.Move.{are_different}
 use Rattle.asm_update.specs.declared.action.Action.{Action}
-use Rattle.asm_update.specs.declared.action.Action.TheVariants.{Regular, SetAdd, SetRemove, BagAdd, BagRemove}
+use Rattle.asm_update.specs.declared.action.Action.TheVariants.{Regular}
 use Rattle.asm_update.specs.declared.clash.Cause.TheVariants.{Two}
+use Rattle.asm_update.proofs.ActionLemmas.{IsRegular, IsPartial, kinds, partial_none}
 use Rattle.asm_aggregate.specs.Bundle.{bundle_of, bundle_result}
 use Rattle.asm_aggregate.specs.Compose.{cause_of, alone_clash, own_clash, as_regular, composed}
 use Rattle.asm_aggregate.specs.laws.PairLaws.{passed_unless, refused_none}
@@ -33,19 +34,16 @@ gives part v (x ∷ xs) = res part v (x ∷ xs)
 
 partials_alone : (xs : List Action) → values_of xs ≡ [] → partials_of xs ≡ xs
 partials_alone [] h = refl
-partials_alone (Regular v ∷ xs) h = cc
-partials_alone (SetAdd e ∷ xs) h = ap (λ ys. SetAdd e ∷ ys) (partials_alone xs h)
-partials_alone (SetRemove e ∷ xs) h = ap (λ ys. SetRemove e ∷ ys) (partials_alone xs h)
-partials_alone (BagAdd e n ∷ xs) h = ap (λ ys. BagAdd e n ∷ ys) (partials_alone xs h)
-partials_alone (BagRemove e n ∷ xs) h = ap (λ ys. BagRemove e n ∷ ys) (partials_alone xs h)
+partials_alone (x ∷ xs) h = elim (kinds x) [
+  | IsRegular v e ↦ let some = rw e at h in cc
+  | IsPartial p n ↦ let none = rw n at h in rw p (ap (λ ys. x ∷ ys) (partials_alone xs none))
+]
 
 no_regulars : (xs : List Action) → list_all is_partial xs ≡ true → values_of xs ≡ []
 no_regulars [] h = refl
-no_regulars (Regular v ∷ xs) h = cc
-no_regulars (SetAdd e ∷ xs) h = no_regulars xs h
-no_regulars (SetRemove e ∷ xs) h = no_regulars xs h
-no_regulars (BagAdd e n ∷ xs) h = no_regulars xs h
-no_regulars (BagRemove e n ∷ xs) h = no_regulars xs h
+no_regulars (x ∷ xs) h =
+    let all = both (is_partial x) (list_all is_partial xs) h in
+    rw (partial_none x all.0) (no_regulars xs all.1)
 
 gives_partials : (a : Meaning) (v : Value) (xs : List Action) → values_of xs ≡ [] → gives a.part v xs ≡ after a v xs
 gives_partials a v [] h = refl

@@ -29,7 +29,7 @@ use Rattle.asm_aggregate.specs.BagMeaning.{joined_amount, is_either_large, bag_a
 use Rattle.asm_aggregate.specs.BagMeaning.{bag_meaning, bag_action}
 use Rattle.asm_aggregate.specs.declared.side.Side.{Side}
 use Rattle.asm_aggregate.specs.declared.side.Side.TheVariants.{Added, Removed}
-use Rattle.asm_aggregate.specs.laws.FamilyLemmas.{family_is, all_of_one, all-IsPermutation, all_partial, joined_family}
+use Rattle.asm_aggregate.specs.laws.FamilyLemmas.{kind_is, all_of_one, all-IsPermutation, all_partial, joined_family}
 use Rattle.asm_aggregate.specs.laws.FamilyLemmas.{nil_parts}
 use Rattle.asm_aggregate.specs.laws.TableLemmas.{passed}
 use Rattle.asm_aggregate.specs.laws.SetAlgebra.{elements-empty}
@@ -410,7 +410,7 @@ kind_kept : (f : Family) (old w : Value) (regular : Option Value) (partials : Li
 kind_kept f old w regular partials ne all h =
     let had = had_result old w regular partials h in
     let same : Bag ≡ f = all_of_one Bag f partials ne had.bags all in
-    (family_is Bag _ had.on_bag ∙ ap Some same, ap kind_of (sym had.gave) ∙ ap Some same)
+    (kind_is Bag _ had.on_bag ∙ ap Some same, ap kind_of (sym had.gave) ∙ ap Some same)
 
 proper_kept : (old w : Value) (partials : List Action) → value.IsProper old → AllProper partials →
     bag_result old None partials ≡ Ok w → value.IsProper w

@@ -9,11 +9,13 @@ use Rattle.std.proofs.lemmas.List.Sorted.{list_any-IsPermutation}
 use Rattle.std.proofs.lemmas.Option.{same_Some}
 use Rattle.asm_element.specs.Tests.{or_true}
 pub use Rattle.asm_element.specs.Tests.{both as both_true, neither as none_true}
-use Rattle.asm_update.specs.Action.{family_of, family_eq, is_of, is_partial}
+use Rattle.asm_element.specs.declared.value.Value.{Value}
+use Rattle.asm_element.specs.declared.value.Value.TheVariants as values
+use Rattle.asm_update.specs.Action.{family_of, family_eq, is_of, is_partial, kind_of}
 use Rattle.asm_update.specs.declared.action.Action.{Action}
 use Rattle.asm_update.specs.declared.action.Family.{Family}
 use Rattle.asm_update.specs.declared.action.Family.TheVariants.{Set, Bag}
-use Rattle.asm_aggregate.specs.Families.{common_family}
+use Rattle.asm_aggregate.specs.Families.{is_kind, common_family}
 
 pub same_family : (f g : Family) → family_eq f g ≡ true → f ≡ g
 same_family Set Set h = refl
@@ -32,6 +34,15 @@ family_is f (Some g) h = ap Some (sym (same_family f g h))
 
 pub is_family : (f : Family) (o : Option Family) → o ≡ Some f → option_map_or (family_eq f) o false ≡ true
 is_family f o h = ap (λ o. option_map_or (family_eq f) o false) h ∙ family_itself f
+
+-- the test of a kind finds the family
+pub kind_is : (f : Family) (v : Value) → is_kind f v ≡ true → kind_of v ≡ Some f
+kind_is Set (values.Set s) h = refl
+kind_is Set (values.Plain e) h = cc
+kind_is Set (values.Bag b) h = cc
+kind_is Bag (values.Bag b) h = refl
+kind_is Bag (values.Plain e) h = cc
+kind_is Bag (values.Set s) h = cc
 
 -- an action, and so a value, is of one family
 pub one_family : (f g : Family) (o : Option Family) → o ≡ Some f → o ≡ Some g → f ≡ g

@@ -20,7 +20,7 @@ use Rattle.asm_aggregate.specs.SetMeaning.{owns_sets, members, elements_on, adds
 use Rattle.asm_aggregate.specs.SetMeaning.{element_on, set_actions, set_result, set_joins, set_meaning}
 use Rattle.asm_aggregate.specs.declared.side.Side.{Side}
 use Rattle.asm_aggregate.specs.declared.side.Side.TheVariants.{Added, Removed}
-use Rattle.asm_aggregate.specs.laws.FamilyLemmas.{family_is, all_of_one, all-IsPermutation, all_partial, joined_family}
+use Rattle.asm_aggregate.specs.laws.FamilyLemmas.{kind_is, all_of_one, all-IsPermutation, all_partial, joined_family}
 use Rattle.asm_aggregate.specs.laws.FamilyLemmas.{nil_parts}
 use Rattle.asm_aggregate.specs.laws.TableLemmas.{passed}
 use Rattle.asm_aggregate.specs.laws.SetAlgebra.{elements_by-IsPermutation, elements_on-set_actions, all-set_actions}
@@ -201,7 +201,7 @@ kind_kept : (f : Family) (old w : Value) (regular : Option Value) (partials : Li
 kind_kept f old w regular partials ne all h =
     let had = had_result old w regular partials h in
     let same : Set ≡ f = all_of_one Set f partials ne had.fair.sets all in
-    (family_is Set _ had.on_set ∙ ap Some same, family_is Set _ (gave_set old w regular partials had) ∙ ap Some same)
+    (kind_is Set _ had.on_set ∙ ap Some same, kind_is Set _ (gave_set old w regular partials had) ∙ ap Some same)
 
 proper_kept : (old w : Value) (partials : List Action) → value.IsProper old → AllProper partials →
     set_result old None partials ≡ Ok w → value.IsProper w
