@@ -28,6 +28,9 @@ impl Gate for Open {
 pub(crate) trait Passage {
     fn enter<R: Wait>(&self, rt: &R, agent: u32, call: u64);
 
+    // Called just before each offer of a fire. A gate has no say there; tests let other agents fire.
+    fn meddle(&self);
+
     fn leave<R: Wait>(&self, rt: &R, agent: u32, call: u64);
 }
 
@@ -38,6 +41,8 @@ impl<'g, G: Gate> Passage for Through<'g, G> {
     fn enter<R: Wait>(&self, rt: &R, agent: u32, call: u64) {
         self.0.before(rt, agent, call);
     }
+
+    fn meddle(&self) {}
 
     fn leave<R: Wait>(&self, rt: &R, agent: u32, call: u64) {
         self.0.after(rt, agent, call);

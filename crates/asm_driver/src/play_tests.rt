@@ -2,6 +2,7 @@ use crate::gate::{Gate, Open};
 use crate::outcome::{Outcome, Played, RunError};
 use crate::parsing::parse_script;
 use crate::play::run_script;
+use crate::report::report;
 use crate::script::Script;
 use asm_aggregate::standard;
 use asm_element::{Element, Location, Value};
@@ -17,6 +18,11 @@ const ADDITION: &str = r#"[[["bagadd",["b"],1,1]]]"#;
 const SUM: &str = r#"[[["put",["n"],{"sum":[{"val":["n"]},1]}]]]"#;
 
 const RESET: &str = r#"[[["put",["n"],0]]]"#;
+
+const GIVEN_UP: &str = r#"[["n"],0]
+moves 1001
+agent 0 step 0 gave up
+"#;
 
 /// Appends an agent with the step so many times.
 fn push_agent(text: &mut String, step: &str, count: usize) -> Result<(), Fail> {
@@ -234,6 +240,7 @@ fn an_agent_gives_up_after_1001_tries(rt: HostRuntime) -> Result<(), Fail> {
     assert_eq!(rt; played.history.moves(), 1001);
     assert!(rt; has_number(rt.alloc(), &played, "n", 0)?);
     assert!(rt; gave_up(&played));
+    assert_eq!(rt; report(rt.alloc(), &played)?.as_str(), GIVEN_UP);
     Ok(())
 }
 

@@ -122,7 +122,8 @@ impl<'a, A: Aggregator + Sync + Drop, P: Passage> Player<'a, A, P> {
         ensures { IfOk result (HasTried A.meaning agent.old agent.new reads.now instrs.now) }
     {
         self.passage.enter(rt, agent.id(), *calls);
-        let answer = agent.try_fire(self.alloc, reads, instrs);
+        let passage = &self.passage;
+        let answer = agent.try_fire_with(self.alloc, reads, instrs, &mut || passage.meddle());
         self.passage.leave(rt, agent.id(), *calls);
         *calls = calls.saturating_add(1);
         match answer {

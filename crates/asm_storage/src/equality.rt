@@ -1,8 +1,8 @@
 //! Values that differ in one part alone are not equal.
 
-use crate::rows::{Put, location, move_of};
+use crate::rows::{At, Put, location, move_of, named_of, places_of};
 use crate::*;
-use asm_element::Items;
+use asm_element::{Element, Items, Value};
 use asm_update::{Cause, Clash, Instructions, PlainState};
 use std::alloc::Global;
 use std::test::Fail;
@@ -215,5 +215,94 @@ fn one_part_that_differs_tells_values_apart(rt: HostRuntime) -> Result<(), Fail>
         "cause of a clash"
     );
     assert!(rt; moves_are_told(alloc)?, "instructions of a fire");
+    Ok(())
+}
+
+fn value(number: i64) -> Value {
+    Value::Plain(Element::Num(number))
+}
+
+fn reading(alloc: Global, name: &'static str) -> Result<Call, Fail> {
+    Ok(Call::Read(Items::new(places_of(alloc, &[name])?)))
+}
+
+fn places_are_told(alloc: Global) -> Result<bool, Fail> {
+    let (first, same) = (reading(alloc, "x")?, reading(alloc, "x")?);
+    Ok(are_told(first, same, reading(alloc, "y")?))
+}
+
+fn naming(alloc: Global, number: u32) -> Result<Call, Fail> {
+    let reads = Items::new(named_of(alloc, &[At("x", number)])?);
+    let instrs = Instructions::new(alloc);
+    Ok(Call::Fire { reads, instrs })
+}
+
+fn named_reads_are_told(alloc: Global) -> Result<bool, Fail> {
+    let (first, same) = (naming(alloc, 1)?, naming(alloc, 1)?);
+    Ok(are_told(first, same, naming(alloc, 2)?))
+}
+
+fn told_value(alloc: Global, number: i64) -> Result<Answer, Fail> {
+    let values = Items::new(vec![in alloc; value(number)]?);
+    Ok(Answer::Read { number: 0, values })
+}
+
+fn values_are_told(alloc: Global) -> Result<bool, Fail> {
+    let (first, same) = (told_value(alloc, 1)?, told_value(alloc, 1)?);
+    Ok(are_told(first, same, told_value(alloc, 2)?))
+}
+
+fn putting_entry(alloc: Global, number: i64) -> Result<Entry, Fail> {
+    let instrs = move_of(alloc, &[Put("x", number)])?;
+    Ok(Entry { agent: 0, instrs })
+}
+
+fn entries_are_told(alloc: Global) -> Result<bool, Fail> {
+    let (first, same) = (putting_entry(alloc, 1)?, putting_entry(alloc, 1)?);
+    Ok(are_told(first, same, putting_entry(alloc, 2)?))
+}
+
+fn opened_with(alloc: Global, number: i64) -> Result<History, Fail> {
+    let mut init = PlainState::new(alloc);
+    init.set(location(alloc, "x")?, value(number))?;
+    let events = Items::new(Vec::new(alloc));
+    Ok(History {
+        init,
+        capacity: 8,
+        agents: 2,
+        events,
+    })
+}
+
+fn openings_are_told(alloc: Global) -> Result<bool, Fail> {
+    let (first, same) = (opened_with(alloc, 1)?, opened_with(alloc, 1)?);
+    Ok(are_told(first, same, opened_with(alloc, 2)?))
+}
+
+fn of_one_event(alloc: Global, agent: u32) -> Result<History, Fail> {
+    let event = event(agent, no_fire(alloc), full());
+    let events = Items::new(vec![in alloc; event]?);
+    Ok(History {
+        init: PlainState::new(alloc),
+        capacity: 8,
+        agents: 2,
+        events,
+    })
+}
+
+fn listed_events_are_told(alloc: Global) -> Result<bool, Fail> {
+    let (first, same) = (of_one_event(alloc, 0)?, of_one_event(alloc, 0)?);
+    Ok(are_told(first, same, of_one_event(alloc, 1)?))
+}
+
+#[test]
+fn one_item_that_differs_tells_values_apart(rt: HostRuntime) -> Result<(), Fail> {
+    let alloc = rt.alloc();
+    assert!(rt; places_are_told(alloc)?, "locations of a read");
+    assert!(rt; named_reads_are_told(alloc)?, "named reads of a fire");
+    assert!(rt; values_are_told(alloc)?, "values that were read");
+    assert!(rt; entries_are_told(alloc)?, "instructions of an entry");
+    assert!(rt; openings_are_told(alloc)?, "opening state of a history");
+    assert!(rt; listed_events_are_told(alloc)?, "events of a history");
     Ok(())
 }
