@@ -1,25 +1,36 @@
 """The families of partial updates: what a group of them makes of a value, and what two lists in sequence come to.
 
-A further family is a class of its own here, with an entry in FAMILIES, and a word in `moves.py`.
+A further family is a class of its own here, with an entry in FAMILIES, and words in `moves.py`.
 """
 
 from collections import Counter
 from collections.abc import Iterable
-from typing import NamedTuple, Protocol
+from typing import Any, NamedTuple, Protocol, Union
 
-from jsontext import U32
-from values import BagValue, Element, SetValue, Value
+from jsontext import I64, U32, U64
+from values import NUMBER, BagValue, Element, SetValue, Value, is_element
 
 MAX_COUNT = U32[-1]
+MAX_SUM = U64[-1]
 
 
-class Partial(NamedTuple):
-    """A partial update: of sets (whose amount is 1 and means nothing), or of bags."""
+class Change(NamedTuple):
+    """A partial update of a set (whose amount is 1 and means nothing), or of a bag."""
 
     family: str
     adds: bool
     element: Element
     amount: int = 1
+
+
+class Increment(NamedTuple):
+    """A partial update of a counter, which is a number."""
+
+    number: int
+    family = "count"
+
+
+Partial = Union[Change, Increment]
 
 
 class NoResult(Exception):
@@ -35,18 +46,18 @@ class TooLarge(Exception):
 
 
 class Family(Protocol):
-    def applied(self, base: Value, is_regular: bool, partials: list[Partial]) -> Value:
+    def applied(self, base: Value, is_regular: bool, partials: list[Any]) -> Value:
         """Answers what the partial updates make of the base, which is the group's regular value or the old value."""
 
-    def check_alone(self, partials: list[Partial]) -> None:
+    def check_alone(self, partials: list[Any]) -> None:
         """Raises the cause by which these alone have a result on no value."""
 
-    def joined(self, first: list[Partial], second: list[Partial]) -> list[Partial]:
+    def joined(self, first: list[Any], second: list[Any]) -> list[Any]:
         """Answers the list that does on each value what the first and then the second do."""
 
 
 class SetFamily:
-    def applied(self, base: Value, is_regular: bool, partials: list[Partial]) -> Value:
+    def applied(self, base: Value, is_regular: bool, partials: list[Change]) -> Value:
         if not isinstance(base, SetValue):
             raise NoResult("Kind")
         self.check_alone(partials)
@@ -55,24 +66,24 @@ class SetFamily:
             raise NoResult("Against")
         return base if is_regular else SetValue((base.members - removed) | added)
 
-    def check_alone(self, partials: list[Partial]) -> None:
+    def check_alone(self, partials: list[Change]) -> None:
         added, removed = _parts(partials)
         if added & removed:
             raise NoResult("Both")
 
-    def joined(self, first: list[Partial], second: list[Partial]) -> list[Partial]:
+    def joined(self, first: list[Change], second: list[Change]) -> list[Change]:
         added_1, removed_1 = _parts(first)
         added_2, removed_2 = _parts(second)
         added = (added_1 - removed_2) | added_2
         removed = (removed_1 - added_2) | removed_2
         return [
-            *(Partial("set", True, it) for it in sorted(added)),
-            *(Partial("set", False, it) for it in sorted(removed)),
+            *(Change("set", True, it) for it in sorted(added)),
+            *(Change("set", False, it) for it in sorted(removed)),
         ]
 
 
 class BagFamily:
-    def applied(self, base: Value, is_regular: bool, partials: list[Partial]) -> Value:
+    def applied(self, base: Value, is_regular: bool, partials: list[Change]) -> Value:
         if not isinstance(base, BagValue):
             raise NoResult("Kind")
         if is_regular:
@@ -87,10 +98,10 @@ class BagFamily:
             raise NoResult("Large")
         return BagValue({it: count for it, count in new.items() if count})
 
-    def check_alone(self, partials: list[Partial]) -> None:
+    def check_alone(self, partials: list[Change]) -> None:
         """Each list of partial updates of bags has a result on some bag, large amounts aside."""
 
-    def joined(self, first: list[Partial], second: list[Partial]) -> list[Partial]:
+    def joined(self, first: list[Change], second: list[Change]) -> list[Change]:
         added_1, removed_1 = _sums(first)
         added_2, removed_2 = _sums(second)
         every = sorted({*added_1, *removed_1, *added_2, *removed_2})
@@ -99,12 +110,40 @@ class BagFamily:
         if any(amount > MAX_COUNT for _, amount in [*added, *removed]):
             raise TooLarge
         return [
-            *(Partial("bag", True, it, amount) for it, amount in added if amount),
-            *(Partial("bag", False, it, amount) for it, amount in removed if amount),
+            *(Change("bag", True, it, amount) for it, amount in added if amount),
+            *(Change("bag", False, it, amount) for it, amount in removed if amount),
         ]
 
 
-FAMILIES: dict[str, Family] = {"set": SetFamily(), "bag": BagFamily()}
+class CountFamily:
+    def applied(self, base: Value, is_regular: bool, partials: list[Increment]) -> Value:
+        if not is_element(base) or base[0] != NUMBER:
+            raise NoResult("Kind")
+        if is_regular:
+            raise NoResult("Against")
+        number = base[1] + _total(partials)
+        if number not in I64:
+            raise NoResult("Large")
+        return (NUMBER, number)
+
+    def check_alone(self, partials: list[Increment]) -> None:
+        """Increments have a result on some number, large sums aside."""
+
+    def joined(self, first: list[Increment], second: list[Increment]) -> list[Increment]:
+        rest = _total([*first, *second])
+        if abs(rest) > MAX_SUM:
+            raise TooLarge
+        if rest == 0:
+            return [] if first else [Increment(0)]
+        both: list[Increment] = []
+        while rest:
+            part = max(I64[0], min(I64[-1], rest))
+            both.append(Increment(part))
+            rest -= part
+        return both
+
+
+FAMILIES: dict[str, Family] = {"set": SetFamily(), "bag": BagFamily(), "count": CountFamily()}
 
 
 def family_of(partials: Iterable[Partial]) -> Family:
@@ -115,15 +154,19 @@ def family_of(partials: Iterable[Partial]) -> Family:
     return FAMILIES[names.pop()]
 
 
-def _parts(partials: list[Partial]) -> tuple[set[Element], set[Element]]:
+def _parts(partials: list[Change]) -> tuple[set[Element], set[Element]]:
     added = {it.element for it in partials if it.adds}
     removed = {it.element for it in partials if not it.adds}
     return added, removed
 
 
-def _sums(partials: list[Partial]) -> tuple[Counter[Element], Counter[Element]]:
+def _sums(partials: list[Change]) -> tuple[Counter[Element], Counter[Element]]:
     added: Counter[Element] = Counter()
     removed: Counter[Element] = Counter()
     for it in partials:
         (added if it.adds else removed)[it.element] += it.amount
     return added, removed
+
+
+def _total(partials: list[Increment]) -> int:
+    return sum(it.number for it in partials)

@@ -94,6 +94,9 @@ class Maker:
         if kind == "b" and not self.chance(0.2):
             amount = self.random.choice(AMOUNTS) if self.chance(self.heavy) else 1
             return [self.random.choice(["bagadd", "bagadd", "bagremove"]), at, self.part(), amount]
+        if kind == "n" and self.chance(0.5):
+            number = self.random.choice(NUMBERS) if self.chance(self.heavy) else self.random.choice([1, -1])
+            return ["inc", at, self.part() if self.chance(self.strange) else number]
         return ["put", at, self.term(at)]
 
     def block(self) -> Json:
@@ -113,8 +116,8 @@ class Maker:
         return {"init": self.init(), "agents": agents}
 
     def sequence(self) -> Json:
-        """Makes a script of steps of several blocks, mostly of partial updates with large amounts."""
-        self.places, self.elements = [["b"], ["s"]], self.elements[:2]
+        """Makes a script of steps of several blocks, mostly of partial updates with large amounts or numbers."""
+        self.places, self.elements = [["b"], ["s"], ["n"]], self.elements[:2]
         self.strange, self.heavy, self.lines = 0.0, 0.9, [1, 1, 2]
         steps: list[Json] = []
         for _ in range(self.random.randint(1, 6)):
@@ -192,6 +195,8 @@ class Maker:
 
     def known(self, line: Json) -> Json:
         """Puts a value, or an element, in the place of an instruction's term."""
+        if line[0] == "inc":
+            return [*line[:2], self.random.choice(NUMBERS)]
         content = self.value_at(line[1]) if line[0] == "put" else self.element()
         return [*line[:2], content, *line[3:]]
 

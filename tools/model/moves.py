@@ -4,8 +4,8 @@ from collections import defaultdict
 from collections.abc import Callable
 from typing import NamedTuple, TypeVar, Union
 
-from families import NoResult, Partial, TooLarge, family_of
-from jsontext import Json
+from families import Change, Increment, NoResult, Partial, TooLarge, family_of
+from jsontext import I64, Json
 from values import (
     COUNTS,
     UNDEF,
@@ -37,13 +37,14 @@ Move = list[Instruction]
 Content = TypeVar("Content")
 
 MAX_INSTRUCTIONS = 4096
-# The words of partial updates: family, whether they add, and whether an amount stands behind the element.
+# The words of partial updates of sets and bags: family, whether they add, and whether an amount stands behind the element.
 WORDS = {
     "add": ("set", True, False),
     "remove": ("set", False, False),
     "bagadd": ("bag", True, True),
     "bagremove": ("bag", False, True),
 }
+INCREMENT = "inc"
 
 
 class Clash(Exception):
@@ -77,17 +78,21 @@ def read_with(
     word, at, content, *rest = listed
     if word == "put" and not rest:
         return read_location(at), Put(read_put(content))
+    if word == INCREMENT and not rest:
+        return read_location(at), Increment(whole(content, I64))
     if word not in WORDS or len(rest) != WORDS[word][2]:
         raise WrongShape
     family, adds, _ = WORDS[word]
     amount = whole(rest[0], COUNTS) if rest else 1
-    return read_location(at), Partial(family, adds, read_part(content), amount)
+    return read_location(at), Change(family, adds, read_part(content), amount)
 
 
 def instruction_json(instruction: Instruction) -> Json:
     at, action = instruction
     if isinstance(action, Put):
         return ["put", location_json(at), value_json(action.value)]
+    if isinstance(action, Increment):
+        return [INCREMENT, location_json(at), action.number]
     for word, (family, adds, has_amount) in WORDS.items():
         if (family, adds) == (action.family, action.adds):
             amounts = [action.amount] if has_amount else []
@@ -110,7 +115,7 @@ def split(group: list[Action]) -> tuple[list[Value], list[Partial]]:
             regular.append(action.value)
     if len(regular) > 1:
         raise NoResult("Two")
-    return regular, [it for it in group if isinstance(it, Partial)]
+    return regular, [it for it in group if not isinstance(it, Put)]
 
 
 def result(old: Value, group: list[Action]) -> Value:

@@ -3,7 +3,6 @@
 from typing import NamedTuple
 
 import jsontext
-from families import Partial
 from journal import Clashed, Event, Fire, Fired, Full, History, Read, Stale, Storage, Values
 from moves import Clash, LargeAmount, ManyInstructions
 from script import NoTerm, Script, Step, reads, step_move

@@ -5,7 +5,7 @@ from dataclasses import dataclass
 from typing import NamedTuple, Union
 
 import jsontext
-from families import Partial
+from families import Increment, Partial
 from jsontext import I64, Json
 from moves import MAX_INSTRUCTIONS, Move, Put, composed, read_with, updates
 from values import (
@@ -116,10 +116,13 @@ def reads(step: Step) -> list[Location]:
     found: set[Location] = set()
     for number, block in enumerate(step, 1):
         for at, action in block:
-            is_partial = isinstance(action, Partial)
-            if is_partial and number < len(step):
+            if isinstance(action, Put):
+                _gather(action.value, found)
+                continue
+            if number < len(step):
                 found.add(at)
-            _gather(action.element if is_partial else action.value, found)
+            if not isinstance(action, Increment):
+                _gather(action.element, found)
     return sorted(found)
 
 
@@ -149,6 +152,8 @@ def _evaluated(
     at, action = line
     if isinstance(action, Put):
         return at, Put(_value(action.value, seen))
+    if isinstance(action, Increment):
+        return at, action
     element = _value(action.element, seen)
     if not is_element(element):
         raise NoTerm

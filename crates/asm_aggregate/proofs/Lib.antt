@@ -1,5 +1,6 @@
 pub mod SetSteps
 pub mod BagSteps
+mod CountSteps
 mod Walked
 pub mod Exits
 pub mod BagTables

@@ -4,6 +4,7 @@ pub mod Side
 pub mod Sets
 pub mod SetMeaning
 pub mod BagMeaning
+pub mod CountMeaning
 pub mod PairMeaning
 pub mod Nobody
 pub mod Bundle

@@ -4,5 +4,7 @@ pub mod SetAlgebra
 pub mod SetLaws
 pub mod BagAlgebra
 pub mod BagLaws
+pub mod CountAlgebra
+pub mod CountLaws
 pub mod PairLaws
 pub mod NobodyLaws

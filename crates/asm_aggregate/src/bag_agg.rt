@@ -67,7 +67,11 @@ fn take_removed(bag: &mut ElemBag, action: &Action) -> Result<(), ResultError>
             }
             bag.take(element, n);
         }
-        Action::Regular(_) | Action::SetAdd(_) | Action::SetRemove(_) | Action::BagAdd(..) => {}
+        Action::Regular(_)
+        | Action::SetAdd(_)
+        | Action::SetRemove(_)
+        | Action::BagAdd(..)
+        | Action::Increment(_) => {}
     }
     Ok(())
 }
@@ -84,7 +88,11 @@ fn put_added(alloc: Global, bag: &mut ElemBag, action: &Action) -> Result<(), Re
             }
             bag.put(element.copy(alloc)?, n)?;
         }
-        Action::Regular(_) | Action::SetAdd(_) | Action::SetRemove(_) | Action::BagRemove(..) => {}
+        Action::Regular(_)
+        | Action::SetAdd(_)
+        | Action::SetRemove(_)
+        | Action::BagRemove(..)
+        | Action::Increment(_) => {}
     }
     Ok(())
 }
@@ -116,7 +124,9 @@ fn element_named(action: &Action) -> Option<&Element>
 {
     match action {
         Action::BagAdd(element, _) | Action::BagRemove(element, _) => Some(element),
-        Action::Regular(_) | Action::SetAdd(_) | Action::SetRemove(_) => None,
+        Action::Regular(_) | Action::SetAdd(_) | Action::SetRemove(_) | Action::Increment(_) => {
+            None
+        }
     }
 }
 

@@ -9,14 +9,14 @@ use std::test::Fail;
 
 /// What is done at a location, in few letters.
 #[derive(Clone, Copy)]
-enum Line {
+pub(crate) enum Line {
     Put(&'static str, Old),
     Do(&'static str, Act),
 }
 
 /// Why there is no composition, and where.
 #[derive(Clone, Copy)]
-enum Refusal {
+pub(crate) enum Refusal {
     Clashes(&'static str, Cause),
     Large(&'static str),
 }
@@ -26,10 +26,10 @@ use Refusal::{Clashes, Large};
 
 /// What is done first, what is done then, and what the two compose to.
 #[derive(Clone, Copy)]
-struct Row(
-    &'static [Line],
-    &'static [Line],
-    Result<&'static [Line], Refusal>,
+pub(crate) struct Row(
+    pub(crate) &'static [Line],
+    pub(crate) &'static [Line],
+    pub(crate) Result<&'static [Line], Refusal>,
 );
 
 fn steps(alloc: Global, lines: &[Line]) -> Result<Instructions, Fail> {
@@ -92,7 +92,7 @@ fn composes<A: Aggregator>(alloc: Global, aggregator: &A, row: Row) -> Result<bo
     is_composed(alloc, answer, row.2)
 }
 
-fn compose_all<R: Abort, A: Aggregator>(
+pub(crate) fn compose_all<R: Abort, A: Aggregator>(
     rt: &R,
     alloc: Global,
     aggregator: &A,
@@ -224,7 +224,7 @@ fn amounts_that_cancel_or_are_too_large(rt: HostRuntime) -> Result<(), Fail> {
 }
 
 /// Whether the move gives this at x where that stands there.
-fn fires(
+pub(crate) fn fires(
     alloc: Global,
     list: &Instructions,
     old: Old,
@@ -240,7 +240,7 @@ static BACK_AGAIN: [Row; 1] = [Row(
     Ok(&[Do("x", BagAdd("e", 1)), Do("x", BagRemove("e", 1))]),
 )];
 
-fn composition_of(alloc: Global, row: Row) -> Result<Instructions, Fail> {
+pub(crate) fn composition_of(alloc: Global, row: Row) -> Result<Instructions, Fail> {
     let first = steps(alloc, row.0)?;
     let second = steps(alloc, row.1)?;
     Ok(compose_of(alloc, &standard(), first, second)?)
@@ -314,7 +314,7 @@ fn any_aggregator_composes(rt: HostRuntime) -> Result<(), Fail> {
 fn errors_have_their_texts(rt: HostRuntime) -> Result<(), Fail> {
     let alloc = rt.alloc();
     let large = ComposeError::Large(location(alloc, "b")?).to_string(alloc)?;
-    assert!(rt; large.as_str() == "a composed amount is above 4,294,967,295");
+    assert!(rt; large.as_str() == "a composed amount or sum is too large");
     let many = ComposeError::ManyInstructions.to_string(alloc)?;
     assert!(rt; many.as_str() == "more than 4,096 instructions");
     let memory = ComposeError::Memory.to_string(alloc)?;

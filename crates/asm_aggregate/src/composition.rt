@@ -26,8 +26,9 @@ pub enum ComposeError {
     /// the cause.
     #[error("the two moves clash")]
     Clash(Clash),
-    /// At the least location that refuses an amount would be above 4,294,967,295.
-    #[error("a composed amount is above 4,294,967,295")]
+    /// At the least location that refuses, a composed amount of a bag would be above 4,294,967,295, or
+    /// the sum of the increments of a counter is farther from 0 than 18,446,744,073,709,551,615.
+    #[error("a composed amount or sum is too large")]
     Large(Location),
     /// No location refuses, and there would be more than 4,096 instructions.
     #[error("more than 4,096 instructions")]

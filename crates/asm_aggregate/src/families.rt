@@ -85,5 +85,6 @@ pub(crate) fn copy_of(alloc: Global, action: &Action) -> Result<Action, AllocErr
         Action::SetRemove(element) => Action::SetRemove(element.copy(alloc)?),
         Action::BagAdd(element, amount) => Action::BagAdd(element.copy(alloc)?, *amount),
         Action::BagRemove(element, amount) => Action::BagRemove(element.copy(alloc)?, *amount),
+        Action::Increment(n) => Action::Increment(*n),
     })
 }

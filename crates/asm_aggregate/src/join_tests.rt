@@ -8,10 +8,10 @@ use std::test::Fail;
 
 /// What is done first, what is done then, and what joins the two.
 #[derive(Clone, Copy)]
-struct Joint(
-    &'static [Act],
-    &'static [Act],
-    Result<&'static [Act], JoinError>,
+pub(crate) struct Joint(
+    pub(crate) &'static [Act],
+    pub(crate) &'static [Act],
+    pub(crate) Result<&'static [Act], JoinError>,
 );
 
 fn are_actions(
@@ -77,7 +77,7 @@ fn joins<R: Abort, A: Aggregator>(
     is_joined(alloc, answer, row.2)
 }
 
-fn join_all<R: Abort, A: Aggregator>(
+pub(crate) fn join_all<R: Abort, A: Aggregator>(
     rt: &R,
     alloc: Global,
     aggregator: &A,

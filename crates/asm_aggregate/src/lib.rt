@@ -1,9 +1,10 @@
-//! Aggregators of partial updates of sets and bags, two of them as one, and the aggregation of a move (CoreASM).
+//! Aggregators of partial updates of sets, bags and counters, two of them as one, and the aggregation of a move (CoreASM).
 #![tactic(auto)]
 
 mod aggregation;
 mod bag_agg;
 mod composition;
+mod count_agg;
 mod families;
 mod groups;
 mod pair;
@@ -13,6 +14,7 @@ mod side;
 pub use aggregation::aggregate;
 pub use bag_agg::BagAgg;
 pub use composition::{ComposeError, compose};
+pub use count_agg::CountAgg;
 pub use pair::{Pair, standard};
 pub use set_agg::SetAgg;
 
@@ -20,6 +22,8 @@ pub use set_agg::SetAgg;
 mod bag_tests;
 #[cfg(test)]
 mod compose_tests;
+#[cfg(test)]
+mod count_tests;
 #[cfg(test)]
 mod example;
 #[cfg(test)]

@@ -3,12 +3,14 @@ ghost use Rattle.std.specs.List.{list_all};
 ghost use Rattle.asm_update.specs.Action.{is_partial};
 ghost use Rattle.asm_update.specs.declared.action.Family as family;
 ghost use Rattle.asm_aggregate.specs.BagMeaning.{bag_meaning};
+ghost use Rattle.asm_aggregate.specs.CountMeaning.{count_meaning};
 ghost use Rattle.asm_aggregate.specs.laws.PairLaws.{pair_laws};
 ghost use Rattle.asm_aggregate.specs.PairMeaning.{pair_meaning, refused, own_cause};
 ghost use Rattle.asm_aggregate.specs.SetMeaning.{set_meaning};
 ghost use Rattle.asm_aggregate.specs.Steps.{IsOwnCause};
 
 use crate::bag_agg::BagAgg;
+use crate::count_agg::CountAgg;
 use crate::families::{common_family, family_of_both};
 use crate::set_agg::SetAgg;
 use asm_element::Value;
@@ -119,9 +121,10 @@ impl<A: Aggregator, B: Aggregator> Aggregator for Pair<A, B> {
     }
 }
 
-/// The aggregator of sets and bags.
-pub fn standard() -> Pair<SetAgg, BagAgg>
-    ensures { ⟦<Pair<SetAgg, BagAgg> as Aggregator>⟧.meaning result ≡ pair_meaning set_meaning bag_meaning }
+/// The aggregator of sets, bags and counters.
+pub fn standard() -> Pair<Pair<SetAgg, BagAgg>, CountAgg>
+    ensures { ⟦<Pair<Pair<SetAgg, BagAgg>, CountAgg> as Aggregator>⟧.meaning result
+        ≡ pair_meaning (pair_meaning set_meaning bag_meaning) count_meaning }
 {
-    Pair::new(SetAgg, BagAgg)
+    Pair::new(Pair::new(SetAgg, BagAgg), CountAgg)
 }

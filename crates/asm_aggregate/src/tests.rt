@@ -31,9 +31,10 @@ pub(crate) enum Act {
     Remove(i64),
     BagAdd(&'static str, u32),
     BagRemove(&'static str, u32),
+    Inc(i64),
 }
 
-use Act::{Add, BagAdd, BagRemove, Remove};
+use Act::{Add, BagAdd, BagRemove, Inc, Remove};
 use Old::{Bag, Counts, Num, Set, Undef};
 
 #[derive(Debug, Drop)]
@@ -100,6 +101,7 @@ pub(crate) fn action_of(alloc: Global, action: Act) -> Result<Action, Fail> {
             let amount = Amount::new(n).ok_or(Zero)?;
             Action::BagRemove(text(alloc, name)?, amount)
         }
+        Inc(n) => Action::Increment(n),
     })
 }
 

@@ -19,14 +19,15 @@ use Rattle.asm_update.specs.declared.action.Action.TheVariants as action
 use Rattle.asm_update.specs.declared.action.Instruction.{Instruction}
 use Rattle.asm_update.specs.declared.clash.Cause.TheVariants.{Two}
 use Rattle.asm_update.specs.declared.clash.Clash.{Clash}
+use Rattle.asm_update.proofs.ActionLemmas.{IsRegular, IsPartial, kinds}
 use Rattle.asm_driver.specs.Terms.{term_value, given_element, given_number, sum_value, locations_in}
 use Rattle.asm_driver.specs.Blocks.{action_in, instruction_in, move_in}
-use Rattle.asm_driver.specs.StepReads.{term_of, target_of, taken, changed}
+use Rattle.asm_driver.specs.StepReads.{places_in, target_of, taken, changed}
 use Rattle.asm_driver.specs.declared.term.Term.{Term}
 use Rattle.asm_driver.specs.declared.term.Term.TheVariants as term
 use Rattle.asm_driver.specs.declared.term.Term.TheVariants.{Val, Sum'}
 use Rattle.asm_driver.specs.declared.block.TermAction.{TermAction}
-use Rattle.asm_driver.specs.declared.block.TermAction.TheVariants.{Put, Add, Remove, BagAdd, BagRemove}
+use Rattle.asm_driver.specs.declared.block.TermAction.TheVariants.{Put, Add, Remove, BagAdd, BagRemove, Increment}
 use Rattle.asm_driver.specs.declared.block.TermInstruction.{TermInstruction}
 use Rattle.asm_driver.specs.declared.block.Block.{Block}
 
@@ -51,19 +52,20 @@ module _ (old new : Old) where
       let other = same_term b (agree_right old new (locations_in a) (locations_in b) same) in
       λ i. sum_value (given_number (one i)) (given_number (other i))
 
-  same_action : (a : TermAction) → Agree old new (locations_in (term_of a)) → action_in old a ≡ action_in new a
+  same_action : (a : TermAction) → Agree old new (places_in a) → action_in old a ≡ action_in new a
   same_action (Put t) same = ap (option_map action.Regular) (same_term t same)
   same_action (Add t) same = ap (λ v. option_map action.SetAdd (given_element v)) (same_term t same)
   same_action (Remove t) same = ap (λ v. option_map action.SetRemove (given_element v)) (same_term t same)
   same_action (BagAdd t n) same = ap (λ v. option_map (λ e. action.BagAdd e n) (given_element v)) (same_term t same)
   same_action (BagRemove t n) same = ap (λ v. option_map (λ e. action.BagRemove e n) (given_element v)) (same_term t same)
+  same_action (Increment n) same = refl
 
   -- so the block has the same move in both
   pub same_move : (b : Block) → Agree old new (taken b) → move_in old b ≡ move_in new b
   same_move [] same = refl
   same_move (i ∷ b) same =
-      let one = same_action i.action (agree_left old new (locations_in (term_of i.action)) (taken b) same) in
-      let others = same_move b (agree_right old new (locations_in (term_of i.action)) (taken b) same) in
+      let one = same_action i.action (agree_left old new (places_in i.action) (taken b) same) in
+      let others = same_move b (agree_right old new (places_in i.action) (taken b) same) in
       λ n. option_and_then (λ j. option_map (λ M. j ∷ M) (others n))
       (option_map (λ a. record { at = i.at; action = a }) (one n))
 
@@ -88,6 +90,7 @@ written_partial old l (Add t) a h partial = refl
 written_partial old l (Remove t) a h partial = refl
 written_partial old l (BagAdd t n) a h partial = refl
 written_partial old l (BagRemove t n) a h partial = refl
+written_partial old l (Increment n) a h partial = refl
 
 target_there : (old : Old) (i : TermInstruction) (j : Instruction) (l : Place) → instruction_in old i ≡ Some j →
     is_partial j.action ≡ true → eq_by_cmp location_cmp j.at l ≡ true → Contains (target_of i.at i.action) l
@@ -158,11 +161,10 @@ same_result : (part : Part) (v w : Value) (G : List Action) → G ≢ [] → (li
 same_result part v w G some same = by_test (list_any is_partial G) refl where
   by_list : (F : List Action) → F ≢ [] → list_any is_partial F ≡ false → res part v F ≡ res part w F
   by_list [] some none = absurd (some refl)
-  by_list (action.Regular x ∷ F) some none = regular_result part v w x F none
-  by_list (action.SetAdd e ∷ F) some none = absurd (false≢true (sym none))
-  by_list (action.SetRemove e ∷ F) some none = absurd (false≢true (sym none))
-  by_list (action.BagAdd e n ∷ F) some none = absurd (false≢true (sym none))
-  by_list (action.BagRemove e n ∷ F) some none = absurd (false≢true (sym none))
+  by_list (a ∷ F) some none = elim (kinds a) [
+    | IsRegular x e ↦ let regulars = rw e at none in rw e (regular_result part v w x F regulars)
+    | IsPartial p n ↦ let found = rw p at none in absurd (false≢true (sym found))
+  ]
 
   by_test : (b : Bool) → list_any is_partial G ≡ b → res part v G ≡ res part w G
   by_test true is = ap (λ u. res part u G) (same is)

@@ -2,7 +2,7 @@
 use denote.RattleType.{RattleType}
 use denote.Hole.{as_row}
 use denote.Hole.FixSend.{Syncs, fix_sync}
-use denote.Param.Send.{IsSync, sendable}
+use denote.Param.Send.{IsSync, plain_sync, sendable}
 use denote.Param.SendFields.{as_row_sync, declared_sync, variants_sync}
 use denote.Struct.Field.{row_field}
 use Rattle.std.proofs.Crossing.{Box-sync, Vec-sync}
@@ -50,7 +50,10 @@ action_sync = variants_sync TermAction.enum (
   (term_sync, tt),
   (
     (term_sync, tt),
-    ((term_sync, tt), ((term_sync, (amount.the_sync, tt)), ((term_sync, (amount.the_sync, tt)), tt))),
+    (
+      (term_sync, tt),
+      ((term_sync, (amount.the_sync, tt)), ((term_sync, (amount.the_sync, tt)), ((plain_sync _ _ _ _ _, tt), tt))),
+    ),
   ),
 )
 

@@ -22,10 +22,11 @@ use Rattle.asm_update.specs.Move.{Move, actions_at, writes, are_different}
 use Rattle.asm_update.specs.State.{State, Updates, val, overwrite}
 use Rattle.asm_update.specs.State as state
 use Rattle.asm_update.specs.declared.action.Action.{Action}
-use Rattle.asm_update.specs.declared.action.Action.TheVariants.{Regular, SetAdd, SetRemove, BagAdd, BagRemove}
+use Rattle.asm_update.specs.declared.action.Action.TheVariants.{Regular}
 use Rattle.asm_update.specs.declared.action.Instruction.{Instruction}
 use Rattle.asm_update.specs.declared.clash.Clash.{Clash}
 use Rattle.asm_update.specs.declared.clash.Cause.TheVariants.{Two}
+use Rattle.asm_update.proofs.ActionLemmas.{IsRegular, IsPartial, kinds}
 use Rattle.asm_update.proofs.FireLemmas.{stored_or, get-overwrite, has_updated, fired_updates}
 use Rattle.asm_driver.specs.Plays.{AreProper}
 
@@ -135,11 +136,12 @@ written_proper (x ∷ M) l h is = by_test (eq_by_cmp location_cmp x.at l) refl i
 first_proper : (G : List Action) → AllProper G → (v : Value) → first (filter_map regular_value G) ≡ Some v →
     value.IsProper v
 first_proper [] h v is = absurd cc
-first_proper (Regular u ∷ G) h v is = subst value.IsProper (same_Some u v is) (All-head IsProper (Regular u) G h)
-first_proper (SetAdd e ∷ G) h v is = first_proper G (All-tail IsProper (SetAdd e) G h) v is
-first_proper (SetRemove e ∷ G) h v is = first_proper G (All-tail IsProper (SetRemove e) G h) v is
-first_proper (BagAdd e n ∷ G) h v is = first_proper G (All-tail IsProper (BagAdd e n) G h) v is
-first_proper (BagRemove e n ∷ G) h v is = first_proper G (All-tail IsProper (BagRemove e n) G h) v is
+first_proper (a ∷ G) h v is = elim (kinds a) [
+  | IsRegular u e ↦
+      let found = rw e at is in
+      subst value.IsProper (same_Some u v found) (subst IsProper e (All-head IsProper a G h))
+  | IsPartial p n ↦ let found = rw n at is in first_proper G (All-tail IsProper a G h) v found
+]
 
 partials_proper : (G : List Action) → AllProper G → AllProper (filter is_partial G)
 partials_proper [] h = All-nil IsProper

@@ -8,17 +8,19 @@ use Rattle.asm_update.specs.declared.action.Action.TheVariants as action
 use Rattle.asm_update.specs.declared.action.Instruction.{Instruction}
 use Rattle.asm_driver.specs.Terms.{term_value, given_element}
 use Rattle.asm_driver.specs.declared.block.TermAction.{TermAction}
-use Rattle.asm_driver.specs.declared.block.TermAction.TheVariants.{Put, Add, Remove, BagAdd, BagRemove}
+use Rattle.asm_driver.specs.declared.block.TermAction.TheVariants.{Put, Add, Remove, BagAdd, BagRemove, Increment}
 use Rattle.asm_driver.specs.declared.block.TermInstruction.{TermInstruction}
 use Rattle.asm_driver.specs.declared.block.Block.{Block}
 
--- the action with the term's value in its place: any value for `put`, a plain one for a partial update
+-- the action with the term's value in its place: any value for `put`, a plain one for an element; an increment has no
+-- term
 abbrev pub action_in : Old → TermAction → Option Action
 action_in old (Put t) = option_map action.Regular (term_value old t)
 action_in old (Add t) = option_map action.SetAdd (given_element (term_value old t))
 action_in old (Remove t) = option_map action.SetRemove (given_element (term_value old t))
 action_in old (BagAdd t n) = option_map (λ e. action.BagAdd e n) (given_element (term_value old t))
 action_in old (BagRemove t n) = option_map (λ e. action.BagRemove e n) (given_element (term_value old t))
+action_in old (Increment n) = Some (action.Increment n)
 
 -- the instruction with the term's value in its place
 abbrev pub instruction_in : Old → TermInstruction → Option Instruction

@@ -93,8 +93,8 @@ step_move_on a A before (b ∷ c ∷ bs) =
     (fire a.part A M)) (move_in (val A) b)
 
 -- What a step's move owes to a state that was read: it is the one there. Firing it leaves what the blocks leave, and
--- its clash is theirs. Where a term is faulty, the blocks stop there. Where blocks clash, or an amount is too large, a
--- clash stops them in turn.
+-- its clash is theirs. Where a term is faulty, the blocks stop there. Where blocks clash, or an amount or a sum is too
+-- large, a clash stops them in turn.
 abbrev pub StandsFor : Meaning → State → Step → Result Move StepFault → Type 0
 StandsFor a A step (Ok M) =
     (step_move_on a A None step ≡ Ok M) × (fire_blocks a.part A step ≡ fired_or_stopped (fire a.part A M))

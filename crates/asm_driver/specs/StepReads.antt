@@ -4,19 +4,19 @@ use Rattle.std.specs.List.{flat_map}
 use Rattle.std.specs.List.Sorted.{IsStrictlySortedBy}
 use Rattle.asm_element.specs.Place.{Place, location_cmp}
 use Rattle.asm_driver.specs.Terms.{locations_in}
-use Rattle.asm_driver.specs.declared.term.Term.{Term}
 use Rattle.asm_driver.specs.declared.block.TermAction.{TermAction}
-use Rattle.asm_driver.specs.declared.block.TermAction.TheVariants.{Put, Add, Remove, BagAdd, BagRemove}
+use Rattle.asm_driver.specs.declared.block.TermAction.TheVariants.{Put, Add, Remove, BagAdd, BagRemove, Increment}
 use Rattle.asm_driver.specs.declared.block.Block.{Block}
 use Rattle.asm_driver.specs.declared.step.Step.{Step}
 
--- the term that an action has
-abbrev pub term_of : TermAction → Term
-term_of (Put t) = t
-term_of (Add t) = t
-term_of (Remove t) = t
-term_of (BagAdd t n) = t
-term_of (BagRemove t n) = t
+-- the locations whose values an action's term takes; an increment has no term
+abbrev pub places_in : TermAction → List Place
+places_in (Put t) = locations_in t
+places_in (Add t) = locations_in t
+places_in (Remove t) = locations_in t
+places_in (BagAdd t n) = locations_in t
+places_in (BagRemove t n) = locations_in t
+places_in (Increment n) = []
 
 -- the location of a partial update; `put` has none
 abbrev pub target_of : Place → TermAction → List Place
@@ -25,10 +25,11 @@ target_of l (Add t) = l ∷ []
 target_of l (Remove t) = l ∷ []
 target_of l (BagAdd t n) = l ∷ []
 target_of l (BagRemove t n) = l ∷ []
+target_of l (Increment n) = l ∷ []
 
 -- the locations whose values a block's terms take
 abbrev pub taken : Block → List Place
-taken b = flat_map (λ i. locations_in (term_of i.action)) b
+taken b = flat_map (λ i. places_in i.action) b
 
 -- the locations of a block's partial updates
 abbrev pub changed : Block → List Place

@@ -1,9 +1,9 @@
--- The JSON of terms, and of instructions with a term in place of the value or the element.
+-- The JSON of terms, and of instructions with a term in place of the value or the element; an increment has none.
 use Rattle.std.specs.Prelude.{◌≡◌, ℕ, List, [], ◌∷◌, codes}
 use Rattle.serde_json.specs.Data.{Data, Items}
 use Rattle.serde_json.specs.View.{items_of}
 use Rattle.asm_journal.specs.Shape.{IsOnly, pair_of, one_of}
-use Rattle.asm_journal.specs.Element.{IsLocationForm}
+use Rattle.asm_journal.specs.Element.{IsIntegerForm, IsLocationForm}
 use Rattle.asm_journal.specs.Set.{IsAmountForm}
 use Rattle.asm_journal.specs.Value.{IsValueForm}
 use Rattle.asm_journal.specs.Instruction.{instruction_of}
@@ -11,7 +11,7 @@ use Rattle.asm_driver.specs.declared.term.Term.{Term}
 use Rattle.asm_driver.specs.declared.term.Term.TheVariants as term
 use Rattle.asm_driver.specs.declared.term.Term.TheVariants.{Val, Sum'}
 use Rattle.asm_driver.specs.declared.block.TermAction.{TermAction}
-use Rattle.asm_driver.specs.declared.block.TermAction.TheVariants.{Put, Add, Remove, BagAdd, BagRemove}
+use Rattle.asm_driver.specs.declared.block.TermAction.TheVariants.{Put, Add, Remove, BagAdd, BagRemove, Increment}
 use Rattle.asm_driver.specs.declared.block.TermInstruction.{TermInstruction}
 
 -- {"val":LOC}
@@ -39,6 +39,7 @@ word_of (Add t) = codes "add"
 word_of (Remove t) = codes "remove"
 word_of (BagAdd t n) = codes "bagadd"
 word_of (BagRemove t n) = codes "bagremove"
+word_of (Increment n) = codes "inc"
 
 -- the forms of the action's operands
 abbrev pub AreOperands : TermAction → Items → Type 0
@@ -47,6 +48,7 @@ AreOperands (Add t) ds = IsOnly IsTermForm t ds
 AreOperands (Remove t) ds = IsOnly IsTermForm t ds
 AreOperands (BagAdd t n) ds = IsCounted t n ds
 AreOperands (BagRemove t n) ds = IsCounted t n ds
+AreOperands (Increment n) ds = IsOnly IsIntegerForm n ds
 
 -- the word names the action, and the items are its operands
 abbrev pub IsActionForm : List ℕ → TermAction → Items → Type 0

@@ -2,6 +2,7 @@
 use Rattle.std.specs.Prelude.{◌≡◌, ℤ, pos, negsuc, ◌+ℤ◌, nat_lt, Bool, if◌then◌else◌, List, [], ◌∷◌, ◌++◌}
 use Rattle.std.specs.Prelude.{Option, Some, None, Result, Ok, Err}
 use Rattle.std.specs.Option.{option_and_then}
+use Rattle.asm_element.specs.Element.{number_in}
 use Rattle.asm_element.specs.Place.{Place}
 use Rattle.asm_element.specs.declared.element.Element.{Element}
 use Rattle.asm_element.specs.declared.element.Element.TheVariants.{Num}
@@ -13,11 +14,6 @@ use Rattle.asm_driver.specs.declared.term.Term.TheVariants as term
 use Rattle.asm_driver.specs.declared.term.Term.TheVariants.{Val, Sum'}
 use Rattle.asm_driver.specs.declared.term.TermFault.{TermFault}
 use Rattle.asm_driver.specs.declared.term.TermFault.TheVariants.{Faulty, Memory}
-
--- the number that an element is, if it is one
-abbrev pub number_in : Element → Option ℤ
-number_in (Num n) = Some n
-number_in _ = None
 
 -- the element that a plain value is; a set or a bag is none
 abbrev pub plain_in : Value → Option Element

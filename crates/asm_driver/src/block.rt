@@ -25,10 +25,12 @@ pub enum TermAction {
     BagAdd(Term, Amount),
     /// Lowers the count of the element that the term stands for in a bag by the amount.
     BagRemove(Term, Amount),
+    /// Raises the number of a counter by this one, which may be 0 or below.
+    Increment(i64),
 }
 
 /// An instruction of a script: what is done at a location, with a term in place of the value or the
-/// element. Locations and amounts are written out.
+/// element. Locations, amounts and the numbers of increments are written out.
 #[derive(Debug, Drop)]
 pub struct TermInstruction {
     /// The location that is written.
@@ -101,6 +103,7 @@ fn action<L: Lookup>(alloc: Global, action: &TermAction, lookup: &L) -> Result<A
         TermAction::BagRemove(term, amount) => {
             Action::BagRemove(element(alloc, term, lookup)?, *amount)
         }
+        TermAction::Increment(n) => Action::Increment(*n),
     })
 }
 

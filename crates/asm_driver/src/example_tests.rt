@@ -2,7 +2,7 @@
 use crate::tests::{RUN, first_wrong};
 use std::test::Fail;
 
-static EXAMPLES: [(&str, &str); 4] = [
+static EXAMPLES: [(&str, &str); 5] = [
     (
         r#"{"init":[],"agents":[[[[["put",["x"],1]]]]]}
 "#,
@@ -116,6 +116,41 @@ agent 0 step 3 clash ["readers"] Both
 [["booked"],{"bag":[["anna",2],["ben",2]]}]
 [["total"],150]
 moves 4
+"#,
+    ),
+    (
+        r#"{
+  "init": [
+    [["stock", "tea"], 40],
+    [["stock", "coffee"], 25],
+    [["sold"], 0]
+  ],
+  "agents": [
+    [
+      [[["inc", ["stock", "tea"], -4], ["inc", ["stock", "tea"], 1], ["inc", ["sold"], 3]]],
+      [[["inc", ["stock", "coffee"], -5], ["inc", ["sold"], 5]]]
+    ],
+    [
+      [[["inc", ["stock", "tea"], -2], ["inc", ["stock", "coffee"], -1], ["inc", ["sold"], 3]]],
+      [[["inc", ["stock", "cocoa"], -1], ["inc", ["sold"], 1]]],
+      [[["put", ["stock", "cocoa"], 10]], [["inc", ["stock", "cocoa"], -1], ["inc", ["sold"], 1]]]
+    ],
+    [
+      [[["inc", ["stock", "tea"], -1], ["inc", ["stock", "coffee"], -2], ["inc", ["sold"], 3]]]
+    ],
+    [
+      [[["inc", ["stock", "tea"], 12]], [["inc", ["stock", "tea"], -1]]],
+      [[["inc", ["stock", "coffee"], 30]]]
+    ]
+  ]
+}
+"#,
+        r#"[["sold"],15]
+[["stock","cocoa"],9]
+[["stock","coffee"],47]
+[["stock","tea"],45]
+moves 7
+agent 1 step 1 clash ["stock","cocoa"] Kind
 "#,
     ),
 ];

@@ -3,7 +3,11 @@
 
 pub mod aggregator;
 pub mod block;
+#[cfg(test)]
+mod busy_tests;
 pub mod commands;
+#[cfg(test)]
+mod count_tests;
 #[cfg(test)]
 mod example_tests;
 pub mod gate;

@@ -19,7 +19,7 @@ pub enum Outcome {
     Full,
     /// A term of it has no value.
     Term,
-    /// A composed amount at this location is above 4,294,967,295.
+    /// A composed amount at this location, or the sum of the composed increments there, is too large.
     Large(Location),
     /// Its blocks compose to more than 4,096 instructions.
     Many,

@@ -17,7 +17,6 @@ use crate::step::Step;
 use crate::trying::{Player, Turn};
 use crate::workers;
 use crate::workers::{Fault, Task};
-use asm_aggregate::{BagAgg, Pair, SetAgg};
 use asm_element::Items;
 use asm_storage::{Agent, CloseError, Storage};
 use asm_update::Aggregator;
@@ -86,8 +85,8 @@ impl<'a, 's, P: Passage + Sync, S: Scripted + Sync> Task<Agent<'s, Standard>, Tu
     ghost use Rattle.asm_driver.specs.Plays.{Plays};
     ghost use Rattle.asm_driver.specs.Turns.{steps_at};
 
-    ghost gives = { λ p a t. Plays (⟦<Pair<SetAgg, BagAgg> as Aggregator>⟧.meaning)
-        (⟦<Pair<SetAgg, BagAgg> as Aggregator>⟧.meaning p.player.aggregator.now) a t.agent
+    ghost gives = { λ p a t. Plays (⟦<Standard as Aggregator>⟧.meaning)
+        (⟦<Standard as Aggregator>⟧.meaning p.player.aggregator.now) a t.agent
         (steps_at (S.steps p.scripted) a) t.outcomes.items };
 
     fn run<R: Wait>(
@@ -107,8 +106,8 @@ fn played_apart<'s, 'a, R: Threads + Wait + Sync, P: Passage + Sync, S: Scripted
     playing: &Playing<'a, P, S>,
     agents: Vec<Agent<'s, Standard>>,
 ) -> Result<Vec<Turn<'s, Standard>>, Fault>
-    ensures { IfOk result (λ turns. GivesEach (λ a t. Plays (⟦<Pair<SetAgg, BagAgg> as Aggregator>⟧.meaning)
-        (⟦<Pair<SetAgg, BagAgg> as Aggregator>⟧.meaning playing.now.player.aggregator.now) a t.agent
+    ensures { IfOk result (λ turns. GivesEach (λ a t. Plays (⟦<Standard as Aggregator>⟧.meaning)
+        (⟦<Standard as Aggregator>⟧.meaning playing.now.player.aggregator.now) a t.agent
         (steps_at (S.steps playing.now.scripted) a) t.outcomes.items) agents.entry.items turns.items) }
 {
     workers::each(rt, alloc, playing, agents)
@@ -121,8 +120,8 @@ fn played_as_written<'s, 'a, 'p, R: Threads + Wait + Sync, P: Passage + Sync>(
     playing: &Playing<'a, P, Written<'p>>,
     agents: Vec<Agent<'s, Standard>>,
 ) -> Result<Vec<Turn<'s, Standard>>, Fault>
-    ensures { IfOk result (λ turns. GivesEach (λ a t. Plays (⟦<Pair<SetAgg, BagAgg> as Aggregator>⟧.meaning)
-        (⟦<Pair<SetAgg, BagAgg> as Aggregator>⟧.meaning playing.now.player.aggregator.now) a t.agent
+    ensures { IfOk result (λ turns. GivesEach (λ a t. Plays (⟦<Standard as Aggregator>⟧.meaning)
+        (⟦<Standard as Aggregator>⟧.meaning playing.now.player.aggregator.now) a t.agent
         (steps_at playing.now.scripted.0.now a) t.outcomes.items) agents.entry.items turns.items) }
 {
     played_apart(rt, alloc, playing, agents)
@@ -130,7 +129,7 @@ fn played_as_written<'s, 'a, 'p, R: Threads + Wait + Sync, P: Passage + Sync>(
 
 // The storage that the script opens. The capacity is looked at before any memory is asked for.
 fn opened(alloc: Global, script: &Script, capacity: u32) -> Result<Storage<Standard>, RunError>
-    ensures part { IfOk result (λ s. (⟦<Pair<SetAgg, BagAgg> as Aggregator>⟧.meaning s.agg).part ≡ standard_part) }
+    ensures part { IfOk result (λ s. (⟦<Standard as Aggregator>⟧.meaning s.agg).part ≡ standard_part) }
     ensures init { IfOk result (λ s. s.init ≡ script.now.init) }
     ensures capacity { IfOk result (λ s. length s.row ≡ capacity) }
     ensures bad { IsErrOf result RunError.BadCapacity ↔ IsNoCapacity capacity }
@@ -194,9 +193,9 @@ fn closed<'s>(
     script: &Script,
     ended: Ended<'s>,
 ) -> Result<Played, RunError>
-    requires part { (⟦<Pair<SetAgg, BagAgg> as Aggregator>⟧.meaning storage.now.agg).part ≡ standard_part }
+    requires part { (⟦<Standard as Aggregator>⟧.meaning storage.now.agg).part ≡ standard_part }
     requires init { storage.now.init ≡ script.now.init }
-    requires turns { ArePlayed (⟦<Pair<SetAgg, BagAgg> as Aggregator>⟧.meaning) standard_meaning storage.now 0
+    requires turns { ArePlayed (⟦<Standard as Aggregator>⟧.meaning) standard_meaning storage.now 0
         script.now.agents ended.agents.items ended.outcomes.items }
     ensures played { IfOk result (IsPlayOf script.now (length storage.now.row)) }
     ensures later { IfErr result (λ e. e ≢ RunError.BadCapacity) }
@@ -223,7 +222,7 @@ fn play_on<R: Threads + Wait + Sync, G: Gate>(
     script: &Script,
     gate: &G,
 ) -> Result<Played, RunError>
-    requires part { (⟦<Pair<SetAgg, BagAgg> as Aggregator>⟧.meaning storage.now.agg).part ≡ standard_part }
+    requires part { (⟦<Standard as Aggregator>⟧.meaning storage.now.agg).part ≡ standard_part }
     requires init { storage.now.init ≡ script.now.init }
     ensures played { IfOk result (IsPlayOf script.now (length storage.now.row)) }
     ensures later { IfErr result (λ e. e ≢ RunError.BadCapacity) }

@@ -123,6 +123,16 @@ fn other_shapes_are_no_scripts(rt: HostRuntime) -> Result<(), Fail> {
         r#"{"init":[],"agents":[[[[["put",["x"],{"sum":[1,2,3]}]]]]]}"#,
         r#"{"init":[],"agents":[[[[["put",["x"],{"val":["x"],"z":1}]]]]]}"#,
         r#"{"init":[],"agents":[[[[["bagadd",["x"],1,0]]]]]}"#,
+        r#"{"init":[],"agents":[[[[["inc",["n"]]]]]]}"#,
+        r#"{"init":[],"agents":[[[[["inc",["n"],1,1]]]]]}"#,
+        r#"{"init":[],"agents":[[[[["inc",["n"],{"val":["x"]}]]]]]}"#,
+        r#"{"init":[],"agents":[[[[["inc",["n"],{"sum":[1,1]}]]]]]}"#,
+        r#"{"init":[],"agents":[[[[["inc",["n"],1.5]]]]]}"#,
+        r#"{"init":[],"agents":[[[[["inc",["n"],1.0]]]]]}"#,
+        r#"{"init":[],"agents":[[[[["inc",["n"],"1"]]]]]}"#,
+        r#"{"init":[],"agents":[[[[["inc",["n"],null]]]]]}"#,
+        r#"{"init":[],"agents":[[[[["inc",["n"],9223372036854775808]]]]]}"#,
+        r#"{"init":[],"agents":[[[[["inc",["n"],-9223372036854775809]]]]]}"#,
     ] {
         assert!(rt;
             is_judged(rt.alloc(), text, Some(ScriptCause::Shape))?,

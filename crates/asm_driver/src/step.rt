@@ -5,7 +5,7 @@ ghost use Rattle.asm_driver.specs.Terms.{locations_in};
 ghost use Rattle.asm_overlay.specs.Frames.{seen_through};
 ghost use Rattle.asm_driver.specs.Blocks.{move_in};
 ghost use Rattle.asm_driver.specs.Sequencing.{IsNext, IsFrame, Extends, IsStepMove};
-ghost use Rattle.asm_driver.specs.StepReads.{term_of, target_of, taken, changed, AreReads};
+ghost use Rattle.asm_driver.specs.StepReads.{places_in, target_of, taken, changed, AreReads};
 
 use crate::block::{Block, TermAction, block_move};
 use crate::term::{Term, TermFault};
@@ -30,8 +30,9 @@ pub enum StepFault {
     #[error("the updates clash")]
     Clash(Clash),
     /// Blocks in sequence add or remove more of an element in a bag, at this location, than an amount
-    /// can be.
-    #[error("too large an amount")]
+    /// can be, or the sum of their increments of a counter there is farther from 0 than
+    /// 18,446,744,073,709,551,615.
+    #[error("too large an amount or sum")]
     Large(Location),
     /// The move that stands for the blocks would have more than 4,096 instructions.
     #[error("more than 4,096 instructions")]
@@ -78,19 +79,6 @@ impl Step {
     }
 }
 
-/// The term that the action has.
-fn term(action: &TermAction) -> &Term
-    ensures { result.now ≡ term_of action.now }
-{
-    match action {
-        TermAction::Put(term)
-        | TermAction::Add(term)
-        | TermAction::Remove(term)
-        | TermAction::BagAdd(term, _)
-        | TermAction::BagRemove(term, _) => term,
-    }
-}
-
 /// Appends the locations whose values the term takes.
 fn take_term(alloc: Global, term: &Term, places: &mut Vec<Location>) -> Result<(), AllocError>
     ensures { OnOk result (places.new.items ≡ places.old.items ++ locations_in term.now) }
@@ -106,12 +94,30 @@ fn take_term(alloc: Global, term: &Term, places: &mut Vec<Location>) -> Result<(
     Ok(())
 }
 
+/// Appends the locations whose values the action's term takes, if it has a term.
+fn take_places(
+    alloc: Global,
+    action: &TermAction,
+    places: &mut Vec<Location>,
+) -> Result<(), AllocError>
+    ensures { OnOk result (places.new.items ≡ places.old.items ++ places_in action.now) }
+{
+    match action {
+        TermAction::Put(term)
+        | TermAction::Add(term)
+        | TermAction::Remove(term)
+        | TermAction::BagAdd(term, _)
+        | TermAction::BagRemove(term, _) => take_term(alloc, term, places),
+        TermAction::Increment(_) => Ok(()),
+    }
+}
+
 /// Appends the locations whose values the block's terms take.
 fn take_terms(alloc: Global, block: &Block, places: &mut Vec<Location>) -> Result<(), AllocError>
     ensures { OnOk result (places.new.items ≡ places.old.items ++ taken block.now) }
 {
     for instruction in block.instructions() {
-        take_term(alloc, term(&instruction.action), places)?;
+        take_places(alloc, &instruction.action, places)?;
     }
     Ok(())
 }
@@ -233,11 +239,11 @@ fn extended<A: Aggregator>(
 ///
 /// The faults are found block by block. `StepFault::Term` comes where a term of the block is faulty
 /// in the state before it. `Clash` comes where a block that others follow clashes, or where it and
-/// the blocks before it don't compose, and `Large` where an amount is then above 4,294,967,295: the
-/// blocks in turn then clash too. `Many` comes where more than 4,096 instructions come together, and
-/// `Memory` only where memory was refused. A step of one block has the instructions of the block, also
-/// where they clash; the last of several blocks clashes when the move is fired, unless it doesn't
-/// compose. Source: sequential composition, by Börger and Stärk; the pushed states are
+/// the blocks before it don't compose, and `Large` where an amount or a sum of increments is then too
+/// large: the blocks in turn then clash too. `Many` comes where more than 4,096 instructions come
+/// together, and `Memory` only where memory was refused. A step of one block has the instructions of
+/// the block, also where they clash; the last of several blocks clashes when the move is fired, unless
+/// it doesn't compose. Source: sequential composition, by Börger and Stärk; the pushed states are
 /// CoreASM's.
 pub fn step_move<A: Aggregator, L: Lookup>(
     alloc: Global,

@@ -101,13 +101,13 @@ impl FromJson for Term {
     }
 }
 
-/// The one term that the items are.
-fn read_only(alloc: Global, items: &[Json]) -> Result<Option<Term>, AllocError>
-    ensures { IfOk result (IsParsed (IsOnly IsTermForm) (items_view items.now)) }
+/// What the one item is the form of.
+fn read_only<T: FromJson>(alloc: Global, items: &[Json]) -> Result<Option<T>, AllocError>
+    ensures { IfOk result (IsParsed (IsOnly T.is_form) (items_view items.now)) }
 {
     let mut items = items.iter();
     match (items.next(), items.next()) {
-        (Some(item), None) => read_term(alloc, item),
+        (Some(item), None) => T::from_json(alloc, item),
         _ => Ok(None),
     }
 }
@@ -168,6 +168,7 @@ fn read_action(
             Some((term, amount)) => Ok(Some(TermAction::BagRemove(term, amount))),
             None => Ok(None),
         },
+        "inc" => Ok(read_only(alloc, operands)?.map(TermAction::Increment)),
         _ => Ok(None),
     }
 }

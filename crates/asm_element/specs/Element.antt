@@ -1,7 +1,9 @@
 -- The order of elements: undef < false < true < numbers by value < texts by their bytes.
 use Rattle.std.specs.Prelude.{◌≡◌, ℕ, ℤ, zero, suc, pos, true, false, List, [], FitsSigned, IsUtf8, refl}
+use Rattle.std.specs.Prelude.{Option, None, Some}
 use Rattle.std.specs.Int.{w64}
-use Rattle.std.proofs.Common.{sym, ◌∙◌}
+use Rattle.std.proofs.Common.{sym, ap, ◌∙◌}
+use Rattle.std.proofs.lemmas.Option.{same_Some}
 use Rattle.std.specs.declared.cmp.Ordering.{Ordering}
 use Rattle.std.specs.declared.cmp.Ordering.TheVariants.{Less, Equal, Greater}
 use Rattle.std.specs.Ordering.{nat_cmp, int_cmp, on, then_cmp, ordering_then, eq_by_cmp}
@@ -26,6 +28,11 @@ rank_of (Truth false) = 1
 rank_of (Truth true) = 2
 rank_of (Num _) = 3
 rank_of (Text _) = 4
+
+-- the number that an element is; any other element is none
+abbrev pub number_in : Element → Option ℤ
+number_in (Num n) = Some n
+number_in _ = None
 
 -- a number's value; of any other element 0
 abbrev pub number_of : Element → ℤ
@@ -69,6 +76,13 @@ element_from-parts (Truth false) = refl
 element_from-parts (Truth true) = refl
 element_from-parts (Num n) = refl
 element_from-parts (Text bytes) = refl
+
+-- an element that is a number is that number
+pub number_is : (x : Element) (n : ℤ) → number_in x ≡ Some n → x ≡ Num n
+number_is (Num m) n e = ap Num (same_Some m n e)
+number_is Undef n e = cc
+number_is (Truth b) n e = cc
+number_is (Text bytes) n e = cc
 
 -- elements that tie are the same element
 pub element_cmp-IsAntisymmetric : IsAntisymmetric element_cmp

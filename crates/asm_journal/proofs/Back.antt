@@ -19,7 +19,7 @@ use Rattle.asm_update.specs.Action.{IsProper as IsProperAction, IsProperInstruct
 use Rattle.asm_update.specs.State as state
 use Rattle.asm_update.specs.State.{State}
 use Rattle.asm_update.specs.declared.action.Action.{Action}
-use Rattle.asm_update.specs.declared.action.Action.TheVariants.{Regular, SetAdd, SetRemove, BagAdd, BagRemove}
+use Rattle.asm_update.specs.declared.action.Action.TheVariants.{Regular, SetAdd, SetRemove, BagAdd, BagRemove, Increment}
 use Rattle.asm_update.specs.declared.action.Instruction.{Instruction}
 use Rattle.asm_state.specs.declared.named.Named.{Named}
 use Rattle.asm_storage.specs.declared.call.Call.{Call}
@@ -93,6 +93,7 @@ operands_back (SetAdd e) h = (_, refl, element_back e h)
 operands_back (SetRemove e) h = (_, refl, element_back e h)
 operands_back (BagAdd e n) h = counted_back e n h.0 (omega (arith, h.1), h.2)
 operands_back (BagRemove e n) h = counted_back e n h.0 (omega (arith, h.1), h.2)
+operands_back (Increment n) h = (_, refl, (h, refl))
 
 instruction_back : (i : Instruction) → IsProperInstruction i → IsInstructionForm i (instruction_json_of i)
 instruction_back i h = (_, _, _, refl, location_back i.at h.0, (refl, operands_back i.action h.1))

@@ -14,7 +14,7 @@ use Rattle.asm_element.specs.declared.element.Element.TheVariants as elements
 use Rattle.asm_element.specs.declared.location.LocationError.{LocationError}
 use Rattle.asm_element.specs.declared.location.LocationError.TheVariants.{BadName, ManyArgs}
 use Rattle.asm_journal.specs.Shape.{AreForms, IsParsed}
-use Rattle.asm_journal.specs.Element.{element_json_of, location_json_of, IsElementForm, IsLocationForm}
+use Rattle.asm_journal.specs.Element.{element_json_of, location_json_of, IsIntegerForm, IsElementForm, IsLocationForm}
 use Rattle.asm_journal.proofs.Answered.{true_and_false}
 use Rattle.asm_journal.proofs.Arrays.{IsOnce}
 
@@ -63,6 +63,9 @@ location_json_once : (p q : Place) → location_json_of p ≡ location_json_of q
 location_json_once p q e =
     let parts = location_parts p.name q.name _ _ e in
     ap₂ (λ n l. record { name = n; args = l }) parts.0 (elements_json_once p.args q.args parts.1)
+
+pub integer_once : IsOnce IsIntegerForm
+integer_once y z d h k = of_integer_once y z (num_once _ _ (sym h.1 ∙ k.1))
 
 pub element_once : IsOnce IsElementForm
 element_once x y d h k = element_json_once x y (sym h.1 ∙ k.1)

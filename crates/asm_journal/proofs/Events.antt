@@ -9,7 +9,7 @@ use Rattle.asm_element.specs.declared.value.Value.{Value}
 use Rattle.asm_update.specs.Action.{amount_of, content_of}
 use Rattle.asm_update.specs.Move.{Move}
 use Rattle.asm_update.specs.declared.action.Action.{Action}
-use Rattle.asm_update.specs.declared.action.Action.TheVariants.{Regular, SetAdd, SetRemove, BagAdd, BagRemove}
+use Rattle.asm_update.specs.declared.action.Action.TheVariants.{Regular, SetAdd, SetRemove, BagAdd, BagRemove, Increment}
 use Rattle.asm_update.specs.declared.action.Instruction.{Instruction}
 use Rattle.asm_update.specs.declared.clash.Cause.{Cause}
 use Rattle.asm_update.specs.declared.clash.Cause.TheVariants as cause
@@ -23,13 +23,13 @@ use Rattle.asm_storage.specs.declared.call.Answer.{Answer}
 use Rattle.asm_storage.specs.declared.call.Answer.TheVariants as answer
 use Rattle.asm_storage.specs.declared.history.Event.{Event}
 use Rattle.asm_journal.specs.Shape.{IsParsed, IsOnly, one_of, two_of, three_of, IsNumberForm, IsListForm}
-use Rattle.asm_journal.specs.Element.{IsElementForm, IsLocationForm}
+use Rattle.asm_journal.specs.Element.{IsIntegerForm, IsElementForm, IsLocationForm}
 use Rattle.asm_journal.specs.Value.{IsValueForm}
 use Rattle.asm_journal.specs.Instruction.{AreOperands, IsActionForm, instruction_of, IsInstructionForm}
 use Rattle.asm_journal.specs.Event.{word_of_cause, IsNamedForm, IsMoveForm, IsCallForm, IsCauseForm, IsClashForm, IsReplyForm, IsAnswerForm, IsEventForm}
 use Rattle.asm_journal.proofs.Texts.{measure}
 use Rattle.asm_journal.proofs.Arrays.{IsOnce, same_pair, same_one, same_key, same_number, list_once}
-use Rattle.asm_journal.proofs.Elements.{element_once, location_once}
+use Rattle.asm_journal.proofs.Elements.{integer_once, element_once, location_once}
 use Rattle.asm_journal.proofs.Sets.{counted_once}
 use Rattle.asm_journal.proofs.Values.{value_once}
 use Rattle.asm_journal.proofs.Actions.{kind_of_word, action_from, made_by}
@@ -64,7 +64,8 @@ operands_once zero n m v w ds h k = ap Regular (only_once IsValueForm value_once
 operands_once (suc zero) n m v w ds h k = ap SetAdd (only_once IsElementForm element_once _ _ ds h k)
 operands_once (suc (suc zero)) n m v w ds h k = ap SetRemove (only_once IsElementForm element_once _ _ ds h k)
 operands_once (suc (suc (suc zero))) n m v w ds h k = ap (λ p. BagAdd p.0 p.1) (counted_once _ _ ds h k)
-operands_once (suc (suc (suc (suc _)))) n m v w ds h k = ap (λ p. BagRemove p.0 p.1) (counted_once _ _ ds h k)
+operands_once (suc (suc (suc (suc zero)))) n m v w ds h k = ap (λ p. BagRemove p.0 p.1) (counted_once _ _ ds h k)
+operands_once (suc (suc (suc (suc (suc _))))) n m v w ds h k = ap Increment (only_once IsIntegerForm integer_once _ _ ds h k)
 
 action_once : (word : List ℕ) → IsOnce (IsActionForm word)
 action_once word a b ds h k =

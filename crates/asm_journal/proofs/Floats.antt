@@ -13,7 +13,7 @@ use Rattle.asm_element.specs.Place.{Place}
 use Rattle.asm_element.specs.Set as set
 use Rattle.asm_element.specs.Bag as bag
 use Rattle.asm_update.specs.declared.action.Action.{Action}
-use Rattle.asm_update.specs.declared.action.Action.TheVariants.{Regular, SetAdd, SetRemove, BagAdd, BagRemove}
+use Rattle.asm_update.specs.declared.action.Action.TheVariants.{Regular, SetAdd, SetRemove, BagAdd, BagRemove, Increment}
 use Rattle.asm_update.specs.declared.action.Instruction.{Instruction}
 use Rattle.asm_state.specs.declared.named.Named.{Named}
 use Rattle.asm_storage.specs.declared.call.Call.{Call}
@@ -68,6 +68,7 @@ instruction_no_float i = by_action i.action where
   by_action (SetRemove e) = rw (location_no_float i.at, element_no_float e) refl
   by_action (BagAdd e n) = rw (location_no_float i.at, element_no_float e) refl
   by_action (BagRemove e n) = rw (location_no_float i.at, element_no_float e) refl
+  by_action (Increment n) = rw (location_no_float i.at, integer_no_float n) refl
 
 named_no_float : (r : Named) → has_float (named_json_of r) ≡ false
 named_no_float r = rw (location_no_float r.at) refl

@@ -27,7 +27,7 @@ use Rattle.asm_update.specs.Action.{IsProper as IsProperAction, IsProperInstruct
 use Rattle.asm_update.specs.State as state
 use Rattle.asm_update.specs.State.{State}
 use Rattle.asm_update.specs.declared.action.Action.{Action}
-use Rattle.asm_update.specs.declared.action.Action.TheVariants.{Regular, SetAdd, SetRemove, BagAdd, BagRemove}
+use Rattle.asm_update.specs.declared.action.Action.TheVariants.{Regular, SetAdd, SetRemove, BagAdd, BagRemove, Increment}
 use Rattle.asm_update.specs.declared.action.Instruction.{Instruction}
 use Rattle.asm_update.specs.declared.clash.Cause.{Cause}
 use Rattle.asm_update.specs.declared.clash.Cause.TheVariants as cause
@@ -220,6 +220,7 @@ action_good p (SetRemove e) h k =
     operand_good _ p _ refl h (only_good _ (deeper 0 3 _ (omega arith) (element_good e k)))
 action_good p (BagAdd e n) h k = operand_good _ p _ refl h (counted_good e n k.0 k.2)
 action_good p (BagRemove e n) h k = operand_good _ p _ refl h (counted_good e n k.0 k.2)
+action_good p (Increment n) h k = operand_good _ p _ refl h (only_good _ (deeper 0 3 _ (omega arith) (integer_good n k)))
 
 instruction_good : (i : Instruction) → IsProperInstruction i → IsGood 4 (instruction_json_of i)
 instruction_good i h = action_good i.at i.action h.0 h.1

@@ -3,10 +3,10 @@ use Rattle.std.specs.Prelude.{◌≡◌, ℕ, List, [], ◌∷◌, codes}
 use Rattle.serde_json.specs.Data.{Data, string, array, Items, item}
 use Rattle.serde_json.specs.View.{items_of}
 use Rattle.asm_update.specs.declared.action.Action.{Action}
-use Rattle.asm_update.specs.declared.action.Action.TheVariants.{Regular, SetAdd, SetRemove, BagAdd, BagRemove}
+use Rattle.asm_update.specs.declared.action.Action.TheVariants.{Regular, SetAdd, SetRemove, BagAdd, BagRemove, Increment}
 use Rattle.asm_update.specs.declared.action.Instruction.{Instruction}
 use Rattle.asm_journal.specs.Shape.{IsOnly, number_json_of}
-use Rattle.asm_journal.specs.Element.{element_json_of, location_json_of, IsElementForm, IsLocationForm}
+use Rattle.asm_journal.specs.Element.{integer_json_of, element_json_of, location_json_of, IsIntegerForm, IsElementForm, IsLocationForm}
 use Rattle.asm_journal.specs.Set.{IsCounted}
 use Rattle.asm_journal.specs.Value.{value_json_of, IsValueForm}
 
@@ -17,14 +17,16 @@ word_of (SetAdd e) = codes "add"
 word_of (SetRemove e) = codes "remove"
 word_of (BagAdd e n) = codes "bagadd"
 word_of (BagRemove e n) = codes "bagremove"
+word_of (Increment n) = codes "inc"
 
--- VALUE; ELEMENT; ELEMENT,AMOUNT
+-- VALUE; ELEMENT; ELEMENT,AMOUNT; a whole number
 abbrev pub operands_of : Action → List Data
 operands_of (Regular v) = value_json_of v ∷ []
 operands_of (SetAdd e) = element_json_of e ∷ []
 operands_of (SetRemove e) = element_json_of e ∷ []
 operands_of (BagAdd e n) = element_json_of e ∷ number_json_of n ∷ []
 operands_of (BagRemove e n) = element_json_of e ∷ number_json_of n ∷ []
+operands_of (Increment n) = integer_json_of n ∷ []
 
 -- an array that begins with this word and this location
 abbrev pub instruction_of : List ℕ → Data → Items → Data
@@ -41,6 +43,7 @@ AreOperands (SetAdd e) ds = IsOnly IsElementForm e ds
 AreOperands (SetRemove e) ds = IsOnly IsElementForm e ds
 AreOperands (BagAdd e n) ds = IsCounted (e, n) ds
 AreOperands (BagRemove e n) ds = IsCounted (e, n) ds
+AreOperands (Increment n) ds = IsOnly IsIntegerForm n ds
 
 -- the word names the action, and the items are its operands
 abbrev pub IsActionForm : List ℕ → Action → Items → Type 0

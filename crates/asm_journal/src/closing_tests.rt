@@ -5,7 +5,7 @@ ghost use Rattle.asm_storage.specs.Storage.{at_start, IsSameAgent};
 
 use crate::journal_tests::{AGENTS, SAME_VALUE, is_read, is_written, location};
 use crate::*;
-use asm_aggregate::{BagAgg, Pair, SetAgg, standard};
+use asm_aggregate::{BagAgg, CountAgg, Pair, SetAgg, standard};
 use asm_element::{Element, Value};
 use asm_state::Named;
 use asm_storage::{Agent, CloseError, History, Reading, Storage};
@@ -13,7 +13,7 @@ use asm_update::{Action, Instruction, Instructions, PlainState};
 use std::alloc::{AllocError, Global};
 use std::test::Fail;
 
-type Standard = Pair<SetAgg, BagAgg>;
+type Standard = Pair<Pair<SetAgg, BagAgg>, CountAgg>;
 
 /// The move that puts a number at the location of this name.
 fn put_of(alloc: Global, name: &str, number: i64) -> Result<Instructions, Fail> {

@@ -1,13 +1,29 @@
-//! The JSON of elements and locations.
+//! The JSON of whole numbers, elements and locations.
 ghost use Rattle.std.specs.Prelude.{◌≡◌, IfOk};
 ghost use Rattle.serde_json.specs.View.{view};
 ghost use Rattle.asm_journal.specs.Shape.{IsParsed};
-ghost use Rattle.asm_journal.specs.Element.{element_json_of, location_json_of, IsElementForm, IsLocationForm};
+ghost use Rattle.asm_journal.specs.Element.{integer_json_of, element_json_of, location_json_of, IsIntegerForm, IsElementForm, IsLocationForm};
 
 use crate::array::{FromJson, ToJson, push_items, read_items};
 use asm_element::{ElemText, Element, Location};
 use serde_json::Value as Json;
 use std::alloc::{AllocError, Global};
+
+impl ToJson for i64 {
+    ghost json_of = { integer_json_of };
+
+    fn to_json(&self, _alloc: Global) -> Result<Json, AllocError> {
+        Ok(Json::from(*self))
+    }
+}
+
+impl FromJson for i64 {
+    ghost is_form = { IsIntegerForm };
+
+    fn from_json(_alloc: Global, json: &Json) -> Result<Option<i64>, AllocError> {
+        Ok(json.as_i64())
+    }
+}
 
 impl ToJson for Element {
     ghost json_of = { element_json_of };
@@ -16,7 +32,7 @@ impl ToJson for Element {
         match self {
             Element::Undef => Ok(Json::Null),
             Element::Bool(truth) => Ok(Json::Bool(*truth)),
-            Element::Num(number) => Ok(Json::from(*number)),
+            Element::Num(number) => number.to_json(alloc),
             Element::Text(text) => Json::try_from_str(alloc, text.as_str()),
         }
     }
@@ -25,11 +41,11 @@ impl ToJson for Element {
 impl FromJson for Element {
     ghost is_form = { IsElementForm };
 
-    fn from_json(_alloc: Global, json: &Json) -> Result<Option<Element>, AllocError> {
+    fn from_json(alloc: Global, json: &Json) -> Result<Option<Element>, AllocError> {
         match json {
             Json::Null => Ok(Some(Element::Undef)),
             Json::Bool(truth) => Ok(Some(Element::Bool(*truth))),
-            Json::Number(number) => Ok(number.as_i64().map(Element::Num)),
+            Json::Number(_) => Ok(i64::from_json(alloc, json)?.map(Element::Num)),
             Json::String(text) => Ok(Some(Element::Text(ElemText::new(text.clone()?)))),
             Json::Array(_) | Json::Object(_) => Ok(None),
         }

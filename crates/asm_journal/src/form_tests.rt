@@ -172,6 +172,10 @@ fn instructions_are_read_and_written(rt: HostRuntime) -> Result<(), Fail> {
         r#"["remove",["s"],true]"#,
         r#"["bagadd",["b"],"e",1]"#,
         r#"["bagremove",["b"],-1,4294967295]"#,
+        r#"["inc",["n"],-9223372036854775808]"#,
+        r#"["inc",["n"],-1]"#,
+        r#"["inc",["n"],0]"#,
+        r#"["inc",["n",1],9223372036854775807]"#,
     ] {
         assert!(rt; instruction_is(rt.alloc(), text, Some(text))?, "{text}");
     }
@@ -193,6 +197,19 @@ fn other_shapes_are_no_instructions(rt: HostRuntime) -> Result<(), Fail> {
         r#"["bagadd",["b"],"e",0]"#,
         r#"["bagremove",["b"],"e",4294967296]"#,
         r#"["bagremove",["b"],"e",1,1]"#,
+        r#"["inc",["n"]]"#,
+        r#"["inc",["n"],1,1]"#,
+        r#"["inc",["n"],1.0]"#,
+        r#"["inc",["n"],1e0]"#,
+        r#"["inc",["n"],-0]"#,
+        r#"["inc",["n"],"1"]"#,
+        r#"["inc",["n"],null]"#,
+        r#"["inc",["n"],true]"#,
+        r#"["inc",["n"],{"set":[]}]"#,
+        r#"["inc",["n"],9223372036854775808]"#,
+        r#"["inc",["n"],-9223372036854775809]"#,
+        r#"["inc",["1n"],1]"#,
+        r#"["Inc",["n"],1]"#,
         r#"{"put":[["x"],1]}"#,
     ] {
         assert!(rt; instruction_is(rt.alloc(), text, None)?, "{text}");
@@ -229,6 +246,26 @@ fn an_instruction_is_written(rt: HostRuntime) -> Result<(), Fail> {
     let removal = removal(alloc)?;
     let want = r#"["bagremove",["b",0],false,7]"#;
     assert!(rt; instruction_is_written(alloc, &removal, Some(want))?);
+    Ok(())
+}
+
+/// Whether an increment by this number, at n and undef, is written so and read back equal.
+fn increment_is_written(alloc: Global, number: i64, want: &str) -> Result<bool, Fail> {
+    let at = at(alloc, "n", Element::Undef)?;
+    let action = Action::Increment(number);
+    Ok(instruction_is_written(alloc, &Instruction { at, action }, Some(want))?)
+}
+
+#[test]
+fn increments_are_written(rt: HostRuntime) -> Result<(), Fail> {
+    for (number, want) in [
+        (i64::MIN, r#"["inc",["n",null],-9223372036854775808]"#),
+        (-3, r#"["inc",["n",null],-3]"#),
+        (0, r#"["inc",["n",null],0]"#),
+        (i64::MAX, r#"["inc",["n",null],9223372036854775807]"#),
+    ] {
+        assert!(rt; increment_is_written(rt.alloc(), number, want)?, "{want}");
+    }
     Ok(())
 }
 

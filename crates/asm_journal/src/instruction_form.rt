@@ -61,6 +61,9 @@ impl ToJson for Instruction {
             Action::BagRemove(element, amount) => {
                 counted_with(alloc, "bagremove", at, element.to_json(alloc)?, amount)?
             }
+            Action::Increment(number) => {
+                instruction_with(alloc, "inc", at, number.to_json(alloc)?)?
+            }
         };
         Ok(array_of(list))
     }
@@ -94,6 +97,7 @@ fn read_action(alloc: Global, word: &str, operands: &[Json]) -> Result<Option<Ac
             Some(Counted(element, amount)) => Ok(Some(Action::BagRemove(element, amount))),
             None => Ok(None),
         },
+        "inc" => Ok(read_only::<i64>(alloc, operands)?.map(Action::Increment)),
         _ => Ok(None),
     }
 }
@@ -116,7 +120,7 @@ impl FromJson for Instruction {
 }
 
 /// An instruction's JSON: an array of the action's word, the location, and the value, the element,
-/// or the element and its amount.
+/// the element and its amount, or the number that is added.
 ///
 /// `AllocError` comes only where memory was refused.
 pub fn instruction_json(alloc: Global, instruction: &Instruction) -> Result<Json, AllocError>
@@ -126,8 +130,8 @@ pub fn instruction_json(alloc: Global, instruction: &Instruction) -> Result<Json
 }
 
 /// The instruction of which this is the JSON; `None` where it is that of none: where it is of
-/// another shape, the word is none of the five, or the location, the value, the element or the
-/// amount isn't read.
+/// another shape, the word is none of the six, or the location, the value, the element, the amount
+/// or the number isn't read.
 ///
 /// `AllocError` comes only where memory was refused.
 pub fn read_instruction(alloc: Global, json: &Json) -> Result<Option<Instruction>, AllocError>

@@ -29,6 +29,21 @@ pub(crate) const SAME_VALUE: &str =
 {"agent":0,"call":{"fire":[["put",["y"],1]],"reads":[[["x"],0]]},"reply":{"stale":["x"]}}
 "#;
 
+/// Increments: three in one move, of which the first two alone would be too much, one by 0, each cause
+/// of a clash that increments have, and one by a number below 0.
+const COUNTS: &str =
+    r#"{"agents":2,"capacity":8,"events":9,"init":[[["n"],0],[["s"],{"set":[]}]],"version":1}
+{"agent":0,"call":{"fire":[["inc",["n"],9223372036854775807],["inc",["n"],9223372036854775807],["inc",["n"],-9223372036854775808]],"reads":[]},"reply":{"fired":1}}
+{"agent":1,"call":{"fire":[["inc",["n"],0]],"reads":[]},"reply":{"fired":2}}
+{"agent":0,"call":{"read":[["n"]]},"reply":{"number":2,"values":[9223372036854775806]}}
+{"agent":0,"call":{"fire":[["inc",["n"],1],["add",["n"],1]],"reads":[]},"reply":{"clash":[["n"],"Mixed"]}}
+{"agent":0,"call":{"fire":[["inc",["m"],1]],"reads":[]},"reply":{"clash":[["m"],"Kind"]}}
+{"agent":0,"call":{"fire":[["inc",["s"],0]],"reads":[]},"reply":{"clash":[["s"],"Kind"]}}
+{"agent":0,"call":{"fire":[["put",["n"],1],["inc",["n"],1]],"reads":[]},"reply":{"clash":[["n"],"Against"]}}
+{"agent":0,"call":{"fire":[["inc",["n"],2]],"reads":[]},"reply":{"clash":[["n"],"Large"]}}
+{"agent":1,"call":{"fire":[["inc",["n"],-9223372036854775807]],"reads":[[["n"],2]]},"reply":{"fired":3}}
+"#;
+
 pub(crate) fn location(alloc: Global, name: &str) -> Result<Location, Fail> {
     Ok(Location::new(String::from_str(alloc, name)?, Vec::new(alloc))?)
 }
@@ -132,6 +147,7 @@ fn journals_are_read_judged_and_written(rt: HostRuntime) -> Result<(), Fail> {
         (BLOCKS, Legality::Legal { calls: 2, moves: 1 }),
         (AGENTS, Legality::Legal { calls: 2, moves: 2 }),
         (SAME_VALUE, Legality::Legal { calls: 3, moves: 1 }),
+        (COUNTS, Legality::Legal { calls: 9, moves: 3 }),
     ] {
         assert!(rt; goes_both_ways(rt.alloc(), text, told)?, "{text}");
     }

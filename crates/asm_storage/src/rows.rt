@@ -5,7 +5,7 @@ ghost use Rattle.asm_storage.specs.Storage.{at_start, IsSameAgent};
 
 use crate::closed::Close;
 use crate::*;
-use asm_aggregate::{BagAgg, Pair, SetAgg, standard};
+use asm_aggregate::{BagAgg, CountAgg, Pair, SetAgg, standard};
 use asm_element::{Element, Items, Location, Value};
 use asm_state::Named;
 use asm_update::{Action, Cause, Clash, Instruction, Instructions, PlainState};
@@ -13,7 +13,7 @@ use std::alloc::{AllocError, Global};
 use std::process::Abort;
 use std::test::Fail;
 
-pub(crate) type Standard = Pair<SetAgg, BagAgg>;
+pub(crate) type Standard = Pair<Pair<SetAgg, BagAgg>, CountAgg>;
 
 /// The one or the other of the two agents: they have the numbers 0 and 1.
 #[derive(Clone, Copy)]

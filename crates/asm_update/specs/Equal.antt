@@ -1,10 +1,11 @@
 -- `==` of actions, instructions, lists of them and states tells whether they are the same.
-use Rattle.std.specs.Prelude.{◌≡◌, ◌&&◌, ◌==◌, ℕ, zero, suc, Bool, true, List, refl}
+use Rattle.std.specs.Prelude.{◌≡◌, ◌&&◌, ◌==◌, ℕ, zero, suc, pos, Bool, true, List, unwrap_or, refl}
 use Rattle.std.proofs.Common.{sym, ap, ◌∙◌}
 use Rattle.std.specs.Cmp.{IsEquivalence, decided, unsigned_Decides}
 use Rattle.std.specs.Cmp.Lexicographic.{pointwise}
 use Rattle.std.specs.Ordering.{on, eq_by_cmp}
 use Rattle.std.specs.FinMap as map
+use Rattle.asm_element.specs.Element.{number_in}
 use Rattle.asm_element.specs.Items.{IsIdentity}
 use Rattle.asm_element.specs.Place.{Place, location_cmp}
 use Rattle.asm_element.specs.Same.{location_eq-same, value_eq-same, pointwise-IsIdentity}
@@ -15,7 +16,7 @@ use Rattle.asm_update.specs.Action.{kind_number, amount_of, content_of, action_e
 use Rattle.asm_element.specs.declared.value.Value.TheVariants.{Plain}
 use Rattle.asm_update.specs.State.{State}
 use Rattle.asm_update.specs.declared.action.Action.{Action}
-use Rattle.asm_update.specs.declared.action.Action.TheVariants.{Regular, SetAdd, SetRemove, BagAdd, BagRemove}
+use Rattle.asm_update.specs.declared.action.Action.TheVariants.{Regular, SetAdd, SetRemove, BagAdd, BagRemove, Increment}
 use Rattle.asm_update.specs.declared.action.Instruction.{Instruction}
 
 -- the action of this kind, amount and content
@@ -24,6 +25,7 @@ action_of (suc zero) n (Plain e) = SetAdd e
 action_of (suc (suc zero)) n (Plain e) = SetRemove e
 action_of (suc (suc (suc zero))) n (Plain e) = BagAdd e n
 action_of (suc (suc (suc (suc zero)))) n (Plain e) = BagRemove e n
+action_of (suc (suc (suc (suc (suc zero))))) n (Plain e) = Increment (unwrap_or (number_in e) (pos 0))
 action_of _ n v = Regular v
 
 action_of-parts : (a : Action) → action_of (kind_number a) (amount_of a) (content_of a) ≡ a
@@ -32,6 +34,7 @@ action_of-parts (SetAdd e) = refl
 action_of-parts (SetRemove e) = refl
 action_of-parts (BagAdd e n) = refl
 action_of-parts (BagRemove e n) = refl
+action_of-parts (Increment n) = refl
 
 same_action : (a b : Action) → action_eq a b ≡ true → a ≡ b
 same_action a b h =

@@ -47,19 +47,21 @@ impl Amount {
 
 /// The kinds of value that partial updates change.
 ///
-/// Source: sets as in CoreASM; bags are of this project's profile.
+/// Source: sets as in CoreASM; bags and counters are of this project's profile.
 #[derive(Clone, Copy, Debug, PartialEq, Eq)]
 pub enum Family {
     /// Partial updates of sets.
     Set,
     /// Partial updates of bags.
     Bag,
+    /// Partial updates of counters, which are numbers.
+    Count,
 }
 
 /// What an update instruction does at its location.
 ///
 /// Source: regular updates as in Börger and Stärk; partial updates of sets as in CoreASM; those of
-/// bags are of this project's profile.
+/// bags and of counters are of this project's profile.
 #[derive(Debug, Drop)]
 pub enum Action {
     /// Writes the value; undef leaves nothing there.
@@ -72,6 +74,8 @@ pub enum Action {
     BagAdd(Element, Amount),
     /// Lowers the count of the element in a bag by the amount.
     BagRemove(Element, Amount),
+    /// Raises the number of a counter by this one, which may be 0 or below.
+    Increment(i64),
 }
 
 impl Action {
@@ -85,6 +89,7 @@ impl Action {
             Action::Regular(_) => None,
             Action::SetAdd(_) | Action::SetRemove(_) => Some(Family::Set),
             Action::BagAdd(..) | Action::BagRemove(..) => Some(Family::Bag),
+            Action::Increment(_) => Some(Family::Count),
         }
     }
 
@@ -98,6 +103,9 @@ impl Action {
             Action::BagAdd(element, amount) | Action::BagRemove(element, amount) => {
                 element.proper();
                 let _amount = amount.get();
+            }
+            Action::Increment(n) => {
+                let _n = *n;
             }
         }
     }
@@ -113,6 +121,7 @@ impl Clone for Action {
             Action::SetRemove(element) => Action::SetRemove(element.clone()?),
             Action::BagAdd(element, amount) => Action::BagAdd(element.clone()?, *amount),
             Action::BagRemove(element, amount) => Action::BagRemove(element.clone()?, *amount),
+            Action::Increment(n) => Action::Increment(*n),
         })
     }
 }
@@ -132,6 +141,7 @@ impl PartialEq for Action {
             (Action::SetRemove(a), Action::SetRemove(b)) => a == b,
             (Action::BagAdd(a, n), Action::BagAdd(b, m)) => n == m && a == b,
             (Action::BagRemove(a, n), Action::BagRemove(b, m)) => n == m && a == b,
+            (Action::Increment(a), Action::Increment(b)) => a == b,
             _ => false,
         }
     }

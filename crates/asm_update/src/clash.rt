@@ -15,16 +15,16 @@ pub enum Cause {
     Two,
     /// Partial updates of two families, or of one that the aggregator doesn't own.
     Mixed,
-    /// Partial updates whose base is no value of their kind.
+    /// Partial updates whose base is no value of their kind: a set, a bag or, for increments, a number.
     Kind,
     /// One element both added to a set and removed from it.
     Both,
     /// A regular value beside partial updates: a set that lacks an added element or has a removed
-    /// one, or any bag.
+    /// one, or any bag, or any number.
     Against,
     /// More of an element removed than the old bag has of it.
     Short,
-    /// A new count of a bag above 4,294,967,295.
+    /// A new count of a bag above 4,294,967,295, or a new number of a counter outside the range of i64.
     Large,
 }
 

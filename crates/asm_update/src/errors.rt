@@ -23,8 +23,9 @@ pub enum JoinError {
     /// One of the lists, or the two together, have no result on any value, for this cause.
     #[error("the updates of a location have no result")]
     Cause(Cause),
-    /// A joined amount would be above 4,294,967,295.
-    #[error("a joined amount is above 4,294,967,295")]
+    /// A joined amount of a bag would be above 4,294,967,295, or the sum of the increments of both lists is
+    /// farther from 0 than 18,446,744,073,709,551,615.
+    #[error("a joined amount or sum is too large")]
     Large,
     /// The memory that the call asked for was refused.
     #[error("out of memory")]

@@ -308,7 +308,7 @@ fn errors_have_their_texts(rt: HostRuntime) -> Result<(), Fail> {
             JoinError::Cause(Cause::Both),
             "the updates of a location have no result",
         ),
-        (JoinError::Large, "a joined amount is above 4,294,967,295"),
+        (JoinError::Large, "a joined amount or sum is too large"),
         (JoinError::Memory, "out of memory"),
     ] {
         assert!(rt; error.to_string(alloc)?.as_str() == want, "{want}");

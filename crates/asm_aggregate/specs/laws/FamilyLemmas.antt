@@ -1,8 +1,9 @@
 -- Families of actions, of lists and of values.
 use Rattle.std.proofs.Common.{◌≡◌, ◌≢◌, Bool, true, false, cond, not, ◌&&◌, ◌||◌, List, [], ◌∷◌, ◌++◌, refl, sym, ap}
 use Rattle.std.proofs.Common.{subst, ◌∙◌}
-use Rattle.std.specs.Prelude.{Option, None, Some, is_some, IsPermutation}
-use Rattle.std.specs.Option.{option_map_or, option_and_then}
+use Rattle.std.specs.Prelude.{ℤ, Option, None, Some, is_some, IsPermutation}
+use Rattle.asm_element.specs.Element.{number_in}
+use Rattle.std.specs.Option.{option_map, option_map_or, option_and_then}
 use Rattle.std.specs.List.{list_any, list_all}
 use Rattle.std.proofs.lemmas.List.Folds.{list_all-append}
 use Rattle.std.proofs.lemmas.List.Sorted.{list_any-IsPermutation}
@@ -14,18 +15,24 @@ use Rattle.asm_element.specs.declared.value.Value.TheVariants as values
 use Rattle.asm_update.specs.Action.{family_of, family_eq, is_of, is_partial, kind_of}
 use Rattle.asm_update.specs.declared.action.Action.{Action}
 use Rattle.asm_update.specs.declared.action.Family.{Family}
-use Rattle.asm_update.specs.declared.action.Family.TheVariants.{Set, Bag}
+use Rattle.asm_update.specs.declared.action.Family.TheVariants.{Set, Bag, Count}
 use Rattle.asm_aggregate.specs.Families.{is_kind, common_family}
 
 pub same_family : (f g : Family) → family_eq f g ≡ true → f ≡ g
 same_family Set Set h = refl
 same_family Bag Bag h = refl
+same_family Count Count h = refl
 same_family Set Bag h = cc
+same_family Set Count h = cc
 same_family Bag Set h = cc
+same_family Bag Count h = cc
+same_family Count Set h = cc
+same_family Count Bag h = cc
 
 pub family_itself : (f : Family) → family_eq f f ≡ true
 family_itself Set = refl
 family_itself Bag = refl
+family_itself Count = refl
 
 -- the test of a family finds it
 pub family_is : (f : Family) (o : Option Family) → option_map_or (family_eq f) o false ≡ true → o ≡ Some f
@@ -43,6 +50,12 @@ kind_is Set (values.Bag b) h = cc
 kind_is Bag (values.Bag b) h = refl
 kind_is Bag (values.Plain e) h = cc
 kind_is Bag (values.Set s) h = cc
+kind_is Count (values.Plain e) h = by_number (number_in e) h where
+  by_number : (o : Option ℤ) → is_some o ≡ true → option_map (λ _. Count) o ≡ Some Count
+  by_number (Some n) h = refl
+  by_number None h = cc
+kind_is Count (values.Set s) h = cc
+kind_is Count (values.Bag b) h = cc
 
 -- an action, and so a value, is of one family
 pub one_family : (f g : Family) (o : Option Family) → o ≡ Some f → o ≡ Some g → f ≡ g

@@ -4,8 +4,8 @@ use Rattle.asm_journal.specs.Shape.{IsParsed}
 use Rattle.asm_journal.proofs.Answered.{IsParsed-none}
 use Rattle.asm_journal.proofs.Values.{mapped}
 use Rattle.asm_driver.specs.TermForm.{IsCounted, IsActionForm}
-use Rattle.asm_driver.specs.declared.block.TermAction.TheVariants.{Put, Add, Remove}
-use Rattle.asm_driver.proofs.TermActions.{put_read, add_read, remove_read, no_bagadd, no_bagremove}
+use Rattle.asm_driver.specs.declared.block.TermAction.TheVariants.{Put, Add, Remove, Increment}
+use Rattle.asm_driver.proofs.TermActions.{put_read, add_read, remove_read, no_bagadd, no_bagremove, inc_read}
 use Rattle.asm_driver.proofs.term_form.read_action.Goals as goal
 
 pub returns-in_ok-read_only-in-put : goal.returns-in_ok-read_only-in-put
@@ -31,6 +31,14 @@ returns-in_ok-read_only-in-remove c =
     let o = c.in_ok-read_only-in-remove.field-0 in
     subst (IsParsed (IsActionForm word) ds) (mapped Remove o c.map-in-remove.result c.map-in-remove.ensures.cases)
     (remove_read word ds o c.in-remove.is c.in_ok-read_only-in-remove.ensures)
+
+pub returns-in_ok-read_only-in-inc : goal.returns-in_ok-read_only-in-inc
+returns-in_ok-read_only-in-inc c =
+    let word = c.args.word.now in
+    let ds = items_view c.args.operands.now in
+    let o = c.in_ok-read_only-in-inc.field-0 in
+    subst (IsParsed (IsActionForm word) ds) (mapped Increment o c.map-in-inc.result c.map-in-inc.ensures.cases)
+    (inc_read word ds o c.in-inc.is c.in_ok-read_only-in-inc.ensures)
 
 pub returns-in-None : goal.returns-in-None
 returns-in-None c =

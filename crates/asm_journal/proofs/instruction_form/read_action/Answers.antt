@@ -1,10 +1,10 @@
 use Rattle.std.proofs.Common.{ap, subst, option_map}
 use Rattle.serde_json.specs.View.{items_view}
-use Rattle.asm_update.specs.declared.action.Action.TheVariants.{Regular, SetAdd, SetRemove}
+use Rattle.asm_update.specs.declared.action.Action.TheVariants.{Regular, SetAdd, SetRemove, Increment}
 use Rattle.asm_journal.specs.Shape.{IsParsed}
 use Rattle.asm_journal.specs.Set.{IsCounted}
 use Rattle.asm_journal.specs.Instruction.{IsActionForm}
-use Rattle.asm_journal.proofs.Actions.{put_read, add_read, remove_read, no_bagadd, no_bagremove, no_action}
+use Rattle.asm_journal.proofs.Actions.{put_read, add_read, remove_read, no_bagadd, no_bagremove, inc_read, no_action}
 use Rattle.asm_journal.proofs.Sets.{count_of}
 use Rattle.asm_journal.proofs.Answered.{IsParsed-some, IsParsed-none}
 use Rattle.asm_journal.proofs.Values.{mapped}
@@ -31,6 +31,13 @@ returns-in_ok-read_only-in-remove c =
     let o = c.in_ok-read_only-in-remove.field-0 in
     subst (IsParsed (IsActionForm word) ds) (mapped SetRemove o c.map-in-remove.result c.map-in-remove.ensures.cases) (remove_read word ds o c.in-remove.is c.in_ok-read_only-in-remove.ensures)
 
+pub returns-in_ok-read_only-in-inc : goal.returns-in_ok-read_only-in-inc
+returns-in_ok-read_only-in-inc c =
+    let word = c.args.word.now in
+    let ds = items_view c.args.operands.now in
+    let o = c.in_ok-read_only-in-inc.field-0 in
+    subst (IsParsed (IsActionForm word) ds) (mapped Increment o c.map-in-inc.result c.map-in-inc.ensures.cases) (inc_read word ds o c.in-inc.is c.in_ok-read_only-in-inc.ensures)
+
 pub returns-in-None : goal.returns-in-None
 returns-in-None c =
     let ds = items_view c.args.operands.now in
@@ -54,4 +61,4 @@ returns-in-Some-2 c =
 pub returns-in_default : goal.returns-in_default
 returns-in_default c =
     let n = c.in_default in
-    no_action c.args.word.now (items_view c.args.operands.now) n.not-put n.not-add n.not-remove n.not-bagadd n.not-bagremove
+    no_action c.args.word.now (items_view c.args.operands.now) n.not-put n.not-add n.not-remove n.not-bagadd n.not-bagremove n.not-inc
