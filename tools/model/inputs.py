@@ -96,7 +96,7 @@ class Maker:
             return [self.random.choice(["bagadd", "bagadd", "bagremove"]), at, self.part(), amount]
         if kind == "n" and self.chance(0.5):
             number = self.random.choice(NUMBERS) if self.chance(self.heavy) else self.random.choice([1, -1])
-            return ["inc", at, self.part() if self.chance(self.strange) else number]
+            return ["inc", at, number]
         return ["put", at, self.term(at)]
 
     def block(self) -> Json:
