@@ -7,6 +7,7 @@ from random import Random
 from typing import Any
 
 from jsontext import MAX_DEPTH, NotJson, read
+from values import MAX_ITEMS, MAX_LIST_DEPTH
 
 
 @dataclass(frozen=True)
@@ -27,7 +28,13 @@ RAWS = [
     *["[1,]", "[,1]", "[1 2]", '{"a":1,}', '{"a"}', "{a:1}", '{"a":1 "b":2}', "[", "]", "{", "}", "{}", "[]", "// x"],
     *["true", "false", "null", '"full"', '{"set":[]}', '{"bag":[]}'],
     *['{"set":[1,1]}', '{"bag":[[1,0]]}', '{"bag":[[1]]}'],
-    *['{"set":[],"bag":[]}', '{"set":[1],"set":[2]}', '{"set":7,"set":[2]}', '{"list":[]}', '{"val":["x"]}'],
+    *['{"set":[],"bag":[]}', '{"set":[1],"set":[2]}', '{"set":7,"set":[2]}', '{"val":["x"]}'],
+    *['{"list":[]}', '{"list":[1,0]}', '{"list":[1,1]}', '{"list":[{"list":[]},null]}', '["x",{"list":[]}]'],
+    *['{"list":7}', '{"list":{}}', '{"list":[[1]]}', '{"list":[1.0]}', '{"list":[{"val":["x"]}]}', '{"list":[{"set":[]}]}'],
+    *['{"list":[],"set":[]}', '{"list":[],"x":1}', '{"list":[1],"list":[2]}', '{"list":7,"list":[2]}', '{"List":[]}'],
+    *['{"set":[{"list":[1]},{"list":[1]}]}', '{"sum":[{"list":[]},1]}', '["put",["x"],{"list":[]}]'],
+    *[(MAX_LIST_DEPTH + by) * '{"list":[' + (MAX_LIST_DEPTH + by) * "]}" for by in (-1, 0, 1)],
+    *['{"list":[' + ",".join((MAX_ITEMS + by) * "0") + "]}" for by in (0, 1)],
     *['{"sum":[1,2]}', '{"sum":[1]}', '{"sum":[1,2,3]}', '["x"]', '["x",1.0]', '["1x"]', '["é"]', '["x\\n"]', "[[]]"],
     *[(MAX_DEPTH + by) * "[" + (MAX_DEPTH + by) * "]" for by in (-9, -4, -3, -2, -1, 0, 1)],
 ]
@@ -47,7 +54,7 @@ HEADER_RAWS = [
     *["4294967295", "4294967296", "9223372036854775808", "18446744073709551615", "18446744073709551616"],
 ]
 KEYS = [
-    *["init", "agents", "set", "bag", "val", "sum", "agent", "call", "reply", "read", "fire", "reads"],
+    *["init", "agents", "set", "bag", "list", "val", "sum", "agent", "call", "reply", "read", "fire", "reads"],
     *["version", "capacity", "events", "number", "values", "fired", "stale", "clash", "x", ""],
 ]
 WORDS = [

@@ -45,9 +45,12 @@ KINDS = {
     "large": 1,
     "long": 0.05,
 }
+# What reads a journal.
+READING = [["check"], ["rewrite"]]
 CAPACITIES = ["1", "2", "3", "5", "+4", "007", "1048576"]
 BAD_WORDS = [
-    *[[], [""], ["Run"], ["rewrite"], ["run", "check"], ["check", "run"], ["check", "--journal"], ["run", "x"]],
+    *[[], [""], ["Run"], ["Rewrite"], ["run", "check"], ["check", "run"], ["check", "--journal"], ["run", "x"]],
+    *[["rewrite", "check"], ["check", "rewrite"], ["rewrite", "--journal"], ["rewrite", "--capacity", "8"], ["rewrit"]],
     *[["run", "--capacity"], ["run", "--capacity", "0"], ["run", "--capacity", "1048577"], ["run", "--capacity="]],
     *[["run", "--capacity", it] for it in ["-1", "1.0", "1e2", "0x8", " 8", "8 ", "++8", "+", "٣", 30 * "9"]],
     *[["run", "--capacity", "1", "--capacity", "1"], ["run", "--journal", "--journal"], ["run", "--journal=1"]],
@@ -109,7 +112,7 @@ class Fuzz:
         elif self.kind == "words":
             yield Trial(random.choice(BAD_WORDS), b'{"init":[],"agents":[]}')
         elif self.kind == "long":
-            yield Trial(random.choice([words, ["check"]]), self.long_text())
+            yield Trial(random.choice([words, *READING]), self.long_text())
         elif self.kind == "apart":
             yield Trial(["run"], self.text(maker.apart()))
         elif self.kind == "sequence":
@@ -122,14 +125,17 @@ class Fuzz:
         elif self.kind == "changed":
             yield Trial(words, self.text(changed(maker.script(), random)))
         elif self.kind == "cut":
-            yield Trial(random.choice([words, words, ["check"]]), cut(self.text(maker.script()), random))
+            yield Trial(random.choice([words, words, *READING]), cut(self.text(maker.script()), random))
         else:
             yield Trial(either, self.text(maker.script(), self.kind == "script"))
 
     def journals(self, text: bytes) -> Iterator[Trial]:
-        yield Trial(["check"], text)
-        for _ in range(3):
-            yield Trial(["check"], changed_journal(text, self.random))
+        """Answers the journal in both versions, each checked and rewritten, and some that were altered."""
+        versions = [text, in_version_1(text)]
+        for words in READING:
+            yield from (Trial(words, version) for version in versions)
+        for version in [*versions, self.random.choice(versions)]:
+            yield Trial(self.random.choice(READING), changed_journal(version, self.random))
 
     def capacity(self) -> list[str]:
         pick = self.random.random()
@@ -188,9 +194,16 @@ class Fuzz:
             return
         self.counts.update(f"there answered {type(it.reply).__name__}" for it in history.events)
         legal = f"legal {len(history.events)} {history.moves()}\n".encode()
-        check = Trial(["check"], ran.output)
+        check, rewrite = (Trial(words, ran.output) for words in READING)
         if self.compare(check) != model.Answer(0, legal):
             self.differences.append(Difference(check, "a journal of the program isn't legal"))
+        if self.compare(rewrite) != ran:
+            self.differences.append(Difference(rewrite, "a journal of the program is rewritten as another"))
+
+
+def in_version_1(text: bytes) -> bytes:
+    """Answers a journal of the program with the header of version 1, in which no list may stand."""
+    return text.replace(b'"version":2}\n', b'"version":1}\n', 1)
 
 
 def sorts_of(ran: model.Answer) -> set[str]:

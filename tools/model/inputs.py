@@ -3,9 +3,9 @@
 from random import Random
 
 from journal import Clashed, Event, Fire, Fired, Full, History, Read, Stale, Storage, Values
-from jsontext import Json
+from jsontext import Json, write
 from moves import Move, read_instruction
-from values import Location, read_location, read_state, read_value
+from values import MAX_ITEMS, MAX_LIST_DEPTH, Location, read_location, read_state, read_value
 
 NUMBERS = [0, 1, 1, 2, 3, 7, 10, -1, -2, 2**63 - 1, -(2**63), 2**63 - 2, 2**31, 2**32]
 TEXTS = ["", "a", "b", "B", "e", "é", "ÿ", "\U0001f600", "\ue000", '"\\/', "\n\t\x00\x1f\x7f", "x" * 70]
@@ -27,17 +27,41 @@ class Maker:
         self.lines = random.choice([[0, 1], [0, 1, 1, 2, 2, 3, 6]])
         self.strange = random.choice([0.0, 0.0, 0.02, 0.1, 0.3])
         self.heavy = random.choice([0.1, 0.4, 0.9])
+        # Where it isn't 0, lists may be beyond their limits, and then whatever they stand in is a wrong shape.
+        self.beyond = 0
 
     def chance(self, part: float) -> bool:
         return self.random.random() < part
 
-    def fresh_element(self) -> Json:
+    def fresh_element(self, depth: int = 0) -> Json:
+        """Makes an element that stands in as many lists as the depth."""
+        if depth < MAX_LIST_DEPTH and self.chance(0.2):
+            count = self.random.choice([0, 0, 1, 1, 2, 2, 3, 5])
+            return {"list": [self.fresh_element(depth + 1) for _ in range(count)]}
+        return self.flat_element()
+
+    def flat_element(self) -> Json:
         pick = self.random.random()
         if pick < 0.45:
             return self.random.choice(NUMBERS)
         if pick < 0.85:
             return self.random.choice(TEXTS)
         return self.random.choice([None, True, False])
+
+    def list_at_limit(self) -> Json:
+        """Makes a list that is as deep or as long as one may be, or nearly so, or just beyond."""
+        if self.chance(0.5):
+            return self.list_of_depth(MAX_LIST_DEPTH + self.random.randint(-1, self.beyond))
+        filler = self.random.choice([None, 0, {"list": []}])
+        count = MAX_ITEMS + self.random.randint(-1, self.beyond)
+        return {"list": [self.flat_element(), *([filler] * (count - 2)), self.flat_element()]}
+
+    def list_of_depth(self, depth: int) -> Json:
+        listed: list[Json] = self.random.choice([[], [self.flat_element()]])
+        for _ in range(depth - 1):
+            inner: Json = {"list": listed}
+            listed = self.random.choice([[inner], [inner, self.flat_element()], [self.flat_element(), inner]])
+        return {"list": listed}
 
     def element(self) -> Json:
         return self.random.choice(self.elements)
@@ -50,7 +74,7 @@ class Maker:
     def distinct(self, most: int) -> list[Json]:
         found: list[Json] = []
         for it in (self.element() for _ in range(self.random.randint(0, most))):
-            if not any(type(it) is type(other) and it == other for other in found):
+            if not any(write(it) == write(other) for other in found):
                 found.append(it)
         return found
 
@@ -111,6 +135,10 @@ class Maker:
 
     def script(self) -> Json:
         """Makes a script of one agent that moves, among others that don't."""
+        if self.chance(0.05):
+            self.beyond = self.random.choice([0, 0, 1])
+            self.elements.append(self.list_at_limit())
+            self.places.append(["x", self.random.choice(self.elements)])
         agents: list[Json] = [[] for _ in range(self.random.choice([0, 0, 0, 0, 1, 3]))]
         agents.insert(self.random.randint(0, len(agents)), self.steps())
         return {"init": self.init(), "agents": agents}
@@ -140,8 +168,10 @@ class Maker:
         near = self.random.choice([-1, 0, 1])
         many: list[Json] = [["put", ["n", it], it] for it in range(4096 + near)]
         reads: list[Json] = [["put", ["x"], {"val": ["n", it]}] for it in range(256 + near)]
+        self.beyond = 1
         steps: list[Json] = self.random.choice(
             [
+                [[[["put", ["x"], self.list_at_limit()], ["add", ["s", self.list_at_limit()], self.list_at_limit()]]]],
                 [[many]],
                 [[many[: 2048 + near], [["add", ["s", it], it] for it in range(2048)]]],
                 [[many, [["put", ["n", 0], 9]]]],
@@ -157,7 +187,7 @@ class Maker:
     def contending(self) -> Json:
         """Makes a script of several agents that touch three locations."""
         self.places = [["s"], ["b"], ["n"]]
-        self.elements = [1, "e", True]
+        self.elements = [1, "e", {"list": [True]}]
         step: list[Json] = [[["put", ["n"], {"sum": [{"val": ["n"]}, 1]}]]]
         agents: list[Json] = []
         for _ in range(self.random.randint(2, 16)):
@@ -167,6 +197,8 @@ class Maker:
 
     def history(self) -> History:
         """Makes a history of several agents with old reads, of calls that no script makes."""
+        if self.chance(0.02):
+            self.elements.append(self.list_at_limit())
         agents = self.random.choice([1, 2, 3, 256])
         history = History(read_state(self.init()), self.random.choice([1, 3, 4096]), agents)
         storage = Storage(history.init, history.capacity)

@@ -36,8 +36,10 @@ from values import (
 )
 
 # The version that is written, and those that are read.
-VERSION = 1
-VERSIONS = (1,)
+VERSION = 2
+VERSIONS = (1, 2)
+# The version that has no lists.
+WITHOUT_LISTS = 1
 CAPACITIES = range(1, 2**20 + 1)
 CAUSES = ("Two", "Mixed", "Kind", "Both", "Against", "Short", "Large")
 
@@ -179,18 +181,31 @@ def read_journal(text: bytes) -> History:
     if (is_whole(version, I64) or is_whole(version, U64)) and version not in VERSIONS:
         raise BadJournal("journal version")
     try:
-        history, events = _read_header(value)
+        history, events = _read_header(_allowed(value, version))
     except WrongShape as error:
         raise _no_shape(1) from error
     for number in range(2, events + 2):
         value = lines.next()
         try:
-            history.events.append(_read_event(value, history.agents))
+            history.events.append(_read_event(_allowed(value, version), history.agents))
         except WrongShape as error:
             raise _no_shape(number) from error
     if lines.is_left():
         raise _no_shape(events + 2)
     return history
+
+
+def _allowed(value: Json, version: Json) -> Json:
+    """Answers the line; in the first version one that has a list anywhere is a wrong shape."""
+    if version == WITHOUT_LISTS and _has_list(value):
+        raise WrongShape
+    return value
+
+
+def _has_list(value: Json) -> bool:
+    if isinstance(value, dict):
+        return "list" in value or any(map(_has_list, value.values()))
+    return isinstance(value, list) and any(map(_has_list, value))
 
 
 def _no_shape(number: int) -> BadJournal:

@@ -1,9 +1,9 @@
 #!/usr/bin/env python3
 """A second implementation of the program, for comparison: slow, plain, and written from the page on formats in docs/.
 
-It takes the program's words, reads its standard input, and ends with its status: `run [--capacity N] [--journal]` and
-`check`. It plays one agent after the other, and so refuses, with status 70, a script of several agents whose output may
-depend on the order of their moves. It has no text of help.
+It takes the program's words, reads its standard input, and ends with its status: `run [--capacity N] [--journal]`,
+`check` and `rewrite`. It plays one agent after the other, and so refuses, with status 70, a script of several agents
+whose output may depend on the order of their moves. It has no text of help.
 """
 
 import re
@@ -37,7 +37,9 @@ def answer(words: list[str], text: bytes) -> Answer:
     if len(text) > MAX_INPUT:
         return line(2, "input too large")
     try:
-        return check(text) if given == "check" else run(given, text)
+        if isinstance(given, RunWords):
+            return run(given, text)
+        return check(text) if given == "check" else rewrite(text)
     except BadScript as error:
         return line(2, f"bad script: {error}")
     except BadJournal as error:
@@ -61,10 +63,14 @@ def check(text: bytes) -> Answer:
     return line(0, f"legal {len(history.events)} {history.moves()}")
 
 
+def rewrite(text: bytes) -> Answer:
+    return Answer(0, write_journal(read_journal(text)))
+
+
 def read_words(words: list[str]) -> RunWords | str | None:
     """Answers what the words ask for, or None where they are refused; an option may be given once."""
-    if words == ["check"]:
-        return "check"
+    if words in (["check"], ["rewrite"]):
+        return words[0]
     if words[:1] != ["run"]:
         return None
     capacity, is_journal = None, False

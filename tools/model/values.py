@@ -1,8 +1,8 @@
 """Elements, locations and values: their orders and their JSON forms.
 
-An element is a pair of its kind's rank and its content, and a location its name, the number of its arguments and these,
-so that the order of Python's tuples is the order of elements and of locations. Texts are ordered by code points, which
-is the order of their bytes in UTF-8.
+An element is a pair of its kind's rank and its content, a list's content the number of its items and these, and a
+location its name, the number of its arguments and these, so that the order of Python's tuples is the order of elements
+and of locations. Texts are ordered by code points, which is the order of their bytes in UTF-8.
 """
 
 import re
@@ -12,7 +12,8 @@ from typing import TypeVar, Union
 
 from jsontext import I64, U32, Json, is_whole
 
-Element = tuple[int, Union[int, str]]
+Listed = tuple[int, tuple["Element", ...]]
+Element = tuple[int, Union[int, str, Listed]]
 Location = tuple[str, int, tuple[Element, ...]]
 Read = TypeVar("Read")
 
@@ -21,9 +22,13 @@ FALSE: Element = (1, 0)
 TRUE: Element = (2, 0)
 NUMBER = 3
 TEXT = 4
+LIST = 5
 
 NAME = re.compile(r"[A-Za-z_][A-Za-z0-9_]{0,63}", re.ASCII)
 MAX_ARGUMENTS = 8
+MAX_ITEMS = 4096
+# A list of no lists has depth 1.
+MAX_LIST_DEPTH = 8
 COUNTS = U32[1:]
 
 
@@ -97,7 +102,13 @@ def distinct(keys: Iterable[Read]) -> list[Read]:
     return listed
 
 
-def read_element(value: Json) -> Element:
+def read_element(value: Json, depth: int = 0) -> Element:
+    """Reads an element that stands in as many lists as the depth."""
+    if has_key(value, "list"):
+        if depth == MAX_LIST_DEPTH:
+            raise WrongShape
+        listed = tuple(read_element(it, depth + 1) for it in items(value["list"], MAX_ITEMS))
+        return (LIST, (len(listed), listed))
     if value is None:
         return UNDEF
     if isinstance(value, bool):
@@ -108,7 +119,10 @@ def read_element(value: Json) -> Element:
 
 
 def element_json(element: Element) -> Json:
-    return {UNDEF: None, FALSE: False, TRUE: True}.get(element, element[1])
+    rank, content = element
+    if rank == LIST:
+        return {"list": [element_json(it) for it in content[1]]}
+    return {UNDEF: None, FALSE: False, TRUE: True}.get(element, content)
 
 
 def read_location(value: Json) -> Location:

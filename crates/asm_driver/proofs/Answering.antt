@@ -12,7 +12,7 @@ use Rattle.asm_driver.specs.Words.{Words, program, faults, program_with, run_wit
 use Rattle.asm_driver.specs.Words.{IsRefusal, IsMadeOf}
 use Rattle.asm_driver.specs.Words.{Gives, RefusesWords, Helps, Answers}
 use Rattle.asm_driver.specs.declared.words.Request.{Request}
-use Rattle.asm_driver.specs.declared.words.Request.TheVariants.{Run, Check}
+use Rattle.asm_driver.specs.declared.words.Request.TheVariants.{Run, Check, Rewrite}
 use Rattle.asm_driver.specs.declared.words.WordsError.{WordsError}
 use Rattle.asm_driver.specs.declared.words.WordsError.TheVariants.{Help, Bad, Memory}
 
@@ -32,9 +32,15 @@ record IsExample (example : Words) (r : Request) : Type 0 where
   asks : (m : Request) → Asks (subcommand_of program example) m → m ≡ r
   known : ¬ IsNoCommand (subcommand_of program example)
 
--- the words of the two commands differ
-differ : codes "run" ≡ codes "check" → ⊥
-differ e = let bad : 3 ≡ 5 = ap length e in absurd (omega (arith, bad))
+-- the words of the commands differ, as their lengths do
+run_is_no_check : codes "run" ≡ codes "check" → ⊥
+run_is_no_check e = let bad : 3 ≡ 5 = ap length e in absurd (omega (arith, bad))
+
+run_is_no_rewrite : codes "run" ≡ codes "rewrite" → ⊥
+run_is_no_rewrite e = let bad : 3 ≡ 7 = ap length e in absurd (omega (arith, bad))
+
+check_is_no_rewrite : codes "check" ≡ codes "rewrite" → ⊥
+check_is_no_rewrite e = let bad : 5 ≡ 7 = ap length e in absurd (omega (arith, bad))
 
 -- the text of a flag
 abbrev flag_text : Bool → Text
@@ -53,14 +59,27 @@ asked_run (Some p) t true named number numeral small flag (Run c k) h = ap₂ Ru
 asked_run (Some p) t false named number numeral small flag (Run c k) h = ap₂ Run (h.1.0 t number numeral small)
     (h.1.1.1 flag)
 asked_run (Some p) t j named number numeral small flag Check h =
-    let name : p.0 ≡ codes "run" = cc named in absurd (differ (sym name ∙ h))
+    let name : p.0 ≡ codes "run" = cc named in absurd (run_is_no_check (sym name ∙ h))
+asked_run (Some p) t j named number numeral small flag Rewrite h =
+    let name : p.0 ≡ codes "run" = cc named in absurd (run_is_no_rewrite (sym name ∙ h))
 
 asked_check : (s : Option (Text × List Row)) → option_map (λ p. p.0) s ≡ Some (codes "check") → (m : Request) →
     Asks s m → m ≡ Check
 asked_check None named m h = absurd h
 asked_check (Some p) named (Run c k) h =
-    let name : p.0 ≡ codes "check" = cc named in absurd (differ (sym h.0 ∙ name))
+    let name : p.0 ≡ codes "check" = cc named in absurd (run_is_no_check (sym h.0 ∙ name))
 asked_check (Some p) named Check h = refl
+asked_check (Some p) named Rewrite h =
+    let name : p.0 ≡ codes "check" = cc named in absurd (check_is_no_rewrite (sym name ∙ h))
+
+asked_rewrite : (s : Option (Text × List Row)) → option_map (λ p. p.0) s ≡ Some (codes "rewrite") → (m : Request) →
+    Asks s m → m ≡ Rewrite
+asked_rewrite None named m h = absurd h
+asked_rewrite (Some p) named (Run c k) h =
+    let name : p.0 ≡ codes "rewrite" = cc named in absurd (run_is_no_rewrite (sym h.0 ∙ name))
+asked_rewrite (Some p) named Check h =
+    let name : p.0 ≡ codes "rewrite" = cc named in absurd (check_is_no_rewrite (sym h ∙ name))
+asked_rewrite (Some p) named Rewrite h = refl
 
 none_among : (k : ErrorKind) (ks : Kinds) → ks ≡ [] → IsAmong k ks → ⊥
 none_among k [] e h = h
@@ -173,6 +192,14 @@ checked = record {
   known = λ h. h.1 refl;
 }
 
+rewritten : IsExample (program_with (codes "rewrite" ∷ [])) Rewrite
+unfolding clap_on_literals faults
+rewritten = record {
+  taken = refl;
+  asks = asked_rewrite (subcommand_of program (program_with (codes "rewrite" ∷ []))) refl;
+  known = λ h. h.2 refl;
+}
+
 no_help : (k : ErrorKind) → ¬ (kind.DisplayHelp ≡ k) → ¬ IsAmong kind.DisplayHelp (k ∷ [])
 no_help k without (inl h) = without h
 no_help k without (inr h) = h
@@ -206,6 +233,10 @@ check_further : faults (program_with (codes "check" ∷ codes "more" ∷ [])) �
 unfolding clap_on_literals faults
 check_further = refl
 
+rewrite_further : faults (program_with (codes "rewrite" ∷ codes "more" ∷ [])) ≡ kind.UnknownArgument ∷ []
+unfolding clap_on_literals faults
+rewrite_further = refl
+
 help : faults (codes "asm_driver" ∷ codes "--help" ∷ []) ≡ kind.DisplayHelp ∷ []
 unfolding clap_on_literals faults
 help = refl
@@ -217,6 +248,10 @@ run_help = refl
 check_help : faults (program_with (codes "check" ∷ codes "--help" ∷ [])) ≡ kind.DisplayHelp ∷ []
 unfolding clap_on_literals faults
 check_help = refl
+
+rewrite_help : faults (program_with (codes "rewrite" ∷ codes "--help" ∷ [])) ≡ kind.DisplayHelp ∷ []
+unfolding clap_on_literals faults
+rewrite_help = refl
 
 pub answers : (words : Words) (r : Result Request WordsError) → IfOk r (AsksFor words) → IfErr r (IsRefusal words) →
     Answers words r
@@ -235,9 +270,12 @@ answers words r ok err = record {
   other = refuses _ words _ _ r other_command neither_helps ok err;
   check = gives _ words _ r checked ok err;
   check_further = refuses _ words _ _ r check_further (no_help _ (λ e. cc (e))) ok err;
+  rewrite = gives _ words _ r rewritten ok err;
+  rewrite_further = refuses _ words _ _ r rewrite_further (no_help _ (λ e. cc (e))) ok err;
   help = helps _ words r help ok err;
   run_help = helps _ words r run_help ok err;
   check_help = helps _ words r check_help ok err;
+  rewrite_help = helps _ words r rewrite_help ok err;
 }
 
 -- what the matches ask for, or a mistake where their command isn't one of the program's

@@ -1,35 +1,41 @@
--- Several threads may read the steps of a script: a term's own parts may be read by them, and terms are finite.
+-- Several threads may read the steps of a script: a term's own parts may be read by them, and terms are finite. An agent
+-- may go to a thread, and come back from it with the outcomes of its steps.
 use denote.RattleType.{RattleType}
 use denote.Hole.{as_row}
 use denote.Hole.FixSend.{Syncs, fix_sync}
-use denote.Param.Send.{IsSync, plain_sync, sendable}
-use denote.Param.SendFields.{as_row_sync, declared_sync, variants_sync}
+use denote.Param.Send.{IsSend, IsSync, plain_sync, sendable}
+use denote.Param.SendFields.{as_row_sync, declared_send, declared_sync, variants_sync}
+use denote.Ref.{NamedLft}
 use denote.Struct.Field.{row_field}
-use Rattle.std.proofs.Crossing.{Box-sync, Vec-sync}
+use Rattle.std.proofs.Crossing.{Box-sync, Vec-send, Vec-sync}
 use Rattle.std.specs.contracts.alloc.Global as Global
 use Rattle.std.specs.contracts.boxed.Box as Box
 use Rattle.std.specs.contracts.impls.GlobalAllocator.TheImpl.{ghosts}
 use Rattle.asm_element.proofs.items.Items.TheSendSync as items
-use Rattle.asm_element.proofs.location.Location.TheSendSync as location
-use Rattle.asm_element.proofs.value.Value.TheSendSync as value
+use Rattle.asm_element.proofs.Crossing.{location_is_sent, location_is_shared, value_is_shared}
 use Rattle.asm_element.specs.contracts.items.Items as Items
 use Rattle.asm_element.specs.contracts.location.Location as Location
 use Rattle.asm_element.specs.contracts.value.Value as Value
+pub use Rattle.asm_storage.proofs.Standard.{standard_agent_is_sent}
+use Rattle.asm_storage.proofs.Standard.{standard, standard_ghosts}
+use Rattle.asm_update.proofs.Crossing.{clash_is_sent}
 use Rattle.asm_update.proofs.action.Amount.TheSendSync as amount
 use Rattle.asm_driver.specs.contracts.block.Block as Block
 use Rattle.asm_driver.specs.contracts.block.Block.TheInside as InsideBlock
 use Rattle.asm_driver.specs.contracts.block.TermAction as TermAction
 use Rattle.asm_driver.specs.contracts.block.TermInstruction as TermInstruction
+use Rattle.asm_driver.specs.contracts.outcome.Outcome as Outcome
 use Rattle.asm_driver.specs.contracts.step.Step as Step
 use Rattle.asm_driver.specs.contracts.step.Step.TheInside as InsideStep
 use Rattle.asm_driver.specs.contracts.term.Term as Term
 use Rattle.asm_driver.specs.contracts.term.Term.TheKnot as Knot
+use Rattle.asm_driver.specs.contracts.trying.Turn as Turn
 
 -- a term, where the terms in it may be read
 layer_sync : (T : RattleType) → IsSync T → IsSync (Knot.layer-Term T T)
 layer_sync T t =
-    let value = as_row_sync (row_field (as_row Value.the_field)) value.the_sync in
-    let location = as_row_sync (row_field (as_row Location.the_field)) location.the_sync in
+    let value = as_row_sync (row_field (as_row Value.the_field)) value_is_shared in
+    let location = as_row_sync (row_field (as_row Location.the_field)) location_is_shared in
     let box = as_row_sync (row_field (Box.the_row T Global.the_row ghosts)) (Box-sync T t) in
     variants_sync (Knot.type-Term T T) ((value, tt), ((location, tt), ((box, (box, tt)), tt)))
 
@@ -41,8 +47,8 @@ hole_sync = fix_sync Term.the_ring (Term.by_members (λ i. Syncs Term.the_ring i
 
 term_sync : IsSync Term.the_row
 term_sync = variants_sync Term.enum (
-  (value.the_sync, tt),
-  ((location.the_sync, tt), ((Box-sync Term.the_hole hole_sync, (Box-sync Term.the_hole hole_sync, tt)), tt)),
+  (value_is_shared, tt),
+  ((location_is_shared, tt), ((Box-sync Term.the_hole hole_sync, (Box-sync Term.the_hole hole_sync, tt)), tt)),
 )
 
 action_sync : IsSync TermAction.the_row
@@ -58,7 +64,7 @@ action_sync = variants_sync TermAction.enum (
 )
 
 instruction_sync : IsSync TermInstruction.the_row
-instruction_sync = declared_sync TermInstruction.the_type (location.the_sync, (action_sync, tt))
+instruction_sync = declared_sync TermInstruction.the_type (location_is_shared, (action_sync, tt))
 
 inside_block_sync : IsSync InsideBlock.the_row
 inside_block_sync = search (sendable, Vec-sync, instruction_sync) depth 20
@@ -74,3 +80,12 @@ step_sync = search (sendable, inside_step_sync) depth 20
 
 pub steps_sync : IsSync (Items.the_row Step.the_row)
 steps_sync = items.the_sync Step.the_row step_sync
+
+outcome_is_sent : IsSend Outcome.the_row
+outcome_is_sent = search (sendable, clash_is_sent, location_is_sent) depth 20
+
+-- what a worker hands back, with the program's aggregator
+pub turn_is_sent : (κ : NamedLft) → IsSend (Turn.the_row κ standard standard_ghosts)
+turn_is_sent κ =
+    declared_send (Turn.the_type κ standard standard_ghosts)
+    (standard_agent_is_sent κ, (search (sendable, Vec-send, outcome_is_sent) depth 20, tt))

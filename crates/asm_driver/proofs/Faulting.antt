@@ -11,7 +11,7 @@ use Rattle.asm_driver.specs.Run.{Input, Output, IsAnswer, IsNoAnswer, IsShown, W
 use Rattle.asm_driver.specs.declared.refusal.Refusal.{Refusal}
 use Rattle.asm_driver.specs.declared.refusal.Refusal.TheVariants as refusal
 use Rattle.asm_driver.specs.declared.words.Request.{Request}
-use Rattle.asm_driver.specs.declared.words.Request.TheVariants.{Run, Check}
+use Rattle.asm_driver.specs.declared.words.Request.TheVariants.{Run, Check, Rewrite}
 
 -- it has failed, and it hasn't
 both : true ≡ false → ⊥
@@ -28,6 +28,8 @@ done_works : (bytes : List ℕ) (request : Request) (status : ℕ) (text : List 
 done_works bytes (Run capacity asked) status text done e = let bad : 0 ≡ 4 = sym done.0
     ∙ e in absurd (omega (arith, bad))
 done_works bytes Check status text (h, l, reads, is, same, written) e = legality_works l (sym same ∙ e)
+done_works bytes Rewrite status text done e = let bad : 0 ≡ 4 = sym done.0
+    ∙ e in absurd (omega (arith, bad))
 
 answer_works : (words : Words) (i : Input) (status : ℕ) (text : List ℕ) → IsAnswer words i status text → status ≡ 4 → ⊥
 answer_works words i status text (inl (bytes, request, whole, asks, done)) e = done_works bytes request status text
@@ -86,6 +88,7 @@ fault_shown r shown (inr (is, number)) e = let bad : true ≡ false = sym number
 done_reads : (bytes : List ℕ) (request : Request) → IsNotDone bytes request refusal.InputFault → ⊥
 done_reads bytes (Run capacity asked) is = is
 done_reads bytes Check is = is
+done_reads bytes Rewrite is = is
 
 -- a failed read is refused so
 fault_failed : (words : Words) (i : Input) → IsNoAnswer words i refusal.InputFault → i.failed ≡ true

@@ -6,6 +6,7 @@ mod Advancing
 mod Lines
 mod Outcomes
 mod Pieces
+mod NoJournals
 mod Asking
 mod Answering
 mod Ports

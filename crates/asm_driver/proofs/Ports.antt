@@ -10,7 +10,7 @@ use Rattle.asm_driver.specs.Run.{Ports, input_of, output_of}
 use Rattle.asm_driver.specs.declared.refusal.Refusal.{Refusal}
 use Rattle.asm_driver.specs.declared.refusal.Refusal.TheVariants as refusal
 use Rattle.asm_driver.specs.declared.words.Request.{Request}
-use Rattle.asm_driver.specs.declared.words.Request.TheVariants.{Run, Check}
+use Rattle.asm_driver.specs.declared.words.Request.TheVariants.{Run, Check, Rewrite}
 
 pub answered : (given words : Words) (i : Input) (o : Output) (status : ℕ) (text bytes : List ℕ) (result : ℕ) →
     given ≡ words → bytes ≡ text → IsAnswer given i status text → Writes o status bytes result → Runs words i o result
@@ -26,6 +26,7 @@ answered given words i o status text bytes result same written answer writes = (
 memory_done : (bytes : List ℕ) (request : Request) → IsNotDone bytes request refusal.Memory
 memory_done bytes (Run capacity asked) = tt
 memory_done bytes Check = tt
+memory_done bytes Rewrite = tt
 
 -- a refusal of the input has no number
 input_plain : (i : Input) (r : Refusal) → IsNoInput i r → has_number r ≡ true → ⊥

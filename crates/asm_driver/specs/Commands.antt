@@ -20,7 +20,7 @@ use Rattle.asm_driver.specs.declared.refusal.Refusal.{Refusal}
 use Rattle.asm_driver.specs.declared.refusal.Refusal.TheVariants as refusal
 use Rattle.asm_driver.specs.declared.script.ScriptError.TheVariants.{BadScript}
 use Rattle.asm_driver.specs.declared.words.Request.{Request}
-use Rattle.asm_driver.specs.declared.words.Request.TheVariants.{Run, Check}
+use Rattle.asm_driver.specs.declared.words.Request.TheVariants.{Run, Check, Rewrite}
 
 -- ---- run
 
@@ -78,20 +78,30 @@ IsCheck bytes status text =
     (h : History) × (l : Legality) × journal.ReadsAs bytes h × IsLegality (machine_of standard_part h) h.events l
     × (status ≡ legality_status l) × (text ≡ legality_line l)
 
--- why these bytes aren't checked: they are no journal; want of memory tells nothing
-abbrev pub IsNoCheck : List ℕ → Refusal → Type 0
-IsNoCheck bytes (refusal.BadJournal e) = (e ≢ journal_error.Memory) × fault.IsRefused bytes e
-IsNoCheck bytes refusal.Memory = Unit {0}
-IsNoCheck bytes r = ⊥
+-- ---- rewrite
 
--- ---- both
+-- the text of the history that these bytes read as, whether it is legal or not
+abbrev pub IsRewrite : List ℕ → List ℕ → Type 0
+IsRewrite bytes text = (h : History) × journal.ReadsAs bytes h × (text ≡ text_of h)
+
+-- ---- check and rewrite
+
+-- why these bytes are neither checked nor rewritten: they are no journal; want of memory tells nothing
+abbrev pub IsNoJournal : List ℕ → Refusal → Type 0
+IsNoJournal bytes (refusal.BadJournal e) = (e ≢ journal_error.Memory) × fault.IsRefused bytes e
+IsNoJournal bytes refusal.Memory = Unit {0}
+IsNoJournal bytes r = ⊥
+
+-- ---- each command
 
 -- what is asked is done with these bytes: the status and the text
 abbrev pub IsDone : List ℕ → Request → ℕ → List ℕ → Type 0
 IsDone bytes (Run capacity asked) status text = (status ≡ 0) × IsRunText bytes capacity asked text
 IsDone bytes Check status text = IsCheck bytes status text
+IsDone bytes Rewrite status text = (status ≡ 0) × IsRewrite bytes text
 
 -- why it isn't done
 abbrev pub IsNotDone : List ℕ → Request → Refusal → Type 0
 IsNotDone bytes (Run capacity asked) r = IsNoRun bytes capacity asked r
-IsNotDone bytes Check r = IsNoCheck bytes r
+IsNotDone bytes Check r = IsNoJournal bytes r
+IsNotDone bytes Rewrite r = IsNoJournal bytes r

@@ -9,7 +9,7 @@ use Rattle.clap.specs.declared.builder.value_parser.ValueParser.TheVariants.{Sig
 use Rattle.clap.specs.declared.error.kind.ErrorKind.{ErrorKind}
 use Rattle.clap.specs.declared.error.kind.ErrorKind.TheVariants as kind
 use Rattle.asm_driver.specs.declared.words.Request.{Request}
-use Rattle.asm_driver.specs.declared.words.Request.TheVariants.{Run, Check}
+use Rattle.asm_driver.specs.declared.words.Request.TheVariants.{Run, Check, Rewrite}
 use Rattle.asm_driver.specs.declared.words.WordsError.{WordsError}
 use Rattle.asm_driver.specs.declared.words.WordsError.TheVariants.{Help, Bad, Memory}
 
@@ -35,12 +35,16 @@ run = with_rule (with_rule (new_app (codes "run")) capacity) journal
 abbrev pub check : App
 check = new_app (codes "check")
 
--- the commands run and check, of which one must be given
+-- the command rewrite
+abbrev pub rewrite : App
+rewrite = new_app (codes "rewrite")
+
+-- the commands run, check and rewrite, of which one must be given
 abbrev pub program : App
 program =
     let named = new_app (codes "asm_driver") in
     let required = record named { top = record named.top { subcommand_required = true } } in
-    with_subcommand (with_subcommand required run.top) check.top
+    with_subcommand (with_subcommand (with_subcommand required run.top) check.top) rewrite.top
 
 -- the words, each with its bytes
 abbrev pub Words : Type 0
@@ -66,12 +70,14 @@ AsksJournal rows asked =
 abbrev pub AsksRun : List Row → Request → Type 0
 AsksRun rows (Run number asked) = AsksCapacity rows number × AsksJournal rows asked
 AsksRun rows Check = ⊥
+AsksRun rows Rewrite = ⊥
 
 -- the command with its options asks for this
 abbrev pub Asks : Option (Text × List Row) → Request → Type 0
 Asks None r = ⊥
 Asks (Some p) (Run number asked) = (p.0 ≡ codes "run") × AsksRun p.1 (Run number asked)
 Asks (Some p) Check = p.0 ≡ codes "check"
+Asks (Some p) Rewrite = p.0 ≡ codes "rewrite"
 
 -- the words are taken, and ask for this
 abbrev pub AsksFor : Words → Request → Type 0
@@ -84,7 +90,7 @@ AsksForHelp words = IsAmong kind.DisplayHelp (faults words)
 -- there is another command, or none
 abbrev pub IsNoCommand : Option (Text × List Row) → Type 0
 IsNoCommand None = Unit {0}
-IsNoCommand (Some p) = ¬ (p.0 ≡ codes "run") × ¬ (p.0 ≡ codes "check")
+IsNoCommand (Some p) = ¬ (p.0 ≡ codes "run") × ¬ (p.0 ≡ codes "check") × ¬ (p.0 ≡ codes "rewrite")
 
 -- the words have a mistake: one that clap may find, or clap takes them and there is no command of the program's
 abbrev pub HasMistake : Words → Type 0
@@ -149,6 +155,9 @@ pub record Answers (words : Words) (r : Result Request WordsError) : Type 0 wher
   pub other : words ≡ program_with (codes "play" ∷ []) → RefusesWords r
   pub check : words ≡ program_with (codes "check" ∷ []) → Gives Check r
   pub check_further : words ≡ program_with (codes "check" ∷ codes "more" ∷ []) → RefusesWords r
+  pub rewrite : words ≡ program_with (codes "rewrite" ∷ []) → Gives Rewrite r
+  pub rewrite_further : words ≡ program_with (codes "rewrite" ∷ codes "more" ∷ []) → RefusesWords r
   pub help : words ≡ program_with (codes "--help" ∷ []) → Helps r
   pub run_help : words ≡ run_with (codes "--help" ∷ []) → Helps r
   pub check_help : words ≡ program_with (codes "check" ∷ codes "--help" ∷ []) → Helps r
+  pub rewrite_help : words ≡ program_with (codes "rewrite" ∷ codes "--help" ∷ []) → Helps r

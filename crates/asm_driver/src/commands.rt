@@ -1,6 +1,7 @@
 //! What the commands do with the input.
 ghost use Rattle.std.specs.Prelude.{◌≡◌, IfOk, IfErr, string_bytes};
-ghost use Rattle.asm_driver.specs.Commands.{text_of_played, IsNoText, IsRunText, IsNoRun, IsCheck, IsNoCheck};
+ghost use Rattle.asm_driver.specs.Commands.{text_of_played, IsNoText, IsRunText, IsNoRun, IsCheck};
+ghost use Rattle.asm_driver.specs.Commands.{IsNoJournal, IsRewrite};
 ghost use Rattle.asm_driver.specs.Commands.{legality_line, legality_status, IsDone, IsNotDone};
 
 use crate::aggregator::chosen;
@@ -73,11 +74,20 @@ fn legality_ending(alloc: Global, legality: Legality) -> Result<Ending, AllocErr
 /// Checks the journal that the bytes are.
 fn check_journal(alloc: Global, bytes: &[u8]) -> Result<Ending, Refusal>
     ensures ok { IfOk result (λ e. IsCheck bytes.now e.status (string_bytes e.text)) }
-    ensures err { IfErr result (IsNoCheck bytes.now) }
+    ensures err { IfErr result (IsNoJournal bytes.now) }
 {
     let history = from_text(alloc, bytes)?;
     let legality = check(alloc, &chosen(), &history)?;
     Ok(legality_ending(alloc, legality)?)
+}
+
+/// The journal that the bytes are, written anew. What was read fits a journal, and whether it is legal isn't asked.
+fn rewrite(alloc: Global, bytes: &[u8]) -> Result<String, Refusal>
+    ensures ok { IfOk result (λ text. IsRewrite bytes.now (string_bytes text)) }
+    ensures err { IfErr result (IsNoJournal bytes.now) }
+{
+    let history = from_text(alloc, bytes)?;
+    Ok(to_text(alloc, &history)?)
 }
 
 /// Does what is asked with the bytes of the input.
@@ -96,5 +106,9 @@ pub(crate) fn carry_out<T: Threads + Wait + Sync>(
             text: run(rt, alloc, bytes, capacity, journal)?,
         }),
         Request::Check => check_journal(alloc, bytes),
+        Request::Rewrite => Ok(Ending {
+            status: 0,
+            text: rewrite(alloc, bytes)?,
+        }),
     }
 }

@@ -130,7 +130,7 @@ fn reports_of_counters_in_sequence(rt: HostRuntime) -> Result<(), Fail> {
 }
 
 const BEYOND_JOURNAL: &str =
-    r#"{"agents":1,"capacity":4096,"events":2,"init":[[["n"],-9223372036854775807]],"version":1}
+    r#"{"agents":1,"capacity":4096,"events":2,"init":[[["n"],-9223372036854775807]],"version":2}
 {"agent":0,"call":{"read":[["n"]]},"reply":{"number":0,"values":[-9223372036854775807]}}
 {"agent":0,"call":{"fire":[["inc",["n"],9223372036854775807],["inc",["n"],9223372036854775807]],"reads":[[["n"],0]]},"reply":{"fired":1}}
 "#;

@@ -2,7 +2,7 @@
 use crate::tests::{RUN, first_wrong};
 use std::test::Fail;
 
-static EXAMPLES: [(&str, &str); 5] = [
+static EXAMPLES: [(&str, &str); 6] = [
     (
         r#"{"init":[],"agents":[[[[["put",["x"],1]]]]]}
 "#,
@@ -151,6 +151,38 @@ moves 4
 [["stock","tea"],45]
 moves 7
 agent 1 step 1 clash ["stock","cocoa"] Kind
+"#,
+    ),
+    (
+        r#"{
+  "init": [
+    [["robot", "ann"], {"list": [0, 0]}],
+    [["robot", "bob"], {"list": [2, 2]}],
+    [["crate", {"list": [1, 0]}], "tea"],
+    [["visited"], {"set": [{"list": [0, 0]}, {"list": [2, 2]}]}]
+  ],
+  "agents": [
+    [
+      [[["put", ["robot", "ann"], {"list": [1, 0]}], ["add", ["visited"], {"list": [1, 0]}]]],
+      [
+        [["put", ["load", "ann"], {"val": ["crate", {"list": [1, 0]}]}], ["put", ["crate", {"list": [1, 0]}], null]],
+        [["put", ["robot", "ann"], {"list": [1, 1]}], ["add", ["visited"], {"list": [1, 1]}]]
+      ],
+      [[["put", ["crate", {"list": [1, 1]}], {"val": ["load", "ann"]}], ["put", ["load", "ann"], null]]]
+    ],
+    [
+      [[["put", ["robot", "bob"], {"list": [2, 1]}], ["add", ["visited"], {"list": [2, 1]}]]],
+      [[["put", ["robot", "bob"], {"list": [1, 1]}], ["put", ["robot", "bob"], {"list": [2, 0]}]]]
+    ]
+  ]
+}
+"#,
+        r#"[["crate",{"list":[1,1]}],"tea"]
+[["robot","ann"],{"list":[1,1]}]
+[["robot","bob"],{"list":[2,1]}]
+[["visited"],{"set":[{"list":[0,0]},{"list":[1,0]},{"list":[1,1]},{"list":[2,1]},{"list":[2,2]}]}]
+moves 4
+agent 1 step 1 clash ["robot","bob"] Two
 "#,
     ),
 ];

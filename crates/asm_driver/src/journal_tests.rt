@@ -1,7 +1,10 @@
 //! Journals that are cut, altered or written to an output that fails.
 use crate::port_tests::Short;
 use crate::program::run_main;
-use crate::tests::{CHECK, JOURNAL, SEQUENCE, SEQUENCE_JOURNAL, ends, first_wrong, words_of};
+use crate::tests::{
+    CHECK, JOURNAL, REWRITE, SEQUENCE, SEQUENCE_JOURNAL, SEQUENCE_JOURNAL_1, ends, first_wrong,
+    words_of,
+};
 use std::alloc::{AllocError, Global};
 use std::sync::Wait;
 use std::test::Fail;
@@ -29,6 +32,7 @@ fn line_of_cut(alloc: Global, journal: &str, place: usize) -> Result<String, All
 fn is_told_as_cut<T: Threads + Wait + Sync>(
     rt: &T,
     alloc: Global,
+    words: &[&str],
     journal: &str,
     place: usize,
 ) -> Result<bool, AllocError> {
@@ -36,14 +40,18 @@ fn is_told_as_cut<T: Threads + Wait + Sync>(
     let Some(first) = journal.get(..place) else {
         return Ok(false);
     };
-    ends(rt, alloc, &CHECK, first, (2, wanted.as_str()))
+    ends(rt, alloc, words, first, (2, wanted.as_str()))
 }
 
 #[test]
 fn journals_that_are_cut(rt: HostRuntime) -> Result<(), Fail> {
     for place in 0..SEQUENCE_JOURNAL.len() {
         assert!(rt;
-            is_told_as_cut(&rt, rt.alloc(), SEQUENCE_JOURNAL, place)?,
+            is_told_as_cut(&rt, rt.alloc(), &CHECK, SEQUENCE_JOURNAL, place)?,
+            "{place}"
+        );
+        assert!(rt;
+            is_told_as_cut(&rt, rt.alloc(), &REWRITE, SEQUENCE_JOURNAL_1, place)?,
             "{place}"
         );
     }
@@ -106,6 +114,7 @@ static ALTERED: [(&str, &str); 7] = [
 #[test]
 fn journals_that_are_altered(rt: HostRuntime) -> Result<(), Fail> {
     assert_eq!(rt; first_wrong(&rt, rt.alloc(), &CHECK, 2, &ALTERED)?, None);
+    assert_eq!(rt; first_wrong(&rt, rt.alloc(), &REWRITE, 2, &ALTERED)?, None);
     Ok(())
 }
 
@@ -119,29 +128,43 @@ fn a_full_storage_has_as_many_moves_as_it_takes(rt: HostRuntime) -> Result<(), F
     Ok(())
 }
 
-/// Whether the program, when its output fails or takes nothing after so many bytes, ends with status 4, and these bytes
-/// of the journal went out. The error is want of memory: its line begins otherwise than a journal.
+/// Whether the program with these words and this input, when its output fails or takes nothing after so many bytes, or
+/// when its flush fails, ends with status 4, and these bytes of the journal went out. The error is want of memory: its
+/// line begins otherwise than a journal.
 fn ends_after<T: Threads + Wait + Sync>(
     rt: &T,
     alloc: Global,
-    room: usize,
-    fails: bool,
+    (words, input): (&[&str], &str),
+    output: (usize, bool, bool),
 ) -> Result<bool, AllocError> {
-    let mut input = SEQUENCE.as_bytes();
-    let mut output = Short::new(alloc, (room, fails, true))?;
-    let words = words_of(alloc, &JOURNAL)?;
-    let status = run_main(rt, alloc, words, &mut input, &mut output);
-    if status == 3 || matches!(output.taken().first(), Some(b'o' | b'n')) {
+    let mut input = input.as_bytes();
+    let mut short = Short::new(alloc, output)?;
+    let words = words_of(alloc, words)?;
+    let status = run_main(rt, alloc, words, &mut input, &mut short);
+    if status == 3 || matches!(short.taken().first(), Some(b'o' | b'n')) {
         return Err(AllocError);
     }
-    Ok(status == 4 && SEQUENCE_JOURNAL.as_bytes().get(..room) == Some(output.taken()))
+    Ok(status == 4 && SEQUENCE_JOURNAL.as_bytes().get(..output.0) == Some(short.taken()))
 }
 
 #[test]
 fn journals_to_outputs_that_fail(rt: HostRuntime) -> Result<(), Fail> {
-    for room in 0..SEQUENCE_JOURNAL.len() {
-        assert!(rt; ends_after(&rt, rt.alloc(), room, true)?, "{room}");
-        assert!(rt; ends_after(&rt, rt.alloc(), room, false)?, "{room}");
+    for given in [
+        (JOURNAL.as_slice(), SEQUENCE),
+        (REWRITE.as_slice(), SEQUENCE_JOURNAL_1),
+    ] {
+        for room in 0..SEQUENCE_JOURNAL.len() {
+            assert!(rt;
+                ends_after(&rt, rt.alloc(), given, (room, true, true))?,
+                "{room}"
+            );
+            assert!(rt;
+                ends_after(&rt, rt.alloc(), given, (room, false, true))?,
+                "{room}"
+            );
+        }
+        let output = (SEQUENCE_JOURNAL.len(), false, false);
+        assert!(rt; ends_after(&rt, rt.alloc(), given, output)?);
     }
     Ok(())
 }

@@ -1,4 +1,4 @@
-//! The driver of an abstract state machine's agents: it plays scripts, and checks journals.
+//! The driver of an abstract state machine's agents: it plays scripts, and checks and rewrites journals.
 #![tactic(auto)]
 
 pub mod aggregator;
@@ -17,6 +17,12 @@ pub mod input;
 #[cfg(test)]
 mod journal_tests;
 #[cfg(test)]
+mod list_journal_tests;
+#[cfg(test)]
+mod list_play_tests;
+#[cfg(test)]
+mod list_tests;
+#[cfg(test)]
 mod meeting_tests;
 pub mod noted;
 pub mod outcome;
@@ -34,6 +40,8 @@ pub mod refusal;
 mod refusal_tests;
 pub mod report;
 #[cfg(test)]
+mod rewrite_tests;
+#[cfg(test)]
 mod run_tests;
 pub mod script;
 #[cfg(test)]
@@ -50,6 +58,8 @@ mod term_form;
 mod tests;
 mod trying;
 pub mod words;
+#[cfg(test)]
+mod words_tests;
 mod workers;
 
 use crate::program::run_given;

@@ -286,7 +286,7 @@ fn mixed_script(alloc: Global) -> Result<Script, Fail> {
 }
 
 /// The journal of a run of the script.
-fn journal_of<R: Threads + Wait + Sync>(
+pub(crate) fn journal_of<R: Threads + Wait + Sync>(
     rt: &R,
     alloc: Global,
     script: &Script,
@@ -300,7 +300,7 @@ fn journal_of<R: Threads + Wait + Sync>(
 }
 
 /// The numbers of calls and of moves of a legal journal.
-fn legal_calls(alloc: Global, journal: &str) -> Result<(u64, u32), Fail> {
+pub(crate) fn legal_calls(alloc: Global, journal: &str) -> Result<(u64, u32), Fail> {
     let history = from_text(alloc, journal.as_bytes())?;
     match check(alloc, &standard(), &history)? {
         Legality::Legal { calls, moves } => Ok((calls, moves)),

@@ -101,6 +101,12 @@ const NOT_JSON: Ending = Ending {
     text: "bad script: not JSON\n",
 };
 
+const NO_JOURNAL: Ending = Ending {
+    status: 2,
+    given: 16_777_216,
+    text: "journal line 1: not JSON\n",
+};
+
 const TOO_LARGE: Ending = Ending {
     status: 2,
     given: 16_777_217,
@@ -122,6 +128,18 @@ fn inputs_that_are_refused(rt: HostRuntime) -> Result<(), Fail> {
         ("check", (4096, true), FAULT),
     ] {
         assert!(rt; ends(&rt, rt.alloc(), word, spaces, wanted)?);
+    }
+    Ok(())
+}
+
+#[test]
+fn inputs_that_are_not_rewritten(rt: HostRuntime) -> Result<(), Fail> {
+    for (spaces, wanted) in [
+        ((16_777_216, false), NO_JOURNAL),
+        ((16_777_217, false), TOO_LARGE),
+        ((4096, true), FAULT),
+    ] {
+        assert!(rt; ends(&rt, rt.alloc(), "rewrite", spaces, wanted)?);
     }
     Ok(())
 }

@@ -58,7 +58,7 @@ const SMALL_RUN: [&str; 5] = ["asm_driver", "run", "--capacity", "1", "--journal
 const FULL_THEN_CLASH: &str =
     r#"{"init":[],"agents":[[[[["put",["x"],1]]],[[["put",["x"],2]]],[[["put",["x"],3],["put",["x"],4]]]]]}"#;
 
-const FULL_THEN_CLASH_JOURNAL: &str = r#"{"agents":1,"capacity":1,"events":3,"init":[],"version":1}
+const FULL_THEN_CLASH_JOURNAL: &str = r#"{"agents":1,"capacity":1,"events":3,"init":[],"version":2}
 {"agent":0,"call":{"fire":[["put",["x"],1]],"reads":[]},"reply":{"fired":1}}
 {"agent":0,"call":{"fire":[["put",["x"],2]],"reads":[]},"reply":"full"}
 {"agent":0,"call":{"fire":[["put",["x"],3],["put",["x"],4]],"reads":[]},"reply":{"clash":[["x"],"Two"]}}

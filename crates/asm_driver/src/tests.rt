@@ -1,14 +1,12 @@
 //! Scripts and journals through the whole program, from the words to what is written.
 use crate::outcome::{Outcome, Played};
-use crate::program::{run_given, run_main};
+use crate::program::run_main;
 use crate::report::report;
 use crate::step_tests::read;
 use asm_element::Items;
 use asm_storage::{Event, History};
 use asm_update::PlainState;
 use std::alloc::{AllocError, Global};
-use std::io;
-use std::io::ErrorKind;
 use std::sync::Wait;
 use std::test::Fail;
 use std::thread::Threads;
@@ -19,7 +17,9 @@ pub(crate) const JOURNAL: [&str; 3] = ["asm_driver", "run", "--journal"];
 
 pub(crate) const CHECK: [&str; 2] = ["asm_driver", "check"];
 
-const ONE_PUT: &str = r#"{"init":[],"agents":[[[[["put",["x"],1]]]]]}"#;
+pub(crate) const REWRITE: [&str; 2] = ["asm_driver", "rewrite"];
+
+pub(crate) const ONE_PUT: &str = r#"{"init":[],"agents":[[[[["put",["x"],1]]]]]}"#;
 
 const ONE_PUT_REPORT: &str = r#"[["x"],1]
 moves 1
@@ -235,6 +235,13 @@ pub(crate) const SEQUENCE: &str =
     r#"{"init":[[["s"],{"set":[]}]],"agents":[[[[["add",["s"],1]],[["put",["y"],{"val":["s"]}]]]]]}"#;
 
 pub(crate) const SEQUENCE_JOURNAL: &str =
+    r#"{"agents":1,"capacity":4096,"events":2,"init":[[["s"],{"set":[]}]],"version":2}
+{"agent":0,"call":{"read":[["s"]]},"reply":{"number":0,"values":[{"set":[]}]}}
+{"agent":0,"call":{"fire":[["add",["s"],1],["put",["y"],{"set":[1]}]],"reads":[[["s"],0]]},"reply":{"fired":1}}
+"#;
+
+/// The same journal in the version before.
+pub(crate) const SEQUENCE_JOURNAL_1: &str =
     r#"{"agents":1,"capacity":4096,"events":2,"init":[[["s"],{"set":[]}]],"version":1}
 {"agent":0,"call":{"read":[["s"]]},"reply":{"number":0,"values":[{"set":[]}]}}
 {"agent":0,"call":{"fire":[["add",["s"],1],["put",["y"],{"set":[1]}]],"reads":[[["s"],0]]},"reply":{"fired":1}}
@@ -243,12 +250,12 @@ pub(crate) const SEQUENCE_JOURNAL: &str =
 static JOURNALS: [(&str, &str); 3] = [
     (
         r#"{"init":[],"agents":[]}"#,
-        r#"{"agents":0,"capacity":4096,"events":0,"init":[],"version":1}
+        r#"{"agents":0,"capacity":4096,"events":0,"init":[],"version":2}
 "#,
     ),
     (
         ONE_PUT,
-        r#"{"agents":1,"capacity":4096,"events":1,"init":[],"version":1}
+        r#"{"agents":1,"capacity":4096,"events":1,"init":[],"version":2}
 {"agent":0,"call":{"fire":[["put",["x"],1]],"reads":[]},"reply":{"fired":1}}
 "#,
     ),
@@ -261,8 +268,9 @@ fn journals_of_scripts(rt: HostRuntime) -> Result<(), Fail> {
     Ok(())
 }
 
-static LEGAL: [(&str, &str); 2] = [
+pub(crate) static LEGAL: [(&str, &str); 3] = [
     (SEQUENCE_JOURNAL, "legal 2 1\n"),
+    (SEQUENCE_JOURNAL_1, "legal 2 1\n"),
     (
         r#"{"agents":2,"capacity":8,"events":3,"init":[[["x"],7]],"version":1}
 {"agent":0,"call":{"read":[["x"]]},"reply":{"number":0,"values":[7]}}
@@ -279,7 +287,7 @@ fn legal_journals(rt: HostRuntime) -> Result<(), Fail> {
     Ok(())
 }
 
-static ILLEGAL: [(&str, &str); 2] = [
+pub(crate) static ILLEGAL: [(&str, &str); 2] = [
     (
         r#"{"agents":1,"capacity":4096,"events":2,"init":[[["s"],{"set":[]}]],"version":1}
 {"agent":0,"call":{"read":[["s"]]},"reply":{"number":0,"values":[{"set":[2]}]}}
@@ -288,7 +296,7 @@ static ILLEGAL: [(&str, &str); 2] = [
         "illegal 0\n",
     ),
     (
-        r#"{"agents":1,"capacity":8,"events":2,"init":[],"version":1}
+        r#"{"agents":1,"capacity":8,"events":2,"init":[],"version":2}
 {"agent":0,"call":{"fire":[["put",["x"],1]],"reads":[]},"reply":{"fired":1}}
 {"agent":0,"call":{"fire":[["put",["x"],1]],"reads":[]},"reply":"full"}
 "#,
@@ -302,7 +310,7 @@ fn illegal_journals(rt: HostRuntime) -> Result<(), Fail> {
     Ok(())
 }
 
-static NO_JOURNALS: [(&str, &str); 7] = [
+pub(crate) static NO_JOURNALS: [(&str, &str); 7] = [
     ("", "journal cut\n"),
     ("{", "journal line 1: not JSON\n"),
     ("{}\n", "journal line 1: shape\n"),
@@ -424,71 +432,6 @@ agent 0 step 2 clash ["x"] Two
     Ok(())
 }
 
-#[test]
-fn words_that_are_refused(rt: HostRuntime) -> Result<(), Fail> {
-    for words in [
-        ["asm_driver"].as_slice(),
-        ["asm_driver", "play"].as_slice(),
-        ["asm_driver", "check", "more"].as_slice(),
-        ["asm_driver", "check", "--journal"].as_slice(),
-        ["asm_driver", "run", "--journal", "--journal"].as_slice(),
-        ["asm_driver", "run", "--journal=true"].as_slice(),
-        ["asm_driver", "run", "--capacity", "0"].as_slice(),
-        ["asm_driver", "run", "--capacity", "1048577"].as_slice(),
-        ["asm_driver", "run", "more"].as_slice(),
-    ] {
-        assert!(rt; ends(&rt, rt.alloc(), words, ONE_PUT, (2, "bad words\n"))?);
-    }
-    Ok(())
-}
-
-const HELP: &str =
-    r#"Plays the steps of an abstract state machine's agents on one storage, and checks journals
-
-Usage: asm_driver <COMMAND>
-
-Commands:
-  run    Plays a script, which is read from standard input, and writes the report
-  check  Checks a journal, which is read from standard input, and writes whether it is legal
-  help   Print this message or the help of the given subcommand(s)
-
-Options:
-  -h, --help  Print help
-"#;
-
-const RUN_HELP: &str = r#"Plays a script, which is read from standard input, and writes the report
-
-Usage: asm_driver run [OPTIONS]
-
-Options:
-      --capacity <N>  How many moves may be fired, from 1 to 1048576 [default: 4096]
-      --journal       Writes the journal of the calls in place of the report
-  -h, --help          Print help
-"#;
-
-const CHECK_HELP: &str =
-    r#"Checks a journal, which is read from standard input, and writes whether it is legal
-
-Usage: asm_driver check
-
-Options:
-  -h, --help  Print help
-"#;
-
-#[test]
-fn help_is_no_mistake(rt: HostRuntime) -> Result<(), Fail> {
-    for (words, want) in [
-        (["asm_driver", "--help"].as_slice(), HELP),
-        (["asm_driver", "help"].as_slice(), HELP),
-        (["asm_driver", "run", "--help"].as_slice(), RUN_HELP),
-        (["asm_driver", "help", "run"].as_slice(), RUN_HELP),
-        (["asm_driver", "check", "--help"].as_slice(), CHECK_HELP),
-    ] {
-        assert!(rt; ends(&rt, rt.alloc(), words, "", (0, want))?, "{want}");
-    }
-    Ok(())
-}
-
 const PUT_STEP: &str = r#"[[["put",["x"],1]]]"#;
 
 #[test]
@@ -520,26 +463,6 @@ agent 0 step 4096 full
 agent 0 step 4097 full
 "#;
     assert!(rt; ends(&rt, alloc, &RUN, script.as_str(), (0, want))?);
-    Ok(())
-}
-
-/// The words as the system gives them: one isn't UTF-8, or there was no memory for them.
-#[test]
-fn words_that_are_not_given(rt: HostRuntime) -> Result<(), Fail> {
-    let alloc = rt.alloc();
-    for (kind, status, want) in [
-        (ErrorKind::InvalidData, 2, "bad words\n"),
-        (ErrorKind::OutOfMemory, 3, "out of memory\n"),
-    ] {
-        let mut input = ONE_PUT.as_bytes();
-        let mut output = Vec::with_capacity(alloc, 64)?;
-        let words = Err(io::Error::from(kind));
-        assert_eq!(rt;
-            run_given(&rt, alloc, words, &mut input, &mut output),
-            status
-        );
-        assert!(rt; output.as_slice() == want.as_bytes());
-    }
     Ok(())
 }
 

@@ -16,6 +16,8 @@ pub enum Request {
     Run { capacity: u32, journal: bool },
     /// To check a journal.
     Check,
+    /// To write a journal again.
+    Rewrite,
 }
 
 /// Why the words ask for nothing that is done.
@@ -62,12 +64,18 @@ fn program_command<'a>(alloc: Global) -> Result<Command<'a>, AllocError>
     let check = Command::new(alloc, "check").about(
         "Checks a journal, which is read from standard input, and writes whether it is legal",
     );
+    let rewrite = Command::new(alloc, "rewrite").about(
+        "Rewrites a journal, which is read from standard input, in version 2, and doesn't check it",
+    );
     let named = Command::new(alloc, "asm_driver")
         .about(
-            "Plays the steps of an abstract state machine's agents on one storage, and checks journals",
+            "Plays the steps of an abstract state machine's agents on one storage, and checks and rewrites journals",
         )
         .subcommand_required(true);
-    named.subcommand(run)?.subcommand(check)
+    named
+        .subcommand(run)?
+        .subcommand(check)?
+        .subcommand(rewrite)
 }
 
 fn parse<'a>(alloc: Global, words: &'a [String]) -> Result<ArgMatches<'a>, Error>
@@ -98,7 +106,10 @@ fn asked(matches: &ArgMatches<'_>) -> Option<Request>
         return Some(run_asked(options));
     }
     if name == "check" {
-        Some(Request::Check)
+        return Some(Request::Check);
+    }
+    if name == "rewrite" {
+        Some(Request::Rewrite)
     } else {
         None
     }

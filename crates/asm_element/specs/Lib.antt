@@ -1,5 +1,9 @@
 pub mod Tests
 pub mod Ascending
+pub mod Datum
+pub mod Tokens
+pub mod View
+pub mod ListFalls
 pub mod Element
 pub mod Place
 pub mod Set

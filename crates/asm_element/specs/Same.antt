@@ -12,6 +12,8 @@ use Rattle.asm_element.specs.declared.value.Value.TheVariants.{Plain, Set, Bag}
 use Rattle.asm_element.specs.Tests.{both, itself}
 use Rattle.asm_element.specs.Items.{IsIdentity}
 use Rattle.asm_element.specs.Element.{element_cmp, element_cmp-IsAntisymmetric, element_eq-equiv}
+use Rattle.asm_element.specs.Datum.{list_cmp}
+use Rattle.asm_element.specs.Tokens.{list_cmp_total, list_cmp-IsAntisymmetric}
 use Rattle.asm_element.specs.Place.{location_cmp, location_cmp_total, same_location}
 use Rattle.asm_element.specs.Set as set
 use Rattle.asm_element.specs.Bag as bag
@@ -40,6 +42,11 @@ pub element_eq-same : IsIdentity (eq_by_cmp element_cmp)
 element_eq-same x y =
     let tied = element_cmp-IsAntisymmetric x y in
     (λ h. tied ((Equal-is (element_cmp x y)).0 h), λ e. ap (eq_by_cmp element_cmp x) (sym e) ∙ element_eq-equiv.refl x)
+
+pub list_eq-same : IsIdentity (eq_by_cmp list_cmp)
+list_eq-same ds es =
+    let tied = list_cmp-IsAntisymmetric ds es in
+    (λ h. tied ((Equal-is (list_cmp ds es)).0 h), λ e. ap (eq_by_cmp list_cmp ds) (sym e) ∙ itself list_cmp_total ds)
 
 pub location_eq-same : IsIdentity (eq_by_cmp location_cmp)
 location_eq-same k l =

@@ -1,15 +1,20 @@
 ghost use Rattle.std.specs.Prelude.{◌≡◌, ◌↔◌, IsTrue, IfOk, refl};
 ghost use Rattle.std.specs.Cmp.{partial_order_from_total, partial_equiv_from_equiv, eq_by_cmp_equiv};
 ghost use Rattle.std.specs.Ordering.{as_partial_cmp, eq_by_cmp};
-ghost use Rattle.asm_element.specs.Element.{element_cmp, rank_of, element_cmp_total, IsProper};
+ghost use Rattle.asm_element.specs.Datum.{rank};
+ghost use Rattle.asm_element.specs.View.{datum};
+ghost use Rattle.asm_element.specs.Element.{element_cmp, element_cmp_total, IsProper};
 
+use crate::elem_list::ElemList;
 use crate::text::ElemText;
 use std::alloc::{AllocError, Global};
 use std::cmp::Ordering;
 
 /// An element of the base set of a state (Börger and Stärk; CoreASM's elements): what arguments,
 /// sets and bags are made of, and the plain values. Its order is this project's own: undef, false,
-/// true, then numbers by value, then texts by their bytes.
+/// true, then numbers by value, then texts by their bytes, then lists: a shorter one before a longer one, and
+/// of equal length by their items from left to right.
+#[cycle(element)]
 #[derive(Debug, Drop)]
 pub enum Element {
     /// What a location has that holds nothing else.
@@ -20,10 +25,12 @@ pub enum Element {
     Num(i64),
     /// A text.
     Text(ElemText),
+    /// A list of elements.
+    List(ElemList),
 }
 
 impl Element {
-    /// The same element, in memory of its own. The error is want of memory.
+    /// The same element, in memory of its own. The error is a refused allocation.
     pub fn copy(&self, _alloc: Global) -> Result<Element, AllocError>
         ensures { IfOk result (λ copy. copy ≡ self.now) }
     {
@@ -31,7 +38,7 @@ impl Element {
     }
 
     /// Does nothing. Its contract tells that the element is one that a program can hold: a number
-    /// is in the range of `i64`, and a text is UTF-8.
+    /// is in the range of `i64`, a text is UTF-8, and a list has at most 4,096 such items and is at most 8 deep.
     pub fn proper(&self)
         ensures { IsProper self.now }
     {
@@ -42,7 +49,35 @@ impl Element {
             Element::Text(text) => {
                 let _text = text.as_str();
             }
+            Element::List(list) => list.proper(),
             _ => {}
+        }
+    }
+
+    // The same element, in memory of its own.
+    #[cycle(copy)]
+    pub(crate) fn twin(&self) -> Result<Element, AllocError>
+        ensures { IfOk result (λ copy. copy ≡ self.now) }
+    {
+        Ok(match self {
+            Element::Undef => Element::Undef,
+            Element::Bool(value) => Element::Bool(*value),
+            Element::Num(value) => Element::Num(*value),
+            Element::Text(text) => Element::Text(text.clone()?),
+            Element::List(list) => Element::List(list.twin()?),
+        })
+    }
+
+    // How the two elements stand in the order.
+    #[cycle(compare)]
+    pub(crate) fn compare(&self, other: &Element) -> Ordering
+        ensures { result ≡ element_cmp self.now other.now }
+    {
+        match (self, other) {
+            (Element::Num(a), Element::Num(b)) => a.cmp(b),
+            (Element::Text(a), Element::Text(b)) => a.as_str().cmp(b.as_str()),
+            (Element::List(a), Element::List(b)) => a.compare(b),
+            _ => rank(self).cmp(&rank(other)),
         }
     }
 }
@@ -51,18 +86,13 @@ impl Clone for Element {
     ghost is_clone = { λ element copy. copy ≡ element };
 
     fn clone(&self) -> Result<Element, AllocError> {
-        Ok(match self {
-            Element::Undef => Element::Undef,
-            Element::Bool(value) => Element::Bool(*value),
-            Element::Num(value) => Element::Num(*value),
-            Element::Text(text) => Element::Text(text.clone()?),
-        })
+        self.twin()
     }
 }
 
 /// The place of an element's kind in the order.
 fn rank(element: &Element) -> u8
-    ensures { result ≡ rank_of element.now }
+    ensures { result ≡ rank (datum element.now) }
 {
     match element {
         Element::Undef => 0,
@@ -70,6 +100,7 @@ fn rank(element: &Element) -> u8
         Element::Bool(true) => 2,
         Element::Num(_) => 3,
         Element::Text(_) => 4,
+        Element::List(_) => 5,
     }
 }
 
@@ -85,6 +116,7 @@ impl PartialEq for Element {
         match (self, other) {
             (Element::Num(a), Element::Num(b)) => a == b,
             (Element::Text(a), Element::Text(b)) => a == b,
+            (Element::List(a), Element::List(b)) => a.compare(b) == Ordering::Equal,
             _ => rank(self) == rank(other),
         }
     }
@@ -114,10 +146,6 @@ impl Ord for Element {
     ghost matches_eq = { λ _ _. refl };
 
     fn cmp(&self, other: &Element) -> Ordering {
-        match (self, other) {
-            (Element::Num(a), Element::Num(b)) => a.cmp(b),
-            (Element::Text(a), Element::Text(b)) => a.as_str().cmp(b.as_str()),
-            _ => rank(self).cmp(&rank(other)),
-        }
+        self.compare(other)
     }
 }

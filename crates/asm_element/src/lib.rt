@@ -1,11 +1,14 @@
-//! Elements, locations and values of an abstract state, with their orders, and finite sets and bags
+//! Elements, locations and values of an abstract state, with their orders, and lists, finite sets and bags
 //! of elements.
 #![tactic(auto)]
 
 mod elem_bag;
+mod elem_list;
 mod elem_set;
 mod element;
 mod items;
+#[cfg(test)]
+mod list_tests;
 mod location;
 #[cfg(test)]
 mod tests;
@@ -13,6 +16,7 @@ mod text;
 mod value;
 
 pub use elem_bag::ElemBag;
+pub use elem_list::{ElemList, ListError};
 pub use elem_set::ElemSet;
 pub use element::Element;
 pub use items::Items;

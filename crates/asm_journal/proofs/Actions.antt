@@ -1,11 +1,10 @@
 -- Actions by their words.
-use Rattle.std.proofs.Common.{codes, ◌≡◌, ℕ, ℤ, zero, suc, List, Option, Some, None, refl, sym, ap, subst, ◌∙◌}
+use Rattle.std.proofs.Common.{codes, ◌≡◌, ℕ, ℤ, pos, zero, suc, List, Option, Some, None, refl, sym, ap, subst, ◌∙◌}
 use Rattle.std.specs.Prelude.{option_map, if◌then◌else◌}
 use Rattle.std.specs.Str.{bytes_eq}
 use Rattle.serde_json.specs.Data.{Items}
-use Rattle.asm_element.specs.Element.{number_of}
 use Rattle.asm_element.specs.declared.element.Element.{Element}
-use Rattle.asm_element.specs.declared.element.Element.TheVariants.{Undef}
+use Rattle.asm_element.specs.declared.element.Element.TheVariants.{Undef, Num}
 use Rattle.asm_element.specs.declared.value.Value.{Value}
 use Rattle.asm_element.specs.declared.value.Value.TheVariants.{Plain}
 use Rattle.asm_update.specs.Action.{kind_number, amount_of, content_of}
@@ -40,6 +39,11 @@ abbrev element_in : Value → Element
 element_in (Plain e) = e
 element_in _ = Undef
 
+-- the number of a plain value
+abbrev number_in : Value → ℤ
+number_in (Plain (Num z)) = z
+number_in _ = pos 0
+
 -- the action of this kind, amount and content
 abbrev pub action_from : ℕ → ℕ → Value → Action
 action_from zero n v = Regular v
@@ -47,7 +51,7 @@ action_from (suc zero) n v = SetAdd (element_in v)
 action_from (suc (suc zero)) n v = SetRemove (element_in v)
 action_from (suc (suc (suc zero))) n v = BagAdd (element_in v) n
 action_from (suc (suc (suc (suc zero)))) n v = BagRemove (element_in v) n
-action_from (suc (suc (suc (suc (suc _))))) n v = Increment (number_of (element_in v))
+action_from (suc (suc (suc (suc (suc _))))) n v = Increment (number_in v)
 
 action_from-parts : (a : Action) → action_from (kind_number a) (amount_of a) (content_of a) ≡ a
 action_from-parts (Regular v) = refl
@@ -82,7 +86,7 @@ pub remove_read : (word : List ℕ) (ds : Items) (o : Option Element) → word �
 remove_read word ds o is h = read_as SetRemove (λ a. element_in (content_of a)) word ds (λ e. is) (λ a. of_kind word _ a is) o h
 
 pub inc_read : (word : List ℕ) (ds : Items) (o : Option ℤ) → word ≡ codes "inc" → IsParsed (IsOnly IsIntegerForm) ds o → IsParsed (IsActionForm word) ds (option_map Increment o)
-inc_read word ds o is h = read_as Increment (λ a. number_of (element_in (content_of a))) word ds (λ n. is) (λ a. of_kind word _ a is) o h
+inc_read word ds o is h = read_as Increment (λ a. number_in (content_of a)) word ds (λ n. is) (λ a. of_kind word _ a is) o h
 
 abbrev counted_in : Action → Element × ℕ
 counted_in a = (element_in (content_of a), amount_of a)

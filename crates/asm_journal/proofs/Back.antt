@@ -37,7 +37,7 @@ use Rattle.asm_journal.specs.Instruction.{operands_of, instruction_json_of, AreO
 use Rattle.asm_journal.specs.Event.{named_json_of, call_json_of, reply_json_of, answer_json_of, event_json_of}
 use Rattle.asm_journal.specs.Event.{IsNamedForm, IsCallForm, IsReplyForm, IsAnswerForm, IsEventForm}
 use Rattle.asm_journal.specs.Text.{state_json_of}
-use Rattle.asm_journal.specs.Proper.{IsProperNamed, IsProperCall, IsProperReply, IsProperAnswer, IsProperEvent}
+use Rattle.asm_storage.specs.Proper.{IsProperNamed, IsProperCall, IsProperReply, IsProperAnswer, IsProperEvent}
 use Rattle.asm_journal.proofs.Kept.{pairs_kept, set_kept, bag_kept, state_kept}
 
 forms_back : {X : Type 0} {P : X → Type 0} (F : X → Data → Type 0) (f : X → Data) → ((x : X) → P x → F x (f x))

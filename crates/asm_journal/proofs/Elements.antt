@@ -1,51 +1,88 @@
 -- Elements and locations: what reading them finds, and that a value is the form of one at most.
-use Rattle.std.proofs.Common.{◌≡◌, ◌<◌, ◌≤◌, ℕ, ℤ, pos, negsuc, Bool, true, false, List, [], ◌∷◌, length, map, Result, Ok, Err, refl, sym, ap, ap₂, subst, ◌∙◌, arith}
-use Rattle.std.specs.Prelude.{◌↔◌, IfOk, IsTrue}
+use Rattle.std.proofs.Common.{codes, zero, suc, get_or, max, ◌≢◌, ◌≡◌, ◌<◌, ◌≤◌, ℕ, ℤ, pos, negsuc, Bool, true, false, List, [], ◌∷◌, length, map, Result, Ok, Err, refl, sym, ap, ap₂, subst, ◌∙◌, arith}
+use Rattle.std.specs.Prelude.{◌↔◌, IfOk, IsTrue, option_map}
 use Rattle.std.specs.Result.{result_ok}
+use Rattle.std.specs.declared.alloc.AllocError.{AllocError}
 use Rattle.std.specs.List.{AllByRecursion}
 use Rattle.std.proofs.lemmas.List.Elements.{All-from_recursion, recursion_from_All}
-use Rattle.serde_json.specs.Data.{Data, number, string, array, Num, Items, no_items, item}
+use Rattle.serde_json.specs.Data.{Data, null, boolean, number, string, array, object, Num, unsigned, negative, float, Items, no_items, item, Members, no_members, member, depth, items_depth}
 use Rattle.serde_json.specs.Find.{of_integer}
-use Rattle.serde_json.specs.View.{items_of}
+use Rattle.serde_json.specs.View.{view, items_of, items_view}
+use Rattle.serde_json.specs.declared.value.Value.{Value as Json}
+use Rattle.asm_element.proofs.Lists.{proper_datum, proper_element}
+use Rattle.asm_element.specs.Datum as datum
+use Rattle.asm_element.specs.Datum.{Datum, Sequence, IsProperDatum, AreProperItems, IsProperList}
+use Rattle.asm_element.specs.View.{datum as datum_of, element as element_of, element-datum, datum-element, sequence, elements as elements_of, sequence-elements, len-sequence}
 use Rattle.asm_element.specs.Element as element
 use Rattle.asm_element.specs.Place.{Place, is_name}
 use Rattle.asm_element.specs.declared.element.Element.{Element}
 use Rattle.asm_element.specs.declared.element.Element.TheVariants as elements
+use Rattle.asm_element.specs.declared.elem_list.ListError.{ListError}
+use Rattle.asm_element.specs.declared.elem_list.ListError.TheVariants.{ManyItems, TooDeep}
 use Rattle.asm_element.specs.declared.location.LocationError.{LocationError}
 use Rattle.asm_element.specs.declared.location.LocationError.TheVariants.{BadName, ManyArgs}
-use Rattle.asm_journal.specs.Shape.{AreForms, IsParsed}
-use Rattle.asm_journal.specs.Element.{element_json_of, location_json_of, IsIntegerForm, IsElementForm, IsLocationForm}
+use Rattle.asm_journal.specs.Shape.{AreForms, IsParsed, one_of, list_of}
+use Rattle.asm_journal.specs.Element.{datum_json_of, items_json_of, element_json_of, location_json_of, IsIntegerForm, IsElementForm, IsLocationForm}
 use Rattle.asm_journal.proofs.Answered.{true_and_false}
 use Rattle.asm_journal.proofs.Arrays.{IsOnce}
 
 -- ---- one at most
 
-of_integer_once : (y z : ℤ) → of_integer y ≡ of_integer z → y ≡ z
-of_integer_once (pos m) (pos n) e = cc
-of_integer_once (pos m) (negsuc n) e = absurd cc
-of_integer_once (negsuc m) (pos n) e = absurd cc
-of_integer_once (negsuc m) (negsuc n) e = cc
+-- the integer that a number is
+abbrev integer_from : Num → ℤ
+integer_from (unsigned n) = pos n
+integer_from (negative z) = z
+integer_from (float f) = pos 0
 
-num_once : (a b : Num) → number a ≡ number b → a ≡ b
-num_once a b e = cc
+integer_back : (z : ℤ) → integer_from (of_integer z) ≡ z
+integer_back (pos n) = refl
+integer_back (negsuc n) = refl
+
+-- the element that JSON is
+abbrev mutual
+  datum_from : Data → Datum
+  datum_from null = datum.undef
+  datum_from (boolean b) = datum.truth b
+  datum_from (number n) = datum.number (integer_from n)
+  datum_from (string s) = datum.text s
+  datum_from (array ds) = datum.undef
+  datum_from (object ms) = members_from ms
+
+  members_from : Members → Datum
+  members_from no_members = datum.undef
+  members_from (member k d ms) = datum.list (sequence_from d)
+
+  sequence_from : Data → Sequence
+  sequence_from null = datum.nothing
+  sequence_from (boolean b) = datum.nothing
+  sequence_from (number n) = datum.nothing
+  sequence_from (string s) = datum.nothing
+  sequence_from (array ds) = items_from ds
+  sequence_from (object ms) = datum.nothing
+
+  items_from : Items → Sequence
+  items_from no_items = datum.nothing
+  items_from (item d ds) = datum.item (datum_from d) (items_from ds)
+
+mutual
+  datum_back : (d : Datum) → datum_from (datum_json_of d) ≡ d
+  datum_back datum.undef = refl
+  datum_back (datum.truth b) = refl
+  datum_back (datum.number z) = ap datum.number (integer_back z)
+  datum_back (datum.text s) = refl
+  datum_back (datum.list ds) = ap datum.list (items_back ds)
+
+  items_back : (ds : Sequence) → items_from (items_json_of ds) ≡ ds
+  items_back datum.nothing = refl
+  items_back (datum.item d ds) = ap₂ datum.item (datum_back d) (items_back ds)
 
 element_json_once : (x y : Element) → element_json_of x ≡ element_json_of y → x ≡ y
-element_json_once elements.Undef elements.Undef e = refl
-element_json_once elements.Undef (elements.Bool c) e = absurd cc
-element_json_once elements.Undef (elements.Num z) e = absurd cc
-element_json_once elements.Undef (elements.Text t) e = absurd cc
-element_json_once (elements.Bool b) elements.Undef e = absurd cc
-element_json_once (elements.Bool b) (elements.Bool c) e = cc
-element_json_once (elements.Bool b) (elements.Num z) e = absurd cc
-element_json_once (elements.Bool b) (elements.Text t) e = absurd cc
-element_json_once (elements.Num y) elements.Undef e = absurd cc
-element_json_once (elements.Num y) (elements.Bool c) e = absurd cc
-element_json_once (elements.Num y) (elements.Num z) e = ap elements.Num (of_integer_once y z (num_once _ _ e))
-element_json_once (elements.Num y) (elements.Text t) e = absurd cc
-element_json_once (elements.Text s) elements.Undef e = absurd cc
-element_json_once (elements.Text s) (elements.Bool c) e = absurd cc
-element_json_once (elements.Text s) (elements.Num z) e = absurd cc
-element_json_once (elements.Text s) (elements.Text t) e = cc
+element_json_once x y e =
+    let same = sym (datum_back (datum_of x)) ∙ ap datum_from e ∙ datum_back (datum_of y) in
+    sym (element-datum x) ∙ ap element_of same ∙ element-datum y
+
+items_json_once : (ds es : Sequence) → items_json_of ds ≡ items_json_of es → ds ≡ es
+items_json_once ds es e = sym (items_back ds) ∙ ap items_from e ∙ items_back es
 
 item_parts : (d c : Data) (ds cs : Items) → item d ds ≡ item c cs → (d ≡ c) × (ds ≡ cs)
 item_parts d c ds cs e = (cc, cc)
@@ -65,7 +102,10 @@ location_json_once p q e =
     ap₂ (λ n l. record { name = n; args = l }) parts.0 (elements_json_once p.args q.args parts.1)
 
 pub integer_once : IsOnce IsIntegerForm
-integer_once y z d h k = of_integer_once y z (num_once _ _ (sym h.1 ∙ k.1))
+integer_once y z d h k = sym (integer_back y) ∙ ap integer_of (sym h.1 ∙ k.1) ∙ integer_back z where
+  integer_of : Data → ℤ
+  integer_of (number n) = integer_from n
+  integer_of _ = pos 0
 
 pub element_once : IsOnce IsElementForm
 element_once x y d h k = element_json_once x y (sym h.1 ∙ k.1)
@@ -122,3 +162,88 @@ pub no_location : (d : Data) (name : List ℕ) (ds : Items) → d ≡ array (ite
 no_location d name ds is none p h =
     let parts = location_parts p.name name _ ds (sym h.1 ∙ is) in
     none p.args (subst (AreForms IsElementForm p.args) parts.1 (forms_of p.args (recursion_from_All element.IsProper p.args h.0.2)))
+
+-- ---- reading a list
+
+-- the items' forms are those of the list
+sequence_json : (xs : List Element) → items_of (map element_json_of xs) ≡ items_json_of (sequence xs)
+sequence_json [] = refl
+sequence_json (x ∷ xs) = ap (λ ds. item (element_json_of x) ds) (sequence_json xs)
+
+proper_items : (xs : List Element) → AllByRecursion element.IsProper xs → AreProperItems (sequence xs)
+proper_items [] h = tt
+proper_items (x ∷ xs) h = (proper_datum x h.0, proper_items xs h.1)
+
+abbrev pub list_json : Items → Data
+list_json ds = one_of (codes "list") (array ds)
+
+same_list_json : (ds es : Items) → list_json ds ≡ list_json es → ds ≡ es
+same_list_json ds es e = cc
+
+unlike : (d e : Data) (ms : Members) → d ≡ object ms → d ≡ e → ((ns : Members) → e ≡ object ns → ⊥) → ⊥
+unlike d e ms is same other = other ms (sym same ∙ is)
+
+-- no other element has the JSON of a list
+list_is : (x : Element) (ds : Items) → list_json ds ≡ element_json_of x → (es : Sequence) × (x ≡ elements.List es) × (ds ≡ items_json_of es)
+list_is elements.Undef ds e = absurd cc
+list_is (elements.Bool b) ds e = absurd cc
+list_is (elements.Num z) ds e = absurd cc
+list_is (elements.Text s) ds e = absurd cc
+list_is (elements.List es) ds e = (es, refl, same_list_json _ _ e)
+
+-- what the items are makes a list, or none
+pub list_read : (ds : Items) (found : List Element) (n : ℕ) (r : Result Sequence ListError)
+    → n ≡ length found → AreForms IsElementForm found ds → IfOk r (λ l. l ≡ sequence found)
+    → ((r ≡ Err ManyItems) ↔ (4096 < n)) → ((r ≡ Err TooDeep) ↔ ((n ≤ 4096) × (8 < datum.depth (datum.list (sequence found)))))
+    → IsParsed IsElementForm (list_json ds) (option_map elements.List (result_ok r))
+list_read ds found n (Ok l) count forms ok many deep =
+    let parts = forms_are found ds forms in
+    let few : n ≤ 4096 = at_most n 4096 (λ over. let wrong = many.1 over in absurd cc) in
+    let flat : datum.depth (datum.list (sequence found)) ≤ 8 = at_most _ 8 (λ over. let wrong = deep.1 (few, over) in absurd cc) in
+    let proper : IsProperList (sequence found) = (omega (arith, few, count, len-sequence found), (flat, proper_items found parts.1)) in
+    subst (λ es. IsElementForm (elements.List es) (list_json ds)) (sym ok)
+    (proper, ap list_json (parts.0 ∙ sequence_json found)) where
+      at_most : (n m : ℕ) → (m < n → ⊥) → n ≤ m
+      at_most n m h = omega (arith, h)
+list_read ds found n (Err ManyItems) count forms ok many deep = λ x h.
+    let parts = forms_are found ds forms in
+    let list = list_is x ds h.1 in
+    let same = items_json_once _ _ (sym (sequence_json found) ∙ sym parts.0 ∙ list.2) in
+    let proper : IsProperList list.0 = subst element.IsProper list.1 h.0 in
+    let over = many.0 refl in
+    omega (arith, over, count, len-sequence found, ap datum.len same, proper.0)
+list_read ds found n (Err TooDeep) count forms ok many deep = λ x h.
+    let parts = forms_are found ds forms in
+    let list = list_is x ds h.1 in
+    let same = items_json_once _ _ (sym (sequence_json found) ∙ sym parts.0 ∙ list.2) in
+    let proper : IsProperList list.0 = subst element.IsProper list.1 h.0 in
+    let over = (deep.0 refl).1 in
+    omega (arith, over, ap (λ es. datum.depth (datum.list es)) same, proper.1.0)
+
+-- items that are no elements
+pub no_list : (ds : Items) → ((xs : List Element) → AreForms IsElementForm xs ds → ⊥) → (x : Element) → IsElementForm x (list_json ds) → ⊥
+no_list ds none x h =
+    let list = list_is x ds h.1 in
+    let proper : IsProperList list.0 = subst element.IsProper list.1 h.0 in
+    none (elements_of list.0) (subst (AreForms IsElementForm (elements_of list.0)) (sym list.2) (forms_of_items list.0 proper.1.1)) where
+      forms_of_items : (es : Sequence) → AreProperItems es → AreForms IsElementForm (elements_of es) (items_json_of es)
+      forms_of_items datum.nothing h = tt
+      forms_of_items (datum.item d es) h = ((proper_element d h.0, ap datum_json_of (sym (datum-element d))), forms_of_items es h.1)
+
+-- what is written of a list
+pub list_written : (r : Result Json AllocError) (items : List Json) (d : Data) (es : Sequence) (x : Element) → x ≡ elements.List es
+    → map view items ≡ map element_json_of (elements_of es) → d ≡ list_of (map view items)
+    → IfOk r (λ o. view o ≡ one_of (codes "list") d) → IfOk r (λ o. view o ≡ element_json_of x)
+list_written (Ok o) items d es x is same whole h =
+    let parts : items_of (map view items) ≡ items_json_of es =
+    ap items_of same ∙ sequence_json (elements_of es) ∙ ap items_json_of (sequence-elements es) in
+    h ∙ ap (one_of (codes "list")) whole ∙ ap list_json parts ∙ ap element_json_of (sym is)
+list_written (Err e) items d es x is same whole h = tt
+
+-- an object without the items of a list
+pub no_object : (d : Data) (ms : Members) → d ≡ object ms → ((ds : Items) → d ≢ list_json ds) → (x : Element) → IsElementForm x d → ⊥
+no_object d ms is none elements.Undef h = unlike d _ ms is h.1 (λ ns e. cc)
+no_object d ms is none (elements.Bool b) h = unlike d _ ms is h.1 (λ ns e. cc)
+no_object d ms is none (elements.Num z) h = unlike d _ ms is h.1 (λ ns e. cc)
+no_object d ms is none (elements.Text s) h = unlike d _ ms is h.1 (λ ns e. cc)
+no_object d ms is none (elements.List es) h = none _ h.1

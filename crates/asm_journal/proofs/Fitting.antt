@@ -1,29 +1,38 @@
 -- A history as which a text reads fits a journal.
-use Rattle.std.proofs.Common.{◌<◌, ◌≤◌, ◌^◌, ℕ, List, [], ◌∷◌, length, arith}
+use Rattle.std.proofs.Common.{◌<◌, ◌≤◌, ◌^◌, ℕ, List, [], ◌∷◌, length, Result, Ok, Err, arith}
+use Rattle.std.specs.Prelude.{IfOk}
 use Rattle.std.specs.List.{AllByRecursion}
 use Rattle.std.proofs.lemmas.List.Elements.{All-from_recursion}
 use Rattle.asm_storage.specs.History.{EventFits, Fits}
+use Rattle.asm_storage.specs.Proper.{IsProper}
 use Rattle.asm_storage.specs.declared.history.Event.{Event}
 use Rattle.asm_storage.specs.declared.history.History.{History}
+use Rattle.asm_journal.specs.declared.fault.JournalError.{JournalError}
 use Rattle.asm_journal.specs.Reading.{AreLimits, HasEvents, ReadsAs}
 
-events_fit : (agents : ℕ) (text : List ℕ) (es : List Event) (rest : List ℕ)
-    → HasEvents agents text es rest → AllByRecursion (EventFits agents) es
-events_fit agents text [] rest h = tt
-events_fit agents text (e ∷ es) rest h = (h.3.1, events_fit agents h.1 es rest h.4)
+events_fit : (v agents : ℕ) (text : List ℕ) (es : List Event) (rest : List ℕ)
+    → HasEvents v agents text es rest → AllByRecursion (EventFits agents) es
+events_fit v agents text [] rest h = tt
+events_fit v agents text (e ∷ es) rest h = (h.3.1, events_fit v agents h.1 es rest h.4)
 
 few_events : (n : ℕ) → n < 2 ^ 32 → n ≤ 4294967295
 few_events n h = omega arith
 
 limits_fit : (h : History) → AreLimits h.agents h.capacity (length h.events)
-    → AllByRecursion (EventFits h.agents) h.events → Fits h
-limits_fit h limits events = record {
+    → AllByRecursion (EventFits h.agents) h.events → IsProper h → Fits h
+limits_fit h limits events proper = record {
   agents = limits.0;
   some = limits.1;
   capacity = limits.2;
   few = few_events (length h.events) limits.3;
   events = All-from_recursion (EventFits h.agents) h.events events;
+  proper = proper;
 }
 
-pub reads_fit : (text : List ℕ) (h : History) → ReadsAs text h → Fits h
-reads_fit text h p = limits_fit h p.3.6.4 (events_fit h.agents p.1 h.events [] p.4)
+pub reads_fit : (text : List ℕ) (h : History) → IsProper h → ReadsAs text h → Fits h
+reads_fit text h proper p = limits_fit h p.4.6.5 (events_fit p.2 h.agents p.1 h.events [] p.5) proper
+
+-- what was read, and is what a program can hold
+pub fitting : (text : List ℕ) (r : Result History JournalError) → IfOk r (ReadsAs text) → IfOk r IsProper → IfOk r Fits
+fitting text (Ok h) reads proper = reads_fit text h proper reads
+fitting text (Err e) reads proper = tt

@@ -5,6 +5,9 @@ use Rattle.serde_json.specs.View.{items_of}
 use Rattle.serde_json.specs.Written.{has_float, items_have_float}
 use Rattle.serde_json.specs.Find.{of_integer}
 use Rattle.std.specs.FinMap as finite
+use Rattle.asm_element.specs.Datum as datum
+use Rattle.asm_element.specs.Datum.{Datum, Sequence}
+use Rattle.asm_element.specs.View.{datum as datum_of}
 use Rattle.asm_element.specs.declared.element.Element.{Element}
 use Rattle.asm_element.specs.declared.element.Element.TheVariants as elements
 use Rattle.asm_element.specs.declared.value.Value.{Value}
@@ -24,7 +27,7 @@ use Rattle.asm_storage.specs.declared.call.Answer.{Answer}
 use Rattle.asm_storage.specs.declared.call.Answer.TheVariants as answer
 use Rattle.asm_storage.specs.declared.history.Event.{Event}
 use Rattle.asm_storage.specs.declared.history.History.{History}
-use Rattle.asm_journal.specs.Element.{element_json_of, location_json_of}
+use Rattle.asm_journal.specs.Element.{datum_json_of, items_json_of, element_json_of, location_json_of}
 use Rattle.asm_journal.specs.Set.{count_json_of}
 use Rattle.asm_journal.specs.Value.{value_json_of, pair_json_of}
 use Rattle.asm_journal.specs.Instruction.{instruction_json_of}
@@ -40,11 +43,20 @@ integer_no_float : (z : ℤ) → has_float (number (of_integer z)) ≡ false
 integer_no_float (pos n) = refl
 integer_no_float (negsuc n) = refl
 
+mutual
+  datum_no_float : (d : Datum) → has_float (datum_json_of d) ≡ false
+  datum_no_float datum.undef = refl
+  datum_no_float (datum.truth b) = refl
+  datum_no_float (datum.number z) = integer_no_float z
+  datum_no_float (datum.text s) = refl
+  datum_no_float (datum.list ds) = rw (items_no_float ds) refl
+
+  items_no_float : (ds : Sequence) → items_have_float (items_json_of ds) ≡ false
+  items_no_float datum.nothing = refl
+  items_no_float (datum.item d ds) = rw (datum_no_float d) (items_no_float ds)
+
 element_no_float : (x : Element) → has_float (element_json_of x) ≡ false
-element_no_float elements.Undef = refl
-element_no_float (elements.Bool b) = refl
-element_no_float (elements.Num z) = integer_no_float z
-element_no_float (elements.Text s) = refl
+element_no_float x = datum_no_float (datum_of x)
 
 count_no_float : (p : Element × ℕ) → has_float (count_json_of p) ≡ false
 count_no_float p = rw (element_no_float p.0) refl

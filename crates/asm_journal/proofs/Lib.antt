@@ -16,6 +16,7 @@ pub mod Floats
 pub mod Once
 pub mod Refused
 pub mod Lines
+pub mod Versions
 pub mod Fitting
 pub mod Told
 pub mod Clean

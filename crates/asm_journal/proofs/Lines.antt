@@ -14,6 +14,6 @@ breaks_line k text body e begins some (inl is) = subst (BreaksLine k text) (sym 
 breaks_line k text body e begins some (inr is) = subst (BreaksLine k text) (sym is.0) (refl, some, (body, begins, is.1))
 
 -- one more event
-pub HasEvents-push : (agents : ℕ) (text : List ℕ) (es : List Event) (rest : List ℕ) (d : Data) (e : Event) (after : List ℕ) → HasEvents agents text es rest → HasLine rest d after → IsEventBelow agents e d → HasEvents agents text (es ++ e ∷ []) after
-HasEvents-push agents text [] rest d e after h k b = (d, after, subst (λ t. HasLine t d after) (sym h) k, b, refl)
-HasEvents-push agents text (x ∷ es) rest d e after h k b = (h.0, h.1, h.2, h.3, HasEvents-push agents h.1 es rest d e after h.4 k b)
+pub HasEvents-push : (v agents : ℕ) (text : List ℕ) (es : List Event) (rest : List ℕ) (d : Data) (e : Event) (after : List ℕ) → HasEvents v agents text es rest → HasLine rest d after → IsEventBelow v agents e d → HasEvents v agents text (es ++ e ∷ []) after
+HasEvents-push v agents text [] rest d e after h k b = (d, after, subst (λ t. HasLine t d after) (sym h) k, b, refl)
+HasEvents-push v agents text (x ∷ es) rest d e after h k b = (h.0, h.1, h.2, h.3, HasEvents-push v agents h.1 es rest d e after h.4 k b)

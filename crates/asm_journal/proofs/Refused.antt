@@ -12,6 +12,7 @@ use Rattle.asm_journal.specs.declared.fault.JournalError.TheVariants.{NotJson, S
 use Rattle.asm_journal.specs.Event.{IsEventBelow}
 use Rattle.asm_journal.specs.Text.{header_with}
 use Rattle.asm_journal.specs.Shape.{number_json_of}
+use Rattle.asm_journal.specs.Version.{IsVersion}
 use Rattle.asm_journal.specs.Reading.{HasNoLineFeed, BeginsWithLine, HasLine, IsJson, IsHeader, HasEvents, ReadsAs}
 use Rattle.asm_journal.specs.Fault.{HasOtherVersion, BreaksLine, BreaksHeader, BreaksEvent, BreaksBehind, IsRefused}
 use Rattle.asm_journal.specs.Fault.{GivesHistory}
@@ -47,64 +48,70 @@ not_broken k text d r (Shape n) h other b = b
 not_broken k text d r Version h other b = b
 not_broken k text d r Memory h other b = other refl
 
-version_1 : (a c n i v : Data) → v ≡ number_json_of 1 → HasOtherVersion (header_with a c n i v) → ⊥
-version_1 a c n i v one h = let is : h.0 ≡ unsigned 1 = cc in h.3 is
+-- a version that is read is no other one
+known_version : (a c n i version : Data) (v : ℕ) → version ≡ number_json_of v → IsVersion v
+    → HasOtherVersion (header_with a c n i version) → ⊥
+known_version a c n i version v is (inl one) h = let same : h.0 ≡ unsigned v = cc in h.3 (same ∙ ap unsigned one)
+known_version a c n i version v is (inr two) h = let same : h.0 ≡ unsigned v = cc in h.4 (same ∙ ap unsigned two)
 
 header_stands : (text : List ℕ) (h : History) (e : JournalError) → e ≢ Memory → ReadsAs text h → BreaksHeader text e → ⊥
-header_stands text h Cut other p b = not_broken 1 text p.0 p.1 Cut p.2 other b
-header_stands text h (NotJson n) other p b = not_broken 1 text p.0 p.1 (NotJson n) p.2 other b
+header_stands text h Cut other p b = not_broken 1 text p.0 p.1 Cut p.3 other b
+header_stands text h (NotJson n) other p b = not_broken 1 text p.0 p.1 (NotJson n) p.3 other b
 header_stands text h Version other p b =
-    let same = line_once text b.0 p.0 b.1 p.1 b.2 p.2 in
-    version_1 p.3.0 p.3.1 p.3.2 p.3.3 p.3.4 p.3.6.3 (subst HasOtherVersion (same.0 ∙ p.3.5) b.3)
+    let same = line_once text b.0 p.0 b.1 p.1 b.2 p.3 in
+    known_version p.4.0 p.4.1 p.4.2 p.4.3 p.4.4 p.2 p.4.6.3 p.4.6.4 (subst HasOtherVersion (same.0 ∙ p.4.5) b.3)
 header_stands text h (Shape n) other p b =
-    let same = line_once text b.1.0 p.0 b.1.1 p.1 b.1.2 p.2 in
-    b.1.4 _ _ _ _ (subst (IsHeader h.agents h.capacity (length h.events) h.init) (sym same.0) p.3)
+    let same = line_once text b.1.0 p.0 b.1.1 p.1 b.1.2 p.3 in
+    b.1.4 _ _ _ _ _ (subst (IsHeader p.2 h.agents h.capacity (length h.events) h.init) (sym same.0) p.4)
 header_stands text h Memory other p b = other refl
 
-event_stands : (agents k : ℕ) (text : List ℕ) (x : Event) (d : Data) (r : List ℕ) (e : JournalError) → e ≢ Memory
-    → HasLine text d r → IsEventBelow agents x d → BreaksEvent agents k text e → ⊥
-event_stands agents k text x d r Cut other h is b = not_broken k text d r Cut h other b
-event_stands agents k text x d r (NotJson n) other h is b = not_broken k text d r (NotJson n) h other b
-event_stands agents k text x d r Version other h is b = b
-event_stands agents k text x d r (Shape n) other h is b =
+event_stands : (v agents k : ℕ) (text : List ℕ) (x : Event) (d : Data) (r : List ℕ) (e : JournalError) → e ≢ Memory
+    → HasLine text d r → IsEventBelow v agents x d → BreaksEvent v agents k text e → ⊥
+event_stands v agents k text x d r Cut other h is b = not_broken k text d r Cut h other b
+event_stands v agents k text x d r (NotJson n) other h is b = not_broken k text d r (NotJson n) h other b
+event_stands v agents k text x d r Version other h is b = b
+event_stands v agents k text x d r (Shape n) other h is b =
     let same = line_once text b.1.0 d b.1.1 r b.1.2 h in
-    b.1.3 x (subst (IsEventBelow agents x) (sym same.0) is)
-event_stands agents k text x d r Memory other h is b = other refl
+    b.1.3 x (subst (IsEventBelow v agents x) (sym same.0) is)
+event_stands v agents k text x d r Memory other h is b = other refl
 
 -- the event that stands behind fewer ones
-next_event : (agents : ℕ) (text : List ℕ) (es fs : List Event) (left end : List ℕ) → HasEvents agents text es left
-    → HasEvents agents text fs end → length es < length fs
-    → (x : Event) × (d : Data) × (r : List ℕ) × HasLine left d r × IsEventBelow agents x d
-next_event agents text es [] left end h k less = absurd (omega arith)
-next_event agents text [] (f ∷ fs) left end h k less = (f, k.0, k.1, subst (λ t. HasLine t k.0 k.1) h k.2, k.3)
-next_event agents text (e ∷ es) (f ∷ fs) left end h k less =
+next_event : (v agents : ℕ) (text : List ℕ) (es fs : List Event) (left end : List ℕ) → HasEvents v agents text es left
+    → HasEvents v agents text fs end → length es < length fs
+    → (x : Event) × (d : Data) × (r : List ℕ) × HasLine left d r × IsEventBelow v agents x d
+next_event v agents text es [] left end h k less = absurd (omega arith)
+next_event v agents text [] (f ∷ fs) left end h k less = (f, k.0, k.1, subst (λ t. HasLine t k.0 k.1) h k.2, k.3)
+next_event v agents text (e ∷ es) (f ∷ fs) left end h k less =
     let same = line_once text k.0 h.0 k.1 h.1 k.2 h.2 in
-    next_event agents h.1 es fs left end h.4 (subst (λ t. HasEvents agents t fs end) same.1 k.4) (omega arith)
+    next_event v agents h.1 es fs left end h.4 (subst (λ t. HasEvents v agents t fs end) same.1 k.4) (omega arith)
 
-same_left : (agents : ℕ) (text : List ℕ) (es fs : List Event) (left end : List ℕ) → HasEvents agents text es left
-    → HasEvents agents text fs end → length es ≡ length fs → left ≡ end
-same_left agents text [] [] left end h k same = sym h ∙ k
-same_left agents text [] (f ∷ fs) left end h k same = absurd (omega arith)
-same_left agents text (e ∷ es) [] left end h k same = absurd (omega arith)
-same_left agents text (e ∷ es) (f ∷ fs) left end h k same =
+same_left : (v agents : ℕ) (text : List ℕ) (es fs : List Event) (left end : List ℕ) → HasEvents v agents text es left
+    → HasEvents v agents text fs end → length es ≡ length fs → left ≡ end
+same_left v agents text [] [] left end h k same = sym h ∙ k
+same_left v agents text [] (f ∷ fs) left end h k same = absurd (omega arith)
+same_left v agents text (e ∷ es) [] left end h k same = absurd (omega arith)
+same_left v agents text (e ∷ es) (f ∷ fs) left end h k same =
     let line = line_once text k.0 h.0 k.1 h.1 k.2 h.2 in
-    same_left agents h.1 es fs left end h.4 (subst (λ t. HasEvents agents t fs end) line.1 k.4) (omega arith)
+    same_left v agents h.1 es fs left end h.4 (subst (λ t. HasEvents v agents t fs end) line.1 k.4) (omega arith)
 
 pub not_both : (text : List ℕ) (h : History) (e : JournalError) → e ≢ Memory → IsRefused text e → ReadsAs text h → ⊥
 not_both text h e other (inl b) p = header_stands text h e other p b
 not_both text h e other (inr b) p =
-    let same = line_once text b.0 p.0 b.1 p.1 b.6 p.2 in
-    let parts = header_once _ _ _ _ _ _ b.5 h.init p.0 (subst (IsHeader b.2 b.3 b.4 b.5) same.0 b.7) p.3 in
+    let same = line_once text b.0 p.0 b.1 p.1 b.7 p.3 in
+    let parts = header_once _ _ _ _ _ _ _ _ b.6 h.init p.0 (subst (IsHeader b.2 b.3 b.4 b.5 b.6) same.0 b.8) p.4 in
     let agents = parts.0 in
     let events = parts.2 in
-    let read = subst (λ t. HasEvents h.agents t h.events []) (sym same.1) p.4 in
-    let found = subst (λ a. HasEvents a b.1 b.8 b.9) agents b.10 in
-    elim b.11 [
+    let version = parts.4 in
+    let read = subst (λ t. HasEvents p.2 h.agents t h.events []) (sym same.1) p.5 in
+    let found = subst (λ w. HasEvents w h.agents b.1 b.9 b.10) version
+    (subst (λ a. HasEvents b.2 a b.1 b.9 b.10) agents b.11) in
+    elim b.12 [
       | inl less ↦
-          let next = next_event h.agents b.1 b.8 h.events b.9 [] found read (omega (arith, less.0, events)) in
-          let broken = subst (λ a. BreaksEvent a (length b.8 + 2) b.9 e) agents less.1 in
-          event_stands h.agents (length b.8 + 2) b.9 next.0 next.1 next.2 e other next.3 next.4 broken
-      | inr over ↦ over.1 (same_left h.agents b.1 b.8 h.events b.9 [] found read (over.0 ∙ events))
+          let next = next_event p.2 h.agents b.1 b.9 h.events b.10 [] found read (omega (arith, less.0, events)) in
+          let broken = subst (λ w. BreaksEvent w h.agents (length b.9 + 2) b.10 e) version
+          (subst (λ a. BreaksEvent b.2 a (length b.9 + 2) b.10 e) agents less.1) in
+          event_stands p.2 h.agents (length b.9 + 2) b.10 next.0 next.1 next.2 e other next.3 next.4 broken
+      | inr over ↦ over.1 (same_left p.2 h.agents b.1 b.9 h.events b.10 [] found read (over.0 ∙ events))
     ]
 
 -- what reads as a history is answered so, unless memory runs out
@@ -170,74 +177,74 @@ one_header_fault text (Shape n) Memory p q b c = absurd (q refl)
 one_header_fault text Cut Memory p q b c = absurd (q refl)
 one_header_fault text (NotJson n) Memory p q b c = absurd (q refl)
 
-one_event_fault : (agents k : ℕ) (text : List ℕ) (e f : JournalError) → e ≢ Memory → f ≢ Memory
-    → BreaksEvent agents k text e → BreaksEvent agents k text f → e ≡ f
-one_event_fault agents k text (Shape n) (Shape m) p q b c = ap Shape (b.0 ∙ sym c.0)
-one_event_fault agents k text (Shape n) Cut p q b c = absurd (not_broken k text b.1.0 b.1.1 Cut b.1.2 q c)
-one_event_fault agents k text (Shape n) (NotJson m) p q b c =
+one_event_fault : (v agents k : ℕ) (text : List ℕ) (e f : JournalError) → e ≢ Memory → f ≢ Memory
+    → BreaksEvent v agents k text e → BreaksEvent v agents k text f → e ≡ f
+one_event_fault v agents k text (Shape n) (Shape m) p q b c = ap Shape (b.0 ∙ sym c.0)
+one_event_fault v agents k text (Shape n) Cut p q b c = absurd (not_broken k text b.1.0 b.1.1 Cut b.1.2 q c)
+one_event_fault v agents k text (Shape n) (NotJson m) p q b c =
     absurd (not_broken k text b.1.0 b.1.1 (NotJson m) b.1.2 q c)
-one_event_fault agents k text Cut (Shape m) p q b c = absurd (not_broken k text c.1.0 c.1.1 Cut c.1.2 p b)
-one_event_fault agents k text (NotJson n) (Shape m) p q b c =
+one_event_fault v agents k text Cut (Shape m) p q b c = absurd (not_broken k text c.1.0 c.1.1 Cut c.1.2 p b)
+one_event_fault v agents k text (NotJson n) (Shape m) p q b c =
     absurd (not_broken k text c.1.0 c.1.1 (NotJson n) c.1.2 p b)
-one_event_fault agents k text Cut Cut p q b c = refl
-one_event_fault agents k text Cut (NotJson m) p q b c = one_line_fault k text Cut (NotJson m) p q b c
-one_event_fault agents k text (NotJson n) Cut p q b c = one_line_fault k text (NotJson n) Cut p q b c
-one_event_fault agents k text (NotJson n) (NotJson m) p q b c = one_line_fault k text (NotJson n) (NotJson m) p q b c
-one_event_fault agents k text Version f p q b c = absurd b
-one_event_fault agents k text Memory f p q b c = absurd (p refl)
-one_event_fault agents k text (Shape n) Version p q b c = absurd c
-one_event_fault agents k text (Shape n) Memory p q b c = absurd (q refl)
-one_event_fault agents k text Cut Version p q b c = absurd c
-one_event_fault agents k text Cut Memory p q b c = absurd (q refl)
-one_event_fault agents k text (NotJson n) Version p q b c = absurd c
-one_event_fault agents k text (NotJson n) Memory p q b c = absurd (q refl)
+one_event_fault v agents k text Cut Cut p q b c = refl
+one_event_fault v agents k text Cut (NotJson m) p q b c = one_line_fault k text Cut (NotJson m) p q b c
+one_event_fault v agents k text (NotJson n) Cut p q b c = one_line_fault k text (NotJson n) Cut p q b c
+one_event_fault v agents k text (NotJson n) (NotJson m) p q b c = one_line_fault k text (NotJson n) (NotJson m) p q b c
+one_event_fault v agents k text Version f p q b c = absurd b
+one_event_fault v agents k text Memory f p q b c = absurd (p refl)
+one_event_fault v agents k text (Shape n) Version p q b c = absurd c
+one_event_fault v agents k text (Shape n) Memory p q b c = absurd (q refl)
+one_event_fault v agents k text Cut Version p q b c = absurd c
+one_event_fault v agents k text Cut Memory p q b c = absurd (q refl)
+one_event_fault v agents k text (NotJson n) Version p q b c = absurd c
+one_event_fault v agents k text (NotJson n) Memory p q b c = absurd (q refl)
 
 -- a header that stands doesn't break
 header_not_broken : (text : List ℕ) (e : JournalError) → e ≢ Memory → BreaksBehind text e → (f : JournalError)
     → f ≢ Memory → BreaksHeader text f → ⊥
-header_not_broken text e p b Cut q c = not_broken 1 text b.0 b.1 Cut b.6 q c
-header_not_broken text e p b (NotJson n) q c = not_broken 1 text b.0 b.1 (NotJson n) b.6 q c
+header_not_broken text e p b Cut q c = not_broken 1 text b.0 b.1 Cut b.7 q c
+header_not_broken text e p b (NotJson n) q c = not_broken 1 text b.0 b.1 (NotJson n) b.7 q c
 header_not_broken text e p b Version q c =
-    let same = line_once text c.0 b.0 c.1 b.1 c.2 b.6 in
-    version_1 b.7.0 b.7.1 b.7.2 b.7.3 b.7.4 b.7.6.3 (subst HasOtherVersion (same.0 ∙ b.7.5) c.3)
+    let same = line_once text c.0 b.0 c.1 b.1 c.2 b.7 in
+    known_version b.8.0 b.8.1 b.8.2 b.8.3 b.8.4 b.2 b.8.6.3 b.8.6.4 (subst HasOtherVersion (same.0 ∙ b.8.5) c.3)
 header_not_broken text e p b (Shape n) q c =
-    let same = line_once text c.1.0 b.0 c.1.1 b.1 c.1.2 b.6 in
-    c.1.4 _ _ _ _ (subst (IsHeader b.2 b.3 b.4 b.5) (sym same.0) b.7)
+    let same = line_once text c.1.0 b.0 c.1.1 b.1 c.1.2 b.7 in
+    c.1.4 _ _ _ _ _ (subst (IsHeader b.2 b.3 b.4 b.5 b.6) (sym same.0) b.8)
 header_not_broken text e p b Memory q c = q refl
 
 -- behind these events the next line is at fault, or all events are there and a byte is left
-abbrev StopsBehind : ℕ → ℕ → List Event → List ℕ → JournalError → Type 0
-StopsBehind agents count es left e =
-    ((length es < count) × BreaksEvent agents (length es + 2) left e)
+abbrev StopsBehind : ℕ → ℕ → ℕ → List Event → List ℕ → JournalError → Type 0
+StopsBehind v agents count es left e =
+    ((length es < count) × BreaksEvent v agents (length es + 2) left e)
     ⊎ ((length es ≡ count) × (left ≢ []) × (e ≡ Shape (count + 2)))
 
 -- what stands behind one header and isn't read: of two first faults the events before each are the same
-one_behind : (agents count : ℕ) (text : List ℕ) (e f : JournalError) (es fs : List Event) (left end : List ℕ)
+one_behind : (v agents count : ℕ) (text : List ℕ) (e f : JournalError) (es fs : List Event) (left end : List ℕ)
     → e ≢ Memory → f ≢ Memory
-    → HasEvents agents text es left → HasEvents agents text fs end
-    → StopsBehind agents count es left e → StopsBehind agents count fs end f → e ≡ f
-one_behind agents count text e f es fs left end p q h k (inl b) (inl c) = elim (cases_lt (length es) (length fs)) [
+    → HasEvents v agents text es left → HasEvents v agents text fs end
+    → StopsBehind v agents count es left e → StopsBehind v agents count fs end f → e ≡ f
+one_behind v agents count text e f es fs left end p q h k (inl b) (inl c) = elim (cases_lt (length es) (length fs)) [
   | inl less ↦
-      let next = next_event agents text es fs left end h k less in
-      absurd (event_stands agents (length es + 2) left next.0 next.1 next.2 e p next.3 next.4 b.1)
+      let next = next_event v agents text es fs left end h k less in
+      absurd (event_stands v agents (length es + 2) left next.0 next.1 next.2 e p next.3 next.4 b.1)
   | inr past ↦ elim (cases_lt (length fs) (length es)) [
     | inl less ↦
-        let next = next_event agents text fs es end left k h less in
-        absurd (event_stands agents (length fs + 2) end next.0 next.1 next.2 f q next.3 next.4 c.1)
+        let next = next_event v agents text fs es end left k h less in
+        absurd (event_stands v agents (length fs + 2) end next.0 next.1 next.2 f q next.3 next.4 c.1)
     | inr other ↦
         let same : length es ≡ length fs = omega (arith, past, other) in
-        let left_same = same_left agents text es fs left end h k same in
-        let here = subst (λ t. BreaksEvent agents (length es + 2) t e) left_same b.1 in
-        one_event_fault agents (length fs + 2) end e f p q (subst (λ n. BreaksEvent agents (n + 2) end e) same here) c.1
+        let left_same = same_left v agents text es fs left end h k same in
+        let here = subst (λ t. BreaksEvent v agents (length es + 2) t e) left_same b.1 in
+        one_event_fault v agents (length fs + 2) end e f p q (subst (λ n. BreaksEvent v agents (n + 2) end e) same here) c.1
   ]
 ]
-one_behind agents count text e f es fs left end p q h k (inl b) (inr c) =
-    let next = next_event agents text es fs left end h k (omega (arith, b.0, c.0)) in
-    absurd (event_stands agents (length es + 2) left next.0 next.1 next.2 e p next.3 next.4 b.1)
-one_behind agents count text e f es fs left end p q h k (inr b) (inl c) =
-    let next = next_event agents text fs es end left k h (omega (arith, b.0, c.0)) in
-    absurd (event_stands agents (length fs + 2) end next.0 next.1 next.2 f q next.3 next.4 c.1)
-one_behind agents count text e f es fs left end p q h k (inr b) (inr c) = b.2 ∙ sym c.2
+one_behind v agents count text e f es fs left end p q h k (inl b) (inr c) =
+    let next = next_event v agents text es fs left end h k (omega (arith, b.0, c.0)) in
+    absurd (event_stands v agents (length es + 2) left next.0 next.1 next.2 e p next.3 next.4 b.1)
+one_behind v agents count text e f es fs left end p q h k (inr b) (inl c) =
+    let next = next_event v agents text fs es end left k h (omega (arith, b.0, c.0)) in
+    absurd (event_stands v agents (length fs + 2) end next.0 next.1 next.2 f q next.3 next.4 c.1)
+one_behind v agents count text e f es fs left end p q h k (inr b) (inr c) = b.2 ∙ sym c.2
 
 pub one_fault : (text : List ℕ) (e f : JournalError) → e ≢ Memory → f ≢ Memory → IsRefused text e → IsRefused text f
     → e ≡ f
@@ -245,9 +252,12 @@ one_fault text e f p q (inl b) (inl c) = one_header_fault text e f p q b c
 one_fault text e f p q (inl b) (inr c) = absurd (header_not_broken text f q c e p b)
 one_fault text e f p q (inr b) (inl c) = absurd (header_not_broken text e p b f q c)
 one_fault text e f p q (inr b) (inr c) =
-    let same = line_once text c.0 b.0 c.1 b.1 c.6 b.6 in
-    let parts = header_once _ _ _ _ _ _ c.5 b.5 b.0 (subst (IsHeader c.2 c.3 c.4 c.5) same.0 c.7) b.7 in
-    let found = subst (λ t. HasEvents b.2 t c.8 c.9) same.1 (subst (λ a. HasEvents a c.1 c.8 c.9) parts.0 c.10) in
-    let agents = subst (λ a. StopsBehind a c.4 c.8 c.9 f) parts.0 c.11 in
-    let stops = subst (λ n. StopsBehind b.2 n c.8 c.9 f) parts.2 agents in
-    one_behind b.2 b.4 b.1 e f b.8 c.8 b.9 c.9 p q b.10 found b.11 stops
+    let same = line_once text c.0 b.0 c.1 b.1 c.7 b.7 in
+    let parts = header_once _ _ _ _ _ _ _ _ c.6 b.6 b.0 (subst (IsHeader c.2 c.3 c.4 c.5 c.6) same.0 c.8) b.8 in
+    let known = subst (λ a. HasEvents c.2 a c.1 c.9 c.10) parts.0 c.11 in
+    let here = subst (λ t. HasEvents c.2 b.3 t c.9 c.10) same.1 known in
+    let found = subst (λ w. HasEvents w b.3 b.1 c.9 c.10) parts.4 here in
+    let agents = subst (λ a. StopsBehind c.2 a c.5 c.9 c.10 f) parts.0 c.12 in
+    let version = subst (λ w. StopsBehind w b.3 c.5 c.9 c.10 f) parts.4 agents in
+    let stops = subst (λ n. StopsBehind b.2 b.3 n c.9 c.10 f) parts.2 version in
+    one_behind b.2 b.3 b.5 b.1 e f b.9 c.9 b.10 c.10 p q b.11 found b.12 stops

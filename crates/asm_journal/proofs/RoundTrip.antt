@@ -1,5 +1,5 @@
 -- The text of a history reads as that history.
-use Rattle.std.proofs.Common.{◌<◌, ◌≤◌, ◌^◌, ℕ, List, [], ◌∷◌, ◌++◌, length, refl, append_assoc, arith}
+use Rattle.std.proofs.Common.{◌<◌, ◌≤◌, ◌^◌, ℕ, List, [], ◌∷◌, ◌++◌, length, refl, append_assoc, inr, arith}
 use Rattle.std.specs.List.{AllByRecursion}
 use Rattle.std.proofs.lemmas.List.Elements.{recursion_from_All}
 use Rattle.serde_json.specs.Data.{Data}
@@ -10,8 +10,9 @@ use Rattle.asm_storage.specs.declared.history.Event.{Event}
 use Rattle.asm_storage.specs.declared.history.History.{History}
 use Rattle.asm_journal.specs.Event.{event_json_of}
 use Rattle.asm_journal.specs.Text.{line, header_json_of, events_text, text_of}
+use Rattle.asm_journal.specs.Version.{IsOfVersion}
 use Rattle.asm_journal.specs.Reading.{HasLine, HasEvents, ReadsAs}
-use Rattle.asm_journal.specs.Proper.{IsProper, IsProperEvent}
+use Rattle.asm_storage.specs.Proper.{IsProper, IsProperEvent}
 use Rattle.asm_journal.proofs.Clean.{HasNoLineFeed-compact_text, IsJson-compact_text}
 use Rattle.asm_journal.proofs.Good.{IsGood, deeper, event_good, header_good}
 use Rattle.asm_journal.proofs.Back.{state_back, event_back}
@@ -24,15 +25,19 @@ line_reads d rest g = (
   IsJson-compact_text d g.clean g.shallow,
 )
 
+-- version 2 has lists
+not_first : (d : Data) → IsOfVersion 2 d
+not_first d e = absurd (omega (arith, e))
+
 events_read : (agents : ℕ) (es : List Event) → agents ≤ 256 → AllByRecursion (EventFits agents) es
-    → AllByRecursion IsProperEvent es → HasEvents agents (events_text es) es []
+    → AllByRecursion IsProperEvent es → HasEvents 2 agents (events_text es) es []
 events_read agents [] few h k = refl
 events_read agents (e ∷ es) few h k =
     let small : e.agent < 2 ^ 32 = omega (arith, few, h.0.agent) in (
       event_json_of e,
       events_text es,
-      line_reads (event_json_of e) (events_text es) (deeper 7 max_depth _ (omega arith) (event_good e small k.0)),
-      (event_back e small k.0, h.0),
+      line_reads (event_json_of e) (events_text es) (deeper 23 max_depth _ (omega arith) (event_good e small k.0)),
+      (event_back e small k.0, h.0, not_first (event_json_of e)),
       events_read agents es few h.1 k.1,
     )
 
@@ -42,8 +47,9 @@ text_reads h proper fits =
     let good = header_good h.agents h.capacity (length h.events) h.init fits.agents fits.capacity few proper.0 in (
       header_json_of h,
       events_text h.events,
+      2,
       line_reads (header_json_of h) (events_text h.events)
-          (deeper 6 max_depth _ (omega arith) good),
+          (deeper 22 max_depth _ (omega arith) good),
       (
         _,
         _,
@@ -51,8 +57,9 @@ text_reads h proper fits =
         _,
         _,
         refl,
-        (refl, refl, refl, refl, (fits.agents, fits.some, fits.capacity, few)),
+        (refl, refl, refl, refl, inr refl, (fits.agents, fits.some, fits.capacity, few)),
         state_back h.init proper.0,
+        not_first (header_json_of h),
       ),
       events_read h.agents h.events fits.agents
           (recursion_from_All (EventFits h.agents) h.events fits.events)

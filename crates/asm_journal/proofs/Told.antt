@@ -71,12 +71,12 @@ header_fault text (Shape n) b = absurd b
 header_fault text Version b = absurd b
 header_fault text Memory b = b
 
-event_fault : (agents k : ℕ) (text : List ℕ) (e : JournalError) → BreaksLine k text e → BreaksEvent agents k text e
-event_fault agents k text Cut b = b
-event_fault agents k text (NotJson n) b = b
-event_fault agents k text (Shape n) b = absurd b
-event_fault agents k text Version b = absurd b
-event_fault agents k text Memory b = b
+event_fault : (v agents k : ℕ) (text : List ℕ) (e : JournalError) → BreaksLine k text e → BreaksEvent v agents k text e
+event_fault v agents k text Cut b = b
+event_fault v agents k text (NotJson n) b = b
+event_fault v agents k text (Shape n) b = absurd b
+event_fault v agents k text Version b = absurd b
+event_fault v agents k text Memory b = b
 
 -- ---- the whole text
 
@@ -84,26 +84,27 @@ abbrev Faultless : List ℕ → Type 0
 Faultless text = (e : JournalError) → e ≢ Memory → IsRefused text e → ⊥
 
 -- so many events are still to come behind a header and some events
-rest_told : (text : List ℕ) (d : Data) (rest : List ℕ) (agents capacity count : ℕ) (init : State)
-    → HasLine text d rest → IsHeader agents capacity count init d
+rest_told : (text : List ℕ) (d : Data) (rest : List ℕ) (v agents capacity count : ℕ) (init : State)
+    → HasLine text d rest → IsHeader v agents capacity count init d
     → ((h : History) → ReadsAs text h → ⊥) → Faultless text
-    → (n : ℕ) (es : List Event) (left : List ℕ) → HasEvents agents rest es left → length es + n ≡ count → ⊥
-rest_told text d rest agents capacity count init line header none faultless zero es [] has all =
+    → (n : ℕ) (es : List Event) (left : List ℕ) → HasEvents v agents rest es left → length es + n ≡ count → ⊥
+rest_told text d rest v agents capacity count init line header none faultless zero es [] has all =
     let counted : count ≡ length es = omega arith in
     none (record { init = init; capacity = capacity; agents = agents; events = es })
-    (d, rest, line, subst (λ c. IsHeader agents capacity c init d) counted header, has)
-rest_told text d rest agents capacity count init line header none faultless zero es (b ∷ bs) has all =
+    (d, rest, v, line, subst (λ c. IsHeader v agents capacity c init d) counted header, has)
+rest_told text d rest v agents capacity count init line header none faultless zero es (b ∷ bs) has all =
     let some : b ∷ bs ≢ [] = λ e. cc in
     let counted : length es ≡ count = omega arith in
     faultless (Shape (count + 2)) (shape_alone (count + 2))
-    (inr (d, rest, agents, capacity, count, init, line, header, es, b ∷ bs, has, inr (counted, some, refl)))
-rest_told text d rest agents capacity count init line header none faultless (suc n) es left has all =
+    (inr (d, rest, v, agents, capacity, count, init, line, header, es, b ∷ bs, has, inr (counted, some, refl)))
+rest_told text d rest v agents capacity count init line header none faultless (suc n) es left has all =
     let few : length es < count = omega arith in
     line_told (length es + 2) left
     (λ e other b. faultless e other
     (inr (
       d,
       rest,
+      v,
       agents,
       capacity,
       count,
@@ -113,12 +114,13 @@ rest_told text d rest agents capacity count init line header none faultless (suc
       es,
       left,
       has,
-      inl (few, event_fault agents (length es + 2) left e b),
+      inl (few, event_fault v agents (length es + 2) left e b),
     )))
     (λ c after l. faultless (Shape (length es + 2)) (shape_alone (length es + 2))
     (inr (
       d,
       rest,
+      v,
       agents,
       capacity,
       count,
@@ -137,8 +139,8 @@ rest_told text d rest agents capacity count init line header none faultless (suc
             after,
             l,
             λ e below.
-                rest_told text d rest agents capacity count init line header none faultless n (es ++ e ∷ []) after
-                (HasEvents-push agents rest es left c e after has l below)
+                rest_told text d rest v agents capacity count init line header none faultless n (es ++ e ∷ []) after
+                (HasEvents-push v agents rest es left c e after has l below)
                 (one_less (length es) n count _ (length_push es e) all),
           ),
         ),
@@ -161,7 +163,7 @@ some_fault text none faultless = line_told 1 text
         rest,
         line,
         λ version. faultless Version version_alone (inl (d, rest, line, version)),
-        λ agents capacity count init header.
-            rest_told text d rest agents capacity count init line header none faultless count [] rest refl (all_left count),
+        λ v agents capacity count init header.
+            rest_told text d rest v agents capacity count init line header none faultless count [] rest refl (all_left count),
       ),
     )))

@@ -20,11 +20,20 @@ use Rattle.asm_journal.proofs.Elements.{element_once, location_once}
 use Rattle.asm_journal.proofs.Sets.{set_once, bag_once}
 use Rattle.asm_journal.proofs.Made.{no_list_seen}
 
-no_element : (x : Element) (key : List _) (a : Data) → element_json_of x ≡ one_of key a → ⊥
-no_element elements.Undef key a e = absurd cc
-no_element (elements.Bool b) key a e = absurd cc
-no_element (elements.Num z) key a e = absurd cc
-no_element (elements.Text s) key a e = absurd cc
+no_element : (x : Element) (key : List _) (a : Data) → (codes "list" ≡ key → ⊥) → element_json_of x ≡ one_of key a → ⊥
+no_element elements.Undef key a other e = absurd cc
+no_element (elements.Bool b) key a other e = absurd cc
+no_element (elements.Num z) key a other e = absurd cc
+no_element (elements.Text s) key a other e = absurd cc
+no_element (elements.List ds) key a other e = other (same_key _ _ _ _ e)
+
+not_list_set : codes "list" ≡ codes "set" → ⊥
+unfolding measure
+not_list_set e = absurd (omega (arith, ap measure e))
+
+not_list_bag : codes "list" ≡ codes "bag" → ⊥
+unfolding measure
+not_list_bag e = absurd (omega (arith, ap measure e))
 
 not_both : (a b : Data) → one_of (codes "set") a ≡ one_of (codes "bag") b → ⊥
 unfolding measure
@@ -32,13 +41,13 @@ not_both a b e = absurd (omega (arith, ap measure (same_key _ _ _ _ e)))
 
 pub value_once : IsOnce IsValueForm
 value_once (values.Plain x) (values.Plain y) d h k = ap values.Plain (element_once x y d h k)
-value_once (values.Plain x) (values.Set t) d h k = absurd (no_element x _ _ (sym h.1 ∙ k.1))
-value_once (values.Plain x) (values.Bag c) d h k = absurd (no_element x _ _ (sym h.1 ∙ k.1))
-value_once (values.Set s) (values.Plain y) d h k = absurd (no_element y _ _ (sym k.1 ∙ h.1))
+value_once (values.Plain x) (values.Set t) d h k = absurd (no_element x _ _ not_list_set (sym h.1 ∙ k.1))
+value_once (values.Plain x) (values.Bag c) d h k = absurd (no_element x _ _ not_list_bag (sym h.1 ∙ k.1))
+value_once (values.Set s) (values.Plain y) d h k = absurd (no_element y _ _ not_list_set (sym k.1 ∙ h.1))
 value_once (values.Set s) (values.Set t) d h k =
     ap values.Set (set_once s t k.0 (subst (IsSetForm s) (same_one _ _ _ (sym h.1 ∙ k.1)) h.2) k.2)
 value_once (values.Set s) (values.Bag c) d h k = absurd (not_both _ _ (sym h.1 ∙ k.1))
-value_once (values.Bag b) (values.Plain y) d h k = absurd (no_element y _ _ (sym k.1 ∙ h.1))
+value_once (values.Bag b) (values.Plain y) d h k = absurd (no_element y _ _ not_list_bag (sym k.1 ∙ h.1))
 value_once (values.Bag b) (values.Set t) d h k = absurd (not_both _ _ (sym k.1 ∙ h.1))
 value_once (values.Bag b) (values.Bag c) d h k =
     ap values.Bag (bag_once b c k.0 (subst (IsBagForm b) (same_one _ _ _ (sym h.1 ∙ k.1)) h.2) k.2)
@@ -62,7 +71,7 @@ pub value_of_set : (d items : Data) (o : Option set.ElementSet) → d ≡ one_of
 value_of_set d items (Some s) is h = (items, is, h)
 value_of_set d items None is h = none where
   none : (v : _) → IsValueForm v d → ⊥
-  none (values.Plain x) k = no_element x _ _ (sym k.1 ∙ is)
+  none (values.Plain x) k = no_element x _ _ not_list_set (sym k.1 ∙ is)
   none (values.Set s) k = h s (subst (IsSetForm s) (same_one _ _ _ (sym k.1 ∙ is)) k.2)
   none (values.Bag b) k = not_both _ _ (sym is ∙ k.1)
 
@@ -70,7 +79,7 @@ pub value_of_bag : (d items : Data) (o : Option bag.ElementBag) → d ≡ one_of
 value_of_bag d items (Some b) is h = (items, is, h)
 value_of_bag d items None is h = none where
   none : (v : _) → IsValueForm v d → ⊥
-  none (values.Plain x) k = no_element x _ _ (sym k.1 ∙ is)
+  none (values.Plain x) k = no_element x _ _ not_list_bag (sym k.1 ∙ is)
   none (values.Set s) k = not_both _ _ (sym k.1 ∙ is)
   none (values.Bag b) k = h b (subst (IsBagForm b) (same_one _ _ _ (sym k.1 ∙ is)) k.2)
 

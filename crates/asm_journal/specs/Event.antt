@@ -20,6 +20,7 @@ use Rattle.asm_journal.specs.Shape.{IsListForm, IsMadeForm, IsNumberForm}
 use Rattle.asm_journal.specs.Element.{location_json_of, IsLocationForm}
 use Rattle.asm_journal.specs.Value.{value_json_of, IsValueForm}
 use Rattle.asm_journal.specs.Instruction.{instruction_json_of, IsInstructionForm}
+use Rattle.asm_journal.specs.Version.{IsOfVersion}
 
 -- ---- what is written
 
@@ -122,6 +123,6 @@ IsEventForm e d =
     (agent call reply : Data) × (d ≡ event_object agent call reply)
     × IsNumberForm e.agent agent × IsCallForm e.call call × IsAnswerForm e.answer reply
 
--- an event that fits a history with so many agents
-abbrev pub IsEventBelow : ℕ → Event → Data → Type 0
-IsEventBelow agents e d = IsEventForm e d × EventFits agents e
+-- an event that fits a history with so many agents, in a journal of this version
+abbrev pub IsEventBelow : ℕ → ℕ → Event → Data → Type 0
+IsEventBelow v agents e d = IsEventForm e d × EventFits agents e × IsOfVersion v d

@@ -19,14 +19,15 @@ BreaksLine k text (Shape n) = ⊥
 BreaksLine k text Version = ⊥
 BreaksLine k text Memory = Unit {0}
 
--- an object whose version is a whole number other than 1
+-- an object whose version is a whole number other than 1 and 2
 abbrev pub HasOtherVersion : Data → Type 0
 HasOtherVersion d =
-    (n : Num) × (get (codes "version") d ≡ Some (number n)) × (is_float n ≡ false) × (n ≢ unsigned 1)
+    (n : Num) × (get (codes "version") d ≡ Some (number n)) × (is_float n ≡ false)
+    × (n ≢ unsigned 1) × (n ≢ unsigned 2)
 
 -- the value is no header
 abbrev pub IsNoHeader : Data → Type 0
-IsNoHeader d = (agents capacity events : ℕ) (init : State) → ¬ IsHeader agents capacity events init d
+IsNoHeader d = (v agents capacity events : ℕ) (init : State) → ¬ IsHeader v agents capacity events init d
 
 -- line 1 is at fault
 abbrev pub BreaksHeader : List ℕ → JournalError → Type 0
@@ -35,19 +36,19 @@ BreaksHeader text (Shape n) =
     (n ≡ 1) × ((d : Data) × (rest : List ℕ) × HasLine text d rest × ¬ HasOtherVersion d × IsNoHeader d)
 BreaksHeader text e = BreaksLine 1 text e
 
--- line k, with which the text begins, is at fault, and should be an event that fits so many agents
-abbrev pub BreaksEvent : ℕ → ℕ → List ℕ → JournalError → Type 0
-BreaksEvent agents k text (Shape n) =
-    (n ≡ k) × ((d : Data) × (rest : List ℕ) × HasLine text d rest × ((e : Event) → ¬ IsEventBelow agents e d))
-BreaksEvent agents k text e = BreaksLine k text e
+-- line k, with which the text begins, is at fault, and should be an event of this version that fits so many agents
+abbrev pub BreaksEvent : ℕ → ℕ → ℕ → List ℕ → JournalError → Type 0
+BreaksEvent v agents k text (Shape n) =
+    (n ≡ k) × ((d : Data) × (rest : List ℕ) × HasLine text d rest × ((e : Event) → ¬ IsEventBelow v agents e d))
+BreaksEvent v agents k text e = BreaksLine k text e
 
 -- behind the header some events stand and the next line is at fault, or all events do and a byte is left
 abbrev pub BreaksBehind : List ℕ → JournalError → Type 0
 BreaksBehind text e =
-    (d : Data) × (rest : List ℕ) × (agents capacity count : ℕ) × (init : State)
-    × HasLine text d rest × IsHeader agents capacity count init d
-    × (es : List Event) × (left : List ℕ) × HasEvents agents rest es left
-    × (((length es < count) × BreaksEvent agents (length es + 2) left e)
+    (d : Data) × (rest : List ℕ) × (v agents capacity count : ℕ) × (init : State)
+    × HasLine text d rest × IsHeader v agents capacity count init d
+    × (es : List Event) × (left : List ℕ) × HasEvents v agents rest es left
+    × (((length es < count) × BreaksEvent v agents (length es + 2) left e)
     ⊎ ((length es ≡ count) × (left ≢ []) × (e ≡ Shape (count + 2))))
 
 -- the text is refused with this fault: its header is at fault, or what stands behind it; want of memory tells nothing

@@ -2,7 +2,7 @@
 use Rattle.std.specs.Prelude.{◌≡◌, ℕ, List}
 use Rattle.asm_storage.specs.History.{Fits}
 use Rattle.asm_storage.specs.declared.history.History.{History}
-use Rattle.asm_journal.specs.Proper.{IsProper}
+use Rattle.asm_storage.specs.Proper.{IsProper}
 use Rattle.asm_journal.specs.Reading.{ReadsAs}
 use Rattle.asm_journal.specs.Text.{text_of}
 
@@ -13,3 +13,8 @@ TextReadsBack = (h : History) → IsProper h → Fits h → ReadsAs (text_of h) 
 -- A text reads as one history at most.
 abbrev pub OneReading : Type 0
 OneReading = (text : List ℕ) (g h : History) → ReadsAs text g → ReadsAs text h → g ≡ h
+
+-- A text that reads as a history that a program can hold, in either version, may be written anew: the history's own
+-- text reads as the same history.
+abbrev pub RewrittenReadsBack : Type 0
+RewrittenReadsBack = (text : List ℕ) (h : History) → IsProper h → ReadsAs text h → ReadsAs (text_of h) h

@@ -6,6 +6,7 @@ use Rattle.asm_update.specs.State.{State}
 use Rattle.asm_storage.specs.declared.history.Event.{Event}
 use Rattle.asm_storage.specs.declared.history.History.{History}
 use Rattle.asm_journal.specs.Value.{IsStateForm}
+use Rattle.asm_journal.specs.Version.{IsVersion, IsOfVersion}
 use Rattle.asm_journal.specs.Event.{IsEventBelow}
 use Rattle.asm_journal.specs.Shape.{number_json_of}
 use Rattle.asm_journal.specs.Text.{header_with}
@@ -36,26 +37,27 @@ abbrev pub AreLimits : ℕ → ℕ → ℕ → Type 0
 AreLimits agents capacity events =
     (agents ≤ 256) × (1 ≤ capacity) × (capacity ≤ 1048576) × (events < 2 ^ 32)
 
--- the values are these numbers, and the version 1
-abbrev pub AreNumbers : ℕ → ℕ → ℕ → Data → Data → Data → Data → Type 0
-AreNumbers agents capacity events a c n version =
+-- the values are these numbers, and the version is one that is read
+abbrev pub AreNumbers : ℕ → ℕ → ℕ → ℕ → Data → Data → Data → Data → Type 0
+AreNumbers v agents capacity events a c n version =
     (a ≡ number_json_of agents) × (c ≡ number_json_of capacity) × (n ≡ number_json_of events)
-    × (version ≡ number_json_of 1) × AreLimits agents capacity events
+    × (version ≡ number_json_of v) × IsVersion v × AreLimits agents capacity events
 
--- the value is a header with these numbers and this opening state
-abbrev pub IsHeader : ℕ → ℕ → ℕ → State → Data → Type 0
-IsHeader agents capacity events init d =
+-- the value is a header of this version, with these numbers and this opening state
+abbrev pub IsHeader : ℕ → ℕ → ℕ → ℕ → State → Data → Type 0
+IsHeader v agents capacity events init d =
     (a c n pairs version : Data) × (d ≡ header_with a c n pairs version)
-    × AreNumbers agents capacity events a c n version × IsStateForm init pairs
+    × AreNumbers v agents capacity events a c n version × IsStateForm init pairs × IsOfVersion v d
 
--- the text begins with a line for each event, and goes on with the rest
-abbrev pub HasEvents : ℕ → List ℕ → List Event → List ℕ → Type 0
-HasEvents agents text [] rest = text ≡ rest
-HasEvents agents text (e ∷ es) rest =
-    (d : Data) × (after : List ℕ) × HasLine text d after × IsEventBelow agents e d × HasEvents agents after es rest
+-- the text begins with a line of this version for each event, and goes on with the rest
+abbrev pub HasEvents : ℕ → ℕ → List ℕ → List Event → List ℕ → Type 0
+HasEvents v agents text [] rest = text ≡ rest
+HasEvents v agents text (e ∷ es) rest =
+    (d : Data) × (after : List ℕ) × HasLine text d after × IsEventBelow v agents e d
+    × HasEvents v agents after es rest
 
--- a header line, a line for each event, and nothing behind them
+-- a header line, a line of the same version for each event, and nothing behind them
 abbrev pub ReadsAs : List ℕ → History → Type 0
 ReadsAs text h =
-    (d : Data) × (rest : List ℕ) × HasLine text d rest × IsHeader h.agents h.capacity (length h.events) h.init d
-    × HasEvents h.agents rest h.events []
+    (d : Data) × (rest : List ℕ) × (v : ℕ) × HasLine text d rest
+    × IsHeader v h.agents h.capacity (length h.events) h.init d × HasEvents v h.agents rest h.events []

@@ -21,10 +21,10 @@ header_with agents capacity events init version =
     object (member (codes "agents") agents (member (codes "capacity") capacity (member (codes "events") events
     (member (codes "init") init (member (codes "version") version no_members)))))
 
--- {"agents":N,"capacity":N,"events":N,"init":INIT,"version":1}
+-- {"agents":N,"capacity":N,"events":N,"init":INIT,"version":2}
 abbrev pub header_of : ℕ → ℕ → ℕ → Data → Data
 header_of agents capacity events init =
-    header_with (number_json_of agents) (number_json_of capacity) (number_json_of events) init (number_json_of 1)
+    header_with (number_json_of agents) (number_json_of capacity) (number_json_of events) init (number_json_of 2)
 
 -- the header of a history
 abbrev pub header_json_of : History → Data

@@ -59,7 +59,7 @@ const TWO_FULL: &str =
 fn journal(alloc: Global, events: &[&str]) -> Result<String, AllocError> {
     let count = events.len();
     let mut text = format!(in alloc;
-        r#"{{"agents":2,"capacity":2,"events":{count},"init":[[["x"],7]],"version":1}}
+        r#"{{"agents":2,"capacity":2,"events":{count},"init":[[["x"],7]],"version":2}}
 "#
     )?;
     for event in events {

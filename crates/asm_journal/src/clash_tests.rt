@@ -7,7 +7,7 @@ use std::test::Fail;
 /// A clash of each cause, and then a move that fires, one that is stale and would clash too, and one
 /// on the full storage.
 const CLASHES: &str =
-    r#"{"agents":2,"capacity":1,"events":10,"init":[[["b"],{"bag":[["e",2]]}],[["f"],{"bag":[["f",4294967295]]}],[["n"],7],[["s"],{"set":[1]}],[["t"],{"set":[]}]],"version":1}
+    r#"{"agents":2,"capacity":1,"events":10,"init":[[["b"],{"bag":[["e",2]]}],[["f"],{"bag":[["f",4294967295]]}],[["n"],7],[["s"],{"set":[1]}],[["t"],{"set":[]}]],"version":2}
 {"agent":0,"call":{"fire":[["put",["w"],1],["put",["w"],2],["put",["u"],1],["put",["u"],2],["add",["u"],3]],"reads":[]},"reply":{"clash":[["u"],"Two"]}}
 {"agent":1,"call":{"fire":[["add",["s"],2],["bagadd",["s"],"e",1]],"reads":[]},"reply":{"clash":[["s"],"Mixed"]}}
 {"agent":0,"call":{"fire":[["add",["n"],1]],"reads":[]},"reply":{"clash":[["n"],"Kind"]}}

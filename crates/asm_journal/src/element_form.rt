@@ -1,11 +1,13 @@
 //! The JSON of whole numbers, elements and locations.
-ghost use Rattle.std.specs.Prelude.{◌≡◌, IfOk};
-ghost use Rattle.serde_json.specs.View.{view};
-ghost use Rattle.asm_journal.specs.Shape.{IsParsed};
+ghost use Rattle.std.specs.Prelude.{◌≡◌, ◌≢◌, IfOk, IfSome, IfNone, codes};
+ghost use Rattle.serde_json.specs.Data.{Items, array};
+ghost use Rattle.serde_json.specs.View.{view, items_view};
+ghost use Rattle.asm_journal.specs.Shape.{IsParsed, one_of};
 ghost use Rattle.asm_journal.specs.Element.{integer_json_of, element_json_of, location_json_of, IsIntegerForm, IsElementForm, IsLocationForm};
 
-use crate::array::{FromJson, ToJson, push_items, read_items};
-use asm_element::{ElemText, Element, Location};
+use crate::array::{FromJson, ToJson, array_of, push_items, read_items};
+use crate::object::{member_of, object_of};
+use asm_element::{ElemList, ElemText, Element, Location};
 use serde_json::Value as Json;
 use std::alloc::{AllocError, Global};
 
@@ -25,16 +27,75 @@ impl FromJson for i64 {
     }
 }
 
+/// The JSON of an element. It recurses as deep as lists nest, at most 8 levels.
+fn write_element(alloc: Global, element: &Element) -> Result<Json, AllocError>
+    ensures { IfOk result (λ json. view json ≡ element_json_of element.now) }
+{
+    match element {
+        Element::Undef => Ok(Json::Null),
+        Element::Bool(truth) => Ok(Json::Bool(*truth)),
+        Element::Num(number) => number.to_json(alloc),
+        Element::Text(text) => Json::try_from_str(alloc, text.as_str()),
+        Element::List(list) => {
+            let mut items = Vec::new(alloc);
+            for item in list.items() {
+                items.push(write_element(alloc, item)?)?;
+            }
+            object_of(alloc, "list", array_of(items))
+        }
+    }
+}
+
 impl ToJson for Element {
     ghost json_of = { element_json_of };
 
     fn to_json(&self, alloc: Global) -> Result<Json, AllocError> {
-        match self {
-            Element::Undef => Ok(Json::Null),
-            Element::Bool(truth) => Ok(Json::Bool(*truth)),
-            Element::Num(number) => number.to_json(alloc),
-            Element::Text(text) => Json::try_from_str(alloc, text.as_str()),
+        write_element(alloc, self)
+    }
+}
+
+/// The items of which a list has the form, if this is the form of a list.
+fn list_items(json: &Json) -> Option<&Vec<Json>>
+    ensures some { IfSome result
+        (λ v. view json.now ≡ one_of (codes "list") (array (items_view v.now.items))) }
+    ensures none { IfNone result ((ds : Items) → view json.now ≢ one_of (codes "list") (array ds)) }
+{
+    member_of(json, "list")?.as_array()
+}
+
+/// The element of which this is the form. It recurses as deep as the value nests, at most 127 levels in what
+/// was read from a text.
+#[cycle(read_element)]
+fn read_element(alloc: Global, json: &Json) -> Result<Option<Element>, AllocError>
+    ensures { IfOk result (IsParsed IsElementForm (view json.now)) }
+{
+    if let Some(items) = list_items(json) {
+        return read_list(alloc, items);
+    }
+    match json {
+        Json::Null => Ok(Some(Element::Undef)),
+        Json::Bool(truth) => Ok(Some(Element::Bool(*truth))),
+        Json::Number(_) => Ok(i64::from_json(alloc, json)?.map(Element::Num)),
+        Json::String(text) => Ok(Some(Element::Text(ElemText::new(text.clone()?)))),
+        Json::Array(_) | Json::Object(_) => Ok(None),
+    }
+}
+
+/// The list of which these are the items' forms.
+#[cycle(read_element)]
+fn read_list(alloc: Global, items: &[Json]) -> Result<Option<Element>, AllocError>
+    ensures { IfOk result (IsParsed IsElementForm (one_of (codes "list") (array (items_view items.now)))) }
+{
+    let mut found = Vec::new(alloc);
+    for item in items {
+        match read_element(alloc, item)? {
+            Some(x) => found.push(x)?,
+            None => return Ok(None),
         }
+    }
+    match ElemList::new(found) {
+        Ok(list) => Ok(Some(Element::List(list))),
+        Err(_) => Ok(None),
     }
 }
 
@@ -42,13 +103,7 @@ impl FromJson for Element {
     ghost is_form = { IsElementForm };
 
     fn from_json(alloc: Global, json: &Json) -> Result<Option<Element>, AllocError> {
-        match json {
-            Json::Null => Ok(Some(Element::Undef)),
-            Json::Bool(truth) => Ok(Some(Element::Bool(*truth))),
-            Json::Number(_) => Ok(i64::from_json(alloc, json)?.map(Element::Num)),
-            Json::String(text) => Ok(Some(Element::Text(ElemText::new(text.clone()?)))),
-            Json::Array(_) | Json::Object(_) => Ok(None),
-        }
+        read_element(alloc, json)
     }
 }
 

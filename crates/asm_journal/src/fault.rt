@@ -15,8 +15,8 @@ pub enum JournalError {
     /// The line with this number is no header, no event of the journal, or one line too many.
     #[error("line {0} has a wrong shape")]
     Shape(u64),
-    /// The header's version is a whole number other than 1.
-    #[error("the version is not 1")]
+    /// The header's version is a whole number other than 1 and 2.
+    #[error("the version is not 1 or 2")]
     Version,
     /// The text ends before a line that the journal has, or before its line feed.
     #[error("the journal is cut")]

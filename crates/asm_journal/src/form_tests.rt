@@ -26,7 +26,7 @@ fn location_is_written(
 }
 
 /// Whether a text is read as a location that is written so, or as none.
-fn location_is(alloc: Global, text: &str, want: Option<&str>) -> Result<bool, Fail> {
+pub(crate) fn location_is(alloc: Global, text: &str, want: Option<&str>) -> Result<bool, Fail> {
     let json = json_of(alloc, text)?;
     match read_location(alloc, &json)? {
         Some(location) => Ok(location_is_written(alloc, &location, want)?),
@@ -41,7 +41,7 @@ fn value_is_written(alloc: Global, value: &Value, want: Option<&str>) -> Result<
 }
 
 /// Whether a text is read as a value that is written so, or as none.
-fn value_is(alloc: Global, text: &str, want: Option<&str>) -> Result<bool, Fail> {
+pub(crate) fn value_is(alloc: Global, text: &str, want: Option<&str>) -> Result<bool, Fail> {
     let json = json_of(alloc, text)?;
     match read_value(alloc, &json)? {
         Some(value) => Ok(value_is_written(alloc, &value, want)?),
@@ -63,7 +63,7 @@ fn instruction_is_written(
 }
 
 /// Whether a text is read as an instruction that is written so, or as none.
-fn instruction_is(alloc: Global, text: &str, want: Option<&str>) -> Result<bool, Fail> {
+pub(crate) fn instruction_is(alloc: Global, text: &str, want: Option<&str>) -> Result<bool, Fail> {
     let json = json_of(alloc, text)?;
     match read_instruction(alloc, &json)? {
         Some(instruction) => Ok(instruction_is_written(alloc, &instruction, want)?),

@@ -17,13 +17,18 @@ fn version_fault(alloc: Global, version: &str) -> Result<Option<JournalError>, A
 
 #[test]
 fn another_whole_number_is_another_version(rt: HostRuntime) -> Result<(), Fail> {
-    assert!(rt; version_fault(rt.alloc(), "1")?.is_none());
+    for version in ["1", "2"] {
+        assert!(rt; version_fault(rt.alloc(), version)?.is_none(), "{version}");
+    }
     for version in [
         "0",
-        "2",
+        "3",
         "-1",
+        "-2",
         "257",
+        "258",
         "4294967297",
+        "4294967298",
         "9223372036854775807",
         "9223372036854775808",
         "18446744073709551615",
@@ -40,7 +45,9 @@ fn a_version_that_is_no_whole_number_is_a_wrong_shape(rt: HostRuntime) -> Result
     for version in [
         "1.0",
         "2.0",
+        "3.0",
         "1e0",
+        "2e0",
         "-0",
         "18446744073709551616",
         "18446744073709551617",
@@ -70,8 +77,11 @@ fn the_version_is_told_before_the_shape(rt: HostRuntime) -> Result<(), Fail> {
         ),
         ("{\"version\":-0}\n", shape),
         ("{\"version\":1}\n", shape),
-        ("{\"Version\":2}\n", shape),
-        ("[\"version\",2]\n", shape),
+        ("{\"version\":2}\n", shape),
+        ("{\"version\":3}\n", JournalError::Version),
+        ("{\"list\":[],\"version\":3}\n", JournalError::Version),
+        ("{\"Version\":3}\n", shape),
+        ("[\"version\",3]\n", shape),
         ("2\n", shape),
     ] {
         let found = fault_of(rt.alloc(), header.as_bytes())?;
@@ -80,7 +90,7 @@ fn the_version_is_told_before_the_shape(rt: HostRuntime) -> Result<(), Fail> {
     Ok(())
 }
 
-/// The journal of a move of two blocks, with the keys of every line in the opposite order.
+/// The journal of a move of two blocks in version 1, with the keys of every line in the opposite order.
 const TURNED: &str =
     r#"{"version":1,"init":[[["s"],{"set":[]}]],"events":2,"capacity":4096,"agents":1}
 {"reply":{"values":[{"set":[]}],"number":0},"call":{"read":[["s"]]},"agent":0}

@@ -10,20 +10,20 @@ use std::test::Fail;
 
 /// A move of two blocks, of which the second saw what the first one added.
 pub(crate) const BLOCKS: &str =
-    r#"{"agents":1,"capacity":4096,"events":2,"init":[[["s"],{"set":[]}]],"version":1}
+    r#"{"agents":1,"capacity":4096,"events":2,"init":[[["s"],{"set":[]}]],"version":2}
 {"agent":0,"call":{"read":[["s"]]},"reply":{"number":0,"values":[{"set":[]}]}}
 {"agent":0,"call":{"fire":[["add",["s"],1],["put",["y"],{"set":[1]}]],"reads":[[["s"],0]]},"reply":{"fired":1}}
 "#;
 
 /// Two agents that fire at different locations.
-pub(crate) const AGENTS: &str = r#"{"agents":2,"capacity":8,"events":2,"init":[],"version":1}
+pub(crate) const AGENTS: &str = r#"{"agents":2,"capacity":8,"events":2,"init":[],"version":2}
 {"agent":1,"call":{"fire":[["put",["y"],1]],"reads":[]},"reply":{"fired":1}}
 {"agent":0,"call":{"fire":[["put",["x"],1]],"reads":[]},"reply":{"fired":2}}
 "#;
 
 /// A read that is stale after a write of the same value.
 pub(crate) const SAME_VALUE: &str =
-    r#"{"agents":2,"capacity":8,"events":3,"init":[[["x"],7]],"version":1}
+    r#"{"agents":2,"capacity":8,"events":3,"init":[[["x"],7]],"version":2}
 {"agent":0,"call":{"read":[["x"]]},"reply":{"number":0,"values":[7]}}
 {"agent":1,"call":{"fire":[["put",["x"],7]],"reads":[]},"reply":{"fired":1}}
 {"agent":0,"call":{"fire":[["put",["y"],1]],"reads":[[["x"],0]]},"reply":{"stale":["x"]}}
@@ -32,7 +32,7 @@ pub(crate) const SAME_VALUE: &str =
 /// Increments: three in one move, of which the first two alone would be too much, one by 0, each cause
 /// of a clash that increments have, and one by a number below 0.
 const COUNTS: &str =
-    r#"{"agents":2,"capacity":8,"events":9,"init":[[["n"],0],[["s"],{"set":[]}]],"version":1}
+    r#"{"agents":2,"capacity":8,"events":9,"init":[[["n"],0],[["s"],{"set":[]}]],"version":2}
 {"agent":0,"call":{"fire":[["inc",["n"],9223372036854775807],["inc",["n"],9223372036854775807],["inc",["n"],-9223372036854775808]],"reads":[]},"reply":{"fired":1}}
 {"agent":1,"call":{"fire":[["inc",["n"],0]],"reads":[]},"reply":{"fired":2}}
 {"agent":0,"call":{"read":[["n"]]},"reply":{"number":2,"values":[9223372036854775806]}}
@@ -203,7 +203,7 @@ fn fault(
     fault_of(alloc, text.as_str().as_bytes())
 }
 
-const HEADER: &str = r#"{"agents":2,"capacity":8,"events":1,"init":[],"version":1}"#;
+const HEADER: &str = r#"{"agents":2,"capacity":8,"events":1,"init":[],"version":2}"#;
 
 const EVENT: &str = r#"{"agent":1,"call":{"read":[["x"]]},"reply":{"number":0,"values":[1]}}"#;
 
@@ -219,15 +219,23 @@ fn faults_of_headers(rt: HostRuntime) -> Result<(), Fail> {
             None,
         ),
         (
-            r#"{"agents":256,"capacity":1048576,"events":1,"init":[],"version":1}"#,
+            r#"{"agents":256,"capacity":1048576,"events":1,"init":[],"version":2}"#,
             None,
         ),
         (
-            r#"{"agents":2,"capacity":1,"events":1,"init":[[["x"],null]],"version":1}"#,
+            r#"{"agents":2,"capacity":1,"events":1,"init":[[["x"],null]],"version":2}"#,
             None,
         ),
         (
-            r#"{"agents":2,"capacity":8,"events":1,"init":[],"version":2}"#,
+            r#"{"agents":2,"capacity":8,"events":1,"init":[],"version":1}"#,
+            None,
+        ),
+        (
+            r#"{"agents":2,"capacity":8,"events":1,"init":[],"version":3}"#,
+            version,
+        ),
+        (
+            r#"{"agents":2,"capacity":8,"events":1,"init":[],"version":0}"#,
             version,
         ),
         (r#"{"version":-1}"#, version),
@@ -249,51 +257,51 @@ fn faults_of_headers(rt: HostRuntime) -> Result<(), Fail> {
             shape,
         ),
         (
-            r#"{"agents":257,"capacity":8,"events":1,"init":[],"version":1}"#,
+            r#"{"agents":257,"capacity":8,"events":1,"init":[],"version":2}"#,
             shape,
         ),
         (
-            r#"{"agents":2.0,"capacity":8,"events":1,"init":[],"version":1}"#,
+            r#"{"agents":2.0,"capacity":8,"events":1,"init":[],"version":2}"#,
             shape,
         ),
         (
-            r#"{"agents":2,"capacity":0,"events":1,"init":[],"version":1}"#,
+            r#"{"agents":2,"capacity":0,"events":1,"init":[],"version":2}"#,
             shape,
         ),
         (
-            r#"{"agents":2,"capacity":1048577,"events":1,"init":[],"version":1}"#,
+            r#"{"agents":2,"capacity":1048577,"events":1,"init":[],"version":2}"#,
             shape,
         ),
         (
-            r#"{"agents":2,"capacity":8e0,"events":1,"init":[],"version":1}"#,
+            r#"{"agents":2,"capacity":8e0,"events":1,"init":[],"version":2}"#,
             shape,
         ),
         (
-            r#"{"agents":2,"capacity":8,"events":4294967296,"init":[],"version":1}"#,
+            r#"{"agents":2,"capacity":8,"events":4294967296,"init":[],"version":2}"#,
             shape,
         ),
         (
-            r#"{"agents":2,"capacity":8,"events":1,"init":{},"version":1}"#,
+            r#"{"agents":2,"capacity":8,"events":1,"init":{},"version":2}"#,
             shape,
         ),
         (
-            r#"{"agents":2,"capacity":8,"events":1,"init":[[["x"],1],[["x"],1]],"version":1}"#,
+            r#"{"agents":2,"capacity":8,"events":1,"init":[[["x"],1],[["x"],1]],"version":2}"#,
             shape,
         ),
         (
-            r#"{"agents":0,"capacity":8,"events":1,"init":[],"version":1}"#,
+            r#"{"agents":0,"capacity":8,"events":1,"init":[],"version":2}"#,
             Some(JournalError::Shape(2)),
         ),
         (
-            r#"{"agents":2,"capacity":8,"events":0,"init":[],"version":1}"#,
+            r#"{"agents":2,"capacity":8,"events":0,"init":[],"version":2}"#,
             Some(JournalError::Shape(2)),
         ),
         (
-            r#"{"agents":2,"capacity":8,"events":2,"init":[],"version":1}"#,
+            r#"{"agents":2,"capacity":8,"events":2,"init":[],"version":2}"#,
             Some(JournalError::Cut),
         ),
         (
-            r#"{"agents":2,"capacity":8,"events":4294967295,"init":[],"version":1}"#,
+            r#"{"agents":2,"capacity":8,"events":4294967295,"init":[],"version":2}"#,
             Some(JournalError::Cut),
         ),
         ("[1]", shape),
@@ -392,7 +400,7 @@ fn errors_have_their_texts(rt: HostRuntime) -> Result<(), Fail> {
     for (error, want) in [
         (JournalError::NotJson(1), "line 1 is not JSON"),
         (JournalError::Shape(3), "line 3 has a wrong shape"),
-        (JournalError::Version, "the version is not 1"),
+        (JournalError::Version, "the version is not 1 or 2"),
         (JournalError::Cut, "the journal is cut"),
         (JournalError::Memory, "out of memory"),
     ] {

@@ -20,6 +20,7 @@ mod reader;
 mod replaying;
 mod set_form;
 mod value_form;
+mod version;
 mod writing;
 
 pub use array::FromJson;
@@ -50,5 +51,7 @@ mod form_tests;
 mod header_tests;
 #[cfg(test)]
 mod journal_tests;
+#[cfg(test)]
+mod list_tests;
 #[cfg(test)]
 mod output_tests;

@@ -3,6 +3,7 @@ ghost use Rattle.std.specs.Prelude.{◌≡◌, ◌<◌, ◌+◌, ◌↔◌, ℕ,
 ghost use Rattle.serde_json.specs.Data.{Data};
 ghost use Rattle.serde_json.specs.View.{view};
 ghost use Rattle.asm_storage.specs.History.{Fits};
+ghost use Rattle.asm_storage.specs.Proper.{IsProper};
 ghost use Rattle.asm_storage.specs.declared.history.Event.{Event as Item};
 ghost use Rattle.asm_storage.specs.declared.history.History.{History as Log};
 ghost use Rattle.asm_journal.specs.Shape.{IsParsed};
@@ -16,6 +17,7 @@ use crate::fault::JournalError;
 use crate::line::json_line;
 use crate::number_form::read_number;
 use crate::object::five_members;
+use crate::version::{is_of_version, is_version};
 use asm_element::Items;
 use asm_storage::{Event, History};
 use asm_update::PlainState;
@@ -29,12 +31,14 @@ struct Header {
     init: PlainState,
 }
 
-/// Whether the value is an object whose version is a whole number other than 1.
+/// Whether the value is an object whose version is a whole number other than 1 and 2.
 fn has_other_version(json: &Json) -> bool
     ensures { IsTrue result ↔ HasOtherVersion (view json.now) }
 {
     match json.get("version").and_then(Json::as_number) {
-        Some(version) => !version.is_f64() && version.as_u64() != Some(1),
+        Some(version) => {
+            !version.is_f64() && version.as_u64() != Some(1) && version.as_u64() != Some(2)
+        }
         None => false,
     }
 }
@@ -45,24 +49,26 @@ struct Limits {
     agents: u32,
     capacity: u32,
     events: u32,
+    version: u32,
 }
 
-/// The numbers that these values are, where they are within the limits and the version is 1.
+/// The numbers that these values are, where they are within the limits and the version is one that is read.
 fn limits_of(agents: &Json, capacity: &Json, events: &Json, version: &Json) -> Option<Limits>
-    ensures some { IfSome result (λ l. AreNumbers l.agents l.capacity l.events
+    ensures some { IfSome result (λ l. AreNumbers l.version l.agents l.capacity l.events
         (view agents.now) (view capacity.now) (view events.now) (view version.now)) }
-    ensures none { IfNone result ((a c n : ℕ) → ¬ AreNumbers a c n
+    ensures none { IfNone result ((v a c n : ℕ) → ¬ AreNumbers v a c n
         (view agents.now) (view capacity.now) (view events.now) (view version.now)) }
 {
     let agents = read_number(agents)?;
     let capacity = read_number(capacity)?;
     let events = read_number(events)?;
     let version = read_number(version)?;
-    if version == 1 && agents <= 256 && 1 <= capacity && capacity <= 1_048_576 {
+    if is_version(version) && agents <= 256 && 1 <= capacity && capacity <= 1_048_576 {
         Some(Limits {
             agents,
             capacity,
             events,
+            version,
         })
     } else {
         None
@@ -71,8 +77,8 @@ fn limits_of(agents: &Json, capacity: &Json, events: &Json, version: &Json) -> O
 
 /// The header that a value is.
 fn header_from(alloc: Global, json: &Json) -> Result<Option<Header>, AllocError>
-    ensures { IfOk result (IsParsed (λ h d. IsHeader h.limits.agents h.limits.capacity h.limits.events
-        h.init d) (view json.now)) }
+    ensures { IfOk result (IsParsed (λ h d. IsHeader h.limits.version h.limits.agents h.limits.capacity
+        h.limits.events h.init d) (view json.now)) }
 {
     let members = five_members(json, "agents", "capacity", "events", "init", "version");
     let Some((agents, capacity, events, init, version)) = members else {
@@ -81,6 +87,9 @@ fn header_from(alloc: Global, json: &Json) -> Result<Option<Header>, AllocError>
     let Some(limits) = limits_of(agents, capacity, events, version) else {
         return Ok(None);
     };
+    if !is_of_version(json, limits.version) {
+        return Ok(None);
+    }
     match PlainState::from_json(alloc, init)? {
         Some(init) => Ok(Some(Header { limits, init })),
         None => Ok(None),
@@ -90,7 +99,7 @@ fn header_from(alloc: Global, json: &Json) -> Result<Option<Header>, AllocError>
 /// The header line, and what is behind it.
 fn read_header(alloc: Global, text: &[u8]) -> Result<(Header, &[u8]), JournalError>
     ensures ok { IfOk result (λ p. (d : Data) × HasLine text.now d p.1.now
-        × IsHeader p.0.limits.agents p.0.limits.capacity p.0.limits.events p.0.init d) }
+        × IsHeader p.0.limits.version p.0.limits.agents p.0.limits.capacity p.0.limits.events p.0.init d) }
     ensures err { IfErr result (BreaksHeader text.now) }
 {
     let (json, rest) = json_line(alloc, text, 1)?;
@@ -103,41 +112,43 @@ fn read_header(alloc: Global, text: &[u8]) -> Result<(Header, &[u8]), JournalErr
     }
 }
 
-/// The event of the line with this number, and what is behind it.
+/// The event of the line with this number in a journal of these limits, and what is behind it.
 fn read_event(
     alloc: Global,
     text: &[u8],
     number: u64,
-    agents: u32,
+    limits: Limits,
 ) -> Result<(Event, &[u8]), JournalError>
     ensures ok { IfOk result (λ p. (d : Data) × HasLine text.now d p.1.now
-        × IsEventBelow agents p.0 d) }
-    ensures err { IfErr result (BreaksEvent agents number text.now) }
+        × IsEventBelow limits.version limits.agents p.0 d) }
+    ensures err { IfErr result (BreaksEvent limits.version limits.agents number text.now) }
 {
     let (json, rest) = json_line(alloc, text, number)?;
+    if !is_of_version(&json, limits.version) {
+        return Err(JournalError::Shape(number));
+    }
     match Event::from_json(alloc, &json)? {
-        Some(event) if event_fits(&event, agents) => Ok((event, rest)),
+        Some(event) if event_fits(&event, limits.agents) => Ok((event, rest)),
         _ => Err(JournalError::Shape(number)),
     }
 }
 
-/// So many events, each on its line, and what is behind them.
+/// As many events as the limits say, each on its line, and what is behind them.
 fn read_events(
     alloc: Global,
     text: &[u8],
-    agents: u32,
-    count: u32,
+    limits: Limits,
 ) -> Result<(Vec<Event>, &[u8]), JournalError>
-    ensures ok { IfOk result (λ p. (length p.0.items ≡ count)
-        × HasEvents agents text.now p.0.items p.1.now) }
+    ensures ok { IfOk result (λ p. (length p.0.items ≡ limits.events)
+        × HasEvents limits.version limits.agents text.now p.0.items p.1.now) }
     ensures err { IfErr result (λ e. (es : List Item) × (left : List ℕ)
-        × HasEvents agents text.now es left
-        × (length es < count) × BreaksEvent agents (length es + 2) left e) }
+        × HasEvents limits.version limits.agents text.now es left × (length es < limits.events)
+        × BreaksEvent limits.version limits.agents (length es + 2) left e) }
 {
     let mut events = Vec::new(alloc);
     let mut rest = text;
-    for index in 0..count {
-        let (event, after) = read_event(alloc, rest, u64::from(index) + 2, agents)?;
+    for index in 0..limits.events {
+        let (event, after) = read_event(alloc, rest, u64::from(index) + 2, limits)?;
         events.push(event)?;
         rest = after;
     }
@@ -148,29 +159,33 @@ fn read_events(
 fn read_journal(alloc: Global, bytes: &[u8]) -> Result<History, JournalError>
     ensures ok { IfOk result (ReadsAs bytes.now) }
     ensures err { IfErr result (IsRefused bytes.now) }
+    ensures proper { IfOk result IsProper }
 {
     let (header, rest) = read_header(alloc, bytes)?;
     let limits = header.limits;
-    let (events, rest) = read_events(alloc, rest, limits.agents, limits.events)?;
+    let (events, rest) = read_events(alloc, rest, limits)?;
     if !rest.is_empty() {
         return Err(JournalError::Shape(u64::from(limits.events) + 2));
     }
-    Ok(History {
+    let history = History {
         init: header.init,
         capacity: limits.capacity,
         agents: limits.agents,
         events: Items::new(events),
-    })
+    };
+    history.proper();
+    Ok(history)
 }
 
 /// The history as which the bytes read, or the first fault.
 ///
 /// In the order of the lines: a line that isn't JSON is `NotJson`, one of a wrong shape `Shape`, and
 /// a text that ends before its last line feed is `Cut`; a line is tested for JSON, then for its line
-/// feed, and then for its shape; the header's version comes before its shape. A byte behind the last
-/// line is the wrong shape of one line more. `Memory` comes only where memory was refused. It costs one
-/// pass over the text, and no memory is reserved by the numbers that the header says. A history that was
-/// read fits a journal, so it may be written as one.
+/// feed, and then for its shape; the header's version comes before its shape. Versions 1 and 2 are read;
+/// in version 1 a list anywhere in a line is a wrong shape of that line. A byte behind the last line is
+/// the wrong shape of one line more. `Memory` comes only where memory was refused. It costs one pass over
+/// the text, in version 1 one more over each line's value, and no memory is reserved by the numbers that
+/// the header says. A history that was read fits a journal, so it may be written as one.
 pub fn from_text(alloc: Global, bytes: &[u8]) -> Result<History, JournalError>
     ensures ok { IfOk result (ReadsAs bytes.now) }
     ensures err { IfErr result (IsRefused bytes.now) }

@@ -35,7 +35,7 @@ fn header_json(alloc: Global, history: &History) -> Result<Json, AllocError>
     serde_json::put(&mut header, alloc, "capacity", Json::from(history.capacity))?;
     serde_json::put(&mut header, alloc, "events", Json::from(events))?;
     serde_json::put(&mut header, alloc, "init", history.init.to_json(alloc)?)?;
-    serde_json::put(&mut header, alloc, "version", Json::from(1u32))?;
+    serde_json::put(&mut header, alloc, "version", Json::from(2u32))?;
     Ok(Json::Object(header))
 }
 
@@ -50,7 +50,7 @@ fn push_line(alloc: Global, text: &mut String, json: &Json) -> Result<(), AllocE
     Ok(())
 }
 
-/// The journal of a history, version 1: a header line, and a line for each event.
+/// The journal of a history, version 2: a header line, and a line for each event.
 ///
 /// The history must be within the limits of a journal, which `History::fits` tests. `AllocError`
 /// comes only where memory was refused. It costs one pass over the text.

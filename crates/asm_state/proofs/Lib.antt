@@ -1,3 +1,4 @@
+pub mod Crossing
 pub mod Filled
 pub mod Followed
 pub mod Judged

@@ -1,3 +1,5 @@
+pub mod Crossing
+pub mod Standard
 pub mod Accounts
 pub mod Coherent
 pub mod Following

@@ -14,6 +14,7 @@ use Rattle.asm_storage.specs.declared.call.Answer.TheVariants as answer
 use Rattle.asm_storage.specs.declared.history.Event.{Event}
 use Rattle.asm_storage.specs.declared.history.History.{History}
 use Rattle.asm_storage.specs.Machine.{Machine, machine_state, reply_to}
+use Rattle.asm_storage.specs.Proper.{IsProper}
 
 -- the move of a fire that was answered Fired
 abbrev pub fired_move : Call → Answer → Option Move
@@ -102,3 +103,5 @@ pub record Fits (h : History) : Type 0 where
   pub capacity : h.capacity ≤ 1048576
   pub few : length h.events ≤ 4294967295
   pub events : All (EventFits h.agents) h.events
+  -- what it holds is what a program can hold, so each list in it has at most 4,096 items and nests at most 8 deep
+  pub proper : IsProper h

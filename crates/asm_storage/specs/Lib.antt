@@ -3,5 +3,6 @@ pub mod Calls
 pub mod History
 pub mod Machine
 pub mod Part
+pub mod Proper
 pub mod Slip
 pub mod Storage

@@ -79,10 +79,12 @@ impl History {
 
     /// Whether the history is within the limits of a journal: at most 256 agents, a capacity of 1 to
     /// 1,048,576, at most 4,294,967,295 events, each of an agent with a number below `agents`, with at
-    /// most 256 locations or named reads, and with an answer that is one to such a call.
+    /// most 256 locations or named reads, and with an answer that is one to such a call. Lists of at most
+    /// 4,096 items, at most 8 deep, are a limit too, which each list that a program holds keeps.
     pub fn fits(&self) -> bool
         ensures { IsTrue result ↔ Fits self.now }
     {
+        self.proper();
         let events = self.events.as_slice();
         self.agents <= 256
             && 1 <= self.capacity

@@ -30,6 +30,7 @@ mod missing;
 #[cfg(test)]
 mod naming;
 mod part;
+mod proper;
 mod read;
 mod reading;
 mod receipt;

@@ -1,6 +1,5 @@
-use Rattle.std.proofs.lemmas.Result.{IfOk-weaker}
 use Rattle.asm_journal.proofs.Refused.{answered}
-use Rattle.asm_journal.proofs.Fitting.{reads_fit}
+use Rattle.asm_journal.proofs.Fitting.{fitting}
 use Rattle.asm_journal.proofs.reader.from_text.Goals as goal
 
 pub returns-clause-only : goal.returns-clause-only
@@ -9,4 +8,4 @@ returns-clause-only c = λ h reads.
 
 pub returns-clause-fits : goal.returns-clause-fits
 returns-clause-fits c =
-    IfOk-weaker c.read_journal.result _ _ (λ h reads. reads_fit c.args.bytes.now h reads) c.read_journal.ensures.ok
+    fitting c.args.bytes.now c.read_journal.result c.read_journal.ensures.ok c.read_journal.ensures.proper

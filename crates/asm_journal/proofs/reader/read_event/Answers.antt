@@ -11,7 +11,7 @@ pub returns-in-Some-clause-ok : goal.returns-in-Some-clause-ok
 returns-in-Some-clause-ok c =
     let d = view c.in_ok-json.json in
     let some = IsParsed-some IsEventForm d _ c.in-Some.event c.in-Some.is c.in_ok-event.ensures in
-    (d, c.in_ok-json.ensures.ok, (some, c.event_fits.ensures.0 c.if-event_fits.true))
+    (d, c.in_ok-json.ensures.ok, (some, c.event_fits.ensures.0 c.if-event_fits.true, c.is_of_version.ensures.0 c.if-not-is_of_version.false))
 
 pub returns-clause-err : goal.returns-clause-err
 returns-clause-err c =
@@ -25,8 +25,19 @@ returns-clause-err c =
           | in_default-via-in-Some+else-event_fits w ↦ λ e h.
               let some = IsParsed-some IsEventForm d _ w.in-Some.event w.in-Some.is c.in_ok-event.ensures in
               let same = event_once e w.in-Some.event d h.0 some in
-              true_and_false w.event_fits.result (w.event_fits.ensures.1 (subst (EventFits c.args.agents) same h.1)) w.if-event_fits.false
+              true_and_false w.event_fits.result (w.event_fits.ensures.1 (subst (EventFits c.args.limits.agents) same h.1)) w.if-event_fits.false
           | in_default-via-in_default w ↦ λ e h. IsParsed-none IsEventForm d _ w.in_default.is c.in_ok-event.ensures e h.0
         ],
       ),
     )
+
+pub returns-then-not-is_of_version-clause-err : goal.returns-then-not-is_of_version-clause-err
+returns-then-not-is_of_version-clause-err c = (
+  refl,
+  (
+    view c.in_ok-json.json,
+    c.in_ok-json.rest.now,
+    c.in_ok-json.ensures.ok,
+    λ e h. true_and_false c.is_of_version.result (c.is_of_version.ensures.1 h.2) c.if-not-is_of_version.true,
+  ),
+)

@@ -7,7 +7,7 @@ use Rattle.asm_journal.proofs.Answered.{IsParsed-some, IsParsed-none}
 use Rattle.asm_journal.proofs.reader.read_header.Goals as goal
 
 abbrev IsHeaderForm : Header → Data → Type 0
-IsHeaderForm h d = IsHeader h.limits.agents h.limits.capacity h.limits.events h.init d
+IsHeaderForm h d = IsHeader h.limits.version h.limits.agents h.limits.capacity h.limits.events h.init d
 
 pub returns-in-Some-clause-ok : goal.returns-in-Some-clause-ok
 returns-in-Some-clause-ok c =
@@ -18,4 +18,4 @@ pub returns-clause-err : goal.returns-clause-err
 returns-clause-err c =
     let d = view c.in_ok-json.json in
     let none = IsParsed-none IsHeaderForm d _ c.in-None.is c.in_ok-header.ensures in
-    (refl, (d, c.in_ok-json.rest.now, c.in_ok-json.ensures.ok, λ other. absurd (true≢false (sym (c.if-has_other_version.ensures.1 other))), λ a p n A h. none (record { limits = record { agents = a; capacity = p; events = n }; init = A }) h))
+    (refl, (d, c.in_ok-json.rest.now, c.in_ok-json.ensures.ok, λ other. absurd (true≢false (sym (c.if-has_other_version.ensures.1 other))), λ v a p n A h. none (record { limits = record { agents = a; capacity = p; events = n; version = v }; init = A }) h))

@@ -1,0 +1,160 @@
+use crate::{ElemList, ElemText, Element, ListError};
+use std::alloc::{AllocError, Global};
+use std::test::Fail;
+
+fn list(items: Vec<Element>) -> Result<Element, ListError> {
+    Ok(Element::List(ElemList::new(items)?))
+}
+
+fn text(alloc: Global, text: &str) -> Result<Element, AllocError> {
+    Ok(Element::Text(ElemText::new(String::from_str(alloc, text)?)))
+}
+
+/// The list of these numbers.
+fn numbers(alloc: Global, numbers: &[i64]) -> Result<Element, Fail> {
+    let mut items = Vec::new(alloc);
+    for number in numbers {
+        items.push(Element::Num(*number))?;
+    }
+    Ok(list(items)?)
+}
+
+/// So many undefs.
+fn undefs(alloc: Global, count: usize) -> Result<Vec<Element>, AllocError> {
+    let mut items = Vec::new(alloc);
+    for _ in 0..count {
+        items.push(Element::Undef)?;
+    }
+    Ok(items)
+}
+
+/// The list in which a list nests, and so on, this deep; the innermost is empty.
+fn nested(alloc: Global, depth: u32) -> Result<Element, Fail> {
+    let mut inner = list(Vec::new(alloc))?;
+    for _ in 1..depth {
+        inner = list(vec![in alloc; inner]?)?;
+    }
+    Ok(inner)
+}
+
+/// The list of undef, of a list this deep, and of undef again, or why there is none.
+fn around(alloc: Global, depth: u32) -> Result<Result<ElemList, ListError>, Fail> {
+    let inner = nested(alloc, depth)?;
+    Ok(ElemList::new(vec![in alloc; Element::Undef, inner, Element::Undef]?))
+}
+
+/// Why so many undefs and after them a list this deep are no list.
+fn refusal(alloc: Global, undef_count: usize, depth: u32) -> Result<Option<ListError>, Fail> {
+    let mut items = undefs(alloc, undef_count)?;
+    items.push(nested(alloc, depth)?)?;
+    Ok(ElemList::new(items).err())
+}
+
+#[test]
+fn a_list_has_its_items_and_its_depth(rt: HostRuntime) -> Result<(), Fail> {
+    let alloc = rt.alloc();
+    let empty = ElemList::new(Vec::new(alloc))?;
+    assert!(rt; empty.depth() == 1 && empty.items().is_empty());
+    let full = ElemList::new(undefs(alloc, 4096)?)?;
+    assert!(rt; full.depth() == 1 && full.items().len() == 4096);
+    let deepest = around(alloc, 7)??;
+    assert!(rt; deepest.depth() == 8 && deepest.items().len() == 3);
+    assert!(rt; deepest.items()[1] == nested(alloc, 7)?);
+    Ok(())
+}
+
+#[test]
+fn a_list_has_at_most_4096_items(rt: HostRuntime) -> Result<(), Fail> {
+    let many = ElemList::new(undefs(rt.alloc(), 4097)?).err();
+    assert!(rt; many == Some(ListError::ManyItems));
+    Ok(())
+}
+
+#[test]
+fn lists_nest_at_most_eight_deep(rt: HostRuntime) -> Result<(), Fail> {
+    let alloc = rt.alloc();
+    assert!(rt; around(alloc, 8)?.err() == Some(ListError::TooDeep));
+    assert!(rt; refusal(alloc, 4095, 8)? == Some(ListError::TooDeep));
+    assert!(rt; refusal(alloc, 4095, 7)?.is_none());
+    Ok(())
+}
+
+#[test]
+fn too_many_items_come_before_too_great_a_depth(rt: HostRuntime) -> Result<(), Fail> {
+    assert!(rt; refusal(rt.alloc(), 4096, 8)? == Some(ListError::ManyItems));
+    Ok(())
+}
+
+/// Whether each comes before those that stand after it, is equal to itself alone, and comes after those before it.
+fn ascend(elements: &[Element]) -> bool {
+    for (i, left) in elements.iter().enumerate() {
+        for (j, right) in elements.iter().enumerate() {
+            if left.cmp(right) != i.cmp(&j) || (left == right) != (i == j) {
+                return false;
+            }
+        }
+    }
+    true
+}
+
+static ASCENDING: [&[i64]; 8] = [
+    &[],
+    &[1],
+    &[2],
+    &[0, 9],
+    &[1, 0],
+    &[1, 1],
+    &[2, 0],
+    &[0, 0, 0],
+];
+
+#[test]
+fn lists_ascend_by_length_and_then_by_their_items(rt: HostRuntime) -> Result<(), Fail> {
+    let alloc = rt.alloc();
+    let mut elements = Vec::new(alloc);
+    elements.push(text(alloc, "z")?)?;
+    for items in ASCENDING {
+        elements.push(numbers(alloc, items)?)?;
+    }
+    assert!(rt; elements.len() == 9 && ascend(&elements));
+    Ok(())
+}
+
+#[test]
+fn items_compare_as_elements_do(rt: HostRuntime) -> Result<(), Fail> {
+    let alloc = rt.alloc();
+    let mut elements = Vec::new(alloc);
+    elements.push(list(vec![in alloc; Element::Undef]?)?)?;
+    elements.push(list(vec![in alloc; Element::Bool(true)]?)?)?;
+    elements.push(numbers(alloc, &[7])?)?;
+    elements.push(list(vec![in alloc; text(alloc, "a")?]?)?)?;
+    elements.push(nested(alloc, 2)?)?;
+    elements.push(nested(alloc, 3)?)?;
+    assert!(rt; elements.len() == 6 && ascend(&elements));
+    Ok(())
+}
+
+fn is_copied(alloc: Global, element: &Element) -> Result<bool, AllocError> {
+    Ok(element.copy(alloc)? == *element)
+}
+
+#[test]
+fn copies_of_lists_are_equal(rt: HostRuntime) -> Result<(), Fail> {
+    let alloc = rt.alloc();
+    assert!(rt; is_copied(alloc, &numbers(alloc, &[3, 1, 2])?)?);
+    assert!(rt; is_copied(alloc, &nested(alloc, 8)?)?);
+    let list = around(alloc, 7)??;
+    assert!(rt; list.clone()? == list);
+    Ok(())
+}
+
+#[test]
+fn errors_have_their_texts(rt: HostRuntime) -> Result<(), Fail> {
+    for (error, want) in [
+        (ListError::ManyItems, "more than 4,096 items"),
+        (ListError::TooDeep, "lists nest more than 8 deep"),
+    ] {
+        assert!(rt; error.to_string(rt.alloc())?.as_str() == want, "{want}");
+    }
+    Ok(())
+}

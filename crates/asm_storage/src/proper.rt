@@ -1,0 +1,106 @@
+//! That what a history holds is proper.
+ghost use Rattle.std.specs.Prelude.{All};
+ghost use Rattle.asm_element.specs.Place as place;
+ghost use Rattle.asm_element.specs.Value as value;
+ghost use Rattle.asm_storage.specs.Proper.{IsProper, IsProperNamed, IsProperCall, IsProperAnswer, IsProperEvent};
+
+use crate::call::{Answer, Call, Reply};
+use crate::history::{Event, History};
+use asm_element::{Location, Value};
+use asm_state::Named;
+
+// Does nothing; its contract tells that a location which a program holds is proper.
+fn proper_location(at: &Location)
+    ensures { place.IsProper at.now }
+{
+    let _name = at.name();
+    let _args = at.args();
+}
+
+// Does nothing; its contract tells that the locations are proper.
+fn proper_locations(places: &[Location])
+    ensures { All place.IsProper places.now }
+{
+    for at in places {
+        proper_location(at);
+    }
+}
+
+// Does nothing; its contract tells that the values are proper.
+fn proper_values(values: &[Value])
+    ensures { All value.IsProper values.now }
+{
+    for value in values {
+        value.proper();
+    }
+}
+
+// Does nothing; its contract tells that a named read is proper.
+fn proper_read(read: &Named)
+    ensures { IsProperNamed read.now }
+{
+    proper_location(&read.at);
+    let _number = read.number;
+}
+
+// Does nothing; its contract tells that the named reads are proper.
+fn proper_reads(reads: &[Named])
+    ensures { All IsProperNamed reads.now }
+{
+    for read in reads {
+        proper_read(read);
+    }
+}
+
+// Does nothing; its contract tells that a call is proper.
+fn proper_call(call: &Call)
+    ensures { IsProperCall call.now }
+{
+    match call {
+        Call::Read(places) => proper_locations(places.as_slice()),
+        Call::Fire { reads, instrs } => {
+            proper_reads(reads.as_slice());
+            instrs.proper();
+            let _count = instrs.len();
+        }
+    }
+}
+
+// Does nothing; its contract tells that an answer is proper.
+fn proper_answer(answer: &Answer)
+    ensures { IsProperAnswer answer.now }
+{
+    match answer {
+        Answer::Read { number, values } => {
+            let _number = *number;
+            proper_values(values.as_slice());
+        }
+        Answer::Fire(Reply::Fired(number)) => {
+            let _number = *number;
+        }
+        Answer::Fire(Reply::Stale(at)) => proper_location(at),
+        Answer::Fire(Reply::Clash(clash)) => proper_location(&clash.at),
+        Answer::Fire(Reply::Full) => {}
+    }
+}
+
+// Does nothing; its contract tells that the events are proper.
+fn proper_events(events: &[Event])
+    ensures { All IsProperEvent events.now }
+{
+    for event in events {
+        proper_call(&event.call);
+        proper_answer(&event.answer);
+    }
+}
+
+impl History {
+    /// Does nothing. Its contract tells that the history is one that a program can hold: its opening state
+    /// and its events are proper, so each list in it has at most 4,096 items and nests at most 8 deep.
+    pub fn proper(&self)
+        ensures { IsProper self.now }
+    {
+        self.init.proper();
+        proper_events(self.events.as_slice());
+    }
+}
