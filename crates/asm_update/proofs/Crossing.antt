@@ -3,7 +3,7 @@ use denote.Hole.{as_row}
 use denote.Param.Send.{IsSend, IsSync, sendable}
 use denote.Param.SendFields.{declared_send, declared_sync, variants_send, variants_sync}
 use denote.Struct.Field.{i64-field}
-use Rattle.std.proofs.Crossing.{Vec-send, Vec-sync}
+use Rattle.std.proofs.Crossing.{Arc-send, Arc-sync, Vec-send, Vec-sync}
 use Rattle.std.proofs.MapsCrossing.{BTreeMap-send, BTreeMap-sync}
 use Rattle.asm_element.proofs.Crossing.{element_is_sent, element_is_shared, location_is_sent, location_is_shared}
 use Rattle.asm_element.proofs.Crossing.{value_is_sent, value_is_shared}
@@ -60,10 +60,12 @@ pub instruction_is_shared : IsSync Instruction.the_row
 instruction_is_shared = declared_sync Instruction.the_type (location_is_shared, (action_is_shared, tt))
 
 inside_instructions_is_sent : IsSend InsideInstructions.the_row
-inside_instructions_is_sent = search (sendable, Vec-send, instruction_is_sent) depth 20
+inside_instructions_is_sent =
+    search (sendable, Arc-send, Vec-send, Vec-sync, instruction_is_sent, instruction_is_shared) depth 20
 
 inside_instructions_is_shared : IsSync InsideInstructions.the_row
-inside_instructions_is_shared = search (sendable, Vec-sync, instruction_is_shared) depth 20
+inside_instructions_is_shared =
+    search (sendable, Arc-sync, Vec-send, Vec-sync, instruction_is_sent, instruction_is_shared) depth 20
 
 pub instructions_is_sent : IsSend Instructions.the_row
 instructions_is_sent = search (sendable, inside_instructions_is_sent) depth 20

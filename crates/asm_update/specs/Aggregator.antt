@@ -1,7 +1,7 @@
 -- What an aggregator means: the families it owns, what a group gives, what two lists in a row join to; its laws; and
 -- what its calls answer.
 use Rattle.std.specs.Prelude.{◌≡◌, ◌≢◌, Bool, true, false, List, [], ◌∷◌, ◌++◌, IsPermutation}
-use Rattle.std.specs.Prelude.{Result, Ok, Err, Option, None, Some, unwrap_or}
+use Rattle.std.specs.Prelude.{Result, Ok, Err, IsOk, Option, None, Some, unwrap_or}
 use Rattle.std.specs.List.{list_any, list_all}
 use Rattle.std.specs.declared.vec.Vec.{Vec}
 use Rattle.std.specs.declared.alloc.Global.{Global}
@@ -80,6 +80,18 @@ abbrev pub IsOutcome : Result Value ResultError → Outcome → Type 0
 IsOutcome (Ok value) outcome = outcome ≡ Ok value
 IsOutcome (Err (result_error.Cause cause)) outcome = outcome ≡ Err cause
 IsOutcome (Err result_error.Memory) outcome = Unit {0}
+
+-- a call answers whether this outcome is a value, or else its cause; want of memory tells nothing
+abbrev pub IsAdmitted : Result (Unit {0}) ResultError → Outcome → Type 0
+IsAdmitted (Ok _) outcome = IsOk outcome
+IsAdmitted (Err (result_error.Cause cause)) outcome = outcome ≡ Err cause
+IsAdmitted (Err result_error.Memory) outcome = Unit {0}
+
+-- a call leaves this outcome's value, or answers its cause; want of memory tells nothing
+abbrev pub IsLeft : Result (Unit {0}) ResultError → Value → Outcome → Type 0
+IsLeft (Ok _) left outcome = outcome ≡ Ok left
+IsLeft (Err (result_error.Cause cause)) left outcome = outcome ≡ Err cause
+IsLeft (Err result_error.Memory) left outcome = Unit {0}
 
 -- a call answers this join: its list, or its refusal; want of memory tells nothing
 abbrev pub IsJoined : Result (Vec Action Global) JoinError → Joined → Type 0

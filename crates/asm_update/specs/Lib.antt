@@ -5,3 +5,4 @@ pub mod Fire
 pub mod Equal
 pub mod Group
 pub mod Aggregator
+pub mod Shared

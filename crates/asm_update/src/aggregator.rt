@@ -1,9 +1,10 @@
-ghost use Rattle.std.specs.Prelude.{◌≡◌, ◌≢◌, ◌++◌, [], IsTrue, unwrap_or};
+ghost use Rattle.std.specs.Prelude.{◌≡◌, ◌≢◌, ◌++◌, [], IsTrue, OnErr, unwrap_or};
 ghost use Rattle.std.specs.Option.{option_copied};
 ghost use Rattle.std.specs.List.{list_all};
 ghost use Rattle.asm_element.specs.Value.{undef};
 ghost use Rattle.asm_update.specs.Action.{is_partial};
 ghost use Rattle.asm_update.specs.Aggregator.{Meaning, AggregatorLaws, IsOutcome, IsJoined};
+ghost use Rattle.asm_update.specs.Aggregator.{IsAdmitted, IsLeft};
 
 use crate::action::{Action, Family};
 use crate::errors::{JoinError, ResultError};
@@ -50,6 +51,44 @@ pub trait Aggregator {
         ensures { IsOutcome result
             ((meaning self.now).part (unwrap_or (option_copied old.entry) undef)
             group.now.regular group.now.partials) };
+
+    /// Whether a group has a result on the old value, where None stands for undef.
+    ///
+    /// `ResultError::Cause` comes exactly where `result` would answer it, and `Memory` only where memory was
+    /// refused. An aggregator that can tell this without making the value writes its own.
+    fn admit(
+        &self,
+        alloc: Global,
+        old: Option<&Value>,
+        group: &Group,
+    ) -> Result<(), ResultError>
+        ensures { IsAdmitted result
+            ((meaning self.now).part (unwrap_or (option_copied old.entry) undef)
+            group.now.regular group.now.partials) }
+    {
+        match self.result(alloc, old, group) {
+            Ok(_) => Ok(()),
+            Err(error) => Err(error),
+        }
+    }
+
+    /// Puts the result of a group on a value in its place.
+    ///
+    /// `ResultError::Cause` comes exactly where the group has no result, and `Memory` only where memory was
+    /// refused; the value is then unchanged. An aggregator that can change a value in place writes its own.
+    fn change(
+        &self,
+        alloc: Global,
+        value: &mut Value,
+        group: &Group,
+    ) -> Result<(), ResultError>
+        ensures left { IsLeft result value.new
+            ((meaning self.now).part value.old group.now.regular group.now.partials) }
+        ensures err { OnErr result (value.new ≡ value.old) }
+    {
+        *value = self.result(alloc, Some(&*value), group)?;
+        Ok(())
+    }
 
     /// The list of partial updates that stands for the first list and then the second.
     ///

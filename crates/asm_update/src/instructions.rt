@@ -1,5 +1,6 @@
 ghost use Rattle.std.specs.Prelude.{◌≡◌, ◌<◌, ◌≤◌, ◌++◌, ◌∷◌, [], ◌↔◌, length, All, IsTrue};
 ghost use Rattle.std.specs.Prelude.{OnOk, OnErr, IfOk, Some, Err, slice_get};
+ghost use Rattle.std.specs.Arc.{arc_value};
 ghost use Rattle.std.specs.Cmp.{partial_equiv_from_equiv};
 ghost use Rattle.asm_update.specs.Action.{IsProperInstruction};
 ghost use Rattle.asm_update.specs.Move as move_spec;
@@ -10,6 +11,7 @@ use crate::action::{Action, Instruction};
 use crate::proper::proper_location;
 use std::alloc::{AllocError, AllocFailed, Global};
 use std::marker::Model;
+use std::sync::Arc;
 use thiserror::Error;
 
 /// The most instructions of one move.
@@ -48,11 +50,14 @@ impl<T: Drop> From<AllocFailed<T>> for InstructionsError {
 /// yields, in CoreASM; the limit is of this project's profile.
 #[derive(Debug, Drop)]
 pub struct Instructions {
-    items: Vec<Instruction>,
+    // None where there is none, which takes no memory. Copies share one list until one of them grows.
+    items: Option<Arc<Vec<Instruction>>>,
+    alloc: Global,
 }
 
 impl Model for Instructions {
     ghost use Rattle.std.specs.Prelude.{List, length, ◌≤◌, All};
+    ghost use Rattle.asm_update.specs.Shared.{shared_items};
     ghost use Rattle.asm_update.specs.Action.{IsProperInstruction};
     ghost use Rattle.asm_update.specs.declared.action.Instruction.{Instruction};
     ghost use Rattle.std.specs.Coded.{coded_list};
@@ -62,9 +67,22 @@ impl Model for Instructions {
 
     ghost coded = { coded_list instruction_row.coded };
 
-    ghost view = { λ m. m.items.items };
+    ghost view = { λ m. shared_items m.items };
 
-    ghost invariant = { λ m. (length m.items.items ≤ 4096) × All IsProperInstruction m.items.items };
+    ghost invariant = { λ m. (length (shared_items m.items) ≤ 4096) × All IsProperInstruction (shared_items m.items) };
+}
+
+// Puts the instruction behind a list, which is copied first where it has another owner.
+fn append(
+    list: &mut Arc<Vec<Instruction>>,
+    instruction: Instruction,
+) -> Result<(), AllocError>
+    ensures ok { OnOk result ((arc_value list.new).items ≡ (arc_value list.old).items ++ instruction ∷ []) }
+    ensures err { OnErr result ((arc_value list.new).items ≡ (arc_value list.old).items) }
+{
+    let own = Arc::make_mut(list)?;
+    own.push(instruction)?;
+    Ok(())
 }
 
 impl Instructions {
@@ -72,9 +90,7 @@ impl Instructions {
     pub fn new(alloc: Global) -> Self
         ensures { result ≡ [] }
     {
-        Instructions {
-            items: Vec::new(alloc),
-        }
+        Instructions { items: None, alloc }
     }
 
     /// How many instructions there are, at most 4,096.
@@ -82,7 +98,8 @@ impl Instructions {
         ensures len { result ≡ length self.now }
         ensures few { length self.now ≤ 4096 }
     {
-        self.items.len()
+        let _ = &self.items;
+        self.as_slice().len()
     }
 
     /// Appends an instruction.
@@ -94,12 +111,19 @@ impl Instructions {
         ensures many { (result ≡ Err InstructionsError.ManyInstructions) ↔ (length self.old ≡ 4096) }
         ensures err { OnErr result (self.new ≡ self.old) }
     {
-        if self.items.len() == INSTRUCTIONS_LIMIT {
+        if self.len() == INSTRUCTIONS_LIMIT {
             return Err(InstructionsError::ManyInstructions);
         }
         proper_location(&instruction.at);
         instruction.action.proper();
-        self.items.push(instruction)?;
+        match &mut self.items {
+            Some(items) => append(items, instruction)?,
+            None => {
+                let mut items = Vec::with_capacity(self.alloc, 1)?;
+                items.push(instruction)?;
+                self.items = Some(Arc::new(self.alloc, items)?);
+            }
+        }
         Ok(())
     }
 
@@ -108,14 +132,14 @@ impl Instructions {
         requires { i < length self.now }
         ensures { slice_get self.now i ≡ Some result.now }
     {
-        &self.items[i]
+        &self.as_slice()[i]
     }
 
     /// Whether no instruction is partial; true of the empty list.
     pub fn all_regular(&self) -> bool
         ensures { result ≡ move_spec.all_regular self.now }
     {
-        self.items.iter().all(|instruction| matches!(&instruction.action, Action::Regular(_)))
+        self.as_slice().iter().all(|instruction| matches!(&instruction.action, Action::Regular(_)))
     }
 
     /// Does nothing; its contract tells that each instruction is proper.
@@ -125,7 +149,7 @@ impl Instructions {
         let _ = &self.items;
     }
 
-    /// The same instructions, in memory of their own.
+    /// The same instructions, which both share until one of them grows.
     pub fn copy(&self, _alloc: Global) -> Result<Instructions, AllocError>
         ensures { IfOk result (λ copy. copy ≡ self.now) }
     {
@@ -135,7 +159,10 @@ impl Instructions {
     pub(crate) fn as_slice(&self) -> &[Instruction]
         ensures { result.now ≡ self.now }
     {
-        self.items.as_slice()
+        match &self.items {
+            Some(items) => items.as_slice(),
+            None => &[],
+        }
     }
 }
 
@@ -143,8 +170,14 @@ impl Clone for Instructions {
     ghost is_clone = { λ instructions copy. copy ≡ instructions };
 
     fn clone(&self) -> Result<Instructions, AllocError> {
-        let items = self.items.clone()?;
-        Ok(Instructions { items })
+        let items = match &self.items {
+            Some(items) => Some(Arc::try_clone(items)?),
+            None => None,
+        };
+        Ok(Instructions {
+            items,
+            alloc: self.alloc,
+        })
     }
 }
 
@@ -157,7 +190,7 @@ impl PartialEq for Instructions {
         ensures eq { result ≡ move_eq self.now other.now }
         ensures same { IsTrue result ↔ (self.now ≡ other.now) }
     {
-        self.items == other.items
+        self.as_slice() == other.as_slice()
     }
 }
 
