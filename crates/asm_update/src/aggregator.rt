@@ -56,12 +56,7 @@ pub trait Aggregator {
     ///
     /// `ResultError::Cause` comes exactly where `result` would answer it, and `Memory` only where memory was
     /// refused. An aggregator that can tell this without making the value writes its own.
-    fn admit(
-        &self,
-        alloc: Global,
-        old: Option<&Value>,
-        group: &Group,
-    ) -> Result<(), ResultError>
+    fn admit(&self, alloc: Global, old: Option<&Value>, group: &Group) -> Result<(), ResultError>
         ensures { IsAdmitted result
             ((meaning self.now).part (unwrap_or (option_copied old.entry) undef)
             group.now.regular group.now.partials) }
@@ -76,12 +71,7 @@ pub trait Aggregator {
     ///
     /// `ResultError::Cause` comes exactly where the group has no result, and `Memory` only where memory was
     /// refused; the value is then unchanged. An aggregator that can change a value in place writes its own.
-    fn change(
-        &self,
-        alloc: Global,
-        value: &mut Value,
-        group: &Group,
-    ) -> Result<(), ResultError>
+    fn change(&self, alloc: Global, value: &mut Value, group: &Group) -> Result<(), ResultError>
         ensures left { IsLeft result value.new
             ((meaning self.now).part value.old group.now.regular group.now.partials) }
         ensures err { OnErr result (value.new ≡ value.old) }

@@ -1,5 +1,5 @@
 ghost use Rattle.std.specs.Prelude.{◌≡◌, ◌<◌, ◌≤◌, ◌++◌, ◌∷◌, [], ◌↔◌, length, All, IsTrue};
-ghost use Rattle.std.specs.Prelude.{OnOk, OnErr, IfOk, Some, Err, slice_get};
+ghost use Rattle.std.specs.Prelude.{OnOk, OnErr, IfOk, Some, Err, slice_get, vec_len};
 ghost use Rattle.std.specs.Arc.{arc_value};
 ghost use Rattle.std.specs.Cmp.{partial_equiv_from_equiv};
 ghost use Rattle.asm_update.specs.Action.{IsProperInstruction};
@@ -8,7 +8,7 @@ ghost use Rattle.asm_update.specs.Equal.{move_eq, move_eq-equiv};
 ghost use Rattle.asm_update.specs.declared.instructions.InstructionsError.TheVariants as instructions_error;
 
 use crate::action::{Action, Instruction};
-use crate::proper::proper_location;
+use crate::proper::{proper_instruction, proper_instructions};
 use std::alloc::{AllocError, AllocFailed, Global};
 use std::marker::Model;
 use std::sync::Arc;
@@ -73,10 +73,7 @@ impl Model for Instructions {
 }
 
 // Puts the instruction behind a list, which is copied first where it has another owner.
-fn append(
-    list: &mut Arc<Vec<Instruction>>,
-    instruction: Instruction,
-) -> Result<(), AllocError>
+fn append(list: &mut Arc<Vec<Instruction>>, instruction: Instruction) -> Result<(), AllocError>
     ensures ok { OnOk result ((arc_value list.new).items ≡ (arc_value list.old).items ++ instruction ∷ []) }
     ensures err { OnErr result ((arc_value list.new).items ≡ (arc_value list.old).items) }
 {
@@ -91,6 +88,25 @@ impl Instructions {
         ensures { result ≡ [] }
     {
         Instructions { items: None, alloc }
+    }
+
+    /// The instructions of a list, in its order.
+    ///
+    /// `ManyInstructions` comes exactly where there are more than 4,096, before memory is asked for, and `Memory`
+    /// only where memory was refused.
+    pub fn from_vec(
+        alloc: Global,
+        items: Vec<Instruction>,
+    ) -> Result<Instructions, InstructionsError>
+        ensures ok { IfOk result (λ list. list ≡ items.items) }
+        ensures many { (result ≡ Err InstructionsError.ManyInstructions) ↔ (4096 < vec_len items) }
+    {
+        if items.len() > INSTRUCTIONS_LIMIT {
+            return Err(InstructionsError::ManyInstructions);
+        }
+        proper_instructions(items.as_slice());
+        let items = Some(Arc::new(alloc, items)?);
+        Ok(Instructions { items, alloc })
     }
 
     /// How many instructions there are, at most 4,096.
@@ -114,8 +130,7 @@ impl Instructions {
         if self.len() == INSTRUCTIONS_LIMIT {
             return Err(InstructionsError::ManyInstructions);
         }
-        proper_location(&instruction.at);
-        instruction.action.proper();
+        proper_instruction(&instruction);
         match &mut self.items {
             Some(items) => append(items, instruction)?,
             None => {

@@ -208,6 +208,24 @@ fn one_instruction_more_than_4096_is_refused(rt: HostRuntime) -> Result<(), Fail
 }
 
 #[test]
+fn a_list_becomes_the_instructions_of_a_move(rt: HostRuntime) -> Result<(), Fail> {
+    let alloc = rt.alloc();
+    for (length, fits) in [(0, true), (1, true), (4096, true), (4097, false)] {
+        let mut items = Vec::new(alloc);
+        for n in 0..length {
+            let at = location(alloc, "x", &[])?;
+            let action = Action::Regular(value(Some(n)));
+            items.push(Instruction { at, action })?;
+        }
+        match Instructions::from_vec(alloc, items) {
+            Ok(list) => assert!(rt; fits && list.len() as i64 == length && counts_up(&list)),
+            Err(error) => assert!(rt; !fits && error == InstructionsError::ManyInstructions),
+        }
+    }
+    Ok(())
+}
+
+#[test]
 fn copies_are_equal(rt: HostRuntime) -> Result<(), Fail> {
     let updates = [
         ("x", Update::Put(Some(1))),
@@ -220,6 +238,53 @@ fn copies_are_equal(rt: HostRuntime) -> Result<(), Fail> {
     assert!(rt; list.copy(rt.alloc())? == list);
     let state = state_with(rt.alloc(), "x", 1)?;
     assert!(rt; state.copy(rt.alloc())? == state);
+    Ok(())
+}
+
+/// Whether both lists lie in the same memory.
+fn lie_together(one: &Instructions, other: &Instructions) -> bool {
+    one.as_slice().as_ptr() == other.as_slice().as_ptr()
+}
+
+/// Whether the list puts 0, 1 and so on.
+fn counts_up(list: &Instructions) -> bool {
+    for i in 0..list.len() {
+        let want = Action::Regular(value(i64::try_from(i).ok()));
+        if list.get(i).action != want {
+            return false;
+        }
+    }
+    true
+}
+
+#[test]
+fn copies_share_their_instructions_until_one_grows(rt: HostRuntime) -> Result<(), Fail> {
+    let alloc = rt.alloc();
+    let mut list = list_of(
+        alloc,
+        &[("x", Update::Put(Some(1))), ("y", Update::SetAdd(2))],
+    )?;
+    let copy = list.copy(alloc)?;
+    let further = copy.clone()?;
+    assert!(rt; lie_together(&list, &copy) && lie_together(&copy, &further));
+    push(alloc, &mut list, "z", Update::Put(None))?;
+    assert!(rt; !lie_together(&list, &copy) && lie_together(&copy, &further));
+    Ok(())
+}
+
+#[test]
+fn a_list_that_grows_leaves_its_copies_as_they_were(rt: HostRuntime) -> Result<(), Fail> {
+    let alloc = rt.alloc();
+    let mut list = Instructions::new(alloc);
+    let mut copies = Vec::new(alloc);
+    for n in 0..6 {
+        copies.push(list.copy(alloc)?)?;
+        push(alloc, &mut list, "x", Update::Put(Some(n)))?;
+    }
+    for (n, copy) in copies.iter().enumerate() {
+        assert!(rt; copy.len() == n && counts_up(copy));
+    }
+    assert!(rt; list.len() == 6 && counts_up(&list));
     Ok(())
 }
 
