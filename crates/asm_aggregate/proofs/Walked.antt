@@ -15,14 +15,14 @@ use Rattle.asm_element.specs.declared.value.Value.{Value}
 use Rattle.asm_update.specs.Move.{Move, actions_at, writes}
 use Rattle.asm_update.specs.State.{Updates}
 use Rattle.asm_update.specs.Fire.{Part, Old, Outcome, outcome_at, IsUpdateSet, IsLeastClash}
-use Rattle.asm_update.specs.Aggregator.{IsOutcome}
+use Rattle.asm_update.specs.Aggregator.{IsAdmitted, IsOutcome}
 use Rattle.asm_update.specs.declared.clash.AggError.{AggError}
 use Rattle.asm_update.specs.declared.clash.AggError.TheVariants.{Clash as Clashes, Memory}
 use Rattle.asm_update.specs.declared.clash.Cause.{Cause}
 use Rattle.asm_update.specs.declared.clash.Clash.{Clash}
 use Rattle.asm_update.specs.declared.errors.ResultError.{ResultError}
 use Rattle.asm_update.specs.declared.errors.ResultError.TheVariants.{Cause as Refused}
-use Rattle.asm_aggregate.specs.Bundle.{Bundle, bundle_of, bundle_at, bundle_result, AreGroups, IsWritten, IsAggregate}
+use Rattle.asm_aggregate.specs.Bundle.{Bundle, bundle_of, bundle_at, bundle_result, AreGroups, IsWritten, IsAdmission, IsAggregate}
 use Rattle.asm_aggregate.proofs.Bundles.{written_bundle}
 
 -- a location below the first isn't there
@@ -150,6 +150,24 @@ module _ (part : Part) (old : Old) (M : Move) where
         (subst (λ (e : ResultError). IsOutcome (Err e) (bundle_result part (old k) b)) (at c refl).1 is)
         (at c refl).0 refl
     walk_refuses error Memory is at = tt
+
+    -- a result that isn't made goes on as well
+    pub walk_admits : IsOk (bundle_result part (old k) b) → (U : Updates) × IsWalked part old M rest U
+    walk_admits ok = with_value (bundle_result part (old k) b) refl ok where
+      with_value : (o : Outcome) → bundle_result part (old k) b ≡ o → IsOk o → (U : Updates) × IsWalked part old M rest U
+      with_value (Ok v) gave h = (finite.insert updates k v, walk_goes_on v (finite.insert updates k v) gave refl)
+      with_value (Err cause) gave h = absurd (false≢true h)
+
+    -- and so does the answer of a clash
+    pub walk_rejects : (error : ResultError) (answer : AggError) →
+        IsAdmitted (Err error) (bundle_result part (old k) b) →
+        ((c : Clash) → answer ≡ Clashes c → (c.at ≡ k) × (error ≡ Refused c.cause)) →
+        IsAdmission part old M (Err answer)
+    walk_rejects error (Clashes c) is at =
+        walk_clashes c.cause c
+        (subst (λ (e : ResultError). IsAdmitted (Err e) (bundle_result part (old k) b)) (at c refl).1 is)
+        (at c refl).0 refl
+    walk_rejects error Memory is at = tt
 
   -- nothing is left
   pub walk_ends : (left : List (Place × Bundle)) (updates : Updates) → left ≡ [] → IsWalked part old M left updates →

@@ -73,3 +73,10 @@ abbrev pub IsAggregate : Part → Old → Move → Result Updates AggError → T
 IsAggregate part old M (Ok U) = IsUpdateSet part old M U
 IsAggregate part old M (Err (Clashes clash)) = IsLeastClash part old M clash
 IsAggregate part old M (Err Memory) = Unit {0}
+
+-- whether the move has an update set, or its clash at the least location that has no result; a refusal of memory tells
+-- nothing
+abbrev pub IsAdmission : Part → Old → Move → Result (Unit {0}) AggError → Type 0
+IsAdmission part old M (Ok _) = (U : Updates) × IsUpdateSet part old M U
+IsAdmission part old M (Err (Clashes clash)) = IsLeastClash part old M clash
+IsAdmission part old M (Err Memory) = Unit {0}

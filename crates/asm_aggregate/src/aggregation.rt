@@ -53,7 +53,7 @@ fn put_at(
 }
 
 /// The clash of a location.
-fn clash_at(alloc: Global, at: &Location, error: ResultError) -> AggError
+pub(crate) fn clash_at(alloc: Global, at: &Location, error: ResultError) -> AggError
     ensures { (c : clashes.Clash) → result ≡ agg_error.Clash c →
         (c.at ≡ at.now) × (error ≡ result_error.Cause c.cause) }
 {

@@ -6,7 +6,7 @@ ghost use Rattle.std.specs.FinMap as map;
 ghost use Rattle.asm_element.specs.Place.{Place};
 ghost use Rattle.asm_element.specs.Value.{undef};
 ghost use Rattle.asm_update.specs.Action.{is_partial};
-ghost use Rattle.asm_update.specs.Aggregator.{IsOutcome};
+ghost use Rattle.asm_update.specs.Aggregator.{IsAdmitted, IsOutcome};
 ghost use Rattle.asm_update.specs.declared.action.Action.{Action};
 ghost use Rattle.asm_update.specs.declared.action.Action.TheVariants.{Regular};
 ghost use Rattle.asm_aggregate.specs.Bundle.{bundle_of, AreGroups, HaveRoom, by_place, with_room};
@@ -130,6 +130,21 @@ impl<'a> Bundle<'a> {
             self.entry.regular self.entry.partials) }
     {
         aggregator.result(alloc, old, &self.into_group(alloc)?)
+    }
+
+    /// Whether the aggregator makes something of the first regular value and the partial updates.
+    pub(crate) fn admit_by<A: Aggregator>(
+        self,
+        alloc: Global,
+        aggregator: &A,
+        old: Option<&Value>,
+    ) -> Result<(), ResultError>
+        requires { self.partials ≢ [] }
+        ensures { IsAdmitted result
+            ((A.meaning aggregator.now).part (unwrap_or (option_copied old.entry) undef)
+            self.entry.regular self.entry.partials) }
+    {
+        aggregator.admit(alloc, old, &self.into_group(alloc)?)
     }
 }
 

@@ -1,6 +1,7 @@
 //! Aggregators of partial updates of sets, bags and counters, two of them as one, and the aggregation of a move (CoreASM).
 #![tactic(auto)]
 
+mod admission;
 mod aggregation;
 mod bag_agg;
 mod composition;
@@ -11,6 +12,7 @@ mod pair;
 mod set_agg;
 mod side;
 
+pub use admission::admit;
 pub use aggregation::aggregate;
 pub use bag_agg::BagAgg;
 pub use composition::{ComposeError, compose};

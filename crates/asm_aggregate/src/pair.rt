@@ -100,6 +100,42 @@ impl<A: Aggregator, B: Aggregator> Aggregator for Pair<A, B> {
         }
     }
 
+    fn admit(
+        &self,
+        alloc: Global,
+        old: Option<&Value>,
+        group: &Group,
+    ) -> Result<(), ResultError> {
+        let Some(family) = common_family(group.partials()) else {
+            return Err(ResultError::Cause(Cause::Mixed));
+        };
+        if self.a.owns(family) {
+            self.a.admit(alloc, old, group)
+        } else if self.b.owns(family) {
+            self.b.admit(alloc, old, group)
+        } else {
+            Err(ResultError::Cause(Cause::Mixed))
+        }
+    }
+
+    fn change(
+        &self,
+        alloc: Global,
+        value: &mut Value,
+        group: &Group,
+    ) -> Result<(), ResultError> {
+        let Some(family) = common_family(group.partials()) else {
+            return Err(ResultError::Cause(Cause::Mixed));
+        };
+        if self.a.owns(family) {
+            self.a.change(alloc, value, group)
+        } else if self.b.owns(family) {
+            self.b.change(alloc, value, group)
+        } else {
+            Err(ResultError::Cause(Cause::Mixed))
+        }
+    }
+
     fn join(
         &self,
         alloc: Global,

@@ -1,7 +1,8 @@
 ghost use Rattle.std.specs.Prelude.{◌≡◌, ◌++◌, ◌∷◌, [], ◌||◌, not, if◌then◌else◌, unwrap_or, true, false};
-ghost use Rattle.std.specs.Prelude.{Ok, Err, IfOk, IfErr, OnOk, IfSome, IfNone};
+ghost use Rattle.std.specs.Prelude.{Some, None, Ok, Err, IfOk, IfErr, OnOk, OnErr, IfSome, IfNone};
 ghost use Rattle.std.specs.List.{list_all};
 ghost use Rattle.std.specs.Option.{option_copied};
+ghost use Rattle.asm_element.specs.Set as set;
 ghost use Rattle.asm_element.specs.Value.{undef};
 ghost use Rattle.asm_element.specs.declared.value.Value.TheVariants as values;
 ghost use Rattle.asm_update.specs.Action.{is_of};
@@ -11,7 +12,7 @@ ghost use Rattle.asm_update.specs.declared.clash.Cause.TheVariants.{Mixed, Both,
 ghost use Rattle.asm_aggregate.specs.Families.{is_kind};
 ghost use Rattle.asm_aggregate.specs.Sets.{union, difference, meets, is_subset};
 ghost use Rattle.asm_aggregate.specs.SetMeaning.{set_meaning, element_on, elements_on, adds_and_removes};
-ghost use Rattle.asm_aggregate.specs.SetMeaning.{set_action, set_side};
+ghost use Rattle.asm_aggregate.specs.SetMeaning.{set_action, set_side, set_result, members, updated as set_update};
 ghost use Rattle.asm_aggregate.specs.Table.{first_cause};
 ghost use Rattle.asm_aggregate.specs.declared.side.Side.TheVariants as sides;
 ghost use Rattle.asm_aggregate.specs.laws.SetLaws.{set_laws};
@@ -91,18 +92,14 @@ fn sides_of(alloc: Global, actions: &[Action]) -> Result<Sides, AllocError>
 fn without(mut set: ElemSet, gone: &ElemSet) -> ElemSet
     ensures { result ≡ difference set gone.now }
 {
-    for element in gone.iter() {
-        set.remove(element);
-    }
+    take_all(&mut set, gone);
     set
 }
 
 fn with(alloc: Global, mut set: ElemSet, more: &ElemSet) -> Result<ElemSet, AllocError>
     ensures { IfOk result (λ s. s ≡ union set more.now) }
 {
-    for element in more.iter() {
-        set.insert(element.copy(alloc)?)?;
-    }
+    put_all(alloc, &mut set, more)?;
     Ok(set)
 }
 
@@ -130,6 +127,75 @@ fn push_side(
     Ok(())
 }
 
+/// The element, unless the set has it.
+fn unless_in<'a>(element: &'a Element, other: &ElemSet) -> Option<&'a Element>
+    ensures { option_copied result ≡ if set.contains other.now element.now then None else Some element.now }
+{
+    if other.contains(element) {
+        None
+    } else {
+        Some(element)
+    }
+}
+
+/// The elements of the first set that the second doesn't have.
+fn rest_of(alloc: Global, set: &ElemSet, other: &ElemSet) -> Result<ElemSet, AllocError>
+    ensures { IfOk result (λ s. s ≡ difference set.now other.now) }
+{
+    let mut rest = ElemSet::new(alloc);
+    for element in set.iter() {
+        note(alloc, &mut rest, unless_in(element, other))?;
+    }
+    Ok(rest)
+}
+
+/// Takes the elements out of the set, for which no memory is needed.
+fn take_all(set: &mut ElemSet, gone: &ElemSet)
+    ensures { set.new ≡ difference set.old gone.now }
+{
+    for element in gone.iter() {
+        set.remove(element);
+    }
+}
+
+/// Puts the elements into the set. After an error some of them are in it.
+fn put_all(alloc: Global, set: &mut ElemSet, more: &ElemSet) -> Result<(), AllocError>
+    ensures ok { OnOk result (set.new ≡ union set.old more.now) }
+    ensures err { OnErr result (difference set.new more.now ≡ difference set.old more.now) }
+{
+    for element in more.iter() {
+        set.insert(element.copy(alloc)?)?;
+    }
+    Ok(())
+}
+
+/// Puts elements that the set doesn't have into it. After an error it is as it was.
+fn put_new(alloc: Global, set: &mut ElemSet, fresh: &ElemSet) -> Result<(), AllocError>
+    requires { meets fresh.now set.old ≡ false }
+    ensures ok { OnOk result (set.new ≡ union set.old fresh.now) }
+    ensures err { OnErr result (set.new ≡ set.old) }
+{
+    match put_all(alloc, set, fresh) {
+        Ok(()) => Ok(()),
+        Err(error) => {
+            take_all(set, fresh);
+            Err(error)
+        }
+    }
+}
+
+/// Changes the set in place: the additions first, since the removals take no memory. After an error it is as it was.
+fn change_set(alloc: Global, set: &mut ElemSet, sides: &Sides) -> Result<(), AllocError>
+    requires { meets sides.now.added sides.now.removed ≡ false }
+    ensures ok { OnOk result (set.new ≡ union (difference set.old sides.now.removed) sides.now.added) }
+    ensures err { OnErr result (set.new ≡ set.old) }
+{
+    let fresh = rest_of(alloc, &sides.added, &*set)?;
+    put_new(alloc, set, &fresh)?;
+    take_all(set, &sides.removed);
+    Ok(())
+}
+
 /// The set without what is removed and with what is added.
 fn updated(alloc: Global, base: &ElemSet, sides: &Sides) -> Result<Value, ResultError>
     ensures { IsOutcome result (Ok (values.Set (union (difference base.now sides.now.removed) sides.now.added))) }
@@ -138,21 +204,34 @@ fn updated(alloc: Global, base: &ElemSet, sides: &Sides) -> Result<Value, Result
     Ok(Value::Set(with(alloc, rest, &sides.added)?))
 }
 
-/// The regular value, if its set has all that is added and nothing that is removed.
-fn confirmed(
-    alloc: Global,
-    value: &Value,
-    base: &ElemSet,
-    sides: &Sides,
-) -> Result<Value, ResultError>
-    ensures { IsOutcome result
-        (if not (is_subset sides.now.added base.now) || meets sides.now.removed base.now
-        then Err Against else Ok value.now) }
+/// What a group adds and removes, where it has a result on the old value.
+fn admitted(alloc: Global, old: Option<&Value>, group: &Group) -> Result<Sides, ResultError>
+    ensures added { IfOk result (λ s. s.added ≡ elements_on sides.Added group.now.partials) }
+    ensures removed { IfOk result (λ s. s.removed ≡ elements_on sides.Removed group.now.partials) }
+    ensures apart { IfOk result (λ s. meets s.added s.removed ≡ false) }
+    ensures ok { IfOk result (λ s. set_result (unwrap_or (option_copied old.entry) undef) group.now.regular
+        group.now.partials ≡ Ok (unwrap_or group.now.regular (values.Set
+        (set_update (members (unwrap_or (option_copied old.entry) undef)) group.now.partials)))) }
+    ensures kind { IfOk result (λ s. is_kind family.Set
+        (unwrap_or group.now.regular (unwrap_or (option_copied old.entry) undef)) ≡ true) }
+    ensures err { IfErr result (λ e. IsOutcome (Err e)
+        (set_result (unwrap_or (option_copied old.entry) undef) group.now.regular group.now.partials)) }
 {
-    if !is_within(&sides.added, base) || meet(&sides.removed, base) {
+    let partials = group.partials();
+    if !are_all_of(Family::Set, partials) {
+        return Err(ResultError::Cause(Cause::Mixed));
+    }
+    let Some(base) = set_of(base_of(old, group)) else {
+        return Err(ResultError::Cause(Cause::Kind));
+    };
+    let sides = sides_of(alloc, partials)?;
+    if meet(&sides.added, &sides.removed) {
+        return Err(ResultError::Cause(Cause::Both));
+    }
+    if group.regular().is_some() && (!is_within(&sides.added, base) || meet(&sides.removed, base)) {
         return Err(ResultError::Cause(Cause::Against));
     }
-    Ok(value.copy(alloc)?)
+    Ok(sides)
 }
 
 /// The sides of a list that a join takes: its actions are of sets, and it adds nothing that it removes.
@@ -230,20 +309,45 @@ impl Aggregator for SetAgg {
         old: Option<&Value>,
         group: &Group,
     ) -> Result<Value, ResultError> {
-        let partials = group.partials();
-        if !are_all_of(Family::Set, partials) {
-            return Err(ResultError::Cause(Cause::Mixed));
+        let sides = admitted(alloc, old, group)?;
+        if let Some(value) = group.regular() {
+            return Ok(value.copy(alloc)?);
         }
-        let Some(base) = set_of(base_of(old, group)) else {
-            return Err(ResultError::Cause(Cause::Kind));
-        };
-        let sides = sides_of(alloc, partials)?;
-        if meet(&sides.added, &sides.removed) {
-            return Err(ResultError::Cause(Cause::Both));
+        match set_of(old) {
+            Some(base) => updated(alloc, base, &sides),
+            None => unreachable!(),
         }
-        match group.regular() {
-            None => updated(alloc, base, &sides),
-            Some(value) => confirmed(alloc, value, base, &sides),
+    }
+
+    fn admit(
+        &self,
+        alloc: Global,
+        old: Option<&Value>,
+        group: &Group,
+    ) -> Result<(), ResultError> {
+        match admitted(alloc, old, group) {
+            Ok(_) => Ok(()),
+            Err(error) => Err(error),
+        }
+    }
+
+    fn change(
+        &self,
+        alloc: Global,
+        value: &mut Value,
+        group: &Group,
+    ) -> Result<(), ResultError> {
+        let sides = admitted(alloc, Some(&*value), group)?;
+        if let Some(regular) = group.regular() {
+            *value = regular.copy(alloc)?;
+            return Ok(());
+        }
+        match value {
+            Value::Set(set) => {
+                change_set(alloc, set, &sides)?;
+                Ok(())
+            }
+            Value::Plain(_) | Value::Bag(_) => unreachable!(),
         }
     }
 

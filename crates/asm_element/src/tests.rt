@@ -215,17 +215,6 @@ fn clones_of_a_list_have_its_items(rt: HostRuntime) -> Result<(), Fail> {
 }
 
 #[test]
-fn clones_of_a_shared_list_share_its_items(rt: HostRuntime) -> Result<(), Fail> {
-    let alloc = rt.alloc();
-    let own = Items::new(numbers(alloc, &[1, 2])?);
-    assert!(rt; own.clone()?.as_slice().as_ptr() != own.as_slice().as_ptr());
-    let shared = Items::shared(alloc, numbers(alloc, &[1, 2])?)?;
-    let further = shared.clone()?.clone()?;
-    assert!(rt; further.as_slice().as_ptr() == shared.as_slice().as_ptr());
-    Ok(())
-}
-
-#[test]
 fn undef_alone_is_undef(rt: HostRuntime) -> Result<(), Fail> {
     let alloc = rt.alloc();
     assert!(rt; Value::Plain(Element::Undef).is_undef());

@@ -4,3 +4,4 @@ pub mod Room
 pub mod Stands
 pub mod Verdict
 pub mod View
+pub mod Change

@@ -1,5 +1,5 @@
 -- What becomes of a move after a list of moves.
-use Rattle.std.specs.Prelude.{◌≡◌, ℕ, Bool, List, map, filter, fold, Option, Some, None, Result, Ok, Err}
+use Rattle.std.specs.Prelude.{◌≡◌, ℕ, Bool, List, map, filter, fold, Option, Some, None, Result, Ok, Err, IsOk}
 use Rattle.std.specs.Prelude.{if◌then◌else◌}
 use Rattle.std.specs.Ordering.{is_lt}
 use Rattle.std.specs.declared.alloc.AllocError.{AllocError}
@@ -9,6 +9,8 @@ use Rattle.asm_update.specs.State.{State, val}
 use Rattle.asm_update.specs.Fire.{Part, aggregated, state_of}
 use Rattle.asm_state.specs.Stands.{is_stale}
 use Rattle.asm_state.specs.declared.named.Named.{Named}
+use Rattle.asm_state.specs.declared.verdict.Objection.{Objection}
+use Rattle.asm_state.specs.declared.verdict.Objection.TheVariants as objection
 use Rattle.asm_state.specs.declared.verdict.Verdict.{Verdict}
 use Rattle.asm_state.specs.declared.verdict.Verdict.TheVariants.{Stale, Clash, Ready}
 
@@ -37,3 +39,13 @@ IsVerdict part A q reads M (Ok (Clash c)) =
 IsVerdict part A q reads M (Ok (Ready U)) =
     (least_stale part A q reads ≡ None) × (aggregated part (val (state_of part A q)) M ≡ Ok U)
 IsVerdict part A q reads M (Err e) = Unit {0}
+
+-- what stands against a move after the moves: stale before a clash, and nothing where the move has an update set; a refusal
+-- of memory tells nothing
+abbrev pub IsObjection : Part → State → List Move → List Named → Move → Result (Option Objection) AllocError → Type 0
+IsObjection part A q reads M (Ok (Some (objection.Stale l))) = least_stale part A q reads ≡ Some l
+IsObjection part A q reads M (Ok (Some (objection.Clash c))) =
+    (least_stale part A q reads ≡ None) × (aggregated part (val (state_of part A q)) M ≡ Err c)
+IsObjection part A q reads M (Ok None) =
+    (least_stale part A q reads ≡ None) × IsOk (aggregated part (val (state_of part A q)) M)
+IsObjection part A q reads M (Err e) = Unit {0}

@@ -1,14 +1,17 @@
 //! What a state keeps of its locations, and how the updates of a move come in.
-ghost use Rattle.std.specs.Prelude.{◌≡◌, true, false, IfOk, OnOk, OnErr, is_some};
+ghost use Rattle.std.specs.Prelude.{◌≡◌, true, false, IfOk, IfErr, OnOk, OnErr, Some, Err, is_some};
+ghost use Rattle.asm_update.specs.Aggregator.{IsOutcome};
+ghost use Rattle.asm_state.specs.Change.{IsChanged};
+ghost use Rattle.asm_state.specs.declared.entries.Written.{Written};
 ghost use Rattle.std.specs.Option.{option_copied, option_map_or};
 ghost use Rattle.std.specs.FinMap as map;
 ghost use Rattle.asm_element.specs.Place.{Place};
-ghost use Rattle.asm_state.specs.View.{is_empty};
+ghost use Rattle.asm_state.specs.View.{is_empty, value_of};
 ghost use Rattle.asm_state.specs.Follow.{written_by, entry_after};
 ghost use Rattle.asm_state.specs.Room.{with_room, without_room, IsFull, MakesRoom, DropsRoom};
 
 use asm_element::{Location, Value};
-use asm_update::UpdateSet;
+use asm_update::{Aggregator, Group, ResultError, UpdateSet};
 use std::alloc::{AllocError, Global};
 use std::collections::BTreeMap;
 use std::collections::btree_map::Iter;
@@ -46,6 +49,41 @@ impl Written {
         ensures { result ≡ is_empty self.now }
     {
         self.value.is_none() && self.number == 0
+    }
+
+    /// Notes the move that wrote it last, and keeps no undef as a value.
+    fn settle(&mut self, number: u32)
+        ensures { self.new ≡ written_by number (value_of (Some self.old)) }
+    {
+        self.number = number;
+        let is_undef = match &self.value {
+            Some(value) => value.is_undef(),
+            None => true,
+        };
+        if is_undef {
+            self.value = None;
+        }
+    }
+
+    /// Changes it in place to what the group gives on it in the move with this number. After an error it is as it was.
+    fn change<A: Aggregator>(
+        &mut self,
+        alloc: Global,
+        aggregator: &A,
+        number: u32,
+        group: &Group,
+    ) -> Result<(), ResultError>
+        ensures ok { OnOk result (IsChanged (A.meaning aggregator.now).part (Some self.old) group.now number self.new) }
+        ensures cause { IfErr result (λ e. IsOutcome (Err e)
+            ((A.meaning aggregator.now).part (value_of (Some self.old)) group.now.regular group.now.partials)) }
+        ensures err { OnErr result (self.new ≡ self.old) }
+    {
+        match &mut self.value {
+            Some(value) => aggregator.change(alloc, value, group)?,
+            None => self.value = Some(aggregator.result(alloc, None, group)?),
+        }
+        self.settle(number);
+        Ok(())
     }
 
     fn copy(&self, alloc: Global) -> Result<Written, AllocError>
@@ -101,7 +139,7 @@ impl Entries {
         self.tree.get(at)
     }
 
-    fn contains(&self, at: &Location) -> bool
+    pub(crate) fn contains(&self, at: &Location) -> bool
         ensures { result ≡ is_some (map.get self.now at.now) }
     {
         self.get(at).is_some()
@@ -154,6 +192,28 @@ impl Entries {
         };
         self.put(at.copy(alloc)?, empty)?;
         Ok(())
+    }
+
+    /// Changes the entry at the location in place. After an error nothing is changed.
+    pub(crate) fn change_at<A: Aggregator>(
+        &mut self,
+        alloc: Global,
+        aggregator: &A,
+        at: &Location,
+        number: u32,
+        group: &Group,
+    ) -> Result<(), ResultError>
+        requires { is_some (map.get self.old at.now) ≡ true }
+        ensures ok { OnOk result ((w : Written) × (self.new ≡ map.insert self.old at.now w)
+            × IsChanged (A.meaning aggregator.now).part (map.get self.old at.now) group.now number w) }
+        ensures cause { IfErr result (λ e. IsOutcome (Err e)
+            ((A.meaning aggregator.now).part (value_of (map.get self.old at.now)) group.now.regular group.now.partials)) }
+        ensures err { OnErr result (self.new ≡ self.old) }
+    {
+        match self.tree.get_mut(at) {
+            Some(written) => written.change(alloc, aggregator, number, group),
+            None => unreachable!(),
+        }
     }
 
     /// Whether the entry at the location is empty.

@@ -2,13 +2,14 @@
 #![tactic(auto)]
 
 mod entries;
+mod in_place;
 mod named;
 mod state;
 mod verdict;
 
 pub use named::Named;
 pub use state::State;
-pub use verdict::Verdict;
+pub use verdict::{Objection, Verdict};
 
 #[cfg(test)]
 mod tests;

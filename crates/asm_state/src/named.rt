@@ -21,11 +21,19 @@ impl Named {
     /// The same named read, in memory of its own.
     ///
     /// `AllocError` comes only where memory was refused.
-    pub fn copy(&self, alloc: Global) -> Result<Named, AllocError>
+    pub fn copy(&self, _alloc: Global) -> Result<Named, AllocError>
         ensures { IfOk result (λ copy. copy ≡ self.now) }
     {
+        self.clone()
+    }
+}
+
+impl Clone for Named {
+    ghost is_clone = { λ named copy. copy ≡ named };
+
+    fn clone(&self) -> Result<Named, AllocError> {
         Ok(Named {
-            at: self.at.copy(alloc)?,
+            at: self.at.clone()?,
             number: self.number,
         })
     }

@@ -1,22 +1,24 @@
 ghost use Rattle.std.specs.Prelude.{◌≡◌, ◌+◌, ◌-◌, ◌<◌, ◌^◌, ◌++◌, ◌∷◌, [], List, false, nat_lt};
-ghost use Rattle.std.specs.Prelude.{IfOk, IfSome, OnOk, OnErr};
+ghost use Rattle.std.specs.Prelude.{◌≢◌, is_some, true, IfOk, IfSome, OnOk, OnErr};
 ghost use Rattle.std.specs.FinMap as map;
 ghost use Rattle.std.specs.Option.{option_copied};
 ghost use Rattle.asm_element.specs.Place.{Place};
 ghost use Rattle.asm_update.specs.Fire.{Part};
 ghost use Rattle.asm_update.specs.Move.{Move, comes_before};
 ghost use Rattle.asm_update.specs.State as plain;
+ghost use Rattle.asm_state.specs.Change.{changes_only};
 ghost use Rattle.asm_state.specs.View.{value_at, writer_at, holds_undef};
 ghost use Rattle.asm_state.specs.Follow.{entry_after, IsFollowed};
 ghost use Rattle.asm_state.specs.Stands.{Stands, IsLastWriter};
-ghost use Rattle.asm_state.specs.Verdict.{IsVerdict, least_named};
+ghost use Rattle.asm_state.specs.Verdict.{IsObjection, IsVerdict, least_named};
 
 use crate::entries::{Entries, Written};
+use crate::in_place::{group_of, only_place};
 use crate::named::Named;
-use crate::verdict::Verdict;
-use asm_aggregate::aggregate;
+use crate::verdict::{Objection, Verdict};
+use asm_aggregate::{admit, aggregate};
 use asm_element::{Location, Value};
-use asm_update::{AggError, Aggregator, Instructions, Lookup, PlainState, UpdateSet};
+use asm_update::{AggError, Aggregator, Instructions, Lookup, PlainState, ResultError, UpdateSet};
 use std::alloc::{AllocError, Global};
 use std::marker::Model;
 
@@ -162,6 +164,31 @@ impl State {
         }
     }
 
+    /// What stands against a move: the least named location that is stale, else the move's clash; None where
+    /// it fires.
+    ///
+    /// It answers as `judge` does, and makes no update set. `AllocError` comes only where memory was refused.
+    pub fn objection<A: Aggregator>(
+        &self,
+        alloc: Global,
+        aggregator: &A,
+        reads: &[Named],
+        instructions: &Instructions,
+    ) -> Result<Option<Objection>, AllocError>
+        ensures { (init : plain.State) (q : List Move) → Stands (A.meaning aggregator.now).part init self.now q →
+            IsObjection (A.meaning aggregator.now).part init q reads.now instructions.now result }
+    {
+        match self.least_stale(reads) {
+            Some(at) => return Ok(Some(Objection::Stale(at.copy(alloc)?))),
+            None => {}
+        }
+        match admit(alloc, aggregator, self, instructions) {
+            Ok(()) => Ok(None),
+            Err(AggError::Clash(clash)) => Ok(Some(Objection::Clash(clash))),
+            Err(AggError::Memory) => Err(AllocError),
+        }
+    }
+
     /// Follows a move: the number grows by one, and the move is fired if it doesn't clash; else no
     /// location changes.
     ///
@@ -181,6 +208,72 @@ impl State {
         ensures followed { OnOk result (
             IsFollowed (A.meaning aggregator.now).part self.old instructions.now self.new) }
         ensures number { OnOk result (self.new.number ≡ self.old.number + 1) }
+        ensures err { OnErr result (self.new ≡ self.old) }
+    {
+        match self.place_in(instructions) {
+            Some(at) => self.follow_at(alloc, aggregator, at, instructions),
+            None => self.follow_all(alloc, aggregator, instructions),
+        }
+    }
+
+    // The location that the move changes alone, if it has an entry.
+    fn place_in<'a>(&self, instructions: &'a Instructions) -> Option<&'a Location>
+        ensures some { IfSome result (λ l. instructions.now ≢ []) }
+        ensures only { IfSome result (λ l. changes_only l.now instructions.now ≡ true) }
+        ensures there { IfSome result (λ l. is_some (map.get self.now.entries l.now) ≡ true) }
+    {
+        let at = only_place(instructions.as_slice())?;
+        if self.entries.contains(at) {
+            Some(at)
+        } else {
+            None
+        }
+    }
+
+    // Follows a move that changes one location alone, whose entry is changed in place.
+    fn follow_at<A: Aggregator>(
+        &mut self,
+        alloc: Global,
+        aggregator: &A,
+        at: &Location,
+        instructions: &Instructions,
+    ) -> Result<(), AllocError>
+        requires number { self.old.number < 4294967295 }
+        requires some { instructions.now ≢ [] }
+        requires only { changes_only at.now instructions.now ≡ true }
+        requires there { is_some (map.get self.old.entries at.now) ≡ true }
+        ensures followed { OnOk result (
+            IsFollowed (A.meaning aggregator.now).part self.old instructions.now self.new) }
+        ensures err { OnErr result (self.new ≡ self.old) }
+    {
+        let number = self.number + 1;
+        let group = group_of(alloc, at, instructions.as_slice())?;
+        match self
+            .entries
+            .change_at(alloc, aggregator, at, number, &group)
+        {
+            Ok(()) => {
+                self.number = number;
+                Ok(())
+            }
+            Err(ResultError::Cause(_)) => {
+                self.count(number);
+                Ok(())
+            }
+            Err(ResultError::Memory) => Err(AllocError),
+        }
+    }
+
+    // Follows a move by its update set.
+    fn follow_all<A: Aggregator>(
+        &mut self,
+        alloc: Global,
+        aggregator: &A,
+        instructions: &Instructions,
+    ) -> Result<(), AllocError>
+        requires { self.old.number < 4294967295 }
+        ensures followed { OnOk result (
+            IsFollowed (A.meaning aggregator.now).part self.old instructions.now self.new) }
         ensures err { OnErr result (self.new ≡ self.old) }
     {
         let number = self.number + 1;

@@ -11,3 +11,12 @@ pub enum Verdict {
     /// The move fires: its update set.
     Ready(UpdateSet),
 }
+
+/// What stands against a move on a state.
+#[derive(Debug, Drop, PartialEq, Eq)]
+pub enum Objection {
+    /// A named read is stale: the least location that was written since it was read.
+    Stale(Location),
+    /// The move clashes: the least location whose updates have no result, with the cause.
+    Clash(Clash),
+}

@@ -171,7 +171,8 @@ impl Instructions {
         self.clone()
     }
 
-    pub(crate) fn as_slice(&self) -> &[Instruction]
+    /// The instructions, from the first to the last.
+    pub fn as_slice(&self) -> &[Instruction]
         ensures { result.now ≡ self.now }
     {
         match &self.items {

@@ -241,11 +241,6 @@ fn copies_are_equal(rt: HostRuntime) -> Result<(), Fail> {
     Ok(())
 }
 
-/// Whether both lists lie in the same memory.
-fn lie_together(one: &Instructions, other: &Instructions) -> bool {
-    one.as_slice().as_ptr() == other.as_slice().as_ptr()
-}
-
 /// Whether the list puts 0, 1 and so on.
 fn counts_up(list: &Instructions) -> bool {
     for i in 0..list.len() {
@@ -255,21 +250,6 @@ fn counts_up(list: &Instructions) -> bool {
         }
     }
     true
-}
-
-#[test]
-fn copies_share_their_instructions_until_one_grows(rt: HostRuntime) -> Result<(), Fail> {
-    let alloc = rt.alloc();
-    let mut list = list_of(
-        alloc,
-        &[("x", Update::Put(Some(1))), ("y", Update::SetAdd(2))],
-    )?;
-    let copy = list.copy(alloc)?;
-    let further = copy.clone()?;
-    assert!(rt; lie_together(&list, &copy) && lie_together(&copy, &further));
-    push(alloc, &mut list, "z", Update::Put(None))?;
-    assert!(rt; !lie_together(&list, &copy) && lie_together(&copy, &further));
-    Ok(())
 }
 
 #[test]

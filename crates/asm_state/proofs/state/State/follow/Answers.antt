@@ -1,33 +1,19 @@
-use Rattle.std.proofs.Common.{◌≡◌, ◌+◌, Err, ap, ◌∙◌, subst}
-use Rattle.asm_update.specs.declared.clash.AggError.{AggError}
-use Rattle.asm_aggregate.specs.Bundle.{IsAggregate}
-use Rattle.std.specs.FinMap as map
-use Rattle.asm_element.specs.Place.{Place}
-use Rattle.asm_state.specs.Follow.{entry_after}
-use Rattle.asm_state.specs.View.{StateView, value_at}
-use Rattle.asm_state.proofs.Followed.{stands_more, followed_fired, followed_clashed}
+use Rattle.std.proofs.lemmas.Result.{on_ok_weaker}
+use Rattle.asm_state.proofs.Followed.{stands_more}
 use Rattle.asm_state.proofs.state.State.follow.Goals as goal
 
-pub returns-in-Ok-clause-followed : goal.returns-in-Ok-clause-followed
-returns-in-Ok-clause-followed g c =
-    let part = (g.A.Aggregator.meaning c.args.aggregator.now).part in
-    let old = c.args.self.now in
-    let number = ap (λ (s : StateView). s.number + 1) c.self.view_is in
-    followed_fired part old c.write_all.new.self c.args.instructions.now c.in-Ok.updates c.in-Ok.ensures (c.in_ok-write_all-in-Ok.ensures.number ∙ number)
-    (subst (λ n. (l : Place) → map.get c.write_all.new.self.entries l ≡ entry_after n (map.get c.in-Ok.updates l) (map.get old.entries l)) number c.in_ok-write_all-in-Ok.ensures.written)
+pub returns-in-Some-clause-ok : goal.returns-in-Some-clause-ok
+returns-in-Some-clause-ok g c =
+    on_ok_weaker c.follow_at.result
+    (λ followed init q stands.
+    stands_more (g.A.Aggregator.meaning c.args.aggregator.now).part init q c.args.self.now c.follow_at.new.self
+    c.args.instructions.now stands followed)
+    c.follow_at.ensures.followed
 
-pub returns-in-Ok-clause-ok : goal.returns-in-Ok-clause-ok
-returns-in-Ok-clause-ok g c = λ init q stands.
-    stands_more (g.A.Aggregator.meaning c.args.aggregator.now).part init q c.args.self.now c.write_all.new.self c.args.instructions.now stands (returns-in-Ok-clause-followed g c)
-
-pub returns-in-Err-Clash-clause-followed : goal.returns-in-Err-Clash-clause-followed
-returns-in-Err-Clash-clause-followed g c =
-    let part = (g.A.Aggregator.meaning c.args.aggregator.now).part in
-    let old = c.args.self.now in
-    let number = ap (λ (s : StateView). s.number + 1) c.self.view_is in
-    let is = subst (λ (e : AggError). IsAggregate part (value_at old) c.args.instructions.now (Err e)) c.in-Err-Clash.field-0-is c.in-Err-Clash.ensures in
-    followed_clashed part old c.count.new.self c.args.instructions.now c.in-Err-Clash.field-0-0 is (ap (λ (s : StateView). s.number) c.count.ensures ∙ number) (ap (λ (s : StateView). s.entries) c.count.ensures)
-
-pub returns-in-Err-Clash-clause-ok : goal.returns-in-Err-Clash-clause-ok
-returns-in-Err-Clash-clause-ok g c = λ init q stands.
-    stands_more (g.A.Aggregator.meaning c.args.aggregator.now).part init q c.args.self.now c.count.new.self c.args.instructions.now stands (returns-in-Err-Clash-clause-followed g c)
+pub returns-in-None-clause-ok : goal.returns-in-None-clause-ok
+returns-in-None-clause-ok g c =
+    on_ok_weaker c.follow_all.result
+    (λ followed init q stands.
+    stands_more (g.A.Aggregator.meaning c.args.aggregator.now).part init q c.args.self.now c.follow_all.new.self
+    c.args.instructions.now stands followed)
+    c.follow_all.ensures.followed

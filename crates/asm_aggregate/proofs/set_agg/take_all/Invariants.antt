@@ -1,5 +1,5 @@
 use Rattle.asm_aggregate.proofs.SetSteps.{AlikeWithout}
-use Rattle.asm_aggregate.proofs.set_agg.without.Given as goal
+use Rattle.asm_aggregate.proofs.set_agg.take_all.Given as goal
 
 -- without the elements that are left, the set is the first one without all of them
 abbrev pub invariant-loop-element : goal.invariant-loop-element

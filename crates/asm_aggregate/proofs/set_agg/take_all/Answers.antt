@@ -2,7 +2,7 @@ use Rattle.std.proofs.Common.{◌∙◌}
 use Rattle.std.specs.Map.Iter.{deref}
 use Rattle.std.proofs.lemmas.Map.Iter.{rest_all, rest_more}
 use Rattle.asm_aggregate.proofs.SetSteps.{without_more, without_all}
-use Rattle.asm_aggregate.proofs.set_agg.without.Goals as goal
+use Rattle.asm_aggregate.proofs.set_agg.take_all.Goals as goal
 
 pub loop-element-preserved : goal.loop-element-preserved
 loop-element-preserved c =

@@ -1,0 +1,53 @@
+ghost use Rattle.asm_update.specs.Aggregator.{IsAdmitted};
+ghost use Rattle.asm_aggregate.specs.Bundle.{IsWritten, IsAdmission, bundle_result};
+
+use crate::aggregation::clash_at;
+use crate::groups::{Bundle, Groups};
+use asm_element::Location;
+use asm_update::{AggError, Aggregator, Cause, Instructions, Lookup, ResultError};
+use std::alloc::Global;
+
+/// Whether what a move does at one location has a result; only where there are partial updates is the
+/// lookup asked.
+fn admit_at<A: Aggregator, L: Lookup>(
+    alloc: Global,
+    aggregator: &A,
+    lookup: &L,
+    at: &Location,
+    bundle: Bundle<'_>,
+) -> Result<(), ResultError>
+    requires { IsWritten bundle }
+    ensures { IsAdmitted result
+        (bundle_result (A.meaning aggregator.now).part (L.value_at lookup.now at.now) bundle.entry) }
+{
+    if bundle.differs() {
+        return Err(ResultError::Cause(Cause::Two));
+    }
+    if bundle.partials().is_empty() {
+        let _regular = bundle.regular();
+        return Ok(());
+    }
+    bundle.admit_by(alloc, aggregator, lookup.get(at))
+}
+
+/// Whether a move has an update set: `aggregate` would answer it, or the same clash.
+///
+/// No value is made for it, so it costs less than `aggregate`. `Memory` comes only where memory was
+/// refused. The lookup is asked for the old values of locations with partial updates alone, once each, in
+/// ascending order, and for none above a clash.
+pub fn admit<A: Aggregator, L: Lookup>(
+    alloc: Global,
+    aggregator: &A,
+    lookup: &L,
+    instructions: &Instructions,
+) -> Result<(), AggError>
+    ensures { IsAdmission (A.meaning aggregator.now).part (L.value_at lookup.now) instructions.now result }
+{
+    for (at, bundle) in Groups::of(alloc, instructions)?.into_entries() {
+        match admit_at(alloc, aggregator, lookup, at, bundle) {
+            Ok(()) => {}
+            Err(error) => return Err(clash_at(alloc, at, error)),
+        }
+    }
+    Ok(())
+}

@@ -1,0 +1,22 @@
+-- An entry that a group changed, and moves that change one location alone.
+use Rattle.std.specs.Prelude.{◌≡◌, ◌&&◌, ℕ, Bool, Option, Ok}
+use Rattle.std.specs.List.{list_all}
+use Rattle.std.specs.Ordering.{eq_by_cmp}
+use Rattle.asm_element.specs.Place.{Place, location_cmp}
+use Rattle.asm_element.specs.declared.value.Value.{Value}
+use Rattle.asm_update.specs.Action.{is_partial}
+use Rattle.asm_update.specs.Fire.{Part}
+use Rattle.asm_update.specs.Group.{Parts}
+use Rattle.asm_update.specs.Move.{Move}
+use Rattle.asm_state.specs.declared.entries.Written.{Written}
+use Rattle.asm_state.specs.Follow.{written_by}
+use Rattle.asm_state.specs.View.{value_of}
+
+-- the new entry has what the group gives on the old one, written by the move with this number
+abbrev pub IsChanged : Part → Option Written → Parts → ℕ → Written → Type 0
+IsChanged part old group n new =
+    (v : Value) × (part (value_of old) group.regular group.partials ≡ Ok v) × (new ≡ written_by n v)
+
+-- whether the instructions are partial updates of this location
+abbrev pub changes_only : Place → Move → Bool
+changes_only l M = list_all (λ i. eq_by_cmp location_cmp i.at l && is_partial i.action) M

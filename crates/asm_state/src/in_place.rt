@@ -1,0 +1,57 @@
+//! Moves that change one location alone, and so can change its value in place.
+ghost use Rattle.std.specs.Prelude.{◌≡◌, ◌≢◌, ◌&&◌, [], None, true, map, IfOk, IfSome};
+ghost use Rattle.std.specs.Ordering.{eq_by_cmp};
+ghost use Rattle.asm_element.specs.Place.{location_cmp};
+ghost use Rattle.asm_update.specs.Action.{is_partial};
+ghost use Rattle.asm_state.specs.Change.{changes_only};
+
+use asm_element::Location;
+use asm_update::{Group, Instruction};
+use std::alloc::{AllocError, Global};
+
+fn is_change_at(at: &Location, instruction: &Instruction) -> bool
+    ensures { result ≡ (eq_by_cmp location_cmp instruction.now.at at.now && is_partial instruction.now.action) }
+{
+    instruction.at == *at && instruction.action.family().is_some()
+}
+
+fn are_changes_at(at: &Location, instructions: &[Instruction]) -> bool
+    ensures { result ≡ changes_only at.now instructions.now }
+{
+    instructions
+        .iter()
+        .all(|instruction| is_change_at(at, instruction))
+}
+
+/// The location at which all instructions are, if they are partial updates and there is one.
+pub(crate) fn only_place(instructions: &[Instruction]) -> Option<&Location>
+    ensures some { IfSome result (λ l. instructions.now ≢ []) }
+    ensures only { IfSome result (λ l. changes_only l.now instructions.now ≡ true) }
+{
+    let first = instructions.first()?;
+    let at = &first.at;
+    if are_changes_at(at, instructions) {
+        Some(at)
+    } else {
+        None
+    }
+}
+
+/// The group of the instructions' partial updates.
+pub(crate) fn group_of(
+    alloc: Global,
+    at: &Location,
+    instructions: &[Instruction],
+) -> Result<Group, AllocError>
+    requires some { instructions.now ≢ [] }
+    requires only { changes_only at.now instructions.now ≡ true }
+    ensures { IfOk result (λ g.
+        g ≡ record { regular = None; partials = map (λ i. i.action) instructions.now }) }
+{
+    let _ = at;
+    let mut partials = Vec::with_capacity(alloc, instructions.len())?;
+    for instruction in instructions {
+        partials.push(instruction.action.clone()?)?;
+    }
+    Ok(Group::new(None, partials))
+}
