@@ -1,6 +1,6 @@
 -- A walk of the locations of two moves in ascending order, which composes one location more at a time.
 use Rattle.std.proofs.Common.{◌≡◌, ◌≢◌, Bool, true, false, cond, ◌&&◌, T, List, [], ◌∷◌, ◌++◌, map, refl, sym, ap}
-use Rattle.std.proofs.Common.{subst, ◌∙◌, unwrap_or, append_assoc, append-nil, All, ◌+◌, ◌≤◌}
+use Rattle.std.proofs.Common.{subst, ◌∙◌, unwrap_or, append_assoc, append-nil, All, ◌≤◌}
 use Rattle.std.proofs.Common.{length}
 use Rattle.std.specs.Prelude.{Result, Ok, Err, None, Some, is_some, filter}
 use Rattle.std.specs.Ordering.{eq_by_cmp, is_lt}

@@ -216,6 +216,7 @@ rest_step s n other left rest all x is new had = record {
 } where
   others : (e : Element) → eq_by_cmp element_cmp e x ≡ true → contains other e ≡ contains other x
   others e h = ap (contains other) (same_element e x h)
+
   at : (e : Element) (b : Bool) → contains other x ≡ b →
       (contains (with_element s (if b then None else Some x)) e
       || (list_any (eq_by_cmp element_cmp e) rest && not (contains other e)))

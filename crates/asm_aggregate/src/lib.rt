@@ -21,6 +21,8 @@ pub use pair::{Pair, standard};
 pub use set_agg::SetAgg;
 
 #[cfg(test)]
+mod admission_tests;
+#[cfg(test)]
 mod bag_tests;
 #[cfg(test)]
 mod compose_tests;

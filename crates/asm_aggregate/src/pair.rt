@@ -100,12 +100,7 @@ impl<A: Aggregator, B: Aggregator> Aggregator for Pair<A, B> {
         }
     }
 
-    fn admit(
-        &self,
-        alloc: Global,
-        old: Option<&Value>,
-        group: &Group,
-    ) -> Result<(), ResultError> {
+    fn admit(&self, alloc: Global, old: Option<&Value>, group: &Group) -> Result<(), ResultError> {
         let Some(family) = common_family(group.partials()) else {
             return Err(ResultError::Cause(Cause::Mixed));
         };
@@ -118,12 +113,7 @@ impl<A: Aggregator, B: Aggregator> Aggregator for Pair<A, B> {
         }
     }
 
-    fn change(
-        &self,
-        alloc: Global,
-        value: &mut Value,
-        group: &Group,
-    ) -> Result<(), ResultError> {
+    fn change(&self, alloc: Global, value: &mut Value, group: &Group) -> Result<(), ResultError> {
         let Some(family) = common_family(group.partials()) else {
             return Err(ResultError::Cause(Cause::Mixed));
         };

@@ -319,24 +319,14 @@ impl Aggregator for SetAgg {
         }
     }
 
-    fn admit(
-        &self,
-        alloc: Global,
-        old: Option<&Value>,
-        group: &Group,
-    ) -> Result<(), ResultError> {
+    fn admit(&self, alloc: Global, old: Option<&Value>, group: &Group) -> Result<(), ResultError> {
         match admitted(alloc, old, group) {
             Ok(_) => Ok(()),
             Err(error) => Err(error),
         }
     }
 
-    fn change(
-        &self,
-        alloc: Global,
-        value: &mut Value,
-        group: &Group,
-    ) -> Result<(), ResultError> {
+    fn change(&self, alloc: Global, value: &mut Value, group: &Group) -> Result<(), ResultError> {
         let sides = admitted(alloc, Some(&*value), group)?;
         if let Some(regular) = group.regular() {
             *value = regular.copy(alloc)?;

@@ -4,6 +4,7 @@ ghost use Rattle.asm_update.specs.Action.{is_partial};
 ghost use Rattle.asm_aggregate.specs.Nobody.{nobody_meaning};
 ghost use Rattle.asm_aggregate.specs.laws.NobodyLaws.{nobody_laws};
 
+use crate::admission_tests::{admits, changes};
 use crate::*;
 use asm_element::{ElemBag, ElemSet, ElemText, Element, Location, Value};
 use asm_update::{
@@ -142,7 +143,7 @@ pub(crate) fn do_at(
     push_at(alloc, list, name, action_of(alloc, action)?)
 }
 
-fn move_of(alloc: Global, puts: &[Old], partials: &[Act]) -> Result<Instructions, Fail> {
+pub(crate) fn move_of(alloc: Global, puts: &[Old], partials: &[Act]) -> Result<Instructions, Fail> {
     let mut list = Instructions::new(alloc);
     for put in puts {
         put_at(alloc, &mut list, "x", *put)?;
@@ -243,7 +244,7 @@ fn group_of(regular: Option<Value>, partials: Vec<Action>) -> Option<Group> {
     Some(Group::new(regular, partials))
 }
 
-fn is_value(alloc: Global, value: &Value, want: Result<Old, Cause>) -> Result<bool, Fail> {
+pub(crate) fn is_value(alloc: Global, value: &Value, want: Result<Old, Cause>) -> Result<bool, Fail> {
     match want {
         Ok(old) => Ok(*value == value_of(alloc, old)?),
         Err(_) => Ok(false),
@@ -277,7 +278,7 @@ fn result_by<A: Aggregator>(
     aggregator.result(alloc, known, &group)
 }
 
-fn group_in(alloc: Global, row: Row) -> Result<Option<Group>, Fail> {
+pub(crate) fn group_in(alloc: Global, row: Row) -> Result<Option<Group>, Fail> {
     let regular = put_of(alloc, row.1)?;
     let partials = actions_of(alloc, row.2)?;
     Ok(group_of(regular, partials))
@@ -291,11 +292,15 @@ fn results<A: Aggregator>(alloc: Global, aggregator: &A, row: Row) -> Result<boo
     }
 }
 
-/// Whether the aggregator makes of the row what it tells, by `aggregate` and, for a group with partial updates and at
-/// most one put, by `result`.
+/// Whether the aggregator makes of the row what it tells, by `aggregate` and `admit` and, for a group with partial
+/// updates and at most one put, by `result` and `change`.
 fn judges<A: Aggregator>(alloc: Global, aggregator: &A, row: Row) -> Result<bool, Fail> {
     let is_group = row.1.len() <= 1 && !row.2.is_empty();
-    Ok(aggregates(alloc, aggregator, row)? && (!is_group || results(alloc, aggregator, row)?))
+    let is_told = aggregates(alloc, aggregator, row)? && admits(alloc, aggregator, row)?;
+    if !is_group {
+        return Ok(is_told);
+    }
+    Ok(is_told && results(alloc, aggregator, row)? && changes(alloc, aggregator, row)?)
 }
 
 pub(crate) fn judge_all<R: Abort, A: Aggregator>(

@@ -7,7 +7,7 @@ use denote.Ref.{NamedLft}
 use denote.Struct.Field.{row_field, shr_ref_field, u32-field}
 use Rattle.std.proofs.Crossing.{Vec-send, Vec-sync}
 use Rattle.asm_element.proofs.items.Items.TheSendSync as items
-use Rattle.asm_element.proofs.Crossing.{location_is_sent, value_is_sent}
+use Rattle.asm_element.proofs.Crossing.{location_is_sent, location_is_shared, value_is_sent, value_is_shared}
 use Rattle.asm_element.specs.contracts.items.Items as Items
 use Rattle.asm_element.specs.contracts.location.Location as Location
 use Rattle.asm_element.specs.contracts.value.Value as Value
@@ -17,7 +17,7 @@ use Rattle.asm_row.proofs.mark.Mark.TheSendSync as mark
 use Rattle.asm_row.specs.contracts.row.Row as Row
 use Rattle.asm_row.specs.contracts.progress.Progress as Progress
 use Rattle.asm_row.specs.contracts.mark.Mark as Mark
-use Rattle.asm_state.proofs.Crossing.{named_is_sent}
+use Rattle.asm_state.proofs.Crossing.{named_is_sent, named_is_shared}
 use Rattle.asm_state.proofs.Crossing as states
 use Rattle.asm_state.specs.contracts.named.Named as Named
 use Rattle.asm_update.proofs.Crossing.{instructions_is_sent, instructions_is_shared, state_is_shared}
@@ -40,13 +40,13 @@ entry_is_shared : IsSync Entry.the_row
 entry_is_shared = search (sendable, instructions_is_shared) depth 20
 
 places_are_sent : IsSend (Items.the_row Location.the_row)
-places_are_sent = items.the_send Location.the_row location_is_sent
+places_are_sent = items.the_send Location.the_row location_is_sent location_is_shared
 
 reads_are_sent : IsSend (Items.the_row Named.the_row)
-reads_are_sent = items.the_send Named.the_row named_is_sent
+reads_are_sent = items.the_send Named.the_row named_is_sent named_is_shared
 
 values_are_sent : IsSend (Items.the_row Value.the_row)
-values_are_sent = items.the_send Value.the_row value_is_sent
+values_are_sent = items.the_send Value.the_row value_is_sent value_is_shared
 
 call_is_sent : IsSend Call.the_row
 call_is_sent = search (sendable, places_are_sent, reads_are_sent, instructions_is_sent) depth 20

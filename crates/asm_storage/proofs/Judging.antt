@@ -6,7 +6,7 @@ use Rattle.std.proofs.lemmas.Bool.Decides.{nat_tests}
 use Rattle.std.specs.declared.alloc.AllocError.{AllocError}
 use Rattle.asm_update.specs.Move.{Move}
 use Rattle.asm_update.specs.State.{State, Updates, val}
-use Rattle.asm_update.specs.Fire.{Part, fire, aggregated, overwritten}
+use Rattle.asm_update.specs.Fire.{Part, fire, aggregated, overwritten, state_of}
 use Rattle.asm_update.specs.declared.clash.Clash.{Clash}
 use Rattle.asm_state.specs.declared.named.Named.{Named}
 use Rattle.asm_state.specs.Verdict.{least_stale}
@@ -20,8 +20,22 @@ use Rattle.asm_storage.specs.Machine.{Machine, firing_reply, fire_reply, taken_r
 use Rattle.asm_storage.specs.Agents.{moves_seen}
 use Rattle.asm_storage.specs.Part.{IsReplyAt, IsJudged}
 
-pub fires : (part : Part) (A : State) (M : Move) (U : Updates) → aggregated part (val A) M ≡ Ok U → IsOk (fire part A M)
-fires part A M U e = subst (λ (r : Result State Clash). IsOk r) (sym (ap (overwritten A) e)) refl
+-- a move that has an update set fires
+pub fires : (part : Part) (A : State) (M : Move) → IsOk (aggregated part (val A) M) → IsOk (fire part A M)
+fires part A M ok = by_answer (aggregated part (val A) M) ok where
+  by_answer : (r : Result Updates Clash) → IsOk r → IsOk (overwritten A r)
+  by_answer (Ok U) h = refl
+  by_answer (Err c) h = absurd (cc h)
+
+-- what fires is answered by the room that the row has
+pub full_or_none : (part : Part) (A : State) (q : List Move) (full : Bool) (reads : List Named) (M : Move)
+    (o : Option Reply) → o ≡ cond full (Some reply.Full) None → least_stale part A q reads ≡ None →
+    IsOk (fire part (state_of part A q) M) → IsReplyAt part A q full reads M o
+full_or_none part A q full reads M o is none ok =
+    subst (IsReplyAt part A q full reads M) (sym is) (by_room full) where
+  by_room : (full : Bool) → IsReplyAt part A q full reads M (cond full (Some reply.Full) None)
+  by_room true = (none, ok, refl)
+  by_room false = (none, ok, refl)
 
 pub clashes : (part : Part) (A : State) (M : Move) (c : Clash) → aggregated part (val A) M ≡ Err c → fire part A M ≡ Err c
 clashes part A M c e = ap (overwritten A) e

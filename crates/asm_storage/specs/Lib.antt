@@ -3,6 +3,7 @@ pub mod Calls
 pub mod History
 pub mod Machine
 pub mod Part
+pub mod Plain
 pub mod Proper
 pub mod Slip
 pub mod Storage

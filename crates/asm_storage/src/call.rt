@@ -1,6 +1,6 @@
 ghost use Rattle.std.specs.Prelude.{◌≡◌, IfOk};
 
-use crate::copying::{copied_named, copied_places, copied_values};
+use crate::copying::same_list;
 use asm_element::{Items, Location, Value};
 use asm_state::Named;
 use asm_update::{Clash, Instructions};
@@ -55,9 +55,9 @@ impl Call {
         ensures { IfOk result (λ c. c ≡ self.now) }
     {
         match self {
-            Call::Read(places) => Ok(Call::Read(copied_places(alloc, places.as_slice())?)),
+            Call::Read(places) => Ok(Call::Read(same_list(places)?)),
             Call::Fire { reads, instrs } => Ok(Call::Fire {
-                reads: copied_named(alloc, reads.as_slice())?,
+                reads: same_list(reads)?,
                 instrs: instrs.copy(alloc)?,
             }),
         }
@@ -87,7 +87,7 @@ impl Answer {
         match self {
             Answer::Read { number, values } => Ok(Answer::Read {
                 number: *number,
-                values: copied_values(alloc, values.as_slice())?,
+                values: same_list(values)?,
             }),
             Answer::Fire(reply) => Ok(Answer::Fire(reply.copy(alloc)?)),
         }

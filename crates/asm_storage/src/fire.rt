@@ -1,8 +1,10 @@
 ghost use Rattle.std.specs.Prelude.{◌≡◌, ◌≢◌, ◌+◌, ◌<◌, ℕ, List, length, IfOk, IfErr, OnOk, OnErr, Some, None, Err};
-ghost use Rattle.std.specs.Prelude.{IfSome, IfNone};
+ghost use Rattle.std.specs.Prelude.{IfSome, IfNone, true, false, if◌then◌else◌};
 ghost use Rattle.std.specs.Bool.{OnTrue, OnFalse};
 ghost use mathlib.Core.List.{IsPrefix};
+ghost use Rattle.asm_update.specs.Fire.{Part};
 ghost use Rattle.asm_update.specs.Move.{Move};
+ghost use Rattle.asm_storage.specs.Plain.{is_plain};
 ghost use Rattle.asm_update.specs.State as plain;
 ghost use Rattle.asm_state.specs.Stands.{Stands};
 ghost use Rattle.asm_storage.specs.declared.call.Answer.TheVariants as answer;
@@ -10,7 +12,7 @@ ghost use Rattle.asm_storage.specs.declared.call.Call.TheVariants as call;
 ghost use Rattle.asm_storage.specs.declared.call.Reply.TheVariants as reply;
 ghost use Rattle.asm_storage.specs.declared.error.FireError.TheVariants as fire_error;
 ghost use Rattle.asm_storage.specs.History.{fired_move};
-ghost use Rattle.asm_storage.specs.Storage.{machine_of, has_fired, with_receipt, IsReplyOf, Missed};
+ghost use Rattle.asm_storage.specs.Storage.{machine_of, has_fired, with_receipt, last_look, IsReplyOf, Missed};
 ghost use Rattle.asm_storage.specs.Calls.{receipt_at, HasOffered, IsAnswered, IsBusy, IsCoherentReply, MadeOffers, Ran};
 ghost use Rattle.asm_storage.specs.Part.{agent_of, HasFired, IsJudged, IsLost, IsPartOf, IsReplyAt, IsTurn, LooksOn};
 ghost use Rattle.asm_storage.specs.Part.{offers_in, misses_in};
@@ -22,8 +24,8 @@ use crate::part::AgentPart;
 use crate::receipt::{Entry, Receipt};
 use crate::storage::Storage;
 use asm_row::Offer;
-use asm_state::{Named, State, Verdict};
-use asm_update::{Aggregator, Instructions};
+use asm_state::{Named, Objection, State};
+use asm_update::{Aggregator, Cause, Clash, Instructions, consistent};
 use std::alloc::{AllocError, Global};
 
 // A call to fire, in memory of its own.
@@ -36,7 +38,14 @@ fn fire_call(alloc: Global, reads: &[Named], instrs: &Instructions) -> Result<Ca
     })
 }
 
-// What a verdict answers, on a row that is full or not.
+// What is answered to a move against which nothing stands.
+fn full_or_none(is_full: bool) -> Option<Reply>
+    ensures { result ≡ if is_full then Some reply.Full else None }
+{
+    if is_full { Some(Reply::Full) } else { None }
+}
+
+// What a state answers, on a row that is full or not.
 fn judged<A: Aggregator>(
     alloc: Global,
     aggregator: &A,
@@ -48,20 +57,67 @@ fn judged<A: Aggregator>(
     ensures { (init : plain.State) (q : List Move) → Stands (A.meaning aggregator.now).part init state.now q →
         IfOk result (IsReplyAt (A.meaning aggregator.now).part init q is_full reads.now instrs.now) }
 {
-    match state.judge(alloc, aggregator, reads, instrs)? {
-        Verdict::Stale(at) => Ok(Some(Reply::Stale(at))),
-        Verdict::Clash(clash) => Ok(Some(Reply::Clash(clash))),
-        Verdict::Ready(_) => {
-            if is_full {
-                Ok(Some(Reply::Full))
-            } else {
-                Ok(None)
-            }
-        }
+    match state.objection(alloc, aggregator, reads, instrs)? {
+        Some(Objection::Stale(at)) => Ok(Some(Reply::Stale(at))),
+        Some(Objection::Clash(clash)) => Ok(Some(Reply::Clash(clash))),
+        None => Ok(full_or_none(is_full)),
+    }
+}
+
+// Whether a move rests on no read and no old value, so that it is judged alike on every state. A wide one is
+// judged on a state all the same, which costs less than `consistent` does.
+pub(crate) fn is_plain(reads: &[Named], instrs: &Instructions) -> bool
+    ensures { result ≡ is_plain reads.now instrs.now }
+{
+    match reads.first() {
+        Some(_) => false,
+        None => instrs.len() < 17 && instrs.all_regular(),
+    }
+}
+
+// What is answered to such a move, on a row that is full or not; no state is asked.
+fn judged_plain(
+    alloc: Global,
+    is_full: bool,
+    reads: &[Named],
+    instrs: &Instructions,
+) -> Result<Option<Reply>, AllocError>
+    requires { is_plain reads.now instrs.now ≡ true }
+    ensures { (part : Part) (init : plain.State) (q : List Move) →
+        IfOk result (IsReplyAt part init q is_full reads.now instrs.now) }
+{
+    match consistent(instrs) {
+        Some(at) => Ok(Some(Reply::Clash(Clash {
+            at: at.copy(alloc)?,
+            cause: Cause::Two,
+        }))),
+        None => Ok(full_or_none(is_full)),
     }
 }
 
 impl AgentPart {
+    // Looks on, and has the state follow where the move needs it.
+    fn make_ready<A: Aggregator + Sync + Drop>(
+        &mut self,
+        alloc: Global,
+        storage: &Storage<A>,
+        reads: &[Named],
+        instrs: &Instructions,
+    ) -> Result<(), AllocError>
+        requires { IsPartOf A.meaning storage.now self.old }
+        ensures looks { LooksOn A.meaning storage.now self.old self.new }
+        ensures missed { Missed (agent_of storage.now self.old) (last_look (agent_of storage.now self.new))
+            (agent_of storage.now self.new) }
+        ensures level { OnOk result (is_plain reads.now instrs.now ≡ false →
+            self.new.state.number ≡ length self.new.progress.seen) }
+    {
+        if is_plain(reads, instrs) {
+            self.look(storage);
+            return Ok(());
+        }
+        self.follow_row(alloc, storage)
+    }
+
     // The reply to a fire, where it fires nothing; None where the move is to fire, and there is room.
     fn judge<A: Aggregator + Sync + Drop>(
         &self,
@@ -71,11 +127,14 @@ impl AgentPart {
         instrs: &Instructions,
     ) -> Result<Option<Reply>, AllocError>
         requires part { IsPartOf A.meaning storage.now self.now }
-        requires level { self.now.state.number ≡ length self.now.progress.seen }
+        requires level { is_plain reads.now instrs.now ≡ false → self.now.state.number ≡ length self.now.progress.seen }
         ensures { IfOk result (
             IsJudged (machine_of A.meaning storage.now) self.now.progress.seen reads.now instrs.now) }
     {
         let is_full = self.progress.is_full();
+        if is_plain(reads, instrs) {
+            return judged_plain(alloc, is_full, reads, instrs);
+        }
         let aggregator = storage.aggregator();
         judged(alloc, aggregator, &self.state, is_full, reads, instrs)
     }
@@ -235,7 +294,7 @@ impl AgentPart {
         ensures callable { F.IsAlwaysCallable between.new }
         ensures calls { Ran (λ f g. F.step f tt g) between.old (offers_in result) between.new }
     {
-        self.follow_row(alloc, storage)?;
+        self.make_ready(alloc, storage, reads, instrs)?;
         match self.judge(alloc, storage, reads, instrs)? {
             Some(reply) => {
                 self.keep_reply(alloc, storage, reads, instrs, &reply)?;

@@ -66,7 +66,7 @@ impl AgentPart {
     }
 
     // Looks until nothing is found, or the whole row is seen.
-    fn look<A: Aggregator + Sync + Drop>(&mut self, storage: &Storage<A>)
+    pub(crate) fn look<A: Aggregator + Sync + Drop>(&mut self, storage: &Storage<A>)
         requires { IsPartOf A.meaning storage.now self.old }
         ensures looks { LooksOn A.meaning storage.now self.old self.new }
         ensures missed { Missed (agent_of storage.now self.old) (last_look (agent_of storage.now self.new))

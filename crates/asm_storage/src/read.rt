@@ -9,7 +9,7 @@ ghost use Rattle.asm_storage.specs.Calls.{receipt_at, read_answer, IsRead};
 ghost use Rattle.asm_storage.specs.Part.{agent_of, IsPartOf, LooksOn};
 
 use crate::call::{Answer, Call};
-use crate::copying::{copied_places, copied_values};
+use crate::copying::{copied_places, same_list, shared_list};
 use crate::part::AgentPart;
 use crate::reading::Reading;
 use crate::receipt::Receipt;
@@ -36,12 +36,12 @@ fn values_at<L: Lookup>(
 ) -> Result<Items<Value>, AllocError>
     ensures { IfOk result (λ values. values ≡ map (L.value_at lookup.now) places.now) }
 {
-    let mut values = Vec::new(alloc);
+    let mut values = Vec::with_capacity(alloc, places.len())?;
     for place in places {
         let value = value_or_undef(alloc, lookup, place)?;
         values.push(value)?;
     }
-    Ok(Items::new(values))
+    shared_list(alloc, values)
 }
 
 impl AgentPart {
@@ -101,8 +101,8 @@ impl AgentPart {
             (receipt_at (length self.old.progress.seen) (call.Read reading.now.places) (read_answer reading.now))) }
         ensures err { OnErr result (agent_of storage.now self.new ≡ agent_of storage.now self.old) }
     {
-        let places = copied_places(alloc, reading.places.as_slice())?;
-        let values = copied_values(alloc, reading.values.as_slice())?;
+        let places = same_list(&reading.places)?;
+        let values = same_list(&reading.values)?;
         let answer = Answer::Read {
             number: reading.number,
             values,

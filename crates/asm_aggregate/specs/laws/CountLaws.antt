@@ -1,15 +1,12 @@
 -- The aggregator of counters keeps the laws.
-use Rattle.std.proofs.Common.{◌≡◌, ◌≢◌, ℕ, ◌+◌, ℤ, pos, negsuc, ◌+ℤ◌, ◌-ℤ◌, Bool, true, false, cond, not, ◌&&◌, ◌||◌}
+use Rattle.std.proofs.Common.{◌≡◌, ◌≢◌, ℤ, pos, ◌+ℤ◌, Bool, true, false, cond, not, ◌&&◌}
 use Rattle.std.proofs.Common.{List, [], ◌∷◌, ◌++◌, map, refl, sym, ap, subst, ◌∙◌, arith}
-use Rattle.std.specs.Prelude.{Ok, Err, Option, None, Some, unwrap_or, is_some, IsPermutation, int_lt, FitsSigned, sum_by}
+use Rattle.std.specs.Prelude.{Ok, Err, Option, None, Some, unwrap_or, is_some, IsPermutation, FitsSigned}
 use Rattle.std.specs.Int.{w64}
 use Rattle.std.specs.Ordering.{int_eq}
 use Rattle.std.specs.List.{list_any, list_all}
 use Rattle.std.proofs.lemmas.Int.{ints}
 use Rattle.std.proofs.lemmas.Bool.{not-false}
-use Rattle.std.proofs.lemmas.List.Sums.{sum_by-append}
-use Rattle.std.proofs.lemmas.List.Sorted.{sum_by-IsPermutation}
-use Rattle.asm_element.specs.Element.{number_in, number_is}
 use Rattle.asm_element.specs.declared.element.Element.TheVariants.{Num}
 use Rattle.asm_element.specs.Value as value
 use Rattle.asm_element.specs.declared.value.Value.{Value}
@@ -22,7 +19,7 @@ use Rattle.asm_update.specs.declared.action.Action.{Action}
 use Rattle.asm_update.specs.declared.action.Action.TheVariants.{Increment}
 use Rattle.asm_update.specs.declared.action.Family.{Family}
 use Rattle.asm_update.specs.declared.action.Family.TheVariants.{Count}
-use Rattle.asm_update.specs.declared.clash.Cause.TheVariants.{Mixed, Kind, Against, Large}
+use Rattle.asm_update.specs.declared.clash.Cause.TheVariants.{Mixed, Kind, Large}
 use Rattle.asm_aggregate.specs.Families.{is_kind}
 use Rattle.asm_aggregate.specs.CountMeaning.{owns_counts, number, total, new_number, is_outside, is_beyond}
 use Rattle.asm_aggregate.specs.CountMeaning.{split, stands_alone, increments, count_result, count_joins, count_meaning}

@@ -8,7 +8,7 @@ pub loop-at-init : goal.loop-at-init
 loop-at-init g c = (
   finite.empty,
   walk_starts _ _ c.args.instructions.now _ _ _ c.in_ok-of.ensures
-  (ap by_place c.into_iter-at-iterator.ensures.into_iter_gives ∙ c.into_entries-at-items.ensures) refl,
+      (ap by_place c.into_iter-at-iterator.ensures.into_iter_gives ∙ c.into_entries-at-items.ensures) refl,
 )
 
 pub admit_at-requires : goal.admit_at-requires

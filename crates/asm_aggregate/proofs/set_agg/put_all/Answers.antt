@@ -34,6 +34,6 @@ returns-in_err-copy-clause-err c =
 pub returns-in_err-insert-clause-err : goal.returns-in_err-insert-clause-err
 returns-in_err-insert-clause-err c =
     let before =
-        outside _ _ _ _ _ (c.into_iter-element-iterator.ensures.into_iter_gives ∙ c.iter-element-items.ensures.elements)
-        c.loop-element.invariant.alike c.loop-element.invariant.grown in
+    outside _ _ _ _ _ (c.into_iter-element-iterator.ensures.into_iter_gives ∙ c.iter-element-items.ensures.elements)
+    c.loop-element.invariant.alike c.loop-element.invariant.grown in
     on_err c.from_residual-in_err-insert.result (ap (λ s. difference s c.args.more.now) c.in_err-insert.ensures.err ∙ before)

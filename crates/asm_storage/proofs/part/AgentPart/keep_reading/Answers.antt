@@ -15,8 +15,8 @@ returns-clause-ok g c =
     let seen = length c.args.self.now.progress.seen in
     let reading = c.args.reading.now in
     let view = c.reading.view_is in
-    let places = c.in_ok-places.ensures ∙ c.as_slice.ensures ∙ ap (λ (r : ReadingView). r.places) view in
-    let values = c.in_ok-values.ensures ∙ c.as_slice-2.ensures ∙ ap (λ (r : ReadingView). r.values) view in
+    let places = c.in_ok-places.ensures (λ x y same. same) ∙ ap (λ (r : ReadingView). r.places) view in
+    let values = c.in_ok-values.ensures (λ x y same. same) ∙ ap (λ (r : ReadingView). r.values) view in
     let kept : List Place → ℕ → List Value → Type 0 = λ ps n vs.
     OnOk c.keep.result (new ≡ with_receipt old (receipt_at seen (call.Read ps) (answer.Read n vs))) in
     subst (λ ps. kept ps reading.number reading.values) places
@@ -27,8 +27,8 @@ pub keep-requires-clause-reply : goal.keep-requires-clause-reply
 keep-requires-clause-reply g c κs within =
     let reading = c.args.reading.now in
     let view = c.reading.view_is in
-    let places = c.in_ok-places.ensures ∙ c.as_slice.ensures ∙ ap (λ (r : ReadingView). r.places) view in
-    let values = c.in_ok-values.ensures ∙ c.as_slice-2.ensures ∙ ap (λ (r : ReadingView). r.values) view in
+    let places = c.in_ok-places.ensures (λ x y same. same) ∙ ap (λ (r : ReadingView). r.places) view in
+    let values = c.in_ok-values.ensures (λ x y same. same) ∙ ap (λ (r : ReadingView). r.values) view in
     let is_reply : List Place → ℕ → List Value → Type 0 = λ ps n vs.
     IsReplyOf g.A.Aggregator.meaning (agent_of c.args.storage.now c.args.self.now) (call.Read ps) (answer.Read n vs) in
     subst (λ n. is_reply c.in_ok-places.places n c.in_ok-values.values) (sym (ap (λ (r : ReadingView). r.number) view))

@@ -9,8 +9,8 @@ pub returns-in_ok-keep_reply-in-Some-clause-turn : goal.returns-in_ok-keep_reply
 returns-in_ok-keep_reply-in-Some-clause-turn g c =
     let meaning = g.A.Aggregator.meaning in
     let s = c.args.storage.now in
-    let mid = c.follow_row.new.self in
-    let looks = c.follow_row.ensures.looks in
+    let mid = c.make_ready.new.self in
+    let looks = c.make_ready.ensures.looks in
     let judged = subst (λ (o : Option Reply). IsJudged (machine_of meaning s) mid.progress.seen c.args.reads.now c.args.instrs.now o)
     c.in-Some.is c.in_ok-reply.ensures in
     answered_quiet meaning (agent_of s c.args.self.now) (agent_of s mid) c.args.reads.now c.args.instrs.now
@@ -21,30 +21,30 @@ pub returns-in-None-clause-turn : goal.returns-in-None-clause-turn
 returns-in-None-clause-turn g c =
     let meaning = g.A.Aggregator.meaning in
     let s = c.args.storage.now in
-    let mid = c.follow_row.new.self in
+    let mid = c.make_ready.new.self in
     let judged = subst (λ (o : Option Reply). IsJudged (machine_of meaning s) mid.progress.seen c.args.reads.now c.args.instrs.now o)
     c.in-None.is c.in_ok-reply.ensures in
-    attempted meaning s c.args.self.now mid c.attempt.new.self c.args.reads.now c.args.instrs.now c.follow_row.ensures.looks
+    attempted meaning s c.args.self.now mid c.attempt.new.self c.args.reads.now c.args.instrs.now c.make_ready.ensures.looks
     c.attempt.result c.attempt.ensures.part judged.0 c.attempt.ensures.won c.attempt.ensures.lost
 
 pub returns-in-None-clause-seen : goal.returns-in-None-clause-seen
 returns-in-None-clause-seen g c =
-    attempt_seen g.A.Aggregator.meaning c.args.storage.now c.args.self.now c.follow_row.new.self c.attempt.new.self
-    c.args.reads.now c.args.instrs.now c.follow_row.ensures.looks c.attempt.result c.attempt.ensures.won
+    attempt_seen g.A.Aggregator.meaning c.args.storage.now c.args.self.now c.make_ready.new.self c.attempt.new.self
+    c.args.reads.now c.args.instrs.now c.make_ready.ensures.looks c.attempt.result c.attempt.ensures.won
     c.attempt.ensures.lost c.attempt.ensures.err
 
 pub returns-in-None-clause-counted : goal.returns-in-None-clause-counted
 returns-in-None-clause-counted g c =
     let s = c.args.storage.now in
-    let mid = c.follow_row.new.self in
+    let mid = c.make_ready.new.self in
     let judged = subst (λ (o : Option Reply). IsJudged (machine_of g.A.Aggregator.meaning s) mid.progress.seen c.args.reads.now c.args.instrs.now o)
     c.in-None.is c.in_ok-reply.ensures in
     attempt_counted g.A.Aggregator.meaning s c.args.self.now mid c.attempt.new.self c.args.reads.now c.args.instrs.now
-    c.follow_row.ensures.looks c.attempt.result judged.1 c.follow_row.ensures.missed c.attempt.ensures.won
+    c.make_ready.ensures.looks c.attempt.result judged.1 c.make_ready.ensures.missed c.attempt.ensures.won
     c.attempt.ensures.lost c.attempt.ensures.err
 
 pub returns-in-None-clause-calls : goal.returns-in-None-clause-calls
 returns-in-None-clause-calls g c =
     attempt_ran (λ p q. goal.F-step g p tt q) c.args.between.now c.attempt.new.between c.args.storage.now
-    c.follow_row.new.self c.attempt.new.self c.args.reads.now c.args.instrs.now c.attempt.result c.attempt.ensures.won
+    c.make_ready.new.self c.attempt.new.self c.args.reads.now c.args.instrs.now c.attempt.result c.attempt.ensures.won
     c.attempt.ensures.called c.attempt.ensures.uncalled
