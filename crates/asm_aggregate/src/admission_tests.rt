@@ -70,7 +70,12 @@ pub(crate) fn changes<A: Aggregator>(
 
 static GROWN: [Row; 8] = [
     Row(Set(&[]), &[], &[Add(1)], Ok(Set(&[1]))),
-    Row(Set(&[1, 2, 3]), &[], &[Add(2), Add(4)], Ok(Set(&[1, 2, 3, 4]))),
+    Row(
+        Set(&[1, 2, 3]),
+        &[],
+        &[Add(2), Add(4)],
+        Ok(Set(&[1, 2, 3, 4])),
+    ),
     Row(
         Set(&[1, 2, 3]),
         &[],
@@ -78,14 +83,34 @@ static GROWN: [Row; 8] = [
         Ok(Set(&[2, 3, 4])),
     ),
     Row(Set(&[1]), &[], &[Remove(2), Remove(1)], Ok(Set(&[]))),
-    Row(Set(&[1]), &[], &[Add(2), Add(1), Remove(2)], Err(Cause::Both)),
-    Row(Bag(1, 0), &[], &[BagAdd("f", 2), BagAdd("e", 1)], Ok(Bag(2, 2))),
-    Row(Bag(3, 1), &[], &[BagRemove("e", 3), BagAdd("f", 1)], Ok(Bag(0, 2))),
+    Row(
+        Set(&[1]),
+        &[],
+        &[Add(2), Add(1), Remove(2)],
+        Err(Cause::Both),
+    ),
+    Row(
+        Bag(1, 0),
+        &[],
+        &[BagAdd("f", 2), BagAdd("e", 1)],
+        Ok(Bag(2, 2)),
+    ),
+    Row(
+        Bag(3, 1),
+        &[],
+        &[BagRemove("e", 3), BagAdd("f", 1)],
+        Ok(Bag(0, 2)),
+    ),
     Row(Num(5), &[], &[Inc(3), Inc(-9)], Ok(Num(-1))),
 ];
 
 static REFUSED: [Row; 6] = [
-    Row(Bag(1, 2), &[], &[BagAdd("f", 2), BagRemove("e", 2)], Err(Cause::Short)),
+    Row(
+        Bag(1, 2),
+        &[],
+        &[BagAdd("f", 2), BagRemove("e", 2)],
+        Err(Cause::Short),
+    ),
     Row(
         Bag(u32::MAX, 0),
         &[],
@@ -99,9 +124,19 @@ static REFUSED: [Row; 6] = [
 ];
 
 static BESIDE_A_VALUE: [Row; 4] = [
-    Row(Set(&[9]), &[Set(&[1, 2])], &[Add(1), Remove(3)], Ok(Set(&[1, 2]))),
+    Row(
+        Set(&[9]),
+        &[Set(&[1, 2])],
+        &[Add(1), Remove(3)],
+        Ok(Set(&[1, 2])),
+    ),
     Row(Set(&[9]), &[Set(&[1, 2])], &[Add(9)], Err(Cause::Against)),
-    Row(Bag(1, 0), &[Bag(1, 0)], &[BagAdd("e", 1)], Err(Cause::Against)),
+    Row(
+        Bag(1, 0),
+        &[Bag(1, 0)],
+        &[BagAdd("e", 1)],
+        Err(Cause::Against),
+    ),
     Row(Num(1), &[Num(2)], &[Inc(0)], Err(Cause::Against)),
 ];
 

@@ -244,7 +244,11 @@ fn group_of(regular: Option<Value>, partials: Vec<Action>) -> Option<Group> {
     Some(Group::new(regular, partials))
 }
 
-pub(crate) fn is_value(alloc: Global, value: &Value, want: Result<Old, Cause>) -> Result<bool, Fail> {
+pub(crate) fn is_value(
+    alloc: Global,
+    value: &Value,
+    want: Result<Old, Cause>,
+) -> Result<bool, Fail> {
     match want {
         Ok(old) => Ok(*value == value_of(alloc, old)?),
         Err(_) => Ok(false),
