@@ -12,4 +12,6 @@ pub use state::State;
 pub use verdict::{Objection, Verdict};
 
 #[cfg(test)]
+mod in_place_tests;
+#[cfg(test)]
 mod tests;
