@@ -1,20 +1,21 @@
 -- Legal histories, event by event, and the check of one event.
-use Rattle.std.proofs.Common.{◌≡◌, ◌↔◌, ◌<◌, ◌+◌, ℕ, suc, Bool, true, false, List, [], ◌∷◌, ◌++◌, length, get_or, take, drop, map, Option, Some, None, Ok, refl, sym, ap, ap₂, subst, ◌∙◌, append-nil, arith}
-use Rattle.std.specs.Prelude.{IsTrue}
+use Rattle.std.proofs.Common.{◌≡◌, ◌↔◌, ◌<◌, ◌+◌, ℕ, suc, Bool, true, false, List, [], ◌∷◌, ◌++◌, length, get_or, take, drop, map, Option, Some, None, Result, Ok, Err, refl, sym, ap, ap₂, subst, ◌∙◌, append-nil, arith}
+use Rattle.std.specs.Prelude.{IsTrue, IsOk}
 use Rattle.std.specs.List.{cons_option}
 use Rattle.std.proofs.Math.Seq.{split_at}
 use Rattle.std.proofs.lemmas.List.{take_more, length-take-le}
 use Rattle.asm_element.specs.Place.{Place}
 use Rattle.asm_element.specs.declared.value.Value.{Value}
 use Rattle.asm_update.specs.Move.{Move}
-use Rattle.asm_update.specs.State.{State, val}
-use Rattle.asm_update.specs.Fire.{Part, overwritten}
+use Rattle.asm_update.specs.State.{State, Updates, val}
+use Rattle.asm_update.specs.Fire.{Part, aggregated, overwritten, state_of}
+use Rattle.asm_update.specs.declared.clash.Clash.{Clash}
 use Rattle.asm_state.specs.View.{StateView, value_at}
 use Rattle.asm_state.specs.Stands.{Stands}
-use Rattle.asm_state.specs.Verdict.{IsVerdict, least_stale}
+use Rattle.asm_state.specs.Verdict.{IsObjection, least_stale}
 use Rattle.asm_state.specs.declared.named.Named.{Named}
-use Rattle.asm_state.specs.declared.verdict.Verdict.{Verdict}
-use Rattle.asm_state.specs.declared.verdict.Verdict.TheVariants as verdict
+use Rattle.asm_state.specs.declared.verdict.Objection.{Objection}
+use Rattle.asm_state.specs.declared.verdict.Objection.TheVariants as objection
 use Rattle.asm_state.proofs.Judged.{same_old}
 use Rattle.asm_storage.specs.Machine.{Machine, machine_state, reply_to, firing_reply, fire_reply}
 use Rattle.asm_storage.specs.History.{move_of, moves}
@@ -26,7 +27,7 @@ use Rattle.asm_storage.specs.declared.call.Answer.{Answer}
 use Rattle.asm_storage.specs.declared.call.Answer.TheVariants as answer
 use Rattle.asm_storage.specs.declared.history.Event.{Event}
 use Rattle.asm_storage.proofs.Legal.{IsLegalFrom, legal-append, legal-from}
-use Rattle.asm_journal.specs.Check.{machine, IsFirstWrong, verdict_reply, was_fired, IsStep}
+use Rattle.asm_journal.specs.Check.{machine, IsFirstWrong, objection_reply, was_fired, IsStep}
 use Rattle.asm_journal.proofs.Answered.{true_and_false}
 use Rattle.asm_journal.proofs.Moves.{moves-push}
 
@@ -85,33 +86,36 @@ read_step part capacity e s places n vs false call-is answer-is tells = λ init 
 
 -- ---- one fire
 
-module _ (part : Part) (capacity : ℕ) (e : Event) (old : StateView) (reads : List Named) (M : Move) (r : Reply) (v : Verdict)
+module _ (part : Part) (capacity : ℕ) (e : Event) (old : StateView) (reads : List Named) (M : Move) (r : Reply) (v : Option Objection)
     (call-is : e.call ≡ call.Fire reads M) (answer-is : e.answer ≡ answer.Fire r)
-    (judged : (init : State) (q : List Move) → Stands part init old q → IsVerdict part init q reads M (Ok v)) where
-  verdict_is : (init : State) (q : List Move) (w : Verdict) → IsVerdict part init q reads M (Ok w) → fire_reply (machine part init capacity) q M (least_stale part init q reads) ≡ verdict_reply capacity (length q) w
-  verdict_is init q (verdict.Stale l) h = ap (fire_reply (machine part init capacity) q M) h
-  verdict_is init q (verdict.Clash c) h =
+    (judged : (init : State) (q : List Move) → Stands part init old q → IsObjection part init q reads M (Ok v)) where
+  objection_is : (init : State) (q : List Move) (w : Option Objection) → IsObjection part init q reads M (Ok w) → fire_reply (machine part init capacity) q M (least_stale part init q reads) ≡ objection_reply capacity (length q) w
+  objection_is init q (Some (objection.Stale l)) h = ap (fire_reply (machine part init capacity) q M) h
+  objection_is init q (Some (objection.Clash c)) h =
       ap (fire_reply (machine part init capacity) q M) h.0 ∙ ap (λ a. firing_reply (machine part init capacity) q (overwritten (machine_state (machine part init capacity) q) a)) h.1
-  verdict_is init q (verdict.Ready U) h =
-      ap (fire_reply (machine part init capacity) q M) h.0 ∙ ap (λ a. firing_reply (machine part init capacity) q (overwritten (machine_state (machine part init capacity) q) a)) h.1
+  objection_is init q None h =
+      ap (fire_reply (machine part init capacity) q M) h.0 ∙ taken (aggregated part (val (state_of part init q)) M) h.1 where
+        taken : (a : Result Updates Clash) → IsOk a → firing_reply (machine part init capacity) q (overwritten (machine_state (machine part init capacity) q) a) ≡ objection_reply capacity (length q) None
+        taken (Ok U) ok = refl
+        taken (Err c) ok = absurd (cc ok)
 
-  -- the reply after the moves is the verdict's
-  replied : (init : State) (q : List Move) → Stands part init old q → reply_to (machine part init capacity) q e.call ≡ answer.Fire (verdict_reply capacity old.number v)
+  -- the reply after the moves is that of what stands against the move
+  replied : (init : State) (q : List Move) → Stands part init old q → reply_to (machine part init capacity) q e.call ≡ answer.Fire (objection_reply capacity old.number v)
   replied init q stands =
-      ap (reply_to (machine part init capacity) q) call-is ∙ ap answer.Fire (verdict_is init q v (judged init q stands) ∙ ap (λ n. verdict_reply capacity n v) (sym stands.number))
+      ap (reply_to (machine part init capacity) q) call-is ∙ ap answer.Fire (objection_is init q v (judged init q stands) ∙ ap (λ n. objection_reply capacity n v) (sym stands.number))
 
-  pub wrong_fire : (new : StateView) → (r ≡ verdict_reply capacity old.number v → ⊥) → IsStep part capacity e old new false
+  pub wrong_fire : (new : StateView) → (r ≡ objection_reply capacity old.number v → ⊥) → IsStep part capacity e old new false
   wrong_fire new other = λ init q stands same. other (same_fire _ _ (sym answer-is ∙ same ∙ replied init q stands)) where
     same_fire : (x y : Reply) → answer.Fire x ≡ answer.Fire y → x ≡ y
     same_fire x y e = cc
 
-  right : r ≡ verdict_reply capacity old.number v → (init : State) (q : List Move) → Stands part init old q → e.answer ≡ reply_to (machine part init capacity) q e.call
+  right : r ≡ objection_reply capacity old.number v → (init : State) (q : List Move) → Stands part init old q → e.answer ≡ reply_to (machine part init capacity) q e.call
   right is init q stands = answer-is ∙ ap answer.Fire is ∙ sym (replied init q stands)
 
   move-is : (s : Reply) → r ≡ s → move_of e ≡ move_of (record { agent = e.agent; call = call.Fire reads M; answer = answer.Fire s })
   move-is s is = ap₂ (λ c a. move_of (record { agent = e.agent; call = c; answer = a })) call-is (answer-is ∙ ap answer.Fire is)
 
-  pub quiet_fire : r ≡ verdict_reply capacity old.number v → was_fired r ≡ false → IsStep part capacity e old old true
+  pub quiet_fire : r ≡ objection_reply capacity old.number v → was_fired r ≡ false → IsStep part capacity e old old true
   quiet_fire is none = λ init q stands.
       (right is init q stands, subst (Stands part init old) (sym (ap (λ o. q ++ cons_option o []) (move-is r refl ∙ quiet r none) ∙ append-nil q)) stands) where
         quiet : (s : Reply) → was_fired s ≡ false → move_of (record { agent = e.agent; call = call.Fire reads M; answer = answer.Fire s }) ≡ None
@@ -120,7 +124,7 @@ module _ (part : Part) (capacity : ℕ) (e : Event) (old : StateView) (reads : L
         quiet (reply.Clash c) none = refl
         quiet reply.Full none = refl
 
-  pub taken_fire : (new : StateView) → r ≡ verdict_reply capacity old.number v → was_fired r ≡ true → ((init : State) (q : List Move) → Stands part init old q → Stands part init new (q ++ M ∷ [])) → IsStep part capacity e old new true
+  pub taken_fire : (new : StateView) → r ≡ objection_reply capacity old.number v → was_fired r ≡ true → ((init : State) (q : List Move) → Stands part init old q → Stands part init new (q ++ M ∷ [])) → IsStep part capacity e old new true
   taken_fire new is fired followed = λ init q stands.
       (right is init q stands, subst (Stands part init new) (sym (ap (λ o. q ++ cons_option o []) (move-is r refl ∙ taken r fired))) (followed init q stands)) where
         taken : (s : Reply) → was_fired s ≡ true → move_of (record { agent = e.agent; call = call.Fire reads M; answer = answer.Fire s }) ≡ Some M

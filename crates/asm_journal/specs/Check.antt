@@ -1,13 +1,13 @@
 -- What the check of a history tells, and the state that a history leaves.
-use Rattle.std.specs.Prelude.{◌≡◌, ◌≢◌, ℕ, Bool, true, false, List, [], ◌∷◌, ◌++◌, length}
+use Rattle.std.specs.Prelude.{◌≡◌, ◌≢◌, ℕ, Bool, true, false, List, [], ◌∷◌, ◌++◌, length, Option, Some, None}
 use Rattle.std.specs.List.{cons_option}
 use Rattle.asm_update.specs.Move.{Move}
 use Rattle.asm_update.specs.State.{State}
 use Rattle.asm_update.specs.Fire.{Part}
 use Rattle.asm_state.specs.View.{StateView}
 use Rattle.asm_state.specs.Stands.{Stands}
-use Rattle.asm_state.specs.declared.verdict.Verdict.{Verdict}
-use Rattle.asm_state.specs.declared.verdict.Verdict.TheVariants as verdict
+use Rattle.asm_state.specs.declared.verdict.Objection.{Objection}
+use Rattle.asm_state.specs.declared.verdict.Objection.TheVariants as objection
 use Rattle.asm_storage.specs.Machine.{Machine, reply_to, taken_reply}
 use Rattle.asm_storage.specs.History.{move_of, moves, IsLegal}
 use Rattle.asm_storage.specs.declared.call.Reply.{Reply}
@@ -42,11 +42,15 @@ IsLegality m events (Illegal number) = IsFirstWrong m events number
 
 -- ---- one event
 
--- the reply to a move with this verdict, after so many moves
-abbrev pub verdict_reply : ℕ → ℕ → Verdict → Reply
-verdict_reply capacity number (verdict.Stale l) = reply.Stale l
-verdict_reply capacity number (verdict.Clash c) = reply.Clash c
-verdict_reply capacity number (verdict.Ready U) = taken_reply capacity number
+-- the reply that tells what stands against a move
+abbrev pub told_reply : Objection → Reply
+told_reply (objection.Stale l) = reply.Stale l
+told_reply (objection.Clash c) = reply.Clash c
+
+-- the reply to a move against which this stands, after so many moves
+abbrev pub objection_reply : ℕ → ℕ → Option Objection → Reply
+objection_reply capacity number (Some o) = told_reply o
+objection_reply capacity number None = taken_reply capacity number
 
 -- whether the move was fired
 abbrev pub was_fired : Reply → Bool

@@ -1,10 +1,11 @@
 //! Whether a history is one of the storage of one thread.
 ghost use Rattle.std.specs.Prelude.{◌≡◌, ◌↔◌, map, IsTrue, IfOk};
 ghost use Rattle.asm_state.specs.View.{value_at};
-ghost use Rattle.asm_journal.specs.Check.{machine_of, IsLegality, verdict_reply, was_fired, IsStep};
+ghost use Rattle.asm_journal.specs.Check.{machine_of, IsLegality, told_reply, objection_reply, was_fired, IsStep};
+ghost use Rattle.asm_storage.specs.Machine.{taken_reply};
 
 use asm_element::{Location, Value};
-use asm_state::{State, Verdict};
+use asm_state::{Objection, State};
 use asm_storage::{Answer, Call, Event, History, Reply};
 use asm_update::{Aggregator, Lookup};
 use std::alloc::{AllocError, Global};
@@ -43,18 +44,37 @@ fn are_values(state: &State, places: &[Location], values: &[Value]) -> bool
     true
 }
 
-/// Whether this is the reply to a move with this verdict, after so many moves.
-fn is_reply(verdict: &Verdict, capacity: u32, number: u32, reply: &Reply) -> bool
-    ensures { IsTrue result ↔ (reply.now ≡ verdict_reply capacity number verdict.now) }
+/// Whether the reply tells what stands against a move.
+fn tells(objection: &Objection, reply: &Reply) -> bool
+    ensures { IsTrue result ↔ (reply.now ≡ told_reply objection.now) }
 {
-    match (verdict, reply) {
-        (Verdict::Stale(at), Reply::Stale(told)) => at == told,
-        (Verdict::Clash(clash), Reply::Clash(told)) => {
+    match (objection, reply) {
+        (Objection::Stale(at), Reply::Stale(told)) => at == told,
+        (Objection::Clash(clash), Reply::Clash(told)) => {
             clash.at == told.at && clash.cause == told.cause
         }
-        (Verdict::Ready(_), Reply::Fired(told)) => number < capacity && *told == number + 1,
-        (Verdict::Ready(_), Reply::Full) => capacity <= number,
         _ => false,
+    }
+}
+
+/// Whether this is the reply to a move that fires, if there is room after so many moves.
+fn is_taken(capacity: u32, number: u32, reply: &Reply) -> bool
+    ensures { IsTrue result ↔ (reply.now ≡ taken_reply capacity number) }
+{
+    match reply {
+        Reply::Fired(told) => number < capacity && *told == number + 1,
+        Reply::Full => capacity <= number,
+        Reply::Stale(_) | Reply::Clash(_) => false,
+    }
+}
+
+/// Whether this is the reply to a move against which this stands, after so many moves.
+fn is_reply(objection: &Option<Objection>, capacity: u32, number: u32, reply: &Reply) -> bool
+    ensures { IsTrue result ↔ (reply.now ≡ objection_reply capacity number objection.now) }
+{
+    match objection {
+        Some(objection) => tells(objection, reply),
+        None => is_taken(capacity, number, reply),
     }
 }
 
@@ -82,8 +102,8 @@ fn step<A: Aggregator>(
             Ok(*number == state.number() && are_values(state, places.as_slice(), values.as_slice()))
         }
         (Call::Fire { reads, instrs }, Answer::Fire(reply)) => {
-            let verdict = state.judge(alloc, aggregator, reads.as_slice(), instrs)?;
-            if !is_reply(&verdict, capacity, state.number(), reply) {
+            let objection = state.objection(alloc, aggregator, reads.as_slice(), instrs)?;
+            if !is_reply(&objection, capacity, state.number(), reply) {
                 return Ok(false);
             }
             if is_fired(reply) {

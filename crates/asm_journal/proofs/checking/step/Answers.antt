@@ -1,7 +1,7 @@
 use Rattle.std.proofs.Common.{sym, ap, subst, ◌∙◌, true}
 use Rattle.asm_storage.specs.declared.call.Call.TheVariants as call
 use Rattle.asm_storage.specs.declared.call.Answer.TheVariants as answer
-use Rattle.asm_journal.specs.Check.{verdict_reply, IsStep}
+use Rattle.asm_journal.specs.Check.{objection_reply, IsStep}
 use Rattle.asm_journal.proofs.Legal.{read_step, wrong_fire, quiet_fire, taken_fire}
 use Rattle.asm_journal.proofs.Answered.{true_and_false}
 use Rattle.asm_journal.proofs.checking.step.Goals as goal
@@ -21,27 +21,27 @@ pub returns-then-not-is_reply : goal.returns-then-not-is_reply
 returns-then-not-is_reply g c =
     let part = (g.A.Aggregator.meaning c.args.aggregator.now).part in
     let f = c.in-Fire-Fire in
-    let v = c.in_ok-verdict-in-Fire-Fire.verdict in
+    let v = c.in_ok-objection-in-Fire-Fire.objection in
     let reads = c.as_slice-in-Fire-Fire.result.now in
     wrong_fire part c.args.capacity c.args.event.now c.args.state.now reads f.instrs f.reply v
-    (f.is-0 ∙ ap (λ rs. call.Fire rs f.instrs) (sym c.as_slice-in-Fire-Fire.ensures)) f.is-1 c.in_ok-verdict-in-Fire-Fire.ensures c.args.state.now
-    (λ e. true_and_false c.is_reply.result (c.is_reply.ensures.1 (e ∙ ap (λ n. verdict_reply c.args.capacity n v) (sym c.number-in-Fire-Fire.ensures))) c.if-not-is_reply.true)
+    (f.is-0 ∙ ap (λ rs. call.Fire rs f.instrs) (sym c.as_slice-in-Fire-Fire.ensures)) f.is-1 c.in_ok-objection-in-Fire-Fire.ensures c.args.state.now
+    (λ e. true_and_false c.is_reply.result (c.is_reply.ensures.1 (e ∙ ap (λ n. objection_reply c.args.capacity n v) (sym c.number-in-Fire-Fire.ensures))) c.if-not-is_reply.true)
 
 pub returns-after-is_fired : goal.returns-after-is_fired
 returns-after-is_fired g c =
     let part = (g.A.Aggregator.meaning c.args.aggregator.now).part in
     let f = c.in-Fire-Fire in
-    let v = c.in_ok-verdict-in-Fire-Fire.verdict in
+    let v = c.in_ok-objection-in-Fire-Fire.objection in
     let reads = c.as_slice-in-Fire-Fire.result.now in
     let call-is = f.is-0 ∙ ap (λ rs. call.Fire rs f.instrs) (sym c.as_slice-in-Fire-Fire.ensures) in
-    let is = c.is_reply.ensures.0 c.if-not-is_reply.false ∙ ap (λ n. verdict_reply c.args.capacity n v) c.number-in-Fire-Fire.ensures in
+    let is = c.is_reply.ensures.0 c.if-not-is_reply.false ∙ ap (λ n. objection_reply c.args.capacity n v) c.number-in-Fire-Fire.ensures in
     elim c.if-is_fired.branch [
       | then-is_fired+in_ok-follow-in-Fire-Fire w ↦
-          let done = taken_fire part c.args.capacity c.args.event.now c.args.state.now reads f.instrs f.reply v call-is f.is-1 c.in_ok-verdict-in-Fire-Fire.ensures
+          let done = taken_fire part c.args.capacity c.args.event.now c.args.state.now reads f.instrs f.reply v call-is f.is-1 c.in_ok-objection-in-Fire-Fire.ensures
           w.follow.new.self is (sym c.is_fired.ensures ∙ w.if-is_fired.true) w.in_ok-follow-in-Fire-Fire.ensures.ok in
           subst (λ s. IsStep part c.args.capacity c.args.event.now c.args.state.now s true) (sym w.state-is) done
       | else-is_fired w ↦
-          let done = quiet_fire part c.args.capacity c.args.event.now c.args.state.now reads f.instrs f.reply v call-is f.is-1 c.in_ok-verdict-in-Fire-Fire.ensures
+          let done = quiet_fire part c.args.capacity c.args.event.now c.args.state.now reads f.instrs f.reply v call-is f.is-1 c.in_ok-objection-in-Fire-Fire.ensures
           is (sym c.is_fired.ensures ∙ w.if-is_fired.false) in
           subst (λ s. IsStep part c.args.capacity c.args.event.now c.args.state.now s true) (sym w.state-is) done
     ]
