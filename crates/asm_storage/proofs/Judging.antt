@@ -33,9 +33,9 @@ pub full_or_none : (part : Part) (A : State) (q : List Move) (full : Bool) (read
     IsOk (fire part (state_of part A q) M) → IsReplyAt part A q full reads M o
 full_or_none part A q full reads M o is none ok =
     subst (IsReplyAt part A q full reads M) (sym is) (by_room full) where
-  by_room : (full : Bool) → IsReplyAt part A q full reads M (cond full (Some reply.Full) None)
-  by_room true = (none, ok, refl)
-  by_room false = (none, ok, refl)
+      by_room : (full : Bool) → IsReplyAt part A q full reads M (cond full (Some reply.Full) None)
+      by_room true = (none, ok, refl)
+      by_room false = (none, ok, refl)
 
 pub clashes : (part : Part) (A : State) (M : Move) (c : Clash) → aggregated part (val A) M ≡ Err c → fire part A M ≡ Err c
 clashes part A M c e = ap (overwritten A) e

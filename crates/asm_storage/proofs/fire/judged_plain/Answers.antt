@@ -24,11 +24,11 @@ regular (r ∷ rs) M h = absurd cc
 
 pub returns-in_ok-copy-in-Some : goal.returns-in_ok-copy-in-Some
 returns-in_ok-copy-in-Some c = λ part init q. (
-    none_stale part init q c.args.reads.now c.args.instrs.now c.requires,
-    plain_clashes part (state_of part init q) c.args.instrs.now (regular c.args.reads.now c.args.instrs.now c.requires)
-    c.in-Some.at.now c.in-Some.ensures
-    ∙ ap (λ (l : Place). Err (record { at = l; cause = Two })) (sym c.in_ok-copy-in-Some.ensures),
-  )
+  none_stale part init q c.args.reads.now c.args.instrs.now c.requires,
+  plain_clashes part (state_of part init q) c.args.instrs.now (regular c.args.reads.now c.args.instrs.now c.requires)
+      c.in-Some.at.now c.in-Some.ensures
+      ∙ ap (λ (l : Place). Err (record { at = l; cause = Two })) (sym c.in_ok-copy-in-Some.ensures),
+)
 
 pub returns-in-None : goal.returns-in-None
 returns-in-None c = λ part init q.
