@@ -18,22 +18,23 @@ ghost use Rattle.asm_storage.specs.Part.{agent_of, HasFired, IsJudged, IsLost, I
 ghost use Rattle.asm_storage.specs.Part.{offers_in, misses_in};
 
 use crate::call::{Answer, Call, Reply};
-use crate::copying::copied_named;
+use crate::copying::{copied_named, same_list};
 use crate::error::FireError;
 use crate::part::AgentPart;
 use crate::receipt::{Entry, Receipt};
 use crate::storage::Storage;
+use asm_element::Items;
 use asm_row::Offer;
 use asm_state::{Named, Objection, State};
 use asm_update::{Aggregator, Cause, Clash, Instructions, consistent};
 use std::alloc::{AllocError, Global};
 
-// A call to fire, in memory of its own.
-fn fire_call(alloc: Global, reads: &[Named], instrs: &Instructions) -> Result<Call, AllocError>
+// A call to fire, which shares its lists with the arguments.
+fn fire_call(alloc: Global, reads: &Items<Named>, instrs: &Instructions) -> Result<Call, AllocError>
     ensures { IfOk result (λ c. c ≡ call.Fire reads.now instrs.now) }
 {
     Ok(Call::Fire {
-        reads: copied_named(alloc, reads)?,
+        reads: same_list(reads)?,
         instrs: instrs.copy(alloc)?,
     })
 }
@@ -66,10 +67,10 @@ fn judged<A: Aggregator>(
 
 // Whether a move rests on no read and no old value, so that it is judged alike on every state. A wide one is
 // judged on a state all the same, which costs less than `consistent` does.
-pub(crate) fn is_plain(reads: &[Named], instrs: &Instructions) -> bool
+pub(crate) fn is_plain(reads: &Items<Named>, instrs: &Instructions) -> bool
     ensures { result ≡ is_plain reads.now instrs.now }
 {
-    match reads.first() {
+    match reads.as_slice().first() {
         Some(_) => false,
         None => instrs.len() < 17 && instrs.all_regular(),
     }
@@ -79,7 +80,7 @@ pub(crate) fn is_plain(reads: &[Named], instrs: &Instructions) -> bool
 fn judged_plain(
     alloc: Global,
     is_full: bool,
-    reads: &[Named],
+    reads: &Items<Named>,
     instrs: &Instructions,
 ) -> Result<Option<Reply>, AllocError>
     requires { is_plain reads.now instrs.now ≡ true }
@@ -101,7 +102,7 @@ impl AgentPart {
         &mut self,
         alloc: Global,
         storage: &Storage<A>,
-        reads: &[Named],
+        reads: &Items<Named>,
         instrs: &Instructions,
     ) -> Result<(), AllocError>
         requires { IsPartOf A.meaning storage.now self.old }
@@ -123,7 +124,7 @@ impl AgentPart {
         &self,
         alloc: Global,
         storage: &Storage<A>,
-        reads: &[Named],
+        reads: &Items<Named>,
         instrs: &Instructions,
     ) -> Result<Option<Reply>, AllocError>
         requires part { IsPartOf A.meaning storage.now self.now }
@@ -136,7 +137,14 @@ impl AgentPart {
             return judged_plain(alloc, is_full, reads, instrs);
         }
         let aggregator = storage.aggregator();
-        judged(alloc, aggregator, &self.state, is_full, reads, instrs)
+        judged(
+            alloc,
+            aggregator,
+            &self.state,
+            is_full,
+            reads.as_slice(),
+            instrs,
+        )
     }
 
     /// Keeps the receipt of a call that fired nothing.
@@ -170,7 +178,7 @@ impl AgentPart {
         &mut self,
         alloc: Global,
         storage: &Storage<A>,
-        reads: &[Named],
+        reads: &Items<Named>,
         instrs: &Instructions,
         reply: &Reply,
     ) -> Result<(), AllocError>
@@ -238,7 +246,7 @@ impl AgentPart {
         &mut self,
         alloc: Global,
         storage: &Storage<A>,
-        reads: &[Named],
+        reads: &Items<Named>,
         instrs: &Instructions,
         between: &mut F,
     ) -> Result<Option<Reply>, AllocError>
@@ -278,7 +286,7 @@ impl AgentPart {
         &mut self,
         alloc: Global,
         storage: &Storage<A>,
-        reads: &[Named],
+        reads: &Items<Named>,
         instrs: &Instructions,
         between: &mut F,
     ) -> Result<Option<Reply>, AllocError>
@@ -304,7 +312,7 @@ impl AgentPart {
         }
     }
 
-    /// Turns until one is answered, at most 64.
+    /// Turns until one is answered, at most 64. The named reads are copied once for all of them.
     pub(crate) fn fire<A: Aggregator + Sync + Drop, F: FnMut()>(
         &mut self,
         alloc: Global,
@@ -331,8 +339,15 @@ impl AgentPart {
             Ran (λ f g. F.step f tt g) between.old n between.new }
     {
         let from = self.progress.seen_len();
+        let list = match copied_named(alloc, reads) {
+            Ok(list) => list,
+            Err(_) => {
+                self.look(storage);
+                return Err(FireError::Memory);
+            }
+        };
         for lost in 0..64u32 {
-            match self.turn(alloc, storage, reads, instrs, between)? {
+            match self.turn(alloc, storage, &list, instrs, between)? {
                 Some(reply) => return Ok(reply),
                 None => {}
             }
