@@ -2,17 +2,17 @@
 -- may go to a thread, and come back from it with the outcomes of its steps.
 use denote.RattleType.{RattleType}
 use denote.Hole.{as_row}
-use denote.Hole.FixSend.{Syncs, fix_sync}
-use denote.Param.Send.{IsSend, IsSync, plain_sync, sendable}
-use denote.Param.SendFields.{as_row_sync, declared_send, declared_sync, variants_sync}
+use denote.Hole.FixSend.{Sends, Syncs, fix_send, fix_sync}
+use denote.Param.Send.{IsSend, IsSync, plain_send, plain_sync, sendable}
+use denote.Param.SendFields.{as_row_send, as_row_sync, declared_send, declared_sync, variants_send, variants_sync}
 use denote.Ref.{NamedLft}
 use denote.Struct.Field.{row_field}
-use Rattle.std.proofs.Crossing.{Box-sync, Vec-send, Vec-sync}
+use Rattle.std.proofs.Crossing.{Box-send, Box-sync, Vec-send, Vec-sync}
 use Rattle.std.specs.contracts.alloc.Global as Global
 use Rattle.std.specs.contracts.boxed.Box as Box
 use Rattle.std.specs.contracts.impls.GlobalAllocator.TheImpl.{ghosts}
 use Rattle.asm_element.proofs.items.Items.TheSendSync as items
-use Rattle.asm_element.proofs.Crossing.{location_is_sent, location_is_shared, value_is_shared}
+use Rattle.asm_element.proofs.Crossing.{location_is_sent, location_is_shared, value_is_sent, value_is_shared}
 use Rattle.asm_element.specs.contracts.items.Items as Items
 use Rattle.asm_element.specs.contracts.location.Location as Location
 use Rattle.asm_element.specs.contracts.value.Value as Value
@@ -78,8 +78,55 @@ inside_step_sync = search (sendable, Vec-sync, block_sync) depth 20
 step_sync : IsSync Step.the_row
 step_sync = search (sendable, inside_step_sync) depth 20
 
+-- a term, where the terms in it may go to another thread
+layer_send : (T : RattleType) → IsSend T → IsSend (Knot.layer-Term T T)
+layer_send T t =
+    let value = as_row_send (row_field (as_row Value.the_field)) value_is_sent in
+    let location = as_row_send (row_field (as_row Location.the_field)) location_is_sent in
+    let box = as_row_send (row_field (Box.the_row T Global.the_row ghosts)) (Box-send T t) in
+    variants_send (Knot.type-Term T T) ((value, tt), ((location, tt), ((box, (box, tt)), tt)))
+
+-- so each term
+hole_send : IsSend Term.the_hole
+hole_send = fix_send Term.the_ring (Term.by_members (λ i. Sends Term.the_ring i) (record {
+  send = λ h each. layer_send (h Term.the_member) (each Term.the_member);
+})) Term.the_member
+
+term_send : IsSend Term.the_row
+term_send = variants_send Term.enum (
+  (value_is_sent, tt),
+  ((location_is_sent, tt), ((Box-send Term.the_hole hole_send, (Box-send Term.the_hole hole_send, tt)), tt)),
+)
+
+action_send : IsSend TermAction.the_row
+action_send = variants_send TermAction.enum (
+  (term_send, tt),
+  (
+    (term_send, tt),
+    (
+      (term_send, tt),
+      ((term_send, (amount.the_send, tt)), ((term_send, (amount.the_send, tt)), ((plain_send _ _ _ _ _, tt), tt))),
+    ),
+  ),
+)
+
+instruction_send : IsSend TermInstruction.the_row
+instruction_send = declared_send TermInstruction.the_type (location_is_sent, (action_send, tt))
+
+inside_block_send : IsSend InsideBlock.the_row
+inside_block_send = search (sendable, Vec-send, instruction_send) depth 20
+
+block_send : IsSend Block.the_row
+block_send = search (sendable, inside_block_send) depth 20
+
+inside_step_send : IsSend InsideStep.the_row
+inside_step_send = search (sendable, Vec-send, block_send) depth 20
+
+step_send : IsSend Step.the_row
+step_send = search (sendable, inside_step_send) depth 20
+
 pub steps_sync : IsSync (Items.the_row Step.the_row)
-steps_sync = items.the_sync Step.the_row step_sync
+steps_sync = items.the_sync Step.the_row step_send step_sync
 
 outcome_is_sent : IsSend Outcome.the_row
 outcome_is_sent = search (sendable, clash_is_sent, location_is_sent) depth 20
