@@ -30,6 +30,8 @@ mod missing;
 #[cfg(test)]
 mod naming;
 mod part;
+#[cfg(test)]
+mod plain_moves;
 mod proper;
 mod read;
 mod reading;
