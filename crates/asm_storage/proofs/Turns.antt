@@ -207,20 +207,6 @@ module _ {A : Type 0} (old mid new : AgentAt A) (n : ℕ) (lost : HasOffered old
       MadeOffers old new (Err fire_error.Memory) (n + 0)
   offers_wanting lt more = (omega (arith, lt), quiet more)
 
--- memory was refused before the first offer, after a look
-pub offers_none : {A : Type 0} (meaning : A → Meaning) (s : StorageView A) (old new : AgentPart) → LooksOn meaning s old new →
-    Missed (agent_of s old) (last_look (agent_of s new)) (agent_of s new) →
-    MadeOffers (agent_of s old) (agent_of s new) (Err fire_error.Memory) 0
-offers_none meaning s old new looks missed =
-    let longer = length-prefix old.progress.seen new.progress.seen looks.seen in
-    let same : last_look (agent_of s new) ≡ 0 + last_look (agent_of s new) = omega (arith) in (
-      omega (arith),
-      record {
-        longer = omega (arith, longer);
-        missed = subst (λ k. Missed (agent_of s old) k (agent_of s new)) same missed;
-      },
-    )
-
 -- an offer that was made calls the closure once
 pub attempt_ran : {A F : Type 0} (step : F → F → Type 0) (f g : F) (s : StorageView A) (old new : AgentPart)
     (reads : List Named) (M : Move) (r : Result (Option Reply) AllocError) →

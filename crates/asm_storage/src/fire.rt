@@ -18,23 +18,22 @@ ghost use Rattle.asm_storage.specs.Part.{agent_of, HasFired, IsJudged, IsLost, I
 ghost use Rattle.asm_storage.specs.Part.{offers_in, misses_in};
 
 use crate::call::{Answer, Call, Reply};
-use crate::copying::{copied_named, same_list};
+use crate::copying::copied_named;
 use crate::error::FireError;
 use crate::part::AgentPart;
 use crate::receipt::{Entry, Receipt};
 use crate::storage::Storage;
-use asm_element::Items;
 use asm_row::Offer;
 use asm_state::{Named, Objection, State};
 use asm_update::{Aggregator, Cause, Clash, Instructions, consistent};
 use std::alloc::{AllocError, Global};
 
-// A call to fire, which shares its lists with the arguments.
-fn fire_call(alloc: Global, reads: &Items<Named>, instrs: &Instructions) -> Result<Call, AllocError>
+// A call to fire, in memory of its own.
+fn fire_call(alloc: Global, reads: &[Named], instrs: &Instructions) -> Result<Call, AllocError>
     ensures { IfOk result (λ c. c ≡ call.Fire reads.now instrs.now) }
 {
     Ok(Call::Fire {
-        reads: same_list(reads)?,
+        reads: copied_named(alloc, reads)?,
         instrs: instrs.copy(alloc)?,
     })
 }
@@ -67,10 +66,10 @@ fn judged<A: Aggregator>(
 
 // Whether a move rests on no read and no old value, so that it is judged alike on every state. A wide one is
 // judged on a state all the same, which costs less than `consistent` does.
-pub(crate) fn is_plain(reads: &Items<Named>, instrs: &Instructions) -> bool
+pub(crate) fn is_plain(reads: &[Named], instrs: &Instructions) -> bool
     ensures { result ≡ is_plain reads.now instrs.now }
 {
-    match reads.as_slice().first() {
+    match reads.first() {
         Some(_) => false,
         None => instrs.len() < 17 && instrs.all_regular(),
     }
@@ -80,7 +79,7 @@ pub(crate) fn is_plain(reads: &Items<Named>, instrs: &Instructions) -> bool
 fn judged_plain(
     alloc: Global,
     is_full: bool,
-    reads: &Items<Named>,
+    reads: &[Named],
     instrs: &Instructions,
 ) -> Result<Option<Reply>, AllocError>
     requires { is_plain reads.now instrs.now ≡ true }
@@ -102,7 +101,7 @@ impl AgentPart {
         &mut self,
         alloc: Global,
         storage: &Storage<A>,
-        reads: &Items<Named>,
+        reads: &[Named],
         instrs: &Instructions,
     ) -> Result<(), AllocError>
         requires { IsPartOf A.meaning storage.now self.old }
@@ -124,7 +123,7 @@ impl AgentPart {
         &self,
         alloc: Global,
         storage: &Storage<A>,
-        reads: &Items<Named>,
+        reads: &[Named],
         instrs: &Instructions,
     ) -> Result<Option<Reply>, AllocError>
         requires part { IsPartOf A.meaning storage.now self.now }
@@ -137,14 +136,7 @@ impl AgentPart {
             return judged_plain(alloc, is_full, reads, instrs);
         }
         let aggregator = storage.aggregator();
-        judged(
-            alloc,
-            aggregator,
-            &self.state,
-            is_full,
-            reads.as_slice(),
-            instrs,
-        )
+        judged(alloc, aggregator, &self.state, is_full, reads, instrs)
     }
 
     /// Keeps the receipt of a call that fired nothing.
@@ -178,7 +170,7 @@ impl AgentPart {
         &mut self,
         alloc: Global,
         storage: &Storage<A>,
-        reads: &Items<Named>,
+        reads: &[Named],
         instrs: &Instructions,
         reply: &Reply,
     ) -> Result<(), AllocError>
@@ -246,7 +238,7 @@ impl AgentPart {
         &mut self,
         alloc: Global,
         storage: &Storage<A>,
-        reads: &Items<Named>,
+        reads: &[Named],
         instrs: &Instructions,
         between: &mut F,
     ) -> Result<Option<Reply>, AllocError>
@@ -286,7 +278,7 @@ impl AgentPart {
         &mut self,
         alloc: Global,
         storage: &Storage<A>,
-        reads: &Items<Named>,
+        reads: &[Named],
         instrs: &Instructions,
         between: &mut F,
     ) -> Result<Option<Reply>, AllocError>
@@ -312,7 +304,7 @@ impl AgentPart {
         }
     }
 
-    /// Turns until one is answered, at most 64. The named reads are copied once for all of them.
+    /// Turns until one is answered, at most 64.
     pub(crate) fn fire<A: Aggregator + Sync + Drop, F: FnMut()>(
         &mut self,
         alloc: Global,
@@ -339,15 +331,8 @@ impl AgentPart {
             Ran (λ f g. F.step f tt g) between.old n between.new }
     {
         let from = self.progress.seen_len();
-        let list = match copied_named(alloc, reads) {
-            Ok(list) => list,
-            Err(_) => {
-                self.look(storage);
-                return Err(FireError::Memory);
-            }
-        };
         for lost in 0..64u32 {
-            match self.turn(alloc, storage, &list, instrs, between)? {
+            match self.turn(alloc, storage, reads, instrs, between)? {
                 Some(reply) => return Ok(reply),
                 None => {}
             }

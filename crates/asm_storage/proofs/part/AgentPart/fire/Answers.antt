@@ -1,21 +1,12 @@
-use Rattle.std.proofs.Common.{refl, ◌+◌, Err, IfErr, Ok, OnErr, Option, Some, ap, sym, ◌∙◌, subst}
+use Rattle.std.proofs.Common.{◌+◌, Err, IfErr, Ok, OnErr, Option, Some, ap, sym, ◌∙◌, subst}
 use Rattle.std.proofs.lemmas.Result.{err_from_is_err_and}
 use Rattle.asm_storage.specs.declared.call.Reply.{Reply}
 use Rattle.asm_storage.specs.Calls.{HasOffered, IsBusy, MadeOffers, Ran}
 use Rattle.asm_storage.specs.Part.{agent_of, IsTurn, LooksOn, offers_in, misses_in}
 use Rattle.asm_storage.proofs.Coherent.{answered_coherent}
 use Rattle.asm_storage.proofs.Following.{looks_then}
-use Rattle.asm_storage.proofs.Turns.{answered_after, offered_then, offers_answered, offers_none, offers_wanting, ran_then}
+use Rattle.asm_storage.proofs.Turns.{answered_after, offered_then, offers_answered, offers_wanting, ran_then}
 use Rattle.asm_storage.proofs.part.AgentPart.fire.Goals as goal
-
--- memory was refused before the first turn
-pub returns-in-Err-clause-offers : goal.returns-in-Err-clause-offers
-returns-in-Err-clause-offers g c = (
-  0,
-  offers_none g.A.Aggregator.meaning c.args.storage.now c.args.self.now c.look.new.self c.look.ensures.looks
-      c.look.ensures.missed,
-  refl,
-)
 
 -- memory was wanting in a turn
 pub returns-in_err-reply-clause-offers : goal.returns-in_err-reply-clause-offers
@@ -39,9 +30,8 @@ returns-in-Some-clause-coherent g c =
     let s = c.args.storage.now in
     let mid = c.loop-lost.self in
     let new = c.turn.new.self in
-    let told = subst (λ reads. IsTurn meaning s mid new reads c.args.instrs.now c.in_ok-reply.field-0) c.in-Ok.ensures
+    let is = subst (λ (o : Option Reply). IsTurn meaning s mid new c.args.reads.now c.args.instrs.now o) c.in-Some.is
     c.in_ok-reply.ensures.turn in
-    let is = subst (λ (o : Option Reply). IsTurn meaning s mid new c.args.reads.now c.args.instrs.now o) c.in-Some.is told in
     answered_coherent meaning (agent_of s mid) (agent_of s new) c.args.reads.now c.args.instrs.now c.in-Some.reply is
 
 -- a turn was answered
@@ -73,7 +63,7 @@ loop-lost-preserved g c =
     let new = c.turn.new.self in
     let lost = c.loop-lost.lost in
     let before = c.loop-lost.invariant in
-    let is = subst (λ (o : Option Reply). IsTurn meaning s mid new c.in-Ok.list c.args.instrs.now o) c.in-None.is
+    let is = subst (λ (o : Option Reply). IsTurn meaning s mid new c.args.reads.now c.args.instrs.now o) c.in-None.is
     c.in_ok-reply.ensures.turn in
     let counted = subst (λ (o : Option Reply). HasOffered (agent_of s mid) (agent_of s new) (offers_in (Ok o))
     (misses_in (agent_of s new) (Ok o))) c.in-None.is c.in_ok-reply.ensures.counted in
@@ -107,8 +97,7 @@ returns-in-Some-clause-answered g c =
     let mid = c.loop-lost.self in
     let new = c.turn.new.self in
     let looks = c.loop-lost.invariant.looks in
-    let told = subst (λ reads. IsTurn meaning s mid new reads c.args.instrs.now c.in_ok-reply.field-0) c.in-Ok.ensures
+    let is = subst (λ (o : Option Reply). IsTurn meaning s mid new c.args.reads.now c.args.instrs.now o) c.in-Some.is
     c.in_ok-reply.ensures.turn in
-    let is = subst (λ (o : Option Reply). IsTurn meaning s mid new c.args.reads.now c.args.instrs.now o) c.in-Some.is told in
     answered_after meaning (agent_of s c.args.self.now) (agent_of s mid) c.args.reads.now c.args.instrs.now (agent_of s new)
     c.in-Some.reply looks.agent looks.seen is

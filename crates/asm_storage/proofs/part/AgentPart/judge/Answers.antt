@@ -20,12 +20,9 @@ returns g c =
     let stands = stands_for_all m seen p.state c.requires.part.following (c.requires.level (sym c.is_plain.ensures ∙ c.if-is_plain.false)) in
     let room = subst (λ row. MatchBool full (length seen ≡ length row) (length seen < length row))
     c.requires.part.row c.is_full-is_full.ensures in
-    let heard = subst (λ reads. (init : State) (q : List Move) → Stands (meaning c.aggregator-aggregator.result.now).part init p.state q →
-    IfOk c.judged.result (IsReplyAt (meaning c.aggregator-aggregator.result.now).part init q full reads c.args.instrs.now))
-    c.as_slice.ensures c.judged.ensures in
     let told = subst (λ agg. (init : State) (q : List Move) → Stands (meaning agg).part init p.state q →
     IfOk c.judged.result (IsReplyAt (meaning agg).part init q full c.args.reads.now c.args.instrs.now))
-    c.aggregator-aggregator.ensures heard in
+    c.aggregator-aggregator.ensures c.judged.ensures in
     judged_result m seen c.args.reads.now c.args.instrs.now full c.judged.result room (told m.init (moves_seen seen) stands)
 
 pub returns-then-is_plain : goal.returns-then-is_plain
