@@ -30,7 +30,7 @@ use Rattle.asm_aggregate.specs.laws.BagAlgebra.{small_held, small_below, same_co
 use Rattle.asm_aggregate.specs.laws.BagLaws.{short, large, tabled, none_short, none_large}
 use Rattle.asm_aggregate.proofs.SetSteps.{IsItem}
 
-sum_more : (f : Action → ℕ) (xs : List Action) (i : ℕ) (x : Action) → IsItem xs i x →
+pub sum_more : (f : Action → ℕ) (xs : List Action) (i : ℕ) (x : Action) → IsItem xs i x →
     sum_by f (take (i + 1) xs) ≡ sum_by f (take i xs) + f x
 sum_more f xs i x item = sum_by_more f xs i x item.within ∙ ap (λ y. sum_by f (take i xs) + f y) (sym item.read)
 
@@ -140,14 +140,14 @@ large_on_the_way b t xs i x item had more =
     (more.0, omega (arith, part, before, here))
 
 -- the tests of the table
-passes_somewhere : (p : Element → Bool) (es : List Element) (q : Element) → has q es ≡ true → p q ≡ true →
+pub passes_somewhere : (p : Element → Bool) (es : List Element) (q : Element) → has q es ≡ true → p q ≡ true →
     list_any p es ≡ true
 passes_somewhere p es q h k = at (list_any p es) refl where
   at : (b : Bool) → list_any p es ≡ b → list_any p es ≡ true
   at true e = e
   at false e = let none = found p es q e h in cc
 
-named_if : (side : Side) (actions : List Action) (q : Element) → 0 < amount_in side actions q →
+pub named_if : (side : Side) (actions : List Action) (q : Element) → 0 < amount_in side actions q →
     has q (named actions) ≡ true
 named_if side actions q some = at (has q (named actions)) refl where
   at : (b : Bool) → has q (named actions) ≡ b → has q (named actions) ≡ true

@@ -4,6 +4,8 @@ mod CountSteps
 mod Walked
 pub mod Exits
 pub mod BagTables
+mod BagRecount
+mod BagSums
 mod Bundles
 mod Grouped
 mod Composed

@@ -10,4 +10,5 @@ pub mod Nobody
 pub mod Bundle
 pub mod Compose
 pub mod Steps
+pub mod Sums
 pub mod laws

@@ -1,11 +1,12 @@
 -- What the steps on the way to a result or a join answer.
-use Rattle.std.specs.Prelude.{◌≡◌, ℕ, ◌+◌, ◌<◌, Bool, true, false, nat_lt, if◌then◌else◌, List, [], ◌∷◌, Option, None}
+use Rattle.std.specs.Prelude.{◌≡◌, ℕ, ◌+◌, ◌-◌, ◌<◌, Bool, true, false, nat_lt, if◌then◌else◌, List, [], ◌∷◌, Option, None}
 use Rattle.std.specs.Prelude.{Some}
 use Rattle.std.specs.Prelude.{Result, Ok, Err}
 use Rattle.std.specs.List.{list_any}
 use Rattle.std.specs.declared.alloc.Global.{Global}
 use Rattle.std.specs.declared.vec.Vec.{Vec}
 use Rattle.asm_element.specs.declared.element.Element.{Element}
+use Rattle.asm_element.specs.Bag.{ElementBag, count}
 use Rattle.asm_update.specs.declared.action.Action.{Action}
 use Rattle.asm_update.specs.declared.clash.Cause.{Cause}
 use Rattle.asm_update.specs.declared.clash.Cause.TheVariants.{Short, Large as LargeCount}
@@ -28,6 +29,23 @@ one_action side e n = if nat_lt 0 n then bag_action side e n ∷ [] else []
 -- one count of each element is another with this more
 abbrev pub IsMoreBy : (Element → ℕ) → (Element → ℕ) → (Element → ℕ) → Type 0
 IsMoreBy less more by = (e : Element) → less e + by e ≡ more e
+
+-- whether one of the actions names the element
+abbrev pub names_in : List Action → Element → Bool
+names_in actions e = list_any (names e) actions
+
+-- a count that is brought up to another where it is below it
+abbrev pub raised : ℕ → ℕ → ℕ
+raised n to = n + (to - n)
+
+-- a count that is brought down to another where it is above it
+abbrev pub lowered : ℕ → ℕ → ℕ
+lowered n to = n - (n - to)
+
+-- of the chosen elements a bag's counts are moved towards another's, and the others stay
+pub record IsMoved (move : ℕ → ℕ → ℕ) (chosen : Element → Bool) (old to new : ElementBag) : Type 0 where
+  pub counts : (e : Element) →
+      count new e ≡ (if chosen e then move (count old e) (count to e) else count old e)
 
 -- the error is `Short`, and some element has fewer than are removed
 abbrev pub IsShort : (Element → ℕ) → (Element → ℕ) → ResultError → Type 0

@@ -16,6 +16,8 @@ ghost use Rattle.asm_aggregate.specs.BagMeaning.{is_large};
 ghost use Rattle.asm_aggregate.specs.declared.side.Side.TheVariants as sides;
 ghost use Rattle.asm_aggregate.specs.laws.BagLaws.{bag_laws};
 
+use crate::bag_change::{admitted, change_bag};
+use crate::bag_sums::{Amounts, Sums};
 use crate::families::{are_all_of, base_of};
 use crate::side::{Side, note};
 use asm_element::{ElemBag, ElemSet, Element, Value};
@@ -31,14 +33,7 @@ use std::alloc::{AllocError, Global};
 #[derive(Clone, Copy, Debug)]
 pub struct BagAgg;
 
-/// How many of an element are added, and how many are removed.
-#[derive(Clone, Copy)]
-struct Amounts {
-    added: u128,
-    removed: u128,
-}
-
-fn bag_of(value: Option<&Value>) -> Option<&ElemBag>
+pub(crate) fn bag_of(value: Option<&Value>) -> Option<&ElemBag>
     ensures some { IfSome result (λ b. unwrap_or (option_copied value.entry) undef ≡ values.Bag b.now) }
     ensures proper { IfSome result (λ b. IsProper b.now) }
     ensures none { IfNone result (is_kind family.Bag (unwrap_or (option_copied value.entry) undef) ≡ false) }
@@ -98,7 +93,7 @@ fn put_added(alloc: Global, bag: &mut ElemBag, action: &Action) -> Result<(), Re
 }
 
 /// The bag less what the actions remove.
-fn without(mut bag: ElemBag, actions: &[Action]) -> Result<ElemBag, ResultError>
+pub(crate) fn without(mut bag: ElemBag, actions: &[Action]) -> Result<ElemBag, ResultError>
     ensures ok { IfOk result (λ b. IsMoreBy (count b) (count bag) (amount_in sides.Removed actions.now)) }
     ensures err { IfErr result (IsShort (count bag) (amount_in sides.Removed actions.now)) }
 {
@@ -109,7 +104,11 @@ fn without(mut bag: ElemBag, actions: &[Action]) -> Result<ElemBag, ResultError>
 }
 
 /// The bag and what the actions add.
-fn with(alloc: Global, mut bag: ElemBag, actions: &[Action]) -> Result<ElemBag, ResultError>
+pub(crate) fn with(
+    alloc: Global,
+    mut bag: ElemBag,
+    actions: &[Action],
+) -> Result<ElemBag, ResultError>
     ensures ok { IfOk result (λ b. IsMoreBy (count bag) (count b) (amount_in sides.Added actions.now)) }
     ensures err { IfErr result (IsAbove (λ e. count bag e + amount_in sides.Added actions.now e)) }
 {
@@ -119,7 +118,7 @@ fn with(alloc: Global, mut bag: ElemBag, actions: &[Action]) -> Result<ElemBag, 
     Ok(bag)
 }
 
-fn element_named(action: &Action) -> Option<&Element>
+pub(crate) fn element_named(action: &Action) -> Option<&Element>
     ensures { option_copied result ≡ element_of action.now }
 {
     match action {
@@ -155,40 +154,13 @@ fn named_by(alloc: Global, first: &[Action], second: &[Action]) -> Result<ElemSe
     Ok(elements)
 }
 
-/// How many of the element the action adds, or how many it removes.
-fn amount_of(side: Side, action: &Action, element: &Element) -> u32
-    ensures { result ≡ amount side element.now action.now }
-{
-    match (side, action) {
-        (Side::Added, Action::BagAdd(other, amount)) if *element == *other => amount.get(),
-        (Side::Removed, Action::BagRemove(other, amount)) if *element == *other => amount.get(),
-        _ => 0,
-    }
-}
-
-/// How many of the element the actions add together and how many they remove, by one walk.
-fn amounts_by(actions: &[Action], element: &Element) -> Amounts
-    ensures added { result.added ≡ amount_in sides.Added actions.now element.now }
-    ensures removed { result.removed ≡ amount_in sides.Removed actions.now element.now }
-    ensures added_fits { result.added < 2 ^ 96 }
-    ensures removed_fits { result.removed < 2 ^ 96 }
-{
-    let mut added: u128 = 0;
-    let mut removed: u128 = 0;
-    for action in actions {
-        added += u128::from(amount_of(Side::Added, action, element));
-        removed += u128::from(amount_of(Side::Removed, action, element));
-    }
-    Amounts { added, removed }
-}
-
 /// What the first and then the second list add to the element's count, and what they remove from it.
-fn joined_amounts(first: &[Action], second: &[Action], element: &Element) -> Amounts
+fn joined_amounts<'a>(first: &Sums<'a>, second: &Sums<'a>, element: &'a Element) -> Amounts
     ensures added { result.added ≡ joined_amount first.now second.now sides.Added element.now }
     ensures removed { result.removed ≡ joined_amount first.now second.now sides.Removed element.now }
 {
-    let one = amounts_by(first, element);
-    let two = amounts_by(second, element);
+    let one = first.at(element);
+    let two = second.at(element);
     Amounts {
         added: two.added + one.added.saturating_sub(two.removed),
         removed: one.removed + two.removed.saturating_sub(one.added),
@@ -236,11 +208,11 @@ fn push_side(
 }
 
 /// Additions by element, then removals by element, of what the first and then the second list do.
-fn joined_actions(
+fn joined_actions<'a>(
     alloc: Global,
-    elements: &ElemSet,
-    first: &[Action],
-    second: &[Action],
+    elements: &'a ElemSet,
+    first: &Sums<'a>,
+    second: &Sums<'a>,
 ) -> Result<Vec<Action>, JoinError>
     ensures { AreActions (joined_amount first.now second.now) (set.elements elements.now) result }
 {
@@ -292,6 +264,24 @@ impl Aggregator for BagAgg {
         Ok(value)
     }
 
+    fn admit(&self, alloc: Global, old: Option<&Value>, group: &Group) -> Result<(), ResultError> {
+        match admitted(alloc, old, group) {
+            Ok(_) => Ok(()),
+            Err(error) => Err(error),
+        }
+    }
+
+    fn change(&self, alloc: Global, value: &mut Value, group: &Group) -> Result<(), ResultError> {
+        let recount = admitted(alloc, Some(&*value), group)?;
+        match value {
+            Value::Bag(bag) => {
+                change_bag(alloc, bag, &recount, group.partials())?;
+                Ok(())
+            }
+            Value::Plain(_) | Value::Set(_) => unreachable!(),
+        }
+    }
+
     fn join(
         &self,
         alloc: Global,
@@ -302,6 +292,8 @@ impl Aggregator for BagAgg {
             return Err(JoinError::Cause(Cause::Mixed));
         }
         let elements = named_by(alloc, first, second)?;
-        joined_actions(alloc, &elements, first, second)
+        let first = Sums::of(alloc, first)?;
+        let second = Sums::of(alloc, second)?;
+        joined_actions(alloc, &elements, &first, &second)
     }
 }

@@ -55,7 +55,7 @@ fn join_by<R: Abort, A: Aggregator>(
 }
 
 /// What joins the two lists, which are dropped.
-fn join_of<R: Abort, A: Aggregator>(
+pub(crate) fn join_of<R: Abort, A: Aggregator>(
     rt: &R,
     alloc: Global,
     aggregator: &A,

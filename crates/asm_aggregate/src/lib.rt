@@ -4,6 +4,8 @@
 mod admission;
 mod aggregation;
 mod bag_agg;
+mod bag_change;
+mod bag_sums;
 mod composition;
 mod count_agg;
 mod families;
@@ -22,6 +24,8 @@ pub use set_agg::SetAgg;
 
 #[cfg(test)]
 mod admission_tests;
+#[cfg(test)]
+mod bag_change_tests;
 #[cfg(test)]
 mod bag_tests;
 #[cfg(test)]

@@ -237,7 +237,7 @@ fn put_of(alloc: Global, puts: &[Old]) -> Result<Option<Value>, Fail> {
 }
 
 /// The group, if its actions are partial updates, and some.
-fn group_of(regular: Option<Value>, partials: Vec<Action>) -> Option<Group> {
+pub(crate) fn group_of(regular: Option<Value>, partials: Vec<Action>) -> Option<Group> {
     if partials.is_empty() || !are_partial(partials.as_slice()) {
         return None;
     }

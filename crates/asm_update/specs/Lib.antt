@@ -5,4 +5,5 @@ pub mod Fire
 pub mod Equal
 pub mod Group
 pub mod Aggregator
+pub mod Change
 pub mod Shared

@@ -1,14 +1,19 @@
-ghost use Rattle.std.specs.Prelude.{◌≡◌, ◌↔◌, IsNone, IsTrue, IsOk, None, OnOk, OnErr, IfOk, false};
+ghost use Rattle.std.specs.Prelude.{◌≡◌, ◌↔◌, IsNone, IsTrue, IsOk, None, OnOk, OnErr, IfOk, IfErr, Err, false};
 ghost use Rattle.std.specs.Option.{option_copied};
 ghost use Rattle.std.specs.FinMap as map;
 ghost use Rattle.asm_element.specs.Place.{location_cmp};
 ghost use Rattle.asm_element.specs.Value as held;
 ghost use Rattle.asm_update.specs.State as state;
 ghost use Rattle.asm_update.specs.State.{GivesAscending};
+ghost use Rattle.asm_update.specs.Aggregator.{IsOutcome, IsLeft};
+ghost use Rattle.asm_update.specs.Change.{IsChangedAt};
 ghost use Rattle.std.specs.List.Sorted.{IsStrictlySortedBy};
 ghost use Rattle.std.specs.Cmp.{partial_equiv_from_equiv};
 ghost use Rattle.asm_update.specs.Equal.{state_eq, state_eq-equiv};
 
+use crate::aggregator::Aggregator;
+use crate::errors::ResultError;
+use crate::group::Group;
 use crate::proper::proper_location;
 use asm_element::{Location, Value};
 use std::alloc::{AllocError, Global};
@@ -40,6 +45,26 @@ impl Model for PlainState {
     ghost view = { λ s. map.from_entries s.values.entries };
 
     ghost invariant = { λ s. AreStateEntries s.values.entries };
+}
+
+// Changes a value in place to what the group gives on it, which is never undef.
+fn change_value<A: Aggregator>(
+    alloc: Global,
+    aggregator: &A,
+    value: &mut Value,
+    group: &Group,
+) -> Result<(), ResultError>
+    requires { held.is_undef value.old ≡ false }
+    ensures left { IsLeft result value.new
+        ((A.meaning aggregator.now).part value.old group.now.regular group.now.partials) }
+    ensures err { OnErr result (value.new ≡ value.old) }
+    ensures held { held.is_undef value.new ≡ false }
+    ensures proper { held.IsProper value.new }
+{
+    let _ = group.partials();
+    let changed = aggregator.change(alloc, value, group);
+    value.proper();
+    changed
 }
 
 impl PlainState {
@@ -82,6 +107,49 @@ impl PlainState {
             return Ok(());
         }
         self.put_in(at, value)
+    }
+
+    /// Puts the result of a group at a location in the place of its value.
+    ///
+    /// A value that is there is changed in place, as `Aggregator::change` does it. `ResultError::Cause`
+    /// comes exactly where the group has no result on it, and `Memory` only where memory was refused;
+    /// the state is then unchanged.
+    pub fn change<A: Aggregator>(
+        &mut self,
+        alloc: Global,
+        aggregator: &A,
+        at: &Location,
+        group: &Group,
+    ) -> Result<(), ResultError>
+        ensures ok { OnOk result (
+            IsChangedAt (A.meaning aggregator.now).part self.old at.now group.now self.new) }
+        ensures cause { IfErr result (λ e. IsOutcome (Err e)
+            ((A.meaning aggregator.now).part (state.val self.old at.now) group.now.regular group.now.partials)) }
+        ensures err { OnErr result (self.new ≡ self.old) }
+    {
+        match self.values.get_mut(at) {
+            Some(value) => change_value(alloc, aggregator, value, group),
+            None => self.change_undef(alloc, aggregator, at, group),
+        }
+    }
+
+    fn change_undef<A: Aggregator>(
+        &mut self,
+        alloc: Global,
+        aggregator: &A,
+        at: &Location,
+        group: &Group,
+    ) -> Result<(), ResultError>
+        requires { map.get self.old at.now ≡ None }
+        ensures ok { OnOk result (
+            IsChangedAt (A.meaning aggregator.now).part self.old at.now group.now self.new) }
+        ensures cause { IfErr result (λ e. IsOutcome (Err e)
+            ((A.meaning aggregator.now).part (state.val self.old at.now) group.now.regular group.now.partials)) }
+        ensures err { OnErr result (self.new ≡ self.old) }
+    {
+        let value = aggregator.result(alloc, None, group)?;
+        self.set(at.copy(alloc)?, value)?;
+        Ok(())
     }
 
     fn take_out(&mut self, at: &Location)

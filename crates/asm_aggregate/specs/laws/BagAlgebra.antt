@@ -49,7 +49,7 @@ summed f x xs = let e = sum_by-append f (x ∷ []) xs in omega (arith, e)
 not_at : (b : Bool) (n : ℕ) → b ≡ false → cond b n 0 ≡ 0
 not_at b n h = ap (λ b. cond b n 0) h
 
-no_amount : (side : Side) (x : Action) (q : Element) → names q x ≡ false → amount side q x ≡ 0
+pub no_amount : (side : Side) (x : Action) (q : Element) → names q x ≡ false → amount side q x ≡ 0
 no_amount Added (BagAdd x n) q h = not_at _ n h
 no_amount Removed (BagRemove x n) q h = not_at _ n h
 no_amount side x q h = refl
@@ -89,7 +89,7 @@ pub get-set_count : (b : ElementBag) (e : Element) (n : ℕ) (q : Element) →
 get-set_count b e zero q = finite.get-remove element_cmp_total b e q
 get-set_count b e (suc n) q = finite.get-insert element_cmp_total b e (suc n) q
 
-get-recounted : (b : ElementBag) (f : Element → ℕ) (es : List Element) (q : Element) →
+pub get-recounted : (b : ElementBag) (f : Element → ℕ) (es : List Element) (q : Element) →
     finite.get (recounted b f es) q ≡ cond (has q es) (held (f q)) (finite.get b q)
 get-recounted b f [] q = refl
 get-recounted b f (e ∷ es) q =

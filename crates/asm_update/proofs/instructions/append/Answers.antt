@@ -1,4 +1,4 @@
-use Rattle.std.proofs.Common.{◌≡◌, ◌++◌, ◌∷◌, [], ap, ◌∙◌, refl, sym, subst, ⊎_elim, ◌⊎◌}
+use Rattle.std.proofs.Common.{◌≡◌, ◌++◌, ◌∷◌, [], ◌∙◌, refl, sym, subst, ⊎_elim, ◌⊎◌}
 use Rattle.std.specs.Prelude.{IsOk}
 use Rattle.std.specs.List.{AllZip, each_same}
 use Rattle.std.specs.Vec.{vec_len}
