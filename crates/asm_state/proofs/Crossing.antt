@@ -1,8 +1,10 @@
 -- States and named reads may cross threads.
 use denote.Param.Send.{IsSend, IsSync, sendable}
 use denote.Param.SendFields.{declared_send, declared_sync}
+use Rattle.std.proofs.Crossing.{Arc-send, Arc-sync}
 use Rattle.std.proofs.MapsCrossing.{BTreeMap-send, BTreeMap-sync}
 use Rattle.asm_element.proofs.Crossing.{location_is_sent, location_is_shared, value_is_sent, value_is_shared}
+use Rattle.asm_update.proofs.Crossing as plain
 use Rattle.asm_state.specs.contracts.named.Named as Named
 use Rattle.asm_state.specs.contracts.entries.Written as Written
 use Rattle.asm_state.specs.contracts.entries.Entries as Entries
@@ -35,10 +37,12 @@ entries_is_shared : IsSync Entries.the_row
 entries_is_shared = search (sendable, inside_entries_is_shared) depth 20
 
 inside_state_is_sent : IsSend InsideState.the_row
-inside_state_is_sent = search (sendable, entries_is_sent) depth 20
+inside_state_is_sent =
+    search (sendable, Arc-send, plain.state_is_sent, plain.state_is_shared, entries_is_sent) depth 20
 
 inside_state_is_shared : IsSync InsideState.the_row
-inside_state_is_shared = search (sendable, entries_is_shared) depth 20
+inside_state_is_shared =
+    search (sendable, Arc-sync, plain.state_is_sent, plain.state_is_shared, entries_is_shared) depth 20
 
 pub state_is_sent : IsSend State.the_row
 state_is_sent = search (sendable, inside_state_is_sent) depth 20

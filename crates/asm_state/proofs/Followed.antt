@@ -9,14 +9,14 @@ use Rattle.asm_update.specs.Fire.{Part, Old, aggregated, overwritten, fire, stat
 use Rattle.asm_update.specs.declared.clash.Clash.{Clash}
 use Rattle.asm_update.proofs.FireLemmas.{aggregated-update_set, aggregated-clash, val-overwrite, stored_reads, has_updated}
 use Rattle.asm_state.specs.declared.entries.Written.{Written}
-use Rattle.asm_state.specs.View.{StateView, value_of, writer_of, value_at, writer_at}
+use Rattle.asm_state.specs.View.{StateView, value_over, writer_of, value_at, writer_at}
 use Rattle.asm_state.specs.Stands.{Stands, overwrites, writer}
 use Rattle.asm_state.specs.Follow.{entry_after, IsFollowed}
 use Rattle.asm_state.proofs.Writers.{state_of-push, writer_from-push}
 
-value_after : (n : ℕ) (u : Option Value) (x : Option Written) → value_of (entry_after n u x) ≡ unwrap_or u (value_of x)
-value_after n (Some v) x = stored_reads v
-value_after n None x = refl
+value_after : (n : ℕ) (v : Value) (u : Option Value) (x : Option Written) → value_over v (entry_after n u x) ≡ unwrap_or u (value_over v x)
+value_after n v (Some w) x = stored_reads w
+value_after n v None x = refl
 
 writer_after : (n : ℕ) (u : Option Value) (x : Option Written) → writer_of (entry_after n u x) ≡ cond (is_some u) n (writer_of x)
 writer_after n (Some v) x = refl
@@ -50,7 +50,8 @@ module _ (part : Part) (init : State) (q : List Move) (old new : StateView) (M :
       record {
         number = number_more;
         values = λ l.
-            ap value_of (followed.fired U e l) ∙ value_after (old.number + 1) (map.get U l) (map.get old.entries l)
+            ap (λ (B : State). value_over (val B l) (map.get new.entries l)) followed.base ∙ ap (value_over (val old.base l)) (followed.fired U e l)
+            ∙ value_after (old.number + 1) (val old.base l) (map.get U l) (map.get old.entries l)
             ∙ ap (unwrap_or (map.get U l)) (stands.values l) ∙ sym (val-overwrite (state_of part init q) U l)
             ∙ ap (λ r. val (state_or (state_of part init q) r) l) (sym fired) ∙ ap (λ (B : State). val B l) (sym (state_of-push part init q M));
         writers = λ l.
@@ -68,7 +69,8 @@ module _ (part : Part) (init : State) (q : List Move) (old new : StateView) (M :
       record {
         number = number_more;
         values = λ l.
-            ap (λ (m : map.FinMap _ Written). value_of (map.get m l)) entries ∙ stands.values l
+            ap (λ (B : State). value_over (val B l) (map.get new.entries l)) followed.base
+            ∙ ap (λ (m : map.FinMap _ Written). value_over (val old.base l) (map.get m l)) entries ∙ stands.values l
             ∙ ap (λ r. val (state_or (state_of part init q) r) l) (sym clashed) ∙ ap (λ (B : State). val B l) (sym (state_of-push part init q M));
         writers = λ l.
             ap (λ (m : map.FinMap _ Written). writer_of (map.get m l)) entries ∙ stands.writers l
@@ -84,20 +86,22 @@ module _ (part : Part) (init : State) (q : List Move) (old new : StateView) (M :
 
 module _ (part : Part) (old new : StateView) (M : Move) where
   -- from an update set whose locations were written
-  pub followed_fired : (U : Updates) → IsUpdateSet part (value_at old) M U → new.number ≡ old.number + 1 → ((l : Place) → map.get new.entries l ≡ entry_after (old.number + 1) (map.get U l) (map.get old.entries l)) → IsFollowed part old M new
-  followed_fired U is number written =
+  pub followed_fired : (U : Updates) → IsUpdateSet part (value_at old) M U → new.number ≡ old.number + 1 → new.base ≡ old.base → ((l : Place) → map.get new.entries l ≡ entry_after (old.number + 1) (map.get U l) (map.get old.entries l)) → IsFollowed part old M new
+  followed_fired U is number base written =
       let has = (aggregated-update_set part (value_at old) M U).1 is in
       record {
         number = number;
+        base = base;
         fired = λ V e. let same : U ≡ V = cc (sym has ∙ e) in subst (λ (W : Updates). (l : Place) → map.get new.entries l ≡ entry_after (old.number + 1) (map.get W l) (map.get old.entries l)) same written;
         clashed = λ c e. absurd (let no : Ok U ≡ Err c = sym has ∙ e in cc);
       }
 
-  pub followed_clashed : (c : Clash) → IsLeastClash part (value_at old) M c → new.number ≡ old.number + 1 → new.entries ≡ old.entries → IsFollowed part old M new
-  followed_clashed c is number same =
+  pub followed_clashed : (c : Clash) → IsLeastClash part (value_at old) M c → new.number ≡ old.number + 1 → new.base ≡ old.base → new.entries ≡ old.entries → IsFollowed part old M new
+  followed_clashed c is number base same =
       let has = (aggregated-clash part (value_at old) M c).1 is in
       record {
         number = number;
+        base = base;
         fired = λ V e. absurd (let no : Ok V ≡ Err c = sym e ∙ has in cc);
         clashed = λ d e. same;
       }

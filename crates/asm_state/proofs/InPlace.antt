@@ -1,6 +1,6 @@
 -- A move that changes one location alone: its actions, its update set or its clash, and the state that follows it.
 use Rattle.std.proofs.Common.{◌≡◌, ◌≢◌, ℕ, ◌+◌, ◌<◌, Bool, true, false, cond, ◌&&◌, ◌||◌, List, [], ◌∷◌, map, refl, sym, ap, ◌∙◌, subst}
-use Rattle.std.specs.Prelude.{Option, Some, None, Ok, Err, IsOk, IsSomeAnd, IsTrue, filter}
+use Rattle.std.specs.Prelude.{Option, Some, None, Ok, Err, IsOk, IsSomeAnd, IsTrue, filter, slice_get}
 use Rattle.std.specs.List.{list_all, filter_map}
 use Rattle.std.specs.FinMap as map
 use Rattle.std.specs.Ordering.{eq_by_cmp}
@@ -21,7 +21,7 @@ use Rattle.asm_update.specs.declared.clash.Cause.{Cause}
 use Rattle.asm_update.specs.declared.clash.Cause.TheVariants.{Two}
 use Rattle.asm_update.specs.declared.clash.Clash.{Clash}
 use Rattle.asm_update.proofs.ActionLemmas.{partial_none}
-use Rattle.asm_state.specs.Change.{changes_only}
+use Rattle.asm_state.specs.Change.{changes_only, HasNoPlace}
 
 abbrev pub actions : Move → List Action
 actions M = map (λ i. i.action) M
@@ -89,6 +89,19 @@ written_alone l q (i ∷ M) only h =
           (writes M q ≡ true → q ≡ l) → q ≡ l
       by_first true is at later = sym (same_location i.at q is) ∙ same_location i.at l at
       by_first false is at later = later (sym (ap (λ b. b || writes M q) is) ∙ h)
+
+-- where they aren't all partial updates of the first one's location, they are so of no location
+pub no_place : (i : Instruction) (M : Move) → slice_get M 0 ≡ Some i → changes_only i.at M ≡ false → HasNoPlace M
+no_place i [] at_first other = λ l some. absurd (some refl)
+no_place i (j ∷ M) at_first other = λ l some. by_test l (changes_only l (j ∷ M)) refl where
+  is : j ≡ i
+  is = let e : Some j ≡ Some i = at_first in cc
+
+  by_test : (l : Place) (b : Bool) → changes_only l (j ∷ M) ≡ b → b ≡ false
+  by_test l true e =
+      let same : i.at ≡ l = ap (λ (k : Instruction). k.at) (sym is) ∙ same_location j.at l (first_of l j M e).0 in
+      sym e ∙ ap (λ (k : Place). changes_only k (j ∷ M)) (sym same) ∙ other
+  by_test l false e = refl
 
 abbrev pub nothing : Updates
 nothing = map.empty

@@ -2,7 +2,7 @@ pub mod Crossing
 pub mod Filled
 pub mod Followed
 mod Changed
-mod InPlace
+pub mod InPlace
 pub mod Judged
 pub mod Opened
 pub mod Overwritten

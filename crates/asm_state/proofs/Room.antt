@@ -1,5 +1,5 @@
 -- Room that is made, taken out again, and filled, location by location.
-use Rattle.std.proofs.Common.{◌≡◌, ℕ, ◌<◌, ◌==◌, Bool, true, false, cond, ◌&&◌, List, ◌∷◌, Option, Some, None, is_some, is_none, unwrap_or, refl, sym, ap, ◌∙◌, arith}
+use Rattle.std.proofs.Common.{◌≡◌, ℕ, ◌<◌, ◌==◌, Bool, true, false, cond, List, ◌∷◌, Option, Some, None, is_some, unwrap_or, refl, sym, ap, ◌∙◌, arith}
 use Rattle.std.proofs.lemmas.Bool.Decides.{nat_tests}
 use Rattle.std.specs.Ordering.{eq_by_cmp}
 use Rattle.std.specs.Option.{option_map_or}
@@ -86,12 +86,8 @@ written_holds n v = by_test (is_undef v) refl where
   by_test true e = refl
   by_test false e = e
 
-and_false : (b c : Bool) → c ≡ false → (b && c) ≡ false
-and_false true c h = h
-and_false false c h = refl
-
 written_full : (n : ℕ) (v : Value) → 0 < n → is_empty (written_by n v) ≡ false
-written_full n v lt = and_false (is_none (cond (is_undef v) None (Some v))) (n == 0) (grind (arith, nat_tests))
+written_full n v lt = let no : (n == 0) ≡ false = grind (arith, nat_tests) in no
 
 after_holds : (n : ℕ) (u : Option Value) (x : Option Written) → option_map_or holds_undef x false ≡ false → option_map_or holds_undef (entry_after n u x) false ≡ false
 after_holds n (Some v) x h = written_holds n v

@@ -1,5 +1,5 @@
 -- An entry that a group changed, and moves that change one location alone.
-use Rattle.std.specs.Prelude.{◌≡◌, ◌&&◌, ℕ, Bool, Option, Ok}
+use Rattle.std.specs.Prelude.{◌≡◌, ◌≢◌, ◌&&◌, ℕ, Bool, true, false, [], map, Option, None, Ok}
 use Rattle.std.specs.List.{list_all}
 use Rattle.std.specs.Ordering.{eq_by_cmp}
 use Rattle.asm_element.specs.Place.{Place, location_cmp}
@@ -20,3 +20,12 @@ IsChanged part old group n new =
 -- whether the instructions are partial updates of this location
 abbrev pub changes_only : Place → Move → Bool
 changes_only l M = list_all (λ i. eq_by_cmp location_cmp i.at l && is_partial i.action) M
+
+-- there is no instruction, or no location at which all of them are partial updates
+abbrev pub HasNoPlace : Move → Type 0
+HasNoPlace M = (l : Place) → M ≢ [] → changes_only l M ≡ false
+
+-- the instructions are partial updates of this location, at least one, and the group has them in their order
+abbrev pub IsOneChange : Move → Place → Parts → Type 0
+IsOneChange M l group =
+    (M ≢ []) × (changes_only l M ≡ true) × (group ≡ record { regular = None; partials = map (λ i. i.action) M })

@@ -25,10 +25,11 @@ over None x = x
 abbrev pub entry_after : ℕ → Option Value → Option Written → Option Written
 entry_after n update old = over (option_map (written_by n) update) old
 
--- the new state is the old one after the move: it has followed one more; where the move has an update set,
--- each location has its update, and where it clashes, no entry changes
+-- the new state is the old one after the move: it has followed one more, and opened as it did; where the
+-- move has an update set, each location has its update, and where it clashes, no entry changes
 pub record IsFollowed (part : Part) (old : StateView) (M : Move) (new : StateView) : Type 0 where
   pub number : new.number ≡ old.number + 1
+  pub base : new.base ≡ old.base
   pub fired : (U : Updates) → aggregated part (value_at old) M ≡ Ok U →
       (l : Place) → map.get new.entries l ≡ entry_after (old.number + 1) (map.get U l) (map.get old.entries l)
   pub clashed : (c : Clash) → aggregated part (value_at old) M ≡ Err c → new.entries ≡ old.entries

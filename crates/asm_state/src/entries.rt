@@ -20,9 +20,9 @@ use std::marker::Model;
 /// What a location holds, and the number of the move that wrote it last.
 #[derive(Debug, Drop)]
 pub(crate) struct Written {
-    /// None where it is undef.
+    /// None where it is undef, whatever the opening state has there.
     pub(crate) value: Option<Value>,
-    /// 0 where no move wrote it.
+    /// 0 where no move wrote it, and the entry only keeps room.
     pub(crate) number: u32,
 }
 
@@ -44,11 +44,11 @@ impl Written {
         }
     }
 
-    /// Whether it only keeps room: it holds nothing, and no move wrote it.
+    /// Whether it only keeps room: no move wrote it.
     fn is_empty(&self) -> bool
         ensures { result ≡ is_empty self.now }
     {
-        self.value.is_none() && self.number == 0
+        self.number == 0
     }
 
     /// Notes the move that wrote it last, and keeps no undef as a value.

@@ -1,12 +1,12 @@
 //! Moves that change one location alone, and so can change its value in place.
-ghost use Rattle.std.specs.Prelude.{◌≡◌, ◌≢◌, ◌&&◌, [], None, true, map, IfOk, IfSome};
+ghost use Rattle.std.specs.Prelude.{◌≡◌, ◌≢◌, ◌&&◌, [], None, true, map, IfOk, IfSome, IsNone};
 ghost use Rattle.std.specs.Ordering.{eq_by_cmp};
 ghost use Rattle.asm_element.specs.Place.{location_cmp};
 ghost use Rattle.asm_update.specs.Action.{is_partial};
-ghost use Rattle.asm_state.specs.Change.{changes_only};
+ghost use Rattle.asm_state.specs.Change.{changes_only, HasNoPlace, IsOneChange};
 
 use asm_element::Location;
-use asm_update::{Group, Instruction};
+use asm_update::{Group, Instruction, Instructions};
 use std::alloc::{AllocError, Global};
 
 fn is_change_at(at: &Location, instruction: &Instruction) -> bool
@@ -27,6 +27,7 @@ fn are_changes_at(at: &Location, instructions: &[Instruction]) -> bool
 pub(crate) fn only_place(instructions: &[Instruction]) -> Option<&Location>
     ensures some { IfSome result (λ l. instructions.now ≢ []) }
     ensures only { IfSome result (λ l. changes_only l.now instructions.now ≡ true) }
+    ensures none { IsNone result → HasNoPlace instructions.now }
 {
     let first = instructions.first()?;
     let at = &first.at;
@@ -54,4 +55,21 @@ pub(crate) fn group_of(
         partials.push(instruction.action.clone()?)?;
     }
     Ok(Group::new(None, partials))
+}
+
+/// The one location that a move changes and the group of its partial updates there; None where an
+/// instruction is a regular update or at another location, or where there is none.
+///
+/// `AllocError` comes only where memory was refused.
+pub fn one_change(
+    alloc: Global,
+    instructions: &Instructions,
+) -> Result<Option<(&Location, Group)>, AllocError>
+    ensures some { IfOk result (λ change. IfSome change (λ c. IsOneChange instructions.now c.0.now c.1)) }
+    ensures none { IfOk result (λ change. IsNone change → HasNoPlace instructions.now) }
+{
+    match only_place(instructions.as_slice()) {
+        Some(at) => Ok(Some((at, group_of(alloc, at, instructions.as_slice())?))),
+        None => Ok(None),
+    }
 }

@@ -7,11 +7,14 @@ mod named;
 mod state;
 mod verdict;
 
+pub use in_place::one_change;
 pub use named::Named;
 pub use state::State;
 pub use verdict::{Objection, Verdict};
 
 #[cfg(test)]
 mod in_place_tests;
+#[cfg(test)]
+mod opening_tests;
 #[cfg(test)]
 mod tests;

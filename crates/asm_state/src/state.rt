@@ -1,5 +1,6 @@
 ghost use Rattle.std.specs.Prelude.{◌≡◌, ◌+◌, ◌-◌, ◌<◌, ◌^◌, ◌++◌, ◌∷◌, [], List, false, nat_lt};
 ghost use Rattle.std.specs.Prelude.{◌≢◌, is_some, true, IfOk, IfSome, OnOk, OnErr};
+ghost use Rattle.std.specs.Arc.{arc_value};
 ghost use Rattle.std.specs.FinMap as map;
 ghost use Rattle.std.specs.Option.{option_copied};
 ghost use Rattle.asm_element.specs.Place.{Place};
@@ -21,6 +22,7 @@ use asm_element::{Location, Value};
 use asm_update::{AggError, Aggregator, Instructions, Lookup, PlainState, ResultError, UpdateSet};
 use std::alloc::{AllocError, Global};
 use std::marker::Model;
+use std::sync::Arc;
 
 /// A state that follows a list of moves: its number, which is how many they are, the values of its
 /// locations, and for each location the number of the move that wrote it last.
@@ -31,20 +33,24 @@ use std::marker::Model;
 #[derive(Debug, Drop)]
 pub struct State {
     number: u32,
+    // The opening state, which copies share; what a move wrote stands in the entries.
+    base: Arc<PlainState>,
     entries: Entries,
 }
 
 impl Model for State {
     ghost use Rattle.std.specs.FinMap as map;
+    ghost use Rattle.std.specs.Arc.{arc_value};
     ghost use Rattle.asm_element.specs.contracts.location.Location.{the_row as location_row};
+    ghost use Rattle.asm_update.specs.contracts.plain_state.PlainState.{the_row as base_row};
     ghost use Rattle.asm_state.specs.contracts.entries.Written.{the_row as written_row};
     ghost use Rattle.asm_state.specs.View.{StateView, view_code, IsStored};
 
     ghost Value = { StateView };
 
-    ghost coded = { view_code (map.code location_row.coded written_row.coded) };
+    ghost coded = { view_code base_row.coded (map.code location_row.coded written_row.coded) };
 
-    ghost view = { λ s. record { number = s.number; entries = s.entries } };
+    ghost view = { λ s. record { number = s.number; base = arc_value s.base; entries = s.entries } };
 
     ghost invariant = { λ s. IsStored s.entries };
 }
@@ -55,7 +61,7 @@ impl Lookup for State {
     fn get(&self, at: &Location) -> Option<&Value> {
         match self.entry(at) {
             Some(written) => written.value.as_ref(),
-            None => None,
+            None => self.base.get(at),
         }
     }
 }
@@ -73,20 +79,25 @@ fn comes_before(at: &Location, other: Option<&Location>) -> bool
 impl State {
     /// The opening state, at number 0, in which no location was written; the values move in.
     ///
-    /// `AllocError` comes only where memory was refused.
+    /// It takes no time that grows with the values. `AllocError` comes only where memory was refused.
     pub fn new(alloc: Global, init: PlainState) -> Result<State, AllocError>
         ensures { IfOk result (λ s. (part : Part) → Stands part init s []) }
     {
-        init.proper();
-        let mut entries = Entries::new(alloc);
-        for (at, value) in init {
-            let written = Written {
-                value: Some(value),
-                number: 0,
-            };
-            entries.put(at, written)?;
+        let base = Arc::new(alloc, init)?;
+        Ok(State::over(alloc, base))
+    }
+
+    /// The same opening state over values that other states share; it takes no memory.
+    ///
+    /// A move that such a state follows changes nothing for the others.
+    pub fn over(alloc: Global, base: Arc<PlainState>) -> State
+        ensures { (part : Part) → Stands part (arc_value base) result [] }
+    {
+        State {
+            number: 0,
+            base,
+            entries: Entries::new(alloc),
         }
-        Ok(State { number: 0, entries })
     }
 
     /// How many moves it has followed, those that clashed among them.
@@ -306,6 +317,7 @@ impl State {
     ) -> Result<(), AllocError>
         requires { 0 < number }
         ensures number { OnOk result (self.new.number ≡ number) }
+        ensures base { OnOk result (self.new.base ≡ self.old.base) }
         ensures written { OnOk result ((l : Place) → map.get self.new.entries l ≡
             entry_after number (map.get updates l) (map.get self.old.entries l)) }
         ensures err { OnErr result (self.new ≡ self.old) }
@@ -316,14 +328,19 @@ impl State {
         Ok(())
     }
 
-    /// The same state, in memory of its own: it stands for the same moves.
+    /// The same state: it stands for the same moves. Both share the opening state; what moves wrote is copied.
     ///
     /// `AllocError` comes only where memory was refused.
     pub fn copy(&self, alloc: Global) -> Result<State, AllocError>
         ensures { IfOk result (λ copy. copy ≡ self.now) }
     {
         let entries = self.entries.copy(alloc)?;
+        let base = Arc::try_clone(&self.base)?;
         let number = self.number;
-        Ok(State { number, entries })
+        Ok(State {
+            number,
+            base,
+            entries,
+        })
     }
 }

@@ -5,7 +5,7 @@ use denote.Hole.{as_row}
 use denote.Param.SendFields.{as_row_sync, declared_send, declared_sync, variants_send}
 use denote.Ref.{NamedLft}
 use denote.Struct.Field.{row_field, shr_ref_field, u32-field}
-use Rattle.std.proofs.Crossing.{Vec-send, Vec-sync}
+use Rattle.std.proofs.Crossing.{Arc-sync, Vec-send}
 use Rattle.asm_element.proofs.items.Items.TheSendSync as items
 use Rattle.asm_element.proofs.Crossing.{location_is_sent, location_is_shared, value_is_sent, value_is_shared}
 use Rattle.asm_element.specs.contracts.items.Items as Items
@@ -15,12 +15,11 @@ use Rattle.asm_row.proofs.row.Row.TheSendSync as row
 use Rattle.asm_row.proofs.progress.Progress.TheSendSync as progress
 use Rattle.asm_row.proofs.mark.Mark.TheSendSync as mark
 use Rattle.asm_row.specs.contracts.row.Row as Row
-use Rattle.asm_row.specs.contracts.progress.Progress as Progress
 use Rattle.asm_row.specs.contracts.mark.Mark as Mark
 use Rattle.asm_state.proofs.Crossing.{named_is_sent, named_is_shared}
 use Rattle.asm_state.proofs.Crossing as states
 use Rattle.asm_state.specs.contracts.named.Named as Named
-use Rattle.asm_update.proofs.Crossing.{instructions_is_sent, instructions_is_shared, state_is_shared}
+use Rattle.asm_update.proofs.Crossing.{instructions_is_sent, instructions_is_shared, state_is_sent, state_is_shared}
 use Rattle.asm_update.specs.declared.aggregator.Aggregator
 use Rattle.asm_storage.specs.contracts.receipt.Entry as Entry
 use Rattle.asm_storage.specs.contracts.receipt.Receipt as Receipt
@@ -75,7 +74,7 @@ module _ (A : RattleType) (a : IsSync A) (g : Aggregator.Ghosts A.Denot) where
   inside_storage_is_shared : IsSync (InsideStorage.the_row A g)
   inside_storage_is_shared =
       let cells : IsSync (Row.the_row Entry.the_row) = row.the_sync Entry.the_row entry_is_sent entry_is_shared in
-      declared_sync (InsideStorage.the_type A g) (cells, (as_row_sync (row_field A) a, (state_is_shared, tt)))
+      declared_sync (InsideStorage.the_type A g) (cells, (as_row_sync (row_field A) a, (search (sendable, Arc-sync, state_is_sent, state_is_shared) depth 20, tt)))
 
   pub storage_is_shared : IsSync (Storage.the_row A g)
   storage_is_shared = search (sendable, inside_storage_is_shared) depth 20

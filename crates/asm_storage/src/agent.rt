@@ -54,11 +54,21 @@ impl<'s, A: Aggregator + Sync + Drop> Model for Agent<'s, A> {
 }
 
 impl<'s, A: Aggregator + Sync + Drop> Agent<'s, A> {
-    pub(crate) fn of(storage: &'s Storage<A>, part: AgentPart) -> Agent<'s, A>
+    /// The agent of which this is the part, at its storage.
+    pub fn of(storage: &'s Storage<A>, part: AgentPart) -> Agent<'s, A>
         requires { IsPartOf A.meaning storage.now part }
         ensures { result ≡ agent_of storage.now part }
     {
         Agent { storage, part }
+    }
+
+    /// Its part, which borrows nothing.
+    pub fn into_part(self) -> AgentPart
+        ensures agent { self.entry ≡ agent_of self.entry.storage result }
+        ensures part { IsPartOf A.meaning self.entry.storage result }
+    {
+        let Agent { storage: _, part } = self;
+        part
     }
 
     /// Its number among the agents of one call of `Storage::agents`, below 256.

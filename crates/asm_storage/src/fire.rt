@@ -18,22 +18,23 @@ ghost use Rattle.asm_storage.specs.Part.{agent_of, HasFired, IsJudged, IsLost, I
 ghost use Rattle.asm_storage.specs.Part.{offers_in, misses_in};
 
 use crate::call::{Answer, Call, Reply};
-use crate::copying::copied_named;
+use crate::copying::{copied_named, same_list};
 use crate::error::FireError;
 use crate::part::AgentPart;
 use crate::receipt::{Entry, Receipt};
 use crate::storage::Storage;
+use asm_element::Items;
 use asm_row::Offer;
 use asm_state::{Named, Objection, State};
 use asm_update::{Aggregator, Cause, Clash, Instructions, consistent};
 use std::alloc::{AllocError, Global};
 
-// A call to fire, in memory of its own.
-fn fire_call(alloc: Global, reads: &[Named], instrs: &Instructions) -> Result<Call, AllocError>
+// A call to fire, which shares its lists.
+fn fire_call(alloc: Global, reads: &Items<Named>, instrs: &Instructions) -> Result<Call, AllocError>
     ensures { IfOk result (λ c. c ≡ call.Fire reads.now instrs.now) }
 {
     Ok(Call::Fire {
-        reads: copied_named(alloc, reads)?,
+        reads: same_list(reads)?,
         instrs: instrs.copy(alloc)?,
     })
 }
@@ -170,7 +171,7 @@ impl AgentPart {
         &mut self,
         alloc: Global,
         storage: &Storage<A>,
-        reads: &[Named],
+        reads: &Items<Named>,
         instrs: &Instructions,
         reply: &Reply,
     ) -> Result<(), AllocError>
@@ -238,7 +239,7 @@ impl AgentPart {
         &mut self,
         alloc: Global,
         storage: &Storage<A>,
-        reads: &[Named],
+        reads: &Items<Named>,
         instrs: &Instructions,
         between: &mut F,
     ) -> Result<Option<Reply>, AllocError>
@@ -278,7 +279,7 @@ impl AgentPart {
         &mut self,
         alloc: Global,
         storage: &Storage<A>,
-        reads: &[Named],
+        reads: &Items<Named>,
         instrs: &Instructions,
         between: &mut F,
     ) -> Result<Option<Reply>, AllocError>
@@ -294,8 +295,8 @@ impl AgentPart {
         ensures callable { F.IsAlwaysCallable between.new }
         ensures calls { Ran (λ f g. F.step f tt g) between.old (offers_in result) between.new }
     {
-        self.make_ready(alloc, storage, reads, instrs)?;
-        match self.judge(alloc, storage, reads, instrs)? {
+        self.make_ready(alloc, storage, reads.as_slice(), instrs)?;
+        match self.judge(alloc, storage, reads.as_slice(), instrs)? {
             Some(reply) => {
                 self.keep_reply(alloc, storage, reads, instrs, &reply)?;
                 Ok(Some(reply))
@@ -304,12 +305,12 @@ impl AgentPart {
         }
     }
 
-    /// Turns until one is answered, at most 64.
-    pub(crate) fn fire<A: Aggregator + Sync + Drop, F: FnMut()>(
+    // Turns until one is answered, at most 64.
+    fn fire_named<A: Aggregator + Sync + Drop, F: FnMut()>(
         &mut self,
         alloc: Global,
         storage: &Storage<A>,
-        reads: &[Named],
+        reads: &Items<Named>,
         instrs: &Instructions,
         between: &mut F,
     ) -> Result<Reply, FireError>
@@ -341,5 +342,40 @@ impl AgentPart {
             from,
             to: self.progress.seen_len(),
         })
+    }
+
+    /// Fires a move in turns, of which there are at most 64; the named reads are copied once for all of them.
+    pub(crate) fn fire<A: Aggregator + Sync + Drop, F: FnMut()>(
+        &mut self,
+        alloc: Global,
+        storage: &Storage<A>,
+        reads: &[Named],
+        instrs: &Instructions,
+        between: &mut F,
+    ) -> Result<Reply, FireError>
+        requires part { IsPartOf A.meaning storage.now self.old }
+        requires callable { F.IsAlwaysCallable between.old }
+        ensures part { IsPartOf A.meaning storage.now self.new }
+        ensures id { self.new.id ≡ self.old.id }
+        ensures answered { IfOk result (
+            IsAnswered A.meaning (agent_of storage.now self.old) (agent_of storage.now self.new) reads.now instrs.now) }
+        ensures coherent { IfOk result (
+            IsCoherentReply A.meaning (agent_of storage.now self.new) reads.now instrs.now) }
+        ensures seen { IsPrefix self.old.progress.seen self.new.progress.seen }
+        ensures refused { OnErr result (LooksOn A.meaning storage.now self.old self.new) }
+        ensures busy { IfErr result (IsBusy (agent_of storage.now self.old) (agent_of storage.now self.new)) }
+        ensures not_many { result ≢ Err fire_error.ManyReads }
+        ensures callable { F.IsAlwaysCallable between.new }
+        ensures offers { (n : ℕ) ×
+            MadeOffers (agent_of storage.now self.old) (agent_of storage.now self.new) result n ×
+            Ran (λ f g. F.step f tt g) between.old n between.new }
+    {
+        match copied_named(alloc, reads) {
+            Ok(named) => self.fire_named(alloc, storage, &named, instrs, between),
+            Err(_) => {
+                self.look(storage);
+                Err(FireError::Memory)
+            }
+        }
     }
 }

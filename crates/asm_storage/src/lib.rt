@@ -29,6 +29,8 @@ mod merging;
 mod missing;
 #[cfg(test)]
 mod naming;
+#[cfg(test)]
+mod opening_tests;
 mod part;
 #[cfg(test)]
 mod plain_moves;
@@ -48,6 +50,7 @@ pub use agent::{Agent, Mark};
 pub use call::{Answer, Call, Reply};
 pub use error::{AgentsError, CloseError, FireError, ReadError, StorageError};
 pub use history::{Event, History};
+pub use part::AgentPart;
 pub use reading::Reading;
 pub use receipt::{Entry, Receipt};
 pub use storage::Storage;

@@ -18,7 +18,7 @@ use std::alloc::{AllocError, Global};
 /// It borrows nothing, so one value may hold it beside an owner of the storage. Its calls are passed the
 /// storage, with the condition that it is the one that the part is of.
 #[derive(Drop)]
-pub(crate) struct AgentPart {
+pub struct AgentPart {
     pub(crate) id: u32,
     pub(crate) progress: Progress<Entry>,
     pub(crate) state: State,
@@ -26,6 +26,13 @@ pub(crate) struct AgentPart {
 }
 
 impl AgentPart {
+    /// The agent's number, below 256.
+    pub fn id(&self) -> u32
+        ensures { result ≡ self.now.id }
+    {
+        self.id
+    }
+
     /// The part of an agent of the storage that has made no call.
     pub(crate) fn at_start<A: Aggregator + Sync + Drop>(
         alloc: Global,
@@ -37,8 +44,7 @@ impl AgentPart {
         ensures part { IfOk result (IsPartOf A.meaning storage.now) }
     {
         let progress = storage.row().progress();
-        let init = storage.init().copy(alloc)?;
-        let state = State::new(alloc, init)?;
+        let state = storage.opening(alloc)?;
         Ok(AgentPart {
             id,
             progress,

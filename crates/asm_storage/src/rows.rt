@@ -35,6 +35,8 @@ pub(crate) struct At(pub(crate) &'static str, pub(crate) u32);
 pub(crate) enum Act {
     Read(&'static [&'static str]),
     Fire(&'static [Put], &'static [At]),
+    /// A fire that writes undef there, and names no read.
+    Clear(&'static str),
 }
 
 /// What it is answered. The number of a reply that fires nothing is that of the moves that it was judged on.
@@ -106,12 +108,25 @@ fn values_of(alloc: Global, numbers: &[Option<i64>]) -> Result<Items<Value>, Fai
     Ok(Items::new(list))
 }
 
+/// The move that writes undef at the location of this name.
+fn clearing(alloc: Global, name: &str) -> Result<Instructions, Fail> {
+    let mut list = Instructions::new(alloc);
+    let action = Action::Regular(Value::Plain(Element::Undef));
+    let at = location(alloc, name)?;
+    list.push(Instruction { at, action })?;
+    Ok(list)
+}
+
 fn call_of(alloc: Global, act: Act) -> Result<Call, Fail> {
     Ok(match act {
         Act::Read(names) => Call::Read(Items::new(places_of(alloc, names)?)),
         Act::Fire(puts, reads) => Call::Fire {
             reads: Items::new(named_of(alloc, reads)?),
             instrs: move_of(alloc, puts)?,
+        },
+        Act::Clear(name) => Call::Fire {
+            reads: Items::new(Vec::new(alloc)),
+            instrs: clearing(alloc, name)?,
         },
     })
 }

@@ -1,7 +1,9 @@
-ghost use Rattle.std.specs.Prelude.{◌≡◌, ◌<◌, ◌↔◌, ◌⊎◌, map, length, IfOk, IsErrOf};
+ghost use Rattle.std.specs.Prelude.{◌≡◌, ◌<◌, ◌↔◌, ◌⊎◌, [], map, length, IfOk, IsErrOf};
 ghost use Rattle.std.specs.List.{range_with_len};
 ghost use Rattle.asm_storage.specs.declared.error.StorageError.TheVariants as storage_error;
 ghost use Rattle.asm_storage.specs.declared.error.AgentsError.TheVariants as agents_error;
+ghost use Rattle.asm_update.specs.Fire.{Part};
+ghost use Rattle.asm_state.specs.Stands.{Stands};
 ghost use Rattle.asm_storage.specs.Storage.{at_start};
 
 use crate::agent::Agent;
@@ -9,24 +11,28 @@ use crate::error::{AgentsError, StorageError};
 use crate::part::AgentPart;
 use crate::receipt::Entry;
 use asm_row::{Row, RowError};
+use asm_state::State;
 use asm_update::{Aggregator, PlainState};
 use std::alloc::{AllocError, Global};
 use std::marker::Model;
+use std::sync::Arc;
 
 /// A state that agents share: an aggregator, an opening state, and a row for the moves that are fired.
 ///
 /// It is the shared object of a universal construction (Herlihy and Shavit, "The Art of Multiprocessor
 /// Programming"): threads agree on the list of moves, and each agent follows that list with a state of its
-/// own. Contracts see the cells of the row, the aggregator and the opening state. It is `Sync` where the
+/// own, beside the opening state, which all share. Contracts see the cells of the row, the aggregator and the opening state. It is `Sync` where the
 /// aggregator is, and no call of it or of its agents waits.
 #[derive(Drop)]
 pub struct Storage<A: Aggregator + Sync + Drop> {
     row: Row<Entry>,
     aggregator: A,
-    init: PlainState,
+    // The states of the agents share it.
+    init: Arc<PlainState>,
 }
 
 impl<A: Aggregator + Sync + Drop> Model for Storage<A> {
+    ghost use Rattle.std.specs.Arc.{arc_value};
     ghost use Rattle.asm_update.specs.contracts.plain_state.PlainState.{the_row as state_row};
     ghost use Rattle.asm_storage.specs.Storage.{StorageView, storage_code};
 
@@ -34,7 +40,7 @@ impl<A: Aggregator + Sync + Drop> Model for Storage<A> {
 
     ghost coded = { storage_code A.code state_row.coded };
 
-    ghost view = { λ s. record { row = s.row; agg = s.aggregator; init = s.init } };
+    ghost view = { λ s. record { row = s.row; agg = s.aggregator; init = arc_value s.init } };
 }
 
 impl<A: Aggregator + Sync + Drop> Storage<A> {
@@ -59,6 +65,10 @@ impl<A: Aggregator + Sync + Drop> Storage<A> {
             Ok(row) => row,
             Err(RowError::BadCapacity) => return Err(StorageError::BadCapacity),
             Err(RowError::Memory) => return Err(StorageError::Memory),
+        };
+        let init = match Arc::new(alloc, init) {
+            Ok(init) => init,
+            Err(_) => return Err(StorageError::Memory),
         };
         Ok(Storage {
             row,
@@ -87,8 +97,11 @@ impl<A: Aggregator + Sync + Drop> Storage<A> {
         Ok(agents)
     }
 
-    // An agent that has made no call.
-    fn agent_at(&self, alloc: Global, id: u32) -> Result<Agent<'_, A>, AllocError>
+    /// An agent with this number, below 256, that has made no call.
+    ///
+    /// The numbers of agents whose receipts are closed together have to differ. That the call adds no
+    /// move to the row is tested. `AllocError` comes only where memory was refused.
+    pub fn agent_at(&self, alloc: Global, id: u32) -> Result<Agent<'_, A>, AllocError>
         requires { id < 256 }
         ensures { IfOk result (λ a. a ≡ at_start self.now id) }
     {
@@ -112,5 +125,13 @@ impl<A: Aggregator + Sync + Drop> Storage<A> {
         ensures { result.now ≡ self.now.init }
     {
         &self.init
+    }
+
+    /// A state before the first move, which shares the opening values.
+    pub(crate) fn opening(&self, alloc: Global) -> Result<State, AllocError>
+        ensures { IfOk result (λ s. (part : Part) → Stands part self.now.init s []) }
+    {
+        let init = Arc::try_clone(&self.init)?;
+        Ok(State::over(alloc, init))
     }
 }

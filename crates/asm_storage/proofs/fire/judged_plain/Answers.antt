@@ -1,8 +1,8 @@
-use Rattle.std.proofs.Common.{◌≡◌, Bool, true, false, List, [], ◌∷◌, None, Err, refl, ap, sym, subst, ◌∙◌, nat_lt, length}
+use Rattle.std.proofs.Common.{◌≡◌, true, List, [], ◌∷◌, None, Err, refl, ap, sym, subst, ◌∙◌, nat_lt, length}
 use Rattle.std.specs.Prelude.{IsOk}
 use Rattle.asm_element.specs.Place.{Place}
 use Rattle.asm_element.specs.Tests.{both}
-use Rattle.asm_update.specs.Fire.{Part, fire, state_of}
+use Rattle.asm_update.specs.Fire.{Part, state_of}
 use Rattle.asm_update.specs.Move.{Move, all_regular}
 use Rattle.asm_update.specs.State.{State}
 use Rattle.asm_update.specs.declared.clash.Cause.TheVariants.{Two}

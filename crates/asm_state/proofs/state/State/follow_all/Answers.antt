@@ -14,6 +14,7 @@ returns-in-Ok-clause-followed g c =
     let old = c.args.self.now in
     let number = ap (λ (s : StateView). s.number + 1) c.self.view_is in
     followed_fired part old c.write_all.new.self c.args.instructions.now c.in-Ok.updates c.in-Ok.ensures (c.in_ok-write_all-in-Ok.ensures.number ∙ number)
+    c.in_ok-write_all-in-Ok.ensures.base
     (subst (λ n. (l : Place) → map.get c.write_all.new.self.entries l ≡ entry_after n (map.get c.in-Ok.updates l) (map.get old.entries l)) number c.in_ok-write_all-in-Ok.ensures.written)
 
 pub returns-in-Err-Clash-clause-followed : goal.returns-in-Err-Clash-clause-followed
@@ -22,4 +23,5 @@ returns-in-Err-Clash-clause-followed g c =
     let old = c.args.self.now in
     let number = ap (λ (s : StateView). s.number + 1) c.self.view_is in
     let is = subst (λ (e : AggError). IsAggregate part (value_at old) c.args.instructions.now (Err e)) c.in-Err-Clash.field-0-is c.in-Err-Clash.ensures in
-    followed_clashed part old c.count.new.self c.args.instructions.now c.in-Err-Clash.field-0-0 is (ap (λ (s : StateView). s.number) c.count.ensures ∙ number) (ap (λ (s : StateView). s.entries) c.count.ensures)
+    followed_clashed part old c.count.new.self c.args.instructions.now c.in-Err-Clash.field-0-0 is (ap (λ (s : StateView). s.number) c.count.ensures ∙ number)
+    (ap (λ (s : StateView). s.base) c.count.ensures) (ap (λ (s : StateView). s.entries) c.count.ensures)

@@ -1,5 +1,6 @@
 use Rattle.std.proofs.Common.{◌≡◌, ℕ, ◌+◌, ◌∙◌, ap, sym, subst, Err}
-use Rattle.std.specs.Prelude.{Option, Some, None}
+use Rattle.std.specs.Prelude.{Option, Some, None, is_some}
+use Rattle.std.specs.Arc.{arc_value}
 use Rattle.std.specs.FinMap as map
 use Rattle.asm_element.specs.Place.{Place, location_cmp}
 use Rattle.asm_update.specs.Aggregator.{IsOutcome}
@@ -20,8 +21,9 @@ invariant_of-self g c =
     let M = c.args.instructions.now in
     let made : c.in_ok-group.group ≡ group M = c.in_ok-group.ensures ∙ ap group c.as_slice.ensures in
     let (w, is, changed) = c.in-Ok.ensures.ok in
-    let s : StateView = record { number = c.self.inside.number; entries = c.self.inside.entries } in
-    changed_stored part s c.args.at.now M c.requires.some c.requires.only c.change_at.new.self w is
+    let s : StateView = record { number = c.self.inside.number; base = arc_value c.self.inside.base; entries = c.self.inside.entries } in
+    let there = ap (λ (t : StateView). is_some (map.get t.entries c.args.at.now)) c.self.view_is ∙ c.requires.there in
+    changed_stored part s c.args.at.now M c.requires.some c.requires.only there c.change_at.new.self w is
     (subst (λ (p : Parts). IsChanged part (map.get s.entries c.args.at.now) p (s.number + 1) w) made changed)
     c.self.invariant
 
@@ -31,9 +33,10 @@ returns-in-Ok-clause-followed g c =
     let M = c.args.instructions.now in
     let made : c.in_ok-group.group ≡ group M = c.in_ok-group.ensures ∙ ap group c.as_slice.ensures in
     let (w, is, changed) = c.in-Ok.ensures.ok in
-    let s : StateView = record { number = c.self.inside.number; entries = c.self.inside.entries } in
-    subst (λ (old : StateView). IsFollowed part old M (record { number = s.number + 1; entries = c.change_at.new.self })) c.self.view_is
-    (changed_followed part s c.args.at.now M c.requires.some c.requires.only c.change_at.new.self w is
+    let s : StateView = record { number = c.self.inside.number; base = arc_value c.self.inside.base; entries = c.self.inside.entries } in
+    let there = ap (λ (t : StateView). is_some (map.get t.entries c.args.at.now)) c.self.view_is ∙ c.requires.there in
+    subst (λ (old : StateView). IsFollowed part old M (record { number = s.number + 1; base = s.base; entries = c.change_at.new.self })) c.self.view_is
+    (changed_followed part s c.args.at.now M c.requires.some c.requires.only there c.change_at.new.self w is
     (subst (λ (p : Parts). IsChanged part (map.get s.entries c.args.at.now) p (s.number + 1) w) made changed))
 
 pub returns-in-Err-Cause-clause-followed : goal.returns-in-Err-Cause-clause-followed
@@ -41,10 +44,11 @@ returns-in-Err-Cause-clause-followed g c =
     let part = (g.A.Aggregator.meaning c.args.aggregator.now).part in
     let M = c.args.instructions.now in
     let made : c.in_ok-group.group ≡ group M = c.in_ok-group.ensures ∙ ap group c.as_slice.ensures in
-    let s : StateView = record { number = c.self.inside.number; entries = c.self.inside.entries } in
+    let s : StateView = record { number = c.self.inside.number; base = arc_value c.self.inside.base; entries = c.self.inside.entries } in
+    let there = ap (λ (t : StateView). is_some (map.get t.entries c.args.at.now)) c.self.view_is ∙ c.requires.there in
     let gave = subst (λ (e : ResultError). IsOutcome (Err e) (part (value_of (map.get s.entries c.args.at.now)) c.in_ok-group.group.regular c.in_ok-group.group.partials)) c.in-Err-Cause.field-0-is c.in-Err-Cause.ensures.cause in
-    let left : c.count.new.self ≡ record { number = s.number + 1; entries = s.entries } =
-    c.count.ensures ∙ ap (λ (es : Entries). let n : StateView = record { number = s.number + 1; entries = es } in n) c.in-Err-Cause.ensures.err in
+    let left : c.count.new.self ≡ record { number = s.number + 1; base = s.base; entries = s.entries } =
+    c.count.ensures ∙ ap (λ (es : Entries). let n : StateView = record { number = s.number + 1; base = s.base; entries = es } in n) c.in-Err-Cause.ensures.err in
     subst (λ (old : StateView). IsFollowed part old M c.count.new.self) c.self.view_is
-    (unchanged_followed part s c.args.at.now M c.requires.some c.requires.only c.in-Err-Cause.field-0-0 c.count.new.self
+    (unchanged_followed part s c.args.at.now M c.requires.some c.requires.only there c.in-Err-Cause.field-0-0 c.count.new.self
     (ap (λ (p : Parts). part (value_of (map.get s.entries c.args.at.now)) p.regular p.partials) (sym made) ∙ gave) left)

@@ -1,4 +1,5 @@
 use Rattle.std.proofs.Common.{is_some, ap, sym, ◌∙◌, subst}
+use Rattle.std.specs.Arc.{arc_value}
 use Rattle.std.specs.FinMap as finite
 use Rattle.asm_element.specs.Tests.{on_err}
 use Rattle.asm_state.specs.View.{StateView, IsStored}
@@ -14,7 +15,7 @@ invariant_of-self c = subst IsStored (sym c.in_err-make_room.ensures.err) c.self
 
 pub returns-in_err-make_room-clause-err : goal.returns-in_err-make_room-clause-err
 returns-in_err-make_room-clause-err c =
-    on_err _ ((λ i. let s : StateView = record { number = c.self.inside.number; entries = c.in_err-make_room.ensures.err i } in s) ∙ c.self.view_is)
+    on_err _ ((λ i. let s : StateView = record { number = c.self.inside.number; base = arc_value c.self.inside.base; entries = c.in_err-make_room.ensures.err i } in s) ∙ c.self.view_is)
 
 pub fill-requires : goal.fill-requires
 fill-requires c = λ q has.

@@ -1,6 +1,5 @@
 use Rattle.std.proofs.Common.{[], ap, arith, sym, ◌∙◌, subst}
 use Rattle.asm_row.specs.Seat.{SeatView}
-use Rattle.asm_update.specs.State.{State}
 use Rattle.asm_state.specs.Stands.{Stands}
 use Rattle.asm_storage.specs.declared.receipt.Entry.{Entry}
 use Rattle.asm_storage.specs.Part.{IsFollowing}
@@ -16,14 +15,12 @@ returns-clause-part g c =
     let fresh = c.progress-progress.ensures in
     let state = c.in_ok-state.state in
     let seen = ap (λ (p : SeatView Entry). p.seen) fresh in
-    let stands : Stands m.part m.init state [] =
-    subst (λ (i : State). Stands m.part i state []) (c.in_ok-init.ensures ∙ c.init.ensures)
-    (c.in_ok-state.ensures m.part) in
+    let stands : Stands m.part m.init state [] = c.in_ok-state.ensures m.part in
     record {
       row = ap (λ (p : SeatView Entry). p.row) fresh ∙ c.row.ensures;
       few = c.requires;
       counted = omega (arith, ap (λ (p : SeatView Entry). p.misses) fresh);
-      agent = same_agent m c.args.id [] progress.seen 0 progress.won [] c.new-2.result.items (fresh_agent m c.args.id)
-          seen (ap (λ (p : SeatView Entry). p.won) fresh) c.new-2.ensures.items;
+      agent = same_agent m c.args.id [] progress.seen 0 progress.won [] c.new.result.items (fresh_agent m c.args.id)
+          seen (ap (λ (p : SeatView Entry). p.won) fresh) c.new.ensures.items;
       following = subst (λ q. IsFollowing m q state) (sym seen) (fresh_following m state stands);
     }

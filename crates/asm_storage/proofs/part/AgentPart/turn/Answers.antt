@@ -1,4 +1,5 @@
-use Rattle.std.proofs.Common.{Option, subst}
+use Rattle.std.proofs.Common.{List, Option, subst}
+use Rattle.asm_state.specs.declared.named.Named.{Named}
 use Rattle.asm_storage.specs.declared.call.Reply.{Reply}
 use Rattle.asm_storage.specs.Part.{agent_of, IsJudged}
 use Rattle.asm_storage.specs.Storage.{machine_of}
@@ -12,7 +13,8 @@ returns-in_ok-keep_reply-in-Some-clause-turn g c =
     let mid = c.make_ready.new.self in
     let looks = c.make_ready.ensures.looks in
     let judged = subst (λ (o : Option Reply). IsJudged (machine_of meaning s) mid.progress.seen c.args.reads.now c.args.instrs.now o)
-    c.in-Some.is c.in_ok-reply.ensures in
+    c.in-Some.is (subst (λ (rs : List Named). IsJudged (machine_of meaning s) mid.progress.seen rs c.args.instrs.now c.in_ok-reply.field-0)
+    c.as_slice-2.ensures c.in_ok-reply.ensures) in
     answered_quiet meaning (agent_of s c.args.self.now) (agent_of s mid) c.args.reads.now c.args.instrs.now
     (agent_of s c.keep_reply.new.self) c.in-Some.reply looks.agent looks.seen judged.0 judged.1
     c.in_ok-keep_reply-in-Some.ensures.ok
@@ -23,7 +25,8 @@ returns-in-None-clause-turn g c =
     let s = c.args.storage.now in
     let mid = c.make_ready.new.self in
     let judged = subst (λ (o : Option Reply). IsJudged (machine_of meaning s) mid.progress.seen c.args.reads.now c.args.instrs.now o)
-    c.in-None.is c.in_ok-reply.ensures in
+    c.in-None.is (subst (λ (rs : List Named). IsJudged (machine_of g.A.Aggregator.meaning s) mid.progress.seen rs c.args.instrs.now c.in_ok-reply.field-0)
+    c.as_slice-2.ensures c.in_ok-reply.ensures) in
     attempted meaning s c.args.self.now mid c.attempt.new.self c.args.reads.now c.args.instrs.now c.make_ready.ensures.looks
     c.attempt.result c.attempt.ensures.part judged.0 c.attempt.ensures.won c.attempt.ensures.lost
 
@@ -38,7 +41,8 @@ returns-in-None-clause-counted g c =
     let s = c.args.storage.now in
     let mid = c.make_ready.new.self in
     let judged = subst (λ (o : Option Reply). IsJudged (machine_of g.A.Aggregator.meaning s) mid.progress.seen c.args.reads.now c.args.instrs.now o)
-    c.in-None.is c.in_ok-reply.ensures in
+    c.in-None.is (subst (λ (rs : List Named). IsJudged (machine_of g.A.Aggregator.meaning s) mid.progress.seen rs c.args.instrs.now c.in_ok-reply.field-0)
+    c.as_slice-2.ensures c.in_ok-reply.ensures) in
     attempt_counted g.A.Aggregator.meaning s c.args.self.now mid c.attempt.new.self c.args.reads.now c.args.instrs.now
     c.make_ready.ensures.looks c.attempt.result judged.1 c.make_ready.ensures.missed c.attempt.ensures.won
     c.attempt.ensures.lost c.attempt.ensures.err

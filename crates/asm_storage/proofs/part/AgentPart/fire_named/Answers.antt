@@ -6,7 +6,7 @@ use Rattle.asm_storage.specs.Part.{agent_of, IsTurn, LooksOn, offers_in, misses_
 use Rattle.asm_storage.proofs.Coherent.{answered_coherent}
 use Rattle.asm_storage.proofs.Following.{looks_then}
 use Rattle.asm_storage.proofs.Turns.{answered_after, offered_then, offers_answered, offers_wanting, ran_then}
-use Rattle.asm_storage.proofs.part.AgentPart.fire.Goals as goal
+use Rattle.asm_storage.proofs.part.AgentPart.fire_named.Goals as goal
 
 -- memory was wanting in a turn
 pub returns-in_err-reply-clause-offers : goal.returns-in_err-reply-clause-offers

@@ -1,6 +1,6 @@
 use Rattle.asm_storage.specs.Calls.{HasOffered, Ran}
 use Rattle.asm_storage.specs.Part.{agent_of, LooksOn}
-use Rattle.asm_storage.proofs.part.AgentPart.fire.Given as goal
+use Rattle.asm_storage.proofs.part.AgentPart.fire_named.Given as goal
 
 -- each turn so far lost one offer
 abbrev pub invariant-loop-lost : goal.invariant-loop-lost
