@@ -15,6 +15,7 @@ use Rattle.asm_element.specs.declared.value.Value.TheVariants as values
 use Rattle.asm_element.specs.Place.{Place}
 use Rattle.asm_element.specs.Set as set
 use Rattle.asm_element.specs.Bag as bag
+use Rattle.asm_update.specs.State.{State}
 use Rattle.asm_update.specs.declared.action.Action.{Action}
 use Rattle.asm_update.specs.declared.action.Action.TheVariants.{Regular, SetAdd, SetRemove, BagAdd, BagRemove, Increment}
 use Rattle.asm_update.specs.declared.action.Instruction.{Instruction}
@@ -32,7 +33,7 @@ use Rattle.asm_journal.specs.Set.{count_json_of}
 use Rattle.asm_journal.specs.Value.{value_json_of, pair_json_of}
 use Rattle.asm_journal.specs.Instruction.{instruction_json_of}
 use Rattle.asm_journal.specs.Event.{named_json_of, call_json_of, reply_json_of, answer_json_of, event_json_of}
-use Rattle.asm_journal.specs.Text.{header_json_of}
+use Rattle.asm_journal.specs.Text.{state_json_of, header_json_of}
 
 -- a list of values without floats has none
 list_no_float : {X : Type 0} (f : X → Data) → ((x : X) → has_float (f x) ≡ false) → (xs : List X) → items_have_float (items_of (map f xs)) ≡ false
@@ -95,12 +96,15 @@ reply_no_float (reply.Stale l) = rw (location_no_float l) refl
 reply_no_float (reply.Clash c) = rw (location_no_float c.at) refl
 reply_no_float reply.Full = refl
 
-answer_no_float : (a : Answer) → has_float (answer_json_of a) ≡ false
+pub answer_no_float : (a : Answer) → has_float (answer_json_of a) ≡ false
 answer_no_float (answer.Read n vs) = rw (list_no_float value_json_of value_no_float vs) refl
 answer_no_float (answer.Fire r) = reply_no_float r
 
 pub event_no_float : (e : Event) → has_float (event_json_of e) ≡ false
 event_no_float e = rw (call_no_float e.call, answer_no_float e.answer) refl
+
+pub state_no_float : (A : State) → has_float (state_json_of A) ≡ false
+state_no_float A = rw (list_no_float pair_json_of pair_no_float (finite.entries A)) refl
 
 pub header_no_float : (h : History) → has_float (header_json_of h) ≡ false
 header_no_float h = rw (list_no_float pair_json_of pair_no_float (finite.entries h.init)) refl

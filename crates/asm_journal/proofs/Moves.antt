@@ -1,19 +1,24 @@
 -- The moves of a history, one event at a time, and firing them.
 use Rattle.std.proofs.Common.{◌≡◌, Bool, true, false, cond, List, [], ◌∷◌, ◌++◌, Some, refl, sym, ap, ◌∙◌}
-use Rattle.std.specs.Prelude.{T}
+use Rattle.std.specs.Prelude.{T, Ok, Err}
 use Rattle.std.specs.List.{cons_option}
 use Rattle.std.specs.Ordering.{eq_by_cmp}
 use Rattle.std.specs.FinMap as finite
 use Rattle.std.proofs.lemmas.List.Elements.{filter_map-append}
 use Rattle.asm_element.specs.declared.value.Value.{Value}
-use Rattle.asm_element.specs.Place.{Place, location_cmp, same_location}
+use Rattle.asm_element.specs.Place.{Place, location_cmp, location_cmp_total, same_location}
+use Rattle.asm_update.specs.Change.{IsChangedAt}
+use Rattle.asm_update.specs.Group.{Parts}
 use Rattle.asm_update.specs.Move.{Move}
 use Rattle.asm_update.specs.State.{State, Updates, val, write, overwrite}
 use Rattle.asm_update.specs.Fire.{Part, state_or, IsUpdateSet, IsLeastClash}
+use Rattle.asm_update.specs.declared.clash.Cause.{Cause}
 use Rattle.asm_update.specs.declared.clash.Clash.{Clash}
 use Rattle.asm_update.proofs.FireLemmas.{fire_updates, fire_clash, stored, stored_or, get-write, get-overwrite, same_state}
 use Rattle.asm_element.specs.Ascending.{rising_rest, first_gone}
+use Rattle.asm_state.specs.Change.{IsOneChange}
 use Rattle.asm_state.specs.Stands.{after_move}
+use Rattle.asm_state.proofs.InPlace.{nothing, alone, updates_here, clash_here}
 use Rattle.asm_storage.specs.declared.history.Event.{Event}
 use Rattle.asm_storage.specs.History.{move_of, moves}
 
@@ -29,6 +34,31 @@ after_updates part A M U h = sym (ap (state_or A) (fire_updates part A M U h))
 
 pub after_clash : (part : Part) (A : State) (M : Move) (c : Clash) → IsLeastClash part (val A) M c → A ≡ after_move part A M
 after_clash part A M c h = sym (ap (state_or A) (fire_clash part A M c h))
+
+-- ---- or from what a change of one location leaves
+
+write_alone : (A : State) (l : Place) (v : Value) → write A l v ≡ overwrite A (alone l v)
+write_alone A l v = same_state _ _ (λ q.
+    get-write A l v q ∙ at q (eq_by_cmp location_cmp q l) refl
+    ∙ ap (λ o. stored_or o (finite.get A q)) (sym (finite.get-insert location_cmp_total nothing l v q))
+    ∙ sym (get-overwrite A (alone l v) q)) where
+      at : (q : Place) (b : Bool) → eq_by_cmp location_cmp q l ≡ b →
+          cond b (stored v) (finite.get A q) ≡ stored_or (cond b (Some v) (finite.get nothing q)) (finite.get A q)
+      at q true is = refl
+      at q false is = ap (λ o. stored_or o (finite.get A q)) (sym (finite.get-empty location_cmp q))
+
+pub after_change : (part : Part) (A B : State) (M : Move) (l : Place) (group : Parts) → IsOneChange M l group →
+    IsChangedAt part A l group B → B ≡ after_move part A M
+after_change part A B M l group (some, only, is) (v, gave, wrote) =
+    wrote ∙ write_alone A l v
+    ∙ after_updates part A M (alone l v) (updates_here part (val A) l M some only v
+    (ap (λ (g : Parts). part (val A l) g.regular g.partials) (sym is) ∙ gave))
+
+pub after_cause : (part : Part) (A : State) (M : Move) (l : Place) (group : Parts) (cause : Cause) → IsOneChange M l group →
+    part (val A l) group.regular group.partials ≡ Err cause → A ≡ after_move part A M
+after_cause part A M l group cause (some, only, is) gave =
+    after_clash part A M (record { at = l; cause = cause }) (clash_here part (val A) l M some only cause
+    (ap (λ (g : Parts). part (val A l) g.regular g.partials) (sym is) ∙ gave))
 
 -- ---- writing updates one after the other is writing them all
 

@@ -19,6 +19,7 @@ mod pair_form;
 mod reader;
 mod replaying;
 mod set_form;
+mod telling;
 mod value_form;
 mod version;
 mod writing;
@@ -34,6 +35,7 @@ pub use output::write_text;
 pub use pair_form::pair_json;
 pub use reader::from_text;
 pub use replaying::replay;
+pub use telling::{answer_text, state_text};
 pub use value_form::{read_value, value_json};
 pub use writing::to_text;
 
@@ -55,3 +57,7 @@ mod journal_tests;
 mod list_tests;
 #[cfg(test)]
 mod output_tests;
+#[cfg(test)]
+mod replay_tests;
+#[cfg(test)]
+mod telling_tests;

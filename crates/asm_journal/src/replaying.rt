@@ -3,12 +3,16 @@ ghost use Rattle.std.specs.Prelude.{◌≡◌, OnOk, IfOk};
 ghost use Rattle.std.specs.Option.{option_copied};
 ghost use Rattle.asm_update.specs.State.{overwrite};
 ghost use Rattle.asm_update.specs.Fire.{state_of};
+ghost use Rattle.asm_update.specs.Move.{Move};
+ghost use Rattle.asm_state.specs.Change.{IsOneChange};
 ghost use Rattle.asm_state.specs.Stands.{after_move};
 ghost use Rattle.asm_storage.specs.History.{move_of, moves};
 
 use asm_aggregate::aggregate;
+use asm_element::Location;
+use asm_state::one_change;
 use asm_storage::{Answer, Call, Event, History, Reply};
-use asm_update::{AggError, Aggregator, Instructions, PlainState, UpdateSet};
+use asm_update::{AggError, Aggregator, Group, Instructions, PlainState, ResultError, UpdateSet};
 use std::alloc::{AllocError, Global};
 
 /// The instructions of the move, where the call fired one.
@@ -31,8 +35,8 @@ fn write_updates(state: &mut PlainState, updates: UpdateSet) -> Result<(), Alloc
     Ok(())
 }
 
-/// Fires a move, unless it clashes.
-fn fire_or_keep<A: Aggregator>(
+/// Fires a move by its update set, unless it clashes.
+fn fire_all<A: Aggregator>(
     alloc: Global,
     aggregator: &A,
     state: &mut PlainState,
@@ -45,6 +49,40 @@ fn fire_or_keep<A: Aggregator>(
         Ok(updates) => write_updates(state, updates),
         Err(AggError::Clash(_)) => Ok(()),
         Err(AggError::Memory) => Err(AllocError),
+    }
+}
+
+/// Fires a move that changes one location alone by its group, unless it clashes.
+fn change_or_keep<A: Aggregator>(
+    alloc: Global,
+    aggregator: &A,
+    state: &mut PlainState,
+    at: &Location,
+    group: &Group,
+) -> Result<(), AllocError>
+    ensures { OnOk result ((M : Move) → IsOneChange M at.now group.now →
+        state.new ≡ after_move (A.meaning aggregator.now).part state.old M) }
+{
+    match state.change(alloc, aggregator, at, group) {
+        Ok(()) => Ok(()),
+        Err(ResultError::Cause(_)) => Ok(()),
+        Err(ResultError::Memory) => Err(AllocError),
+    }
+}
+
+/// Fires a move, unless it clashes.
+fn fire_or_keep<A: Aggregator>(
+    alloc: Global,
+    aggregator: &A,
+    state: &mut PlainState,
+    instructions: &Instructions,
+) -> Result<(), AllocError>
+    ensures { OnOk result
+        (state.new ≡ after_move (A.meaning aggregator.now).part state.old instructions.now) }
+{
+    match one_change(alloc, instructions)? {
+        Some((at, group)) => change_or_keep(alloc, aggregator, state, at, &group),
+        None => fire_all(alloc, aggregator, state, instructions),
     }
 }
 
