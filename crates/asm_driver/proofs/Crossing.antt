@@ -18,10 +18,11 @@ use Rattle.asm_element.specs.contracts.location.Location as Location
 use Rattle.asm_element.specs.contracts.value.Value as Value
 pub use Rattle.asm_storage.proofs.Standard.{standard_agent_is_sent}
 use Rattle.asm_storage.proofs.Standard.{standard, standard_ghosts}
-use Rattle.asm_update.proofs.Crossing.{clash_is_sent}
+use Rattle.asm_update.proofs.Crossing.{clash_is_sent, instructions_is_sent, instructions_is_shared}
 use Rattle.asm_update.proofs.action.Amount.TheSendSync as amount
 use Rattle.asm_driver.specs.contracts.block.Block as Block
 use Rattle.asm_driver.specs.contracts.block.Block.TheInside as InsideBlock
+use Rattle.asm_driver.specs.contracts.block.Form as Form
 use Rattle.asm_driver.specs.contracts.block.TermAction as TermAction
 use Rattle.asm_driver.specs.contracts.block.TermInstruction as TermInstruction
 use Rattle.asm_driver.specs.contracts.outcome.Outcome as Outcome
@@ -66,14 +67,21 @@ action_sync = variants_sync TermAction.enum (
 instruction_sync : IsSync TermInstruction.the_row
 instruction_sync = declared_sync TermInstruction.the_type (location_is_shared, (action_sync, tt))
 
+-- a block is kept in either form
+form_sync : IsSync Form.the_row
+form_sync = variants_sync Form.enum (
+  (search (sendable, Vec-sync, instruction_sync) depth 20, tt),
+  ((instructions_is_shared, tt), tt),
+)
+
 inside_block_sync : IsSync InsideBlock.the_row
-inside_block_sync = search (sendable, Vec-sync, instruction_sync) depth 20
+inside_block_sync = declared_sync InsideBlock.the_type (form_sync, tt)
 
 block_sync : IsSync Block.the_row
 block_sync = search (sendable, inside_block_sync) depth 20
 
 inside_step_sync : IsSync InsideStep.the_row
-inside_step_sync = search (sendable, Vec-sync, block_sync) depth 20
+inside_step_sync = search (sendable, Vec-sync, block_sync, location_is_shared) depth 20
 
 step_sync : IsSync Step.the_row
 step_sync = search (sendable, inside_step_sync) depth 20
@@ -113,14 +121,20 @@ action_send = variants_send TermAction.enum (
 instruction_send : IsSend TermInstruction.the_row
 instruction_send = declared_send TermInstruction.the_type (location_is_sent, (action_send, tt))
 
+form_send : IsSend Form.the_row
+form_send = variants_send Form.enum (
+  (search (sendable, Vec-send, instruction_send) depth 20, tt),
+  ((instructions_is_sent, tt), tt),
+)
+
 inside_block_send : IsSend InsideBlock.the_row
-inside_block_send = search (sendable, Vec-send, instruction_send) depth 20
+inside_block_send = declared_send InsideBlock.the_type (form_send, tt)
 
 block_send : IsSend Block.the_row
 block_send = search (sendable, inside_block_send) depth 20
 
 inside_step_send : IsSend InsideStep.the_row
-inside_step_send = search (sendable, Vec-send, block_send) depth 20
+inside_step_send = search (sendable, Vec-send, block_send, location_is_sent) depth 20
 
 step_send : IsSend Step.the_row
 step_send = search (sendable, inside_step_send) depth 20

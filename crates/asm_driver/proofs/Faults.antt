@@ -3,7 +3,7 @@ use Rattle.std.proofs.Common.{◌≡◌, ◌<◌, ◌≤◌, ℕ, List, [], ◌�
 use Rattle.std.proofs.Common.{ap₂, ◌∙◌, subst, inr, arith, append_assoc}
 use Rattle.std.proofs.lemmas.List.{append-nil}
 use Rattle.std.proofs.lemmas.List.Folds.{list_any-append}
-use Rattle.std.specs.Prelude.{nat_lt, ◌||◌}
+use Rattle.std.specs.Prelude.{nat_lt, ◌||◌, Option, Some, IfSome}
 use Rattle.std.specs.List.{flat_map, list_any}
 use Rattle.std.proofs.lemmas.Bool.Decides.{same_from_decides}
 use Rattle.std.proofs.lemmas.Map.Keys.{IsDistinct-from_sorted}
@@ -29,6 +29,10 @@ use Rattle.asm_driver.specs.Script.{when, is_long, IsLong, reads_count, step_fau
 use Rattle.asm_driver.specs.Script.{HasForm, IsRefusedScript}
 
 -- ---- a step
+
+-- the step that is there
+pub is_there : (o : Option Step) (s t : Step) → o ≡ Some s → IfSome o (λ u. u ≡ t) → s ≡ t
+is_there o s t is h = subst (λ p. IfSome p (λ u. u ≡ t)) is h
 
 -- the faults by the answers to the four questions
 abbrev by_answers : Bool → Bool → Bool → Bool → List ScriptCause

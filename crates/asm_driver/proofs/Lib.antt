@@ -1,5 +1,6 @@
 mod Counts
 mod Evaluated
+mod Written
 mod Gathering
 mod Agreeing
 mod Advancing

@@ -1,5 +1,5 @@
 -- Blocks: lists of instructions with terms, and the move that a block is in a state.
-use Rattle.std.specs.Prelude.{[], ◌∷◌, Option, Some}
+use Rattle.std.specs.Prelude.{◌≡◌, [], ◌∷◌, Option, Some}
 use Rattle.std.specs.Option.{option_and_then, option_map}
 use Rattle.asm_update.specs.Fire.{Old}
 use Rattle.asm_update.specs.Move.{Move}
@@ -7,6 +7,8 @@ use Rattle.asm_update.specs.declared.action.Action.{Action}
 use Rattle.asm_update.specs.declared.action.Action.TheVariants as action
 use Rattle.asm_update.specs.declared.action.Instruction.{Instruction}
 use Rattle.asm_driver.specs.Terms.{term_value, given_element}
+use Rattle.asm_driver.specs.declared.block.Form.{Form}
+use Rattle.asm_driver.specs.declared.block.Form.TheVariants.{Terms, Ready}
 use Rattle.asm_driver.specs.declared.block.TermAction.{TermAction}
 use Rattle.asm_driver.specs.declared.block.TermAction.TheVariants.{Put, Add, Remove, BagAdd, BagRemove, Increment}
 use Rattle.asm_driver.specs.declared.block.TermInstruction.{TermInstruction}
@@ -30,3 +32,8 @@ instruction_in old i = option_map (λ a. record { at = i.at; action = a }) (acti
 abbrev pub move_in : Old → Block → Option Move
 move_in old [] = Some []
 move_in old (i ∷ b) = option_and_then (λ j. option_map (λ M. j ∷ M) (move_in old b)) (instruction_in old i)
+
+-- where a block is kept as instructions, they are its move in each state
+abbrev pub IsReady : Form → Block → Type 0
+IsReady (Terms terms) b = Unit {0}
+IsReady (Ready M) b = (old : Old) → move_in old b ≡ Some M

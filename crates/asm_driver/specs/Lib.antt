@@ -7,6 +7,7 @@ pub mod Works
 pub mod Turns
 pub mod Play
 pub mod Terms
+pub mod Ready
 pub mod Blocks
 pub mod StepReads
 pub mod Sequencing

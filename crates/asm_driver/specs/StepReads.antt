@@ -7,7 +7,6 @@ use Rattle.asm_driver.specs.Terms.{locations_in}
 use Rattle.asm_driver.specs.declared.block.TermAction.{TermAction}
 use Rattle.asm_driver.specs.declared.block.TermAction.TheVariants.{Put, Add, Remove, BagAdd, BagRemove, Increment}
 use Rattle.asm_driver.specs.declared.block.Block.{Block}
-use Rattle.asm_driver.specs.declared.step.Step.{Step}
 
 -- the locations whose values an action's term takes; an increment has no term
 abbrev pub places_in : TermAction → List Place
@@ -36,12 +35,12 @@ abbrev pub changed : Block → List Place
 changed b = flat_map (λ i. target_of i.at i.action) b
 
 -- what the terms of all blocks take, and where all blocks but the last have partial updates
-abbrev pub named : Step → List Place
+abbrev pub named : List Block → List Place
 named [] = []
 named (b ∷ []) = taken b
 named (b ∷ c ∷ bs) = taken b ++ (changed b ++ named (c ∷ bs))
 
 -- the list has each location that the step names once, and no other, in ascending order
-pub record AreReads (step : Step) (ls : List Place) : Type 0 where
+pub record AreReads (step : List Block) (ls : List Place) : Type 0 where
   pub ascending : IsStrictlySortedBy location_cmp ls
   pub named : (l : Place) → Contains ls l ↔ Contains (named step) l

@@ -1,12 +1,15 @@
 //! Blocks: instructions with terms.
-ghost use Rattle.std.specs.Prelude.{◌≡◌, ◌↔◌, ◌<◌, ◌≤◌, length, vec_len, IfSome, IsNone};
+ghost use Rattle.std.specs.Prelude.{◌≡◌, ◌↔◌, ◌<◌, ◌≤◌, length, vec_len, IfOk, IfSome, IsNone};
+ghost use Rattle.std.specs.List.{list_all};
 ghost use Rattle.asm_driver.specs.Terms.{term_value, given_element, IsEvaluated};
-ghost use Rattle.asm_driver.specs.Blocks.{action_in, instruction_in, move_in};
+ghost use Rattle.asm_driver.specs.Ready.{is_ready, written_form, is_ready_form};
+ghost use Rattle.asm_driver.specs.Blocks.{action_in, instruction_in, move_in, IsReady};
 
+use crate::ready::{are_ready, ready_instructions};
 use crate::term::{Term, TermFault, evaluate};
 use asm_element::{Element, Location, Value};
 use asm_update::{Action, Amount, Instruction, Instructions, InstructionsError, Lookup};
-use std::alloc::Global;
+use std::alloc::{AllocError, Global};
 use std::marker::Model;
 
 /// The most instructions of a block.
@@ -39,10 +42,19 @@ pub struct TermInstruction {
     pub action: TermAction,
 }
 
+/// How a block is kept.
+#[derive(Debug, Drop)]
+pub(crate) enum Form {
+    /// Instructions with terms.
+    Terms(Vec<TermInstruction>),
+    /// The instructions that the block gives in each state, where all its terms are written out.
+    Ready(Instructions),
+}
+
 /// The instructions of one block, at most 4,096. Contracts see it as their list.
 #[derive(Debug, Drop)]
 pub struct Block {
-    instructions: Vec<TermInstruction>,
+    form: Form,
 }
 
 impl Model for Block {
@@ -50,14 +62,33 @@ impl Model for Block {
     ghost use Rattle.std.specs.Coded.{coded_list};
     ghost use Rattle.asm_driver.specs.declared.block.TermInstruction.{TermInstruction};
     ghost use Rattle.asm_driver.specs.contracts.block.TermInstruction.{the_row as instruction_row};
+    ghost use Rattle.asm_driver.specs.Ready.{written_form};
 
     ghost Value = { List TermInstruction };
 
     ghost coded = { coded_list instruction_row.coded };
 
-    ghost view = { λ b. b.instructions.items };
+    ghost view = { λ b. written_form b.form };
 
-    ghost invariant = { λ b. length b.instructions.items ≤ 4096 };
+    ghost invariant = { λ b. length (written_form b.form) ≤ 4096 };
+}
+
+/// The form in which these instructions are kept: ready where all their terms are written out.
+fn form_of(alloc: Global, instructions: Vec<TermInstruction>) -> Result<Form, AllocError>
+    requires { vec_len instructions ≤ 4096 }
+    ensures written { IfOk result (λ form. written_form form ≡ instructions.items) }
+    ensures ready { IfOk result
+        (λ form. is_ready_form form ≡ list_all is_ready instructions.items) }
+{
+    if !are_ready(instructions.as_slice()) {
+        return Ok(Form::Terms(instructions));
+    }
+    let made = ready_instructions(alloc, instructions)?;
+    match Instructions::from_vec(alloc, made) {
+        Ok(instructions) => Ok(Form::Ready(instructions)),
+        Err(InstructionsError::ManyInstructions) => unreachable!(),
+        Err(InstructionsError::Memory) => Err(AllocError),
+    }
 }
 
 impl Block {
@@ -69,15 +100,30 @@ impl Block {
         if instructions.len() > INSTRUCTIONS_LIMIT {
             return None;
         }
-        Some(Block { instructions })
+        let form = Form::Terms(instructions);
+        Some(Block { form })
     }
 
-    /// The instructions, at most 4,096, in their order.
-    pub fn instructions(&self) -> &[TermInstruction]
-        ensures instructions { result.now ≡ self.now }
+    /// The same block, kept as its instructions where all its terms are written out, so that
+    /// evaluation shares them. The error is want of memory.
+    pub(crate) fn prepared(self, alloc: Global) -> Result<Block, AllocError>
+        ensures { IfOk result (λ b. b ≡ self) }
+    {
+        let Block { form } = self;
+        let form = match form {
+            Form::Terms(instructions) => form_of(alloc, instructions)?,
+            Form::Ready(instructions) => Form::Ready(instructions),
+        };
+        Ok(Block { form })
+    }
+
+    /// How the block is kept.
+    pub(crate) fn form(&self) -> &Form
+        ensures form { written_form result.now ≡ self.now }
+        ensures ready { IsReady result.now self.now }
         ensures few { length self.now ≤ 4096 }
     {
-        self.instructions.as_slice()
+        &self.form
     }
 }
 
@@ -120,10 +166,31 @@ fn instruction<L: Lookup>(
     Ok(Instruction { at, action })
 }
 
-/// The block's instructions with their terms evaluated in what gives each location's value.
+/// The instructions with their terms evaluated, in their order.
+fn evaluated<L: Lookup>(
+    alloc: Global,
+    instructions: &[TermInstruction],
+    lookup: &L,
+) -> Result<Instructions, TermFault>
+    requires { length instructions.now ≤ 4096 }
+    ensures { IsEvaluated (move_in (L.value_at lookup.now) instructions.now) result }
+{
+    let mut done = Vec::with_capacity(alloc, instructions.len())?;
+    for written in instructions {
+        done.push(instruction(alloc, written, lookup)?)?;
+    }
+    match Instructions::from_vec(alloc, done) {
+        Ok(instructions) => Ok(instructions),
+        Err(InstructionsError::ManyInstructions) => unreachable!(),
+        Err(InstructionsError::Memory) => Err(TermFault::Memory),
+    }
+}
+
+/// The block's instructions with their terms evaluated in what gives each location's value. A block
+/// that was prepared, and whose terms are all written out, shares them with the answer.
 ///
-/// `TermFault::Faulty` comes exactly where some term is faulty, or the element of a partial update is
-/// a set or a bag. `Memory` comes only where memory was refused.
+/// `TermFault::Faulty` comes exactly where some term is faulty, or the element of a partial update
+/// is a set or a bag. `Memory` comes only where memory was refused.
 pub fn block_move<L: Lookup>(
     alloc: Global,
     block: &Block,
@@ -131,13 +198,8 @@ pub fn block_move<L: Lookup>(
 ) -> Result<Instructions, TermFault>
     ensures { IsEvaluated (move_in (L.value_at lookup.now) block.now) result }
 {
-    let mut instructions = Instructions::new(alloc);
-    for written in block.instructions() {
-        match instructions.push(instruction(alloc, written, lookup)?) {
-            Ok(()) => {}
-            Err(InstructionsError::ManyInstructions) => unreachable!(),
-            Err(InstructionsError::Memory) => return Err(TermFault::Memory),
-        }
+    match block.form() {
+        Form::Terms(instructions) => evaluated(alloc, instructions.as_slice(), lookup),
+        Form::Ready(instructions) => Ok(instructions.copy(alloc)?),
     }
-    Ok(instructions)
 }

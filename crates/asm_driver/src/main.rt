@@ -35,6 +35,9 @@ mod play_tests;
 mod port_tests;
 pub mod program;
 mod proper;
+mod ready;
+#[cfg(test)]
+mod ready_tests;
 pub mod refusal;
 #[cfg(test)]
 mod refusal_tests;

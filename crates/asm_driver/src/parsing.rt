@@ -9,7 +9,7 @@ ghost use Rattle.asm_driver.specs.Script.{faults, IsFirst, IsPlanOf, IsScriptOf,
 
 use crate::block::{Block, TermInstruction};
 use crate::script::{AGENTS_LIMIT, Script, ScriptCause, ScriptError};
-use crate::step::{Step, step_reads};
+use crate::step::Step;
 use asm_element::Items;
 use asm_journal::{FromJson, Listed, two_members};
 use asm_update::PlainState;
@@ -57,13 +57,13 @@ fn written_of(alloc: Global, json: &Json) -> Result<Option<Written>, AllocError>
     }
 }
 
-/// The block of these instructions.
-fn block_of(written: Listed<TermInstruction>) -> Result<Block, ScriptError>
+/// The block of these instructions, ready where all its terms are written out.
+fn block_of(alloc: Global, written: Listed<TermInstruction>) -> Result<Block, ScriptError>
     ensures ok { IfOk result (λ b. (b ≡ written) × (is_long written ≡ false)) }
     ensures err { IfErr result (IsLong (is_long written)) }
 {
     match Block::new(written.into_vec()) {
-        Some(block) => Ok(block),
+        Some(block) => Ok(block.prepared(alloc)?),
         None => Err(ScriptError::BadScript(ScriptCause::Instructions)),
     }
 }
@@ -79,7 +79,7 @@ fn blocks_of(
 {
     let mut blocks = Vec::new(alloc);
     for block in written {
-        blocks.push(block_of(block)?)?;
+        blocks.push(block_of(alloc, block)?)?;
     }
     Ok(blocks)
 }
@@ -98,10 +98,10 @@ fn step_of(alloc: Global, written: Listed<Listed<TermInstruction>>) -> Result<St
         return Err(ScriptError::BadScript(ScriptCause::Blocks));
     }
     let blocks = blocks_of(alloc, written)?;
-    let Some(step) = Step::new(blocks) else {
+    let Some(step) = Step::new(alloc, blocks)? else {
         unreachable!()
     };
-    if step_reads(alloc, &step)?.len() > READS_LIMIT {
+    if step.reads().len() > READS_LIMIT {
         return Err(ScriptError::BadScript(ScriptCause::Reads));
     }
     Ok(step)

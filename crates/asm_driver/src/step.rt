@@ -1,18 +1,21 @@
 //! Steps: blocks that are run in sequence.
-ghost use Rattle.std.specs.Prelude.{◌≡◌, ◌↔◌, ◌⊎◌, ◌<◌, ◌++◌, ◌∷◌, [], length, vec_len, IfSome, IsNone};
+ghost use Rattle.std.specs.Prelude.{◌≡◌, ◌↔◌, ◌⊎◌, ◌<◌, ◌++◌, ◌∷◌, [], length, map, vec_len, IfSome, IsNone};
 ghost use Rattle.std.specs.Prelude.{OnOk, IfOk, IfErr};
 ghost use Rattle.asm_driver.specs.Terms.{locations_in};
 ghost use Rattle.asm_overlay.specs.Frames.{seen_through};
+ghost use Rattle.asm_driver.specs.Ready.{as_written, written};
 ghost use Rattle.asm_driver.specs.Blocks.{move_in};
 ghost use Rattle.asm_driver.specs.Sequencing.{IsNext, IsFrame, Extends, IsStepMove};
 ghost use Rattle.asm_driver.specs.StepReads.{places_in, target_of, taken, changed, AreReads};
 
-use crate::block::{Block, TermAction, block_move};
+use crate::block::{Block, Form, TermAction, TermInstruction, block_move};
 use crate::term::{Term, TermFault};
 use asm_aggregate::{ComposeError, aggregate, compose};
 use asm_element::Location;
 use asm_overlay::{Over, Overlay, OverlayError};
-use asm_update::{AggError, Aggregator, Clash, Instructions, Lookup, UpdateSet};
+use asm_update::{
+    Action, AggError, Aggregator, Clash, Instruction, Instructions, Lookup, UpdateSet,
+};
 use std::alloc::{AllocError, Global};
 use std::marker::Model;
 use thiserror::Error;
@@ -47,11 +50,14 @@ pub enum StepFault {
 pub struct Step {
     earlier: Vec<Block>,
     last: Block,
+    // What the step reads, which is gathered once.
+    reads: Vec<Location>,
 }
 
 impl Model for Step {
     ghost use Rattle.std.specs.Prelude.{List, length, ◌≤◌, ◌++◌, ◌∷◌, []};
     ghost use Rattle.std.specs.Coded.{coded_list};
+    ghost use Rattle.asm_driver.specs.StepReads.{AreReads};
     ghost use Rattle.asm_driver.specs.declared.block.Block.{Block};
     ghost use Rattle.asm_driver.specs.contracts.block.TermInstruction.{the_row as instruction_row};
 
@@ -61,21 +67,40 @@ impl Model for Step {
 
     ghost view = { λ s. s.earlier.items ++ s.last ∷ [] };
 
-    ghost invariant = { λ s. length s.earlier.items ≤ 64 };
+    ghost invariant = { λ s. (length s.earlier.items ≤ 64)
+        × AreReads (s.earlier.items ++ s.last ∷ []) s.reads.items };
 }
 
 impl Step {
-    /// The step of these blocks; None where there is no block, or more than 65. It takes no memory.
-    pub fn new(blocks: Vec<Block>) -> Option<Step>
-        ensures step { IfSome result (λ s. s ≡ blocks.items) }
-        ensures none { IsNone result ↔ ((blocks.items ≡ []) ⊎ (65 < vec_len blocks)) }
+    /// The step of these blocks; None where there is no block, or more than 65. The error is want
+    /// of memory.
+    pub fn new(alloc: Global, blocks: Vec<Block>) -> Result<Option<Step>, AllocError>
+        ensures step { IfOk result (λ made. IfSome made (λ s. s ≡ blocks.items)) }
+        ensures none { IfOk result
+            (λ made. IsNone made ↔ ((blocks.items ≡ []) ⊎ (65 < vec_len blocks))) }
     {
         if blocks.len() > BLOCKS_LIMIT {
-            return None;
+            return Ok(None);
         }
         let mut earlier = blocks;
-        let last = earlier.pop()?;
-        Some(Step { earlier, last })
+        let Some(last) = earlier.pop() else {
+            return Ok(None);
+        };
+        let reads = gathered_reads(alloc, earlier.as_slice(), &last)?;
+        Ok(Some(Step {
+            earlier,
+            last,
+            reads,
+        }))
+    }
+
+    /// The locations that the step reads, each once, in ascending order: those whose values its
+    /// terms take, and those of partial updates in all blocks but the last, since the blocks that
+    /// follow are evaluated on what these updates leave.
+    pub fn reads(&self) -> &[Location]
+        ensures { AreReads self.now result.now }
+    {
+        self.reads.as_slice()
     }
 }
 
@@ -112,14 +137,28 @@ fn take_places(
     }
 }
 
-/// Appends the locations whose values the block's terms take.
-fn take_terms(alloc: Global, block: &Block, places: &mut Vec<Location>) -> Result<(), AllocError>
-    ensures { OnOk result (places.new.items ≡ places.old.items ++ taken block.now) }
+/// Appends the locations whose values the instructions' terms take.
+fn take_each(
+    alloc: Global,
+    instructions: &[TermInstruction],
+    places: &mut Vec<Location>,
+) -> Result<(), AllocError>
+    ensures { OnOk result (places.new.items ≡ places.old.items ++ taken instructions.now) }
 {
-    for instruction in block.instructions() {
+    for instruction in instructions {
         take_places(alloc, &instruction.action, places)?;
     }
     Ok(())
+}
+
+/// Appends the locations whose values the block's terms take; a ready block takes none.
+fn take_terms(alloc: Global, block: &Block, places: &mut Vec<Location>) -> Result<(), AllocError>
+    ensures { OnOk result (places.new.items ≡ places.old.items ++ taken block.now) }
+{
+    match block.form() {
+        Form::Terms(instructions) => take_each(alloc, instructions.as_slice(), places),
+        Form::Ready(_) => Ok(()),
+    }
 }
 
 /// Appends the location, if the action there is a partial update.
@@ -138,28 +177,76 @@ fn take_target(
     Ok(())
 }
 
-/// Appends the locations of the block's partial updates.
-fn take_targets(alloc: Global, block: &Block, places: &mut Vec<Location>) -> Result<(), AllocError>
-    ensures { OnOk result (places.new.items ≡ places.old.items ++ changed block.now) }
+/// Appends the locations of the partial updates that have a term or an increment.
+fn take_each_target(
+    alloc: Global,
+    instructions: &[TermInstruction],
+    places: &mut Vec<Location>,
+) -> Result<(), AllocError>
+    ensures { OnOk result (places.new.items ≡ places.old.items ++ changed instructions.now) }
 {
-    for instruction in block.instructions() {
+    for instruction in instructions {
         take_target(alloc, &instruction.at, &instruction.action, places)?;
     }
     Ok(())
 }
 
-/// The locations that the step reads, each once, in ascending order: those whose values its terms
-/// take, and those of partial updates in all blocks but the last, since the blocks that follow are
-/// evaluated on what these updates leave. The error is want of memory.
-pub fn step_reads(alloc: Global, step: &Step) -> Result<Vec<Location>, AllocError>
-    ensures { IfOk result (λ places. AreReads step.now places.items) }
+/// Appends the location, if the action there is a partial update that is ready.
+fn take_ready_target(
+    alloc: Global,
+    at: &Location,
+    action: &Action,
+    places: &mut Vec<Location>,
+) -> Result<(), AllocError>
+    ensures { OnOk result
+        (places.new.items ≡ places.old.items ++ target_of at.now (as_written action.now)) }
+{
+    match action {
+        Action::Regular(_) => {}
+        _ => places.push(at.copy(alloc)?)?,
+    }
+    Ok(())
+}
+
+/// Appends the locations of the partial updates that are ready.
+fn take_ready_targets(
+    alloc: Global,
+    instructions: &[Instruction],
+    places: &mut Vec<Location>,
+) -> Result<(), AllocError>
+    ensures { OnOk result
+        (places.new.items ≡ places.old.items ++ changed (map written instructions.now)) }
+{
+    for instruction in instructions {
+        take_ready_target(alloc, &instruction.at, &instruction.action, places)?;
+    }
+    Ok(())
+}
+
+/// Appends the locations of the block's partial updates.
+fn take_targets(alloc: Global, block: &Block, places: &mut Vec<Location>) -> Result<(), AllocError>
+    ensures { OnOk result (places.new.items ≡ places.old.items ++ changed block.now) }
+{
+    match block.form() {
+        Form::Terms(instructions) => take_each_target(alloc, instructions.as_slice(), places),
+        Form::Ready(instructions) => take_ready_targets(alloc, instructions.as_slice(), places),
+    }
+}
+
+/// The locations that the step of these blocks reads. The error is want of memory.
+fn gathered_reads(
+    alloc: Global,
+    earlier: &[Block],
+    last: &Block,
+) -> Result<Vec<Location>, AllocError>
+    ensures { IfOk result (λ places. AreReads (earlier.now ++ last.now ∷ []) places.items) }
 {
     let mut places = Vec::new(alloc);
-    for block in &step.earlier {
+    for block in earlier {
         take_terms(alloc, block, &mut places)?;
         take_targets(alloc, block, &mut places)?;
     }
-    take_terms(alloc, &step.last, &mut places)?;
+    take_terms(alloc, last, &mut places)?;
     places.sort_unstable();
     places.dedup();
     Ok(places)

@@ -2,7 +2,7 @@
 use crate::block::{Block, TermInstruction, block_move};
 use crate::parsing::parse_script;
 use crate::script::Script;
-use crate::step::{Step, StepFault, step_move, step_reads};
+use crate::step::{Step, StepFault, step_move};
 use crate::term::{Term, TermFault, evaluate};
 use asm_aggregate::standard;
 use asm_element::{Element, Location, Value};
@@ -62,17 +62,28 @@ fn text_of(alloc: Global, instructions: &Instructions) -> Result<String, Fail> {
     Ok(text)
 }
 
+/// The block of this text, with its terms.
+pub(crate) fn block_of(alloc: Global, text: &str) -> Result<Block, Fail> {
+    let written: Listed<TermInstruction> = read(alloc, text)?;
+    match Block::new(written.into_vec()) {
+        Some(block) => Ok(block),
+        None => Err(Fail::new("too long a block")),
+    }
+}
+
 /// Whether the block has these instructions in the state, or a faulty term where there are none.
-fn has_instructions(alloc: Global, block: &str, wanted: Option<&str>) -> Result<bool, Fail> {
+pub(crate) fn gives(alloc: Global, block: Block, wanted: Option<&str>) -> Result<bool, Fail> {
     let state: PlainState = read(alloc, STATE)?;
-    let written: Listed<TermInstruction> = read(alloc, block)?;
-    let Some(block) = Block::new(written.into_vec()) else {
-        return Ok(false);
-    };
     match block_move(alloc, &block, &state) {
         Err(TermFault::Faulty) => Ok(wanted.is_none()),
         answer => Ok(Some(text_of(alloc, &answer?)?.as_str()) == wanted),
     }
+}
+
+/// Whether the block of this text has these instructions in the state.
+fn has_instructions(alloc: Global, block: &str, wanted: Option<&str>) -> Result<bool, Fail> {
+    let block = block_of(alloc, block)?;
+    gives(alloc, block, wanted)
 }
 
 #[test]
@@ -98,7 +109,7 @@ fn undef_is_an_element(rt: HostRuntime) -> Result<(), Fail> {
 }
 
 /// The script of one agent with this step.
-fn script_of(alloc: Global, init: &str, step: &str) -> Result<Script, Fail> {
+pub(crate) fn script_of(alloc: Global, init: &str, step: &str) -> Result<Script, Fail> {
     let mut text = String::new(alloc);
     write!(
         text,
@@ -109,11 +120,11 @@ fn script_of(alloc: Global, init: &str, step: &str) -> Result<Script, Fail> {
 }
 
 /// The first step of the script.
-fn first_step(script: &Script) -> Option<&Step> {
+pub(crate) fn first_step(script: &Script) -> Option<&Step> {
     script.agents().first()?.as_slice().first()
 }
 
-fn are_named(places: &[Location], names: &[&str]) -> bool {
+pub(crate) fn are_named(places: &[Location], names: &[&str]) -> bool {
     if places.len() != names.len() {
         return false;
     }
@@ -134,13 +145,12 @@ fn the_last_block_has_no_targets_to_read(rt: HostRuntime) -> Result<(), Fail> {
     let Some(step) = first_step(&script) else {
         return Err(Fail::new("no step"));
     };
-    let places = step_reads(alloc, step)?;
-    assert!(rt; are_named(&places, &["s", "u"]));
+    assert!(rt; are_named(step.reads(), &["s", "u"]));
     Ok(())
 }
 
 /// Whether the step has this move on the state.
-fn has_move(alloc: Global, init: &str, step: &str, wanted: &str) -> Result<bool, Fail> {
+pub(crate) fn has_move(alloc: Global, init: &str, step: &str, wanted: &str) -> Result<bool, Fail> {
     let script = script_of(alloc, init, step)?;
     let Some(step) = first_step(&script) else {
         return Ok(false);
@@ -166,7 +176,7 @@ fn a_lone_block_may_clash_when_it_is_fired(rt: HostRuntime) -> Result<(), Fail> 
 }
 
 /// Why the first step of the script has no move on its opening state. The error is want of memory.
-fn fault_of(alloc: Global, script: &Script) -> Result<Option<StepFault>, AllocError> {
+pub(crate) fn fault_of(alloc: Global, script: &Script) -> Result<Option<StepFault>, AllocError> {
     let Some(step) = first_step(script) else {
         return Ok(None);
     };

@@ -4,7 +4,7 @@ ghost use Rattle.asm_driver.specs.Terms.{term_value, given_number, IsEvaluated};
 
 use asm_element::{Element, Location, Value};
 use asm_update::Lookup;
-use std::alloc::{AllocError, Global};
+use std::alloc::{AllocError, AllocFailed, Global};
 use thiserror::Error;
 
 /// What a script writes in place of a value (the terms of Börger and Stärk's rules, of which a script
@@ -38,6 +38,17 @@ impl From<AllocError> for TermFault {
     ghost from_gives = { λ _ e. e ≡ Memory };
 
     fn from(_refused: AllocError) -> TermFault {
+        TermFault::Memory
+    }
+}
+
+impl<T: Drop> From<AllocFailed<T>> for TermFault {
+    ghost use Rattle.std.specs.Prelude.{◌≡◌};
+    ghost use Rattle.asm_driver.specs.declared.term.TermFault.TheVariants.{Memory};
+
+    ghost from_gives = { λ _ e. e ≡ Memory };
+
+    fn from(_refused: AllocFailed<T>) -> TermFault {
         TermFault::Memory
     }
 }

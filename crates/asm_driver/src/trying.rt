@@ -9,7 +9,7 @@ ghost use Rattle.asm_driver.specs.Trying.{names_of, outcome_of, HasRead, HasTrie
 use crate::gate::Passage;
 use crate::outcome::Outcome;
 use crate::seen::Seen;
-use crate::step::{Step, StepFault, step_move, step_reads};
+use crate::step::{Step, StepFault, step_move};
 use asm_element::Location;
 use asm_state::Named;
 use asm_storage::{Agent, FireError, ReadError, Reading, Reply};
@@ -173,12 +173,12 @@ impl<'a, A: Aggregator + Sync + Drop, P: Passage> Player<'a, A, P> {
         ensures { IfOk result (
             IsStepPlayed A.meaning (A.meaning self.now.aggregator.now) agent.old agent.new step.now) }
     {
-        let places = step_reads(self.alloc, step)?;
+        let places = step.reads();
         if places.len() > READS_LIMIT {
             return Ok(Outcome::Many);
         }
         for tried in 0..TRIES {
-            match self.one_try(rt, agent, calls, step, places.as_slice())? {
+            match self.one_try(rt, agent, calls, step, places)? {
                 Some(outcome) => return Ok(outcome),
                 None => {}
             }

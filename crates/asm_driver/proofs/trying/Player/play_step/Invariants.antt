@@ -3,4 +3,4 @@ use Rattle.asm_driver.proofs.trying.Player.play_step.Given as goal
 
 -- each try so far ended in nothing
 abbrev pub invariant-loop-tried : goal.invariant-loop-tried
-invariant-loop-tried g l = Tried l.places.items l.tried l.initial.agent l.agent
+invariant-loop-tried g l = Tried l.places l.tried l.initial.agent l.agent
