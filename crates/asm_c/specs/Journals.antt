@@ -1,0 +1,23 @@
+-- What is told of the bytes of a journal.
+use Rattle.std.specs.Prelude.{◌≡◌, ℕ, List}
+use Rattle.serde_json.specs.Written.{compact_text}
+use Rattle.asm_update.specs.Fire.{state_of}
+use Rattle.asm_storage.specs.declared.history.History.{History}
+use Rattle.asm_storage.specs.History.{moves}
+use Rattle.asm_journal.specs.declared.checking.Legality.{Legality}
+use Rattle.asm_journal.specs.Check.{machine_of, IsLegality}
+use Rattle.asm_journal.specs.Reading.{ReadsAs}
+use Rattle.asm_journal.specs.Text.{state_json_of}
+use Rattle.asm_c.specs.Standard.{part}
+
+-- the bytes are a journal, and this is what its check tells
+pub record IsChecked (bytes : List ℕ) (l : Legality) : Type 0 where
+  pub history : History
+  pub reads : ReadsAs bytes history
+  pub told : IsLegality (machine_of part history) history.events l
+
+-- the bytes are a journal, and this is the text of the state that its moves leave
+pub record IsReplayed (bytes text : List ℕ) : Type 0 where
+  pub history : History
+  pub reads : ReadsAs bytes history
+  pub left : text ≡ compact_text (state_json_of (state_of part history.init (moves history.events)))

@@ -1,0 +1,12 @@
+pub mod Standard
+pub mod Codes
+pub mod Owned
+pub mod Bytes
+pub mod Store
+pub mod Parts
+pub mod Closed
+pub mod Unclosed
+pub mod Slots
+pub mod Calls
+pub mod Refused
+pub mod Journals

@@ -1,0 +1,173 @@
+//! The calls of an agent that owns a share of its storage.
+ghost use Rattle.std.specs.Prelude.{◌≡◌, ◌↔◌, ◌<◌, length, IfOk, OnErr, IfErr, IsErrOf, option_map, string_bytes};
+ghost use Rattle.std_alloc.specs.Arc.{arc_value};
+ghost use mathlib.Core.List.{IsPrefix};
+ghost use Rattle.asm_storage.specs.declared.error.FireError.TheVariants.{ManyReads};
+ghost use Rattle.asm_storage.specs.declared.error.ReadError.TheVariants.{ManyLocations};
+ghost use Rattle.asm_storage.specs.Storage.{at_start, has_seen, IsSameAgent};
+ghost use Rattle.asm_storage.specs.Calls.{IsAnswered, IsBusy, IsRead};
+ghost use Rattle.asm_c.specs.Standard.{meaning};
+ghost use Rattle.asm_c.specs.Calls.{HasLooked, TellsLast};
+
+use crate::place::Place;
+use crate::sharing::{Shared, Standard};
+use asm_element::Location;
+use asm_journal::answer_text;
+use asm_state::Named;
+use asm_storage::{Agent, FireError, Mark, ReadError, Reading, Reply};
+use asm_update::Instructions;
+use std::alloc::{AllocError, Global};
+use std::sync::Arc;
+
+impl Place {
+    /// An agent of the storage with this number, which has made no call.
+    pub(crate) fn at_start(
+        alloc: Global,
+        shared: &Arc<Shared>,
+        id: u32,
+    ) -> Result<Place, AllocError>
+        requires { id < 256 }
+        ensures { IfOk result (λ p. p ≡ at_start (arc_value shared.now).storage id) }
+    {
+        let shared = Arc::try_clone(shared)?;
+        let agent = shared.storage.agent_at(alloc, id)?;
+        let part = agent.into_part();
+        Ok(Place { shared, part })
+    }
+
+    /// Reads the locations.
+    pub(crate) fn read(
+        self,
+        alloc: Global,
+        places: &[Location],
+    ) -> (Place, Result<Reading, ReadError>)
+        ensures same { IsSameAgent self result.0 }
+        ensures answered { IfOk result.1 (IsRead meaning self result.0 places.now) }
+        ensures refused { OnErr result.1 (HasLooked self result.0) }
+        ensures many { IsErrOf result.1 ManyLocations ↔ (256 < length places.now) }
+    {
+        let Place { shared, part } = self;
+        let mut agent = Agent::of(&shared.storage, part);
+        let answer = agent.read(alloc, places);
+        let part = agent.into_part();
+        (Place { shared, part }, answer)
+    }
+
+    /// Fires the move.
+    pub(crate) fn fire(
+        self,
+        alloc: Global,
+        reads: &[Named],
+        instrs: &Instructions,
+    ) -> (Place, Result<Reply, FireError>)
+        ensures same { IsSameAgent self result.0 }
+        ensures answered { IfOk result.1
+            (IsAnswered meaning self result.0 reads.now instrs.now) }
+        ensures refused { OnErr result.1 (HasLooked self result.0) }
+        ensures busy { IfErr result.1 (IsBusy self result.0) }
+        ensures many { IsErrOf result.1 ManyReads ↔ (256 < length reads.now) }
+    {
+        let Place { shared, part } = self;
+        let mut agent = Agent::of(&shared.storage, part);
+        let answer = agent.try_fire(alloc, reads, instrs);
+        let part = agent.into_part();
+        (Place { shared, part }, answer)
+    }
+
+    /// Its number.
+    pub(crate) fn id(self) -> (Place, u32)
+        ensures same { result.0 ≡ self }
+        ensures id { result.1 ≡ self.account.id }
+        ensures few { result.1 < 256 }
+    {
+        let Place { shared, part } = self;
+        let agent = Agent::of(&shared.storage, part);
+        let id = agent.id();
+        let part = agent.into_part();
+        (Place { shared, part }, id)
+    }
+
+    /// How many moves it has seen.
+    pub(crate) fn seen(self) -> (Place, u32)
+        ensures same { result.0 ≡ self }
+        ensures seen { result.1 ≡ length self.account.seen }
+    {
+        let Place { shared, part } = self;
+        let agent = Agent::of(&shared.storage, part);
+        let seen = agent.seen();
+        let part = agent.into_part();
+        (Place { shared, part }, seen)
+    }
+
+    /// How many of its offers won.
+    pub(crate) fn won(self) -> (Place, u32)
+        ensures same { result.0 ≡ self }
+        ensures won { result.1 ≡ self.account.won }
+    {
+        let Place { shared, part } = self;
+        let agent = Agent::of(&shared.storage, part);
+        let won = agent.won();
+        let part = agent.into_part();
+        (Place { shared, part }, won)
+    }
+
+    /// How many of its looks found an empty cell.
+    pub(crate) fn misses(self) -> (Place, u64)
+        ensures same { result.0 ≡ self }
+        ensures misses { result.1 ≡ self.misses }
+    {
+        let Place { shared, part } = self;
+        let agent = Agent::of(&shared.storage, part);
+        let misses = agent.misses();
+        let part = agent.into_part();
+        (Place { shared, part }, misses)
+    }
+
+    /// A mark of what it has seen.
+    pub(crate) fn mark(self, alloc: Global) -> (Place, Result<Mark, AllocError>)
+        ensures same { result.0 ≡ self }
+        ensures mark { IfOk result.1
+            (λ m. m ≡ record { row = self.storage.row; seen = self.account.seen }) }
+    {
+        let Place { shared, part } = self;
+        let agent = Agent::of(&shared.storage, part);
+        let mark = agent.mark(alloc);
+        let part = agent.into_part();
+        (Place { shared, part }, mark)
+    }
+
+    /// Takes in what the mark holds.
+    pub(crate) fn learn(self, alloc: Global, mark: &Mark) -> (Place, Result<(), AllocError>)
+        requires { mark.now.row ≡ self.storage.row }
+        ensures kept { result.0 ≡ has_seen self result.0.account.seen }
+        ensures mine { IsPrefix self.account.seen result.0.account.seen }
+        ensures theirs { IsPrefix mark.now.seen result.0.account.seen }
+    {
+        let Place { shared, part } = self;
+        let mut agent = Agent::of(&shared.storage, part);
+        let learnt = agent.learn(alloc, mark);
+        let part = agent.into_part();
+        (Place { shared, part }, learnt)
+    }
+
+    /// The text of the answer to its last answered call.
+    pub(crate) fn answer(self, alloc: Global) -> (Place, Result<Option<String>, AllocError>)
+        ensures same { result.0 ≡ self }
+        ensures told { IfOk result.1 (λ o. TellsLast self (option_map string_bytes o)) }
+    {
+        let Place { shared, part } = self;
+        let agent = Agent::of(&shared.storage, part);
+        let answer = last_answer(alloc, &agent);
+        let part = agent.into_part();
+        (Place { shared, part }, answer)
+    }
+}
+
+fn last_answer(alloc: Global, agent: &Agent<'_, Standard>) -> Result<Option<String>, AllocError>
+    ensures { IfOk result (λ o. TellsLast agent.now (option_map string_bytes o)) }
+{
+    match agent.receipts().last() {
+        Some(receipt) => Ok(Some(answer_text(alloc, &receipt.answer)?)),
+        None => Ok(None),
+    }
+}

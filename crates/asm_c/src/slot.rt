@@ -1,0 +1,60 @@
+//! What C holds.
+ghost use Rattle.std.specs.Prelude.{◌≡◌, IsNone, MatchOption};
+ghost use Rattle.asm_c.specs.Owned.{is_some};
+
+use crate::handle::Handle;
+use crate::held::Held;
+use crate::loose::Loose;
+use std::alloc::Global;
+
+/// Nothing where `full` is false: a slot of zeros holds nothing.
+#[repr(C)]
+pub struct Slot {
+    full: bool,
+    handle: Handle,
+    ghost tag: { full ≡ is_some handle.value },
+}
+
+impl Slot {
+    pub(crate) fn empty(alloc: Global) -> Slot
+        ensures { result.handle.value ≡ None }
+    {
+        Slot {
+            full: false,
+            handle: Handle::empty(alloc),
+        }
+    }
+
+    pub(crate) fn holding(value: Box<Held>) -> Slot
+        ensures { result.handle.value ≡ Some value.value }
+    {
+        Slot {
+            full: true,
+            handle: Handle::of(Loose::of(value)),
+        }
+    }
+
+    /// Whether it holds something.
+    pub(crate) fn is_full(&self) -> bool
+        ensures { result ≡ is_some self.now.handle.value }
+    {
+        self.full
+    }
+
+    pub(crate) fn into_box(self) -> Option<Box<Held>>
+        ensures { MatchOption result (self.handle.value ≡ None) (λ b. self.handle.value ≡ Some b.value) }
+    {
+        let Slot { full, handle } = self;
+        if full {
+            return Some(handle.into_loose().into_box());
+        }
+        handle.end();
+        None
+    }
+}
+
+impl Drop for Slot {
+    fn drop(self) {
+        let _ = self.into_box();
+    }
+}

@@ -1,0 +1,198 @@
+/* folugben.h: the abstract storage of a CoreASM engine, for C.
+ *
+ * A storage holds the state of an abstract state machine. Its agents read that state and fire moves
+ * on it, each in a thread of its own and without locks: a move fires only if no location that it
+ * names was written since the agent read it. Agents that are given back are closed into a journal,
+ * which tells what each call was answered, and which can be checked again.
+ *
+ * WHAT THE CALLER OWES
+ *
+ *  - Threads. A slot is given to one call at a time. Different slots may be in calls at once, those
+ *    of one storage too. A slot goes from one thread to another by the start or the end of a
+ *    thread, or under a lock. No call starts a thread, waits or takes a lock, and each returns. No
+ *    call from a signal handler, nor in the child of a fork of a process with threads.
+ *  - Slots. A slot begins as zeros ({0}) and is then used through its one address: no copy of it is
+ *    given to a call. It may lie anywhere. What lies in it is freed by asm_free, or by asm_give,
+ *    once.
+ *  - Buffers. A buffer is `room` bytes long at least. The bytes passed and the buffer don't
+ *    overlap, and neither lies in a slot. With a length of 0 the pointer may be null. No text has a
+ *    zero byte at its end.
+ *  - Storages. asm_learn takes two agents of one storage, and asm_give an agent of the storage:
+ *    ASM_OTHER tells a mistake, but not surely where another thread makes the same mistake with the
+ *    same two storages at that moment.
+ *  - malloc, realloc and free are of one allocator, and malloc aligns a block to each power of two
+ *    up to 16 that divides its size.
+ *
+ * WHAT STANDS AFTER A CALL
+ *
+ *  - Of asm_read and asm_try_fire any answer but ASM_DONE, ASM_STALE, ASM_CLASH and ASM_FULL adds
+ *    no receipt, and the agent may have seen more moves. Of each other call, any answer but
+ *    ASM_DONE leaves the slots as they were.
+ *  - ASM_MEMORY: nothing was fired or lost, and the call may be made again.
+ *  - ASM_SMALL: nothing was written to the buffer; `*written` is the room that is needed. The call
+ *    may be made again: nothing is read, fired or closed by it.
+ *
+ * TEXTS are JSON in UTF-8, in the forms of journals (docs/FORMATS.md):
+ *
+ *    LOC     ["name",ELEMENT,..]          ELEMENT  null, true, 7, "text" or {"list":[ELEMENT,..]}
+ *    VALUE   ELEMENT, {"set":[ELEMENT,..]} or {"bag":[[ELEMENT,COUNT],..]}
+ *    PAIR    [LOC,VALUE]                  NAMED    [LOC,NUMBER]
+ *    INSTR   ["put",LOC,VALUE], ["add",LOC,ELEMENT], ["remove",LOC,ELEMENT], ..
+ *
+ * AN EXAMPLE: one agent adds 1 to a count; bindings/c/example.c has eight of them on threads.
+ *
+ *    const char *init = "[[[\"count\"],0]]", *places = "[[\"count\"]]";
+ *    const char *move = "{\"fire\":[[\"put\",[\"count\"],1]],\"reads\":[[[\"count\"],0]]}";
+ *    asm_slot storage = {0}, agent = {0};
+ *    asm_numbers numbers;
+ *    uint8_t text[4096];
+ *    size_t written;
+ *    uint32_t missing;
+ *
+ *    if (asm_open((const uint8_t *)init, strlen(init), 1000, &storage) != ASM_DONE) ..
+ *    if (asm_agent(&storage, 0, &agent) != ASM_DONE) ..
+ *    if (asm_read(&agent, (const uint8_t *)places, strlen(places)) != ASM_DONE) ..
+ *    if (asm_answer(&agent, text, sizeof text, &written) != ASM_DONE) .. {"number":0,"values":[0]}
+ *    switch (asm_try_fire(&agent, (const uint8_t *)move, strlen(move), &numbers)) {
+ *    case ASM_DONE: printf("move %u\n", numbers.fired); break;
+ *    case ASM_STALE: .. read again; break;
+ *    }
+ *    asm_give(&storage, &agent);
+ *    if (asm_close(&storage, &missing) == ASM_DONE)
+ *        asm_journal(&storage, text, sizeof text, &written);
+ *    asm_free(&storage);
+ *
+ * Link with libfolugben.a, or with libfolugben.so. */
+#ifndef FOLUGBEN_H
+#define FOLUGBEN_H
+
+#include <stdbool.h>
+#include <stddef.h>
+#include <stdint.h>
+
+#ifdef __cplusplus
+extern "C" {
+#endif
+
+/* The version of this header, as asm_version tells that of the library: a million for each major
+ * version, a thousand for each minor one. */
+#define FOLUGBEN_VERSION 1000
+
+/* What calls answer. */
+enum asm_code {
+    ASM_DONE = 0,      /* done; of asm_try_fire: fired; of asm_check: legal */
+    ASM_STALE = 1,     /* a location that the move names was written since; nothing was fired */
+    ASM_CLASH = 2,     /* the updates of the move clash; nothing was fired */
+    ASM_MEMORY = 3,    /* out of memory; nothing was fired or lost */
+    ASM_FULL = 4,      /* as many moves were fired as the capacity; nothing was fired */
+    ASM_EMPTY = 5,     /* a slot holds nothing of the kind that is wanted, or is passed twice */
+    ASM_RANGE = 6,     /* the capacity, an agent's number or the count of slots is out of range */
+    ASM_SMALL = 7,     /* the buffer is too small, and `*written` is the room that is needed */
+    ASM_BUSY = 8,      /* 64 offers were lost to other agents; nothing was fired */
+    ASM_MANY = 9,      /* more than 256 locations */
+    ASM_NONE = 10,     /* no call was answered yet; or no journal since an agent was given back */
+    ASM_TAKEN = 11,    /* a slot that was to be filled is full */
+    ASM_NUMBER = 12,   /* an agent with this number was given back before */
+    ASM_MISSING = 13,  /* a move has no receipt among the agents that were given back */
+    ASM_OTHER = 14,    /* the two slots are of two storages */
+    ASM_ILLEGAL = 15,  /* the journal isn't legal */
+    ASM_NOT_JSON = 16, /* the bytes, or a line of the journal, are no JSON */
+    ASM_SHAPE = 17,    /* they are JSON of another shape, or beyond a limit */
+    ASM_VERSION = 18,  /* a journal of another version than 1 and 2 */
+    ASM_CUT = 19,      /* the journal ends too early */
+    ASM_LARGE = 20     /* more calls than the 4,294,967,295 that a journal holds */
+};
+
+/* What a code means, in a line of English. ASM_DONE, or ASM_SMALL. */
+int32_t asm_error_text(int32_t code, uint8_t *out, size_t room, size_t *written);
+
+/* The version of the library. */
+uint32_t asm_version(void);
+
+/* A place for a storage or an agent. Zeros hold nothing. `full` may be read between calls, and
+ * neither is written. */
+typedef struct asm_slot {
+    bool full;
+    void *at;
+} asm_slot;
+
+/* Opens a storage with the state [PAIR, ..], for 1 to 1,048,576 moves, in an empty slot.
+ * ASM_TAKEN, ASM_NOT_JSON, ASM_SHAPE, ASM_RANGE (the capacity), ASM_MEMORY. */
+int32_t asm_open(const uint8_t *init, size_t len, uint32_t capacity, asm_slot *storage);
+
+/* Makes an agent with this number, below 256, in an empty slot, at any time. Agents that are closed
+ * together need different numbers. ASM_RANGE (the number), ASM_TAKEN (`agent` is full), ASM_EMPTY
+ * (`storage`), ASM_MEMORY. */
+int32_t asm_agent(asm_slot *storage, uint32_t number, asm_slot *agent);
+
+/* Makes an agent in each of at most 256 empty slots, with the numbers from 0 up.
+ * ASM_RANGE (the count), ASM_TAKEN (one of the slots), ASM_EMPTY (`storage`), ASM_MEMORY. */
+int32_t asm_agents(asm_slot *storage, asm_slot *agents, size_t count);
+
+/* Reads the locations [LOC, ..], at most 256. The answer is the text {"number":N,"values":[VALUE,
+ * ..]}: their values after the first N moves, which asm_answer writes. ASM_EMPTY, ASM_NOT_JSON,
+ * ASM_SHAPE, ASM_MANY, ASM_MEMORY. */
+int32_t asm_read(asm_slot *agent, const uint8_t *places, size_t len);
+
+/* The numbers of a fire; each is 0 where its code isn't answered. */
+typedef struct asm_numbers {
+    uint32_t fired; /* ASM_DONE: the number of the move that was fired */
+    uint32_t from;  /* ASM_BUSY: how many moves the agent had seen at the start of the call */
+    uint32_t to;    /* ASM_BUSY: how many at its end */
+} asm_numbers;
+
+/* Fires the move {"fire":[INSTR, ..],"reads":[NAMED, ..]}, unless one of the at most 256 named
+ * locations was written since the number of moves under which it is named. ASM_DONE: fired.
+ * ASM_STALE, ASM_CLASH and ASM_FULL are answers too: asm_answer writes {"fired":N}, {"stale":LOC},
+ * {"clash":[LOC,CAUSE]} or "full". ASM_BUSY, ASM_EMPTY, ASM_NOT_JSON, ASM_SHAPE, ASM_MANY,
+ * ASM_MEMORY: not answered, and nothing was fired. */
+int32_t asm_try_fire(asm_slot *agent, const uint8_t *call, size_t len, asm_numbers *numbers);
+
+/* Writes the text of the answer to the agent's last answered call.
+ * ASM_EMPTY, ASM_NONE, ASM_SMALL, ASM_MEMORY. */
+int32_t asm_answer(asm_slot *agent, uint8_t *out, size_t room, size_t *written);
+
+/* Takes in what the other agent of the same storage has seen, so that what the agent is answered
+ * from then on comes after all that the other was answered before. Neither slot may be in another
+ * call. ASM_EMPTY (one of the slots), ASM_OTHER, ASM_MEMORY. */
+int32_t asm_learn(asm_slot *agent, asm_slot *other);
+
+/* How many moves the agent has seen, how many it fired, and how many of its looks found no further
+ * move; 0 for a slot without an agent. */
+uint32_t asm_seen(asm_slot *agent);
+uint32_t asm_won(asm_slot *agent);
+uint64_t asm_misses(asm_slot *agent);
+
+/* Gives an agent back to its storage, in any order; its slot is then empty, and the journal of an
+ * earlier asm_close is let go. ASM_EMPTY (one of the slots), ASM_OTHER, ASM_NUMBER, ASM_MEMORY. */
+int32_t asm_give(asm_slot *storage, asm_slot *agent);
+
+/* Makes the journal of the agents that were given back. ASM_MISSING: the move `*number` has no
+ * receipt among them; give back the agent that fired it, and close again. Else `*number` is 0.
+ * ASM_EMPTY, ASM_LARGE, ASM_MEMORY. */
+int32_t asm_close(asm_slot *storage, uint32_t *number);
+
+/* Writes the journal that asm_close made. ASM_EMPTY, ASM_NONE, ASM_SMALL. */
+int32_t asm_journal(asm_slot *storage, uint8_t *out, size_t room, size_t *written);
+
+/* Lets go of what the slot holds, if anything, and leaves it empty. The memory of a storage is
+ * freed with the last slot that holds it or an agent of it. */
+void asm_free(asm_slot *slot);
+
+/* Checks a journal: whether each answer is the one that a storage of one thread gives there.
+ * ASM_DONE: it is legal, with the numbers of its calls and of its moves. ASM_ILLEGAL: `*calls` is
+ * the number of the first call whose answer is another, from 0 up. ASM_NOT_JSON, ASM_SHAPE:
+ * `*calls` is the number of the line, from 1 up. ASM_VERSION, ASM_CUT, ASM_MEMORY. */
+int32_t asm_check(const uint8_t *journal, size_t len, uint64_t *calls, uint32_t *moves);
+
+/* Writes the state [PAIR, ..] that the moves of a journal leave, with its locations in ascending
+ * order; the journal isn't checked. ASM_NOT_JSON, ASM_SHAPE: `*line` is the number of the line,
+ * else 0. ASM_VERSION, ASM_CUT, ASM_SMALL, ASM_MEMORY. */
+int32_t asm_replay(const uint8_t *journal, size_t len, uint8_t *out, size_t room, size_t *written,
+                   uint64_t *line);
+
+#ifdef __cplusplus
+}
+#endif
+
+#endif
