@@ -39,7 +39,7 @@
  *    PAIR    [LOC,VALUE]                  NAMED    [LOC,NUMBER]
  *    INSTR   ["put",LOC,VALUE], ["add",LOC,ELEMENT], ["remove",LOC,ELEMENT], ..
  *
- * AN EXAMPLE: one agent adds 1 to a count; bindings/c/example.c has eight of them on threads.
+ * AN EXAMPLE: one agent adds 1 to a count.
  *
  *    const char *init = "[[[\"count\"],0]]", *places = "[[\"count\"]]";
  *    const char *move = "{\"fire\":[[\"put\",[\"count\"],1]],\"reads\":[[[\"count\"],0]]}";
@@ -62,7 +62,8 @@
  *        asm_journal(&storage, text, sizeof text, &written);
  *    asm_free(&storage);
  *
- * Link with libfolugben.a, or with libfolugben.so. */
+ * Link with the archive libasm_c.a, which `rt lib` in crates/asm_c leaves in its folder out/, and
+ * with liblibc_c.a of the toolchain. */
 #ifndef FOLUGBEN_H
 #define FOLUGBEN_H
 
