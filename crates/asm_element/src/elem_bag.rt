@@ -52,7 +52,7 @@ impl ElemBag {
 
     /// Adds the element `n` times. `n` is at least 1, and the new count fits `u32`.
     ///
-    /// The error is want of memory, and comes only where the element isn't there. After it the bag
+    /// `AllocError` is an allocation failure, and comes only where the element isn't there. After it the bag
     /// is unchanged.
     pub fn put(&mut self, element: Element, n: u32) -> Result<(), AllocError>
         requires positive { 1 ≤ n }
@@ -99,7 +99,7 @@ impl ElemBag {
         let _ = &self.counts;
     }
 
-    /// The same bag, in memory of its own. The error is want of memory.
+    /// The same bag, in memory of its own. `AllocError` comes only where memory was refused.
     pub fn copy(&self, _alloc: Global) -> Result<ElemBag, AllocError>
         ensures { IfOk result (λ copy. copy ≡ self.now) }
     {

@@ -61,7 +61,7 @@ impl ElemSet {
 
     /// Adds the element, and answers whether it was new.
     ///
-    /// The error is want of memory, and comes only where the element is new. After it the set is
+    /// `AllocError` is an allocation failure, and comes only where the element is new. After it the set is
     /// unchanged.
     pub fn insert(&mut self, element: Element) -> Result<bool, AllocError>
         ensures added { IfOk result (λ added. added ≡ not (set.contains self.old element)) }
@@ -96,7 +96,7 @@ impl ElemSet {
         let _ = &self.elements;
     }
 
-    /// The same set, in memory of its own. The error is want of memory.
+    /// The same set, in memory of its own. `AllocError` comes only where memory was refused.
     pub fn copy(&self, _alloc: Global) -> Result<ElemSet, AllocError>
         ensures { IfOk result (λ copy. copy ≡ self.now) }
     {

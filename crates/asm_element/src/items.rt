@@ -52,7 +52,9 @@ impl<T> Items<T> {
 }
 
 impl<T: Drop> Items<T> {
-    /// The list of the vector's items, which its clones share: a clone takes no memory. The error is want of memory.
+    /// The list of the vector's items, which its clones share: a clone takes no memory.
+    ///
+    /// `AllocError` comes only where memory was refused.
     pub fn shared(alloc: Global, items: Vec<T>) -> Result<Self, AllocError>
         ensures { IfOk result (λ list. list ≡ items.items) }
     {

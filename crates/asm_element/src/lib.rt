@@ -7,11 +7,7 @@ mod elem_list;
 mod elem_set;
 mod element;
 mod items;
-#[cfg(test)]
-mod list_tests;
 mod location;
-#[cfg(test)]
-mod tests;
 mod text;
 mod value;
 

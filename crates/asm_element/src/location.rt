@@ -128,7 +128,7 @@ impl Location {
         self.args.as_slice()
     }
 
-    /// The same location, in memory of its own. The error is want of memory.
+    /// The same location, in memory of its own. `AllocError` comes only where memory was refused.
     pub fn copy(&self, _alloc: Global) -> Result<Location, AllocError>
         ensures { IfOk result (λ copy. copy ≡ self.now) }
     {

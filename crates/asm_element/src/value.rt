@@ -28,7 +28,7 @@ impl Value {
         matches!(self, Value::Plain(Element::Undef))
     }
 
-    /// The same value, in memory of its own. The error is want of memory.
+    /// The same value, in memory of its own. `AllocError` comes only where memory was refused.
     pub fn copy(&self, _alloc: Global) -> Result<Value, AllocError>
         ensures { IfOk result (λ copy. copy ≡ self.now) }
     {

@@ -6,8 +6,6 @@
 
 mod over;
 mod overlay;
-#[cfg(test)]
-mod tests;
 
 pub use over::Over;
 pub use overlay::{Overlay, OverlayError, Seen};

@@ -75,25 +75,25 @@ pub record AggregatorLaws (a : Meaning) : Type 0 where
       a.joins first second ≡ Ok joined → list_any (is_of f) joined ≡ true →
       list_any (is_of f) (first ++ second) ≡ true
 
--- a call answers this outcome: its value, or its cause; want of memory tells nothing
+-- a call answers this outcome: its value, or its cause; an allocation failure tells nothing
 abbrev pub IsOutcome : Result Value ResultError → Outcome → Type 0
 IsOutcome (Ok value) outcome = outcome ≡ Ok value
 IsOutcome (Err (result_error.Cause cause)) outcome = outcome ≡ Err cause
 IsOutcome (Err result_error.Memory) outcome = Unit {0}
 
--- a call answers whether this outcome is a value, or else its cause; want of memory tells nothing
+-- a call answers whether this outcome is a value, or else its cause; an allocation failure tells nothing
 abbrev pub IsAdmitted : Result (Unit {0}) ResultError → Outcome → Type 0
 IsAdmitted (Ok _) outcome = IsOk outcome
 IsAdmitted (Err (result_error.Cause cause)) outcome = outcome ≡ Err cause
 IsAdmitted (Err result_error.Memory) outcome = Unit {0}
 
--- a call leaves this outcome's value, or answers its cause; want of memory tells nothing
+-- a call leaves this outcome's value, or answers its cause; an allocation failure tells nothing
 abbrev pub IsLeft : Result (Unit {0}) ResultError → Value → Outcome → Type 0
 IsLeft (Ok _) left outcome = outcome ≡ Ok left
 IsLeft (Err (result_error.Cause cause)) left outcome = outcome ≡ Err cause
 IsLeft (Err result_error.Memory) left outcome = Unit {0}
 
--- a call answers this join: its list, or its refusal; want of memory tells nothing
+-- a call answers this join: its list, or its refusal; an allocation failure tells nothing
 abbrev pub IsJoined : Result (Vec Action Global) JoinError → Joined → Type 0
 IsJoined (Ok actions) joined = joined ≡ Ok actions.items
 IsJoined (Err (join_error.Cause cause)) joined = joined ≡ Err (Refused cause)

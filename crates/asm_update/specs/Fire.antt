@@ -107,7 +107,7 @@ pub record IsLeastClash (part : Part) (old : Old) (M : Move) (clash : Clash) : T
   pub cause : outcome_at part old M clash.at ≡ Err clash.cause
   pub least : (l : Place) → location_cmp l clash.at ≡ Less → writes M l ≡ true → IsOk (outcome_at part old M l)
 
--- a clash that is answered is the one of firing, whatever partial updates mean; want of memory tells nothing
+-- a clash that is answered is the one of firing, whatever partial updates mean; an allocation failure tells nothing
 abbrev pub TellsClash : State → Move → AggError → Type 0
 TellsClash A M (Clashes c) = (part : Part) → fire part A M ≡ Err c
 TellsClash A M Memory = Unit {0}

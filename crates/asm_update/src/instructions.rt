@@ -165,6 +165,8 @@ impl Instructions {
     }
 
     /// The same instructions, which both share until one of them grows.
+    ///
+    /// It takes no memory: `AllocError` comes only where more lists would share them than can be counted.
     pub fn copy(&self, _alloc: Global) -> Result<Instructions, AllocError>
         ensures { IfOk result (λ copy. copy ≡ self.now) }
     {

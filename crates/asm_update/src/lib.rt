@@ -25,6 +25,3 @@ pub use instructions::{Instructions, InstructionsError};
 pub use lookup::Lookup;
 pub use plain_state::PlainState;
 pub use update_set::UpdateSet;
-
-#[cfg(test)]
-mod tests;

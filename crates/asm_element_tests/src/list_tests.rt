@@ -1,4 +1,4 @@
-use crate::{ElemList, ElemText, Element, ListError};
+use asm_element::{ElemList, ElemText, Element, ListError};
 use std::alloc::{AllocError, Global};
 use std::test::Fail;
 

@@ -1,8 +1,12 @@
 ghost use Rattle.std.specs.Prelude.{IsTrue};
 ghost use Rattle.asm_update.specs.Move.{all_regular};
 
-use crate::*;
 use asm_element::{Element, Location, Value};
+use asm_update::{
+    Action, AggError, Amount, Cause, Clash, Family, Group, Instruction, Instructions,
+    InstructionsError, JoinError, Lookup, PlainState, ResultError, UpdateSet, consistent,
+    fire_plain,
+};
 use std::alloc::{AllocError, Global};
 use std::test::Fail;
 
@@ -103,7 +107,7 @@ fn is_two_at(clash: &Clash, name: &str) -> bool {
     clash.at.name() == name && clash.at.args().is_empty() && clash.cause == Cause::Two
 }
 
-/// Whether firing clashes there. The error is want of memory.
+/// Whether firing clashes there. `AllocError` comes only where memory was refused.
 fn clashes_at(
     alloc: Global,
     state: &mut PlainState,

@@ -1,4 +1,4 @@
-use crate::{ElemBag, ElemSet, ElemText, Element, Items, Location, LocationError, Value};
+use asm_element::{ElemBag, ElemSet, ElemText, Element, Items, Location, LocationError, Value};
 use std::alloc::{AllocError, Global};
 use std::test::Fail;
 

@@ -1,5 +1,5 @@
-use crate::*;
 use asm_element::{Element, Location, Value};
+use asm_overlay::{Over, Overlay, OverlayError, Seen};
 use asm_update::{Lookup, PlainState, UpdateSet};
 use std::alloc::Global;
 use std::process::Abort;

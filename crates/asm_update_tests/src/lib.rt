@@ -1,0 +1,5 @@
+//! Tests of `asm_update`, which see its public items alone.
+#![tactic(auto)]
+
+#[cfg(test)]
+mod tests;
