@@ -2,7 +2,7 @@
 use Rattle.std.proofs.Common.{◌≡◌, ◌≢◌, Bool, true, false, cond, ◌&&◌, T, List, [], ◌∷◌, ◌++◌, map, refl, sym, ap}
 use Rattle.std.proofs.Common.{subst, ◌∙◌, unwrap_or, append_assoc, append-nil, All, ◌≤◌}
 use Rattle.std.proofs.Common.{length}
-use Rattle.std.specs.Prelude.{Result, Ok, Err, None, Some, is_some, filter}
+use Rattle.std.specs.Prelude.{Option, Result, Ok, Err, None, Some, is_some, filter}
 use Rattle.std.specs.Ordering.{eq_by_cmp, is_lt}
 use Rattle.std.specs.List.{filter_map}
 use Rattle.std.specs.FinMap as finite
@@ -31,7 +31,9 @@ use Rattle.asm_aggregate.proofs.Bundles.{nothing, no_actions}
 use Rattle.asm_aggregate.proofs.Grouped.{actions_at-append, bundle_or_none}
 use Rattle.asm_aggregate.proofs.Sequence.{composition_is_sequence, refusal_never_fires}
 use Rattle.asm_element.specs.Ascending.{rising_rest, first_gone}
-use Rattle.asm_aggregate.proofs.Walked.{find_in}
+
+abbrev find_in : {X : Type 0} → Place → List (Place × X) → Option X
+find_in l es = finite.find location_cmp l es
 
 -- the same locations, with nothing at them
 abbrev units : {X : Type 0} → List (Place × X) → List (Place × Unit {0})

@@ -1,8 +1,8 @@
 -- What a call answers where a step of it has an error.
 use Rattle.std.proofs.Common.{◌≡◌, ℕ, ◌<◌, Bool, true, false, List, [], ◌∷◌, sym, subst}
-use Rattle.std.specs.Prelude.{Result, Ok, Err, if◌then◌else◌}
+use Rattle.std.specs.Prelude.{Result, Ok, Err, None, IsOk, if◌then◌else◌, refl}
 use Rattle.asm_element.specs.declared.element.Element.{Element}
-use Rattle.asm_update.specs.Aggregator.{Joined, Refusal, Refused as Refuses, TooLarge, IsOutcome, IsJoined}
+use Rattle.asm_update.specs.Aggregator.{Joined, Refusal, Refused as Refuses, TooLarge, IsAdmitted, IsOutcome, IsJoined}
 use Rattle.asm_update.specs.Fire.{Outcome}
 use Rattle.asm_update.specs.declared.action.Action.{Action}
 use Rattle.asm_update.specs.declared.clash.Cause.TheVariants.{Short, Large, Mixed, Both}
@@ -10,6 +10,7 @@ use Rattle.asm_update.specs.declared.errors.ResultError.{ResultError}
 use Rattle.asm_update.specs.declared.errors.ResultError.TheVariants.{Cause as Refused, Memory}
 use Rattle.asm_update.specs.declared.errors.JoinError.{JoinError}
 use Rattle.asm_update.specs.declared.errors.JoinError.TheVariants as join_error
+use Rattle.asm_aggregate.specs.Compose.{cause_of}
 use Rattle.asm_aggregate.specs.Steps.{IsShort, IsAbove, IsLargeIf}
 use Rattle.asm_aggregate.specs.Table.{first_cause}
 
@@ -68,3 +69,12 @@ table_refused false true error rest h = h
 table_refused false false (join_error.Cause cause) rest h = no_refusal [] (Refuses cause) h
 table_refused false false join_error.Large rest h = no_refusal [] TooLarge h
 table_refused false false join_error.Memory rest h = tt
+
+-- what is admitted has no cause
+none_of_ok : (outcome : Outcome) → IsOk outcome → cause_of outcome ≡ None
+none_of_ok (Ok value) h = refl
+none_of_ok (Err cause) h = cc
+
+pub admitted_none : (r : Result (Unit {0}) ResultError) (u : Unit {0}) (outcome : Outcome) → r ≡ Ok u →
+    IsAdmitted r outcome → cause_of outcome ≡ None
+admitted_none r u outcome is h = none_of_ok outcome (subst (λ (s : Result (Unit {0}) ResultError). IsAdmitted s outcome) is h)

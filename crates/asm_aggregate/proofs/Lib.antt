@@ -1,6 +1,8 @@
 pub mod SetSteps
 pub mod BagSteps
 mod CountSteps
+mod Arranged
+mod Parted
 mod Walked
 pub mod Exits
 pub mod BagTables

@@ -68,7 +68,7 @@ HaveRoom M N groups =
 abbrev pub by_place : {X : Type 0} → List (Bor Place × X) → List (Place × X)
 by_place es = map (λ e. (e.0.now, e.1)) es
 
--- the update set of the move, or its clash at the least location that has no result; want of memory tells nothing
+-- the update set of the move, or its clash at the least location that has no result; an allocation failure tells nothing
 abbrev pub IsAggregate : Part → Old → Move → Result Updates AggError → Type 0
 IsAggregate part old M (Ok U) = IsUpdateSet part old M U
 IsAggregate part old M (Err (Clashes clash)) = IsLeastClash part old M clash

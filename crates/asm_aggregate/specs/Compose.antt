@@ -74,7 +74,7 @@ composed_at a M N l = composed a (bundle_of (actions_at M l)) (bundle_of (action
 abbrev pub composition : Meaning → Move → Move → Result Move (Place × Refusal)
 composition a M N = in_turn (map (λ l. (l, composed_at a M N l)) (locations (M ++ N)))
 
--- the answer is the composition, or its refusal; a list of more than 4,096 is too long; want of memory tells nothing
+-- the answer is the composition, or its refusal; a list of more than 4,096 is too long; an allocation failure tells nothing
 abbrev pub IsComposition : Meaning → Move → Move → Result Move ComposeError → Type 0
 IsComposition a M N (Ok C) = (composition a M N ≡ Ok C) × (length C ≤ 4096)
 IsComposition a M N (Err (compose_error.Clash c)) = composition a M N ≡ Err (c.at, Refused c.cause)
@@ -113,7 +113,7 @@ IsLimited list (Err compose_error.ManyInstructions) = 4096 < length list
 IsLimited list (Err compose_error.Memory) = Unit {0}
 IsLimited list (Err _) = ⊥
 
--- the answer is the refusal of this location; want of memory tells nothing
+-- the answer is the refusal of this location; an allocation failure tells nothing
 abbrev pub IsRefusalAt : Place → JoinError → ComposeError → Type 0
 IsRefusalAt l (join_error.Cause cause) (compose_error.Clash c) = (c.at ≡ l) × (c.cause ≡ cause)
 IsRefusalAt l join_error.Large (compose_error.Large k) = k ≡ l

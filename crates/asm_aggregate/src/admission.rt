@@ -2,7 +2,8 @@ ghost use Rattle.asm_update.specs.Aggregator.{IsAdmitted};
 ghost use Rattle.asm_aggregate.specs.Bundle.{IsWritten, IsAdmission, bundle_result};
 
 use crate::aggregation::clash_at;
-use crate::groups::{Bundle, Groups};
+use crate::groups::Bundle;
+use crate::stretches::{Stretches, ascending};
 use asm_element::Location;
 use asm_update::{AggError, Aggregator, Cause, Instructions, Lookup, ResultError};
 use std::alloc::Global;
@@ -43,10 +44,13 @@ pub fn admit<A: Aggregator, L: Lookup>(
 ) -> Result<(), AggError>
     ensures { IsAdmission (A.meaning aggregator.now).part (L.value_at lookup.now) instructions.now result }
 {
-    for (at, bundle) in Groups::of(alloc, instructions)?.into_entries() {
-        match admit_at(alloc, aggregator, lookup, at, bundle) {
+    let list = ascending(alloc, instructions)?;
+    let mut stretches = Stretches::of(list.as_slice());
+    while let Some(stretch) = stretches.next() {
+        let bundle = Bundle::of(alloc, stretch.own)?;
+        match admit_at(alloc, aggregator, lookup, stretch.at, bundle) {
             Ok(()) => {}
-            Err(error) => return Err(clash_at(alloc, at, error)),
+            Err(error) => return Err(clash_at(alloc, stretch.at, error)),
         }
     }
     Ok(())

@@ -7,7 +7,8 @@ ghost use Rattle.asm_update.specs.declared.errors.ResultError.TheVariants as res
 ghost use Rattle.asm_aggregate.specs.Bundle.{IsWritten, IsAggregate, bundle_result};
 
 use crate::families::unchanged;
-use crate::groups::{Bundle, Groups};
+use crate::groups::Bundle;
+use crate::stretches::{Stretches, ascending};
 use asm_element::{Location, Value};
 use asm_update::{
     AggError, Aggregator, Cause, Clash, Instructions, Lookup, ResultError, UpdateSet,
@@ -82,11 +83,14 @@ pub fn aggregate<A: Aggregator, L: Lookup>(
 ) -> Result<UpdateSet, AggError>
     ensures { IsAggregate (A.meaning aggregator.now).part (L.value_at lookup.now) instructions.now result }
 {
+    let list = ascending(alloc, instructions)?;
     let mut updates = UpdateSet::new(alloc);
-    for (at, bundle) in Groups::of(alloc, instructions)?.into_entries() {
-        match result_at(alloc, aggregator, lookup, at, bundle) {
-            Ok(value) => put_at(alloc, &mut updates, at, value)?,
-            Err(error) => return Err(clash_at(alloc, at, error)),
+    let mut stretches = Stretches::of(list.as_slice());
+    while let Some(stretch) = stretches.next() {
+        let bundle = Bundle::of(alloc, stretch.own)?;
+        match result_at(alloc, aggregator, lookup, stretch.at, bundle) {
+            Ok(value) => put_at(alloc, &mut updates, stretch.at, value)?,
+            Err(error) => return Err(clash_at(alloc, stretch.at, error)),
         }
     }
     Ok(updates)

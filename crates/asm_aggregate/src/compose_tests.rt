@@ -62,7 +62,7 @@ fn is_refusal(error: &ComposeError, want: Result<&[Line], Refusal>) -> bool {
     }
 }
 
-/// Whether it is the wanted move, or the wanted refusal. The error is want of memory.
+/// Whether it is the wanted move, or the wanted refusal. `AllocError` comes only where memory was refused.
 fn is_composed(
     alloc: Global,
     answer: Result<Instructions, ComposeError>,

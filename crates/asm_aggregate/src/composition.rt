@@ -1,5 +1,5 @@
 ghost use Rattle.std.specs.Prelude.{◌≡◌, ◌≢◌, ◌++◌, ◌∷◌, [], OnOk, Ok, Some, None, IsSome};
-ghost use Rattle.asm_update.specs.Aggregator.{after, IsOutcome, IsJoined};
+ghost use Rattle.asm_update.specs.Aggregator.{after, IsAdmitted, IsOutcome, IsJoined};
 ghost use Rattle.asm_update.specs.Fire.{Outcome};
 ghost use Rattle.asm_update.specs.declared.action.Action.TheVariants.{Regular};
 ghost use Rattle.asm_aggregate.specs.Compose.{own_clash, cause_of, as_regular, composed, placed};
@@ -70,11 +70,11 @@ fn refusal_at(alloc: Global, at: &Location, error: JoinError) -> ComposeError
 }
 
 /// The cause of an outcome, if it has one.
-fn cause_alone(value: Result<Value, ResultError>) -> Result<(), JoinError>
-    ensures { (o : Outcome) → IsOutcome value o → IsOwnCause result (cause_of o) }
+fn cause_alone(admitted: Result<(), ResultError>) -> Result<(), JoinError>
+    ensures { (o : Outcome) → IsAdmitted admitted o → IsOwnCause result (cause_of o) }
 {
-    match value {
-        Ok(_) => Ok(()),
+    match admitted {
+        Ok(()) => Ok(()),
         Err(ResultError::Cause(cause)) => Err(JoinError::Cause(cause)),
         Err(ResultError::Memory) => Err(JoinError::Memory),
     }
@@ -95,7 +95,7 @@ fn clash_of_regular<A: Aggregator>(
     if bundle.partials().is_empty() {
         return Ok(());
     }
-    cause_alone(bundle.result_by(alloc, aggregator, None))
+    cause_alone(bundle.admit_by(alloc, aggregator, None))
 }
 
 /// The clash of partial updates alone, if they have one.

@@ -18,7 +18,7 @@ fn books(alloc: Global, numbers: &[i64]) -> Result<Value, AllocError> {
     Ok(Value::Set(set))
 }
 
-/// Fires a move, or tells where it clashes; then nothing is written. The error is want of memory.
+/// Fires a move, or tells where it clashes; then nothing is written. `AllocError` comes only where memory was refused.
 fn fire(
     alloc: Global,
     state: &mut PlainState,

@@ -1,5 +1,5 @@
 //! The groups of a move: what it does at each of its locations, gathered in one walk.
-ghost use Rattle.std.specs.Prelude.{◌≡◌, ◌≢◌, ◌++◌, ◌∷◌, [], List, IfOk, OnOk, unwrap_or, true};
+ghost use Rattle.std.specs.Prelude.{◌≡◌, ◌≢◌, ◌++◌, ◌∷◌, [], List, IfOk, OnOk, map as map_list, unwrap_or, true};
 ghost use Rattle.std.specs.List.{list_all};
 ghost use Rattle.std.specs.Option.{option_copied};
 ghost use Rattle.std.specs.FinMap as map;
@@ -10,6 +10,7 @@ ghost use Rattle.asm_update.specs.Aggregator.{IsAdmitted, IsOutcome};
 ghost use Rattle.asm_update.specs.declared.action.Action.{Action};
 ghost use Rattle.asm_update.specs.declared.action.Action.TheVariants.{Regular};
 ghost use Rattle.asm_aggregate.specs.Bundle.{bundle_of, AreGroups, HaveRoom, by_place, with_room};
+ghost use Rattle.asm_aggregate.specs.Stretch.{referred};
 ghost use Rattle.asm_update.specs.Move.{Move};
 
 use crate::families::copy_of;
@@ -80,6 +81,20 @@ impl<'a> Bundle<'a> {
             partial => self.partials.push(copy_of(alloc, partial)?)?,
         }
         Ok(())
+    }
+
+    /// What the instructions do, taken for those at one location.
+    pub(crate) fn of(
+        alloc: Global,
+        instructions: &[&'a Instruction],
+    ) -> Result<Bundle<'a>, AllocError>
+        ensures { IfOk result (λ bundle. bundle ≡ bundle_of (map_list (λ i. i.action) (referred instructions.now))) }
+    {
+        let mut bundle = Bundle::new(alloc);
+        for instruction in instructions {
+            bundle.add(alloc, &instruction.action)?;
+        }
+        Ok(bundle)
     }
 
     /// Whether two of the regular values differ.

@@ -25,7 +25,7 @@ fn are_actions(
     }
 }
 
-/// Whether they are the wanted actions, or it is the wanted refusal. The error is want of memory.
+/// Whether they are the wanted actions, or it is the wanted refusal. `AllocError` comes only where memory was refused.
 fn is_joined(
     alloc: Global,
     answer: Result<Vec<Action>, JoinError>,

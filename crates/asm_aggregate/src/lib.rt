@@ -13,6 +13,7 @@ mod groups;
 mod pair;
 mod set_agg;
 mod side;
+mod stretches;
 
 pub use admission::admit;
 pub use aggregation::aggregate;

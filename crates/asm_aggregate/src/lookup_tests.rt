@@ -135,7 +135,55 @@ fn puts_are_not_looked_up(rt: HostRuntime) -> Result<(), Fail> {
     Ok(())
 }
 
-/// Whether the two are too many for one move. The error is want of memory.
+/// Whether the move has an update set, and what the look-up was asked for to tell it.
+fn admit_on(alloc: Global, lookup: Noting, list: Instructions) -> Result<(u64, bool), AllocError> {
+    let admitted = match admit(alloc, &standard(), &lookup, &list) {
+        Ok(()) => true,
+        Err(AggError::Clash(_clash)) => false,
+        Err(AggError::Memory) => return Err(AllocError),
+    };
+    Ok((lookup.asked.get(), admitted))
+}
+
+#[test]
+fn an_admission_looks_up_what_an_aggregation_does(rt: HostRuntime) -> Result<(), Fail> {
+    let alloc = rt.alloc();
+    let lookup = two_empty_sets(alloc)?;
+    let (asked, admitted) = admit_on(alloc, lookup, additions_by_turns(alloc)?)?;
+    assert_eq!(rt; asked, 12);
+    assert!(rt; admitted);
+    let lookup = two_empty_sets(alloc)?;
+    let (asked, admitted) = admit_on(alloc, lookup, puts_downwards(alloc)?)?;
+    assert_eq!(rt; asked, 0);
+    assert!(rt; admitted);
+    Ok(())
+}
+
+/// An addition at c, then two values at b.
+fn a_clash_below_an_addition(alloc: Global) -> Result<Instructions, Fail> {
+    let mut list = Instructions::new(alloc);
+    let at = location(alloc, "c")?;
+    let action = Action::SetAdd(Element::Num(1));
+    list.push(Instruction { at, action })?;
+    for n in 0i64..2 {
+        let at = location(alloc, "b")?;
+        let action = Action::Regular(Value::Plain(Element::Num(n)));
+        list.push(Instruction { at, action })?;
+    }
+    Ok(list)
+}
+
+#[test]
+fn nothing_is_looked_up_above_a_clash(rt: HostRuntime) -> Result<(), Fail> {
+    let alloc = rt.alloc();
+    let lookup = two_empty_sets(alloc)?;
+    let (asked, admitted) = admit_on(alloc, lookup, a_clash_below_an_addition(alloc)?)?;
+    assert_eq!(rt; asked, 0);
+    assert!(rt; !admitted);
+    Ok(())
+}
+
+/// Whether the two are too many for one move. `AllocError` comes only where memory was refused.
 fn are_many(
     alloc: Global,
     first: &Instructions,

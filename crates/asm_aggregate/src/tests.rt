@@ -190,7 +190,7 @@ fn are_updates(alloc: Global, updates: &UpdateSet, want: Result<Old, Cause>) -> 
     }
 }
 
-/// Whether it is the wanted value at x alone, or the wanted clash there. The error is want of memory.
+/// Whether it is the wanted value at x alone, or the wanted clash there. `AllocError` comes only where memory was refused.
 pub(crate) fn is_wanted(
     alloc: Global,
     answer: Result<UpdateSet, AggError>,
@@ -255,7 +255,7 @@ pub(crate) fn is_value(
     }
 }
 
-/// Whether it is the wanted value, or the wanted cause. The error is want of memory.
+/// Whether it is the wanted value, or the wanted cause. `AllocError` comes only where memory was refused.
 fn is_result(
     alloc: Global,
     answer: Result<Value, ResultError>,
@@ -451,7 +451,7 @@ fn two_clashes(alloc: Global) -> Result<Instructions, Fail> {
     Ok(list)
 }
 
-/// Whether the move clashes there, as two values are put. The error is want of memory.
+/// Whether the move clashes there, as two values are put. `AllocError` comes only where memory was refused.
 fn clashes_at(alloc: Global, list: &Instructions, name: &str) -> Result<bool, AllocError> {
     match aggregate(alloc, &standard(), &PlainState::new(alloc), list) {
         Ok(_updates) => Ok(false),

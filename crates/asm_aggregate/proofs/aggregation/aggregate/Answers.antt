@@ -1,24 +1,31 @@
-use Rattle.std.proofs.Common.{ap, ◌∙◌}
-use Rattle.asm_aggregate.specs.Bundle.{by_place}
-use Rattle.asm_aggregate.proofs.Walked.{walk_starts, first_written, walk_goes_on, walk_refuses}
+use Rattle.std.proofs.Common.{ap, sym, subst, ◌∙◌}
+use Rattle.asm_aggregate.specs.Stretch.{IsArranged, referred}
+use Rattle.asm_aggregate.proofs.Parted.{fewer}
+use Rattle.asm_aggregate.proofs.Walked.{walk_starts, first_written, walk_goes_on, walk_refuses, walk_ends}
 use Rattle.asm_aggregate.proofs.aggregation.aggregate.Goals as goal
 
-pub loop-at-init : goal.loop-at-init
-loop-at-init g c =
-    walk_starts _ _ c.args.instructions.now _ _ _ c.in_ok-of.ensures
-    (ap by_place c.into_iter-at-iterator.ensures.into_iter_gives ∙ c.into_entries-at-items.ensures)
+pub loop-stretch-init : goal.loop-stretch-init
+loop-stretch-init g c =
+    walk_starts _ _ c.args.instructions.now _ _
+    (subst (IsArranged c.args.instructions.now) (sym (c.of-stretches.ensures ∙ ap referred c.as_slice.ensures.value)) c.in_ok-list.ensures)
     c.new-updates.ensures
 
 pub result_at-requires : goal.result_at-requires
-result_at-requires g c = first_written _ _ _ _ _ _ _ _ (ap by_place c.in-Some.ensures.steps) c.loop-at.invariant
+result_at-requires g c =
+    first_written _ _ _ _ _ _ _ _ _ c.in-Some.ensures c.in_ok-bundle.ensures c.loop-stretch.invariant
 
-pub loop-at-preserved : goal.loop-at-preserved
-loop-at-preserved g c =
-    walk_goes_on _ _ _ c.in-Some.at.now _ _ _ _
-    (ap by_place c.in-Some.ensures.steps) c.loop-at.invariant _ _ c.in-Ok.ensures
-    c.in_ok-put_at-in-Ok.ensures
+pub loop-stretch-preserved : goal.loop-stretch-preserved
+loop-stretch-preserved g c =
+    walk_goes_on _ _ _ _ _ _ c.in-Some.stretch.at.now _ _ c.in-Some.ensures c.in_ok-bundle.ensures
+    c.loop-stretch.invariant _ _ c.in-Ok.ensures c.in_ok-put_at-in-Ok.ensures
+
+pub loop-stretch-smaller : goal.loop-stretch-smaller
+loop-stretch-smaller g c = fewer _ _ _ _ c.in-Some.ensures
 
 pub returns-in-Err : goal.returns-in-Err
 returns-in-Err g c =
-    walk_refuses _ _ _ c.in-Some.at.now _ _ _ _
-    (ap by_place c.in-Some.ensures.steps) c.loop-at.invariant c.in-Err.error _ c.in-Err.ensures c.clash_at.ensures
+    walk_refuses _ _ _ _ _ _ c.in-Some.stretch.at.now _ _ c.in-Some.ensures c.in_ok-bundle.ensures
+    c.loop-stretch.invariant c.in-Err.error _ c.in-Err.ensures c.clash_at.ensures
+
+pub returns : goal.returns
+returns g c = walk_ends _ _ _ _ _ c.in_default.ensures c.loop-stretch.invariant
