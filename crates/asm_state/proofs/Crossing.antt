@@ -1,6 +1,5 @@
 -- States and named reads may cross threads.
 use denote.Param.Send.{IsSend, IsSync, sendable}
-use denote.Param.SendFields.{declared_send, declared_sync}
 use Rattle.std.proofs.Crossing.{Arc-send, Arc-sync}
 use Rattle.std.proofs.MapsCrossing.{BTreeMap-send, BTreeMap-sync}
 use Rattle.asm_element.proofs.Crossing.{location_is_sent, location_is_shared, value_is_sent, value_is_shared}

@@ -1,5 +1,6 @@
 -- Entries that come in one by one from a list in ascending order: what is left of the list, over what came in.
-use Rattle.std.proofs.Common.{◌≡◌, Bool, true, false, cond, T, List, ◌∷◌, Option, Some, None, refl, sym, ap, ◌∙◌, subst}
+use Rattle.std.proofs.Common.{◌≡◌, Bool, true, false, cond, T, List, [], ◌∷◌, length, ◌≤◌, Option, Some, None, refl, sym, ap, ◌∙◌, subst, arith}
+use Rattle.std.proofs.lemmas.List.{nil_from_length}
 use Rattle.std.specs.Ordering.{eq_by_cmp}
 use Rattle.std.specs.Option.{option_map}
 use Rattle.std.specs.FinMap as finite
@@ -44,3 +45,23 @@ rising_start m left all = subst (λ es. T (finite.is_sorted location_cmp es)) (s
 -- all came in, each as it was
 pub all_copied : {X : Type 0} (m new : finite.FinMap location_cmp X) → ((q : Place) → finite.get new q ≡ option_map (λ w. w) (finite.get m q)) → new ≡ m
 all_copied m new each = finite.same_map location_cmp_total location_cmp-IsAntisymmetric new m (λ q. each q ∙ option_map_id (finite.get m q))
+
+module _ {X Y : Type 0} (f : X → Y) (U : finite.FinMap location_cmp X) (all : List (Place × X)) (is : all ≡ finite.entries U) where
+  update_at : (q : Place) → finite.find location_cmp q all ≡ finite.get U q
+  update_at q = ap (λ (es : List (Place × X)). finite.find location_cmp q es) is ∙ sym (finite.get-entries U q)
+
+  -- the one update that there is came in
+  pub only_one : (rest : List (Place × X)) (k : Place) (v : X) (old new : finite.FinMap location_cmp Y) →
+      all ≡ (k, v) ∷ rest → finite.len U ≤ 1 → new ≡ finite.insert old k (f v) →
+      (q : Place) → finite.get new q ≡ over (option_map f (finite.get U q)) (finite.get old q)
+  only_one rest k v old new first one inserted q =
+      let none : rest ≡ [] = nil_from_length rest (let many = ap length (sym first ∙ is) ∙ sym (finite.len-entries U) in omega (arith, many, one)) in
+      insert_step f k v [] old new k (f v) inserted refl refl tt q
+      ∙ ap (λ (es : List (Place × X)). over (option_map f (finite.find location_cmp q es)) (finite.get old q)) (ap (λ (es : List (Place × X)). (k, v) ∷ es) (sym none) ∙ sym first)
+      ∙ ap (λ (o : Option X). over (option_map f o) (finite.get old q)) (update_at q)
+
+  -- or there was none
+  pub not_one : (old : finite.FinMap location_cmp Y) → all ≡ [] → (q : Place) → finite.get old q ≡ over (option_map f (finite.get U q)) (finite.get old q)
+  not_one old none q =
+      ap (λ (es : List (Place × X)). over (option_map f (finite.find location_cmp q es)) (finite.get old q)) (sym none)
+      ∙ ap (λ (o : Option X). over (option_map f o) (finite.get old q)) (update_at q)

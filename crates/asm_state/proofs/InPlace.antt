@@ -1,6 +1,6 @@
 -- A move that changes one location alone: its actions, its update set or its clash, and the state that follows it.
-use Rattle.std.proofs.Common.{◌≡◌, ◌≢◌, ℕ, ◌+◌, ◌<◌, Bool, true, false, cond, ◌&&◌, ◌||◌, List, [], ◌∷◌, map, refl, sym, ap, ◌∙◌, subst}
-use Rattle.std.specs.Prelude.{Option, Some, None, Ok, Err, IsOk, IsSomeAnd, IsTrue, filter, slice_get}
+use Rattle.std.proofs.Common.{◌≡◌, ◌≢◌, Bool, true, false, cond, ◌&&◌, ◌||◌, List, [], ◌∷◌, map, refl, sym, ap, ◌∙◌, subst}
+use Rattle.std.specs.Prelude.{Option, Some, None, Ok, Err, IsSomeAnd, filter, slice_get}
 use Rattle.std.specs.List.{list_all, filter_map}
 use Rattle.std.specs.FinMap as map
 use Rattle.std.specs.Ordering.{eq_by_cmp}
@@ -11,7 +11,7 @@ use Rattle.asm_element.specs.Place.{Place, location_cmp, location_cmp_total, sam
 use Rattle.asm_element.specs.Tests.{both, itself}
 use Rattle.asm_element.specs.declared.value.Value.{Value}
 use Rattle.asm_update.specs.Action.{is_partial, regular_value}
-use Rattle.asm_update.specs.Fire.{Part, Old, Outcome, res, group_result, first, outcome_at, IsUpdateSet, IsLeastClash}
+use Rattle.asm_update.specs.Fire.{Part, Old, res, group_result, first, outcome_at, IsUpdateSet, IsLeastClash}
 use Rattle.asm_update.specs.Group.{ArePartials}
 use Rattle.asm_update.specs.Move.{Move, actions_at, are_different, writes}
 use Rattle.asm_update.specs.State.{Updates}
@@ -19,7 +19,6 @@ use Rattle.asm_update.specs.declared.action.Action.{Action}
 use Rattle.asm_update.specs.declared.action.Instruction.{Instruction}
 use Rattle.asm_update.specs.declared.clash.Cause.{Cause}
 use Rattle.asm_update.specs.declared.clash.Cause.TheVariants.{Two}
-use Rattle.asm_update.specs.declared.clash.Clash.{Clash}
 use Rattle.asm_update.proofs.ActionLemmas.{partial_none}
 use Rattle.asm_state.specs.Change.{changes_only, HasNoPlace}
 

@@ -6,5 +6,6 @@ pub mod InPlace
 pub mod Judged
 pub mod Opened
 pub mod Overwritten
-pub mod Room
+pub mod Stored
+pub mod Undone
 pub mod Writers

@@ -6,7 +6,7 @@ use Rattle.asm_element.specs.Place.{location_cmp}
 use Rattle.asm_update.specs.State.{State, val}
 use Rattle.asm_update.specs.Fire.{Part}
 use Rattle.asm_state.specs.declared.entries.Written.{Written}
-use Rattle.asm_state.specs.View.{Entries, StateView, value_over, writer_of, holds_undef, is_empty, IsStored}
+use Rattle.asm_state.specs.View.{Entries, StateView, value_over, writer_of, holds_undef, is_unwritten, IsStored}
 use Rattle.asm_state.specs.Stands.{Stands}
 
 abbrev nothing : Entries
@@ -25,5 +25,5 @@ opened_stands init part = record {
 pub opened_stored : IsStored nothing
 opened_stored = record {
   no_undef = λ q. ap (λ (x : Option Written). option_map_or holds_undef x false) (finite.get-empty location_cmp q);
-  no_room = λ q. ap (λ (x : Option Written). option_map_or is_empty x false) (finite.get-empty location_cmp q);
+  all_written = λ q. ap (λ (x : Option Written). option_map_or is_unwritten x false) (finite.get-empty location_cmp q);
 }

@@ -1,5 +1,5 @@
 -- An entry that a group changed, and moves that change one location alone.
-use Rattle.std.specs.Prelude.{◌≡◌, ◌≢◌, ◌&&◌, ℕ, Bool, true, false, [], map, Option, None, Ok}
+use Rattle.std.specs.Prelude.{◌≡◌, ◌≢◌, ◌&&◌, ℕ, Bool, true, false, [], map, None, Ok}
 use Rattle.std.specs.List.{list_all}
 use Rattle.std.specs.Ordering.{eq_by_cmp}
 use Rattle.asm_element.specs.Place.{Place, location_cmp}
@@ -10,12 +10,11 @@ use Rattle.asm_update.specs.Group.{Parts}
 use Rattle.asm_update.specs.Move.{Move}
 use Rattle.asm_state.specs.declared.entries.Written.{Written}
 use Rattle.asm_state.specs.Follow.{written_by}
-use Rattle.asm_state.specs.View.{value_of}
 
--- the new entry has what the group gives on the old one, written by the move with this number
-abbrev pub IsChanged : Part → Option Written → Parts → ℕ → Written → Type 0
+-- the entry has what the group gives on the value, written by the move with this number
+abbrev pub IsChanged : Part → Value → Parts → ℕ → Written → Type 0
 IsChanged part old group n new =
-    (v : Value) × (part (value_of old) group.regular group.partials ≡ Ok v) × (new ≡ written_by n v)
+    (v : Value) × (part old group.regular group.partials ≡ Ok v) × (new ≡ written_by n v)
 
 -- whether the instructions are partial updates of this location
 abbrev pub changes_only : Place → Move → Bool

@@ -31,7 +31,7 @@ least_named stale reads = least (map (λ r. r.at) (filter (λ r. stale r.at r.nu
 abbrev pub least_stale : Part → State → List Move → List Named → Option Place
 least_stale part A q reads = least_named (is_stale part A q) reads
 
--- the answer to a move after the moves: stale before a clash before the update set; want of memory tells nothing
+-- the answer to a move after the moves: stale before a clash before the update set; an allocation failure tells nothing
 abbrev pub IsVerdict : Part → State → List Move → List Named → Move → Result Verdict AllocError → Type 0
 IsVerdict part A q reads M (Ok (Stale l)) = least_stale part A q reads ≡ Some l
 IsVerdict part A q reads M (Ok (Clash c)) =

@@ -51,11 +51,11 @@ writer_at s l = writer_of (map.get s.entries l)
 abbrev pub holds_undef : Written → Bool
 holds_undef w = option_map_or is_undef w.value false
 
--- whether an entry only keeps room: no move wrote it
-abbrev pub is_empty : Written → Bool
-is_empty w = w.number == 0
+-- whether no move wrote an entry
+abbrev pub is_unwritten : Written → Bool
+is_unwritten w = w.number == 0
 
 -- entries as a state has them: none keeps undef as a value, and a move wrote each
 pub record IsStored (es : Entries) : Type 0 where
   pub no_undef : (l : Place) → option_map_or holds_undef (map.get es l) false ≡ false
-  pub no_room : (l : Place) → option_map_or is_empty (map.get es l) false ≡ false
+  pub all_written : (l : Place) → option_map_or is_unwritten (map.get es l) false ≡ false

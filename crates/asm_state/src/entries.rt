@@ -1,28 +1,30 @@
 //! What a state keeps of its locations, and how the updates of a move come in.
-ghost use Rattle.std.specs.Prelude.{◌≡◌, true, false, IfOk, IfErr, OnOk, OnErr, Some, Err, is_some};
+ghost use Rattle.std.specs.Prelude.{◌≡◌, IfOk, IfErr, OnOk, OnErr, Some, Err};
 ghost use Rattle.asm_update.specs.Aggregator.{IsOutcome};
 ghost use Rattle.asm_state.specs.Change.{IsChanged};
 ghost use Rattle.asm_state.specs.declared.entries.Written.{Written};
-ghost use Rattle.std.specs.Option.{option_copied, option_map_or};
+ghost use Rattle.std.specs.Option.{option_copied};
 ghost use Rattle.std.specs.FinMap as map;
 ghost use Rattle.asm_element.specs.Place.{Place};
-ghost use Rattle.asm_state.specs.View.{is_empty, value_of};
+ghost use Rattle.asm_update.specs.State.{val};
+ghost use Rattle.asm_state.specs.View.{value_of, value_over};
 ghost use Rattle.asm_state.specs.Follow.{written_by, entry_after};
-ghost use Rattle.asm_state.specs.Room.{with_room, without_room, IsFull, MakesRoom, DropsRoom};
+ghost use Rattle.asm_state.specs.Noted.{AreNoted};
+ghost use Rattle.asm_state.specs.View as view;
 
 use asm_element::{Location, Value};
-use asm_update::{Aggregator, Group, ResultError, UpdateSet};
+use asm_update::{Aggregator, Group, PlainState, ResultError, UpdateSet};
 use std::alloc::{AllocError, Global};
 use std::collections::BTreeMap;
 use std::collections::btree_map::Iter;
 use std::marker::Model;
+use std::mem;
 
 /// What a location holds, and the number of the move that wrote it last.
 #[derive(Debug, Drop)]
 pub(crate) struct Written {
     /// None where it is undef, whatever the opening state has there.
     pub(crate) value: Option<Value>,
-    /// 0 where no move wrote it, and the entry only keeps room.
     pub(crate) number: u32,
 }
 
@@ -42,13 +44,6 @@ impl Written {
                 number,
             }
         }
-    }
-
-    /// Whether it only keeps room: no move wrote it.
-    fn is_empty(&self) -> bool
-        ensures { result ≡ is_empty self.now }
-    {
-        self.number == 0
     }
 
     /// Notes the move that wrote it last, and keeps no undef as a value.
@@ -73,7 +68,7 @@ impl Written {
         number: u32,
         group: &Group,
     ) -> Result<(), ResultError>
-        ensures ok { OnOk result (IsChanged (A.meaning aggregator.now).part (Some self.old) group.now number self.new) }
+        ensures ok { OnOk result (IsChanged (A.meaning aggregator.now).part (value_of (Some self.old)) group.now number self.new) }
         ensures cause { IfErr result (λ e. IsOutcome (Err e)
             ((A.meaning aggregator.now).part (value_of (Some self.old)) group.now.regular group.now.partials)) }
         ensures err { OnErr result (self.new ≡ self.old) }
@@ -139,12 +134,6 @@ impl Entries {
         self.tree.get(at)
     }
 
-    pub(crate) fn contains(&self, at: &Location) -> bool
-        ensures { result ≡ is_some (map.get self.now at.now) }
-    {
-        self.get(at).is_some()
-    }
-
     fn iter(&self) -> Iter<'_, Location, Written>
         ensures { result ≡ map.entries self.now }
     {
@@ -178,83 +167,126 @@ impl Entries {
         Ok(copy)
     }
 
-    /// Makes an empty entry at the location, where there is none.
-    fn make_room_at(&mut self, alloc: Global, at: &Location) -> Result<(), AllocError>
-        ensures ok { OnOk result ((q : Place) → map.get self.new q ≡ with_room at.now q (map.get self.old q)) }
-        ensures err { OnErr result (self.new ≡ self.old) }
-    {
-        if self.contains(at) {
-            return Ok(());
-        }
-        let empty = Written {
-            value: None,
-            number: 0,
-        };
-        self.put(at.copy(alloc)?, empty)?;
-        Ok(())
-    }
-
-    /// Changes the entry at the location in place. After an error nothing is changed.
-    pub(crate) fn change_at<A: Aggregator>(
+    /// Makes the entry of a location that has none, by what the group gives on its opening value.
+    fn open_at<A: Aggregator>(
         &mut self,
         alloc: Global,
         aggregator: &A,
+        base: &PlainState,
         at: &Location,
         number: u32,
         group: &Group,
     ) -> Result<(), ResultError>
-        requires { is_some (map.get self.old at.now) ≡ true }
         ensures ok { OnOk result ((w : Written) × (self.new ≡ map.insert self.old at.now w)
-            × IsChanged (A.meaning aggregator.now).part (map.get self.old at.now) group.now number w) }
+            × IsChanged (A.meaning aggregator.now).part (val base.now at.now) group.now number w) }
         ensures cause { IfErr result (λ e. IsOutcome (Err e)
-            ((A.meaning aggregator.now).part (value_of (map.get self.old at.now)) group.now.regular group.now.partials)) }
+            ((A.meaning aggregator.now).part (val base.now at.now) group.now.regular group.now.partials)) }
+        ensures err { OnErr result (self.new ≡ self.old) }
+    {
+        let value = aggregator.result(alloc, base.get(at), group)?;
+        self.put(at.copy(alloc)?, Written::by(number, value))?;
+        Ok(())
+    }
+
+    /// Gives the location what the group gives on its value: an entry is changed in place, and where there is
+    /// none the location has its opening value. After an error nothing is changed.
+    pub(crate) fn change_at<A: Aggregator>(
+        &mut self,
+        alloc: Global,
+        aggregator: &A,
+        base: &PlainState,
+        at: &Location,
+        number: u32,
+        group: &Group,
+    ) -> Result<(), ResultError>
+        ensures ok { OnOk result ((w : Written) × (self.new ≡ map.insert self.old at.now w)
+            × IsChanged (A.meaning aggregator.now).part (value_over (val base.now at.now) (map.get self.old at.now))
+            group.now number w) }
+        ensures cause { IfErr result (λ e. IsOutcome (Err e)
+            ((A.meaning aggregator.now).part (value_over (val base.now at.now) (map.get self.old at.now))
+            group.now.regular group.now.partials)) }
         ensures err { OnErr result (self.new ≡ self.old) }
     {
         match self.tree.get_mut(at) {
             Some(written) => written.change(alloc, aggregator, number, group),
-            None => unreachable!(),
+            None => self.open_at(alloc, aggregator, base, at, number, group),
         }
     }
 
-    /// Whether the entry at the location is empty.
-    fn keeps_room(&self, at: &Location) -> bool
-        ensures { result ≡ option_map_or is_empty (map.get self.now at.now) false }
-    {
-        match self.get(at) {
-            Some(written) => written.is_empty(),
-            None => false,
-        }
-    }
-
-    /// Takes the entry at the location out, where it is empty.
-    fn drop_room_at(&mut self, at: &Location)
-        ensures { (q : Place) → map.get self.new q ≡ without_room at.now q (map.get self.old q) }
-    {
-        if self.keeps_room(at) {
-            self.take_out(at);
-        }
-    }
-
-    /// Takes the empty entries at the locations of the updates out.
-    fn drop_room(&mut self, updates: &UpdateSet)
-        ensures { DropsRoom updates.now self.old self.new }
-    {
-        for (at, _value) in updates.iter() {
-            self.drop_room_at(at);
-        }
-    }
-
-    /// Makes an entry at each location of the updates that has none; after an error nothing is changed.
-    pub(crate) fn make_room(&mut self, alloc: Global, updates: &UpdateSet) -> Result<(), AllocError>
-        requires { IsFull self.old }
-        ensures ok { OnOk result (MakesRoom updates.now self.old self.new) }
+    /// Puts this entry in the place of the one at the location, and hands that one back; where there is none,
+    /// hands back this one.
+    fn exchange(&mut self, at: &Location, written: Written) -> Result<Written, Written>
+        ensures there { IfOk result (λ old. map.get self.old at.now ≡ Some old) }
+        ensures ok { OnOk result (self.new ≡ map.insert self.old at.now written) }
+        ensures absent { OnErr result (map.get self.old at.now ≡ None) }
+        ensures back { IfErr result (λ back. back ≡ written) }
         ensures err { OnErr result (self.new ≡ self.old) }
     {
-        for (at, _value) in updates.iter() {
-            match self.make_room_at(alloc, at) {
-                Ok(()) => {}
+        let Some(now) = self.tree.get_mut(at) else {
+            return Err(written);
+        };
+        Ok(mem::replace(now, written))
+    }
+
+    /// Writes an entry, and hands back what the location held before; after an error nothing is changed.
+    fn write_at(
+        &mut self,
+        alloc: Global,
+        at: &Location,
+        written: Written,
+    ) -> Result<Option<Written>, AllocError>
+        ensures before { IfOk result (λ before. before ≡ map.get self.old at.now) }
+        ensures ok { OnOk result (self.new ≡ map.insert self.old at.now written) }
+        ensures err { OnErr result (self.new ≡ self.old) }
+    {
+        match self.exchange(at, written) {
+            Ok(old) => Ok(Some(old)),
+            Err(written) => {
+                self.put(at.copy(alloc)?, written)?;
+                Ok(None)
+            }
+        }
+    }
+
+    /// Takes the last write of a location back, which takes no memory.
+    fn take_back(&mut self, at: &Location, before: Option<Written>)
+        ensures { (old : view.Entries) (w : Written) → before ≡ map.get old at.now →
+            self.old ≡ map.insert old at.now w → self.new ≡ old }
+    {
+        match before {
+            Some(written) => {
+                let _ = self.exchange(at, written);
+            }
+            None => self.take_out(at),
+        }
+    }
+
+    /// Takes writes back, the last one first.
+    fn take_all_back(&mut self, mut noted: Vec<(Location, Option<Written>)>)
+        ensures { (old : view.Entries) → AreNoted noted.items old self.old → self.new ≡ old }
+    {
+        while let Some((at, before)) = noted.pop() {
+            self.take_back(&at, before);
+        }
+    }
+
+    /// Writes the updates of the move with this number, and keeps what they replace until all are written.
+    fn write_each(
+        &mut self,
+        alloc: Global,
+        number: u32,
+        updates: UpdateSet,
+    ) -> Result<(), AllocError>
+        ensures ok { OnOk result ((q : Place) →
+            map.get self.new q ≡ entry_after number (map.get updates q) (map.get self.old q)) }
+        ensures err { OnErr result (self.new ≡ self.old) }
+    {
+        let mut noted = Vec::with_capacity(alloc, updates.len())?;
+        for (at, value) in updates {
+            match self.write_at(alloc, &at, Written::by(number, value)) {
+                Ok(before) => noted.push_reserved((at, before)),
                 Err(error) => {
-                    self.drop_room(updates);
+                    self.take_all_back(noted);
                     return Err(error);
                 }
             }
@@ -262,25 +294,24 @@ impl Entries {
         Ok(())
     }
 
-    /// Writes an entry over one that is there, which takes no memory.
-    fn put_over(&mut self, at: Location, written: Written)
-        requires { is_some (map.get self.old at) ≡ true }
-        ensures { self.new ≡ map.insert self.old at written }
+    /// Writes the updates of the move with this number: the values move in. After an error nothing is changed.
+    pub(crate) fn write(
+        &mut self,
+        alloc: Global,
+        number: u32,
+        updates: UpdateSet,
+    ) -> Result<(), AllocError>
+        ensures ok { OnOk result ((q : Place) →
+            map.get self.new q ≡ entry_after number (map.get updates q) (map.get self.old q)) }
+        ensures err { OnErr result (self.new ≡ self.old) }
     {
-        match self.put(at, written) {
-            Ok(()) => {}
-            Err(_) => unreachable!(),
+        if updates.len() > 1 {
+            return self.write_each(alloc, number, updates);
         }
-    }
-
-    /// Writes the updates of the move with this number over entries that are there, which takes no
-    /// memory: the values move in.
-    pub(crate) fn fill(&mut self, number: u32, updates: UpdateSet)
-        requires { (q : Place) → is_some (map.get updates q) ≡ true → is_some (map.get self.old q) ≡ true }
-        ensures { (q : Place) → map.get self.new q ≡ entry_after number (map.get updates q) (map.get self.old q) }
-    {
-        for (at, value) in updates {
-            self.put_over(at, Written::by(number, value));
+        // An insert works or changes nothing, so one update needs no note.
+        match updates.into_iter().next() {
+            Some((at, value)) => self.put(at, Written::by(number, value)),
+            None => Ok(()),
         }
     }
 }

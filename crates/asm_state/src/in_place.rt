@@ -24,7 +24,7 @@ fn are_changes_at(at: &Location, instructions: &[Instruction]) -> bool
 }
 
 /// The location at which all instructions are, if they are partial updates and there is one.
-pub(crate) fn only_place(instructions: &[Instruction]) -> Option<&Location>
+fn only_place(instructions: &[Instruction]) -> Option<&Location>
     ensures some { IfSome result (λ l. instructions.now ≢ []) }
     ensures only { IfSome result (λ l. changes_only l.now instructions.now ≡ true) }
     ensures none { IsNone result → HasNoPlace instructions.now }
@@ -39,11 +39,7 @@ pub(crate) fn only_place(instructions: &[Instruction]) -> Option<&Location>
 }
 
 /// The group of the instructions' partial updates.
-pub(crate) fn group_of(
-    alloc: Global,
-    at: &Location,
-    instructions: &[Instruction],
-) -> Result<Group, AllocError>
+fn group_of(alloc: Global, at: &Location, instructions: &[Instruction]) -> Result<Group, AllocError>
     requires some { instructions.now ≢ [] }
     requires only { changes_only at.now instructions.now ≡ true }
     ensures { IfOk result (λ g.

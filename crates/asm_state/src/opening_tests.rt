@@ -171,7 +171,7 @@ fn what_moves_wrote_hides_what_a_state_opened_with(rt: HostRuntime) -> Result<()
     Ok(())
 }
 
-/// Two states over the same values; the error is want of memory.
+/// Two states over the same values. `AllocError` comes only where memory was refused.
 fn two_over(alloc: Global, init: PlainState) -> Result<(State, State), AllocError> {
     let base = Arc::new(alloc, init)?;
     let other = Arc::try_clone(&base)?;

@@ -1,5 +1,5 @@
 ghost use Rattle.std.specs.Prelude.{◌≡◌, ◌+◌, ◌-◌, ◌<◌, ◌^◌, ◌++◌, ◌∷◌, [], List, false, nat_lt};
-ghost use Rattle.std.specs.Prelude.{◌≢◌, is_some, true, IfOk, IfSome, OnOk, OnErr};
+ghost use Rattle.std.specs.Prelude.{IfOk, IfSome, OnOk, OnErr};
 ghost use Rattle.std.specs.Arc.{arc_value};
 ghost use Rattle.std.specs.FinMap as map;
 ghost use Rattle.std.specs.Option.{option_copied};
@@ -7,19 +7,21 @@ ghost use Rattle.asm_element.specs.Place.{Place};
 ghost use Rattle.asm_update.specs.Fire.{Part};
 ghost use Rattle.asm_update.specs.Move.{Move, comes_before};
 ghost use Rattle.asm_update.specs.State as plain;
-ghost use Rattle.asm_state.specs.Change.{changes_only};
+ghost use Rattle.asm_state.specs.Change.{IsOneChange};
 ghost use Rattle.asm_state.specs.View.{value_at, writer_at, holds_undef};
 ghost use Rattle.asm_state.specs.Follow.{entry_after, IsFollowed};
 ghost use Rattle.asm_state.specs.Stands.{Stands, IsLastWriter};
 ghost use Rattle.asm_state.specs.Verdict.{IsObjection, IsVerdict, least_named};
 
 use crate::entries::{Entries, Written};
-use crate::in_place::{group_of, only_place};
+use crate::in_place::one_change;
 use crate::named::Named;
 use crate::verdict::{Objection, Verdict};
 use asm_aggregate::{admit, aggregate};
 use asm_element::{Location, Value};
-use asm_update::{AggError, Aggregator, Instructions, Lookup, PlainState, ResultError, UpdateSet};
+use asm_update::{
+    AggError, Aggregator, Group, Instructions, Lookup, PlainState, ResultError, UpdateSet,
+};
 use std::alloc::{AllocError, Global};
 use std::marker::Model;
 use std::sync::Arc;
@@ -221,47 +223,29 @@ impl State {
         ensures number { OnOk result (self.new.number ≡ self.old.number + 1) }
         ensures err { OnErr result (self.new ≡ self.old) }
     {
-        match self.place_in(instructions) {
-            Some(at) => self.follow_at(alloc, aggregator, at, instructions),
+        match one_change(alloc, instructions)? {
+            Some((at, group)) => self.follow_at(alloc, aggregator, at, &group),
             None => self.follow_all(alloc, aggregator, instructions),
         }
     }
 
-    // The location that the move changes alone, if it has an entry.
-    fn place_in<'a>(&self, instructions: &'a Instructions) -> Option<&'a Location>
-        ensures some { IfSome result (λ l. instructions.now ≢ []) }
-        ensures only { IfSome result (λ l. changes_only l.now instructions.now ≡ true) }
-        ensures there { IfSome result (λ l. is_some (map.get self.now.entries l.now) ≡ true) }
-    {
-        let at = only_place(instructions.as_slice())?;
-        if self.entries.contains(at) {
-            Some(at)
-        } else {
-            None
-        }
-    }
-
-    // Follows a move that changes one location alone, whose entry is changed in place.
+    // Follows a move that changes one location alone, by its group there.
     fn follow_at<A: Aggregator>(
         &mut self,
         alloc: Global,
         aggregator: &A,
         at: &Location,
-        instructions: &Instructions,
+        group: &Group,
     ) -> Result<(), AllocError>
-        requires number { self.old.number < 4294967295 }
-        requires some { instructions.now ≢ [] }
-        requires only { changes_only at.now instructions.now ≡ true }
-        requires there { is_some (map.get self.old.entries at.now) ≡ true }
-        ensures followed { OnOk result (
-            IsFollowed (A.meaning aggregator.now).part self.old instructions.now self.new) }
+        requires { self.old.number < 4294967295 }
+        ensures followed { OnOk result ((M : Move) → IsOneChange M at.now group.now →
+            IsFollowed (A.meaning aggregator.now).part self.old M self.new) }
         ensures err { OnErr result (self.new ≡ self.old) }
     {
         let number = self.number + 1;
-        let group = group_of(alloc, at, instructions.as_slice())?;
         match self
             .entries
-            .change_at(alloc, aggregator, at, number, &group)
+            .change_at(alloc, aggregator, &self.base, at, number, group)
         {
             Ok(()) => {
                 self.number = number;
@@ -322,8 +306,7 @@ impl State {
             entry_after number (map.get updates l) (map.get self.old.entries l)) }
         ensures err { OnErr result (self.new ≡ self.old) }
     {
-        self.entries.make_room(alloc, &updates)?;
-        self.entries.fill(number, updates);
+        self.entries.write(alloc, number, updates)?;
         self.number = number;
         Ok(())
     }

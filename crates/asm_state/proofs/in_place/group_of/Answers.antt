@@ -1,4 +1,4 @@
-use Rattle.std.proofs.Common.{◌≡◌, ◌∙◌, ap, map, sym, subst}
+use Rattle.std.proofs.Common.{◌∙◌, ap, sym, subst}
 use Rattle.std.proofs.lemmas.List.{take_all}
 use Rattle.asm_update.specs.Group.{ArePartials}
 use Rattle.asm_state.proofs.InPlace.{actions, are_partials}

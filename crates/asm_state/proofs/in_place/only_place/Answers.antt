@@ -1,4 +1,4 @@
-use Rattle.std.proofs.Common.{sym, ap, ◌∙◌}
+use Rattle.std.proofs.Common.{sym, ◌∙◌}
 use Rattle.asm_state.proofs.InPlace.{no_place}
 use Rattle.asm_state.proofs.in_place.only_place.Goals as goal
 
