@@ -1,4 +1,6 @@
-use crate::{Offer, Row};
+ghost use Rattle.std.specs.Prelude.{◌≡◌};
+
+use crate::{Offer, Progress, Row};
 use std::alloc::{AllocError, Global};
 use std::sync::atomic::AtomicU32;
 use std::sync::atomic::Ordering::SeqCst;
@@ -57,5 +59,48 @@ fn each_entry_is_dropped_once(rt: HostRuntime) -> Result<(), Fail> {
     drop(row);
     assert!(rt; is_dropped(&won, 1));
     assert!(rt; is_dropped(&lost, 2));
+    Ok(())
+}
+
+// Whether the box, which was lost, is given to the next cell undropped.
+fn wins_next<'c>(
+    row: &Row<Counted<'c>>,
+    progress: &mut Progress<Counted<'c>>,
+    back: Box<Counted<'c>>,
+) -> bool
+    requires { row.now ≡ progress.old.row }
+{
+    !progress.is_full() && progress.try_offer(row, back).is_ok()
+}
+
+// Whether an entry that is lost to another comes back undropped, and then wins the next cell.
+fn loser_comes_back<'c>(
+    alloc: Global,
+    row: &Row<Counted<'c>>,
+    won: &'c AtomicU32,
+    lost: &'c AtomicU32,
+) -> Result<bool, AllocError> {
+    let has_won = wins(alloc, row, won)?;
+    let entry = Box::new(alloc, Counted(lost))?;
+    let mut progress = row.progress();
+    if progress.is_full() {
+        return Ok(false);
+    }
+    Ok(match progress.try_offer(row, entry) {
+        Ok(()) => false,
+        Err(back) => has_won && is_dropped(lost, 0) && wins_next(row, &mut progress, back),
+    })
+}
+
+#[test]
+fn a_lost_entry_may_be_offered_again(rt: HostRuntime) -> Result<(), Fail> {
+    let alloc = rt.alloc();
+    let (won, lost) = (AtomicU32::new(0), AtomicU32::new(0));
+    let row = Row::new(alloc, 2)?;
+    assert!(rt; loser_comes_back(alloc, &row, &won, &lost)?);
+    assert!(rt; is_dropped(&lost, 0));
+    drop(row);
+    assert!(rt; is_dropped(&won, 1));
+    assert!(rt; is_dropped(&lost, 1));
     Ok(())
 }

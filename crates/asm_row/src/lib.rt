@@ -1,11 +1,11 @@
 //! A row of cells that are set once, on whose entries threads agree one by one without locks.
 //!
-//! Each thread follows the row through a seat of its own, which touches cells in three ways: a look
-//! at a cell, a set of the first unseen cell if that is empty, and, where that set came too late, a
-//! get-or-set of the same cell with the same box, which gives the entry that stands there. Whatever
-//! else a seat does moves what is known of cells and touches none. A cell that is set keeps its
-//! entry, so what the seats of one row have seen are prefixes of one list. A seat borrows the row; who
-//! holds the row and follows it in one value keeps a `Progress` in place of a seat.
+//! Each thread follows the row through a seat of its own, which touches cells in two ways: a look at
+//! a cell, and a set of the first unseen cell if that is empty. Where that set came too late, a look at
+//! the same cell gives the entry that stands there. Whatever else a seat does moves what is known of
+//! cells and touches none. A cell that is set keeps its entry, so what the seats of one row have seen
+//! are prefixes of one list. A seat borrows the row; who holds the row and follows it in one value
+//! keeps a `Progress` in place of a seat.
 #![tactic(auto)]
 
 #[cfg(test)]

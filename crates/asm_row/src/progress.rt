@@ -1,15 +1,14 @@
 ghost use Rattle.std.specs.Prelude.{◌≡◌, ◌+◌, ◌-◌, ◌^◌, ◌<◌, ◌≤◌, ◌∷◌, ◌++◌, [], length, max, min, slice_get};
-ghost use Rattle.std.specs.Prelude.{IfOk, IsOk, IfSome, IfNone, IsNone, IsSome, MatchBool};
+ghost use Rattle.std.specs.Prelude.{IfOk, IfErr, IsOk, IfSome, IfNone, IsNone, IsSome, MatchBool};
 ghost use mathlib.Core.List.{IsPrefix};
 ghost use Rattle.std.specs.declared.option.Option.TheVariants.{None, Some};
-ghost use Rattle.once_cell.specs.Once.{cell_name};
 ghost use Rattle.asm_row.specs.Offer.{IfWon, IfLost};
 
 use crate::known::Known;
 use crate::mark::Mark;
 use crate::row::Row;
 use crate::seat::Offer;
-use once_cell::race::{Note, OnceBox};
+use once_cell::race::Note;
 use std::alloc::{AllocError, Global};
 use std::marker::Model;
 
@@ -191,7 +190,7 @@ impl<T: Drop> Progress<T> {
     /// Either way one entry more was then seen, the one that stands in the cell: on `Won` the passed
     /// one, and `won` grows by one; on `Lost` the returned one, and `value` is dropped. Contracts
     /// speak of the cells that were seen alone: that a value which lost is put into no other cell is
-    /// shown by tests.
+    /// shown by tests. `try_offer` gives a value that lost back.
     pub fn offer<'r>(&mut self, row: &'r Row<T>, value: Box<T>) -> Offer<'r, T>
         requires own { row.now ≡ self.old.row }
         requires room { length self.old.seen < length self.old.row }
@@ -201,28 +200,37 @@ impl<T: Drop> Progress<T> {
         ensures lost { IfLost result (λ entry.
             self.new ≡ record self.old { seen = self.old.seen ++ entry.now ∷ [] }) }
     {
+        let k = self.len;
+        match self.try_offer(row, value) {
+            Ok(()) => Offer::Won,
+            Err(_) => Offer::Lost(self.at(row, k)),
+        }
+    }
+
+    /// Offers `value` for the first cell that was not seen, and gives it back where another entry stands there.
+    ///
+    /// Either way one entry more was then seen, the one that stands in the cell. On `Ok` that is the
+    /// passed one, and `won` grows by one. `Err` has the same box, which may be offered again, for the
+    /// next cell; the entry that stands is that of `at`, at the place that was the first unseen one.
+    /// Contracts speak of the cells that were seen alone: that a value which lost is put into no other
+    /// cell is shown by tests.
+    pub fn try_offer(&mut self, row: &Row<T>, value: Box<T>) -> Result<(), Box<T>>
+        requires own { row.now ≡ self.old.row }
+        requires room { length self.old.seen < length self.old.row }
+        ensures row { self.new.row ≡ self.old.row }
+        ensures won { IfOk result (λ _.
+            self.new ≡ record self.old { seen = self.old.seen ++ value.value ∷ []; won = self.old.won + 1 }) }
+        ensures lost { IfErr result (λ back. (entry : T) ×
+            (self.new ≡ record self.old { seen = self.old.seen ++ entry ∷ [] })) }
+        ensures back { IfErr result (λ back. back.value ≡ value.value) }
+    {
         let cell = row.cell(self.len as usize);
         let mut note = cell.note();
-        let offer = offer_for(cell, value, &mut note);
+        let offer = cell.set_as(value, &mut note);
         self.see(&mut note);
-        if let Offer::Won = offer {
+        if offer.is_ok() {
             self.won += 1;
         }
         offer
-    }
-}
-
-// Offers `value` for this one cell, and no other is within reach: a set, and where that comes too late a
-// get-or-set with the same box, which gives the entry that stands there and drops the box.
-fn offer_for<'r, T: Drop>(cell: &'r OnceBox<T>, value: Box<T>, note: &mut Note<T>) -> Offer<'r, T>
-    requires { note.old.cell ≡ cell_name cell.now }
-    ensures cell { note.new.cell ≡ note.old.cell }
-    ensures known { IsSome note.new.known }
-    ensures won { IfWon result (note.new.known ≡ Some value.value) }
-    ensures lost { IfLost result (λ entry. note.new.known ≡ Some entry.now) }
-{
-    match cell.set_as(value, note) {
-        Ok(()) => Offer::Won,
-        Err(value) => Offer::Lost(cell.get_or_init_as(move || value, note)),
     }
 }

@@ -13,6 +13,7 @@ use Rattle.asm_storage.specs.declared.call.Call.TheVariants as call
 use Rattle.asm_storage.specs.declared.call.Reply.{Reply}
 use Rattle.asm_storage.specs.declared.call.Reply.TheVariants as reply
 use Rattle.asm_storage.specs.declared.error.FireError.TheVariants as fire_error
+use Rattle.asm_storage.specs.declared.offering.Offering.{Offering}
 use Rattle.asm_storage.specs.declared.part.AgentPart.{AgentPart}
 use Rattle.asm_storage.specs.declared.receipt.Entry.{Entry}
 use Rattle.asm_storage.specs.declared.receipt.Receipt.{Receipt}
@@ -20,6 +21,7 @@ use Rattle.asm_storage.specs.Agents.{moves_seen}
 use Rattle.asm_storage.specs.Calls.{receipt_at, judged_on, fired, HasOffered, IsAnswered, MadeOffers, Ran}
 use Rattle.asm_storage.specs.History.{fired_move}
 use Rattle.asm_storage.specs.Machine.{reply_to}
+use Rattle.asm_storage.specs.Offering.{IsOffering}
 use Rattle.asm_storage.specs.Part.{agent_of, HasFired, IsLost, IsPartOf, IsTurn, LooksOn, offers_in, misses_in}
 use Rattle.asm_storage.specs.Storage.{AgentAt, StorageView, machine_of, has_looked, has_seen, has_fired, with_receipt}
 use Rattle.asm_storage.specs.Storage.{last_look, IsReplyOf, Missed}
@@ -111,6 +113,16 @@ module _ {A : Type 0} (meaning : A → Meaning) (old mid : AgentAt A) (reads : L
     refired (reply.Stale l) = ap (λ (a : AgentAt A). fired a new reads M (reply.Stale l)) looked
     refired (reply.Clash c) = ap (λ (a : AgentAt A). fired a new reads M (reply.Clash c)) looked
     refired reply.Full = ap (λ (a : AgentAt A). fired a new reads M reply.Full) looked
+
+-- an agent that looked on keeps its number
+pub looked_id : {A : Type 0} (meaning : A → Meaning) (s : StorageView A) (old new : AgentPart) →
+    LooksOn meaning s old new → new.id ≡ old.id
+looked_id {A} meaning s old new looks = ap (λ (a : AgentAt A). a.account.id) looks.agent
+
+-- what is offered by an agent is so by one of the same number
+pub same_offering : (i k : ℕ) (reads : List Named) (M : Move) (o : Option Offering) → i ≡ k →
+    IfSome o (IsOffering i reads M) → IfSome o (IsOffering k reads M)
+same_offering i k reads M o e is = subst (λ n. IfSome o (IsOffering n reads M)) e is
 
 module _ {A : Type 0} (meaning : A → Meaning) (s : StorageView A) (old mid new : AgentPart) (reads : List Named) (M : Move)
     (looks : LooksOn meaning s old mid) where

@@ -2,6 +2,7 @@ pub mod Agents
 pub mod Calls
 pub mod History
 pub mod Machine
+pub mod Offering
 pub mod Part
 pub mod Plain
 pub mod Proper

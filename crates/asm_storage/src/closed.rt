@@ -40,7 +40,7 @@ fn is_closed(closed: &Result<History, CloseError>, want: Close) -> bool {
     }
 }
 
-/// Whether closing gives this, and again the same. The error is want of memory.
+/// Whether closing gives this, and again the same. `AllocError` comes only where memory was refused.
 fn closes(
     alloc: Global,
     storage: &Storage<Standard>,
@@ -58,7 +58,7 @@ fn closes(
     Ok(is_closed(&closed, want) && again == closed)
 }
 
-/// How many moves the agent finds in the row. The error is want of memory.
+/// How many moves the agent finds in the row. `AllocError` comes only where memory was refused.
 fn moves_found(alloc: Global, mut agent: Agent<'_, Standard>) -> Result<u32, AllocError> {
     match agent.read(alloc, &[]) {
         Ok(reading) => Ok(reading.number()),
@@ -66,7 +66,7 @@ fn moves_found(alloc: Global, mut agent: Agent<'_, Standard>) -> Result<u32, All
     }
 }
 
-/// Whether the row holds so many moves, as an agent that is made for this finds it. The error is want of memory.
+/// Whether the row holds so many moves, as an agent that is made for this finds it. `AllocError` comes only where memory was refused.
 pub(crate) fn holds(
     alloc: Global,
     storage: &Storage<Standard>,

@@ -3,7 +3,8 @@ ghost use Rattle.asm_storage.specs.Storage.{IsSameAgent};
 
 use crate::closed::Close;
 use crate::rows::{
-    Act, At, Put, Standard, Step, Two, Want, Who, counts, move_of, named_of, storage_of, two_of,
+    Act, At, Put, Standard, Step, Two, Want, Who, counts, move_of, named_of, receipt_of,
+    storage_of, two_of,
 };
 use crate::*;
 use asm_state::Named;
@@ -133,7 +134,7 @@ fn fire_against(
     )
 }
 
-/// The two agents after the first one's fire, and what that gave; want of memory of either is that of both.
+/// The two agents after the first one's fire, and what that gave; an allocation failure of either is that of both.
 fn contend<'s>(
     alloc: Global,
     two: Two<'s>,
@@ -209,6 +210,22 @@ fn is_outcome(
     }
 }
 
+/// Whether this is the agent's last receipt.
+fn is_last(agent: &Agent<'_, Standard>, wanted: Receipt) -> bool {
+    agent.receipts().last() == Some(&wanted)
+}
+
+/// Whether the agent has the receipt of the answer, and none where there was none.
+fn is_kept(alloc: Global, agent: &Agent<'_, Standard>, contest: Contest) -> Result<bool, Fail> {
+    match contest.outcome {
+        Outcome::Answered(want) => {
+            let act = Act::Fire(&[Put("y", 1)], contest.reads);
+            Ok(is_last(agent, receipt_of(alloc, act, want)?))
+        }
+        Outcome::Busy(_, _) => Ok(agent.receipts().is_empty()),
+    }
+}
+
 /// Whether the first agent asks again and is answered so.
 fn is_answered_again(alloc: Global, two: &mut Two<'_>, contest: Contest) -> Result<bool, Fail> {
     match contest.again {
@@ -230,7 +247,8 @@ fn ends_right(alloc: Global, mut two: Two<'_>, contest: Contest) -> Result<bool,
 fn is_right(alloc: Global, two: Two<'_>, moves: Moves, contest: Contest) -> Result<bool, Fail> {
     let (two, given) = contend(alloc, two, moves, contest);
     let is_first_right = is_outcome(&two.a, given, contest)?;
-    Ok(is_first_right && ends_right(alloc, two, contest)?)
+    let is_right = is_first_right && is_kept(alloc, &two.a, contest)?;
+    Ok(is_right && ends_right(alloc, two, contest)?)
 }
 
 fn is_met(alloc: Global, contest: Contest) -> Result<bool, Fail> {

@@ -1,6 +1,5 @@
 ghost use Rattle.std.specs.Prelude.{◌≡◌, ◌≢◌, ◌+◌, ◌<◌, ℕ, List, length, IfOk, IfErr, OnOk, OnErr, Some, None, Err};
 ghost use Rattle.std.specs.Prelude.{IfSome, IfNone, true, false, if◌then◌else◌};
-ghost use Rattle.std.specs.Bool.{OnTrue, OnFalse};
 ghost use mathlib.Core.List.{IsPrefix};
 ghost use Rattle.asm_update.specs.Fire.{Part};
 ghost use Rattle.asm_update.specs.Move.{Move};
@@ -13,31 +12,25 @@ ghost use Rattle.asm_storage.specs.declared.call.Reply.TheVariants as reply;
 ghost use Rattle.asm_storage.specs.declared.error.FireError.TheVariants as fire_error;
 ghost use Rattle.asm_storage.specs.History.{fired_move};
 ghost use Rattle.asm_storage.specs.Storage.{machine_of, has_fired, with_receipt, last_look, IsReplyOf, Missed};
+ghost use Rattle.asm_storage.specs.Offering.{IsOffering, IsSameOffering};
 ghost use Rattle.asm_storage.specs.Calls.{receipt_at, HasOffered, IsAnswered, IsBusy, IsCoherentReply, MadeOffers, Ran};
 ghost use Rattle.asm_storage.specs.Part.{agent_of, HasFired, IsJudged, IsLost, IsPartOf, IsReplyAt, IsTurn, LooksOn};
 ghost use Rattle.asm_storage.specs.Part.{offers_in, misses_in};
 
 use crate::call::{Answer, Call, Reply};
-use crate::copying::{copied_named, same_list};
+use crate::copying::copied_named;
 use crate::error::FireError;
+use crate::offering::{Offering, fire_call};
 use crate::part::AgentPart;
-use crate::receipt::{Entry, Receipt};
+use crate::receipt::Receipt;
 use crate::storage::Storage;
 use asm_element::Items;
-use asm_row::Offer;
 use asm_state::{Named, Objection, State};
 use asm_update::{Aggregator, Cause, Clash, Instructions, consistent};
 use std::alloc::{AllocError, Global};
 
-// A call to fire, which shares its lists.
-fn fire_call(alloc: Global, reads: &Items<Named>, instrs: &Instructions) -> Result<Call, AllocError>
-    ensures { IfOk result (λ c. c ≡ call.Fire reads.now instrs.now) }
-{
-    Ok(Call::Fire {
-        reads: same_list(reads)?,
-        instrs: instrs.copy(alloc)?,
-    })
-}
+// The most instructions of a move that is judged without a state.
+const MOST_PLAIN: usize = 16;
 
 // What is answered to a move against which nothing stands.
 fn full_or_none(is_full: bool) -> Option<Reply>
@@ -72,7 +65,7 @@ pub(crate) fn is_plain(reads: &[Named], instrs: &Instructions) -> bool
 {
     match reads.first() {
         Some(_) => false,
-        None => instrs.len() < 17 && instrs.all_regular(),
+        None => instrs.len() <= MOST_PLAIN && instrs.all_regular(),
     }
 }
 
@@ -191,67 +184,72 @@ impl AgentPart {
     }
 
     // Offers a move that was judged to fire, and keeps the receipt where it won: the room for that is made
-    // before. Where the offer lost, another entry was seen.
+    // before. Where the offer lost, another entry was seen, and the offering comes back.
     fn offer<A: Aggregator + Sync + Drop, F: FnMut()>(
         &mut self,
         storage: &Storage<A>,
-        entry: Box<Entry>,
-        call: Call,
+        offering: Offering,
         answer: Answer,
         between: &mut F,
-    ) -> Result<bool, AllocError>
+    ) -> Result<Option<Offering>, AllocError>
         requires part { IsPartOf A.meaning storage.now self.old }
         requires room { length self.old.progress.seen < length storage.now.row }
-        requires reply { IsReplyOf A.meaning (agent_of storage.now self.old) call answer }
-        requires fired { fired_move call answer ≡ Some entry.value.instrs }
-        requires mine { entry.value.agent ≡ self.old.id }
+        requires reply { IsReplyOf A.meaning (agent_of storage.now self.old) offering.call answer }
+        requires fired { fired_move offering.call answer ≡ Some offering.entry.value.instrs }
+        requires mine { offering.entry.value.agent ≡ self.old.id }
         requires callable { F.IsAlwaysCallable between.old }
         ensures part { IsPartOf A.meaning storage.now self.new }
         ensures id { self.new.id ≡ self.old.id }
-        ensures won { IfOk result (λ won. OnTrue won (
+        ensures won { IfOk result (λ o. IfNone o (
             agent_of storage.now self.new ≡ has_fired (agent_of storage.now self.old)
-            (receipt_at (length self.old.progress.seen) call answer) entry.value.instrs)) }
-        ensures lost { IfOk result (λ won. OnFalse won (IsLost storage.now self.old self.new)) }
+            (receipt_at (length self.old.progress.seen) offering.call answer) offering.entry.value.instrs)) }
+        ensures lost { IfOk result (λ o. IfSome o (λ back. IsLost storage.now self.old self.new)) }
+        ensures back { IfOk result (λ o. IfSome o (IsSameOffering offering)) }
         ensures err { OnErr result (agent_of storage.now self.new ≡ agent_of storage.now self.old) }
         ensures callable { F.IsAlwaysCallable between.new }
-        ensures called { IfOk result (λ won. F.step between.old tt between.new) }
+        ensures called { IfOk result (λ o. F.step between.old tt between.new) }
         ensures uncalled { OnErr result (between.new ≡ between.old) }
     {
         self.receipts.reserve(1)?;
         let stood = self.progress.seen_len();
         between();
-        match self.progress.offer(storage.row(), entry) {
-            Offer::Won => {
+        let Offering { entry, call } = offering;
+        match self.progress.try_offer(storage.row(), entry) {
+            Ok(()) => {
                 let receipt = Receipt {
                     call,
                     answer,
                     stood,
                 };
                 self.receipts.push(receipt).unwrap();
-                Ok(true)
+                Ok(None)
             }
-            Offer::Lost(_) => Ok(false),
+            Err(entry) => Ok(Some(Offering { entry, call })),
         }
     }
 
-    // Offers the move, which was judged to fire; None where the offer lost.
+    // Offers the move, which was judged to fire; None where the offer lost. What is offered is what an
+    // earlier turn left, or is made here.
     fn attempt<A: Aggregator + Sync + Drop, F: FnMut()>(
         &mut self,
         alloc: Global,
         storage: &Storage<A>,
         reads: &Items<Named>,
         instrs: &Instructions,
+        pending: &mut Option<Offering>,
         between: &mut F,
     ) -> Result<Option<Reply>, AllocError>
         requires part { IsPartOf A.meaning storage.now self.old }
         requires room { length self.old.progress.seen < length storage.now.row }
         requires reply { IsReplyOf A.meaning (agent_of storage.now self.old) (call.Fire reads.now instrs.now)
             (answer.Fire (reply.Fired (length self.old.progress.seen + 1))) }
+        requires pending { IfSome pending.old (IsOffering self.old.id reads.now instrs.now) }
         requires callable { F.IsAlwaysCallable between.old }
         ensures part { IsPartOf A.meaning storage.now self.new }
         ensures id { self.new.id ≡ self.old.id }
         ensures won { IfOk result (λ o. IfSome o (HasFired storage.now self.old self.new reads.now instrs.now)) }
         ensures lost { IfOk result (λ o. IfNone o (IsLost storage.now self.old self.new)) }
+        ensures pending { IfSome pending.new (IsOffering self.old.id reads.now instrs.now) }
         ensures err { OnErr result (agent_of storage.now self.new ≡ agent_of storage.now self.old) }
         ensures callable { F.IsAlwaysCallable between.new }
         ensures called { IfOk result (λ o. F.step between.old tt between.new) }
@@ -259,18 +257,14 @@ impl AgentPart {
     {
         let _capacity = storage.row().capacity();
         let number = self.progress.seen_len() + 1;
-        let instrs_copy = instrs.copy(alloc)?;
-        let entry = Entry {
-            agent: self.id,
-            instrs: instrs_copy,
-        };
-        let entry = Box::new(alloc, entry)?;
-        let call = fire_call(alloc, reads, instrs)?;
+        let offering = Offering::take(pending, alloc, self.id, reads, instrs)?;
         let answer = Answer::Fire(Reply::Fired(number));
-        if self.offer(storage, entry, call, answer, between)? {
-            Ok(Some(Reply::Fired(number)))
-        } else {
-            Ok(None)
+        match self.offer(storage, offering, answer, between)? {
+            None => Ok(Some(Reply::Fired(number))),
+            Some(back) => {
+                *pending = Some(back);
+                Ok(None)
+            }
         }
     }
 
@@ -281,9 +275,11 @@ impl AgentPart {
         storage: &Storage<A>,
         reads: &Items<Named>,
         instrs: &Instructions,
+        pending: &mut Option<Offering>,
         between: &mut F,
     ) -> Result<Option<Reply>, AllocError>
         requires part { IsPartOf A.meaning storage.now self.old }
+        requires pending { IfSome pending.old (IsOffering self.old.id reads.now instrs.now) }
         requires callable { F.IsAlwaysCallable between.old }
         ensures part { IsPartOf A.meaning storage.now self.new }
         ensures id { self.new.id ≡ self.old.id }
@@ -292,6 +288,7 @@ impl AgentPart {
         ensures err { OnErr result (LooksOn A.meaning storage.now self.old self.new) }
         ensures counted { HasOffered (agent_of storage.now self.old) (agent_of storage.now self.new)
             (offers_in result) (misses_in (agent_of storage.now self.new) result) }
+        ensures pending { IfSome pending.new (IsOffering self.old.id reads.now instrs.now) }
         ensures callable { F.IsAlwaysCallable between.new }
         ensures calls { Ran (λ f g. F.step f tt g) between.old (offers_in result) between.new }
     {
@@ -301,7 +298,7 @@ impl AgentPart {
                 self.keep_reply(alloc, storage, reads, instrs, &reply)?;
                 Ok(Some(reply))
             }
-            None => self.attempt(alloc, storage, reads, instrs, between),
+            None => self.attempt(alloc, storage, reads, instrs, pending, between),
         }
     }
 
@@ -332,8 +329,9 @@ impl AgentPart {
             Ran (λ f g. F.step f tt g) between.old n between.new }
     {
         let from = self.progress.seen_len();
+        let mut pending = None;
         for lost in 0..64u32 {
-            match self.turn(alloc, storage, reads, instrs, between)? {
+            match self.turn(alloc, storage, reads, instrs, &mut pending, between)? {
                 Some(reply) => return Ok(reply),
                 None => {}
             }
@@ -344,7 +342,8 @@ impl AgentPart {
         })
     }
 
-    /// Fires a move in turns, of which there are at most 64; the named reads are copied once for all of them.
+    /// Fires a move in turns, of which there are at most 64; for all of them the named reads are copied once, and what
+    /// is offered is made once.
     pub(crate) fn fire<A: Aggregator + Sync + Drop, F: FnMut()>(
         &mut self,
         alloc: Global,

@@ -7,6 +7,8 @@
 #![tactic(auto)]
 
 mod agent;
+#[cfg(test)]
+mod beside;
 mod call;
 #[cfg(test)]
 mod closed;
@@ -25,15 +27,22 @@ mod held;
 mod history;
 #[cfg(test)]
 mod limits;
+#[cfg(test)]
+mod lost_offers;
 mod merging;
 mod missing;
 #[cfg(test)]
 mod naming;
+mod offering;
 #[cfg(test)]
 mod opening_tests;
 mod part;
 #[cfg(test)]
+mod part_tests;
+#[cfg(test)]
 mod plain_moves;
+#[cfg(test)]
+mod plain_paths;
 mod proper;
 mod read;
 mod reading;

@@ -18,7 +18,7 @@ use std::alloc::{AllocError, Global};
 use std::process::Abort;
 use std::test::Fail;
 
-/// Whether a storage of this capacity is made. The error is want of memory.
+/// Whether a storage of this capacity is made. `AllocError` comes only where memory was refused.
 fn is_made(alloc: Global, capacity: u32) -> Result<bool, AllocError> {
     match Storage::new(alloc, standard(), PlainState::new(alloc), capacity) {
         Ok(_) => Ok(true),
@@ -46,7 +46,7 @@ fn capacities_out_of_range_are_refused(rt: HostRuntime) -> Result<(), Fail> {
     Ok(())
 }
 
-/// Whether so many agents are made, with the numbers from 0 up to this one. The error is want of memory.
+/// Whether so many agents are made, with the numbers from 0 up to this one. `AllocError` comes only where memory was refused.
 fn are_made(
     alloc: Global,
     storage: &Storage<Standard>,
@@ -103,7 +103,7 @@ enum Many {
     Named(usize),
 }
 
-/// Whether the locations are read, and not refused for their number. The error is want of memory.
+/// Whether the locations are read, and not refused for their number. `AllocError` comes only where memory was refused.
 fn reads_all(
     alloc: Global,
     agent: &mut Agent<'_, Standard>,
@@ -138,7 +138,7 @@ pub(crate) fn reads_many(
     Ok(reads_all(alloc, agent, &places)?)
 }
 
-/// Whether a move with these named reads is fired, and not refused for their number. The error is want of memory.
+/// Whether a move with these named reads is fired, and not refused for their number. `AllocError` comes only where memory was refused.
 fn names_all(
     alloc: Global,
     agent: &mut Agent<'_, Standard>,

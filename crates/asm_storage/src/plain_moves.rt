@@ -61,7 +61,7 @@ fn a_read_follows_all_moves_that_needed_no_state(rt: HostRuntime) -> Result<(), 
     two.play(&rt, alloc, &AFTER)
 }
 
-fn place(alloc: Global, k: u32) -> Result<Location, Fail> {
+pub(crate) fn place(alloc: Global, k: u32) -> Result<Location, Fail> {
     let args = vec![in alloc; Element::Num(k as i64)]?;
     Ok(Location::new(String::from_str(alloc, "w")?, args)?)
 }
@@ -73,7 +73,7 @@ fn put(alloc: Global, k: u32, n: u32) -> Result<Instruction, Fail> {
     })
 }
 
-fn push_put(alloc: Global, list: &mut Instructions, k: u32, n: u32) -> Result<(), Fail> {
+pub(crate) fn push_put(alloc: Global, list: &mut Instructions, k: u32, n: u32) -> Result<(), Fail> {
     let instruction = put(alloc, k, n)?;
     list.push(instruction)?;
     Ok(())
@@ -210,7 +210,7 @@ fn drawn_move(alloc: Global, seed: u32) -> Result<Instructions, Fail> {
     Ok(list)
 }
 
-fn drawn_moves(alloc: Global, times: u32) -> Result<Vec<Instructions>, Fail> {
+pub(crate) fn drawn_moves(alloc: Global, times: u32) -> Result<Vec<Instructions>, Fail> {
     let mut moves = Vec::new(alloc);
     let mut seed = 1;
     for _ in 0..times {
@@ -221,7 +221,7 @@ fn drawn_moves(alloc: Global, times: u32) -> Result<Vec<Instructions>, Fail> {
     Ok(moves)
 }
 
-fn answer(
+pub(crate) fn answer(
     alloc: Global,
     agent: &mut Agent<'_, Standard>,
     reads: &[Named],

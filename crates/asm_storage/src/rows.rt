@@ -177,7 +177,7 @@ fn is_reading(reading: &Reading, number: u32, values: &[Value]) -> bool {
     reading.number == number && reading.values.as_slice() == values
 }
 
-/// Whether a read is answered so. The error is want of memory.
+/// Whether a read is answered so. `AllocError` comes only where memory was refused.
 fn reads(
     alloc: Global,
     agent: &mut Agent<'_, Standard>,
@@ -194,7 +194,7 @@ fn reads(
     }
 }
 
-/// Whether a fire is answered so. The error is want of memory.
+/// Whether a fire is answered so. `AllocError` comes only where memory was refused.
 pub(crate) fn fires(
     alloc: Global,
     agent: &mut Agent<'_, Standard>,

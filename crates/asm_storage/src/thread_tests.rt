@@ -1,4 +1,4 @@
-//! Agents of one storage, each on a thread of its own. The workers' error is want of memory.
+//! Agents of one storage, each on a thread of its own. Where memory is refused, the workers end with `AllocError`.
 ghost use Rattle.std.specs.Prelude.{◌≡◌, All, IfOk};
 ghost use Rattle.asm_storage.specs.Storage.{IsSameAgent};
 
@@ -29,7 +29,7 @@ fn is_answered(
 }
 
 /// Fires, and again where it was busy: once, as the other agent fires fewer than 128 moves.
-fn fires(
+pub(crate) fn fires(
     alloc: Global,
     agent: &mut Agent<'_, Standard>,
     instrs: &Instructions,
@@ -86,7 +86,7 @@ fn marks_each(
     Ok(marks)
 }
 
-fn read_once(
+pub(crate) fn read_once(
     alloc: Global,
     agent: &mut Agent<'_, Standard>,
     places: &[Location],
@@ -114,7 +114,7 @@ fn reads_often(
 }
 
 /// An agent with the number 0.
-fn first_agent(
+pub(crate) fn first_agent(
     alloc: Global,
     storage: &Storage<Standard>,
 ) -> Result<Agent<'_, Standard>, AllocError>
@@ -127,7 +127,7 @@ fn first_agent(
 }
 
 /// An agent with the number 1.
-fn second_agent(
+pub(crate) fn second_agent(
     alloc: Global,
     storage: &Storage<Standard>,
 ) -> Result<Agent<'_, Standard>, AllocError>
@@ -139,8 +139,18 @@ fn second_agent(
     }
 }
 
+/// An agent with the number 2.
+pub(crate) fn third_agent(
+    alloc: Global,
+    storage: &Storage<Standard>,
+) -> Result<Agent<'_, Standard>, AllocError>
+    ensures { IfOk result (λ a. (a.storage ≡ storage.now) × (a.account.id ≡ 2)) }
+{
+    storage.agent_at(alloc, 2)
+}
+
 /// The agent with the number 0, when it has fired each of the moves.
-fn first_fires<'s>(
+pub(crate) fn first_fires<'s>(
     alloc: Global,
     storage: &'s Storage<Standard>,
     moves: &[Instructions],
@@ -338,7 +348,7 @@ fn additions_of_two_threads_are_all_fired(rt: HostRuntime) -> Result<(), Fail> {
 }
 
 /// The moves that put 1, 2 and so on at x.
-fn puts(alloc: Global, times: i64) -> Result<Vec<Instructions>, Fail> {
+pub(crate) fn puts(alloc: Global, times: i64) -> Result<Vec<Instructions>, Fail> {
     let mut moves = Vec::new(alloc);
     for k in 0..times {
         let instrs = move_of(alloc, &[Put("x", k.saturating_add(1))])?;
@@ -387,9 +397,9 @@ fn last_place_is_fired_by_one_of_two_threads(rt: HostRuntime) -> Result<(), Fail
 }
 
 /// Whether x has this number, or nothing at 0.
-fn is_put(value: Option<&Value>, number: u32) -> bool {
+pub(crate) fn is_put(value: Option<&Value>, number: i64) -> bool {
     match value {
-        Some(Value::Plain(Element::Num(n))) => *n == i64::from(number),
+        Some(Value::Plain(Element::Num(n))) => *n == number,
         Some(Value::Plain(Element::Undef)) => number == 0,
         _ => false,
     }
@@ -402,7 +412,7 @@ fn never_fall(receipts: &[Receipt]) -> bool {
         let Answer::Read { number, values } = &receipt.answer else {
             return false;
         };
-        if *number < last || !is_put(values.as_slice().first(), *number) {
+        if *number < last || !is_put(values.as_slice().first(), i64::from(*number)) {
             return false;
         }
         last = *number;

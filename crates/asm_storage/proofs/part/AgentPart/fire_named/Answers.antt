@@ -5,7 +5,7 @@ use Rattle.asm_storage.specs.Calls.{HasOffered, IsBusy, MadeOffers, Ran}
 use Rattle.asm_storage.specs.Part.{agent_of, IsTurn, LooksOn, offers_in, misses_in}
 use Rattle.asm_storage.proofs.Coherent.{answered_coherent}
 use Rattle.asm_storage.proofs.Following.{looks_then}
-use Rattle.asm_storage.proofs.Turns.{answered_after, offered_then, offers_answered, offers_wanting, ran_then}
+use Rattle.asm_storage.proofs.Turns.{answered_after, offered_then, offers_answered, offers_wanting, looked_id, ran_then, same_offering}
 use Rattle.asm_storage.proofs.part.AgentPart.fire_named.Goals as goal
 
 -- memory was wanting in a turn
@@ -67,8 +67,10 @@ loop-lost-preserved g c =
     c.in_ok-reply.ensures.turn in
     let counted = subst (λ (o : Option Reply). HasOffered (agent_of s mid) (agent_of s new) (offers_in (Ok o))
     (misses_in (agent_of s new) (Ok o))) c.in-None.is c.in_ok-reply.ensures.counted in
+    let same = looked_id meaning s old mid before.looks in
     record {
       callable = c.turn.ensures.callable;
+      pending = same_offering mid.id old.id c.args.reads.now c.args.instrs.now c.turn.new.pending same c.turn.ensures.pending;
       looks = looks_then meaning s old mid new before.looks is;
       counted = offered_then (agent_of s old) (agent_of s mid) (agent_of s new) lost before.counted 1 1 counted;
       calls = ran_then _ c.args.between.now c.loop-lost.between c.turn.new.between lost 1 before.calls
@@ -101,3 +103,11 @@ returns-in-Some-clause-answered g c =
     c.in_ok-reply.ensures.turn in
     answered_after meaning (agent_of s c.args.self.now) (agent_of s mid) c.args.reads.now c.args.instrs.now (agent_of s new)
     c.in-Some.reply looks.agent looks.seen is
+
+pub turn-requires-clause-pending : goal.turn-requires-clause-pending
+turn-requires-clause-pending g c κs within =
+    let old = c.args.self.now in
+    let mid = c.loop-lost.self in
+    let before = c.loop-lost.invariant in
+    let same = looked_id g.A.Aggregator.meaning c.args.storage.now old mid before.looks in
+    same_offering old.id mid.id c.args.reads.now c.args.instrs.now c.loop-lost.pending (sym same) before.pending

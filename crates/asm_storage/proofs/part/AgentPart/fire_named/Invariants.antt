@@ -1,11 +1,14 @@
+use Rattle.std.specs.Prelude.{IfSome}
 use Rattle.asm_storage.specs.Calls.{HasOffered, Ran}
+use Rattle.asm_storage.specs.Offering.{IsOffering}
 use Rattle.asm_storage.specs.Part.{agent_of, LooksOn}
 use Rattle.asm_storage.proofs.part.AgentPart.fire_named.Given as goal
 
--- each turn so far lost one offer
+-- each turn so far lost one offer, and left what it offered
 abbrev pub invariant-loop-lost : goal.invariant-loop-lost
 invariant-loop-lost g l = record {
   callable : goal.F-IsAlwaysCallable g l.between;
+  pending : IfSome l.pending (IsOffering l.initial.self.id l.reads l.instrs);
   looks : LooksOn g.A.Aggregator.meaning l.storage l.initial.self l.self;
   counted : HasOffered (agent_of l.storage l.initial.self) (agent_of l.storage l.self) l.lost l.lost;
   calls : Ran (λ p q. goal.F-step g p tt q) l.initial.between l.lost l.between;

@@ -9,23 +9,23 @@ use Rattle.asm_storage.proofs.Following.{following_more, seen_part}
 use Rattle.asm_storage.proofs.Kept.{fired_kept, same_agent}
 use Rattle.asm_storage.proofs.part.AgentPart.offer.Goals as goal
 
-pub returns-in-Won-clause-part : goal.returns-in-Won-clause-part
-returns-in-Won-clause-part g c =
+pub returns-in-Ok-clause-part : goal.returns-in-Ok-clause-part
+returns-in-Ok-clause-part g c =
     let p = c.args.self.now in
     let seen = p.progress.seen in
-    let entry = c.args.entry.value in
+    let entry = c.args.offering.entry.value in
     let m = machine_of g.A.Aggregator.meaning c.args.storage.now in
     let part = c.requires.part in
     let account : AgentView = account_of p in
-    let r : Receipt = record { call = c.args.call; answer = c.args.answer; stood = c.seen_len-stood.result } in
+    let r : Receipt = record { call = c.args.offering.call; answer = c.args.answer; stood = c.seen_len-stood.result } in
     let mine : Entry = record { agent = p.id; instrs = entry.instrs } in
     let entry_is : entry ≡ mine = ap (λ i. let e : Entry = record { agent = i; instrs = entry.instrs } in e) c.requires.mine in
-    let won = c.in-Won.ensures.won in
-    let now = c.offer.new.self in
+    let won = c.in-Ok.ensures.won in
+    let now = c.try_offer.new.self in
     let pushed : c.push.new.self.items ≡ c.reserve.new.self.items ++ r ∷ [] = rw c.unwrap.ensures at c.push.ensures.items in
     let kept = fired_kept m account r entry.instrs part.agent c.seen_len-stood.ensures.value c.requires.reply c.requires.fired in
     record {
-      row = c.in-Won.ensures.row ∙ part.row;
+      row = c.in-Ok.ensures.row ∙ part.row;
       few = part.few;
       counted = omega (arith, ap (λ (s : SeatView Entry). s.misses) won, part.counted);
       agent = same_agent m p.id (seen ++ mine ∷ []) now.seen (p.progress.won + 1) now.won (p.receipts.items ++ r ∷ [])
@@ -34,17 +34,17 @@ returns-in-Won-clause-part g c =
       following = following_more m seen now.seen p.state (entry ∷ [], sym (ap (λ (s : SeatView Entry). s.seen) won)) part.following;
     }
 
-pub returns-in-Lost-clause-part : goal.returns-in-Lost-clause-part
-returns-in-Lost-clause-part g c =
+pub returns-in-Err-clause-part : goal.returns-in-Err-clause-part
+returns-in-Err-clause-part g c =
     let p = c.args.self.now in
     let m = machine_of g.A.Aggregator.meaning c.args.storage.now in
-    let lost = c.in-Lost.ensures.lost in
-    let now = c.offer.new.self in
+    let lost = c.in-Err.ensures.lost.1 in
+    let now = c.try_offer.new.self in
     let misses = ap (λ (s : SeatView Entry). s.misses) lost in
     let seen = sym (ap (λ (s : SeatView Entry). s.seen) lost) in
-    let part = seen_part g.A.Aggregator.meaning c.args.storage.now p now c.requires.part c.in-Lost.ensures.row
+    let part = seen_part g.A.Aggregator.meaning c.args.storage.now p now c.requires.part c.in-Err.ensures.row
     (ap (λ (s : SeatView Entry). s.won) lost) (omega (arith, misses, c.requires.part.counted))
-    (c.in-Lost.field-0.now ∷ [], seen) in
+    (c.in-Err.ensures.lost.0 ∷ [], seen) in
     let account : AgentView = record { id = p.id; seen = now.seen; won = now.won; receipts = p.receipts.items } in
     record {
       row = part.row;

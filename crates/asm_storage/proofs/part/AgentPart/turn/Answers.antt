@@ -1,9 +1,9 @@
-use Rattle.std.proofs.Common.{List, Option, subst}
+use Rattle.std.proofs.Common.{List, Option, subst, sym}
 use Rattle.asm_state.specs.declared.named.Named.{Named}
 use Rattle.asm_storage.specs.declared.call.Reply.{Reply}
 use Rattle.asm_storage.specs.Part.{agent_of, IsJudged}
 use Rattle.asm_storage.specs.Storage.{machine_of}
-use Rattle.asm_storage.proofs.Turns.{answered_quiet, attempt_counted, attempt_ran, attempt_seen, attempted}
+use Rattle.asm_storage.proofs.Turns.{answered_quiet, attempt_counted, attempt_ran, attempt_seen, attempted, looked_id, same_offering}
 use Rattle.asm_storage.proofs.part.AgentPart.turn.Goals as goal
 
 pub returns-in_ok-keep_reply-in-Some-clause-turn : goal.returns-in_ok-keep_reply-in-Some-clause-turn
@@ -52,3 +52,18 @@ returns-in-None-clause-calls g c =
     attempt_ran (λ p q. goal.F-step g p tt q) c.args.between.now c.attempt.new.between c.args.storage.now
     c.make_ready.new.self c.attempt.new.self c.args.reads.now c.args.instrs.now c.attempt.result c.attempt.ensures.won
     c.attempt.ensures.called c.attempt.ensures.uncalled
+
+-- the agent has the number that it had
+pub attempt-requires-clause-pending : goal.attempt-requires-clause-pending
+attempt-requires-clause-pending g c κs within =
+    let old = c.args.self.now in
+    let mid = c.make_ready.new.self in
+    let same = looked_id g.A.Aggregator.meaning c.args.storage.now old mid c.make_ready.ensures.looks in
+    same_offering old.id mid.id c.args.reads.now c.args.instrs.now c.args.pending.now (sym same) c.requires.pending
+
+pub returns-in-None-clause-pending : goal.returns-in-None-clause-pending
+returns-in-None-clause-pending g c =
+    let old = c.args.self.now in
+    let mid = c.make_ready.new.self in
+    let same = looked_id g.A.Aggregator.meaning c.args.storage.now old mid c.make_ready.ensures.looks in
+    same_offering mid.id old.id c.args.reads.now c.args.instrs.now c.attempt.new.pending same c.attempt.ensures.pending
