@@ -1,5 +1,6 @@
 -- Arrays: what a value that is one holds, and lists of forms.
 use Rattle.std.proofs.Common.{◌≡◌, ◌≢◌, ◌<◌, ℕ, zero, suc, List, [], ◌∷◌, ◌++◌, length, get_or, map, Some, refl, sym, ap, ap₂, subst, ◌∙◌, append_assoc, arith}
+use Rattle.std.specs.List.{AllByRecursion}
 use Rattle.serde_json.specs.Data.{Data, null, boolean, number, string, array, object, unsigned, Items, no_items, item}
 use Rattle.serde_json.specs.Find.{as_array, as_str}
 use Rattle.serde_json.specs.View.{view, items_of, items_view}
@@ -33,6 +34,12 @@ same_pair a b x y e = (cc, cc)
 pub same_items : (a b x y : Data) → items_of (a ∷ b ∷ []) ≡ items_of (x ∷ y ∷ []) → (a ≡ x) × (b ≡ y)
 same_items a b x y e = (cc, cc)
 
+pub same_item : (d c : Data) (ds cs : Items) → item d ds ≡ item c cs → (d ≡ c) × (ds ≡ cs)
+same_item d c ds cs e = (cc, cc)
+
+pub same_text : (s t : List ℕ) → string s ≡ string t → s ≡ t
+same_text s t e = cc
+
 pub same_number : (m n : ℕ) → number (unsigned m) ≡ number (unsigned n) → m ≡ n
 same_number m n e = cc
 
@@ -57,6 +64,12 @@ no_forms F [] i d h none xs k = absurd (omega arith)
 no_forms F (v ∷ vs) i d h none [] k = k
 no_forms F (v ∷ vs) zero d h none (x ∷ xs) k = none x k.0
 no_forms F (v ∷ vs) (suc i) d h none (x ∷ xs) k = no_forms F vs i d (omega arith) none xs k.1
+
+-- items that are written are the forms of what was written
+pub forms_back : {X : Type 0} {P : X → Type 0} (F : X → Data → Type 0) (f : X → Data) → ((x : X) → P x → F x (f x))
+    → (xs : List X) → AllByRecursion P xs → AreForms F xs (items_of (map f xs))
+forms_back F f back [] h = tt
+forms_back F f back (x ∷ xs) h = (back x h.0, forms_back F f back xs h.1)
 
 -- one item less is left
 pub left_json : {X : Type 0} (f : X → Data) (done new all : List Data) (x : X) (rest left : List X) → left ≡ x ∷ rest → done ++ map f left ≡ all → new ≡ done ++ f x ∷ [] → new ++ map f rest ≡ all

@@ -1,5 +1,5 @@
 -- What is written is the form of what was written.
-use Rattle.std.proofs.Common.{◌<◌, ◌^◌, ℕ, List, [], ◌∷◌, map, refl, arith}
+use Rattle.std.proofs.Common.{◌<◌, ◌^◌, ℕ, List, map, refl, arith}
 use Rattle.std.specs.Prelude.{All}
 use Rattle.std.specs.FinMap as finite
 use Rattle.std.specs.List.{AllByRecursion}
@@ -29,7 +29,7 @@ use Rattle.asm_storage.specs.declared.call.Reply.TheVariants as reply
 use Rattle.asm_storage.specs.declared.call.Answer.{Answer}
 use Rattle.asm_storage.specs.declared.call.Answer.TheVariants as answer
 use Rattle.asm_storage.specs.declared.history.Event.{Event}
-use Rattle.asm_journal.specs.Shape.{AreForms, IsListForm, list_of}
+use Rattle.asm_journal.specs.Shape.{IsListForm, list_of}
 use Rattle.asm_journal.specs.Element.{element_json_of, location_json_of, IsElementForm, IsLocationForm}
 use Rattle.asm_journal.specs.Set.{count_json_of, IsCounted, IsCountForm}
 use Rattle.asm_journal.specs.Value.{value_json_of, pair_json_of, IsValueForm, IsPairForm, IsStateForm}
@@ -38,12 +38,8 @@ use Rattle.asm_journal.specs.Event.{named_json_of, call_json_of, reply_json_of, 
 use Rattle.asm_journal.specs.Event.{IsNamedForm, IsCallForm, IsReplyForm, IsAnswerForm, IsEventForm}
 use Rattle.asm_journal.specs.Text.{state_json_of}
 use Rattle.asm_storage.specs.Proper.{IsProperNamed, IsProperCall, IsProperReply, IsProperAnswer, IsProperEvent}
+use Rattle.asm_journal.proofs.Arrays.{forms_back}
 use Rattle.asm_journal.proofs.Kept.{pairs_kept, set_kept, bag_kept, state_kept}
-
-forms_back : {X : Type 0} {P : X → Type 0} (F : X → Data → Type 0) (f : X → Data) → ((x : X) → P x → F x (f x))
-    → (xs : List X) → AllByRecursion P xs → AreForms F xs (items_of (map f xs))
-forms_back F f back [] h = tt
-forms_back F f back (x ∷ xs) h = (back x h.0, forms_back F f back xs h.1)
 
 list_back : {X : Type 0} {P : X → Type 0} (F : X → Data → Type 0) (f : X → Data) → ((x : X) → P x → F x (f x))
     → (xs : List X) → AllByRecursion P xs → IsListForm F xs (list_of (map f xs))

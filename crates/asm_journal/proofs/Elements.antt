@@ -1,17 +1,18 @@
 -- Elements and locations: what reading them finds, and that a value is the form of one at most.
-use Rattle.std.proofs.Common.{codes, zero, suc, get_or, max, ◌≢◌, ◌≡◌, ◌<◌, ◌≤◌, ℕ, ℤ, pos, negsuc, Bool, true, false, List, [], ◌∷◌, length, map, Result, Ok, Err, refl, sym, ap, ap₂, subst, ◌∙◌, arith}
+use Rattle.std.proofs.Common.{codes, ◌≢◌, ◌≡◌, ◌<◌, ◌≤◌, ℕ, ℤ, pos, negsuc, Bool, false, List, [], ◌∷◌, length, map, Result, Ok, Err, refl, sym, ap, ap₂, subst, ◌∙◌, arith}
 use Rattle.std.specs.Prelude.{◌↔◌, IfOk, IsTrue, option_map}
 use Rattle.std.specs.Result.{result_ok}
 use Rattle.std.specs.declared.alloc.AllocError.{AllocError}
 use Rattle.std.specs.List.{AllByRecursion}
+use Rattle.std.proofs.lemmas.Bool.{true_from_ne_false}
 use Rattle.std.proofs.lemmas.List.Elements.{All-from_recursion, recursion_from_All}
-use Rattle.serde_json.specs.Data.{Data, null, boolean, number, string, array, object, Num, unsigned, negative, float, Items, no_items, item, Members, no_members, member, depth, items_depth}
+use Rattle.serde_json.specs.Data.{Data, null, boolean, number, string, array, object, Num, unsigned, negative, float, Items, no_items, item, Members, no_members, member, depth}
 use Rattle.serde_json.specs.Find.{of_integer}
-use Rattle.serde_json.specs.View.{view, items_of, items_view}
+use Rattle.serde_json.specs.View.{view, items_of}
 use Rattle.serde_json.specs.declared.value.Value.{Value as Json}
 use Rattle.asm_element.proofs.Lists.{proper_datum, proper_element}
 use Rattle.asm_element.specs.Datum as datum
-use Rattle.asm_element.specs.Datum.{Datum, Sequence, IsProperDatum, AreProperItems, IsProperList}
+use Rattle.asm_element.specs.Datum.{Datum, Sequence, AreProperItems, IsProperList}
 use Rattle.asm_element.specs.View.{datum as datum_of, element as element_of, element-datum, datum-element, sequence, elements as elements_of, sequence-elements, len-sequence}
 use Rattle.asm_element.specs.Element as element
 use Rattle.asm_element.specs.Place.{Place, is_name}
@@ -24,7 +25,7 @@ use Rattle.asm_element.specs.declared.location.LocationError.TheVariants.{BadNam
 use Rattle.asm_journal.specs.Shape.{AreForms, IsParsed, one_of, list_of}
 use Rattle.asm_journal.specs.Element.{datum_json_of, items_json_of, element_json_of, location_json_of, IsIntegerForm, IsElementForm, IsLocationForm}
 use Rattle.asm_journal.proofs.Answered.{true_and_false}
-use Rattle.asm_journal.proofs.Arrays.{IsOnce}
+use Rattle.asm_journal.proofs.Arrays.{IsOnce, same_item, forms_back}
 
 -- ---- one at most
 
@@ -84,14 +85,11 @@ element_json_once x y e =
 items_json_once : (ds es : Sequence) → items_json_of ds ≡ items_json_of es → ds ≡ es
 items_json_once ds es e = sym (items_back ds) ∙ ap items_from e ∙ items_back es
 
-item_parts : (d c : Data) (ds cs : Items) → item d ds ≡ item c cs → (d ≡ c) × (ds ≡ cs)
-item_parts d c ds cs e = (cc, cc)
-
 elements_json_once : (xs ys : List Element) → items_of (map element_json_of xs) ≡ items_of (map element_json_of ys) → xs ≡ ys
 elements_json_once [] [] e = refl
 elements_json_once [] (y ∷ ys) e = absurd cc
 elements_json_once (x ∷ xs) [] e = absurd cc
-elements_json_once (x ∷ xs) (y ∷ ys) e = let parts = item_parts _ _ _ _ e in ap₂ (λ a b. a ∷ b) (element_json_once x y parts.0) (elements_json_once xs ys parts.1)
+elements_json_once (x ∷ xs) (y ∷ ys) e = let parts = same_item _ _ _ _ e in ap₂ (λ a b. a ∷ b) (element_json_once x y parts.0) (elements_json_once xs ys parts.1)
 
 location_parts : (m n : List ℕ) (ds es : Items) → array (item (string m) ds) ≡ array (item (string n) es) → (m ≡ n) × (ds ≡ es)
 location_parts m n ds es e = (cc, cc)
@@ -123,12 +121,10 @@ forms_are (x ∷ xs) no_items h = absurd h
 forms_are (x ∷ xs) (item d ds) h = let rest = forms_are xs ds h.1 in (ap₂ item h.0.1 rest.0, (h.0.0, rest.1))
 
 pub forms_of : (xs : List Element) → AllByRecursion element.IsProper xs → AreForms IsElementForm xs (items_of (map element_json_of xs))
-forms_of [] h = tt
-forms_of (x ∷ xs) h = ((h.0, refl), forms_of xs h.1)
+forms_of xs h = forms_back IsElementForm element_json_of (λ x proper. (proper, refl)) xs h
 
-is_true : (b : Bool) → (b ≡ false → ⊥) → IsTrue b
-is_true true h = refl
-is_true false h = absurd (h refl)
+at_most : (n m : ℕ) → (m < n → ⊥) → n ≤ m
+at_most n m h = omega (arith, h)
 
 abbrev read_place : List ℕ → List Element → Place
 read_place name args = record { name = name; args = args }
@@ -140,12 +136,10 @@ pub location_read : (d : Data) (name : List ℕ) (ds : Items) (args : List Eleme
     → IsParsed IsLocationForm d (result_ok r)
 location_read d name ds args n (Ok l) count is forms ok bad many =
     let parts = forms_are args ds forms in
-    let named = is_true (is_name name) (λ e. let wrong = bad.1 e in absurd cc) in
-    let few : length args ≤ 8 = subst (λ k. k ≤ 8) count (at_most n (λ over. let wrong = many.1 (named, over) in absurd cc)) in
+    let named = true_from_ne_false (is_name name) (λ e. let wrong = bad.1 e in absurd cc) in
+    let few : length args ≤ 8 = subst (λ k. k ≤ 8) count (at_most n 8 (λ over. let wrong = many.1 (named, over) in absurd cc)) in
     let whole = is ∙ ap (λ es. array (item (string name) es)) parts.0 in
-    subst (λ p. IsLocationForm p d) (sym ok) ((named, few, All-from_recursion element.IsProper args parts.1), whole) where
-      at_most : (n : ℕ) → (8 < n → ⊥) → n ≤ 8
-      at_most n h = omega (arith, h)
+    subst (λ p. IsLocationForm p d) (sym ok) ((named, few, All-from_recursion element.IsProper args parts.1), whole)
 location_read d name ds args n (Err BadName) count is forms ok bad many = λ p h.
     let parts = forms_are args ds forms in
     let same = location_json_once p (read_place name args) (sym h.1 ∙ is ∙ ap (λ es. array (item (string name) es)) parts.0) in
@@ -202,9 +196,7 @@ list_read ds found n (Ok l) count forms ok many deep =
     let flat : datum.depth (datum.list (sequence found)) ≤ 8 = at_most _ 8 (λ over. let wrong = deep.1 (few, over) in absurd cc) in
     let proper : IsProperList (sequence found) = (omega (arith, few, count, len-sequence found), (flat, proper_items found parts.1)) in
     subst (λ es. IsElementForm (elements.List es) (list_json ds)) (sym ok)
-    (proper, ap list_json (parts.0 ∙ sequence_json found)) where
-      at_most : (n m : ℕ) → (m < n → ⊥) → n ≤ m
-      at_most n m h = omega (arith, h)
+    (proper, ap list_json (parts.0 ∙ sequence_json found))
 list_read ds found n (Err ManyItems) count forms ok many deep = λ x h.
     let parts = forms_are found ds forms in
     let list = list_is x ds h.1 in

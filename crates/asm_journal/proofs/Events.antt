@@ -28,7 +28,7 @@ use Rattle.asm_journal.specs.Value.{IsValueForm}
 use Rattle.asm_journal.specs.Instruction.{AreOperands, IsActionForm, instruction_of, IsInstructionForm}
 use Rattle.asm_journal.specs.Event.{word_of_cause, IsNamedForm, IsMoveForm, IsCallForm, IsCauseForm, IsClashForm, IsReplyForm, IsAnswerForm, IsEventForm}
 use Rattle.asm_journal.proofs.Texts.{measure}
-use Rattle.asm_journal.proofs.Arrays.{IsOnce, same_pair, same_one, same_key, same_number, list_once}
+use Rattle.asm_journal.proofs.Arrays.{IsOnce, same_text, same_pair, same_one, same_key, same_number, list_once}
 use Rattle.asm_journal.proofs.Elements.{integer_once, element_once, location_once}
 use Rattle.asm_journal.proofs.Sets.{counted_once}
 use Rattle.asm_journal.proofs.Values.{value_once}
@@ -137,9 +137,6 @@ cause_of_word-word cause.Both = refl
 cause_of_word-word cause.Against = refl
 cause_of_word-word cause.Short = refl
 cause_of_word-word cause.Large = refl
-
-same_text : (s t : List ℕ) → string s ≡ string t → s ≡ t
-same_text s t e = cc
 
 cause_once : IsOnce IsCauseForm
 cause_once c e d h k = sym (cause_of_word-word c) ∙ ap cause_of_word (same_text _ _ (sym h ∙ k)) ∙ cause_of_word-word e

@@ -9,7 +9,6 @@ use Rattle.asm_element.specs.Datum as datum
 use Rattle.asm_element.specs.Datum.{Datum, Sequence}
 use Rattle.asm_element.specs.View.{datum as datum_of}
 use Rattle.asm_element.specs.declared.element.Element.{Element}
-use Rattle.asm_element.specs.declared.element.Element.TheVariants as elements
 use Rattle.asm_element.specs.declared.value.Value.{Value}
 use Rattle.asm_element.specs.declared.value.Value.TheVariants as values
 use Rattle.asm_element.specs.Place.{Place}

@@ -1,11 +1,12 @@
 -- Sets, bags and states from lists, from the last item to the first.
-use Rattle.std.proofs.Common.{◌≡◌, ◌<◌, ◌≤◌, ◌+◌, ℕ, zero, suc, Bool, true, false, cond, ◌||◌, not, List, [], ◌∷◌, ◌++◌, Option, Some, unwrap_or, refl, sym, ap, subst, ◌∙◌, append_assoc, true≢false, arith}
+use Rattle.std.proofs.Common.{◌≡◌, ◌<◌, ◌≤◌, ◌+◌, ℕ, zero, suc, Bool, true, false, cond, ◌||◌, not, List, [], ◌∷◌, ◌++◌, Option, Some, None, unwrap_or, refl, sym, ap, ap₂, subst, ◌∙◌, append_assoc, true≢false, arith}
 use Rattle.std.specs.Prelude.{nat_lt, is_some}
 use Rattle.std.specs.List.{IsDistinct, list_any, AllByRecursion}
 use Rattle.std.specs.Map.{keys_of}
 use Rattle.std.specs.Ordering.{eq_by_cmp}
 use Rattle.std.specs.declared.cmp.Ordering.{Ordering}
 use Rattle.std.specs.FinMap as finite
+use Rattle.std.proofs.lemmas.List.{map-append}
 use Rattle.std.proofs.lemmas.Map.Keys.{IsDistinct-cons, IsDistinct-head, IsDistinct-tail}
 use Rattle.std.proofs.lemmas.Bool.{not-false, not-true, lt-ltb}
 use Rattle.asm_element.specs.Element.{element_cmp, element_cmp_total}
@@ -13,8 +14,10 @@ use Rattle.asm_element.specs.Place.{Place, location_cmp, location_cmp_total}
 use Rattle.asm_element.specs.declared.element.Element.{Element}
 use Rattle.asm_element.specs.declared.value.Value.{Value}
 use Rattle.asm_element.specs.Set as set
+use Rattle.asm_element.specs.Value as held
 use Rattle.asm_element.specs.Bag as bag
 use Rattle.asm_update.specs.State.{State, Updates, write}
+use Rattle.asm_update.proofs.FireLemmas.{get-write}
 use Rattle.asm_element.specs.Tests.{neither}
 use Rattle.asm_aggregate.specs.laws.SetAlgebra.{contains-from_list}
 use Rattle.asm_journal.specs.Shape.{AreDistinct}
@@ -24,10 +27,6 @@ use Rattle.asm_journal.specs.Value.{IsStateOf}
 -- what is left and what is done is all
 pub one_back : {X : Type 0} (xs : List X) (x : X) (left done all : List X) → left ++ done ≡ all → left ≡ xs ++ x ∷ [] → xs ++ x ∷ done ≡ all
 one_back xs x left done all whole step = sym (append_assoc xs (x ∷ []) done) ∙ ap (λ l. l ++ done) (sym step) ∙ whole
-
-keys-append : {K X : Type 0} (ps qs : List (K × X)) → keys_of (ps ++ qs) ≡ keys_of ps ++ keys_of qs
-keys-append [] qs = refl
-keys-append (p ∷ ps) qs = ap (λ l. p.0 ∷ l) (keys-append ps qs)
 
 -- ---- keys that stand twice
 
@@ -49,7 +48,7 @@ module _ {K : Type 0} (cmp : K → K → Ordering) where
   none_distinct = tt
 
   -- one key more, which isn't there yet
-  more_distinct : (x : K) (ys : List K) → stands x ys ≡ false → AreDistinct cmp ys → AreDistinct cmp (x ∷ ys)
+  pub more_distinct : (x : K) (ys : List K) → stands x ys ≡ false → AreDistinct cmp ys → AreDistinct cmp (x ∷ ys)
   more_distinct x ys new h = IsDistinct-cons (eq_by_cmp cmp) x ys (others x ys new) h
 
   -- what is distinct has distinct ends
@@ -64,7 +63,7 @@ module _ {K : Type 0} (cmp : K → K → Ordering) where
       true≢false (sym any ∙ not_any x ys (IsDistinct-head (eq_by_cmp cmp) x ys ended))
 
   twice_key : {X : Type 0} (xs : List (K × X)) (p : K × X) (ys all : List (K × X)) → xs ++ p ∷ ys ≡ all → stands p.0 (keys_of ys) ≡ true → AreDistinct cmp (keys_of all) → ⊥
-  twice_key xs p ys all whole any h = twice (keys_of xs) p.0 (keys_of ys) (keys_of all) (sym (keys-append xs (p ∷ ys)) ∙ ap keys_of whole) any h
+  twice_key {X = X} xs p ys all whole any h = twice (keys_of xs) p.0 (keys_of ys) (keys_of all) (sym (map-append (λ (q : K × X). q.0) xs (p ∷ ys)) ∙ ap keys_of whole) any h
 
 -- ---- sets
 
@@ -117,26 +116,39 @@ bag-more p done b c made above none put =
 
 -- ---- states
 
--- the locations that were seen are those of the list
-abbrev pub AreSeen : Updates → List (Place × Value) → Type 0
-AreSeen U done = (q : Place) → is_some (finite.get U q) ≡ stands location_cmp q (keys_of done)
+-- the locations that have a value in the state, or stand beside it as undef, are those of the list
+abbrev pub AreRead : State → Updates → List (Place × Value) → Type 0
+AreRead A U done = (q : Place) → (is_some (finite.get A q) || is_some (finite.get U q)) ≡ stands location_cmp q (keys_of done)
 
-pub none_seen : (U : Updates) → U ≡ finite.empty → AreSeen U []
-none_seen U is q = ap (λ W. is_some (finite.get W q)) is ∙ ap is_some (finite.get-empty location_cmp q)
+pub none_read : (A : State) (U : Updates) → A ≡ finite.empty → U ≡ finite.empty → AreRead A U []
+none_read A U empty none q =
+    ap₂ (λ S W. is_some (finite.get S q) || is_some (finite.get W q)) empty none
+    ∙ ap₂ (λ a u. is_some a || is_some u) (finite.get-empty location_cmp q) (finite.get-empty location_cmp q)
 
-pub state-twice : (xs : List (Place × Value)) (p : Place × Value) (done all : List (Place × Value)) (U : Updates) → xs ++ p ∷ done ≡ all → AreSeen U done → is_some (finite.get U p.0) ≡ true → (A : State) → IsStateOf A all → ⊥
-state-twice xs p done all U whole seen there A h = twice_key location_cmp xs p done all whole (sym (seen p.0) ∙ there) h.0
+pub state-twice : (xs : List (Place × Value)) (p : Place × Value) (done all : List (Place × Value)) (A : State) (U : Updates) → xs ++ p ∷ done ≡ all → AreRead A U done → (is_some (finite.get A p.0) || is_some (finite.get U p.0)) ≡ true → (B : State) → IsStateOf B all → ⊥
+state-twice xs p done all A U whole read there B h = twice_key location_cmp xs p done all whole (sym (read p.0) ∙ there) h.0
 
-pub seen-more : (p : Place × Value) (done : List (Place × Value)) (U V : Updates) → AreSeen U done → V ≡ finite.insert U p.0 p.1 → AreSeen V (p ∷ done)
-seen-more p done U V seen put q =
-    ap (λ W. is_some (finite.get W q)) put
-    ∙ ap is_some (finite.get-insert location_cmp_total U p.0 p.1 q)
-    ∙ by_test (eq_by_cmp location_cmp q p.0) (finite.get U q)
-    ∙ ap (λ b. eq_by_cmp location_cmp q p.0 || b) (seen q) where
-      by_test : (b : Bool) (o : Option Value) → is_some (cond b (Some p.1) o) ≡ (b || is_some o)
-      by_test true o = refl
-      by_test false o = refl
+-- one pair more, whose location stands beside the state where its value is undef
+pub read-more : (p : Place × Value) (done : List (Place × Value)) (A B : State) (U V : Updates) → AreRead A U done → B ≡ write A p.0 p.1 → V ≡ cond (held.is_undef p.1) (finite.insert U p.0 p.1) U → AreRead B V (p ∷ done)
+read-more p done A B U V read written noted q =
+    ap₂ (λ S W. is_some (finite.get S q) || is_some (finite.get W q)) written noted
+    ∙ ap (λ o. is_some o || is_some (finite.get (cond (held.is_undef p.1) (finite.insert U p.0 p.1) U) q)) (get-write A p.0 p.1 q)
+    ∙ by_undef (held.is_undef p.1)
+    ∙ ap (λ b. eq_by_cmp location_cmp q p.0 || b) (read q) where
+      there : (e : Bool) (a u : Option Value) → (is_some (cond e None a) || is_some (cond e (Some p.1) u)) ≡ (e || (is_some a || is_some u))
+      there true a u = refl
+      there false a u = refl
 
-pub state-more : (p : Place × Value) (done : List (Place × Value)) (U : Updates) (A B : State) → IsStateOf A done → AreSeen U done → is_some (finite.get U p.0) ≡ false → B ≡ write A p.0 p.1 → IsStateOf B (p ∷ done)
-state-more p done U A B made seen new written =
-    (more_distinct location_cmp p.0 (keys_of done) (sym (seen p.0) ∙ new) made.0, written ∙ ap (λ S. write S p.0 p.1) made.1)
+      here : (e : Bool) (a u : Option Value) → (is_some (cond e (Some p.1) a) || is_some u) ≡ (e || (is_some a || is_some u))
+      here true a u = refl
+      here false a u = refl
+
+      by_undef : (b : Bool) → (is_some (cond (eq_by_cmp location_cmp q p.0) (cond b None (Some p.1)) (finite.get A q)) || is_some (finite.get (cond b (finite.insert U p.0 p.1) U) q)) ≡ (eq_by_cmp location_cmp q p.0 || (is_some (finite.get A q) || is_some (finite.get U q)))
+      by_undef true =
+          ap (λ o. is_some (cond (eq_by_cmp location_cmp q p.0) None (finite.get A q)) || is_some o) (finite.get-insert location_cmp_total U p.0 p.1 q)
+          ∙ there (eq_by_cmp location_cmp q p.0) (finite.get A q) (finite.get U q)
+      by_undef false = here (eq_by_cmp location_cmp q p.0) (finite.get A q) (finite.get U q)
+
+pub state-more : (p : Place × Value) (done : List (Place × Value)) (A B : State) (U : Updates) → IsStateOf A done → AreRead A U done → (is_some (finite.get A p.0) || is_some (finite.get U p.0)) ≡ false → B ≡ write A p.0 p.1 → IsStateOf B (p ∷ done)
+state-more p done A B U made read new written =
+    (more_distinct location_cmp p.0 (keys_of done) (sym (read p.0) ∙ new) made.0, written ∙ ap (λ S. write S p.0 p.1) made.1)

@@ -1,11 +1,11 @@
 -- What is written is clean, and nested less deep than JSON may be.
-use Rattle.std.proofs.Common.{codes, zero, ◌*◌, ◌≡◌, ◌<◌, ◌≤◌, ◌^◌, ◌&&◌, ℕ, suc, max, ℤ, pos, negsuc, List, [], ◌∷◌, length, map, true}
+use Rattle.std.proofs.Common.{codes, zero, ◌*◌, ◌≡◌, ◌<◌, ◌≤◌, ◌^◌, ◌&&◌, ℕ, suc, max, Bool, ℤ, pos, negsuc, List, [], ◌∷◌, length, map, true}
 use Rattle.std.proofs.Common.{false, IsUtf8, refl, sym, ap, ◌∙◌, true≢false, inl, inr, nat_lt, arith}
 use Rattle.std.specs.Prelude.{FitsSigned, All, IsTrue, nat_le}
 use Rattle.std.specs.Int.{w64}
 use Rattle.std.specs.FinMap as finite
 use Rattle.std.specs.List.{AllByRecursion, list_all}
-use Rattle.std.proofs.lemmas.Bool.{and_parts, cases_lt}
+use Rattle.std.proofs.lemmas.Bool.{and_parts, cases_lt, lt-ltb}
 use Rattle.std.proofs.lemmas.Bool.Decides.{nat_tests}
 use Rattle.std.proofs.lemmas.List.Elements.{recursion_from_All}
 use Rattle.json.proofs.Printed.Utf8.{are_ascii, IsUtf8-are_ascii}
@@ -84,21 +84,14 @@ more_items n d ds g gs = record { clean = (g.clean, gs.clean); shallow = both_be
 array_good : (n : ℕ) (ds : Items) → AreGoodItems n ds → IsGood (suc n) (array ds)
 array_good n ds gs = record { clean = gs.clean; shallow = omega (arith, gs.shallow) }
 
-items_good : {X : Type 0} (n : ℕ) (f : X → Data) (xs : List X) → AllByRecursion (λ x. IsGood n (f x)) xs
-    → AreGoodItems n (items_of (map f xs))
-items_good n f [] h = no_item n
-items_good n f (x ∷ xs) h = more_items n (f x) _ h.0 (items_good n f xs h.1)
-
-list_good : {X : Type 0} (n : ℕ) (f : X → Data) (xs : List X) → AllByRecursion (λ x. IsGood n (f x)) xs
-    → IsGood (suc n) (list_of (map f xs))
-list_good n f xs h = array_good n _ (items_good n f xs h)
+items_good : {X : Type 0} {P : X → Type 0} (n : ℕ) (f : X → Data) → ((x : X) → P x → IsGood n (f x)) → (xs : List X)
+    → AllByRecursion P xs → AreGoodItems n (items_of (map f xs))
+items_good n f good [] h = no_item n
+items_good n f good (x ∷ xs) h = more_items n (f x) _ (good x h.0) (items_good n f good xs h.1)
 
 all_good : {X : Type 0} {P : X → Type 0} (n : ℕ) (f : X → Data) → ((x : X) → P x → IsGood n (f x)) → (xs : List X)
     → AllByRecursion P xs → IsGood (suc n) (list_of (map f xs))
-all_good {P = P} n f good xs h = list_good n f xs (each xs h) where
-  each : (ys : List _) → AllByRecursion P ys → AllByRecursion (λ x. IsGood n (f x)) ys
-  each [] k = tt
-  each (y ∷ ys) k = (good y k.0, each ys k.1)
+all_good n f good xs h = array_good n _ (items_good n f good xs h)
 
 pair_good : (n : ℕ) (a b : Data) → IsGood n a → IsGood n b → IsGood (suc n) (pair_of a b)
 pair_good n a b g h = array_good n _ (more_items n a _ g (more_items n b _ h (no_item n)))
@@ -166,29 +159,24 @@ element_good (elements.Num z) h = deeper 0 16 _ (omega arith) (integer_good z h)
 element_good (elements.Text s) h = deeper 0 16 _ (omega arith) (string_good s h)
 element_good (elements.List ds) h = datum_good 8 (datum.list ds) h.1.0 h
 
+-- what a test refuses from 128 on, it takes below 128 alone
+below_128 : (test : ℕ → Bool) → ((b : ℕ) → 128 ≤ b → test b ≡ false) → (b : ℕ) → test b ≡ true → nat_lt b 128 ≡ true
+below_128 test high b e = elim (cases_lt b 128) [
+  | inl low ↦ lt-ltb b 128 low
+  | inr past ↦ absurd (true≢false (sym e ∙ high b past))
+]
+
 high_byte : (b : ℕ) → 128 ≤ b → is_name_byte b ≡ false
 high_byte b h = grind (arith, nat_tests)
 
-low_byte : (b : ℕ) → is_name_byte b ≡ true → nat_lt b 128 ≡ true
-low_byte b e = elim (cases_lt b 128) [
-  | inl low ↦ grind (arith, nat_tests)
-  | inr high ↦ absurd (true≢false (sym e ∙ high_byte b high))
-]
+high_start : (b : ℕ) → 128 ≤ b → is_name_start b ≡ false
+high_start b h = grind (arith, nat_tests)
 
 all_low : (bs : List ℕ) → list_all is_name_byte bs ≡ true → are_ascii bs ≡ true
 all_low [] e = refl
 all_low (b ∷ bs) e =
     let parts = and_parts (is_name_byte b) (list_all is_name_byte bs) e in
-    ap (λ x. x && are_ascii bs) (low_byte b parts.0) ∙ all_low bs parts.1
-
-high_start : (b : ℕ) → 128 ≤ b → is_name_start b ≡ false
-high_start b h = grind (arith, nat_tests)
-
-start_low : (b : ℕ) → is_name_start b ≡ true → nat_lt b 128 ≡ true
-start_low b e = elim (cases_lt b 128) [
-  | inl low ↦ grind (arith, nat_tests)
-  | inr high ↦ absurd (true≢false (sym e ∙ high_start b high))
-]
+    ap (λ x. x && are_ascii bs) (below_128 is_name_byte high_byte b parts.0) ∙ all_low bs parts.1
 
 -- a name is ASCII
 name_ascii : (bs : List ℕ) → IsTrue (is_name bs) → are_ascii bs ≡ true
@@ -196,13 +184,10 @@ name_ascii [] h = absurd cc
 name_ascii (b ∷ bs) h =
     let parts = and_parts (nat_le (length (b ∷ bs)) 64) (is_name_start b && list_all is_name_byte bs) h in
     let bytes = and_parts (is_name_start b) (list_all is_name_byte bs) parts.1 in
-    ap (λ x. x && are_ascii bs) (start_low b bytes.0) ∙ all_low bs bytes.1
+    ap (λ x. x && are_ascii bs) (below_128 is_name_start high_start b bytes.0) ∙ all_low bs bytes.1
 
 elements_good : (xs : List Element) → All element.IsProper xs → AreGoodItems 16 (items_of (map element_json_of xs))
-elements_good xs h = each xs (recursion_from_All element.IsProper xs h) where
-  each : (ys : List Element) → AllByRecursion element.IsProper ys → AreGoodItems 16 (items_of (map element_json_of ys))
-  each [] k = no_item 16
-  each (y ∷ ys) k = more_items 16 _ _ (element_good y k.0) (each ys k.1)
+elements_good xs h = items_good 16 element_json_of element_good xs (recursion_from_All element.IsProper xs h)
 
 pub location_good : (p : Place) → place.IsProper p → IsGood 17 (location_json_of p)
 location_good p h =

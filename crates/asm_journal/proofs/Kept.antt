@@ -9,8 +9,7 @@ use Rattle.std.specs.Map.{keys_of, values_of}
 use Rattle.std.specs.Ordering.{eq_by_cmp}
 use Rattle.std.specs.declared.cmp.Ordering.{Ordering}
 use Rattle.std.proofs.lemmas.List.Elements.{recursion_from_All}
-use Rattle.std.proofs.lemmas.Map.Keys.{IsDistinct-cons}
-use Rattle.asm_element.specs.Ascending.{both_T, less_apart}
+use Rattle.asm_element.specs.Ascending.{both_T, not_among}
 use Rattle.asm_element.specs.Element.{element_cmp, element_cmp_total, element_cmp-IsAntisymmetric}
 use Rattle.asm_element.specs.Place.{Place, location_cmp}
 use Rattle.asm_element.specs.Value as value
@@ -25,23 +24,16 @@ use Rattle.asm_aggregate.specs.laws.SetAlgebra.{contains-from_list}
 use Rattle.asm_journal.specs.Shape.{AreDistinct}
 use Rattle.asm_journal.specs.Set.{IsSetOf, IsBagOf, bag_of}
 use Rattle.asm_journal.specs.Value.{IsStateOf}
-use Rattle.asm_journal.proofs.Gathered.{none_distinct}
+use Rattle.asm_journal.proofs.Gathered.{none_distinct, more_distinct}
 
 -- ---- keys
 
-module _ {K X : Type 0} (cmp : K → K → Ordering) where
-  others : (k : K) (es : List (K × X)) → T (below_all cmp k es)
-      → AllByRecursion (λ y. eq_by_cmp cmp k y ≡ false) (keys_of es)
-  others k [] h = tt
-  others k (e ∷ es) h =
-      let parts = both_T _ _ h in
-      (less_apart (cmp k e.0) parts.0, others k es parts.1)
-
-  distinct : (es : List (K × X)) → T (is_sorted cmp es) → AreDistinct cmp (keys_of es)
-  distinct [] h = none_distinct cmp
-  distinct (e ∷ es) h =
-      let parts = both_T _ _ h in
-      IsDistinct-cons (eq_by_cmp cmp) e.0 (keys_of es) (others e.0 es parts.0) (distinct es parts.1)
+distinct : {K X : Type 0} (cmp : K → K → Ordering) (es : List (K × X)) → T (is_sorted cmp es)
+    → AreDistinct cmp (keys_of es)
+distinct cmp [] h = none_distinct cmp
+distinct cmp (e ∷ es) h =
+    let parts = both_T (below_all cmp e.0 es) (is_sorted cmp es) h in
+    more_distinct cmp e.0 (keys_of es) (not_among cmp e.0 es parts.0) (distinct cmp es parts.1)
 
 -- what holds of the keys and of the values holds of the entries
 pairs : {K X : Type 0} (P : K → Type 0) (Q : X → Type 0) (es : List (K × X)) → AllByRecursion P (keys_of es)

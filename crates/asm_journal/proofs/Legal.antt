@@ -26,10 +26,9 @@ use Rattle.asm_storage.specs.declared.call.Reply.TheVariants as reply
 use Rattle.asm_storage.specs.declared.call.Answer.{Answer}
 use Rattle.asm_storage.specs.declared.call.Answer.TheVariants as answer
 use Rattle.asm_storage.specs.declared.history.Event.{Event}
-use Rattle.asm_storage.proofs.Legal.{IsLegalFrom, legal-append, legal-from}
+use Rattle.asm_storage.proofs.Legal.{IsLegalFrom, moves-append, legal-append, legal-from}
 use Rattle.asm_journal.specs.Check.{machine, IsFirstWrong, objection_reply, was_fired, IsStep}
 use Rattle.asm_journal.proofs.Answered.{true_and_false}
-use Rattle.asm_journal.proofs.Moves.{moves-push}
 
 -- ---- legal from some moves on
 
@@ -49,7 +48,7 @@ module _ (part : Part) (init : State) (capacity : ℕ) (events : List Event) (i 
   checked_more true_is =
       let done = subst (IsStep part capacity e old new) true_is step init (moves (take i events)) checked.0 in
       let more : take (i + 1) events ≡ take i events ++ e ∷ [] = take_more events i e within ∙ ap (λ x. take i events ++ x ∷ []) (sym here) in (
-        subst (Stands part init new) (sym (ap moves more ∙ moves-push (take i events) e)) done.1,
+        subst (Stands part init new) (sym (ap moves more ∙ moves-append (take i events) (e ∷ []))) done.1,
         subst (IsLegalFrom (machine part init capacity) []) (sym more) (legal-push (machine part init capacity) (take i events) e checked.1 done.0),
       )
 

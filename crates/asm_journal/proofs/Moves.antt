@@ -1,10 +1,8 @@
--- The moves of a history, one event at a time, and firing them.
-use Rattle.std.proofs.Common.{◌≡◌, Bool, true, false, cond, List, [], ◌∷◌, ◌++◌, Some, refl, sym, ap, ◌∙◌}
-use Rattle.std.specs.Prelude.{T, Ok, Err}
-use Rattle.std.specs.List.{cons_option}
+-- Firing moves, and writing updates.
+use Rattle.std.proofs.Common.{◌≡◌, Bool, true, false, cond, List, [], ◌∷◌, Some, refl, sym, ap, ◌∙◌}
+use Rattle.std.specs.Prelude.{T, Err}
 use Rattle.std.specs.Ordering.{eq_by_cmp}
 use Rattle.std.specs.FinMap as finite
-use Rattle.std.proofs.lemmas.List.Elements.{filter_map-append}
 use Rattle.asm_element.specs.declared.value.Value.{Value}
 use Rattle.asm_element.specs.Place.{Place, location_cmp, location_cmp_total, same_location}
 use Rattle.asm_update.specs.Change.{IsChangedAt}
@@ -19,13 +17,6 @@ use Rattle.asm_element.specs.Ascending.{rising_rest, first_gone}
 use Rattle.asm_state.specs.Change.{IsOneChange}
 use Rattle.asm_state.specs.Stands.{after_move}
 use Rattle.asm_state.proofs.InPlace.{nothing, alone, updates_here, clash_here}
-use Rattle.asm_storage.specs.declared.history.Event.{Event}
-use Rattle.asm_storage.specs.History.{move_of, moves}
-
--- ---- one event more
-
-pub moves-push : (h : List Event) (e : Event) → moves (h ++ e ∷ []) ≡ moves h ++ cons_option (move_of e) []
-moves-push h e = filter_map-append move_of h (e ∷ [])
 
 -- ---- the state after a move, from what aggregation answers
 

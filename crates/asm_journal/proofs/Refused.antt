@@ -5,6 +5,7 @@ use Rattle.std.specs.Prelude.{IfOk, IfErr}
 use Rattle.std.proofs.lemmas.Bool.{cases_lt}
 use Rattle.std.proofs.lemmas.List.Elements.{recursion_from_All}
 use Rattle.serde_json.specs.Data.{Data, unsigned}
+use Rattle.asm_update.specs.State.{State}
 use Rattle.asm_storage.specs.declared.history.Event.{Event}
 use Rattle.asm_storage.specs.declared.history.History.{History}
 use Rattle.asm_journal.specs.declared.fault.JournalError.{JournalError}
@@ -14,7 +15,7 @@ use Rattle.asm_journal.specs.Text.{header_with}
 use Rattle.asm_journal.specs.Shape.{number_json_of}
 use Rattle.asm_journal.specs.Version.{IsVersion}
 use Rattle.asm_journal.specs.Reading.{HasNoLineFeed, BeginsWithLine, HasLine, IsJson, IsHeader, HasEvents, ReadsAs}
-use Rattle.asm_journal.specs.Fault.{HasOtherVersion, BreaksLine, BreaksHeader, BreaksEvent, BreaksBehind, IsRefused}
+use Rattle.asm_journal.specs.Fault.{HasOtherVersion, BreaksLine, BreaksHeader, BreaksEvent, IsRefused}
 use Rattle.asm_journal.specs.Fault.{GivesHistory}
 use Rattle.asm_journal.proofs.Once.{NoFeed, same_split, line_once, header_once, history_once}
 
@@ -54,16 +55,21 @@ known_version : (a c n i version : Data) (v : ℕ) → version ≡ number_json_o
 known_version a c n i version v is (inl one) h = let same : h.0 ≡ unsigned v = cc in h.3 (same ∙ ap unsigned one)
 known_version a c n i version v is (inr two) h = let same : h.0 ≡ unsigned v = cc in h.4 (same ∙ ap unsigned two)
 
-header_stands : (text : List ℕ) (h : History) (e : JournalError) → e ≢ Memory → ReadsAs text h → BreaksHeader text e → ⊥
-header_stands text h Cut other p b = not_broken 1 text p.0 p.1 Cut p.3 other b
-header_stands text h (NotJson n) other p b = not_broken 1 text p.0 p.1 (NotJson n) p.3 other b
-header_stands text h Version other p b =
-    let same = line_once text b.0 p.0 b.1 p.1 b.2 p.3 in
-    known_version p.4.0 p.4.1 p.4.2 p.4.3 p.4.4 p.2 p.4.6.3 p.4.6.4 (subst HasOtherVersion (same.0 ∙ p.4.5) b.3)
-header_stands text h (Shape n) other p b =
-    let same = line_once text b.1.0 p.0 b.1.1 p.1 b.1.2 p.3 in
-    b.1.4 _ _ _ _ _ (subst (IsHeader p.2 h.agents h.capacity (length h.events) h.init) (sym same.0) p.4)
-header_stands text h Memory other p b = other refl
+-- a header that stands has no fault
+header_stands : (text : List ℕ) (d : Data) (rest : List ℕ) (v agents capacity count : ℕ) (init : State) (e : JournalError)
+    → e ≢ Memory → HasLine text d rest → IsHeader v agents capacity count init d → BreaksHeader text e → ⊥
+header_stands text d rest v agents capacity count init Cut other line header b =
+    not_broken 1 text d rest Cut line other b
+header_stands text d rest v agents capacity count init (NotJson n) other line header b =
+    not_broken 1 text d rest (NotJson n) line other b
+header_stands text d rest v agents capacity count init Version other line header b =
+    let same = line_once text b.0 d b.1 rest b.2 line in
+    known_version header.0 header.1 header.2 header.3 header.4 v header.6.3 header.6.4
+    (subst HasOtherVersion (same.0 ∙ header.5) b.3)
+header_stands text d rest v agents capacity count init (Shape n) other line header b =
+    let same = line_once text b.1.0 d b.1.1 rest b.1.2 line in
+    b.1.4 _ _ _ _ _ (subst (IsHeader v agents capacity count init) (sym same.0) header)
+header_stands text d rest v agents capacity count init Memory other line header b = other refl
 
 event_stands : (v agents k : ℕ) (text : List ℕ) (x : Event) (d : Data) (r : List ℕ) (e : JournalError) → e ≢ Memory
     → HasLine text d r → IsEventBelow v agents x d → BreaksEvent v agents k text e → ⊥
@@ -95,7 +101,7 @@ same_left v agents text (e ∷ es) (f ∷ fs) left end h k same =
     same_left v agents h.1 es fs left end h.4 (subst (λ t. HasEvents v agents t fs end) line.1 k.4) (omega arith)
 
 pub not_both : (text : List ℕ) (h : History) (e : JournalError) → e ≢ Memory → IsRefused text e → ReadsAs text h → ⊥
-not_both text h e other (inl b) p = header_stands text h e other p b
+not_both text h e other (inl b) p = header_stands text p.0 p.1 _ _ _ _ _ e other p.3 p.4 b
 not_both text h e other (inr b) p =
     let same = line_once text b.0 p.0 b.1 p.1 b.7 p.3 in
     let parts = header_once _ _ _ _ _ _ _ _ b.6 h.init p.0 (subst (IsHeader b.2 b.3 b.4 b.5 b.6) same.0 b.8) p.4 in
@@ -199,19 +205,6 @@ one_event_fault v agents k text Cut Memory p q b c = absurd (q refl)
 one_event_fault v agents k text (NotJson n) Version p q b c = absurd c
 one_event_fault v agents k text (NotJson n) Memory p q b c = absurd (q refl)
 
--- a header that stands doesn't break
-header_not_broken : (text : List ℕ) (e : JournalError) → e ≢ Memory → BreaksBehind text e → (f : JournalError)
-    → f ≢ Memory → BreaksHeader text f → ⊥
-header_not_broken text e p b Cut q c = not_broken 1 text b.0 b.1 Cut b.7 q c
-header_not_broken text e p b (NotJson n) q c = not_broken 1 text b.0 b.1 (NotJson n) b.7 q c
-header_not_broken text e p b Version q c =
-    let same = line_once text c.0 b.0 c.1 b.1 c.2 b.7 in
-    known_version b.8.0 b.8.1 b.8.2 b.8.3 b.8.4 b.2 b.8.6.3 b.8.6.4 (subst HasOtherVersion (same.0 ∙ b.8.5) c.3)
-header_not_broken text e p b (Shape n) q c =
-    let same = line_once text c.1.0 b.0 c.1.1 b.1 c.1.2 b.7 in
-    c.1.4 _ _ _ _ _ (subst (IsHeader b.2 b.3 b.4 b.5 b.6) (sym same.0) b.8)
-header_not_broken text e p b Memory q c = q refl
-
 -- behind these events the next line is at fault, or all events are there and a byte is left
 abbrev StopsBehind : ℕ → ℕ → ℕ → List Event → List ℕ → JournalError → Type 0
 StopsBehind v agents count es left e =
@@ -249,8 +242,8 @@ one_behind v agents count text e f es fs left end p q h k (inr b) (inr c) = b.2 
 pub one_fault : (text : List ℕ) (e f : JournalError) → e ≢ Memory → f ≢ Memory → IsRefused text e → IsRefused text f
     → e ≡ f
 one_fault text e f p q (inl b) (inl c) = one_header_fault text e f p q b c
-one_fault text e f p q (inl b) (inr c) = absurd (header_not_broken text f q c e p b)
-one_fault text e f p q (inr b) (inl c) = absurd (header_not_broken text e p b f q c)
+one_fault text e f p q (inl b) (inr c) = absurd (header_stands text c.0 c.1 _ _ _ _ _ e p c.7 c.8 b)
+one_fault text e f p q (inr b) (inl c) = absurd (header_stands text b.0 b.1 _ _ _ _ _ f q b.7 b.8 c)
 one_fault text e f p q (inr b) (inr c) =
     let same = line_once text c.0 b.0 c.1 b.1 c.7 b.7 in
     let parts = header_once _ _ _ _ _ _ _ _ c.6 b.6 b.0 (subst (IsHeader c.2 c.3 c.4 c.5 c.6) same.0 c.8) b.8 in

@@ -8,7 +8,7 @@ use Rattle.serde_json.specs.declared.value.Value.{Value}
 use Rattle.asm_element.specs.Place.{Place}
 use Rattle.asm_journal.specs.Element.{IsLocationForm}
 use Rattle.asm_journal.specs.Instruction.{instruction_of}
-use Rattle.asm_journal.proofs.Arrays.{array_is, string_is, same_array, no_third}
+use Rattle.asm_journal.proofs.Arrays.{array_is, string_is, same_array, same_item, no_third}
 use borrow.Author.Tests.{true-eqb, false-eqb}
 
 -- what holds anyway holds of an answer that is nothing
@@ -34,9 +34,6 @@ items_none (v ∷ vs) none = absurd (omega arith)
 
 no_item : (vs : List Value) (d : Data) (ds : Items) → length vs ≡ 0 → items_view vs ≡ item d ds → ⊥
 no_item vs d ds none is = too_few d ds (sym (items_none vs none) ∙ is)
-
-same_item : (c d : Data) (ds es : Items) → item c ds ≡ item d es → (c ≡ d) × (ds ≡ es)
-same_item c d ds es e = (cc, cc)
 
 item_is : (vs rest : List Value) (v : Value) (d : Data) (ds : Items) → vs ≡ v ∷ rest → items_view vs ≡ item d ds
     → (view v ≡ d) × (items_view rest ≡ ds)

@@ -1,17 +1,10 @@
 -- Values in general: lists anywhere in one, item by item, and how deep it nests.
-use Rattle.std.proofs.Common.{◌≡◌, ◌<◌, ◌||◌, ℕ, zero, suc, Bool, true, false, List, [], ◌∷◌, ◌++◌, length, get_or, refl, sym, ap, ◌∙◌, max, ◌≤◌, arith}
+use Rattle.std.proofs.Common.{◌≡◌, ◌<◌, ℕ, zero, suc, true, false, List, [], ◌∷◌, ◌++◌, length, get_or, refl, sym, ap, ◌∙◌, ◌≤◌, arith}
 use Rattle.serde_json.specs.Data.{depth, items_depth}
 use Rattle.serde_json.specs.View.{view, items_view}
 use Rattle.serde_json.specs.declared.value.Value.{Value as Json}
+use Rattle.asm_element.specs.Tests.{neither, or_right}
 use Rattle.asm_journal.specs.Version.{has_list, items_have_list}
-
-pub neither : (a b : Bool) → a || b ≡ false → (a ≡ false) × (b ≡ false)
-neither true b e = absurd cc
-neither false b e = (refl, e)
-
-either : (a b : Bool) → b ≡ true → a || b ≡ true
-either true b e = refl
-either false b e = e
 
 -- an item with a list
 pub item_tells : (vs : List Json) (k : ℕ) (v : Json) → k < length vs → v ≡ get_or vs k v → has_list (view v) ≡ true
@@ -21,7 +14,7 @@ item_tells vs k v below is has = at vs k below (ap (λ j. has_list (view j)) (sy
       → items_have_list (items_view ws) ≡ true
   at [] k below has = absurd (omega (arith, below))
   at (w ∷ ws) zero below has = rw has refl
-  at (w ∷ ws) (suc k) below has = either _ _ (at ws k (omega (arith, below)) has)
+  at (w ∷ ws) (suc k) below has = or_right _ _ (at ws k (omega (arith, below)) has)
 
 -- one more item without one
 pub none_more : (vs : List Json) (v : Json) → items_have_list (items_view vs) ≡ false → has_list (view v) ≡ false

@@ -51,16 +51,16 @@ BreaksBehind text e =
     × (((length es < count) × BreaksEvent v agents (length es + 2) left e)
     ⊎ ((length es ≡ count) × (left ≢ []) × (e ≡ Shape (count + 2))))
 
--- the text is refused with this fault: its header is at fault, or what stands behind it; want of memory tells nothing
+-- the text is refused with this fault: its header is at fault, or what stands behind it; an allocation failure tells nothing
 abbrev pub IsRefused : List ℕ → JournalError → Type 0
 IsRefused text e = BreaksHeader text e ⊎ BreaksBehind text e
 
--- the history, or want of memory
+-- the history, or an allocation failure
 abbrev pub GivesHistory : History → Result History JournalError → Type 0
 GivesHistory h (Ok g) = g ≡ h
 GivesHistory h (Err e) = e ≡ Memory
 
--- A text that reads as a history is refused for want of memory alone.
+-- A text that reads as a history is refused only because memory was refused.
 abbrev pub RefusedReadsAsNone : Type 0
 RefusedReadsAsNone = (text : List ℕ) (h : History) (e : JournalError) →
     e ≢ Memory → IsRefused text e → ¬ ReadsAs text h

@@ -5,7 +5,7 @@ use Rattle.asm_journal.specs.declared.fault.WriteError.{WriteError}
 use Rattle.asm_journal.specs.declared.fault.WriteError.TheVariants.{Output, Memory}
 
 -- the bytes that went out are the first ones of the text, as many as the error says, and not all;
--- none did for want of memory
+-- none did because memory was refused
 abbrev pub Stops : Option (List ℕ) → Option (List ℕ) → List ℕ → WriteError → Type 0
 Stops old new text (Output written) = (written < length text) × Appends old new (take written text)
 Stops old new text Memory = Keeps old new

@@ -17,7 +17,7 @@ use serde_json::{Map, Value as Json};
 use std::alloc::{AllocError, Global};
 
 /// The word of a cause.
-fn word_of(cause: Cause) -> &'static str
+fn word_of_cause(cause: Cause) -> &'static str
     ensures { result.now ≡ word_of_cause cause }
 {
     match cause {
@@ -51,7 +51,7 @@ impl ToJson for Clash {
     ghost json_of = { clash_json_of };
 
     fn to_json(&self, alloc: Global) -> Result<Json, AllocError> {
-        let cause = Json::try_from_str(alloc, word_of(self.cause))?;
+        let cause = Json::try_from_str(alloc, word_of_cause(self.cause))?;
         pair_of(alloc, self.at.to_json(alloc)?, cause)
     }
 }

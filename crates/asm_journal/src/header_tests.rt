@@ -1,5 +1,6 @@
 //! The version of a journal, and journals whose keys stand in another order or between white space.
-use crate::journal_tests::{BLOCKS, fault_of, is_written};
+use crate::fault_tests::fault_of;
+use crate::journal_tests::{BLOCKS, is_written};
 use crate::*;
 use std::alloc::{AllocError, Global};
 use std::test::Fail;
@@ -86,6 +87,39 @@ fn the_version_is_told_before_the_shape(rt: HostRuntime) -> Result<(), Fail> {
     ] {
         let found = fault_of(rt.alloc(), header.as_bytes())?;
         assert!(rt; found == Some(want), "{header}");
+    }
+    Ok(())
+}
+
+/// The first fault of a journal without events that has this opening state, or none.
+fn opening_fault(alloc: Global, init: &str) -> Result<Option<JournalError>, AllocError> {
+    let mut text = String::from_str(
+        alloc,
+        r#"{"agents":0,"capacity":8,"events":0,"version":2,"init":"#,
+    )?;
+    text.push_str(init)?;
+    text.push_str("}\n")?;
+    fault_of(alloc, text.as_str().as_bytes())
+}
+
+#[test]
+fn a_location_stands_once_in_an_opening_state(rt: HostRuntime) -> Result<(), Fail> {
+    for init in [
+        "[]",
+        r#"[[["x"],null],[["y"],null],[["z"],1]]"#,
+        r#"[[["x"],1],[["x",1],null],[["x",2],1]]"#,
+    ] {
+        assert!(rt; opening_fault(rt.alloc(), init)?.is_none(), "{init}");
+    }
+    for init in [
+        r#"[[["x"],1],[["x"],1]]"#,
+        r#"[[["x"],null],[["x"],null]]"#,
+        r#"[[["x"],null],[["x"],1]]"#,
+        r#"[[["x"],1],[["x"],null]]"#,
+        r#"[[["x"],null],[["y"],null],[["z"],1],[["y"],null]]"#,
+    ] {
+        let found = opening_fault(rt.alloc(), init)?;
+        assert!(rt; found == Some(JournalError::Shape(1)), "{init}");
     }
     Ok(())
 }

@@ -26,12 +26,12 @@ pub fn rewritten_reads_back()
     ensures { RewrittenReadsBack }
 {}
 
-/// A text that is refused, for another cause than want of memory, reads as no history.
+/// A text that is refused, for another cause than an allocation failure, reads as no history.
 pub fn refused_reads_as_none()
     ensures { RefusedReadsAsNone }
 {}
 
-/// A text has one first fault at most, want of memory aside, and has one where it reads as no history.
+/// A text has one first fault at most, an allocation failure aside, and has one where it reads as no history.
 pub fn one_fault()
     ensures one { OneFault }
     ensures some { SomeFault }

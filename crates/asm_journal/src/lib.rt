@@ -48,6 +48,8 @@ mod closing_tests;
 #[cfg(test)]
 mod equality_tests;
 #[cfg(test)]
+mod fault_tests;
+#[cfg(test)]
 mod form_tests;
 #[cfg(test)]
 mod header_tests;

@@ -1,7 +1,8 @@
 //! Lists as elements: their forms, and journals of version 2, which has them in each place, and of version 1,
 //! which has none.
+use crate::fault_tests::fault_of;
 use crate::form_tests::{instruction_is, location_is, value_is};
-use crate::journal_tests::{AGENTS, BLOCKS, SAME_VALUE, fault_of, goes_both_ways, is_written};
+use crate::journal_tests::{AGENTS, BLOCKS, SAME_VALUE, goes_both_ways, is_written};
 use crate::*;
 use std::alloc::{AllocError, Global};
 use std::test::Fail;

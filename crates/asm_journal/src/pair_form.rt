@@ -1,6 +1,9 @@
 //! The JSON of states: locations with their values.
-ghost use Rattle.std.specs.Prelude.{◌≡◌, IfOk, map};
+ghost use Rattle.std.specs.Prelude.{◌≡◌, ◌||◌, IfOk, OnOk, is_some, if◌then◌else◌};
+ghost use Rattle.std.specs.Prelude as list;
+ghost use Rattle.std.specs.FinMap as map;
 ghost use Rattle.serde_json.specs.View.{view};
+ghost use Rattle.asm_element.specs.Value.{is_undef};
 ghost use Rattle.asm_journal.specs.Shape.{IsParsed};
 ghost use Rattle.asm_journal.specs.Value.{pair_json_of, IsPairForm, IsStateOf, IsStateForm};
 
@@ -32,18 +35,41 @@ impl FromJson for StatePair {
     }
 }
 
+// Whether a pair of the location was read: a state keeps no undef, so those locations stand beside it.
+fn is_read(state: &PlainState, undefined: &UpdateSet, at: &Location) -> bool
+    ensures { result ≡ (is_some (map.get state.now at.now) || is_some (map.get undefined.now at.now)) }
+{
+    state.get(at).is_some() || undefined.get(at).is_some()
+}
+
+// Notes the location of a value that is undef.
+fn note_undef(
+    alloc: Global,
+    undefined: &mut UpdateSet,
+    at: &Location,
+    value: &Value,
+) -> Result<(), AllocError>
+    ensures { OnOk result (undefined.new ≡
+        if is_undef value.now then map.insert undefined.old at.now value.now else undefined.old) }
+{
+    if value.is_undef() {
+        undefined.put(at.copy(alloc)?, value.copy(alloc)?)?;
+    }
+    Ok(())
+}
+
 /// The state of the pairs, unless a location stands twice.
 fn state_from(alloc: Global, mut pairs: Vec<StatePair>) -> Result<Option<PlainState>, AllocError>
-    ensures { IfOk result (IsParsed IsStateOf (map (λ p. (p.0, p.1)) pairs.items)) }
+    ensures { IfOk result (IsParsed IsStateOf (list.map (λ p. (p.0, p.1)) pairs.items)) }
 {
     let mut state = PlainState::new(alloc);
-    let mut seen = UpdateSet::new(alloc);
+    let mut undefined = UpdateSet::new(alloc);
     while let Some(StatePair(at, value)) = pairs.pop() {
-        if seen.get(&at).is_some() {
+        if is_read(&state, &undefined, &at) {
             return Ok(None);
         }
-        state.set(at.copy(alloc)?, value.copy(alloc)?)?;
-        seen.put(at, value)?;
+        note_undef(alloc, &mut undefined, &at, &value)?;
+        state.set(at, value)?;
     }
     Ok(Some(state))
 }

@@ -25,7 +25,7 @@ fn fired_move(event: &Event) -> Option<&Instructions>
     }
 }
 
-/// Writes each of the updates; after want of memory some of them are written.
+/// Writes each of the updates; after an allocation failure some of them are written.
 fn write_updates(state: &mut PlainState, updates: UpdateSet) -> Result<(), AllocError>
     ensures { OnOk result (state.new ≡ overwrite state.old updates) }
 {

@@ -7,6 +7,7 @@ ghost use Rattle.asm_journal.specs.Set.{IsAmountForm, IsCounted, IsCountForm, Is
 
 use crate::array::{FromJson, ToJson, array_of, pair_of, two_of};
 use crate::listed::Listed;
+use crate::number_form::read_number;
 use crate::object::object_of;
 use asm_element::{ElemBag, ElemSet, Element};
 use asm_update::Amount;
@@ -72,8 +73,7 @@ impl ToJson for ElemBag {
 fn read_amount(json: &Json) -> Option<Amount>
     ensures { IsParsed IsAmountForm (view json.now) result }
 {
-    let number = json.as_u64()?;
-    Amount::new(u32::try_from(number).ok()?)
+    Amount::new(read_number(json)?)
 }
 
 /// An element with its count, or an amount of it.

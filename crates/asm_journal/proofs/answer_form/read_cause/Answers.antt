@@ -4,11 +4,8 @@ use Rattle.serde_json.specs.View.{view}
 use Rattle.asm_update.specs.declared.clash.Cause.{Cause}
 use Rattle.asm_update.specs.declared.clash.Cause.TheVariants as cause
 use Rattle.asm_journal.specs.Event.{IsCauseForm}
-use Rattle.asm_journal.proofs.Arrays.{string_is}
+use Rattle.asm_journal.proofs.Arrays.{string_is, same_text}
 use Rattle.asm_journal.proofs.answer_form.read_cause.Goals as goal
-
-same_text : (s t : List ℕ) → string s ≡ string t → s ≡ t
-same_text s t e = cc
 
 no_word : (d : Data) (s : List ℕ) → d ≡ string s
     → (s ≡ codes "Two" → ⊥) → (s ≡ codes "Mixed" → ⊥) → (s ≡ codes "Kind" → ⊥) → (s ≡ codes "Both" → ⊥)

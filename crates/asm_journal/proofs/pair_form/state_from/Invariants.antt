@@ -2,18 +2,18 @@ use Rattle.std.proofs.Common.{◌≡◌, ◌++◌, List, vec_len}
 use Rattle.asm_element.specs.Place.{Place}
 use Rattle.asm_element.specs.declared.value.Value.{Value}
 use Rattle.asm_journal.specs.Value.{IsStateOf}
-use Rattle.asm_journal.proofs.Gathered.{AreSeen}
+use Rattle.asm_journal.proofs.Gathered.{AreRead}
 use Rattle.asm_journal.proofs.Values.{places_of}
 use Rattle.asm_journal.proofs.pair_form.state_from.Given as goal
 
 abbrev pub decreases-loop-at : goal.decreases-loop-at
 decreases-loop-at l = vec_len l.pairs
 
--- the state is that of the last pairs, and their locations are those that were seen
+-- the state is that of the last pairs, whose locations are those that were read
 abbrev pub invariant-loop-at : goal.invariant-loop-at
 invariant-loop-at l = record {
   done : List (Place × Value);
   whole : places_of l.pairs.items ++ done ≡ places_of l.fn.pairs.items;
   made : IsStateOf l.state done;
-  seen : AreSeen l.seen done;
+  read : AreRead l.state l.undefined done;
 }

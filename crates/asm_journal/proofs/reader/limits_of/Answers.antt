@@ -1,6 +1,5 @@
 use Rattle.std.proofs.Common.{◌≡◌, ℕ, ◌<◌, ◌≤◌, false, refl, sym, subst, ◌∙◌, inl, inr, arith}
 use Rattle.std.specs.Prelude.{◌^◌}
-use Rattle.asm_journal.specs.Shape.{number_json_of}
 use Rattle.asm_journal.specs.Version.{IsVersion}
 use Rattle.asm_journal.proofs.Answered.{true_and_false}
 use Rattle.asm_journal.proofs.Arrays.{same_number}

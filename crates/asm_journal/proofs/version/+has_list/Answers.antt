@@ -1,8 +1,5 @@
-use Rattle.std.proofs.Common.{◌≡◌, List, false, sym, ap, subst, ◌∙◌, arith}
-use Rattle.std.proofs.lemmas.List.{take_all, take_more}
-use Rattle.serde_json.specs.View.{view, items_view}
-use Rattle.serde_json.specs.declared.value.Value.{Value as Json}
-use Rattle.asm_journal.specs.Version.{items_have_list}
+use Rattle.std.proofs.Common.{false, sym, ◌∙◌, arith}
+use Rattle.std.proofs.lemmas.List.{take_more}
 use Rattle.asm_journal.proofs.Versions.{item_tells, none_more, item_is_shallower}
 use Rattle.asm_journal.proofs.version.+has_list.Goals as goal
 
