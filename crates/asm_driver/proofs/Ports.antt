@@ -22,7 +22,7 @@ answered given words i o status text bytes result same written answer writes = (
       written writes,
 )
 
--- want of memory may come wherever something is done
+-- an allocation failure may come wherever something is done
 memory_done : (bytes : List ℕ) (request : Request) → IsNotDone bytes request refusal.Memory
 memory_done bytes (Run capacity asked) = tt
 memory_done bytes Check = tt

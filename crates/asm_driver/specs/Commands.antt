@@ -43,14 +43,14 @@ IsRunText bytes capacity asked text =
     (p : Played) × IsPlayed bytes capacity p × (text ≡ text_of_played asked p)
 
 -- why nothing is written of a played script: the journal is asked for, and the history is beyond a journal's limits;
--- want of memory tells nothing
+-- an allocation failure tells nothing
 abbrev pub IsNoText : Bool → Played → Refusal → Type 0
 IsNoText asked p refusal.Unfit = (asked ≡ true) × ¬ Fits p.history
 IsNoText asked p refusal.Memory = Unit {0}
 IsNoText asked p r = ⊥
 
 -- why these bytes aren't played: they are no script; the capacity is out of range; a thread couldn't be started, or a
--- move has no receipt; what was played has no text; want of memory tells nothing
+-- move has no receipt; what was played has no text; an allocation failure tells nothing
 abbrev pub IsNoRun : List ℕ → ℕ → Bool → Refusal → Type 0
 IsNoRun bytes capacity asked (refusal.BadScript cause) = IsRefusedScript bytes (BadScript cause)
 IsNoRun bytes capacity asked refusal.Words = IsScript bytes × IsNoCapacity capacity
@@ -86,7 +86,7 @@ IsRewrite bytes text = (h : History) × journal.ReadsAs bytes h × (text ≡ tex
 
 -- ---- check and rewrite
 
--- why these bytes are neither checked nor rewritten: they are no journal; want of memory tells nothing
+-- why these bytes are neither checked nor rewritten: they are no journal; an allocation failure tells nothing
 abbrev pub IsNoJournal : List ℕ → Refusal → Type 0
 IsNoJournal bytes (refusal.BadJournal e) = (e ≢ journal_error.Memory) × fault.IsRefused bytes e
 IsNoJournal bytes refusal.Memory = Unit {0}

@@ -62,7 +62,7 @@ cause_line Blocks = line (codes "bad script: blocks")
 cause_line Instructions = line (codes "bad script: instructions")
 cause_line Reads = line (codes "bad script: reads")
 
--- the line for want of memory
+-- the line for an allocation failure
 abbrev pub memory_line : List ℕ
 memory_line = line (codes "out of memory")
 

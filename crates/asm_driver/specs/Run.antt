@@ -101,7 +101,7 @@ pub record IsCut (o : Output) (text : List ℕ) : Type 0 where
 abbrev pub Writes : Output → ℕ → List ℕ → ℕ → Type 0
 Writes o status text result = ((result ≡ status) × WentOut o text) ⊎ ((result ≡ 4) × IsCut o text)
 
--- the refusal that is shown: where there is no memory for the number in its line, want of memory is shown
+-- the refusal that is shown: where there is no memory for the number in its line, an allocation failure is shown
 abbrev pub IsShown : Refusal → Refusal → Type 0
 IsShown r shown = (shown ≡ r) ⊎ ((shown ≡ refusal.Memory) × (has_number r ≡ true))
 

@@ -66,7 +66,7 @@ agent_faults steps = flat_map step_faults steps
 abbrev pub faults : List (List Step) → List ScriptCause
 faults agents = when (nat_lt 256 (length agents)) Agents ++ flat_map agent_faults agents
 
--- the error is the first of these faults; want of memory tells nothing
+-- the error is the first of these faults; an allocation failure tells nothing
 abbrev pub IsFirst : List ScriptCause → ScriptError → Type 0
 IsFirst causes (BadScript cause) = (rest : List ScriptCause) × (causes ≡ cause ∷ rest)
 IsFirst causes Memory = Unit {0}
@@ -90,12 +90,12 @@ IsRefusedScript bytes (BadScript cause) =
     ⊎ ((w : Written) × HasForm bytes w × IsFirst (faults w.agents) (BadScript cause))
 IsRefusedScript bytes Memory = Unit {0}
 
--- the bytes are not JSON; want of memory tells nothing
+-- the bytes are not JSON; an allocation failure tells nothing
 abbrev pub IsNotJson : List ℕ → ScriptError → Type 0
 IsNotJson bytes (BadScript cause) = (cause ≡ NotJson) × ((d : Data) → ¬ IsJson bytes d)
 IsNotJson bytes Memory = Unit {0}
 
--- the error is that of a block that is too long; want of memory tells nothing
+-- the error is that of a block that is too long; an allocation failure tells nothing
 abbrev pub IsLong : Bool → ScriptError → Type 0
 IsLong long (BadScript cause) = (cause ≡ Instructions) × (long ≡ true)
 IsLong long Memory = Unit {0}

@@ -50,7 +50,7 @@ locations_in (term.Value v) = []
 locations_in (Val l) = l ∷ []
 locations_in (Sum' p a q b) = locations_in a ++ locations_in b
 
--- the answer is what there is, or the fault where there is nothing; want of memory tells nothing
+-- the answer is what there is, or the fault where there is nothing; an allocation failure tells nothing
 abbrev pub IsEvaluated : {X : Type 0} → Option X → Result X TermFault → Type 0
 IsEvaluated there (Ok x) = there ≡ Some x
 IsEvaluated there (Err Faulty) = there ≡ None

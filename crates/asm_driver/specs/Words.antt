@@ -98,7 +98,7 @@ HasMistake words =
     ((k : ErrorKind) × IsAmong k (faults words) × ¬ (k ≡ kind.DisplayHelp))
     ⊎ ((faults words ≡ []) × IsNoCommand (subcommand_of program words))
 
--- why the words are refused; want of memory tells nothing
+-- why the words are refused; an allocation failure tells nothing
 abbrev pub IsRefusal : Words → WordsError → Type 0
 IsRefusal words (Help text) = AsksForHelp words
 IsRefusal words Bad = HasMistake words

@@ -10,12 +10,12 @@ GivesEach gives (j ∷ jobs) (x ∷ done) = gives j x × GivesEach gives jobs do
 GivesEach gives [] (x ∷ done) = ⊥
 GivesEach gives (j ∷ jobs) [] = ⊥
 
--- the fault that is told of two: a missing thread before want of memory
+-- the fault that is told of two: a missing thread before an allocation failure
 abbrev pub told_first : Fault → Fault → Fault
 told_first NoThread _ = NoThread
 told_first Memory other = other
 
--- the fault that is told of two halves: that of one, the first to be told of two, and want of memory where there is
+-- the fault that is told of two halves: that of one, the first to be told of two, and an allocation failure where there is
 -- none, as what both gave was to be put together
 abbrev pub fault_of_both : {X Y : Type 0} → Result X Fault → Result Y Fault → Fault
 fault_of_both (Ok x) (Ok y) = Memory

@@ -105,7 +105,7 @@ impl Block {
     }
 
     /// The same block, kept as its instructions where all its terms are written out, so that
-    /// evaluation shares them. The error is want of memory.
+    /// evaluation shares them. `AllocError` comes only where memory was refused.
     pub(crate) fn prepared(self, alloc: Global) -> Result<Block, AllocError>
         ensures { IfOk result (λ b. b ≡ self) }
     {

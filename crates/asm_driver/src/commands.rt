@@ -10,7 +10,7 @@ use crate::outcome::Played;
 use crate::parsing::parse_script;
 use crate::play::run_script;
 use crate::refusal::Refusal;
-use crate::report::report;
+use crate::reporting::report;
 use crate::words::Request;
 use asm_journal::{Legality, check, from_text, to_text};
 use std::alloc::{AllocError, Global};

@@ -2,7 +2,7 @@ use crate::gate::{Gate, Open};
 use crate::outcome::{Outcome, Played, RunError};
 use crate::parsing::parse_script;
 use crate::play::run_script;
-use crate::report::report;
+use crate::reporting::report;
 use crate::script::Script;
 use asm_aggregate::standard;
 use asm_element::{Element, Location, Value};
@@ -286,7 +286,7 @@ fn mixed_script(alloc: Global) -> Result<Script, Fail> {
 }
 
 /// The journal of a run of the script.
-pub(crate) fn journal_of<R: Threads + Wait + Sync>(
+fn journal_of<R: Threads + Wait + Sync>(
     rt: &R,
     alloc: Global,
     script: &Script,
@@ -300,7 +300,7 @@ pub(crate) fn journal_of<R: Threads + Wait + Sync>(
 }
 
 /// The numbers of calls and of moves of a legal journal.
-pub(crate) fn legal_calls(alloc: Global, journal: &str) -> Result<(u64, u32), Fail> {
+fn legal_calls(alloc: Global, journal: &str) -> Result<(u64, u32), Fail> {
     let history = from_text(alloc, journal.as_bytes())?;
     match check(alloc, &standard(), &history)? {
         Legality::Legal { calls, moves } => Ok((calls, moves)),

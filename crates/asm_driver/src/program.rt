@@ -71,7 +71,7 @@ fn write_out<K: Sink>(output: &mut K, text: &[u8], status: u8) -> u8
     }
 }
 
-// Writes the line of the refusal, or where there is no memory for it, that for want of memory. Gives the status.
+// Writes the line of the refusal, or where there is no memory for it, that for an allocation failure. Gives the status.
 fn refuse<K: Sink>(alloc: Global, output: &mut K, refusal: Refusal) -> u8
     requires { K.failed output.old ≡ false }
     ensures same_reference { K.lender output.new ≡ K.lender output.old }
@@ -138,7 +138,7 @@ pub fn run_noted<T: Threads + Wait + Sync, S: Source, K: Sink>(
 /// is asked for has status 0.
 ///
 /// Otherwise one line tells why: status 1 for a fired move without a receipt, 2 for words, a size, a script
-/// or a journal that is refused, 3 for want of memory or a thread that couldn't be started, 4 for a failed
+/// or a journal that is refused, 3 for an allocation failure or a thread that couldn't be started, 4 for a failed
 /// read. Where a write or the flush fails the status is 4, and what went out is the first part of the
 /// text. Faults are found in this order: words, input, script or journal, the command, output.
 pub fn run_main<T: Threads + Wait + Sync, R: Read, W: Write>(
@@ -174,7 +174,7 @@ fn refusal_of_kind(kind: ErrorKind) -> Refusal
 }
 
 /// As `run_main`, with the words as the system gives them: where one of them isn't UTF-8 they are
-/// refused as words, and for want of memory as that.
+/// refused as words, and for an allocation failure as that.
 pub fn run_given<T: Threads + Wait + Sync, R: Read, W: Write>(
     rt: &T,
     alloc: Global,

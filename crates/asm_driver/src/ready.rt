@@ -77,7 +77,7 @@ fn ready_instruction(instruction: TermInstruction) -> Option<Instruction>
     Some(Instruction { at, action })
 }
 
-/// The instructions without terms that these are in each state. The error is want of memory.
+/// The instructions without terms that these are in each state. `AllocError` comes only where memory was refused.
 pub(crate) fn ready_instructions(
     alloc: Global,
     instructions: Vec<TermInstruction>,

@@ -2,7 +2,6 @@
 use crate::block::{Block, Form};
 use crate::step::StepFault;
 use crate::step_tests::{are_named, block_of, fault_of, first_step, gives, has_move, script_of};
-use crate::tests::{RUN, first_wrong};
 use std::alloc::Global;
 use std::test::Fail;
 
@@ -181,32 +180,5 @@ fn the_first_fault_is_told(rt: HostRuntime) -> Result<(), Fail> {
     ] {
         assert!(rt; stops_at_a_term(rt.alloc(), step)? == term, "{step}");
     }
-    Ok(())
-}
-
-static SCRIPTS: [(&str, &str); 2] = [
-    (
-        r#"{"init":[[["n"],1]],"agents":[[[[["put",["x"],1],["inc",["n"],1]]],[[["put",["y"],{"val":["n"]}]]],
-[[["put",["x"],1],["inc",["n"],1]]],[[["add",["s"],{"set":[1]}]]],[[["put",["x"],2],["put",["x"],3]]]]]}"#,
-        r#"[["n"],3]
-[["x"],1]
-[["y"],2]
-moves 3
-agent 0 step 3 term
-agent 0 step 4 clash ["x"] Two
-"#,
-    ),
-    (
-        r#"{"init":[],"agents":[[[[["put",["x"],{"set":[1]}],["put",["x"],{"set":[1]}]]]],[[[],[["put",["y"],7]]]]]}"#,
-        r#"[["x"],{"set":[1]}]
-[["y"],7]
-moves 2
-"#,
-    ),
-];
-
-#[test]
-fn reports_of_ready_blocks(rt: HostRuntime) -> Result<(), Fail> {
-    assert_eq!(rt; first_wrong(&rt, rt.alloc(), &RUN, 0, &SCRIPTS)?, None);
     Ok(())
 }

@@ -7,7 +7,7 @@ use crate::term::TermFault;
 use std::alloc::{AllocError, Global};
 use std::test::Fail;
 
-/// Whether the text is refused for this cause, or read where there is none. The error is want of memory.
+/// Whether the text is refused for this cause, or read where there is none. `AllocError` comes only where memory was refused.
 fn is_judged(alloc: Global, text: &str, cause: Option<ScriptCause>) -> Result<bool, AllocError> {
     match parse_script(alloc, text.as_bytes()).err() {
         Some(ScriptError::BadScript(found)) => Ok(cause == Some(found)),

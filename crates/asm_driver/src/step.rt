@@ -233,7 +233,7 @@ fn take_targets(alloc: Global, block: &Block, places: &mut Vec<Location>) -> Res
     }
 }
 
-/// The locations that the step of these blocks reads. The error is want of memory.
+/// The locations that the step of these blocks reads. `AllocError` comes only where memory was refused.
 fn gathered_reads(
     alloc: Global,
     earlier: &[Block],
@@ -286,7 +286,7 @@ fn next_frame<A: Aggregator, L: Lookup>(
     }
 }
 
-/// Puts a frame on top of fewer than 64. The error is want of memory.
+/// Puts a frame on top of fewer than 64. `AllocError` comes only where memory was refused.
 fn push_frame(overlay: &mut Overlay, frame: UpdateSet) -> Result<(), StepFault>
     requires { length overlay.old < 64 }
     ensures ok { OnOk result (overlay.new ≡ overlay.old ++ frame ∷ []) }

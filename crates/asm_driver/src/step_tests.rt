@@ -175,7 +175,7 @@ fn a_lone_block_may_clash_when_it_is_fired(rt: HostRuntime) -> Result<(), Fail> 
     Ok(())
 }
 
-/// Why the first step of the script has no move on its opening state. The error is want of memory.
+/// Why the first step of the script has no move on its opening state. `AllocError` comes only where memory was refused.
 pub(crate) fn fault_of(alloc: Global, script: &Script) -> Result<Option<StepFault>, AllocError> {
     let Some(step) = first_step(script) else {
         return Ok(None);

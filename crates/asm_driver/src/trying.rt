@@ -186,7 +186,7 @@ impl<'a, A: Aggregator + Sync + Drop, P: Passage> Player<'a, A, P> {
         Ok(Outcome::GaveUp)
     }
 
-    /// Plays each of the steps. The error is want of memory.
+    /// Plays each of the steps. `AllocError` comes only where memory was refused.
     pub(crate) fn play<'s, R: Wait>(
         &self,
         rt: &R,

@@ -131,7 +131,7 @@ fn refusal(alloc: Global, error: &Error) -> WordsError
 
 /// What the words ask for. They begin with the program's name.
 ///
-/// Words that `clap` takes are refused for want of memory alone. `Help` comes where they ask for
+/// Words that `clap` takes are refused only because memory was refused. `Help` comes where they ask for
 /// help, and `Bad` where they are not the program's name, a command and its options.
 pub fn read_words(alloc: Global, words: &[String]) -> Result<Request, WordsError>
     ensures asked { IfOk result (AsksFor (map string_bytes words.now)) }

@@ -17,7 +17,7 @@ pub trait Task<J, X>: Sync {
     /// What a job may give.
     ghost gives: { Self → J → X → Type 0 };
 
-    /// Does the job. The error is want of memory.
+    /// Does the job. `AllocError` comes only where memory was refused.
     fn run<R: Wait>(&self, rt: &R, job: J) -> Result<X, AllocError>
         ensures { IfOk result (λ x. gives self.now job x) };
 }
@@ -48,7 +48,7 @@ impl<T: Drop> From<AllocFailed<T>> for Fault {
 }
 
 impl Fault {
-    // The fault of two that is told: a missing thread goes before want of memory.
+    // The fault of two that is told: a missing thread goes before an allocation failure.
     fn first(self, other: Fault) -> Fault
         ensures { result ≡ told_first self other }
     {

@@ -1,5 +1,5 @@
 //! Scripts of counters, through the whole program.
-use crate::tests::{CHECK, JOURNAL, RUN, ends, first_wrong, run, script_of};
+use crate::running::{CHECK, JOURNAL, RUN, ends, first_wrong, run, script_of};
 use std::test::Fail;
 
 static COUNTERS: [(&str, &str); 7] = [

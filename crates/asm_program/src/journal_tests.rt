@@ -1,10 +1,8 @@
 //! Journals that are cut, altered or written to an output that fails.
+use crate::check_tests::{SEQUENCE, SEQUENCE_JOURNAL, SEQUENCE_JOURNAL_1};
 use crate::port_tests::Short;
-use crate::program::run_main;
-use crate::tests::{
-    CHECK, JOURNAL, REWRITE, SEQUENCE, SEQUENCE_JOURNAL, SEQUENCE_JOURNAL_1, ends, first_wrong,
-    words_of,
-};
+use crate::running::{CHECK, JOURNAL, REWRITE, ends, first_wrong, words_of};
+use asm_driver::run_main;
 use std::alloc::{AllocError, Global};
 use std::sync::Wait;
 use std::test::Fail;
@@ -129,7 +127,7 @@ fn a_full_storage_has_as_many_moves_as_it_takes(rt: HostRuntime) -> Result<(), F
 }
 
 /// Whether the program with these words and this input, when its output fails or takes nothing after so many bytes, or
-/// when its flush fails, ends with status 4, and these bytes of the journal went out. The error is want of memory: its
+/// when its flush fails, ends with status 4, and these bytes of the journal went out. The error is an allocation failure: its
 /// line begins otherwise than a journal.
 fn ends_after<T: Threads + Wait + Sync>(
     rt: &T,

@@ -1,7 +1,7 @@
 use Rattle.std.proofs.Common.{string_bytes, ◌++◌, ◌∙◌, ap}
 use Rattle.asm_driver.specs.Report.{agent_lines}
 use Rattle.asm_driver.proofs.Lines.{numbered_more}
-use Rattle.asm_driver.proofs.report.push_outcomes.Goals as goal
+use Rattle.asm_driver.proofs.reporting.push_outcomes.Goals as goal
 
 pub loop-agent-preserved : goal.loop-agent-preserved
 loop-agent-preserved c =

@@ -6,7 +6,7 @@ use Rattle.asm_journal.specs.Value.{pair_json_of}
 use Rattle.asm_driver.specs.Report.{entry_line}
 use Rattle.asm_driver.proofs.Lines.{left_more}
 use Rattle.asm_journal.proofs.Floats.{pair_no_float}
-use Rattle.asm_driver.proofs.report.push_state.Goals as goal
+use Rattle.asm_driver.proofs.reporting.push_state.Goals as goal
 
 pub push_json-requires : goal.push_json-requires
 push_json-requires c = rw c.in_ok-pair_json.ensures (pair_no_float (c.in-Some.location.now, c.in-Some.value.now))

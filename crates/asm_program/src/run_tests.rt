@@ -1,5 +1,5 @@
-//! Scripts of long blocks, of nested lists and with small capacities, through the whole program.
-use crate::tests::{CHECK, JOURNAL, RUN, SUM_STEP, ends, run, script_of};
+//! Scripts of long and of ready blocks, of nested lists and with small capacities, through the whole program.
+use crate::running::{CHECK, JOURNAL, RUN, SUM_STEP, ends, first_wrong, run, script_of};
 use std::alloc::{AllocError, Global};
 use std::sync::Wait;
 use std::test::Fail;
@@ -85,7 +85,7 @@ fn calls_of(line: &[u8], moves: &str) -> Option<u64> {
 }
 
 /// How many calls the journal of the script has, which is legal and has so many moves.
-fn calls_in_journal<T: Threads + Wait + Sync>(
+pub(crate) fn calls_in_journal<T: Threads + Wait + Sync>(
     rt: &T,
     alloc: Global,
     script: &str,
@@ -135,5 +135,32 @@ fn is_refused_nested<T: Threads + Wait + Sync>(
 fn lists_that_are_nested_deep(rt: HostRuntime) -> Result<(), Fail> {
     assert!(rt; is_refused_nested(&rt, rt.alloc(), 128, "bad script: not JSON\n")?);
     assert!(rt; is_refused_nested(&rt, rt.alloc(), 127, "bad script: shape\n")?);
+    Ok(())
+}
+
+static READY_BLOCKS: [(&str, &str); 2] = [
+    (
+        r#"{"init":[[["n"],1]],"agents":[[[[["put",["x"],1],["inc",["n"],1]]],[[["put",["y"],{"val":["n"]}]]],
+[[["put",["x"],1],["inc",["n"],1]]],[[["add",["s"],{"set":[1]}]]],[[["put",["x"],2],["put",["x"],3]]]]]}"#,
+        r#"[["n"],3]
+[["x"],1]
+[["y"],2]
+moves 3
+agent 0 step 3 term
+agent 0 step 4 clash ["x"] Two
+"#,
+    ),
+    (
+        r#"{"init":[],"agents":[[[[["put",["x"],{"set":[1]}],["put",["x"],{"set":[1]}]]]],[[[],[["put",["y"],7]]]]]}"#,
+        r#"[["x"],{"set":[1]}]
+[["y"],7]
+moves 2
+"#,
+    ),
+];
+
+#[test]
+fn reports_of_ready_blocks(rt: HostRuntime) -> Result<(), Fail> {
+    assert_eq!(rt; first_wrong(&rt, rt.alloc(), &RUN, 0, &READY_BLOCKS)?, None);
     Ok(())
 }

@@ -1,8 +1,6 @@
 //! Journals that are rewritten, through the whole program.
-use crate::tests::{
-    CHECK, ILLEGAL, LEGAL, NO_JOURNALS, REWRITE, SEQUENCE_JOURNAL, SEQUENCE_JOURNAL_1, first_wrong,
-    run,
-};
+use crate::check_tests::{ILLEGAL, LEGAL, NO_JOURNALS, SEQUENCE_JOURNAL, SEQUENCE_JOURNAL_1};
+use crate::running::{CHECK, REWRITE, first_wrong, run};
 use std::alloc::{AllocError, Global};
 use std::sync::Wait;
 use std::test::Fail;

@@ -1,7 +1,7 @@
 use Rattle.std.proofs.Common.{string_bytes}
 use Rattle.asm_driver.specs.Report.{outcome_line}
 use Rattle.asm_driver.proofs.Lines.{numbered_more}
-use Rattle.asm_driver.proofs.report.push_agent.Goals as goal
+use Rattle.asm_driver.proofs.reporting.push_agent.Goals as goal
 
 pub loop-step-preserved : goal.loop-step-preserved
 loop-step-preserved c =

@@ -1,6 +1,6 @@
 //! Words that are refused, and those that ask for help.
-use crate::program::run_given;
-use crate::tests::{ONE_PUT, ends};
+use crate::running::{ONE_PUT, ends};
+use asm_driver::run_given;
 use std::io;
 use std::io::ErrorKind;
 use std::test::Fail;

@@ -1,5 +1,5 @@
 //! Lists as elements, through the whole program.
-use crate::tests::{CHECK, JOURNAL, REWRITE, RUN, ends, first_wrong, run};
+use crate::running::{CHECK, JOURNAL, REWRITE, RUN, ends, first_wrong, run};
 use std::alloc::{AllocError, Global};
 use std::sync::Wait;
 use std::test::Fail;

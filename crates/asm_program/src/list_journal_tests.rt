@@ -1,6 +1,6 @@
 //! Journals with a list in each place where an element stands, in both versions, through the whole program.
 use crate::list_tests::{DEEP, TOO_DEEP};
-use crate::tests::{CHECK, REWRITE, ends};
+use crate::running::{CHECK, REWRITE, ends};
 use std::alloc::{AllocError, Global};
 use std::sync::Wait;
 use std::test::Fail;

@@ -1,5 +1,5 @@
 //! The scripts of the folder `examples`, each with the report that stands beside it: the same texts, letter for letter.
-use crate::tests::{RUN, first_wrong};
+use crate::running::{RUN, first_wrong};
 use std::test::Fail;
 
 static EXAMPLES: [(&str, &str); 6] = [

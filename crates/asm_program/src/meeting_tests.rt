@@ -1,8 +1,6 @@
 //! Many agents that wait for one another at their first calls.
-use crate::gate::Gate;
-use crate::parsing::parse_script;
-use crate::play::run_script;
-use crate::tests::script_of;
+use crate::running::script_of;
+use asm_driver::{Gate, parse_script, run_script};
 use std::alloc::Global;
 use std::sync::Wait;
 use std::sync::atomic::{AtomicU64, Ordering};

@@ -1,6 +1,6 @@
 //! The program over inputs and outputs that are slow, long or failing.
-use crate::program::run_main;
-use crate::tests::words_of;
+use crate::running::words_of;
+use asm_driver::run_main;
 use std::alloc::{AllocError, Global};
 use std::io;
 use std::io::{ErrorKind, Read, Write};
@@ -14,7 +14,7 @@ const ONE_PUT_REPORT: &str = r#"[["x"],1]
 moves 1
 "#;
 
-/// The program's status with this word, over an input and an output. The error is want of memory, of which the
+/// The program's status with this word, over an input and an output. The error is an allocation failure, of which the
 /// program tells.
 fn status_of<T: Threads + Wait + Sync, R: Read, W: Write>(
     rt: &T,
@@ -262,7 +262,7 @@ impl Write for Short {
 }
 
 /// Whether over an output with so much room, which fails then, or whose flush fails, the program ends with status 4
-/// after so many calls of the output, which has the text. The error is want of memory: its line begins otherwise than a
+/// after so many calls of the output, which has the text. The error is an allocation failure: its line begins otherwise than a
 /// report.
 fn fails_over<T: Threads + Wait + Sync>(
     rt: &T,

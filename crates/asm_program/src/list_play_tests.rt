@@ -1,8 +1,7 @@
 //! Agents on eight threads that put, add and read lists on one storage.
 use crate::list_tests::DEEP;
-use crate::parsing::parse_script;
-use crate::play_tests::{journal_of, legal_calls};
-use crate::tests::{RUN, run};
+use crate::run_tests::calls_in_journal;
+use crate::running::{RUN, run};
 use std::alloc::{AllocError, Global};
 use std::test::Fail;
 
@@ -67,11 +66,8 @@ fn text_of_lists(alloc: Global) -> Result<String, AllocError> {
 fn lists_of_eight_threads_leave_a_legal_journal(rt: HostRuntime) -> Result<(), Fail> {
     let alloc = rt.alloc();
     let text = text_of_lists(alloc)?;
-    let script = parse_script(alloc, text.as_bytes())?;
-    let journal = journal_of(&rt, alloc, &script)?;
-    let (calls, moves) = legal_calls(alloc, journal.as_str())?;
-    assert!(rt; calls >= 1000);
-    assert_eq!(rt; moves, 800);
+    let calls = calls_in_journal(&rt, alloc, text.as_str(), "800")?;
+    assert!(rt; calls.is_some_and(|count| count >= 1000));
     Ok(())
 }
 
