@@ -18,8 +18,8 @@
  *    overlap, and neither lies in a slot. With a length of 0 the pointer may be null. No text has a
  *    zero byte at its end.
  *  - Storages. asm_learn takes two agents of one storage, and asm_give an agent of the storage:
- *    ASM_OTHER tells a mistake, but not surely where another thread makes the same mistake with the
- *    same two storages at that moment.
+ *    ASM_OTHER tells a mistake, but not surely while other threads are in asm_learn or asm_give on
+ *    both storages.
  *  - malloc, realloc and free are of one allocator, and malloc aligns a block to each power of two
  *    up to 16 that divides its size.
  *
@@ -62,8 +62,8 @@
  *        asm_journal(&storage, text, sizeof text, &written);
  *    asm_free(&storage);
  *
- * Link with the archive libasm_c.a, which `rt lib` in crates/asm_c leaves in its folder out/, and
- * with liblibc_c.a of the toolchain. */
+ * bindings/c/example.c is a whole program, with an agent on each of eight threads. Link with
+ * libfolugben.a or libfolugben.so, which ./build_c makes; both need the C library alone. */
 #ifndef FOLUGBEN_H
 #define FOLUGBEN_H
 
@@ -155,7 +155,7 @@ int32_t asm_answer(asm_slot *agent, uint8_t *out, size_t room, size_t *written);
 
 /* Takes in what the other agent of the same storage has seen, so that what the agent is answered
  * from then on comes after all that the other was answered before. Neither slot may be in another
- * call. ASM_EMPTY (one of the slots), ASM_OTHER, ASM_MEMORY. */
+ * call. ASM_EMPTY (one of the slots), ASM_OTHER. */
 int32_t asm_learn(asm_slot *agent, asm_slot *other);
 
 /* How many moves the agent has seen, how many it fired, and how many of its looks found no further

@@ -60,7 +60,3 @@ AreNew s slots = (k : ℕ) (d : Slot) → k < length slots →
 -- no slot holds anything
 abbrev pub AreEmpty : List Slot → Type 0
 AreEmpty slots = (k : ℕ) (d : Slot) → k < length slots → (slice_index_or slots k d).handle.value ≡ None
-
--- one of the slots holds something
-abbrev pub AreNotEmpty : List Slot → Type 0
-AreNotEmpty slots = ¬ AreEmpty slots

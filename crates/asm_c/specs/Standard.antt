@@ -18,6 +18,6 @@ Standard = Pair (Pair SetAgg BagAgg) CountAgg
 abbrev pub meaning : Standard → Meaning
 meaning _ = pair_meaning (pair_meaning set_meaning bag_meaning) count_meaning
 
--- and how a move fires by them
+-- how a move fires by what they compute
 abbrev pub part : Part
 part = (pair_meaning (pair_meaning set_meaning bag_meaning) count_meaning).part

@@ -1,13 +1,12 @@
 //! The calls of an agent that owns a share of its storage.
 ghost use Rattle.std.specs.Prelude.{◌≡◌, ◌↔◌, ◌<◌, length, IfOk, OnErr, IfErr, IsErrOf, option_map, string_bytes};
 ghost use Rattle.std_alloc.specs.Arc.{arc_value};
-ghost use mathlib.Core.List.{IsPrefix};
 ghost use Rattle.asm_storage.specs.declared.error.FireError.TheVariants.{ManyReads};
 ghost use Rattle.asm_storage.specs.declared.error.ReadError.TheVariants.{ManyLocations};
-ghost use Rattle.asm_storage.specs.Storage.{at_start, has_seen, IsSameAgent};
+ghost use Rattle.asm_storage.specs.Storage.{at_start, IsSameAgent};
 ghost use Rattle.asm_storage.specs.Calls.{IsAnswered, IsBusy, IsRead};
 ghost use Rattle.asm_c.specs.Standard.{meaning};
-ghost use Rattle.asm_c.specs.Calls.{HasLooked, TellsLast};
+ghost use Rattle.asm_c.specs.Calls.{HasLearnt, HasLooked, TellsLast};
 
 use crate::place::Place;
 use crate::sharing::{Shared, Standard};
@@ -124,30 +123,27 @@ impl Place {
     }
 
     /// A mark of what it has seen.
-    pub(crate) fn mark(self, alloc: Global) -> (Place, Result<Mark, AllocError>)
+    pub(crate) fn mark(self, alloc: Global) -> (Place, Mark)
         ensures same { result.0 ≡ self }
-        ensures mark { IfOk result.1
-            (λ m. m ≡ record { row = self.storage.row; seen = self.account.seen }) }
+        ensures mark { result.1 ≡ record { row = self.storage.row; seen = self.account.seen } }
     {
         let Place { shared, part } = self;
         let agent = Agent::of(&shared.storage, part);
-        let mark = agent.mark(alloc);
+        let mark = agent.mark(alloc).unwrap();
         let part = agent.into_part();
         (Place { shared, part }, mark)
     }
 
     /// Takes in what the mark holds.
-    pub(crate) fn learn(self, alloc: Global, mark: &Mark) -> (Place, Result<(), AllocError>)
+    pub(crate) fn learn(self, alloc: Global, mark: &Mark) -> Place
         requires { mark.now.row ≡ self.storage.row }
-        ensures kept { result.0 ≡ has_seen self result.0.account.seen }
-        ensures mine { IsPrefix self.account.seen result.0.account.seen }
-        ensures theirs { IsPrefix mark.now.seen result.0.account.seen }
+        ensures { HasLearnt mark.now.seen self result }
     {
         let Place { shared, part } = self;
         let mut agent = Agent::of(&shared.storage, part);
-        let learnt = agent.learn(alloc, mark);
+        agent.learn(alloc, mark).unwrap();
         let part = agent.into_part();
-        (Place { shared, part }, learnt)
+        Place { shared, part }
     }
 
     /// The text of the answer to its last answered call.

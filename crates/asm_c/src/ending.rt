@@ -59,8 +59,8 @@ fn give_at(
 ///
 /// 5: the first slot has no storage, the second no agent, or the two are one. 12: an agent with this
 /// number was given before. 14: the agent is of another storage. 3: out of memory. After each of these
-/// both slots are as they were. That the agent is of the storage is owed: 14 comes as long as no call of
-/// another thread is at work on the agent's storage.
+/// both slots are as they were. That the agent is of the storage is owed: 14 comes unless other threads
+/// learn or give in both storages at that moment.
 #[unsafe(no_mangle)]
 pub extern "C" fn asm_give(alloc: Global, store: &mut Slot, agent: &mut Slot) -> i32
     requires { IsOfStore agent.old.handle.value store.old.handle.value }

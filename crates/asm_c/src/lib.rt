@@ -11,6 +11,8 @@ mod ending;
 mod giving;
 mod handle;
 mod held;
+#[cfg(test)]
+mod journal_tests;
 mod journals;
 mod knowing;
 mod loose;
@@ -18,7 +20,13 @@ mod opening;
 mod parsing;
 mod place;
 mod playing;
+#[cfg(test)]
+mod playing_tests;
 mod sharing;
 mod slot;
+#[cfg(test)]
+mod slot_tests;
 mod store;
 mod taking;
+#[cfg(test)]
+mod trying;

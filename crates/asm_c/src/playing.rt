@@ -1,5 +1,6 @@
 //! Reading, firing, and the answers to both.
 ghost use Rattle.std.specs.Prelude.{◌≡◌, ◌≢◌, ◌∷◌, [], pos, slice_range, length};
+ghost use Rattle.asm_storage.specs.Storage.{IsSameAgent};
 ghost use Rattle.asm_c.specs.Calls.{HasFired, HasLooked, HasRead, IsLastAnswer, IsReplyCode, WasBusy};
 ghost use Rattle.asm_c.specs.Calls.{code_of, number_of};
 ghost use Rattle.asm_c.specs.Codes.{IsOneOf};
@@ -18,6 +19,7 @@ fn read_at(alloc: Global, agent: &mut Slot, held: Box<Held>, place: Place, place
     ensures codes { IsOneOf (0 ∷ 3 ∷ 9 ∷ 16 ∷ 17 ∷ []) result }
     ensures answered { result ≡ pos 0 → Holds agent.new.handle.value (HasRead places.now place) }
     ensures refused { result ≢ pos 0 → Holds agent.new.handle.value (HasLooked place) }
+    ensures same { Holds agent.new.handle.value (IsSameAgent place) }
 {
     let places = match places_of(alloc, places) {
         Ok(places) => places,
@@ -46,6 +48,7 @@ pub extern "C" fn asm_read(alloc: Global, agent: &mut Slot, places: &[u8]) -> i3
         Goes agent.old.handle.value agent.new.handle.value (HasRead places.now) }
     ensures refused { IsOneOf (3 ∷ 9 ∷ 16 ∷ 17 ∷ []) result →
         Goes agent.old.handle.value agent.new.handle.value HasLooked }
+    ensures same { result ≢ pos 5 → Goes agent.old.handle.value agent.new.handle.value IsSameAgent }
     ensures empty { result ≡ pos 5 → HoldsNoAgent agent.old.handle.value }
     ensures kept { result ≡ pos 5 → agent.new.handle.value ≡ agent.old.handle.value }
 {
@@ -97,6 +100,7 @@ fn fire_at(
     ensures refused { IsOneOf (3 ∷ 8 ∷ 9 ∷ 16 ∷ 17 ∷ []) result → Holds agent.new.handle.value (HasLooked place) }
     ensures busy { result ≡ pos 8 →
         Holds agent.new.handle.value (WasBusy numbers.new.from numbers.new.to place) }
+    ensures same { Holds agent.new.handle.value (IsSameAgent place) }
 {
     let fire = match fire_of(alloc, call) {
         Ok(fire) => fire,
@@ -140,6 +144,7 @@ pub extern "C" fn asm_try_fire(
         Goes agent.old.handle.value agent.new.handle.value HasLooked }
     ensures busy { result ≡ pos 8 → Goes agent.old.handle.value agent.new.handle.value
         (WasBusy numbers.new.from numbers.new.to) }
+    ensures same { result ≢ pos 5 → Goes agent.old.handle.value agent.new.handle.value IsSameAgent }
     ensures empty { result ≡ pos 5 → HoldsNoAgent agent.old.handle.value }
     ensures kept { result ≡ pos 5 → agent.new.handle.value ≡ agent.old.handle.value }
 {

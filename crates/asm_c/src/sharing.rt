@@ -14,15 +14,20 @@ pub struct Shared {
     pub(crate) count: AtomicU64,
 }
 
-/// Whether two shares are of one storage: whether a count that goes up in the one goes up in the other.
+// Whether the count of the second goes up where that of the first does.
+fn goes_along(first: &Shared, second: &Shared) -> bool {
+    let before = second.count.load(Ordering::SeqCst);
+    first.count.fetch_add(1, Ordering::SeqCst);
+    second.count.load(Ordering::SeqCst) != before
+}
+
+/// Whether two shares are of one storage: whether the count of each goes up where that of the other does.
 ///
-/// The count never goes down, so shares of one storage are always told so. Those of two are told apart
-/// unless other calls count in the second one in each of four tries, between two steps of this one.
+/// A count never goes down, so shares of one storage are always told so. Those of two are told apart unless
+/// other calls count in both of them, between two steps of each of eight tries.
 pub(crate) fn are_one(first: &Arc<Shared>, second: &Arc<Shared>) -> bool {
     for _ in 0..4 {
-        let before = second.count.load(Ordering::SeqCst);
-        first.count.fetch_add(1, Ordering::SeqCst);
-        if second.count.load(Ordering::SeqCst) == before {
+        if !goes_along(first, second) || !goes_along(second, first) {
             return false;
         }
     }

@@ -1,0 +1,190 @@
+/* Eight agents, each on a thread of its own, add to one count, to a set and to a location of their
+ * own. Then they are given back, closed into a journal, and the journal is checked and replayed.
+ *
+ *     example [JOURNAL]    writes the journal to the file */
+#include "folugben.h"
+
+#include <inttypes.h>
+#include <pthread.h>
+#include <stdio.h>
+#include <stdlib.h>
+#include <string.h>
+
+enum { AGENTS = 8, ROOM = 1024 };
+
+#ifndef TIMES
+#define TIMES 500
+#endif
+
+/* One agent, with what became of its fires. */
+typedef struct worker {
+    asm_slot agent;
+    unsigned number, fired, stale, busy;
+} worker;
+
+static asm_slot storage;
+static worker workers[AGENTS];
+
+/* Ends the program where a call wasn't answered as it has to be. */
+static void expect(int32_t code, int32_t wanted, const char *call) {
+    if (code == wanted)
+        return;
+    uint8_t text[128];
+    size_t len = 0;
+    asm_error_text(code, text, sizeof text, &len);
+    fprintf(stderr, "%s: code %" PRId32 ": %.*s\n", call, code, (int)len, (const char *)text);
+    exit(1);
+}
+
+static void require(bool holds, const char *what) {
+    if (!holds) {
+        fprintf(stderr, "not so: %s\n", what);
+        exit(1);
+    }
+}
+
+static const uint8_t *bytes(const char *text) { return (const uint8_t *)text; }
+
+/* Reads the locations and writes the answer, with a zero byte at its end. */
+static void read_text(asm_slot *agent, const char *places, char *out, size_t room) {
+    size_t written;
+    expect(asm_read(agent, bytes(places), strlen(places)), ASM_DONE, "asm_read");
+    expect(asm_answer(agent, (uint8_t *)out, room - 1, &written), ASM_DONE, "asm_answer");
+    out[written] = 0;
+}
+
+/* Adds 1 to the count, unless another agent was quicker. */
+static void add_one(worker *w) {
+    char text[ROOM];
+    unsigned read_at;
+    long count;
+    asm_numbers numbers;
+    read_text(&w->agent, "[[\"count\"]]", text, sizeof text);
+    require(sscanf(text, "{\"number\":%u,\"values\":[%ld]}", &read_at, &count) == 2,
+            "a number was read");
+    snprintf(
+        text, sizeof text,
+        "{\"fire\":[[\"put\",[\"count\"],%ld],[\"put\",[\"own\",%u],%u],[\"add\",[\"seen\"],%ld]],"
+        "\"reads\":[[[\"count\"],%u]]}",
+        count + 1, w->number, w->fired + 1, count, read_at);
+    int32_t code = asm_try_fire(&w->agent, bytes(text), strlen(text), &numbers);
+    switch (code) {
+    case ASM_DONE:
+        require(numbers.fired == (uint32_t)count + 1, "the move after those that were read");
+        w->fired++;
+        break;
+    case ASM_STALE:
+        w->stale++;
+        break;
+    case ASM_BUSY:
+        require(numbers.from + 64 <= numbers.to, "64 moves of others");
+        w->busy++;
+        break;
+    default:
+        expect(code, ASM_DONE, "asm_try_fire");
+    }
+}
+
+static void *work(void *argument) {
+    worker *w = argument;
+    while (w->fired < TIMES)
+        add_one(w);
+    return NULL;
+}
+
+static void run_threads(void) {
+    pthread_t threads[AGENTS];
+    for (size_t i = 0; i < AGENTS; i++)
+        require(!pthread_create(&threads[i], NULL, work, &workers[i]), "a thread was started");
+    for (size_t i = 0; i < AGENTS; i++)
+        require(!pthread_join(threads[i], NULL), "a thread was joined");
+}
+
+/* What the count and the own locations are, as the text of a state, read by an agent that learns of
+ * the last move. */
+static void read_state(char *state, size_t room) {
+    asm_slot reader = {0};
+    char text[ROOM], places[ROOM] = "[[\"count\"]";
+    expect(asm_agent(&storage, AGENTS, &reader), ASM_DONE, "asm_agent");
+    for (size_t i = 0; i < AGENTS; i++)
+        expect(asm_learn(&reader, &workers[i].agent), ASM_DONE, "asm_learn");
+    require(asm_seen(&reader) == AGENTS * TIMES, "all moves were seen");
+    for (unsigned i = 0; i < AGENTS; i++) {
+        size_t len = strlen(places);
+        snprintf(places + len, sizeof places - len, ",[\"own\",%u]%s", i,
+                 i + 1 < AGENTS ? "" : "]");
+    }
+    read_text(&reader, places, text, sizeof text);
+    char *at = strstr(text, "\"values\":[");
+    require(at != NULL, "values were read");
+    at += strlen("\"values\":[");
+    size_t len = (size_t)snprintf(state, room, "[[[\"count\"],%ld]", strtol(at, &at, 10));
+    for (unsigned i = 0; i < AGENTS; i++)
+        len += (size_t)snprintf(state + len, room - len, ",[[\"own\",%u],%ld]", i,
+                                strtol(at + 1, &at, 10));
+    expect(asm_give(&storage, &reader), ASM_DONE, "asm_give");
+}
+
+/* Closes what was given back; the journal is to be freed. */
+static uint8_t *journal_of(size_t *len) {
+    uint32_t missing;
+    expect(asm_close(&storage, &missing), ASM_DONE, "asm_close");
+    expect(asm_journal(&storage, NULL, 0, len), ASM_SMALL, "asm_journal");
+    uint8_t *journal = malloc(*len);
+    require(journal != NULL, "there is memory");
+    expect(asm_journal(&storage, journal, *len, len), ASM_DONE, "asm_journal");
+    return journal;
+}
+
+/* Whether the state that the journal leaves begins with what was read last. */
+static bool leaves(const uint8_t *journal, size_t len, const char *state) {
+    size_t room;
+    uint64_t line;
+    expect(asm_replay(journal, len, NULL, 0, &room, &line), ASM_SMALL, "asm_replay");
+    uint8_t *left = malloc(room);
+    require(left != NULL, "there is memory");
+    expect(asm_replay(journal, len, left, room, &room, &line), ASM_DONE, "asm_replay");
+    bool begins = room > strlen(state) && !memcmp(left, state, strlen(state));
+    free(left);
+    return begins;
+}
+
+static void save(const char *path, const uint8_t *journal, size_t len) {
+    FILE *file = fopen(path, "wb");
+    require(file && fwrite(journal, 1, len, file) == len && !fclose(file),
+            "the journal was written");
+}
+
+int main(int argc, char **argv) {
+    const char *init = "[[[\"count\"],0],[[\"seen\"],{\"set\":[]}]]";
+    char state[ROOM];
+    expect(asm_open(bytes(init), strlen(init), AGENTS * TIMES, &storage), ASM_DONE, "asm_open");
+    for (unsigned i = 0; i < AGENTS; i++) {
+        workers[i].number = i;
+        expect(asm_agent(&storage, i, &workers[i].agent), ASM_DONE, "asm_agent");
+    }
+    run_threads();
+    for (size_t i = 0; i < AGENTS; i++) {
+        worker *w = &workers[i];
+        require(asm_won(&w->agent) == TIMES, "each agent fired so many moves");
+        fprintf(stderr, "agent %zu: fired %u, stale %u, busy %u, misses %" PRIu64 "\n", i, w->fired,
+                w->stale, w->busy, asm_misses(&w->agent));
+    }
+    read_state(state, sizeof state);
+    for (size_t i = AGENTS; i > 0; i--)
+        expect(asm_give(&storage, &workers[i - 1].agent), ASM_DONE, "asm_give");
+
+    size_t len;
+    uint64_t calls;
+    uint32_t moves;
+    uint8_t *journal = journal_of(&len);
+    expect(asm_check(journal, len, &calls, &moves), ASM_DONE, "asm_check");
+    require(moves == AGENTS * TIMES, "the journal has all moves");
+    require(leaves(journal, len, state), "the journal leaves the state that was read last");
+    printf("legal %u\n%s,..]\n", (unsigned)moves, state);
+    if (argc > 1)
+        save(argv[1], journal, len);
+    free(journal);
+    asm_free(&storage);
+    return 0;
+}

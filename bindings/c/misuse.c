@@ -1,0 +1,272 @@
+/* Calls at random, on any slots and with any bytes, as no caller is to make them: each has to be
+ * answered by the one code that a second account of the slots foretells, and to change no slot that
+ * it isn't to change.
+ *
+ *     misuse [SEED [CALLS]] */
+#include "folugben.h"
+
+#include <inttypes.h>
+#include <stdio.h>
+#include <stdlib.h>
+#include <string.h>
+
+enum { SLOTS = 12, STORAGES = 4096, NUMBERS = 6, ROOM = 4096 };
+
+#define REQUIRE(holds) require((holds), #holds, __LINE__)
+
+/* What a slot has to hold: nothing, a storage, or an agent with its number; of which storage. */
+typedef struct account {
+    enum { NOTHING, STORAGE, AGENT } kind;
+    unsigned storage, number;
+    bool is_answered;
+} account;
+
+/* A text, and the codes that it gets as a state, as locations and as a move. */
+typedef struct text {
+    const char *bytes;
+    int32_t state, places, move;
+} text;
+
+static const text texts[] = {
+    {"[]", ASM_DONE, ASM_DONE, ASM_SHAPE},
+    {"[[[\"x\"],7]]", ASM_DONE, ASM_SHAPE, ASM_SHAPE},
+    {"[[\"x\"],[\"y\",1]]", ASM_SHAPE, ASM_DONE, ASM_SHAPE},
+    {"{\"fire\":[[\"inc\",[\"x\"],1]],\"reads\":[]}", ASM_SHAPE, ASM_SHAPE, ASM_DONE},
+    {"{\"fire\":[[\"put\",[\"y\",1],2]],\"reads\":[[[\"x\"],0]]}", ASM_SHAPE, ASM_SHAPE, ASM_DONE},
+    {"{\"read\":[]}", ASM_SHAPE, ASM_SHAPE, ASM_SHAPE},
+    {"\"x\"", ASM_SHAPE, ASM_SHAPE, ASM_SHAPE},
+    {"[[", ASM_NOT_JSON, ASM_NOT_JSON, ASM_NOT_JSON},
+    {"", ASM_NOT_JSON, ASM_NOT_JSON, ASM_NOT_JSON},
+    {"\xc3\x28", ASM_NOT_JSON, ASM_NOT_JSON, ASM_NOT_JSON},
+    {"{\"fire\":[],", ASM_NOT_JSON, ASM_NOT_JSON, ASM_NOT_JSON},
+};
+
+static asm_slot slots[SLOTS];
+static account accounts[SLOTS];
+static bool given[STORAGES][NUMBERS], is_closed[STORAGES];
+static unsigned opened, last_seed;
+static unsigned long call_number;
+
+static void require(bool holds, const char *what, int line) {
+    if (!holds) {
+        fprintf(stderr, "line %d, seed %u, call %lu: %s\n", line, last_seed, call_number, what);
+        exit(1);
+    }
+}
+
+static unsigned below(unsigned bound) {
+    static uint64_t state;
+    if (state == 0)
+        state = last_seed * UINT64_C(0x9E3779B97F4A7C15) + 1;
+    state ^= state << 13;
+    state ^= state >> 7;
+    state ^= state << 17;
+    return (unsigned)((state >> 20) % bound);
+}
+
+static const text *any_text(void) { return &texts[below(sizeof texts / sizeof *texts)]; }
+
+/* The bytes of the text; null where there are none. */
+static const uint8_t *bytes(const text *t) { return *t->bytes ? (const uint8_t *)t->bytes : NULL; }
+
+static void is_now(unsigned at, account now) { accounts[at] = now; }
+
+static void opens(unsigned at) {
+    const text *t = any_text();
+    uint32_t capacity = below(4) ? 1 + below(8) : below(2) * 1048577;
+    int32_t wanted = accounts[at].kind                     ? ASM_TAKEN
+                     : t->state                            ? t->state
+                     : capacity == 0 || capacity > 1048576 ? ASM_RANGE
+                                                           : ASM_DONE;
+    if (wanted == ASM_DONE && opened == STORAGES)
+        return;
+    REQUIRE(asm_open(bytes(t), strlen(t->bytes), capacity, &slots[at]) == wanted);
+    if (wanted == ASM_DONE)
+        is_now(at, (account){STORAGE, opened++, 0, false});
+}
+
+static void makes_agent(unsigned of, unsigned at) {
+    unsigned number = below(8) ? below(NUMBERS) : 256;
+    int32_t wanted = number >= 256                  ? ASM_RANGE
+                     : accounts[at].kind            ? ASM_TAKEN
+                     : accounts[of].kind != STORAGE ? ASM_EMPTY
+                                                    : ASM_DONE;
+    REQUIRE(asm_agent(&slots[of], number, &slots[at]) == wanted);
+    if (wanted == ASM_DONE)
+        is_now(at, (account){AGENT, accounts[of].storage, number, false});
+}
+
+static void makes_agents(unsigned of, unsigned at) {
+    unsigned count = below(4);
+    bool is_any_full = false;
+    if (at + count > SLOTS)
+        return;
+    for (unsigned i = 0; i < count; i++)
+        is_any_full |= accounts[at + i].kind != NOTHING;
+    int32_t wanted = is_any_full ? ASM_TAKEN : accounts[of].kind != STORAGE ? ASM_EMPTY : ASM_DONE;
+    REQUIRE(asm_agents(&slots[of], count ? &slots[at] : NULL, count) == wanted);
+    for (unsigned i = 0; wanted == ASM_DONE && i < count; i++)
+        is_now(at + i, (account){AGENT, accounts[of].storage, i, false});
+}
+
+static void reads(unsigned at) {
+    const text *t = any_text();
+    int32_t wanted = accounts[at].kind != AGENT ? ASM_EMPTY : t->places;
+    REQUIRE(asm_read(&slots[at], bytes(t), strlen(t->bytes)) == wanted);
+    accounts[at].is_answered |= wanted == ASM_DONE;
+}
+
+static void fires(unsigned at) {
+    const text *t = any_text();
+    asm_numbers numbers = {9, 9, 9};
+    int32_t code = asm_try_fire(&slots[at], bytes(t), strlen(t->bytes), &numbers);
+    bool is_answer = code == ASM_DONE || code == ASM_STALE || code == ASM_CLASH || code == ASM_FULL;
+    if (accounts[at].kind == AGENT && t->move == ASM_DONE)
+        REQUIRE(is_answer);
+    else
+        REQUIRE(code == (accounts[at].kind != AGENT ? ASM_EMPTY : t->move));
+    REQUIRE((numbers.fired > 0) == (code == ASM_DONE) && numbers.from == 0 && numbers.to == 0);
+    accounts[at].is_answered |= is_answer;
+}
+
+static void answers(unsigned at) {
+    uint8_t out[ROOM];
+    size_t written = 9, room = below(2) ? sizeof out : 0;
+    int32_t wanted = accounts[at].kind != AGENT  ? ASM_EMPTY
+                     : !accounts[at].is_answered ? ASM_NONE
+                     : room                      ? ASM_DONE
+                                                 : ASM_SMALL;
+    REQUIRE(asm_answer(&slots[at], room ? out : NULL, room, &written) == wanted);
+    REQUIRE((written > 0) == (wanted == ASM_DONE || wanted == ASM_SMALL));
+}
+
+static void learns(unsigned at, unsigned from) {
+    int32_t wanted = at == from || accounts[at].kind != AGENT || accounts[from].kind != AGENT
+                         ? ASM_EMPTY
+                     : accounts[at].storage != accounts[from].storage ? ASM_OTHER
+                                                                      : ASM_DONE;
+    REQUIRE(asm_learn(&slots[at], &slots[from]) == wanted);
+    REQUIRE(wanted != ASM_DONE || asm_seen(&slots[at]) >= asm_seen(&slots[from]));
+}
+
+static void counts(unsigned at) {
+    uint32_t seen = asm_seen(&slots[at]), won = asm_won(&slots[at]);
+    uint64_t misses = asm_misses(&slots[at]);
+    REQUIRE(won <= seen);
+    REQUIRE(accounts[at].kind == AGENT || (seen == 0 && won == 0 && misses == 0));
+}
+
+static void gives(unsigned to, unsigned at) {
+    const account a = accounts[at], s = accounts[to];
+    int32_t wanted = s.kind != STORAGE || a.kind != AGENT ? ASM_EMPTY
+                     : s.storage != a.storage             ? ASM_OTHER
+                     : given[a.storage][a.number]         ? ASM_NUMBER
+                                                          : ASM_DONE;
+    REQUIRE(asm_give(&slots[to], &slots[at]) == wanted);
+    if (wanted == ASM_DONE) {
+        given[a.storage][a.number] = true;
+        is_closed[a.storage] = false;
+        is_now(at, (account){NOTHING, 0, 0, false});
+    }
+}
+
+static void closes(unsigned at) {
+    uint32_t number = 9;
+    int32_t code = asm_close(&slots[at], &number);
+    if (accounts[at].kind != STORAGE)
+        REQUIRE(code == ASM_EMPTY && number == 0);
+    else
+        REQUIRE((code == ASM_DONE && number == 0) || (code == ASM_MISSING && number > 0));
+    is_closed[accounts[at].storage] |= code == ASM_DONE;
+}
+
+/* Checks and replays a journal that is cut off, or has one bit that is another. */
+static void judges(uint8_t *journal, size_t len) {
+    uint8_t state[ROOM];
+    size_t cut = below(2) ? len : below((unsigned)len), written;
+    uint64_t calls, line;
+    uint32_t moves;
+    REQUIRE(asm_check(journal, len, &calls, &moves) == ASM_DONE);
+    journal[below((unsigned)len)] ^= (uint8_t)(1u << below(8));
+    int32_t code = asm_check(journal, cut, &calls, &moves);
+    REQUIRE(code == ASM_DONE || (code >= ASM_ILLEGAL && code <= ASM_CUT));
+    int32_t left = asm_replay(journal, cut, state, below(2) ? sizeof state : 0, &written, &line);
+    if (code == ASM_DONE || code == ASM_ILLEGAL)
+        REQUIRE(left == ASM_DONE || left == ASM_SMALL);
+    else
+        REQUIRE(left == code && written == 0 && (line == calls));
+}
+
+static void writes(unsigned at) {
+    uint8_t journal[ROOM];
+    size_t written = 9, room = below(4) ? sizeof journal : 0;
+    bool is_there = is_closed[accounts[at].storage];
+    int32_t wanted = accounts[at].kind != STORAGE ? ASM_EMPTY : is_there ? ASM_DONE : ASM_NONE;
+    int32_t code = asm_journal(&slots[at], room ? journal : NULL, room, &written);
+    REQUIRE(code == wanted || (wanted == ASM_DONE && code == ASM_SMALL && written > room));
+    REQUIRE((written > 0) == (wanted == ASM_DONE));
+    if (code == ASM_DONE)
+        judges(journal, written);
+}
+
+static void frees(unsigned at) {
+    asm_free(&slots[at]);
+    REQUIRE(slots[at].at == NULL);
+    is_now(at, (account){NOTHING, 0, 0, false});
+}
+
+/* One call on any slots, the same one for two of them at times. */
+static void calls_any(void) {
+    unsigned at = below(SLOTS), other = below(6) ? below(SLOTS) : at;
+    switch (below(13)) {
+    case 0:
+        opens(at);
+        break;
+    case 1:
+        makes_agent(other, at);
+        break;
+    case 2:
+        makes_agents(other, at);
+        break;
+    case 3:
+    case 4:
+        reads(at);
+        break;
+    case 5:
+    case 6:
+        fires(at);
+        break;
+    case 7:
+        answers(at);
+        break;
+    case 8:
+        learns(at, other);
+        break;
+    case 9:
+        counts(at);
+        break;
+    case 10:
+        gives(other, at);
+        break;
+    case 11:
+        closes(at);
+        writes(at);
+        break;
+    default:
+        below(3) ? writes(at) : frees(at);
+    }
+}
+
+int main(int argc, char **argv) {
+    last_seed = argc > 1 ? (unsigned)strtoul(argv[1], NULL, 10) : 1;
+    unsigned long calls = argc > 2 ? strtoul(argv[2], NULL, 10) : 100000;
+    for (call_number = 0; call_number < calls; call_number++) {
+        calls_any();
+        for (unsigned i = 0; i < SLOTS; i++)
+            REQUIRE(slots[i].full == (accounts[i].kind != NOTHING));
+    }
+    for (unsigned i = 0; i < SLOTS; i++)
+        frees(i);
+    printf("passed %lu\n", calls);
+    return 0;
+}

@@ -1,0 +1,294 @@
+/* Each code of each call, and what no caller is to do: each has to be answered by a code. */
+#include "folugben.h"
+
+#include <inttypes.h>
+#include <stdio.h>
+#include <stdlib.h>
+#include <string.h>
+
+#define REQUIRE(holds) require((holds), #holds, __LINE__)
+
+enum { ROOM = 65536 };
+
+static void require(bool holds, const char *what, int line) {
+    if (!holds) {
+        fprintf(stderr, "line %d: %s\n", line, what);
+        exit(1);
+    }
+}
+
+static const uint8_t *bytes(const char *text) { return (const uint8_t *)text; }
+
+static int32_t open_with(const char *init, uint32_t capacity, asm_slot *storage) {
+    return asm_open(bytes(init), strlen(init), capacity, storage);
+}
+
+static int32_t read_of(asm_slot *agent, const char *places) {
+    return asm_read(agent, bytes(places), strlen(places));
+}
+
+static int32_t fire_of(asm_slot *agent, const char *call) {
+    asm_numbers numbers = {9, 9, 9};
+    int32_t code = asm_try_fire(agent, bytes(call), strlen(call), &numbers);
+    REQUIRE((numbers.fired > 0) == (code == ASM_DONE));
+    REQUIRE(code == ASM_BUSY || (numbers.from == 0 && numbers.to == 0));
+    return code;
+}
+
+static bool answers(asm_slot *agent, const char *wanted) {
+    uint8_t out[256];
+    size_t written;
+    return asm_answer(agent, out, sizeof out, &written) == ASM_DONE && written == strlen(wanted) &&
+           !memcmp(out, wanted, written);
+}
+
+/* Each call but asm_open, asm_check and asm_replay on two slots that hold nothing of their kind. */
+static void on_nothing(asm_slot *storage, asm_slot *agent) {
+    asm_slot full = *storage, was = *agent, free_slot = {0};
+    uint8_t out[8];
+    size_t written;
+    uint32_t number;
+    REQUIRE(asm_agent(storage, 0, &free_slot) == ASM_EMPTY && !free_slot.full);
+    REQUIRE(asm_agents(storage, &free_slot, 1) == ASM_EMPTY && !free_slot.full);
+    REQUIRE(read_of(agent, "[]") == ASM_EMPTY &&
+            fire_of(agent, "{\"fire\":[],\"reads\":[]}") == ASM_EMPTY);
+    REQUIRE(asm_answer(agent, out, sizeof out, &written) == ASM_EMPTY && written == 0);
+    REQUIRE(asm_learn(agent, &free_slot) == ASM_EMPTY && asm_learn(&free_slot, agent) == ASM_EMPTY);
+    REQUIRE(asm_learn(agent, agent) == ASM_EMPTY);
+    REQUIRE(asm_seen(agent) == 0 && asm_won(agent) == 0 && asm_misses(agent) == 0);
+    REQUIRE(asm_give(storage, agent) == ASM_EMPTY && asm_give(storage, storage) == ASM_EMPTY);
+    REQUIRE(asm_close(storage, &number) == ASM_EMPTY && number == 0);
+    REQUIRE(asm_journal(storage, out, sizeof out, &written) == ASM_EMPTY && written == 0);
+    REQUIRE(storage->full == full.full && storage->at == full.at && agent->full == was.full &&
+            agent->at == was.at);
+}
+
+static void empty_slots(void) {
+    asm_slot storage = {0}, agent = {0}, one = {0};
+    on_nothing(&storage, &agent);
+    on_nothing(&one, &one);
+    REQUIRE(open_with("[]", 4, &storage) == ASM_DONE && asm_agent(&storage, 0, &agent) == ASM_DONE);
+    on_nothing(&agent, &storage);
+    REQUIRE(asm_agent(&storage, 1, &storage) == ASM_TAKEN &&
+            asm_agents(&storage, &storage, 1) == ASM_TAKEN);
+    REQUIRE(asm_learn(&agent, &agent) == ASM_EMPTY && asm_give(&storage, &storage) == ASM_EMPTY);
+    REQUIRE(read_of(&agent, "[]") == ASM_DONE);
+    asm_free(&storage);
+    REQUIRE(read_of(&agent, "[]") == ASM_DONE);
+    asm_free(&agent);
+    on_nothing(&storage, &agent);
+    asm_free(&agent);
+}
+
+static void full_slots(void) {
+    asm_slot storage = {0}, agent = {0}, many[257] = {{0}};
+    REQUIRE(open_with("[]", 4, &storage) == ASM_DONE && open_with("[]", 4, &storage) == ASM_TAKEN);
+    REQUIRE(open_with("[", 0, &storage) == ASM_TAKEN);
+    REQUIRE(asm_agent(&storage, 0, &agent) == ASM_DONE &&
+            asm_agent(&storage, 1, &agent) == ASM_TAKEN);
+    REQUIRE(asm_agents(&storage, many, 257) == ASM_RANGE && !many[0].full);
+    REQUIRE(asm_agents(&storage, many, 256) == ASM_DONE && many[255].full && !many[256].full);
+    REQUIRE(asm_agents(&storage, many + 255, 2) == ASM_TAKEN && !many[256].full);
+    for (size_t i = 0; i < 256; i++)
+        asm_free(&many[i]);
+    asm_free(&agent);
+    asm_free(&storage);
+}
+
+static void no_bytes(void) {
+    asm_slot storage = {0}, agent = {0};
+    asm_numbers numbers;
+    size_t written;
+    uint64_t calls, line;
+    uint32_t number;
+    REQUIRE(asm_open(NULL, 0, 4, &storage) == ASM_NOT_JSON && !storage.full);
+    REQUIRE(open_with("[]", 4, &storage) == ASM_DONE && asm_agent(&storage, 0, &agent) == ASM_DONE);
+    REQUIRE(asm_agents(&storage, NULL, 0) == ASM_DONE);
+    REQUIRE(asm_read(&agent, NULL, 0) == ASM_NOT_JSON &&
+            asm_try_fire(&agent, NULL, 0, &numbers) == ASM_NOT_JSON);
+    REQUIRE(asm_answer(&agent, NULL, 0, &written) == ASM_NONE && read_of(&agent, "[]") == ASM_DONE);
+    REQUIRE(asm_answer(&agent, NULL, 0, &written) == ASM_SMALL &&
+            written == strlen("{\"number\":0,\"values\":[]}"));
+    REQUIRE(asm_journal(&storage, NULL, 0, &written) == ASM_NONE);
+    REQUIRE(asm_give(&storage, &agent) == ASM_DONE && asm_close(&storage, &number) == ASM_DONE);
+    REQUIRE(asm_journal(&storage, NULL, 0, &written) == ASM_SMALL && written > 0);
+    REQUIRE(asm_check(NULL, 0, &calls, &number) == ASM_CUT);
+    REQUIRE(asm_replay(NULL, 0, NULL, 0, &written, &line) == ASM_CUT && written == 0 && line == 0);
+    REQUIRE(asm_error_text(0, NULL, 0, &written) == ASM_SMALL && written == 4);
+    asm_free(&storage);
+}
+
+static void garbage(void) {
+    const char *texts[] = {"",
+                           "{",
+                           "[[",
+                           "nul",
+                           "\xff\xfe",
+                           "[1e999]",
+                           "\"\\ud800\"",
+                           "[[\"\"]]",
+                           "[[\"1\"]]",
+                           "[{}]",
+                           "7",
+                           "{}",
+                           "[[\"x\",1,2,3,4,5,6,7,8,9]]",
+                           "[[[\"x\"],1.5]]",
+                           "[null]",
+                           "{\"fire\":7,\"reads\":[]}",
+                           "{\"fire\":[],\"reads\":[7]}"};
+    asm_slot storage = {0}, agent = {0}, other = {0};
+    REQUIRE(open_with("[]", 4, &storage) == ASM_DONE && asm_agent(&storage, 0, &agent) == ASM_DONE);
+    for (size_t i = 0; i < sizeof texts / sizeof *texts; i++) {
+        size_t len = strlen(texts[i]), written;
+        uint64_t calls, line;
+        uint32_t moves;
+        int32_t codes[] = {open_with(texts[i], 4, &other), read_of(&agent, texts[i]),
+                           fire_of(&agent, texts[i])};
+        for (size_t k = 0; k < 3; k++)
+            REQUIRE(codes[k] == ASM_NOT_JSON || codes[k] == ASM_SHAPE);
+        int32_t code = asm_check(bytes(texts[i]), len, &calls, &moves);
+        REQUIRE(code == ASM_CUT || code == ASM_NOT_JSON || code == ASM_SHAPE);
+        REQUIRE(asm_replay(bytes(texts[i]), len, NULL, 0, &written, &line) == code &&
+                line == calls);
+    }
+    char deep[400];
+    memset(deep, '[', sizeof deep - 1);
+    deep[sizeof deep - 1] = 0;
+    REQUIRE(open_with(deep, 4, &other) == ASM_NOT_JSON && read_of(&agent, deep) == ASM_NOT_JSON);
+    REQUIRE(asm_seen(&agent) == 0 && !other.full);
+    asm_free(&agent);
+    asm_free(&storage);
+}
+
+static void fires(void) {
+    asm_slot storage = {0}, a[2] = {{0}, {0}};
+    uint8_t out[64];
+    size_t written;
+    REQUIRE(open_with("[]", 0, &storage) == ASM_RANGE &&
+            open_with("[]", 1048577, &storage) == ASM_RANGE);
+    REQUIRE(open_with("[[[\"x\"],1]]", 2, &storage) == ASM_DONE &&
+            asm_agents(&storage, a, 2) == ASM_DONE);
+    REQUIRE(fire_of(&a[0], "{\"fire\":[[\"inc\",[\"x\"],1]],\"reads\":[[[\"x\"],0]]}") == ASM_DONE);
+    REQUIRE(fire_of(&a[1], "{\"fire\":[[\"inc\",[\"x\"],1]],\"reads\":[[[\"x\"],0]]}") ==
+            ASM_STALE);
+    REQUIRE(answers(&a[1], "{\"stale\":[\"x\"]}") && answers(&a[0], "{\"fired\":1}"));
+    REQUIRE(fire_of(&a[1], "{\"fire\":[[\"add\",[\"x\"],1]],\"reads\":[]}") == ASM_CLASH);
+    REQUIRE(answers(&a[1], "{\"clash\":[[\"x\"],\"Kind\"]}"));
+    for (size_t room = 0; room < strlen("{\"clash\":[[\"x\"],\"Kind\"]}"); room++)
+        REQUIRE(asm_answer(&a[1], out, room, &written) == ASM_SMALL && written == 24);
+    REQUIRE(fire_of(&a[1], "{\"fire\":[],\"reads\":[]}") == ASM_DONE &&
+            fire_of(&a[1], "{\"fire\":[],\"reads\":[]}") == ASM_FULL);
+    REQUIRE(answers(&a[1], "\"full\"") && asm_seen(&a[1]) == 2 && asm_won(&a[1]) == 1 &&
+            asm_seen(&a[0]) == 1);
+    REQUIRE(asm_learn(&a[0], &a[1]) == ASM_DONE && asm_seen(&a[0]) == 2);
+    asm_free(&storage);
+    asm_free(&a[0]);
+    asm_free(&a[1]);
+}
+
+static void many_locations(void) {
+    static char text[ROOM];
+    asm_slot storage = {0}, agent = {0};
+    REQUIRE(open_with("[]", 4, &storage) == ASM_DONE &&
+            asm_agent(&storage, 255, &agent) == ASM_DONE);
+    REQUIRE(asm_agent(&storage, 256, &(asm_slot){0}) == ASM_RANGE);
+    for (int count = 256; count <= 257; count++) {
+        int32_t wanted = count > 256 ? ASM_MANY : ASM_DONE;
+        char *at = text + sprintf(text, "[");
+        for (int i = 0; i < count; i++)
+            at += sprintf(at, "%s[\"x\",%d]", i ? "," : "", i);
+        sprintf(at, "]");
+        REQUIRE(read_of(&agent, text) == wanted);
+        at = text + sprintf(text, "{\"fire\":[],\"reads\":[");
+        for (int i = 0; i < count; i++)
+            at += sprintf(at, "%s[[\"x\",%d],0]", i ? "," : "", i);
+        sprintf(at, "]}");
+        REQUIRE(fire_of(&agent, text) == wanted);
+    }
+    asm_free(&storage);
+    asm_free(&agent);
+}
+
+/* Agents of two storages with the same opening state and the same moves. */
+static void two_storages(void) {
+    asm_slot s[2] = {{0}, {0}}, a[2] = {{0}, {0}};
+    uint32_t number;
+    for (size_t i = 0; i < 2; i++) {
+        REQUIRE(open_with("[[[\"x\"],1]]", 4, &s[i]) == ASM_DONE &&
+                asm_agent(&s[i], 0, &a[i]) == ASM_DONE);
+        REQUIRE(fire_of(&a[i], "{\"fire\":[],\"reads\":[]}") == ASM_DONE);
+    }
+    REQUIRE(asm_learn(&a[0], &a[1]) == ASM_OTHER && asm_give(&s[0], &a[1]) == ASM_OTHER &&
+            a[1].full);
+    REQUIRE(asm_close(&s[0], &number) == ASM_DONE && asm_give(&s[1], &a[1]) == ASM_DONE &&
+            !a[1].full);
+    REQUIRE(asm_close(&s[1], &number) == ASM_DONE && asm_give(&s[0], &a[0]) == ASM_DONE);
+    asm_free(&s[0]);
+    asm_free(&s[1]);
+}
+
+static void ends(void) {
+    asm_slot storage = {0}, a[3] = {{0}, {0}, {0}}, again = {0};
+    static uint8_t text[ROOM], state[ROOM];
+    size_t len, written;
+    uint64_t calls, line;
+    uint32_t number;
+    REQUIRE(open_with("[]", 4, &storage) == ASM_DONE && asm_agents(&storage, a, 3) == ASM_DONE);
+    REQUIRE(asm_journal(&storage, text, ROOM, &written) == ASM_NONE);
+    REQUIRE(fire_of(&a[1], "{\"fire\":[[\"put\",[\"x\"],1]],\"reads\":[]}") == ASM_DONE &&
+            read_of(&a[2], "[[\"x\"]]") == ASM_DONE);
+    REQUIRE(asm_give(&storage, &a[2]) == ASM_DONE && asm_close(&storage, &number) == ASM_MISSING &&
+            number == 1);
+    REQUIRE(asm_agent(&storage, 2, &again) == ASM_DONE &&
+            asm_give(&storage, &again) == ASM_NUMBER && again.full);
+    REQUIRE(asm_give(&storage, &a[0]) == ASM_DONE && asm_give(&storage, &a[1]) == ASM_DONE);
+    REQUIRE(asm_close(&storage, &number) == ASM_DONE && number == 0);
+    REQUIRE(asm_journal(&storage, text, ROOM, &len) == ASM_DONE &&
+            asm_journal(&storage, text, len, &written) == ASM_DONE);
+    REQUIRE(asm_journal(&storage, text, len - 1, &written) == ASM_SMALL && written == len);
+    REQUIRE(asm_check(text, len, &calls, &number) == ASM_DONE && calls == 2 && number == 1);
+    REQUIRE(asm_replay(text, len, state, ROOM, &written, &line) == ASM_DONE);
+    REQUIRE(written == 11 && !memcmp(state, "[[[\"x\"],1]]", 11));
+    for (size_t cut = 0; cut < len; cut++) {
+        int32_t code = asm_check(text, cut, &calls, &number);
+        REQUIRE(code == ASM_CUT || code == ASM_NOT_JSON);
+        REQUIRE(asm_replay(text, cut, state, ROOM, &written, &line) == code);
+    }
+    for (size_t at = 0; at < len; at++) {
+        text[at] ^= 1;
+        int32_t code = asm_check(text, len, &calls, &number);
+        REQUIRE(code == ASM_DONE || (code >= ASM_ILLEGAL && code <= ASM_CUT));
+        asm_replay(text, len, state, ROOM, &written, &line);
+        text[at] ^= 1;
+    }
+    REQUIRE(asm_agent(&storage, 3, &a[0]) == ASM_DONE && asm_give(&storage, &a[0]) == ASM_DONE);
+    REQUIRE(asm_journal(&storage, text, ROOM, &written) == ASM_NONE &&
+            asm_close(&storage, &number) == ASM_DONE);
+    asm_free(&storage);
+    asm_free(&again);
+}
+
+static void texts_of_codes(void) {
+    uint8_t out[128];
+    size_t written;
+    REQUIRE(asm_version() == FOLUGBEN_VERSION);
+    for (int32_t code = -2; code < 24; code++) {
+        bool known = code >= ASM_DONE && code <= ASM_LARGE;
+        REQUIRE(asm_error_text(code, out, sizeof out, &written) == ASM_DONE && written > 0);
+        REQUIRE(known == !(written == 23 && !memcmp(out, "no code of this library", 23)));
+    }
+}
+
+int main(void) {
+    empty_slots();
+    full_slots();
+    no_bytes();
+    garbage();
+    fires();
+    many_locations();
+    two_storages();
+    ends();
+    texts_of_codes();
+    puts("passed");
+    return 0;
+}

@@ -1,0 +1,82 @@
+package folugben;
+
+import com.sun.jna.Memory;
+import com.sun.jna.Native;
+import com.sun.jna.Pointer;
+
+import java.nio.charset.StandardCharsets;
+
+/** The calls of include/folugben.h. A slot is 16 bytes of memory, and a size_t a long. */
+final class Calls {
+    static {
+        Native.register(Calls.class, System.getProperty("folugben.library", "folugben"));
+    }
+
+    private Calls() {}
+
+    static native int asm_version();
+
+    static native int asm_error_text(int code, byte[] out, long room, long[] written);
+
+    static native int asm_open(byte[] init, long len, int capacity, Pointer storage);
+
+    static native int asm_agent(Pointer storage, int number, Pointer agent);
+
+    static native int asm_read(Pointer agent, byte[] places, long len);
+
+    static native int asm_try_fire(Pointer agent, byte[] call, long len, int[] numbers);
+
+    static native int asm_answer(Pointer agent, byte[] out, long room, long[] written);
+
+    static native int asm_learn(Pointer agent, Pointer other);
+
+    static native int asm_seen(Pointer agent);
+
+    static native int asm_won(Pointer agent);
+
+    static native long asm_misses(Pointer agent);
+
+    static native int asm_give(Pointer storage, Pointer agent);
+
+    static native int asm_close(Pointer storage, int[] number);
+
+    static native int asm_journal(Pointer storage, byte[] out, long room, long[] written);
+
+    static native void asm_free(Pointer slot);
+
+    static native int asm_check(byte[] journal, long len, long[] calls, int[] moves);
+
+    static native int asm_replay(
+            byte[] journal, long len, byte[] out, long room, long[] written, long[] line);
+
+    /** An empty slot. */
+    static Memory slot() {
+        Memory slot = new Memory(16);
+        slot.clear();
+        return slot;
+    }
+
+    static byte[] bytes(String text) {
+        return text.getBytes(StandardCharsets.UTF_8);
+    }
+
+    /** A call that writes a text into a buffer. */
+    interface Writer {
+        int write(byte[] out, long room, long[] written);
+    }
+
+    /** The text that a call writes, into a buffer that is made larger where it is too small. */
+    static String text(Writer call, long[] numbers) {
+        byte[] out = new byte[512];
+        long[] written = new long[1];
+        int code = call.write(out, out.length, written);
+        while (code == FolugbenException.SMALL) {
+            if (written[0] > Integer.MAX_VALUE - 8)
+                throw new OutOfMemoryError("a text of " + written[0] + " bytes");
+            out = new byte[(int) written[0]];
+            code = call.write(out, out.length, written);
+        }
+        FolugbenException.expect(code, numbers);
+        return new String(out, 0, (int) written[0], StandardCharsets.UTF_8);
+    }
+}

@@ -1,0 +1,72 @@
+package folugben;
+
+import com.sun.jna.Memory;
+
+/**
+ * A storage of which agents read and fire in threads. Texts are JSON in the forms of
+ * docs/FORMATS.md.
+ */
+public final class Storage implements AutoCloseable {
+    private final Memory slot = Calls.slot();
+
+    /** A storage with the opening state [PAIR, ..], for 1 to 1,048,576 moves. */
+    public Storage(String init, int capacity) {
+        byte[] state = Calls.bytes(init);
+        FolugbenException.expect(Calls.asm_open(state, state.length, capacity, slot));
+    }
+
+    /** An agent with this number, 0 to 255. */
+    public synchronized Agent agent(int number) {
+        Agent agent = new Agent(this);
+        FolugbenException.expect(Calls.asm_agent(slot, number, agent.slot));
+        return agent;
+    }
+
+    /** Takes an agent back. */
+    public synchronized void give(Agent agent) {
+        synchronized (agent) {
+            FolugbenException.expect(Calls.asm_give(slot, agent.slot));
+        }
+    }
+
+    /** The journal of the agents that were given back. */
+    public synchronized String closeJournal() {
+        int[] missing = new int[1];
+        FolugbenException.expect(Calls.asm_close(slot, missing), missing[0]);
+        return Calls.text(
+                (out, room, written) -> Calls.asm_journal(slot, out, room, written), new long[1]);
+    }
+
+    /** Lets go of it. Its agents go on, and can't be given back any more. */
+    @Override
+    public synchronized void close() {
+        Calls.asm_free(slot);
+    }
+
+    /** The numbers of calls and of moves of a legal journal. */
+    public record Checked(long calls, int moves) {}
+
+    /** Checks a journal; an exception where it isn't legal, or is none. */
+    public static Checked check(String journal) {
+        byte[] text = Calls.bytes(journal);
+        long[] calls = new long[1];
+        int[] moves = new int[1];
+        int code = Calls.asm_check(text, text.length, calls, moves);
+        FolugbenException.expect(code, calls[0]);
+        return new Checked(calls[0], moves[0]);
+    }
+
+    /** The state [PAIR, ..] that the moves of a journal leave. */
+    public static String replay(String journal) {
+        byte[] text = Calls.bytes(journal);
+        long[] line = new long[1];
+        return Calls.text((out, room, written)
+                                  -> Calls.asm_replay(text, text.length, out, room, written, line),
+                line);
+    }
+
+    /** The version of the library: a million for each major one, a thousand for each minor one. */
+    public static int version() {
+        return Calls.asm_version();
+    }
+}
