@@ -41,7 +41,7 @@
  *
  * AN EXAMPLE: one agent adds 1 to a count.
  *
- *    const char *init = "[[[\"count\"],0]]", *places = "[[\"count\"]]";
+ *    const char *init = "[[[\"count\"],0]]", *locations = "[[\"count\"]]";
  *    const char *move = "{\"fire\":[[\"put\",[\"count\"],1]],\"reads\":[[[\"count\"],0]]}";
  *    asm_slot storage = {0}, agent = {0};
  *    asm_numbers numbers;
@@ -51,7 +51,7 @@
  *
  *    if (asm_open((const uint8_t *)init, strlen(init), 1000, &storage) != ASM_DONE) ..
  *    if (asm_agent(&storage, 0, &agent) != ASM_DONE) ..
- *    if (asm_read(&agent, (const uint8_t *)places, strlen(places)) != ASM_DONE) ..
+ *    if (asm_read(&agent, (const uint8_t *)locations, strlen(locations)) != ASM_DONE) ..
  *    if (asm_answer(&agent, text, sizeof text, &written) != ASM_DONE) .. {"number":0,"values":[0]}
  *    switch (asm_try_fire(&agent, (const uint8_t *)move, strlen(move), &numbers)) {
  *    case ASM_DONE: printf("move %u\n", numbers.fired); break;
@@ -110,7 +110,7 @@ int32_t asm_error_text(int32_t code, uint8_t *out, size_t room, size_t *written)
 /* The version of the library. */
 uint32_t asm_version(void);
 
-/* A place for a storage or an agent. Zeros hold nothing. `full` may be read between calls, and
+/* Room for a storage or an agent. Zeros hold nothing. `full` may be read between calls, and
  * neither is written. */
 typedef struct asm_slot {
     bool full;
@@ -133,7 +133,7 @@ int32_t asm_agents(asm_slot *storage, asm_slot *agents, size_t count);
 /* Reads the locations [LOC, ..], at most 256. The answer is the text {"number":N,"values":[VALUE,
  * ..]}: their values after the first N moves, which asm_answer writes. ASM_EMPTY, ASM_NOT_JSON,
  * ASM_SHAPE, ASM_MANY, ASM_MEMORY. */
-int32_t asm_read(asm_slot *agent, const uint8_t *places, size_t len);
+int32_t asm_read(asm_slot *agent, const uint8_t *locations, size_t len);
 
 /* The numbers of a fire; each is 0 where its code isn't answered. */
 typedef struct asm_numbers {

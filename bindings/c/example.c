@@ -46,9 +46,9 @@ static void require(bool holds, const char *what) {
 static const uint8_t *bytes(const char *text) { return (const uint8_t *)text; }
 
 /* Reads the locations and writes the answer, with a zero byte at its end. */
-static void read_text(asm_slot *agent, const char *places, char *out, size_t room) {
+static void read_text(asm_slot *agent, const char *locations, char *out, size_t room) {
     size_t written;
-    expect(asm_read(agent, bytes(places), strlen(places)), ASM_DONE, "asm_read");
+    expect(asm_read(agent, bytes(locations), strlen(locations)), ASM_DONE, "asm_read");
     expect(asm_answer(agent, (uint8_t *)out, room - 1, &written), ASM_DONE, "asm_answer");
     out[written] = 0;
 }
@@ -104,17 +104,17 @@ static void run_threads(void) {
  * the last move. */
 static void read_state(char *state, size_t room) {
     asm_slot reader = {0};
-    char text[ROOM], places[ROOM] = "[[\"count\"]";
+    char text[ROOM], locations[ROOM] = "[[\"count\"]";
     expect(asm_agent(&storage, AGENTS, &reader), ASM_DONE, "asm_agent");
     for (size_t i = 0; i < AGENTS; i++)
         expect(asm_learn(&reader, &workers[i].agent), ASM_DONE, "asm_learn");
     require(asm_seen(&reader) == AGENTS * TIMES, "all moves were seen");
     for (unsigned i = 0; i < AGENTS; i++) {
-        size_t len = strlen(places);
-        snprintf(places + len, sizeof places - len, ",[\"own\",%u]%s", i,
+        size_t len = strlen(locations);
+        snprintf(locations + len, sizeof locations - len, ",[\"own\",%u]%s", i,
                  i + 1 < AGENTS ? "" : "]");
     }
-    read_text(&reader, places, text, sizeof text);
+    read_text(&reader, locations, text, sizeof text);
     char *at = strstr(text, "\"values\":[");
     require(at != NULL, "values were read");
     at += strlen("\"values\":[");

@@ -24,7 +24,7 @@ typedef struct account {
 /* A text, and the codes that it gets as a state, as locations and as a move. */
 typedef struct text {
     const char *bytes;
-    int32_t state, places, move;
+    int32_t state, locations, move;
 } text;
 
 static const text texts[] = {
@@ -111,7 +111,7 @@ static void makes_agents(unsigned of, unsigned at) {
 
 static void reads(unsigned at) {
     const text *t = any_text();
-    int32_t wanted = accounts[at].kind != AGENT ? ASM_EMPTY : t->places;
+    int32_t wanted = accounts[at].kind != AGENT ? ASM_EMPTY : t->locations;
     REQUIRE(asm_read(&slots[at], bytes(t), strlen(t->bytes)) == wanted);
     accounts[at].is_answered |= wanted == ASM_DONE;
 }

@@ -46,11 +46,11 @@ static bool answers(asm_slot *agent, const char *wanted) {
 }
 
 static void play(asm_slot *storage, asm_slot *agents) {
-    const char *places = "[[\"x\"],[\"s\"]]";
+    const char *locations = "[[\"x\"],[\"s\"]]";
     const char *move =
         "{\"fire\":[[\"put\",[\"x\"],8],[\"add\",[\"s\"],3]],\"reads\":[[[\"x\"],0]]}";
     asm_numbers numbers;
-    REQUIRE((AGAIN(asm_read(&agents[0], bytes(places), strlen(places)))) == ASM_DONE);
+    REQUIRE((AGAIN(asm_read(&agents[0], bytes(locations), strlen(locations)))) == ASM_DONE);
     REQUIRE(answers(&agents[0], "{\"number\":0,\"values\":[7,{\"set\":[1,\"two\"]}]}"));
     REQUIRE((AGAIN(asm_try_fire(&agents[0], bytes(move), strlen(move), &numbers))) == ASM_DONE);
     REQUIRE(numbers.fired == 1 && asm_won(&agents[0]) == 1);
@@ -59,7 +59,7 @@ static void play(asm_slot *storage, asm_slot *agents) {
     REQUIRE(numbers.fired == 0 && asm_won(&agents[1]) == 0);
     REQUIRE(answers(&agents[1], "{\"stale\":[\"x\"]}"));
     REQUIRE((AGAIN(asm_learn(&agents[2], &agents[0]))) == ASM_DONE);
-    REQUIRE((AGAIN(asm_read(&agents[2], bytes(places), strlen(places)))) == ASM_DONE);
+    REQUIRE((AGAIN(asm_read(&agents[2], bytes(locations), strlen(locations)))) == ASM_DONE);
     REQUIRE(answers(&agents[2], "{\"number\":1,\"values\":[8,{\"set\":[1,3,\"two\"]}]}"));
     REQUIRE((AGAIN(asm_give(storage, &agents[2]))) == ASM_DONE);
     REQUIRE((AGAIN(asm_give(storage, &agents[0]))) == ASM_DONE);

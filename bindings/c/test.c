@@ -23,8 +23,8 @@ static int32_t open_with(const char *init, uint32_t capacity, asm_slot *storage)
     return asm_open(bytes(init), strlen(init), capacity, storage);
 }
 
-static int32_t read_of(asm_slot *agent, const char *places) {
-    return asm_read(agent, bytes(places), strlen(places));
+static int32_t read_of(asm_slot *agent, const char *locations) {
+    return asm_read(agent, bytes(locations), strlen(locations));
 }
 
 static int32_t fire_of(asm_slot *agent, const char *call) {

@@ -32,11 +32,11 @@ def main():
             thread.start()
         for thread in threads:
             thread.join()
-        places = [["count"]] + [["own", k] for k in range(AGENTS)] + [["seen"]]
+        locations = [["count"]] + [["own", k] for k in range(AGENTS)] + [["seen"]]
         with storage.agent(AGENTS) as reader:
             for agent in agents:
                 reader.learn(agent)
-            number, values = reader.read(places)
+            number, values = reader.read(locations)
         assert number == AGENTS * TIMES and values[0] == AGENTS * TIMES
         for agent in reversed(agents):
             assert agent.won == TIMES
@@ -44,7 +44,7 @@ def main():
         journal = storage.close_journal()
     calls, moves = check(journal)
     assert moves == AGENTS * TIMES
-    assert replay(journal) == [[place, value] for place, value in zip(places, values)]
+    assert replay(journal) == [[location, value] for location, value in zip(locations, values)]
     print("legal", moves)
     if len(sys.argv) > 1:
         with open(sys.argv[1], "wb") as file:

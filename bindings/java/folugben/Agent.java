@@ -28,8 +28,8 @@ public final class Agent implements AutoCloseable {
     }
 
     /** Reads the locations [LOC, ..]; the answer is {"number":N,"values":[VALUE, ..]}. */
-    public synchronized String read(String places) {
-        byte[] call = Calls.bytes(places);
+    public synchronized String read(String locations) {
+        byte[] call = Calls.bytes(locations);
         FolugbenException.expect(Calls.asm_read(slot, call, call.length));
         return answer();
     }

@@ -22,7 +22,7 @@ final class Calls {
 
     static native int asm_agent(Pointer storage, int number, Pointer agent);
 
-    static native int asm_read(Pointer agent, byte[] places, long len);
+    static native int asm_read(Pointer agent, byte[] locations, long len);
 
     static native int asm_try_fire(Pointer agent, byte[] call, long len, int[] numbers);
 

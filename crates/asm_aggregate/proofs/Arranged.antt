@@ -1,5 +1,4 @@
 -- References to instructions that are sorted by location, as the move that they refer to.
-use Rattle.std.proofs.Math.Seq.{drop-nil}
 use Rattle.std.proofs.Common.{◌≡◌, ℕ, zero, suc, ◌+◌, ◌<◌, ◌≤◌, Bool, true, false, not, ◌&&◌, cond, List, [], ◌∷◌, ◌++◌, length, get_or, map}
 use Rattle.std.proofs.Common.{arith, refl, sym, ap, ◌∙◌, subst, Bor, take, drop, Some, slice_get}
 use Rattle.std.specs.Prelude.{filter}
@@ -9,7 +8,7 @@ use Rattle.std.specs.declared.cmp.Ordering.{Ordering}
 use Rattle.std.specs.declared.cmp.Ordering.TheVariants.{Less, Equal, Greater}
 use Rattle.std.specs.Ordering.{eq_by_cmp, is_eq, is_lt, ordering_reverse}
 use Rattle.std.specs.Cmp.{IsStrictWeakOrder}
-use Rattle.std.proofs.lemmas.List.{map-append, take_all, take_more, take-append-drop, drop_all, drop_more}
+use Rattle.std.proofs.lemmas.List.{map-append, take_all, take_more, take-append-drop, drop-drop, drop_all, drop_more}
 use Rattle.std.proofs.lemmas.List.Sorted.{ranks_by, sorted_far}
 use Rattle.std.proofs.lemmas.Option.{slice_get_within, get_or_from_slice_get}
 use Rattle.asm_element.specs.Place.{Place, location_cmp, location_cmp_total}
@@ -146,11 +145,11 @@ pub none_left : (l : Place) (rs : List (Bor Instruction)) (n : ℕ) → n ≡ le
 none_left l rs n is = ap (λ ss. starts_at l (referred ss)) (drop_all n rs (omega (arith, is)))
 
 -- the first instructions, as many as are at the location of the first, and the later ones
-pub parted : (rs own later : List (Bor Instruction)) (r : Bor Instruction) (n : ℕ) → slice_get rs 0 ≡ Some r →
-    own ≡ take n rs → later ≡ drop n rs →
+pub parted : (rs stretch later : List (Bor Instruction)) (r : Bor Instruction) (n : ℕ) → slice_get rs 0 ≡ Some r →
+    stretch ≡ take n rs → later ≡ drop n rs →
     AllByRecursion (λ (x : Instruction). eq_by_cmp location_cmp x.at r.now.at ≡ true) (referred (take n rs)) →
-    starts_at r.now.at (referred (drop n rs)) ≡ false → IsParted (referred rs) (referred own) (referred later) r.now.at
-parted rs own later r n read front back here ends = record {
+    starts_at r.now.at (referred (drop n rs)) ≡ false → IsParted (referred rs) (referred stretch) (referred later) r.now.at
+parted rs stretch later r n read front back here ends = record {
   starts = starts_first rs r read;
   whole = ap referred (sym (take-append-drop n rs))
       ∙ map-append (λ (s : Bor Instruction). s.now) (take n rs) (drop n rs)
@@ -160,21 +159,14 @@ parted rs own later r n read front back here ends = record {
   ends = ap (λ ss. starts_at r.now.at (referred ss)) back ∙ ends;
 }
 
-drop_sum : {X : Type 0} (m n : ℕ) (xs : List X) → drop n (drop m xs) ≡ drop (m + n) xs
-drop_sum zero n xs = ap (λ k. drop k xs) (omega arith)
-drop_sum (suc m) n [] = drop-nil n ∙ sym (drop-nil (suc m + n))
-drop_sum (suc m) n (x ∷ xs) =
-    let sum : suc (m + n) ≡ suc m + n = omega arith in
-    drop_sum m n xs ∙ ap (λ k. drop k (x ∷ xs)) sum
-
 -- the same of what is left of a walk
-pub parted_at : (rs left own : List (Bor Instruction)) (r : Bor Instruction) (done n : ℕ) → left ≡ drop done rs →
-    slice_get left 0 ≡ Some r → own ≡ take n left →
+pub parted_at : (rs left stretch : List (Bor Instruction)) (r : Bor Instruction) (done n : ℕ) → left ≡ drop done rs →
+    slice_get left 0 ≡ Some r → stretch ≡ take n left →
     AllByRecursion (λ (x : Instruction). eq_by_cmp location_cmp x.at r.now.at ≡ true) (referred (take n left)) →
     starts_at r.now.at (referred (drop n left)) ≡ false →
-    IsParted (left_in rs done) (referred own) (left_in rs (done + n)) r.now.at
-parted_at rs left own r done n is read front here ends =
-    subst (λ (xs : Move). IsParted xs (referred own) (left_in rs (done + n)) r.now.at) (ap referred is)
-    (subst (λ (ys : Move). IsParted (referred left) (referred own) ys r.now.at)
-    (ap referred (ap (drop n) is ∙ drop_sum done n rs))
-    (parted left own (drop n left) r n read front refl here ends))
+    IsParted (left_in rs done) (referred stretch) (left_in rs (done + n)) r.now.at
+parted_at rs left stretch r done n is read front here ends =
+    subst (λ (xs : Move). IsParted xs (referred stretch) (left_in rs (done + n)) r.now.at) (ap referred is)
+    (subst (λ (ys : Move). IsParted (referred left) (referred stretch) ys r.now.at)
+    (ap referred (ap (drop n) is ∙ drop-drop n done rs))
+    (parted left stretch (drop n left) r n read front refl here ends))

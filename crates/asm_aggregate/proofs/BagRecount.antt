@@ -19,12 +19,13 @@ use Rattle.asm_update.specs.declared.errors.ResultError.{ResultError}
 use Rattle.asm_aggregate.specs.Sets.{is_the}
 use Rattle.asm_aggregate.specs.Steps.{names, names_in, raised, lowered, IsMoved, IsMoreBy, IsShort, IsAbove}
 use Rattle.asm_aggregate.specs.BagMeaning.{amount_in, element_of, named, is_large, new_count, recounted}
+use Rattle.asm_aggregate.specs.BagMeaning.{renewed, short, large, tabled}
 use Rattle.asm_aggregate.specs.declared.side.Side.{Side}
 use Rattle.asm_aggregate.specs.declared.side.Side.TheVariants.{Added, Removed}
 use Rattle.asm_aggregate.specs.laws.SetAlgebra.{same_element}
-use Rattle.asm_aggregate.specs.laws.BagAlgebra.{has, has-names, held, renewed, unnamed, get-recounted, same_counts}
+use Rattle.asm_aggregate.specs.laws.BagAlgebra.{has, has-names, held, unnamed, get-recounted, same_counts}
 use Rattle.asm_aggregate.specs.laws.BagAlgebra.{small_bag, small_held, small_below}
-use Rattle.asm_aggregate.specs.laws.BagLaws.{short, large, tabled, none_short, none_large}
+use Rattle.asm_aggregate.specs.laws.BagLaws.{none_short, none_large}
 use Rattle.asm_aggregate.proofs.BagSteps.{named_if, passes_somewhere, is_short}
 use Rattle.asm_aggregate.proofs.Exits.{short_outcome, above_outcome}
 use Rattle.asm_aggregate.proofs.SetSteps.{IsItem, any_more}

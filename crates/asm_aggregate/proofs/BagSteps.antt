@@ -20,14 +20,15 @@ use Rattle.asm_update.specs.declared.action.Action.{Action}
 use Rattle.asm_update.specs.declared.clash.Cause.TheVariants.{Short, Large}
 use Rattle.asm_aggregate.specs.Steps.{names, one_action, IsMoreBy}
 use Rattle.asm_aggregate.specs.BagMeaning.{amount, amount_in, element_of, named, is_large, new_count, counted}
+use Rattle.asm_aggregate.specs.BagMeaning.{renewed, short, large, tabled}
 use Rattle.asm_aggregate.specs.BagMeaning.{bag_action}
 use Rattle.asm_aggregate.specs.BagMeaning.{bag_side, is_either_large}
 use Rattle.asm_aggregate.specs.declared.side.Side.{Side}
 use Rattle.asm_aggregate.specs.declared.side.Side.TheVariants.{Added, Removed}
 use Rattle.asm_aggregate.specs.laws.SetAlgebra.{same_element, contains-empty, contains-elements_by, found}
-use Rattle.asm_aggregate.specs.laws.BagAlgebra.{has, Small, held, renewed, unnamed, get-renewed}
+use Rattle.asm_aggregate.specs.laws.BagAlgebra.{has, Small, held, unnamed, get-renewed}
 use Rattle.asm_aggregate.specs.laws.BagAlgebra.{small_held, small_below, same_counts}
-use Rattle.asm_aggregate.specs.laws.BagLaws.{short, large, tabled, none_short, none_large}
+use Rattle.asm_aggregate.specs.laws.BagLaws.{none_short, none_large}
 use Rattle.asm_aggregate.proofs.SetSteps.{IsItem}
 
 pub sum_more : (f : Action → ℕ) (xs : List Action) (i : ℕ) (x : Action) → IsItem xs i x →
@@ -47,20 +48,20 @@ amount_at : (side : Side) (a : Action) (x : Element) (n k : ℕ) → a ≡ bag_a
 amount_at Added a x n k is got e = ap (amount Added e) is ∙ ap (λ m. cond (eq_by_cmp element_cmp e x) m 0) (sym got)
 amount_at Removed a x n k is got e = ap (amount Removed e) is ∙ ap (λ m. cond (eq_by_cmp element_cmp e x) m 0) (sym got)
 
-own_amount : (side : Side) (a : Action) (x : Element) (n k : ℕ) → a ≡ bag_action side x n → k ≡ n → amount side x a ≡ k
-own_amount side a x n k is got = amount_at side a x n k is got x ∙ ap (λ t. cond t k 0) (itself element_cmp_total x)
+amount_here : (side : Side) (a : Action) (x : Element) (n k : ℕ) → a ≡ bag_action side x n → k ≡ n → amount side x a ≡ k
+amount_here side a x n k is got = amount_at side a x n k is got x ∙ ap (λ t. cond t k 0) (itself element_cmp_total x)
 
 pub short_here : (b : ElementBag) (a : Action) (x : Element) (n m k : ℕ) →
     a ≡ bag_action Removed x n → m ≡ count b x → k ≡ n → m < k → (e : Element) × (count b e < amount Removed e a)
 short_here b a x n m k is counted got less =
-    let r = own_amount Removed a x n k is got in
+    let r = amount_here Removed a x n k is got in
     (x, omega (arith, r, counted, less))
 
 pub large_here : (b : ElementBag) (a : Action) (x : Element) (n m k : ℕ) →
     a ≡ bag_action Added x n → m ≡ count b x → k ≡ n → 4294967295 - m < k →
     (e : Element) × (4294967295 < count b e + amount Added e a)
 large_here b a x n m k is counted got more =
-    let r = own_amount Added a x n k is got in
+    let r = amount_here Added a x n k is got in
     (x, omega (arith, r, counted, more))
 
 taken : (c : Bool) (m n q : ℕ) → n ≤ m → (c ≡ true → q ≡ m) → cond c (m - n) q + cond c n 0 ≡ q

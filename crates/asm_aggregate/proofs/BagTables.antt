@@ -13,7 +13,7 @@ use Rattle.asm_element.specs.Bag.{ElementBag, count}
 use Rattle.asm_element.specs.Bag as bag
 use Rattle.asm_update.specs.Aggregator.{Joined, Refused, TooLarge, IsOutcome, IsJoined}
 use Rattle.asm_update.specs.Action.{is_of}
-use Rattle.asm_update.specs.Fire.{Outcome}
+use Rattle.asm_update.specs.Fire.{GroupResult}
 use Rattle.asm_update.specs.declared.action.Action.{Action}
 use Rattle.asm_update.specs.declared.action.Family.TheVariants.{Bag}
 use Rattle.asm_update.specs.declared.clash.Cause.TheVariants.{Mixed, Kind, Against, Short, Large}
@@ -22,15 +22,15 @@ use Rattle.asm_update.specs.declared.errors.ResultError.{ResultError}
 use Rattle.asm_aggregate.specs.Families.{is_kind}
 use Rattle.asm_aggregate.specs.Steps.{IsMoreBy, IsShort, IsAbove, AreActions}
 use Rattle.asm_aggregate.specs.BagMeaning.{counts, amount_in, named, joined_amount, is_either_large, bag_actions}
+use Rattle.asm_aggregate.specs.BagMeaning.{renewed, large, tabled}
 use Rattle.asm_aggregate.specs.BagMeaning.{bag_result, bag_joins}
 use Rattle.asm_aggregate.specs.declared.side.Side.TheVariants.{Added, Removed}
-use Rattle.asm_aggregate.specs.laws.BagAlgebra.{renewed, small_bag}
-use Rattle.asm_aggregate.specs.laws.BagLaws.{large, tabled}
+use Rattle.asm_aggregate.specs.laws.BagAlgebra.{small_bag}
 use Rattle.asm_aggregate.proofs.BagSteps.{is_short, not_short, is_above, result_is}
 use Rattle.asm_aggregate.proofs.Exits.{short_outcome, above_outcome, large_join}
 
-abbrev outcome_by : Bool → Value → Bool → List Action → Outcome
-outcome_by all base alone partials =
+abbrev result_by : Bool → Value → Bool → List Action → GroupResult
+result_by all base alone partials =
     cond (not all) (Err Mixed) (cond (not (is_kind Bag base)) (Err Kind) (cond alone (Err Against)
     (tabled (counts base) partials)))
 
@@ -45,7 +45,7 @@ pub record IsOnBag (old : Value) (regular : Option Value) (partials ps : List Ac
 module _ (old : Value) (regular : Option Value) (partials ps : List Action) (b : ElementBag)
     (on : IsOnBag old regular partials ps b) where
   on_bag : bag_result old regular partials ≡ tabled b ps
-  on_bag = ap (bag_result old regular) (sym on.same) ∙ (λ i. outcome_by (on.all i) (on.base i) (on.alone i) ps)
+  on_bag = ap (bag_result old regular) (sym on.same) ∙ (λ i. result_by (on.all i) (on.base i) (on.alone i) ps)
 
   pub short_result : (error : ResultError) → IsShort (count b) (amount_in Removed ps) error →
       IsOutcome (Err error) (bag_result old regular partials)

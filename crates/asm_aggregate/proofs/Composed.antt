@@ -8,15 +8,15 @@ use Rattle.asm_element.specs.Value as value
 use Rattle.asm_element.specs.Value.{undef}
 use Rattle.asm_element.specs.declared.value.Value.{Value}
 use Rattle.asm_update.specs.Action.{is_partial, regular_value, AllProper}
-use Rattle.asm_update.specs.Aggregator.{Meaning, AggregatorLaws, Joined, Refusal, Refused, after}
-use Rattle.asm_update.specs.Fire.{Part, Outcome, first, group_result, res}
+use Rattle.asm_update.specs.Aggregator.{Meaning, AggregatorLaws, Joined, NoJoin, Refused, after}
+use Rattle.asm_update.specs.Fire.{Part, GroupResult, first, group_result, res}
 use Rattle.asm_update.specs.Move.{are_different}
 use Rattle.asm_update.specs.declared.action.Action.{Action}
 use Rattle.asm_update.specs.declared.action.Action.TheVariants.{Regular}
 use Rattle.asm_update.specs.declared.clash.Cause.TheVariants.{Two}
 use Rattle.asm_update.proofs.ActionLemmas.{IsRegular, IsPartial, kinds, partial_none}
 use Rattle.asm_aggregate.specs.Bundle.{bundle_of, bundle_result}
-use Rattle.asm_aggregate.specs.Compose.{cause_of, alone_clash, own_clash, as_regular, composed}
+use Rattle.asm_aggregate.specs.Compose.{cause_of, alone_clash, clash_on_any, as_regular, composed}
 use Rattle.asm_aggregate.specs.laws.PairLaws.{passed_unless, refused_none}
 use Rattle.asm_aggregate.specs.PairMeaning.{unless}
 use Rattle.asm_aggregate.proofs.Bundles.{bundle_from}
@@ -28,7 +28,7 @@ abbrev partials_of : List Action → List Action
 partials_of G = filter is_partial G
 
 -- what a list of any actions gives on a value: an empty list leaves it as it is
-abbrev pub gives : Part → Value → List Action → Outcome
+abbrev pub gives : Part → Value → List Action → GroupResult
 gives part v [] = Ok v
 gives part v (x ∷ xs) = res part v (x ∷ xs)
 
@@ -56,13 +56,13 @@ gives_regulars : (part : Part) (v s : Value) (ss : List Value) (xs : List Action
 gives_regulars part v s ss [] h = cc
 gives_regulars part v s ss (x ∷ xs) h = ap (λ vs. bundle_result part v (bundle_from vs (partials_of (x ∷ xs)))) h
 
-no_clash : (o : Outcome) → cause_of o ≡ None → (v : Value) × (o ≡ Ok v)
+no_clash : (o : GroupResult) → cause_of o ≡ None → (v : Value) × (o ≡ Ok v)
 no_clash (Ok v) h = (v, refl)
 no_clash (Err cause) h = cc
 
 module _ {a : Meaning} (laws : AggregatorLaws a) where
   -- actions with a regular value and no clash of their own give that value, whatever the old one
-  gives_it : (v s : Value) (ss : List Value) (ps : List Action) → own_clash a (bundle_from (s ∷ ss) ps) ≡ None →
+  gives_it : (v s : Value) (ss : List Value) (ps : List Action) → clash_on_any a (bundle_from (s ∷ ss) ps) ≡ None →
       bundle_result a.part v (bundle_from (s ∷ ss) ps) ≡ Ok s
   gives_it v s ss ps h = by_test (are_different (s ∷ ss)) ps h where
     by_test : (d : Bool) (ps : List Action) →
@@ -77,7 +77,7 @@ module _ {a : Meaning} (laws : AggregatorLaws a) where
 
   -- and where they give a value, that is the regular one, and they have no clash of their own
   gave_it : (v w s : Value) (ss : List Value) (ps : List Action) →
-      bundle_result a.part v (bundle_from (s ∷ ss) ps) ≡ Ok w → (w ≡ s) × (own_clash a (bundle_from (s ∷ ss) ps) ≡ None)
+      bundle_result a.part v (bundle_from (s ∷ ss) ps) ≡ Ok w → (w ≡ s) × (clash_on_any a (bundle_from (s ∷ ss) ps) ≡ None)
   gave_it v w s ss ps h = by_test (are_different (s ∷ ss)) ps h where
     by_test : (d : Bool) (ps : List Action) → cond d (Err Two) (group_result a.part v (Some s) ps) ≡ Ok w →
         (w ≡ s) × (cause_of (cond d (Err Two) (group_result a.part undef (Some s) ps)) ≡ None)
@@ -97,15 +97,15 @@ module _ {a : Meaning} (laws : AggregatorLaws a) where
       gives a.part v joined ≡ gives a.part w second
   composed_gives v w first second joined vs (s ∷ ss) e k pv p1 p2 ne join h =
       let past = passed_unless _ _ joined join in
-      let own = passed_unless _ _ joined past.1 in
-      ap (gives a.part v) (sym (ok_is _ _ own.1))
-      ∙ sym (gives_regulars a.part w s ss second k ∙ gives_it w s ss (partials_of second) own.0)
+      let second_passes = passed_unless _ _ joined past.1 in
+      ap (gives a.part v) (sym (ok_is _ _ second_passes.1))
+      ∙ sym (gives_regulars a.part w s ss second k ∙ gives_it w s ss (partials_of second) second_passes.0)
   composed_gives v w first second joined (u ∷ us) [] e k pv p1 p2 ne join h =
       let past = passed_unless _ _ joined join in
       let was = (gave_it v w u us (partials_of first) (sym (gives_regulars a.part v u us first e) ∙ h)).0 in
       at (after a u (partials_of second)) refl past.1 ∙ ap (after a u) (partials_alone second k)
       ∙ sym (gives_partials a w second k ∙ ap (λ x. after a x second) was) where
-        at : (o : Outcome) → after a u (partials_of second) ≡ o → as_regular o ≡ Ok joined →
+        at : (o : GroupResult) → after a u (partials_of second) ≡ o → as_regular o ≡ Ok joined →
             gives a.part v joined ≡ after a u (partials_of second)
         at (Ok r) i join = ap (gives a.part v) (sym (ok_is _ _ join)) ∙ sym i
         at (Err cause) i join = cc
@@ -127,7 +127,7 @@ module _ {a : Meaning} (laws : AggregatorLaws a) where
 
   -- a list that has a result on a proper value has no clash of its own
   no_own : (v w : Value) (xs : List Action) (vs : List Value) → values_of xs ≡ vs → value.IsProper v → AllProper xs →
-      gives a.part v xs ≡ Ok w → own_clash a (bundle_from vs (partials_of xs)) ≡ None
+      gives a.part v xs ≡ Ok w → clash_on_any a (bundle_from vs (partials_of xs)) ≡ None
   no_own v w xs (s ∷ ss) e pv px h = (gave_it v w s ss (partials_of xs) (sym (gives_regulars a.part v s ss xs e) ∙ h)).1
   no_own v w xs [] e pv px h =
       ap (alone_clash a) (partials_alone xs e) ∙ alone xs px (sym (gives_partials a v xs e) ∙ h) where
@@ -137,18 +137,18 @@ module _ {a : Meaning} (laws : AggregatorLaws a) where
             refused_none _
             (λ cause i. laws.refused_join v w w (y ∷ ys) [] (Refused cause) pv py (All-nil _) (λ j. cc) i k refl)
 
-  refused_by : (v w x : Value) (first second : List Action) (refusal : Refusal) (vs ss : List Value) →
+  refused_by : (v w x : Value) (first second : List Action) (refusal : NoJoin) (vs ss : List Value) →
       values_of first ≡ vs → values_of second ≡ ss →
       value.IsProper v → AllProper first → AllProper second → first ++ second ≢ [] →
       composed_from vs (partials_of first) ss (partials_of second) ≡ Err refusal → gives a.part v first ≡ Ok w →
       gives a.part w second ≢ Ok x
   refused_by v w x first second refusal vs (s ∷ ss) e k pv p1 p2 ne join h i =
       let own1 = no_own v w first vs e pv p1 h in
-      let own = (gave_it w x s ss (partials_of second) (sym (gives_regulars a.part w s ss second k) ∙ i)).1 in
+      let no_clash = (gave_it w x s ss (partials_of second) (sym (gives_regulars a.part w s ss second k) ∙ i)).1 in
       let given : Ok (Regular s ∷ []) ≡ Err refusal =
       sym ((λ j. unless (own1 j)
-      (unless (own_clash a (bundle_from (s ∷ ss) (partials_of second))) (Ok (Regular s ∷ []))))
-      ∙ (λ j. unless (own j) (Ok (Regular s ∷ [])))) ∙ join in cc
+      (unless (clash_on_any a (bundle_from (s ∷ ss) (partials_of second))) (Ok (Regular s ∷ []))))
+      ∙ (λ j. unless (no_clash j) (Ok (Regular s ∷ [])))) ∙ join in cc
   refused_by v w x first second refusal (u ∷ us) [] e k pv p1 p2 ne join h i =
       let own1 = no_own v w first (u ∷ us) e pv p1 h in
       let was = (gave_it v w u us (partials_of first) (sym (gives_regulars a.part v u us first e) ∙ h)).0 in
@@ -165,7 +165,7 @@ module _ {a : Meaning} (laws : AggregatorLaws a) where
       (sym (gives_partials a v first e) ∙ h) (sym (gives_partials a w second k) ∙ i)
 
   -- where no list is composed, no value lets the first and then the second have results
-  pub refused_is_clash : (v w x : Value) (first second : List Action) (refusal : Refusal) → value.IsProper v →
+  pub refused_is_clash : (v w x : Value) (first second : List Action) (refusal : NoJoin) → value.IsProper v →
       AllProper first → AllProper second → first ++ second ≢ [] →
       composed a (bundle_of first) (bundle_of second) ≡ Err refusal → gives a.part v first ≡ Ok w →
       gives a.part w second ≢ Ok x

@@ -14,7 +14,7 @@ use Rattle.asm_element.specs.Place.{same_location}
 use Rattle.asm_element.specs.Tests.{itself}
 use Rattle.asm_element.specs.declared.value.Value.{Value}
 use Rattle.asm_update.specs.Action.{is_partial, regular_value, IsProperInstruction}
-use Rattle.asm_update.specs.Aggregator.{Meaning, AggregatorLaws, Joined, Refusal, Refused, TooLarge, IsJoined}
+use Rattle.asm_update.specs.Aggregator.{Meaning, AggregatorLaws, Joined, NoJoin, Refused, TooLarge, IsJoined}
 use Rattle.asm_update.specs.Fire.{first, written, locations}
 use Rattle.asm_update.specs.Move.{Move, actions_at, writes}
 use Rattle.asm_update.specs.declared.action.Action.{Action}
@@ -78,11 +78,11 @@ same_places m W has =
     sym (places-units es) ∙ ap places (sym (finite.entries-from_sorted location_cmp (units es) sorted))
     ∙ ap (λ (n : finite.FinMap location_cmp (Unit {0})). places (finite.entries n)) same
 
-before-none : (r : Result Move (Place × Refusal)) → before [] r ≡ r
+before-none : (r : Result Move (Place × NoJoin)) → before [] r ≡ r
 before-none (Ok M) = refl
 before-none (Err e) = refl
 
-before-append : (M N : Move) (r : Result Move (Place × Refusal)) → before (M ++ N) r ≡ before M (before N r)
+before-append : (M N : Move) (r : Result Move (Place × NoJoin)) → before (M ++ N) r ≡ before M (before N r)
 before-append M N (Ok R) = ap (λ L. Ok L) (append_assoc M N R)
 before-append M N (Err e) = refl
 
@@ -204,7 +204,7 @@ module _ (a : Meaning) (M N : Move) where
           ∙ had.others l (ap is_some (ap (find_in l) step ∙ ap (λ t. cond t (Some b) (find_in l rest)) e) ∙ h)
 
     -- or it refuses
-    refuses : (s : Bundle) (refusal : Refusal) → s ≡ unwrap_or (finite.get seconds k) (bundle_of []) →
+    refuses : (s : Bundle) (refusal : NoJoin) → s ≡ unwrap_or (finite.get seconds k) (bundle_of []) →
         composed a b s ≡ Err refusal → composition a M N ≡ Err (k, refusal)
     refuses s refusal is gave =
         sym whole ∙ ap (λ o. before list (in_turn ((k, o) ∷ turns a M N rest))) (answered s (Err refusal) is gave)

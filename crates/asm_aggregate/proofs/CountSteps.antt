@@ -7,7 +7,6 @@ use Rattle.std.proofs.lemmas.Int.{ints}
 use Rattle.std.proofs.lemmas.List.{take_more, take_all}
 use Rattle.asm_update.specs.declared.action.Action.{Action}
 use Rattle.asm_aggregate.specs.CountMeaning.{increment, total}
-use Rattle.asm_aggregate.specs.laws.CountAlgebra.{total-append}
 use Rattle.asm_aggregate.proofs.SetSteps.{IsItem}
 
 -- the sum of the first actions of a list, each of which adds a number in the range of i64
@@ -15,6 +14,10 @@ pub record Counted (xs : List Action) (i : ℕ) (sum : ℤ) : Type 0 where
   pub is : sum ≡ total (take i xs)
   pub below : sum ≤ℤ pos (i * 9223372036854775808)
   pub above : neg_ℤ (pos (i * 9223372036854775808)) ≤ℤ sum
+
+total-append : (xs ys : List Action) → total (xs ++ ys) ≡ total xs +ℤ total ys
+total-append [] ys = omega (arith, ints)
+total-append (x ∷ xs) ys = let rest = total-append xs ys in omega (arith, ints, rest)
 
 total_more : (xs : List Action) (i : ℕ) (x : Action) → IsItem xs i x →
     total (take (i + 1) xs) ≡ total (take i xs) +ℤ increment x

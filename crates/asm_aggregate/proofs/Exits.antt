@@ -2,8 +2,8 @@
 use Rattle.std.proofs.Common.{◌≡◌, ℕ, ◌<◌, Bool, true, false, List, [], ◌∷◌, sym, subst}
 use Rattle.std.specs.Prelude.{Result, Ok, Err, None, IsOk, if◌then◌else◌, refl}
 use Rattle.asm_element.specs.declared.element.Element.{Element}
-use Rattle.asm_update.specs.Aggregator.{Joined, Refusal, Refused as Refuses, TooLarge, IsAdmitted, IsOutcome, IsJoined}
-use Rattle.asm_update.specs.Fire.{Outcome}
+use Rattle.asm_update.specs.Aggregator.{Joined, NoJoin, Refused as Refuses, TooLarge, IsAdmitted, IsOutcome, IsJoined}
+use Rattle.asm_update.specs.Fire.{GroupResult}
 use Rattle.asm_update.specs.declared.action.Action.{Action}
 use Rattle.asm_update.specs.declared.clash.Cause.TheVariants.{Short, Large, Mixed, Both}
 use Rattle.asm_update.specs.declared.errors.ResultError.{ResultError}
@@ -32,14 +32,14 @@ above_error count count' (Refused Large) f h = f h
 above_error count count' Memory f h = tt
 above_error count count' error f h = absurd h
 
-pub short_outcome : (there gone : Element → ℕ) (error : ResultError) (outcome : Outcome) →
+pub short_outcome : (there gone : Element → ℕ) (error : ResultError) (outcome : GroupResult) →
     ((e : Element) × (there e < gone e) → outcome ≡ Err Short) → IsShort there gone error →
     IsOutcome (Err error) outcome
 short_outcome there gone (Refused Short) outcome f h = f h
 short_outcome there gone Memory outcome f h = tt
 short_outcome there gone error outcome f h = absurd h
 
-pub above_outcome : (count : Element → ℕ) (error : ResultError) (outcome : Outcome) →
+pub above_outcome : (count : Element → ℕ) (error : ResultError) (outcome : GroupResult) →
     ((e : Element) × (4294967295 < count e) → outcome ≡ Err Large) → IsAbove count error → IsOutcome (Err error) outcome
 above_outcome count (Refused Large) outcome f h = f h
 above_outcome count Memory outcome f h = tt
@@ -57,7 +57,7 @@ large_error test more join_error.Large f h = f h
 large_error test more join_error.Memory f h = tt
 large_error test more (join_error.Cause cause) f h = absurd h
 
-no_refusal : {P : Type 0} (v : List Action) (r : Refusal) → Ok v ≡ Err r → P
+no_refusal : {P : Type 0} (v : List Action) (r : NoJoin) → Ok v ≡ Err r → P
 no_refusal v r h = cc
 
 -- a list that is refused of itself is refused whatever else the table has
@@ -71,10 +71,10 @@ table_refused false false join_error.Large rest h = no_refusal [] TooLarge h
 table_refused false false join_error.Memory rest h = tt
 
 -- what is admitted has no cause
-none_of_ok : (outcome : Outcome) → IsOk outcome → cause_of outcome ≡ None
+none_of_ok : (outcome : GroupResult) → IsOk outcome → cause_of outcome ≡ None
 none_of_ok (Ok value) h = refl
 none_of_ok (Err cause) h = cc
 
-pub admitted_none : (r : Result (Unit {0}) ResultError) (u : Unit {0}) (outcome : Outcome) → r ≡ Ok u →
+pub admitted_none : (r : Result (Unit {0}) ResultError) (u : Unit {0}) (outcome : GroupResult) → r ≡ Ok u →
     IsAdmitted r outcome → cause_of outcome ≡ None
 admitted_none r u outcome is h = none_of_ok outcome (subst (λ (s : Result (Unit {0}) ResultError). IsAdmitted s outcome) is h)

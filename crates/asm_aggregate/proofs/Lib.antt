@@ -11,5 +11,5 @@ mod BagSums
 mod Bundles
 mod Grouped
 mod Composed
-mod Sequence
+pub mod Sequence
 mod Composing

@@ -84,17 +84,17 @@ writes_elsewhere k l (x ∷ xs) here other =
     ∙ (eq_by_cmp_equiv location_cmp_total).symm k l ∙ other)
     ∙ writes_elsewhere k l xs here.1 other
 
-module _ (left own later : Move) (k : Place) (up : IsAscending left) (parted : IsParted left own later k) where
+module _ (left stretch later : Move) (k : Place) (up : IsAscending left) (parted : IsParted left stretch later k) where
   pub floor : IsFloor k left
   floor = floor_of left k up parted.starts
 
   pub later_up : IsAscending later
-  later_up = ascending_later own later (subst IsAscending parted.whole up)
+  later_up = ascending_later stretch later (subst IsAscending parted.whole up)
 
   pub later_apart : writes later k ≡ false
   later_apart =
       apart k later
-      (all_later (λ (y : Instruction). is_lt (location_cmp y.at k) ≡ false) own later (subst (IsFloor k) parted.whole floor))
+      (all_later (λ (y : Instruction). is_lt (location_cmp y.at k) ≡ false) stretch later (subst (IsFloor k) parted.whole floor))
       later_up parted.ends
 
   pub starts_written : writes left k ≡ true
@@ -104,24 +104,24 @@ module _ (left own later : Move) (k : Place) (up : IsAscending left) (parted : I
     first (x ∷ xs) h = ap (λ b. b || writes xs k) h
 
   -- at the location the move does what its first instructions do
-  pub own_actions : actions_at left k ≡ map (λ (i : Instruction). i.action) own
-  own_actions =
-      ap (λ (xs : Move). actions_at xs k) parted.whole ∙ actions_at-append own later k
-      ∙ ap (λ ys. actions_at own k ++ ys) (unwritten later k later_apart) ∙ append-nil (actions_at own k)
-      ∙ actions_here k own parted.here
+  pub stretch_actions : actions_at left k ≡ map (λ (i : Instruction). i.action) stretch
+  stretch_actions =
+      ap (λ (xs : Move). actions_at xs k) parted.whole ∙ actions_at-append stretch later k
+      ∙ ap (λ ys. actions_at stretch k ++ ys) (unwritten later k later_apart) ∙ append-nil (actions_at stretch k)
+      ∙ actions_here k stretch parted.here
 
   -- and elsewhere what the later ones do
   pub later_actions : (l : Place) → eq_by_cmp location_cmp l k ≡ false → actions_at later l ≡ actions_at left l
   later_actions l other =
-      sym (ap (λ (xs : Move). actions_at xs l) parted.whole ∙ actions_at-append own later l
-      ∙ ap (λ ys. ys ++ actions_at later l) (unwritten own l (writes_elsewhere k l own parted.here other)))
+      sym (ap (λ (xs : Move). actions_at xs l) parted.whole ∙ actions_at-append stretch later l
+      ∙ ap (λ ys. ys ++ actions_at later l) (unwritten stretch l (writes_elsewhere k l stretch parted.here other)))
 
 -- what is left is less
-pub fewer : (left own later : Move) (k : Place) → IsParted left own later k → length later < length left
-fewer left own later k parted = by_own own parted.whole where
-  by_own : (own : Move) → left ≡ own ++ later → length later < length left
-  by_own [] whole =
+pub fewer : (left stretch later : Move) (k : Place) → IsParted left stretch later k → length later < length left
+fewer left stretch later k parted = by_stretch stretch parted.whole where
+  by_stretch : (stretch : Move) → left ≡ stretch ++ later → length later < length left
+  by_stretch [] whole =
       absurd (false≢true (sym parted.ends ∙ ap (starts_at k) (sym whole) ∙ parted.starts))
-  by_own (x ∷ xs) whole =
+  by_stretch (x ∷ xs) whole =
       let long : length left ≡ suc (length (xs ++ later)) = ap length whole in
       omega (arith, long, length-append xs later)

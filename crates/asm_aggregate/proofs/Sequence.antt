@@ -14,8 +14,8 @@ use Rattle.asm_element.specs.Tests.{ok_is, err_is, flipped, itself, neither, or_
 use Rattle.asm_element.specs.Value as value
 use Rattle.asm_element.specs.declared.value.Value.{Value}
 use Rattle.asm_update.specs.Action.{AllProper, IsProper, IsProperInstruction}
-use Rattle.asm_update.specs.Aggregator.{Meaning, AggregatorLaws, Joined, Refusal}
-use Rattle.asm_update.specs.Fire.{Part, Outcome, res, outcome_at, fire, then_fire, written, locations, IsLeastClash}
+use Rattle.asm_update.specs.Aggregator.{Meaning, AggregatorLaws, Joined, NoJoin}
+use Rattle.asm_update.specs.Fire.{Part, GroupResult, res, result_at, fire, then_fire, written, locations, IsLeastClash}
 use Rattle.asm_update.specs.Move.{Move, actions_at, writes}
 use Rattle.asm_update.specs.State.{State, val}
 use Rattle.asm_update.specs.State as state
@@ -54,7 +54,8 @@ proper_stored A proper q = by_cases (finite.get A q) refl where
       (sym (found_all (λ w. value.is_undef w ≡ false) (finite.entries A) q v proper.no_undef
       (sym (finite.get-entries A q) ∙ e)))
 
-proper_value : (A : State) (q : Place) → state.IsProper A → value.IsProper (val A q)
+-- a proper state has proper values
+pub proper_value : (A : State) (q : Place) → state.IsProper A → value.IsProper (val A q)
 proper_value A q proper = by_cases (finite.get A q) refl where
   by_cases : (o : Option Value) → finite.get A q ≡ o → value.IsProper (unwrap_or o value.undef)
   by_cases None e = tt
@@ -65,12 +66,12 @@ gives_some part v [] ne = absurd (ne refl)
 gives_some part v (x ∷ xs) ne = refl
 
 -- what a move gives at a location, which it leaves as it is where it doesn't write it
-abbrev given : Part → State → Move → Place → Outcome
+abbrev given : Part → State → Move → Place → GroupResult
 given part A M l = gives part (val A l) (actions_at M l)
 
 module _ (part : Part) where
   given_written : (A : State) (M : Move) (l : Place) → writes M l ≡ true →
-      given part A M l ≡ outcome_at part (val A) M l
+      given part A M l ≡ result_at part (val A) M l
   given_written A M l w =
       gives_some part (val A l) (actions_at M l) (λ none. absurd (false≢true (sym (no_actions M l none) ∙ w)))
 
@@ -186,7 +187,7 @@ module _ (out : Place → Joined) where
             ∙ ap (λ ys. ys ++ actions_at D q) (actions_placed l q xs false (flipped location_cmp_total l q ∙ t)) in
             (λ i. at.0 i ∙ ap (λ ys. Ok ys) (sym list), λ i. list ∙ at.1 i)
 
-        by_answers : (o : Joined) (r : Result Move (Place × Refusal)) → out l ≡ o → in_turn (outs ls) ≡ r →
+        by_answers : (o : Joined) (r : Result Move (Place × NoJoin)) → out l ≡ o → in_turn (outs ls) ≡ r →
             in_turn ((l, o) ∷ outs ls) ≡ Ok C → ((D : Move) → in_turn (outs ls) ≡ Ok D → IsAt ls D q) →
             IsAt (l ∷ ls) C q
         by_answers (Ok xs) (Ok D) e f k later =
@@ -196,12 +197,12 @@ module _ (out : Place → Joined) where
         by_answers (Err r) s e f k later = cc
 
   -- the refusal is that of its location
-  in_turn_refusal : (ls : List Place) (k : Place) (refusal : Refusal) → in_turn (outs ls) ≡ Err (k, refusal) →
+  in_turn_refusal : (ls : List Place) (k : Place) (refusal : NoJoin) → in_turn (outs ls) ≡ Err (k, refusal) →
       (is_in ls k ≡ true) × (out k ≡ Err refusal)
   in_turn_refusal [] k refusal h = cc
   in_turn_refusal (l ∷ ls) k refusal h =
       by_answers (out l) (in_turn (outs ls)) refl refl h (in_turn_refusal ls k refusal) where
-        here : (r : Refusal) → out l ≡ Err r → (l ≡ k) × (r ≡ refusal) →
+        here : (r : NoJoin) → out l ≡ Err r → (l ≡ k) × (r ≡ refusal) →
             (is_in (l ∷ ls) k ≡ true) × (out k ≡ Err refusal)
         here r e is = (
           ap (λ p. eq_by_cmp location_cmp k p || is_in ls k) is.0
@@ -209,19 +210,20 @@ module _ (out : Place → Joined) where
           ap out (sym is.0) ∙ e ∙ ap (λ s. Err s) is.1,
         )
 
-        by_answers : (o : Joined) (r : Result Move (Place × Refusal)) → out l ≡ o → in_turn (outs ls) ≡ r →
+        by_answers : (o : Joined) (r : Result Move (Place × NoJoin)) → out l ≡ o → in_turn (outs ls) ≡ r →
             in_turn ((l, o) ∷ outs ls) ≡ Err (k, refusal) →
             (in_turn (outs ls) ≡ Err (k, refusal) → (is_in ls k ≡ true) × (out k ≡ Err refusal)) →
             (is_in (l ∷ ls) k ≡ true) × (out k ≡ Err refusal)
         by_answers (Ok xs) (Ok D) e f h later =
-            let no : ◌≡◌ {A = Result Move (Place × Refusal)} (Ok (placed l xs ++ D)) (Err (k, refusal)) =
+            let no : ◌≡◌ {A = Result Move (Place × NoJoin)} (Ok (placed l xs ++ D)) (Err (k, refusal)) =
             ap (before (placed l xs)) (sym f) ∙ h in cc
         by_answers (Ok xs) (Err r) e f h later =
             let had = later (f ∙ ap (λ s. Err s) (err_is _ _ (ap (before (placed l xs)) (sym f) ∙ h))) in
             (or_right _ _ had.0, had.1)
         by_answers (Err r) s e f h later = let is = err_is _ _ h in here r e (ap (λ p. p.0) is, ap (λ p. p.1) is)
 
-proper_actions : (M : Move) (l : Place) → All IsProperInstruction M → AllProper (actions_at M l)
+-- a proper move has proper actions
+pub proper_actions : (M : Move) (l : Place) → All IsProperInstruction M → AllProper (actions_at M l)
 proper_actions [] l h = All-nil IsProper
 proper_actions (x ∷ M) l h =
     by_test (eq_by_cmp location_cmp x.at l) (proper_actions M l (All-tail IsProperInstruction x M h)) where
@@ -273,7 +275,7 @@ module _ {a : Meaning} (laws : AggregatorLaws a) (M N : Move) (proper : All IsPr
     by_answer (Err c) h f = cc
 
   -- where a location refuses, the two in turn never fire
-  pub refusal_never_fires : (l : Place) (refusal : Refusal) → composition a M N ≡ Err (l, refusal) →
+  pub refusal_never_fires : (l : Place) (refusal : NoJoin) → composition a M N ≡ Err (l, refusal) →
       NeverFires a.part M N
   refusal_never_fires l refusal is A pA = by_answer (fire a.part A M) refl where
     at : (is_in at_locations l ≡ true) × (composed_at a M N l ≡ Err refusal)

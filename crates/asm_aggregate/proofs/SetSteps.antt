@@ -1,22 +1,30 @@
 -- Sets of elements and lists of actions, one step of a loop at a time.
 use Rattle.std.proofs.Common.{◌≡◌, ℕ, ◌+◌, ◌<◌, ◌≤◌, Bool, true, false, not, ◌&&◌, ◌||◌, List, [], ◌∷◌, ◌++◌, map}
-use Rattle.std.proofs.Common.{length, take, get_or, refl, sym, ap, ◌∙◌, append_assoc, append-nil}
-use Rattle.std.specs.Prelude.{Option, None, Some, if◌then◌else◌}
+use Rattle.std.proofs.Common.{cond, length, take, get_or, refl, sym, ap, ◌∙◌, append_assoc, append-nil}
+use Rattle.std.specs.Prelude.{Option, None, Some, is_some, if◌then◌else◌}
+use Rattle.std.specs.FinMap as finite
 use Rattle.std.specs.List.{list_any}
 use Rattle.std.specs.Ordering.{eq_by_cmp}
 use Rattle.std.proofs.lemmas.List.{take_more, take_all}
 use Rattle.std.proofs.lemmas.List.Folds.{list_any-append}
 use Rattle.asm_element.proofs.SetTree.{contains-insert}
-use Rattle.asm_element.specs.Element.{element_cmp}
+use Rattle.asm_element.specs.Element.{element_cmp, element_cmp_total}
 use Rattle.asm_element.specs.declared.element.Element.{Element}
 use Rattle.asm_element.specs.Set.{ElementSet, empty, contains, insert, remove, elements, same_set}
 use Rattle.asm_element.specs.Tests.{or_false, or_true, and_true, or_comm, or_assoc}
 use Rattle.std.proofs.lemmas.Bool.{false≢true}
 use Rattle.asm_update.specs.declared.action.Action.{Action}
 use Rattle.asm_aggregate.specs.Sets.{union, difference, meets, is_the, with_element, elements_by}
-use Rattle.asm_aggregate.specs.laws.SetAlgebra.{contains-remove, contains-elements, contains-union}
+use Rattle.asm_aggregate.specs.laws.SetAlgebra.{contains-elements, contains-union}
 use Rattle.asm_aggregate.specs.laws.SetAlgebra.{contains-empty, contains-difference, contains-with_element}
 use Rattle.asm_aggregate.specs.laws.SetAlgebra.{contains-elements_by, apart, not_meeting, same_element}
+
+contains-remove : (s : ElementSet) (e q : Element) →
+    contains (remove s e) q ≡ (not (eq_by_cmp element_cmp q e) && contains s q)
+contains-remove s e q = ap is_some (finite.get-remove element_cmp_total s e q) ∙ kept (eq_by_cmp element_cmp q e) where
+  kept : (b : Bool) → is_some (cond b None (finite.get s q)) ≡ (not b && contains s q)
+  kept true = refl
+  kept false = refl
 
 -- the item of a list at which a loop is
 pub record IsItem {X : Type 0} (xs : List X) (i : ℕ) (x : X) : Type 0 where

@@ -9,7 +9,7 @@ use Rattle.asm_element.specs.Place.{Place, location_cmp, location_cmp_total, sam
 use Rattle.asm_element.specs.declared.value.Value.{Value}
 use Rattle.asm_update.specs.Move.{Move, actions_at, writes}
 use Rattle.asm_update.specs.State.{Updates}
-use Rattle.asm_update.specs.Fire.{Part, Old, Outcome, outcome_at, IsUpdateSet, IsLeastClash}
+use Rattle.asm_update.specs.Fire.{Part, Old, GroupResult, result_at, IsUpdateSet, IsLeastClash}
 use Rattle.asm_update.specs.Aggregator.{IsAdmitted, IsOutcome}
 use Rattle.asm_update.specs.declared.action.Instruction.{Instruction}
 use Rattle.asm_update.specs.declared.clash.AggError.{AggError}
@@ -21,7 +21,7 @@ use Rattle.asm_update.specs.declared.errors.ResultError.TheVariants.{Cause as Re
 use Rattle.asm_aggregate.specs.Bundle.{Bundle, bundle_of, bundle_result, IsWritten, IsAdmission, IsAggregate}
 use Rattle.asm_aggregate.specs.Stretch.{IsAscending, IsArranged, IsParted}
 use Rattle.asm_aggregate.proofs.Bundles.{written_bundle}
-use Rattle.asm_aggregate.proofs.Parted.{same_writes, none_lower, floor, later_up, later_apart, later_actions, own_actions}
+use Rattle.asm_aggregate.proofs.Parted.{same_writes, none_lower, floor, later_up, later_apart, later_actions, stretch_actions}
 use Rattle.asm_aggregate.proofs.Parted.{starts_written}
 
 -- what is left ascends and does what the move does at its locations, and the others have their results
@@ -29,7 +29,7 @@ pub record IsWalked (part : Part) (old : Old) (M left : Move) (updates : Updates
   pub rising : IsAscending left
   pub left_has : (l : Place) → writes left l ≡ true → actions_at left l ≡ actions_at M l
   pub done : (l : Place) → writes left l ≡ false → writes M l ≡ true →
-      IsSomeAnd (finite.get updates l) (λ v. outcome_at part old M l ≡ Ok v)
+      IsSomeAnd (finite.get updates l) (λ v. result_at part old M l ≡ Ok v)
   pub others : (l : Place) → writes M l ≡ false → finite.get updates l ≡ None
 
 module _ (part : Part) (old : Old) (M : Move) where
@@ -42,29 +42,29 @@ module _ (part : Part) (old : Old) (M : Move) where
     others = λ l w. ap (λ (u : Updates). finite.get u l) none ∙ finite.get-empty location_cmp l;
   }
 
-  module _ (left own later : Move) (k : Place) (updates : Updates) (b : Bundle) (parted : IsParted left own later k)
-      (is : b ≡ bundle_of (map (λ (i : Instruction). i.action) own)) (had : IsWalked part old M left updates) where
+  module _ (left stretch later : Move) (k : Place) (updates : Updates) (b : Bundle) (parted : IsParted left stretch later k)
+      (is : b ≡ bundle_of (map (λ (i : Instruction). i.action) stretch)) (had : IsWalked part old M left updates) where
     same_first : actions_at left k ≡ actions_at M k
-    same_first = had.left_has k (starts_written left own later k had.rising parted)
+    same_first = had.left_has k (starts_written left stretch later k had.rising parted)
 
     first_written_by : writes M k ≡ true
     first_written_by =
-        sym (same_writes left M k same_first) ∙ starts_written left own later k had.rising parted
+        sym (same_writes left M k same_first) ∙ starts_written left stretch later k had.rising parted
 
     first_has : b ≡ bundle_of (actions_at M k)
-    first_has = is ∙ ap bundle_of (sym (own_actions left own later k had.rising parted) ∙ same_first)
+    first_has = is ∙ ap bundle_of (sym (stretch_actions left stretch later k had.rising parted) ∙ same_first)
 
     pub first_written : IsWritten b
     first_written = subst IsWritten (sym first_has) (written_bundle M k first_written_by)
 
-    gives : (o : Outcome) → bundle_result part (old k) b ≡ o → outcome_at part old M k ≡ o
+    gives : (o : GroupResult) → bundle_result part (old k) b ≡ o → result_at part old M k ≡ o
     gives o h = ap (bundle_result part (old k)) (sym first_has) ∙ h
 
     -- the first location that is left has a result
     pub walk_goes_on : (v : Value) (next : Updates) → bundle_result part (old k) b ≡ Ok v →
         next ≡ finite.insert updates k v → IsWalked part old M later next
     walk_goes_on v next gave put = record {
-      rising = later_up left own later k had.rising parted;
+      rising = later_up left stretch later k had.rising parted;
       left_has = λ l w. still l w (eq_by_cmp location_cmp l k) refl;
       done = λ l gone w. by_test l gone w (eq_by_cmp location_cmp l k) refl;
       others = λ l w. got l
@@ -75,23 +75,23 @@ module _ (part : Part) (old : Old) (M : Move) where
       got l = ap (λ (u : Updates). finite.get u l) put ∙ finite.get-insert location_cmp_total updates k v l
 
       later_writes : (l : Place) → eq_by_cmp location_cmp l k ≡ false → writes left l ≡ writes later l
-      later_writes l e = sym (same_writes later left l (later_actions left own later k had.rising parted l e))
+      later_writes l e = sym (same_writes later left l (later_actions left stretch later k had.rising parted l e))
 
       still : (l : Place) → writes later l ≡ true → (t : Bool) → eq_by_cmp location_cmp l k ≡ t →
           actions_at later l ≡ actions_at M l
       still l w true e =
-          absurd (false≢true (sym (later_apart left own later k had.rising parted)
+          absurd (false≢true (sym (later_apart left stretch later k had.rising parted)
           ∙ ap (writes later) (sym (same_location l k e)) ∙ w))
-      still l w false e = later_actions left own later k had.rising parted l e ∙ had.left_has l (later_writes l e ∙ w)
+      still l w false e = later_actions left stretch later k had.rising parted l e ∙ had.left_has l (later_writes l e ∙ w)
 
       by_test : (l : Place) → writes later l ≡ false → writes M l ≡ true → (t : Bool) → eq_by_cmp location_cmp l k ≡ t →
-          IsSomeAnd (finite.get next l) (λ v. outcome_at part old M l ≡ Ok v)
+          IsSomeAnd (finite.get next l) (λ v. result_at part old M l ≡ Ok v)
       by_test l gone w true e =
-          subst (λ (o : Option Value). IsSomeAnd o (λ v. outcome_at part old M l ≡ Ok v))
+          subst (λ (o : Option Value). IsSomeAnd o (λ v. result_at part old M l ≡ Ok v))
           (sym (got l ∙ ap (λ t. cond t (Some v) (finite.get updates l)) e))
-          (ap (outcome_at part old M) (same_location l k e) ∙ gives (Ok v) gave)
+          (ap (result_at part old M) (same_location l k e) ∙ gives (Ok v) gave)
       by_test l gone w false e =
-          subst (λ (o : Option Value). IsSomeAnd o (λ v. outcome_at part old M l ≡ Ok v))
+          subst (λ (o : Option Value). IsSomeAnd o (λ v. result_at part old M l ≡ Ok v))
           (sym (got l ∙ ap (λ t. cond t (Some v) (finite.get updates l)) e))
           (had.done l (later_writes l e ∙ gone) w)
 
@@ -104,13 +104,13 @@ module _ (part : Part) (old : Old) (M : Move) where
         clash.cause ≡ cause → IsLeastClash part old M clash
     walk_clashes cause clash gave at caused = record {
       written = ap (writes M) at ∙ first_written_by;
-      cause = ap (outcome_at part old M) at ∙ gives (Err cause) gave ∙ ap (λ c. Err c) (sym caused);
+      cause = ap (result_at part old M) at ∙ gives (Err cause) gave ∙ ap (λ c. Err c) (sym caused);
       least = λ l lt w. has_ok l (finite.get updates l)
           (had.done l
-          (none_lower l k left (ap (location_cmp l) (sym at) ∙ lt) (floor left own later k had.rising parted)) w);
+          (none_lower l k left (ap (location_cmp l) (sym at) ∙ lt) (floor left stretch later k had.rising parted)) w);
     } where
-      has_ok : (l : Place) (o : Option Value) → IsSomeAnd o (λ v. outcome_at part old M l ≡ Ok v) →
-          IsOk (outcome_at part old M l)
+      has_ok : (l : Place) (o : Option Value) → IsSomeAnd o (λ v. result_at part old M l ≡ Ok v) →
+          IsOk (result_at part old M l)
       has_ok l (Some v) h = subst IsOk (sym h) refl
       has_ok l None h = absurd h
 
@@ -128,7 +128,7 @@ module _ (part : Part) (old : Old) (M : Move) where
     -- a result that isn't made goes on as well
     pub walk_admits : IsOk (bundle_result part (old k) b) → (U : Updates) × IsWalked part old M later U
     walk_admits ok = with_value (bundle_result part (old k) b) refl ok where
-      with_value : (o : Outcome) → bundle_result part (old k) b ≡ o → IsOk o → (U : Updates) × IsWalked part old M later U
+      with_value : (o : GroupResult) → bundle_result part (old k) b ≡ o → IsOk o → (U : Updates) × IsWalked part old M later U
       with_value (Ok v) gave h = (finite.insert updates k v, walk_goes_on v (finite.insert updates k v) gave refl)
       with_value (Err cause) gave h = absurd (false≢true h)
 

@@ -1,6 +1,6 @@
 -- What partial updates of a bag mean.
 use Rattle.std.specs.Prelude.{ℕ, ◌+◌, ◌-◌, Bool, ◌||◌, not, nat_lt, List, [], ◌∷◌, ◌++◌, map, filter, is_some, sum_by}
-use Rattle.std.specs.Prelude.{if◌then◌else◌, Option, None, Some, unwrap_or}
+use Rattle.std.specs.Prelude.{if◌then◌else◌, Option, None, Some, unwrap_or, Ok, Err}
 use Rattle.std.specs.List.{list_any, list_all}
 use Rattle.std.specs.Ordering.{eq_by_cmp}
 use Rattle.asm_element.specs.Element.{element_cmp}
@@ -11,7 +11,7 @@ use Rattle.asm_element.specs.declared.value.Value.{Value}
 use Rattle.asm_element.specs.declared.value.Value.TheVariants as values
 use Rattle.asm_update.specs.Action.{family_eq, is_of}
 use Rattle.asm_update.specs.Aggregator.{Meaning, Joined, Refused, TooLarge}
-use Rattle.asm_update.specs.Fire.{Outcome}
+use Rattle.asm_update.specs.Fire.{GroupResult}
 use Rattle.asm_update.specs.declared.action.Action.{Action}
 use Rattle.asm_update.specs.declared.action.Action.TheVariants.{BagAdd, BagRemove}
 use Rattle.asm_update.specs.declared.action.Family.{Family}
@@ -66,8 +66,27 @@ abbrev pub recounted : ElementBag → (Element → ℕ) → List Element → Ele
 recounted b f [] = b
 recounted b f (e ∷ es) = set_count (recounted b f es) e (f e)
 
+-- the bag after the actions
+abbrev pub renewed : ElementBag → List Action → ElementBag
+renewed b actions = recounted b (new_count b actions) (named actions)
+
+-- whether the actions remove more of an element than the bag has
+abbrev pub short : ElementBag → List Action → Bool
+short b actions = list_any (λ e. nat_lt (count b e) (amount_in Removed actions e)) (named actions)
+
+-- whether a count after the actions is above what a bag can have
+abbrev pub large : ElementBag → List Action → Bool
+large b actions = list_any (λ e. is_large (new_count b actions e)) (named actions)
+
+-- what partial updates of bags give on a bag, which they leave as it is where there are none
+abbrev pub tabled : ElementBag → List Action → GroupResult
+tabled b actions =
+    if short b actions then Err Short
+    else if large b actions then Err Large
+    else Ok (values.Bag (renewed b actions))
+
 -- what a group gives on an old value
-abbrev pub bag_result : Value → Option Value → List Action → Outcome
+abbrev pub bag_result : Value → Option Value → List Action → GroupResult
 bag_result old regular partials =
     let base = unwrap_or regular old in
     let before = counts base in

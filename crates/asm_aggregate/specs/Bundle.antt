@@ -9,7 +9,7 @@ use Rattle.std.specs.FinMap as finite
 use Rattle.asm_element.specs.Place.{Place, location_cmp}
 use Rattle.asm_element.specs.declared.value.Value.{Value}
 use Rattle.asm_update.specs.Action.{is_partial, regular_value}
-use Rattle.asm_update.specs.Fire.{Part, Outcome, Old, first, group_result, IsUpdateSet, IsLeastClash}
+use Rattle.asm_update.specs.Fire.{Part, GroupResult, Old, first, group_result, IsUpdateSet, IsLeastClash}
 use Rattle.asm_update.specs.Move.{Move, actions_at, are_different, writes}
 use Rattle.asm_update.specs.State.{Updates}
 use Rattle.asm_update.specs.declared.action.Action.{Action}
@@ -44,7 +44,7 @@ abbrev pub bundle_at : Move → Place → Option Bundle
 bundle_at M l = if writes M l then Some (bundle_of (actions_at M l)) else None
 
 -- what the bundle gives on the old value: its regular values differ, or it is the group's result
-abbrev pub bundle_result : Part → Value → Bundle → Outcome
+abbrev pub bundle_result : Part → Value → Bundle → GroupResult
 bundle_result part old b = if b.differ then Err Two else group_result part old b.regular b.partials
 
 -- there is something in the bundle

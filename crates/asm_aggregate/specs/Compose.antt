@@ -7,8 +7,8 @@ use Rattle.std.specs.declared.alloc.Global.{Global}
 use Rattle.std.specs.declared.vec.Vec.{Vec}
 use Rattle.asm_element.specs.Place.{Place}
 use Rattle.asm_element.specs.Value.{undef}
-use Rattle.asm_update.specs.Aggregator.{Meaning, Joined, Refusal, Refused, TooLarge, after}
-use Rattle.asm_update.specs.Fire.{Part, Outcome, fire, sequence, locations}
+use Rattle.asm_update.specs.Aggregator.{Meaning, Joined, NoJoin, Refused, TooLarge, after}
+use Rattle.asm_update.specs.Fire.{Part, GroupResult, fire, sequence, locations}
 use Rattle.asm_update.specs.Move.{Move, actions_at}
 use Rattle.asm_update.specs.State.{State, IsProper}
 use Rattle.asm_update.specs.declared.action.Action.{Action}
@@ -23,7 +23,7 @@ use Rattle.asm_aggregate.specs.declared.composition.ComposeError.{ComposeError}
 use Rattle.asm_aggregate.specs.declared.composition.ComposeError.TheVariants as compose_error
 
 -- the cause why there is no value, if there is none
-abbrev pub cause_of : Outcome → Option Cause
+abbrev pub cause_of : GroupResult → Option Cause
 cause_of (Ok v) = None
 cause_of (Err cause) = Some cause
 
@@ -33,21 +33,21 @@ alone_clash a [] = None
 alone_clash a (p ∷ ps) = refused (a.joins (p ∷ ps) [])
 
 -- the clash of one move at a location whatever the old value is, which is no matter where a value is put: undef does
-abbrev pub own_clash : Meaning → Bundle → Option Cause
-own_clash a b = if is_some b.regular then cause_of (bundle_result a.part undef b) else alone_clash a b.partials
+abbrev pub clash_on_any : Meaning → Bundle → Option Cause
+clash_on_any a b = if is_some b.regular then cause_of (bundle_result a.part undef b) else alone_clash a b.partials
 
 -- a value as the list of the one regular update that writes it
-abbrev pub as_regular : Outcome → Joined
+abbrev pub as_regular : GroupResult → Joined
 as_regular (Ok v) = Ok (Regular v ∷ [])
 as_regular (Err cause) = Err (Refused cause)
 
--- what does at a location what the first and then the second do. The first's own clash comes first; else it is the
+-- what does at a location what the first and then the second do. The first's clash comes first; else it is the
 -- second's regular value, unless the second clashes of itself; else what the second gives on the first's regular
 -- value; else the join of the partial updates of both
 abbrev pub composed : Meaning → Bundle → Bundle → Joined
 composed a first second =
-    unless (own_clash a first)
-    (option_map_or (λ w. unless (own_clash a second) (Ok (Regular w ∷ []))) second.regular
+    unless (clash_on_any a first)
+    (option_map_or (λ w. unless (clash_on_any a second) (Ok (Regular w ∷ []))) second.regular
     (option_map_or (λ v. as_regular (after a v second.partials)) first.regular
     (a.joins first.partials second.partials)))
 
@@ -56,12 +56,12 @@ abbrev pub placed : Place → List Action → Move
 placed l actions = map (λ x. record { at = l; action = x }) actions
 
 -- the instructions in front of those that follow, or the refusal that follows
-abbrev pub before : Move → Result Move (Place × Refusal) → Result Move (Place × Refusal)
+abbrev pub before : Move → Result Move (Place × NoJoin) → Result Move (Place × NoJoin)
 before M (Ok N) = Ok (M ++ N)
 before M (Err refusal) = Err refusal
 
 -- the lists of all locations in order, or the first refusal, with its location
-abbrev pub in_turn : List (Place × Joined) → Result Move (Place × Refusal)
+abbrev pub in_turn : List (Place × Joined) → Result Move (Place × NoJoin)
 in_turn [] = Ok []
 in_turn ((l, Ok actions) ∷ rest) = before (placed l actions) (in_turn rest)
 in_turn ((l, Err refusal) ∷ rest) = Err (l, refusal)
@@ -71,7 +71,7 @@ abbrev pub composed_at : Meaning → Move → Move → Place → Joined
 composed_at a M N l = composed a (bundle_of (actions_at M l)) (bundle_of (actions_at N l))
 
 -- the composition of two moves: what they compose to at each location that one of them writes, in ascending order
-abbrev pub composition : Meaning → Move → Move → Result Move (Place × Refusal)
+abbrev pub composition : Meaning → Move → Move → Result Move (Place × NoJoin)
 composition a M N = in_turn (map (λ l. (l, composed_at a M N l)) (locations (M ++ N)))
 
 -- the answer is the composition, or its refusal; a list of more than 4,096 is too long; an allocation failure tells nothing

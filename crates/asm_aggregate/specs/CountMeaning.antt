@@ -9,7 +9,7 @@ use Rattle.asm_element.specs.declared.value.Value.{Value}
 use Rattle.asm_element.specs.declared.value.Value.TheVariants as values
 use Rattle.asm_update.specs.Action.{family_eq, is_of}
 use Rattle.asm_update.specs.Aggregator.{Meaning, Joined, Refused, TooLarge}
-use Rattle.asm_update.specs.Fire.{Outcome}
+use Rattle.asm_update.specs.Fire.{GroupResult}
 use Rattle.asm_update.specs.declared.action.Action.{Action}
 use Rattle.asm_update.specs.declared.action.Action.TheVariants.{Increment}
 use Rattle.asm_update.specs.declared.action.Family.{Family}
@@ -46,7 +46,7 @@ abbrev pub is_outside : ℤ → Bool
 is_outside n = int_lt n (negsuc 9223372036854775807) || int_lt (pos 9223372036854775807) n
 
 -- what a group gives on an old value
-abbrev pub count_result : Value → Option Value → List Action → Outcome
+abbrev pub count_result : Value → Option Value → List Action → GroupResult
 count_result old regular partials =
     let base = unwrap_or regular old in
     first_cause

@@ -6,7 +6,6 @@ pub mod SetMeaning
 pub mod BagMeaning
 pub mod CountMeaning
 pub mod PairMeaning
-pub mod Nobody
 pub mod Bundle
 pub mod Stretch
 pub mod Compose

@@ -2,7 +2,7 @@
 use Rattle.std.specs.Prelude.{Bool, ◌||◌, List, [], ◌∷◌, ◌++◌, if◌then◌else◌, Ok, Err, Option, None, Some}
 use Rattle.asm_element.specs.declared.value.Value.{Value}
 use Rattle.asm_update.specs.Aggregator.{Meaning, Joined, Refused, TooLarge}
-use Rattle.asm_update.specs.Fire.{Outcome}
+use Rattle.asm_update.specs.Fire.{GroupResult}
 use Rattle.asm_update.specs.declared.action.Action.{Action}
 use Rattle.asm_update.specs.declared.action.Family.{Family}
 use Rattle.asm_update.specs.declared.clash.Cause.{Cause}
@@ -19,7 +19,7 @@ by_owner a b None one other last = last
 by_owner a b (Some f) one other last = if a.owns f then one else if b.owns f then other else last
 
 -- what the part that owns the family gives, and `Mixed` where there are two families or none owns it
-abbrev pub pair_result : Meaning → Meaning → Value → Option Value → List Action → Outcome
+abbrev pub pair_result : Meaning → Meaning → Value → Option Value → List Action → GroupResult
 pair_result a b old regular partials =
     by_owner a b (common_family partials) (a.part old regular partials) (b.part old regular partials) (Err Mixed)
 
@@ -30,9 +30,9 @@ refused (Err (Refused cause)) = Some cause
 refused (Err TooLarge) = None
 
 -- why a list has no result on any value: what its owner says of it with nothing after it
-abbrev pub own_cause : Meaning → Meaning → List Action → Option Cause
-own_cause a b [] = None
-own_cause a b (x ∷ xs) =
+abbrev pub cause_by_owner : Meaning → Meaning → List Action → Option Cause
+cause_by_owner a b [] = None
+cause_by_owner a b (x ∷ xs) =
     by_owner a b (common_family (x ∷ xs)) (refused (a.joins (x ∷ xs) [])) (refused (b.joins (x ∷ xs) [])) (Some Mixed)
 
 -- the cause, or else what the rest gives
@@ -40,11 +40,11 @@ abbrev pub unless : Option Cause → Joined → Joined
 unless (Some cause) rest = Err (Refused cause)
 unless None rest = rest
 
--- each side's own cause, then what the owner of their one family joins, and `Kind` where they are of two
+-- each side's cause by its owner, then what the owner of their one family joins, and `Kind` where they are of two
 abbrev pub pair_joins : Meaning → Meaning → List Action → List Action → Joined
 pair_joins a b first second =
-    unless (own_cause a b first)
-    (unless (own_cause a b second)
+    unless (cause_by_owner a b first)
+    (unless (cause_by_owner a b second)
     (by_owner a b (common_family (first ++ second)) (a.joins first second) (b.joins first second) (Err (Refused Kind))))
 
 -- the aggregator of two

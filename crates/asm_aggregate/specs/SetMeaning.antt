@@ -7,7 +7,7 @@ use Rattle.asm_element.specs.declared.value.Value.{Value}
 use Rattle.asm_element.specs.declared.value.Value.TheVariants as values
 use Rattle.asm_update.specs.Action.{family_eq, is_of}
 use Rattle.asm_update.specs.Aggregator.{Meaning, Joined, Refused}
-use Rattle.asm_update.specs.Fire.{Outcome}
+use Rattle.asm_update.specs.Fire.{GroupResult}
 use Rattle.asm_update.specs.declared.action.Action.{Action}
 use Rattle.asm_update.specs.declared.action.Action.TheVariants.{SetAdd, SetRemove}
 use Rattle.asm_update.specs.declared.action.Family.{Family}
@@ -52,7 +52,7 @@ abbrev pub updated : ElementSet → List Action → ElementSet
 updated old actions = union (difference old (elements_on Removed actions)) (elements_on Added actions)
 
 -- what a group gives on an old value
-abbrev pub set_result : Value → Option Value → List Action → Outcome
+abbrev pub set_result : Value → Option Value → List Action → GroupResult
 set_result old regular partials =
     let base = unwrap_or regular old in
     first_cause

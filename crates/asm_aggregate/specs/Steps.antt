@@ -70,8 +70,8 @@ AreActions f es (Ok list) = (list_any (is_either_large f) es ≡ false) × (list
 AreActions f es (Err error) = IsLargeIf (list_any (is_either_large f) es) error
 
 -- the answer is this cause, or that there is none; or memory was refused
-abbrev pub IsOwnCause : Result (Unit {0}) JoinError → Option Cause → Type 0
-IsOwnCause (Ok _) own = own ≡ None
-IsOwnCause (Err (join_error.Cause cause)) own = own ≡ Some cause
-IsOwnCause (Err join_error.Large) own = ⊥
-IsOwnCause (Err join_error.Memory) own = Unit {0}
+abbrev pub IsRefusedFor : Result (Unit {0}) JoinError → Option Cause → Type 0
+IsRefusedFor (Ok _) cause = cause ≡ None
+IsRefusedFor (Err (join_error.Cause refused)) cause = cause ≡ Some refused
+IsRefusedFor (Err join_error.Large) cause = ⊥
+IsRefusedFor (Err join_error.Memory) cause = Unit {0}

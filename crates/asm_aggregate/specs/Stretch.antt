@@ -31,8 +31,8 @@ starts_at l [] = false
 starts_at l (x ∷ xs) = eq_by_cmp location_cmp x.at l
 
 -- the instructions at the location with which the move starts, and the later ones
-pub record IsParted (M own later : Move) (l : Place) : Type 0 where
+pub record IsParted (M stretch later : Move) (l : Place) : Type 0 where
   pub starts : starts_at l M ≡ true
-  pub whole : M ≡ own ++ later
-  pub here : AllByRecursion (λ i. eq_by_cmp location_cmp i.at l ≡ true) own
+  pub whole : M ≡ stretch ++ later
+  pub here : AllByRecursion (λ i. eq_by_cmp location_cmp i.at l ≡ true) stretch
   pub ends : starts_at l later ≡ false

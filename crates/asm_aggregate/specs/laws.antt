@@ -7,4 +7,3 @@ pub mod BagLaws
 pub mod CountAlgebra
 pub mod CountLaws
 pub mod PairLaws
-pub mod NobodyLaws

@@ -47,7 +47,7 @@ pub fn admit<A: Aggregator, L: Lookup>(
     let list = ascending(alloc, instructions)?;
     let mut stretches = Stretches::of(list.as_slice());
     while let Some(stretch) = stretches.next() {
-        let bundle = Bundle::of(alloc, stretch.own)?;
+        let bundle = Bundle::of(alloc, stretch.instructions)?;
         match admit_at(alloc, aggregator, lookup, stretch.at, bundle) {
             Ok(()) => {}
             Err(error) => return Err(clash_at(alloc, stretch.at, error)),

@@ -87,7 +87,7 @@ pub fn aggregate<A: Aggregator, L: Lookup>(
     let mut updates = UpdateSet::new(alloc);
     let mut stretches = Stretches::of(list.as_slice());
     while let Some(stretch) = stretches.next() {
-        let bundle = Bundle::of(alloc, stretch.own)?;
+        let bundle = Bundle::of(alloc, stretch.instructions)?;
         match result_at(alloc, aggregator, lookup, stretch.at, bundle) {
             Ok(value) => put_at(alloc, &mut updates, stretch.at, value)?,
             Err(error) => return Err(clash_at(alloc, stretch.at, error)),

@@ -8,10 +8,10 @@ ghost use Rattle.asm_element.specs.declared.value.Value.TheVariants as values;
 ghost use Rattle.asm_update.specs.Aggregator.{IsOutcome};
 ghost use Rattle.asm_update.specs.declared.action.Family.TheVariants as family;
 ghost use Rattle.asm_aggregate.specs.BagMeaning.{bag_result, counts, named, recounted};
+ghost use Rattle.asm_aggregate.specs.BagMeaning.{tabled};
 ghost use Rattle.asm_aggregate.specs.Families.{is_kind};
 ghost use Rattle.asm_aggregate.specs.Sets.{is_the};
 ghost use Rattle.asm_aggregate.specs.Steps.{IsMoved, raised, lowered, names_in};
-ghost use Rattle.asm_aggregate.specs.laws.BagLaws.{tabled};
 
 use crate::bag_agg::{bag_of, element_named, with, without};
 use crate::families::{are_all_of, base_of};

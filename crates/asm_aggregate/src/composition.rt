@@ -1,16 +1,16 @@
 ghost use Rattle.std.specs.Prelude.{◌≡◌, ◌≢◌, ◌++◌, ◌∷◌, [], OnOk, Ok, Some, None, IsSome};
 ghost use Rattle.asm_update.specs.Aggregator.{after, IsAdmitted, IsOutcome, IsJoined};
-ghost use Rattle.asm_update.specs.Fire.{Outcome};
+ghost use Rattle.asm_update.specs.Fire.{GroupResult};
 ghost use Rattle.asm_update.specs.declared.action.Action.TheVariants.{Regular};
-ghost use Rattle.asm_aggregate.specs.Compose.{own_clash, cause_of, as_regular, composed, placed};
+ghost use Rattle.asm_aggregate.specs.Compose.{clash_on_any, cause_of, as_regular, composed, placed};
 ghost use Rattle.asm_aggregate.specs.Compose.{IsComposition, IsComposedList, IsLimited, IsRefusalAt, KeepsSequence};
 ghost use Rattle.asm_aggregate.specs.PairMeaning.{unless};
-ghost use Rattle.asm_aggregate.specs.Steps.{IsOwnCause};
+ghost use Rattle.asm_aggregate.specs.Steps.{IsRefusedFor};
 ghost use Rattle.asm_aggregate.specs.declared.composition.ComposeError.TheVariants as compose_error;
 
 use crate::families::unchanged;
 use crate::groups::{Bundle, Groups};
-use crate::pair::own_cause_by;
+use crate::pair::cause_alone;
 use asm_element::{Location, Value};
 use asm_update::{
     Action, Aggregator, Cause, Clash, Instruction, Instructions, InstructionsError, JoinError,
@@ -69,9 +69,9 @@ fn refusal_at(alloc: Global, at: &Location, error: JoinError) -> ComposeError
     }
 }
 
-/// The cause of an outcome, if it has one.
-fn cause_alone(admitted: Result<(), ResultError>) -> Result<(), JoinError>
-    ensures { (o : Outcome) → IsAdmitted admitted o → IsOwnCause result (cause_of o) }
+/// The cause for which a group has no result, if it has none.
+fn cause_of(admitted: Result<(), ResultError>) -> Result<(), JoinError>
+    ensures { (o : GroupResult) → IsAdmitted admitted o → IsRefusedFor result (cause_of o) }
 {
     match admitted {
         Ok(()) => Ok(()),
@@ -87,7 +87,7 @@ fn clash_of_regular<A: Aggregator>(
     bundle: Bundle<'_>,
 ) -> Result<(), JoinError>
     requires { IsSome bundle.regular }
-    ensures { IsOwnCause result (own_clash (A.meaning aggregator.now) bundle.entry) }
+    ensures { IsRefusedFor result (clash_on_any (A.meaning aggregator.now) bundle.entry) }
 {
     if bundle.differs() {
         return Err(JoinError::Cause(Cause::Two));
@@ -95,7 +95,7 @@ fn clash_of_regular<A: Aggregator>(
     if bundle.partials().is_empty() {
         return Ok(());
     }
-    cause_alone(bundle.admit_by(alloc, aggregator, None))
+    cause_of(bundle.admit_by(alloc, aggregator, None))
 }
 
 /// The clash of partial updates alone, if they have one.
@@ -105,12 +105,12 @@ fn clash_of_partials<A: Aggregator>(
     bundle: &Bundle<'_>,
 ) -> Result<(), JoinError>
     requires { bundle.now.regular ≡ None }
-    ensures { IsOwnCause result (own_clash (A.meaning aggregator.now) bundle.now) }
+    ensures { IsRefusedFor result (clash_on_any (A.meaning aggregator.now) bundle.now) }
 {
     if bundle.partials().is_empty() {
         return Ok(());
     }
-    own_cause_by(aggregator, alloc, bundle.partials())
+    cause_alone(aggregator, alloc, bundle.partials())
 }
 
 /// What partial updates alone give on the value, which they leave as it is where there are none.
@@ -138,7 +138,7 @@ fn one_put(alloc: Global, value: Value) -> Result<Vec<Action>, JoinError>
 
 /// A value as the list of the one regular update that writes it.
 fn as_regular(alloc: Global, value: Result<Value, ResultError>) -> Result<Vec<Action>, JoinError>
-    ensures { (o : Outcome) → IsOutcome value o → IsJoined result (as_regular o) }
+    ensures { (o : GroupResult) → IsOutcome value o → IsJoined result (as_regular o) }
 {
     match value {
         Ok(value) => one_put(alloc, value),
@@ -156,7 +156,7 @@ fn put_by_second<A: Aggregator>(
 ) -> Result<Vec<Action>, JoinError>
     requires { second.regular ≡ Some value.now }
     ensures { IsJoined result
-        (unless (own_clash (A.meaning aggregator.now) second.entry) (Ok (Regular value.now ∷ []))) }
+        (unless (clash_on_any (A.meaning aggregator.now) second.entry) (Ok (Regular value.now ∷ []))) }
 {
     clash_of_regular(alloc, aggregator, second)?;
     one_put(alloc, value.copy(alloc)?)

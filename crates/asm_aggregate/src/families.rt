@@ -1,4 +1,4 @@
-ghost use Rattle.std.specs.Prelude.{◌≡◌, ◌++◌, unwrap_or, IfOk, Ok};
+ghost use Rattle.std.specs.Prelude.{◌≡◌, ◌++◌, unwrap_or, Ok};
 ghost use Rattle.std.specs.Option.{option_copied};
 ghost use Rattle.std.specs.List.{list_all};
 ghost use Rattle.asm_element.specs.Value.{undef};
@@ -8,7 +8,7 @@ ghost use Rattle.asm_aggregate.specs.Families as families;
 
 use asm_element::Value;
 use asm_update::{Action, Family, Group, ResultError};
-use std::alloc::{AllocError, Global};
+use std::alloc::Global;
 
 fn belongs_to(action: &Action, family: Family) -> bool
     ensures { result ≡ is_of family action.now }
@@ -73,18 +73,4 @@ pub(crate) fn unchanged(alloc: Global, value: &Value) -> Result<Value, ResultErr
     ensures { IsOutcome result (Ok value.now) }
 {
     Ok(value.copy(alloc)?)
-}
-
-/// The same action, in memory of its own.
-pub(crate) fn copy_of(alloc: Global, action: &Action) -> Result<Action, AllocError>
-    ensures { IfOk result (λ copy. copy ≡ action.now) }
-{
-    Ok(match action {
-        Action::Regular(value) => Action::Regular(value.copy(alloc)?),
-        Action::SetAdd(element) => Action::SetAdd(element.copy(alloc)?),
-        Action::SetRemove(element) => Action::SetRemove(element.copy(alloc)?),
-        Action::BagAdd(element, amount) => Action::BagAdd(element.copy(alloc)?, *amount),
-        Action::BagRemove(element, amount) => Action::BagRemove(element.copy(alloc)?, *amount),
-        Action::Increment(n) => Action::Increment(*n),
-    })
 }

@@ -13,7 +13,6 @@ ghost use Rattle.asm_aggregate.specs.Bundle.{bundle_of, AreGroups, HaveRoom, by_
 ghost use Rattle.asm_aggregate.specs.Stretch.{referred};
 ghost use Rattle.asm_update.specs.Move.{Move};
 
-use crate::families::copy_of;
 use asm_element::{Location, Value};
 use asm_update::{Action, Aggregator, Group, Instruction, Instructions, ResultError};
 use std::alloc::{AllocError, Global};
@@ -72,13 +71,13 @@ impl<'a> Bundle<'a> {
         }
     }
 
-    fn add(&mut self, alloc: Global, action: &'a Action) -> Result<(), AllocError>
+    fn add(&mut self, action: &'a Action) -> Result<(), AllocError>
         ensures { OnOk result ((G : List Action) → self.old ≡ bundle_of G →
             self.new ≡ bundle_of (G ++ action.now ∷ [])) }
     {
         match action {
             Action::Regular(value) => self.add_regular(value),
-            partial => self.partials.push(copy_of(alloc, partial)?)?,
+            partial => self.partials.push(partial.clone()?)?,
         }
         Ok(())
     }
@@ -92,7 +91,7 @@ impl<'a> Bundle<'a> {
     {
         let mut bundle = Bundle::new(alloc);
         for instruction in instructions {
-            bundle.add(alloc, &instruction.action)?;
+            bundle.add(&instruction.action)?;
         }
         Ok(bundle)
     }
@@ -206,7 +205,7 @@ impl<'a> Groups<'a> {
             .tree
             .entry(&instruction.at)?
             .or_insert(Bundle::new(alloc));
-        bundle.add(alloc, &instruction.action)
+        bundle.add(&instruction.action)
     }
 
     /// The groups of the instructions, in one walk.

@@ -22,22 +22,3 @@ pub use composition::{ComposeError, compose};
 pub use count_agg::CountAgg;
 pub use pair::{Pair, standard};
 pub use set_agg::SetAgg;
-
-#[cfg(test)]
-mod admission_tests;
-#[cfg(test)]
-mod bag_change_tests;
-#[cfg(test)]
-mod bag_tests;
-#[cfg(test)]
-mod compose_tests;
-#[cfg(test)]
-mod count_tests;
-#[cfg(test)]
-mod example;
-#[cfg(test)]
-mod join_tests;
-#[cfg(test)]
-mod lookup_tests;
-#[cfg(test)]
-mod tests;

@@ -5,9 +5,9 @@ ghost use Rattle.asm_update.specs.declared.action.Family as family;
 ghost use Rattle.asm_aggregate.specs.BagMeaning.{bag_meaning};
 ghost use Rattle.asm_aggregate.specs.CountMeaning.{count_meaning};
 ghost use Rattle.asm_aggregate.specs.laws.PairLaws.{pair_laws};
-ghost use Rattle.asm_aggregate.specs.PairMeaning.{pair_meaning, refused, own_cause};
+ghost use Rattle.asm_aggregate.specs.PairMeaning.{pair_meaning, refused, cause_by_owner};
 ghost use Rattle.asm_aggregate.specs.SetMeaning.{set_meaning};
-ghost use Rattle.asm_aggregate.specs.Steps.{IsOwnCause};
+ghost use Rattle.asm_aggregate.specs.Steps.{IsRefusedFor};
 
 use crate::bag_agg::BagAgg;
 use crate::count_agg::CountAgg;
@@ -26,15 +26,15 @@ pub struct Pair<A, B> {
     b: B,
 }
 
-/// The cause for which the aggregator refuses the actions with nothing after them, if it does so.
-pub(crate) fn own_cause_by<A: Aggregator>(
+/// The cause for which the aggregator refuses the actions with nothing after them, if it refuses them.
+pub(crate) fn cause_alone<A: Aggregator>(
     aggregator: &A,
     alloc: Global,
     actions: &[Action],
 ) -> Result<(), JoinError>
     requires some { actions.now ++ [] ≢ [] }
     requires partial { list_all is_partial (actions.now ++ []) ≡ true }
-    ensures { IsOwnCause result (refused ((A.meaning aggregator.now).joins actions.now [])) }
+    ensures { IsRefusedFor result (refused ((A.meaning aggregator.now).joins actions.now [])) }
 {
     match aggregator.join(alloc, actions, &[]) {
         Ok(_) => Ok(()),
@@ -53,9 +53,9 @@ impl<A: Aggregator, B: Aggregator> Pair<A, B> {
         Pair { a, b }
     }
 
-    /// The cause for which the actions have no result on any value, if there is one.
-    fn own_cause_of(&self, alloc: Global, actions: &[Action]) -> Result<(), JoinError>
-        ensures { IsOwnCause result (own_cause (A.meaning self.now.a) (B.meaning self.now.b) actions.now) }
+    /// The cause for which the owner of the actions refuses them with nothing after them, if it refuses them.
+    fn cause_by_owner(&self, alloc: Global, actions: &[Action]) -> Result<(), JoinError>
+        ensures { IsRefusedFor result (cause_by_owner (A.meaning self.now.a) (B.meaning self.now.b) actions.now) }
     {
         if actions.is_empty() {
             return Ok(());
@@ -64,9 +64,9 @@ impl<A: Aggregator, B: Aggregator> Pair<A, B> {
             return Err(JoinError::Cause(Cause::Mixed));
         };
         if self.a.owns(family) {
-            own_cause_by(&self.a, alloc, actions)
+            cause_alone(&self.a, alloc, actions)
         } else if self.b.owns(family) {
-            own_cause_by(&self.b, alloc, actions)
+            cause_alone(&self.b, alloc, actions)
         } else {
             Err(JoinError::Cause(Cause::Mixed))
         }
@@ -132,8 +132,8 @@ impl<A: Aggregator, B: Aggregator> Aggregator for Pair<A, B> {
         first: &[Action],
         second: &[Action],
     ) -> Result<Vec<Action>, JoinError> {
-        self.own_cause_of(alloc, first)?;
-        self.own_cause_of(alloc, second)?;
+        self.cause_by_owner(alloc, first)?;
+        self.cause_by_owner(alloc, second)?;
         let Some(family) = family_of_both(first, second) else {
             return Err(JoinError::Cause(Cause::Kind));
         };

@@ -13,7 +13,7 @@ use std::alloc::{AllocError, Global};
 #[derive(Clone, Copy, Debug)]
 pub(crate) struct Stretch<'a, 's> {
     pub(crate) at: &'a Location,
-    pub(crate) own: &'s [&'a Instruction],
+    pub(crate) instructions: &'s [&'a Instruction],
 }
 
 /// A walk of a move in ascending order of its locations, one stretch after the other.
@@ -62,7 +62,7 @@ impl<'a, 's> Stretches<'a, 's> {
     /// The first stretch of what is left, unless nothing is.
     pub(crate) fn next(&mut self) -> Option<Stretch<'a, 's>>
         ensures { MatchOption result (left_in self.old.list.now self.old.done ≡ []) (λ stretch.
-            IsParted (left_in self.old.list.now self.old.done) (referred stretch.own.now)
+            IsParted (left_in self.old.list.now self.old.done) (referred stretch.instructions.now)
             (left_in self.new.list.now self.new.done) stretch.at.now) }
     {
         let len = self.list.len();
@@ -74,8 +74,11 @@ impl<'a, 's> Stretches<'a, 's> {
             return None;
         };
         let count = count_at(left, &first.at);
-        let (own, _) = left.split_at(count);
+        let (instructions, _) = left.split_at(count);
         self.done += count;
-        Some(Stretch { at: &first.at, own })
+        Some(Stretch {
+            at: &first.at,
+            instructions,
+        })
     }
 }

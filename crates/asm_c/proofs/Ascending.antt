@@ -7,8 +7,8 @@ use Rattle.std.specs.Prelude.{slice_get}
 use Rattle.std.specs.List.Sorted.{IsStrictlyIncreasing}
 use Rattle.asm_storage.proofs.Rounds.{rises_tail}
 use Rattle.asm_storage.specs.declared.part.AgentPart.{AgentPart}
-use Rattle.asm_c.specs.Parts.{IsAmong, IsPlace}
-use Rattle.asm_c.proofs.Parts.{all_first, all_left, all_one}
+use Rattle.asm_c.specs.InsertPoint.{IsAmong, IsInsertPoint}
+use Rattle.asm_c.proofs.PartsAndAgents.{all_first, all_left, all_one}
 
 -- a number below all of those that ascend, in front of them
 pub rises_from : (x : ℕ) (xs : List ℕ) → All (λ y. x < y) xs → IsStrictlyIncreasing xs → IsStrictlyIncreasing (x ∷ xs)
@@ -86,13 +86,13 @@ pub among_at : (parts : List AgentPart) (at id : ℕ) (p : AgentPart) → at < l
 among_at parts at id p lt is e = (take at parts, drop (suc at) parts, p, split_at parts at p (got parts at p lt is), e)
 
 -- one part more at its place
-pub rises_in : (parts : List AgentPart) (p : AgentPart) (at : ℕ) → IsStrictlyIncreasing (map (λ q. q.id) parts) → IsPlace parts p.id at → IsStrictlyIncreasing (map (λ q. q.id) (take at parts ++ p ∷ drop at parts))
-rises_in parts p at rises place =
+pub rises_in : (parts : List AgentPart) (p : AgentPart) (at : ℕ) → IsStrictlyIncreasing (map (λ q. q.id) parts) → IsInsertPoint parts p.id at → IsStrictlyIncreasing (map (λ q. q.id) (take at parts ++ p ∷ drop at parts))
+rises_in parts p at rises point =
     let f : AgentPart → ℕ = λ q. q.id in
     subst IsStrictlyIncreasing (sym (map-append f (take at parts) (p ∷ drop at parts)))
     (rises_among (map f (take at parts)) (map f (drop at parts)) p.id
     (subst IsStrictlyIncreasing (ap (map f) (sym (take-append-drop at parts)) ∙ map-append f (take at parts) (drop at parts)) rises)
-    (All-map (λ n. n < p.id) f (take at parts) place.before) (All-map (λ n. p.id < n) f (drop at parts) place.after))
+    (All-map (λ n. n < p.id) f (take at parts) point.before) (All-map (λ n. p.id < n) f (drop at parts) point.after))
 
 -- what is so of all parts and of one more is so of all with it
 pub all_in : {X : Type 0} (P : X → Type 0) (xs : List X) (x : X) (at : ℕ) → All P xs → P x → All P (take at xs ++ x ∷ drop at xs)

@@ -13,10 +13,10 @@ use Rattle.asm_storage.proofs.Standard.{standard, standard_ghosts, standard_stor
 use Rattle.asm_storage.specs.contracts.receipt.Entry as Entry
 use Rattle.asm_storage.specs.contracts.storage.Storage as Storage
 use Rattle.asm_storage.specs.contracts.storage.Storage.TheInside as InsideStorage
-use Rattle.asm_c.specs.contracts.held.Held as Held
-use Rattle.asm_c.specs.contracts.place.Place as Place
-use Rattle.asm_c.specs.contracts.place.Place.TheInside as InsidePlace
-use Rattle.asm_c.specs.contracts.sharing.Shared as Shared
+use Rattle.asm_c.specs.contracts.content.Content as Content
+use Rattle.asm_c.specs.contracts.owned_agent.OwnedAgent as OwnedAgent
+use Rattle.asm_c.specs.contracts.owned_agent.OwnedAgent.TheInside as InsideAgent
+use Rattle.asm_c.specs.contracts.shared.Shared as Shared
 use Rattle.asm_c.specs.contracts.store.Store as Store
 use Rattle.asm_c.specs.contracts.store.Store.TheInside as InsideStore
 
@@ -44,11 +44,11 @@ shared_is_shared =
     let count : IsSync Atomic.the_row = search (sendable, Atomic-sync) depth 20 in
     declared_sync Shared.the_type (standard_storage_is_shared, (count, tt))
 
-inside_place_is_sent : IsSend InsidePlace.the_row
-inside_place_is_sent = declared_send InsidePlace.the_type (Arc-send Shared.the_row shared_is_sent shared_is_shared, (part_is_sent, tt))
+inside_agent_is_sent : IsSend InsideAgent.the_row
+inside_agent_is_sent = declared_send InsideAgent.the_type (Arc-send Shared.the_row shared_is_sent shared_is_shared, (part_is_sent, tt))
 
-place_is_sent : IsSend Place.the_row
-place_is_sent = search (sendable, inside_place_is_sent) depth 20
+agent_is_sent : IsSend OwnedAgent.the_row
+agent_is_sent = search (sendable, inside_agent_is_sent) depth 20
 
 inside_store_is_sent : IsSend InsideStore.the_row
 inside_store_is_sent = search (sendable, Arc-send, Vec-send, shared_is_sent, shared_is_shared, part_is_sent) depth 20
@@ -56,5 +56,5 @@ inside_store_is_sent = search (sendable, Arc-send, Vec-send, shared_is_sent, sha
 store_is_sent : IsSend Store.the_row
 store_is_sent = search (sendable, inside_store_is_sent) depth 20
 
-pub held_is_sent : IsSend Held.the_row
-held_is_sent = search (sendable, place_is_sent, store_is_sent) depth 20
+pub content_is_sent : IsSend Content.the_row
+content_is_sent = search (sendable, agent_is_sent, store_is_sent) depth 20

@@ -1,6 +1,7 @@
-pub mod Values
-pub mod Handles
-pub mod Parts
+pub mod RawBoxValues
+pub mod HandleValues
+pub mod PartsAndAgents
 pub mod Ascending
-pub mod Among
+pub mod GivenAgents
+pub mod CodeZero
 pub mod Crossing

@@ -14,12 +14,12 @@ use Rattle.asm_storage.specs.Storage.{AgentAt, has_looked, has_seen}
 use Rattle.asm_storage.specs.Calls.{ReadingView, IsRead, IsAnswered, IsBusy}
 use Rattle.asm_journal.specs.Event.{answer_json_of}
 use Rattle.asm_c.specs.Standard.{Standard, meaning}
-use Rattle.asm_c.specs.Bytes.{ReadAsPlaces, ReadAsFire, ReadAsState}
+use Rattle.asm_c.specs.Bytes.{ReadAsLocations, ReadAsFire, ReadAsState}
 use Rattle.asm_c.specs.Closed.{IsJournalOf}
 use Rattle.asm_c.specs.Slots.{Holds, HoldsStore, Goes}
 use Rattle.asm_c.specs.Store.{StoreView, IsPutIn}
-use Rattle.asm_c.specs.declared.held.Held.{Held}
-use Rattle.asm_c.specs.declared.held.Held.TheVariants as held
+use Rattle.asm_c.specs.declared.content.Content.{Content}
+use Rattle.asm_c.specs.declared.content.Content.TheVariants as content
 
 -- a storage with this opening state and this capacity, to which no agent was given back
 abbrev pub IsOpened : List ℕ → ℕ → StoreView → Type 0
@@ -29,7 +29,7 @@ IsOpened bytes capacity s =
 -- the bytes are JSON of locations, and these were read
 abbrev pub HasRead : List ℕ → AgentAt Standard → AgentAt Standard → Type 0
 HasRead bytes old new =
-    (places : List element.Place) × (r : ReadingView) × ReadAsPlaces bytes places × IsRead meaning old new places r
+    (locations : List element.Place) × (r : ReadingView) × ReadAsLocations bytes locations × IsRead meaning old new locations r
 
 -- the code of a reply
 abbrev pub code_of : Reply → ℤ
@@ -78,8 +78,8 @@ HasLearnt theirs old new =
     × IsPrefix theirs new.account.seen
 
 -- the agent has learnt what the other has seen
-abbrev pub Learns : Option Held → Option Held → Option Held → Type 0
-Learns (Some (held.Agent other)) old new = Goes old new (HasLearnt other.account.seen)
+abbrev pub Learns : Option Content → Option Content → Option Content → Type 0
+Learns (Some (content.Agent other)) old new = Goes old new (HasLearnt other.account.seen)
 Learns _ old new = ⊥
 
 -- the storage with this agent among those that were given back, and no journal
@@ -87,8 +87,8 @@ abbrev pub HasTaken : AgentAt Standard → StoreView → StoreView → Type 0
 HasTaken a old new = (new ≡ record old { agents = new.agents; journal = None }) × IsPutIn a old.agents new.agents
 
 -- the agent was given to the storage
-abbrev pub Gives : Option Held → Option Held → Option Held → Type 0
-Gives (Some (held.Store s)) (Some (held.Agent a)) new = HoldsStore new (HasTaken a s)
+abbrev pub Gives : Option Content → Option Content → Option Content → Type 0
+Gives (Some (content.Store s)) (Some (content.Agent a)) new = HoldsStore new (HasTaken a s)
 Gives _ _ new = ⊥
 
 -- an agent with this number was given to the storage
@@ -98,8 +98,8 @@ HasNumber s id =
     × (b.account.id ≡ id)
 
 -- an agent with the number of this one was given to the storage
-abbrev pub IsThere : Option Held → Option Held → Type 0
-IsThere (Some (held.Store s)) (Some (held.Agent a)) = HasNumber s a.account.id
+abbrev pub IsThere : Option Content → Option Content → Type 0
+IsThere (Some (content.Store s)) (Some (content.Agent a)) = HasNumber s a.account.id
 IsThere _ _ = ⊥
 
 -- the storage keeps this journal of the agents that were given to it
@@ -112,6 +112,6 @@ abbrev pub HasClosed : StoreView → StoreView → Type 0
 HasClosed old new = (new ≡ record old { journal = new.journal }) × KeepsJournal old new.journal
 
 -- the storage was closed
-abbrev pub Closes : Option Held → Option Held → Type 0
-Closes (Some (held.Store s)) new = HoldsStore new (HasClosed s)
+abbrev pub Closes : Option Content → Option Content → Type 0
+Closes (Some (content.Store s)) new = HoldsStore new (HasClosed s)
 Closes _ new = ⊥

@@ -3,7 +3,7 @@ use Rattle.std.specs.Prelude.{◌≡◌, ℕ, List}
 use Rattle.serde_json.specs.Written.{compact_text}
 use Rattle.asm_update.specs.Fire.{state_of}
 use Rattle.asm_storage.specs.declared.history.History.{History}
-use Rattle.asm_storage.specs.History.{moves}
+use Rattle.asm_storage.specs.History.{fired_moves}
 use Rattle.asm_journal.specs.declared.checking.Legality.{Legality}
 use Rattle.asm_journal.specs.Check.{machine_of, IsLegality}
 use Rattle.asm_journal.specs.Reading.{ReadsAs}
@@ -20,4 +20,4 @@ pub record IsChecked (bytes : List ℕ) (l : Legality) : Type 0 where
 pub record IsReplayed (bytes text : List ℕ) : Type 0 where
   pub history : History
   pub reads : ReadsAs bytes history
-  pub left : text ≡ compact_text (state_json_of (state_of part history.init (moves history.events)))
+  pub left : text ≡ compact_text (state_json_of (state_of part history.init (fired_moves history.events)))

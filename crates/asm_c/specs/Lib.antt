@@ -1,12 +1,12 @@
 pub mod Standard
 pub mod Codes
-pub mod Owned
+pub mod Boxed
 pub mod Bytes
 pub mod Store
-pub mod Parts
+pub mod InsertPoint
 pub mod Closed
 pub mod Unclosed
 pub mod Slots
 pub mod Calls
-pub mod Refused
+pub mod GiveError
 pub mod Journals

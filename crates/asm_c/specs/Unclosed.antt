@@ -2,8 +2,8 @@
 use Rattle.std.specs.Prelude.{List}
 use Rattle.asm_storage.specs.Agents.{AgentView}
 use Rattle.asm_c.specs.Closed.{LacksReceipt}
-use Rattle.asm_c.specs.declared.closing.Unclosed.{Unclosed}
-use Rattle.asm_c.specs.declared.closing.Unclosed.TheVariants as unclosed
+use Rattle.asm_c.specs.declared.store_close.Unclosed.{Unclosed}
+use Rattle.asm_c.specs.declared.store_close.Unclosed.TheVariants as unclosed
 
 -- a missing receipt is told by the number of its move
 abbrev pub IsUnclosed : List AgentView → Unclosed → Type 0

@@ -1,5 +1,6 @@
 //! The codes that calls answer, and their texts.
-ghost use Rattle.std.specs.Prelude.{◌≡◌, ◌⊎◌, ◌<◌, pos, length, slice_range};
+ghost use Rattle.std.specs.Prelude.{◌≡◌, ◌≢◌, ◌⊎◌, ◌<◌, pos, length, slice_range};
+ghost use Rattle.asm_c.specs.Codes.{text_of_code};
 
 pub(crate) const DONE: i32 = 0;
 
@@ -59,7 +60,9 @@ pub(crate) fn copied(bytes: &[u8], out: &mut [u8], written: &mut usize) -> i32
     DONE
 }
 
-fn text_of(code: i32) -> &'static str {
+fn text_of_code(code: i32) -> &'static str
+    ensures { result.now ≡ text_of_code code }
+{
     match code {
         DONE => "done",
         STALE => "a location that was named was written since it was read",
@@ -90,9 +93,12 @@ fn text_of(code: i32) -> &'static str {
 #[unsafe(no_mangle)]
 pub extern "C" fn asm_error_text(code: i32, out: &mut [u8], written: &mut usize) -> i32
     ensures codes { (result ≡ pos 0) ⊎ (result ≡ pos 7) }
-    ensures small { result ≡ pos 7 → out.new ≡ out.old }
+    ensures written { written.new ≡ length (text_of_code code) }
+    ensures told { result ≡ pos 0 → slice_range out.new 0 written.new ≡ text_of_code code }
+    ensures unwritten { result ≢ pos 0 → out.new ≡ out.old }
+    ensures small { result ≡ pos 7 → length out.old < written.new }
 {
-    copied(text_of(code).as_bytes(), out, written)
+    copied(text_of_code(code).as_bytes(), out, written)
 }
 
 /// The version of this library: a million for each major one, a thousand for each minor one.

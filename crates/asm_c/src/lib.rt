@@ -4,29 +4,28 @@
 //! storage, so slots may be let go in any order. Texts are those of journals. Each call answers a code.
 #![tactic(auto)]
 
-mod calls;
-mod closing;
 mod codes;
-mod ending;
-mod giving;
+mod content;
+mod counts_and_learning;
+mod give_and_close;
 mod handle;
-mod held;
 #[cfg(test)]
 mod journal_tests;
 mod journals;
-mod knowing;
-mod loose;
 mod opening;
+mod owned_agent;
 mod parsing;
-mod place;
-mod playing;
+mod raw_box;
+mod read_and_fire;
 #[cfg(test)]
-mod playing_tests;
-mod sharing;
+mod read_and_fire_tests;
+mod shared;
 mod slot;
 #[cfg(test)]
 mod slot_tests;
 mod store;
-mod taking;
+mod store_close;
+mod store_give;
+mod take_and_put;
 #[cfg(test)]
-mod trying;
+mod test_slots;

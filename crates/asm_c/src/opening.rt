@@ -7,13 +7,13 @@ ghost use Rattle.asm_c.specs.Codes.{IsOneOf};
 ghost use Rattle.asm_c.specs.Slots.{AreEmpty, AreNew, Holds, HoldsNew, HoldsNoStore, HoldsStore};
 
 use crate::codes::{DONE, EMPTY, MEMORY, RANGE, TAKEN};
-use crate::held::Held;
-use crate::parsing::{code_of_fault, state_of};
-use crate::place::Place;
-use crate::sharing::Shared;
+use crate::content::Content;
+use crate::owned_agent::OwnedAgent;
+use crate::parsing::{code_of_text_error, state_of};
+use crate::shared::Shared;
 use crate::slot::Slot;
 use crate::store::Store;
-use crate::taking::{put_store, take_store};
+use crate::take_and_put::{put_store, take_store};
 use asm_aggregate::standard;
 use asm_storage::{Storage, StorageError};
 use std::alloc::{AllocError, Global};
@@ -21,14 +21,14 @@ use std::sync::Arc;
 use std::sync::atomic::AtomicU64;
 
 // A storage of which no move was fired.
-fn opened(alloc: Global, init: &[u8], capacity: u32) -> Result<Box<Held>, i32>
+fn opened(alloc: Global, init: &[u8], capacity: u32) -> Result<Box<Content>, i32>
     ensures ok { IfOk result (λ b. HoldsStore (Some b.value) (IsOpened init.now capacity)) }
     ensures err { IfErr result (IsOneOf (3 ∷ 6 ∷ 16 ∷ 17 ∷ [])) }
     ensures range { IfErr result (λ code. code ≡ pos 6 → (capacity ≡ 0) ⊎ (1048576 < capacity)) }
 {
     let init = match state_of(alloc, init) {
         Ok(init) => init,
-        Err(fault) => return Err(code_of_fault(fault)),
+        Err(error) => return Err(code_of_text_error(error)),
     };
     let storage = match Storage::new(alloc, standard(), init, capacity) {
         Ok(storage) => storage,
@@ -44,10 +44,10 @@ fn opened(alloc: Global, init: &[u8], capacity: u32) -> Result<Box<Held>, i32>
         parts: Vec::new(alloc),
         journal: None,
     };
-    let Ok(held) = Box::new(alloc, Held::Store(store)) else {
+    let Ok(made) = Box::new(alloc, Content::Store(store)) else {
         return Err(MEMORY);
     };
-    Ok(held)
+    Ok(made)
 }
 
 /// Opens a storage with the state `[PAIR, ..]`, for at most `capacity` moves, in an empty slot.
@@ -67,20 +67,20 @@ pub extern "C" fn asm_open(alloc: Global, init: &[u8], capacity: u32, store: &mu
         return TAKEN;
     }
     match opened(alloc, init, capacity) {
-        Ok(held) => {
-            *store = Slot::holding(held);
+        Ok(made) => {
+            *store = Slot::holding(made);
             DONE
         }
         Err(code) => code,
     }
 }
 
-fn agent_of(alloc: Global, store: &Store, id: u32) -> Result<Box<Held>, AllocError>
+fn agent_of(alloc: Global, store: &Store, id: u32) -> Result<Box<Content>, AllocError>
     requires { id < 256 }
     ensures { IfOk result (λ b. Holds (Some b.value) (λ a. a ≡ at_start store.now.storage id)) }
 {
-    let place = Place::at_start(alloc, &store.shared, id)?;
-    Ok(Box::new(alloc, Held::Agent(place))?)
+    let agent = OwnedAgent::at_start(alloc, &store.shared, id)?;
+    Ok(Box::new(alloc, Content::Agent(agent))?)
 }
 
 /// Makes an agent of the storage with the number `id`, in an empty slot.
@@ -105,11 +105,11 @@ pub extern "C" fn asm_agent(alloc: Global, store: &mut Slot, id: u32, agent: &mu
     if agent.is_full() {
         return TAKEN;
     }
-    let Some((held, kept)) = take_store(alloc, store) else {
+    let Some((shell, kept)) = take_store(alloc, store) else {
         return EMPTY;
     };
     let made = agent_of(alloc, &kept, id);
-    put_store(store, held, kept);
+    put_store(store, shell, kept);
     match made {
         Ok(made) => {
             *agent = Slot::holding(made);
@@ -159,7 +159,7 @@ fn clear(alloc: Global, slots: &mut [Slot])
 /// Makes an agent of the storage in each of the empty slots, at most 256, with the numbers from 0 up.
 ///
 /// 6: more than 256 slots. 11: one of them is full. 5: the other slot has no storage. 3: out of memory.
-/// After each of these the storage's slot is as it was, and the others hold what they held.
+/// After each of these the storage's slot is as it was, and the others hold what they shell.
 #[unsafe(no_mangle)]
 pub extern "C" fn asm_agents(alloc: Global, store: &mut Slot, agents: &mut [Slot]) -> i32
     ensures codes { IsOneOf (0 ∷ 3 ∷ 5 ∷ 6 ∷ 11 ∷ []) result }
@@ -178,11 +178,11 @@ pub extern "C" fn asm_agents(alloc: Global, store: &mut Slot, agents: &mut [Slot
     if is_any_full(agents) {
         return TAKEN;
     }
-    let Some((held, kept)) = take_store(alloc, store) else {
+    let Some((shell, kept)) = take_store(alloc, store) else {
         return EMPTY;
     };
     let is_made = fill(alloc, &kept, agents);
-    put_store(store, held, kept);
+    put_store(store, shell, kept);
     if is_made {
         return DONE;
     }

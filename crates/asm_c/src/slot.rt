@@ -1,10 +1,10 @@
 //! What C holds.
 ghost use Rattle.std.specs.Prelude.{◌≡◌, IsNone, MatchOption};
-ghost use Rattle.asm_c.specs.Owned.{is_some};
+ghost use Rattle.asm_c.specs.Boxed.{is_some};
 
+use crate::content::Content;
 use crate::handle::Handle;
-use crate::held::Held;
-use crate::loose::Loose;
+use crate::raw_box::RawBox;
 use std::alloc::Global;
 
 /// Nothing where `full` is false: a slot of zeros holds nothing.
@@ -25,12 +25,12 @@ impl Slot {
         }
     }
 
-    pub(crate) fn holding(value: Box<Held>) -> Slot
+    pub(crate) fn holding(value: Box<Content>) -> Slot
         ensures { result.handle.value ≡ Some value.value }
     {
         Slot {
             full: true,
-            handle: Handle::of(Loose::of(value)),
+            handle: Handle::of(RawBox::of(value)),
         }
     }
 
@@ -41,12 +41,12 @@ impl Slot {
         self.full
     }
 
-    pub(crate) fn into_box(self) -> Option<Box<Held>>
+    pub(crate) fn into_box(self) -> Option<Box<Content>>
         ensures { MatchOption result (self.handle.value ≡ None) (λ b. self.handle.value ≡ Some b.value) }
     {
         let Slot { full, handle } = self;
         if full {
-            return Some(handle.into_loose().into_box());
+            return Some(handle.into_raw_box().into_box());
         }
         handle.end();
         None

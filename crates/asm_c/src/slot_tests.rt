@@ -1,9 +1,9 @@
 //! Slots that are filled, refused and let go.
 use crate::opening::{asm_agent, asm_agents, asm_free, asm_open};
-use crate::playing::asm_read;
-use crate::sharing::{Shared, are_one};
+use crate::read_and_fire::asm_read;
+use crate::shared::{Shared, are_one};
 use crate::slot::Slot;
-use crate::trying::{agent, store};
+use crate::test_slots::{agent, store};
 use asm_aggregate::standard;
 use asm_storage::Storage;
 use asm_update::PlainState;

@@ -1,5 +1,5 @@
 //! A share of a storage, with the agents that were given back to it, and their journal.
-use crate::sharing::Shared;
+use crate::shared::Shared;
 use asm_storage::AgentPart;
 use std::marker::Model;
 use std::sync::Arc;

@@ -16,12 +16,12 @@ use Rattle.asm_driver.specs.StepReads.{taken, changed, named}
 use Rattle.asm_driver.specs.Sequencing.{Stop, FaultyTerm, Clashes, fired_or_stopped, fire_move, fire_block, on_state}
 use Rattle.asm_driver.specs.Sequencing.{fire_blocks, IsReadOf, IsStopped, IsStepMove, IsNext, IsFrame, Extends}
 use Rattle.asm_driver.specs.Sequencing.{fitting, composed_on, on_move, on_fired, on_composed, step_move_on}
-use Rattle.asm_driver.specs.declared.block.Block.{Block}
-use Rattle.asm_driver.specs.declared.step.Step.{Step}
+use Rattle.asm_driver.specs.declared.script.block.Block.{Block}
+use Rattle.asm_driver.specs.declared.script.step.Step.{Step}
 use Rattle.std.proofs.lemmas.Bool.{false≢true, lt-ltb, le-ltb}
 use Rattle.std.proofs.lemmas.List.{drop_more}
-use Rattle.asm_driver.specs.declared.step.StepFault.{StepFault}
-use Rattle.asm_driver.specs.declared.step.StepFault.TheVariants.{Term, Clash as Clashing, Large, Many, Memory}
+use Rattle.asm_driver.specs.declared.script.step.StepFault.{StepFault}
+use Rattle.asm_driver.specs.declared.script.step.StepFault.TheVariants.{Term, Clash as Clashing, Large, Many, Memory}
 use Rattle.asm_driver.proofs.Agreeing.{Agree, agree_left, agree_right, same_move, same_update_set, same_clash}
 
 -- firing what is done so far leaves this state; before the first block there is nothing to fire

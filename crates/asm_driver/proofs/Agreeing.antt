@@ -11,7 +11,7 @@ use Rattle.std.specs.Ordering.{eq_by_cmp}
 use Rattle.asm_element.specs.Place.{Place, location_cmp, same_location}
 use Rattle.asm_element.specs.declared.value.Value.{Value}
 use Rattle.asm_update.specs.Action.{is_partial, regular_value}
-use Rattle.asm_update.specs.Fire.{Part, Old, Outcome, res, group_result, outcome_at, IsUpdateSet, IsLeastClash}
+use Rattle.asm_update.specs.Fire.{Part, Old, GroupResult, res, group_result, result_at, IsUpdateSet, IsLeastClash}
 use Rattle.asm_update.specs.Move.{Move, actions_at, writes, are_different}
 use Rattle.asm_update.specs.State.{Updates}
 use Rattle.asm_update.specs.declared.action.Action.{Action}
@@ -23,13 +23,13 @@ use Rattle.asm_update.proofs.ActionLemmas.{IsRegular, IsPartial, kinds}
 use Rattle.asm_driver.specs.Terms.{term_value, given_element, given_number, sum_value, locations_in}
 use Rattle.asm_driver.specs.Blocks.{action_in, instruction_in, move_in}
 use Rattle.asm_driver.specs.StepReads.{places_in, target_of, taken, changed}
-use Rattle.asm_driver.specs.declared.term.Term.{Term}
-use Rattle.asm_driver.specs.declared.term.Term.TheVariants as term
-use Rattle.asm_driver.specs.declared.term.Term.TheVariants.{Val, Sum'}
-use Rattle.asm_driver.specs.declared.block.TermAction.{TermAction}
-use Rattle.asm_driver.specs.declared.block.TermAction.TheVariants.{Put, Add, Remove, BagAdd, BagRemove, Increment}
-use Rattle.asm_driver.specs.declared.block.TermInstruction.{TermInstruction}
-use Rattle.asm_driver.specs.declared.block.Block.{Block}
+use Rattle.asm_driver.specs.declared.script.term.Term.{Term}
+use Rattle.asm_driver.specs.declared.script.term.Term.TheVariants as term
+use Rattle.asm_driver.specs.declared.script.term.Term.TheVariants.{Val, Sum'}
+use Rattle.asm_driver.specs.declared.script.block.TermAction.{TermAction}
+use Rattle.asm_driver.specs.declared.script.block.TermAction.TheVariants.{Put, Add, Remove, BagAdd, BagRemove, Increment}
+use Rattle.asm_driver.specs.declared.script.block.TermInstruction.{TermInstruction}
+use Rattle.asm_driver.specs.declared.script.block.Block.{Block}
 
 -- the two have the same value at each location of the list
 abbrev pub Agree : Old → Old → List Place → Type 0
@@ -182,7 +182,7 @@ some_actions (j ∷ M) l h = by_test (eq_by_cmp location_cmp j.at l) h (some_act
 
 module _ (part : Part) (old new : Old) (b : Block) (M : Move) (is : move_in old b ≡ Some M)
     (same : Agree old new (changed b)) where
-  same_outcome : (l : Place) → writes M l ≡ true → outcome_at part old M l ≡ outcome_at part new M l
+  same_outcome : (l : Place) → writes M l ≡ true → result_at part old M l ≡ result_at part new M l
   same_outcome l w =
       same_result part (old l) (new l) (actions_at M l) (some_actions M l w)
       (λ partial. same l (partial_there old b M l is partial))
@@ -190,7 +190,7 @@ module _ (part : Part) (old new : Old) (b : Block) (M : Move) (is : move_in old 
   -- a block's move has the same update set in both
   pub same_update_set : (U : Updates) → IsUpdateSet part old M U → IsUpdateSet part new M U
   same_update_set U h = record {
-    written = λ l w. subst (λ (o : Outcome). IsSomeAnd (finite.get U l) (λ v. o ≡ Ok v)) (same_outcome l w)
+    written = λ l w. subst (λ (o : GroupResult). IsSomeAnd (finite.get U l) (λ v. o ≡ Ok v)) (same_outcome l w)
         (h.written l w);
     others = h.others;
   }

@@ -11,10 +11,10 @@ use Rattle.clap.specs.declared.error.kind.ErrorKind.TheVariants as kind
 use Rattle.asm_driver.specs.Words.{Words, program, faults, program_with, run_with, Asks, AsksFor, IsNoCommand}
 use Rattle.asm_driver.specs.Words.{IsRefusal, IsMadeOf}
 use Rattle.asm_driver.specs.Words.{Gives, RefusesWords, Helps, Answers}
-use Rattle.asm_driver.specs.declared.words.Request.{Request}
-use Rattle.asm_driver.specs.declared.words.Request.TheVariants.{Run, Check, Rewrite}
-use Rattle.asm_driver.specs.declared.words.WordsError.{WordsError}
-use Rattle.asm_driver.specs.declared.words.WordsError.TheVariants.{Help, Bad, Memory}
+use Rattle.asm_driver.specs.declared.program.words.Request.{Request}
+use Rattle.asm_driver.specs.declared.program.words.Request.TheVariants.{Run, Check, Rewrite}
+use Rattle.asm_driver.specs.declared.program.words.WordsError.{WordsError}
+use Rattle.asm_driver.specs.declared.program.words.WordsError.TheVariants.{Help, Bad, Memory}
 
 -- an error of clap that may come at these words
 pub refused : (words : Words) (k : ErrorKind) (e : WordsError) → (k ≡ kind.OutOfMemory) ⊎ IsAmong k (faults words) →

@@ -5,7 +5,7 @@ use Rattle.std.proofs.Common.{length-append, append_assoc}
 use Rattle.std.proofs.lemmas.List.{append-nil}
 use Rattle.asm_element.specs.Place.{Place}
 use Rattle.asm_storage.specs.declared.history.Event.{Event}
-use Rattle.asm_driver.specs.Told.{stale_fires, reads_among, AreTries}
+use Rattle.asm_driver.specs.StepEvents.{stale_fires, reads_among, AreTries}
 
 pub one_longer : {X : Type 0} (xs ys : List X) (x : X) (i : ℕ) → ys ≡ xs ++ x ∷ [] → length xs ≡ i →
     length ys ≡ i + 1

@@ -20,17 +20,17 @@ pub use Rattle.asm_storage.proofs.Standard.{standard_agent_is_sent}
 use Rattle.asm_storage.proofs.Standard.{standard, standard_ghosts}
 use Rattle.asm_update.proofs.Crossing.{clash_is_sent, instructions_is_sent, instructions_is_shared}
 use Rattle.asm_update.proofs.action.Amount.TheSendSync as amount
-use Rattle.asm_driver.specs.contracts.block.Block as Block
-use Rattle.asm_driver.specs.contracts.block.Block.TheInside as InsideBlock
-use Rattle.asm_driver.specs.contracts.block.Form as Form
-use Rattle.asm_driver.specs.contracts.block.TermAction as TermAction
-use Rattle.asm_driver.specs.contracts.block.TermInstruction as TermInstruction
-use Rattle.asm_driver.specs.contracts.outcome.Outcome as Outcome
-use Rattle.asm_driver.specs.contracts.step.Step as Step
-use Rattle.asm_driver.specs.contracts.step.Step.TheInside as InsideStep
-use Rattle.asm_driver.specs.contracts.term.Term as Term
-use Rattle.asm_driver.specs.contracts.term.Term.TheKnot as Knot
-use Rattle.asm_driver.specs.contracts.trying.Turn as Turn
+use Rattle.asm_driver.specs.contracts.script.block.Block as Block
+use Rattle.asm_driver.specs.contracts.script.block.Block.TheInside as InsideBlock
+use Rattle.asm_driver.specs.contracts.script.block.Form as Form
+use Rattle.asm_driver.specs.contracts.script.block.TermAction as TermAction
+use Rattle.asm_driver.specs.contracts.script.block.TermInstruction as TermInstruction
+use Rattle.asm_driver.specs.contracts.play.outcome.Outcome as Outcome
+use Rattle.asm_driver.specs.contracts.script.step.Step as Step
+use Rattle.asm_driver.specs.contracts.script.step.Step.TheInside as InsideStep
+use Rattle.asm_driver.specs.contracts.script.term.Term as Term
+use Rattle.asm_driver.specs.contracts.script.term.Term.TheKnot as Knot
+use Rattle.asm_driver.specs.contracts.play.player.PlayedAgent as PlayedAgent
 
 -- a term, where the terms in it may be read
 layer_sync : (T : RattleType) → IsSync T → IsSync (Knot.layer-Term T T)
@@ -146,7 +146,7 @@ outcome_is_sent : IsSend Outcome.the_row
 outcome_is_sent = search (sendable, clash_is_sent, location_is_sent) depth 20
 
 -- what a worker hands back, with the program's aggregator
-pub turn_is_sent : (κ : NamedLft) → IsSend (Turn.the_row κ standard standard_ghosts)
-turn_is_sent κ =
-    declared_send (Turn.the_type κ standard standard_ghosts)
+pub played_agent_is_sent : (κ : NamedLft) → IsSend (PlayedAgent.the_row κ standard standard_ghosts)
+played_agent_is_sent κ =
+    declared_send (PlayedAgent.the_type κ standard standard_ghosts)
     (standard_agent_is_sent κ, (search (sendable, Vec-send, outcome_is_sent) depth 20, tt))

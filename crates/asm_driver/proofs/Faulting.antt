@@ -8,10 +8,10 @@ use Rattle.asm_driver.specs.Commands.{legality_status, IsDone, IsNotDone}
 use Rattle.asm_driver.specs.Refusal.{refusal_status, refusal_line, journal_status, has_number}
 use Rattle.asm_driver.specs.Words.{Words}
 use Rattle.asm_driver.specs.Run.{Input, Output, IsAnswer, IsNoAnswer, IsShown, Writes, Refuses, HasFailed}
-use Rattle.asm_driver.specs.declared.refusal.Refusal.{Refusal}
-use Rattle.asm_driver.specs.declared.refusal.Refusal.TheVariants as refusal
-use Rattle.asm_driver.specs.declared.words.Request.{Request}
-use Rattle.asm_driver.specs.declared.words.Request.TheVariants.{Run, Check, Rewrite}
+use Rattle.asm_driver.specs.declared.program.refusal.Refusal.{Refusal}
+use Rattle.asm_driver.specs.declared.program.refusal.Refusal.TheVariants as refusal
+use Rattle.asm_driver.specs.declared.program.words.Request.{Request}
+use Rattle.asm_driver.specs.declared.program.words.Request.TheVariants.{Run, Check, Rewrite}
 
 -- it has failed, and it hasn't
 both : true ≡ false → ⊥

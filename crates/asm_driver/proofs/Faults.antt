@@ -1,5 +1,5 @@
 -- The faults of what is written in a script, and the first of them.
-use Rattle.std.proofs.Common.{◌≡◌, ◌<◌, ◌≤◌, ℕ, List, [], ◌∷◌, ◌++◌, length, Bool, true, false, refl, sym, ap}
+use Rattle.std.proofs.Common.{◌≡◌, ◌<◌, ◌≤◌, ℕ, List, [], ◌∷◌, ◌++◌, length, Bool, true, false, sym, ap}
 use Rattle.std.proofs.Common.{ap₂, ◌∙◌, subst, inr, arith, append_assoc}
 use Rattle.std.proofs.lemmas.List.{append-nil}
 use Rattle.std.proofs.lemmas.List.Folds.{list_any-append}
@@ -15,12 +15,10 @@ use Rattle.std.specs.Set.{is_member}
 use Rattle.std.proofs.lemmas.Bool.{lt-ltb, le-ltb}
 use Rattle.std.proofs.lemmas.Grind.{flat_map-append}
 use Rattle.asm_element.specs.Place.{Place, location_cmp, location_cmp_total, same_location}
-use Rattle.serde_json.specs.Data.{Data}
-use Rattle.asm_journal.specs.Shape.{two_of}
 use Rattle.asm_driver.specs.StepReads.{named, AreReads}
-use Rattle.asm_driver.specs.declared.block.Block.{Block}
-use Rattle.asm_driver.specs.declared.step.Step.{Step}
-use Rattle.asm_driver.specs.declared.parsing.Written.{Written}
+use Rattle.asm_driver.specs.declared.script.block.Block.{Block}
+use Rattle.asm_driver.specs.declared.script.step.Step.{Step}
+use Rattle.asm_driver.specs.declared.script.parsing.UncheckedScript.{UncheckedScript}
 use Rattle.asm_driver.specs.declared.script.ScriptCause.{ScriptCause}
 use Rattle.asm_driver.specs.declared.script.ScriptCause.TheVariants.{Agents, Blocks, Instructions, Reads}
 use Rattle.asm_driver.specs.declared.script.ScriptError.{ScriptError}
@@ -153,10 +151,7 @@ many_agents agents many = (
   ap (λ t. when t Agents ++ flat_map agent_faults agents) (lt-ltb 256 (length agents) many),
 )
 
-pub beyond : (bytes : List ℕ) (w : Written) → HasForm bytes w → (e : ScriptError) → IsFirst (faults w.agents) e →
+pub beyond : (bytes : List ℕ) (w : UncheckedScript) → HasForm bytes w → (e : ScriptError) → IsFirst (faults w.agents) e →
     IsRefusedScript bytes e
 beyond bytes w form (BadScript cause) first = inr (inr (w, form, first))
 beyond bytes w form Memory first = tt
-
-pub same_members : (k l : List ℕ) (a b x y : Data) → two_of k a l b ≡ two_of k x l y → (a ≡ x) × (b ≡ y)
-same_members k l a b x y e = (cc, cc)

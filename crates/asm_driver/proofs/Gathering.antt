@@ -11,8 +11,8 @@ use Rattle.std.specs.Cmp.{eq_by_cmp_equiv}
 use Rattle.std.specs.Ordering.{eq_by_cmp}
 use Rattle.asm_element.specs.Place.{Place, location_cmp, location_cmp_total, same_location}
 use Rattle.asm_driver.specs.StepReads.{taken, changed, named, AreReads}
-use Rattle.asm_driver.specs.declared.block.Block.{Block}
-use Rattle.asm_driver.specs.declared.step.Step.{Step}
+use Rattle.asm_driver.specs.declared.script.block.Block.{Block}
+use Rattle.asm_driver.specs.declared.script.step.Step.{Step}
 
 -- what blocks name that others follow
 abbrev pub gathered : List Block → List Place

@@ -1,6 +1,6 @@
 -- What moves leave of a state that a program can hold is such a state again.
-use Rattle.std.proofs.Common.{◌≡◌, ◌++◌, Bool, true, false, cond, ◌||◌, T, List, [], ◌∷◌, map, refl, sym, ap}
-use Rattle.std.proofs.Common.{subst, ◌∙◌, All, Option, Some, None, Result, Ok, Err, unwrap_or, IsSomeAnd, is_some}
+use Rattle.std.proofs.Common.{◌≡◌, Bool, true, false, cond, ◌||◌, T, List, [], ◌∷◌, map, refl, sym, ap}
+use Rattle.std.proofs.Common.{subst, ◌∙◌, All, Option, Some, None, Result, Ok, Err, IsSomeAnd, is_some}
 use Rattle.std.specs.List.{filter, filter_map}
 use Rattle.std.specs.FinMap as finite
 use Rattle.std.specs.FinMap.Entries.{below_all}
@@ -8,7 +8,6 @@ use Rattle.std.specs.Ordering.{eq_by_cmp}
 use Rattle.std.proofs.lemmas.Bool.{false≢true}
 use Rattle.std.proofs.lemmas.Option.{same_Some}
 use Rattle.std.proofs.lemmas.List.Elements.{All-nil, All-cons, All-head, All-tail}
-use mathlib.Core.List.{IsPrefix}
 use Rattle.asm_element.specs.Place.{Place, location_cmp, location_cmp_total, same_location}
 use Rattle.asm_element.specs.Place as place
 use Rattle.asm_element.specs.Ascending.{both_T, none_below}
@@ -17,18 +16,16 @@ use Rattle.asm_element.specs.Value as value
 use Rattle.asm_element.specs.declared.value.Value.{Value}
 use Rattle.asm_update.specs.Action.{AllProper, IsProper, IsProperInstruction, is_partial, regular_value}
 use Rattle.asm_update.specs.Aggregator.{Meaning, AggregatorLaws}
-use Rattle.asm_update.specs.Fire.{res, group_result, first, outcome_at, fire, state_or, state_of, IsUpdateSet}
+use Rattle.asm_update.specs.Fire.{res, group_result, first, result_at, fire, state_or, state_of, IsUpdateSet}
 use Rattle.asm_update.specs.Move.{Move, actions_at, writes, are_different}
 use Rattle.asm_update.specs.State.{State, Updates, val, overwrite}
 use Rattle.asm_update.specs.State as state
 use Rattle.asm_update.specs.declared.action.Action.{Action}
-use Rattle.asm_update.specs.declared.action.Action.TheVariants.{Regular}
-use Rattle.asm_update.specs.declared.action.Instruction.{Instruction}
 use Rattle.asm_update.specs.declared.clash.Clash.{Clash}
 use Rattle.asm_update.specs.declared.clash.Cause.TheVariants.{Two}
 use Rattle.asm_update.proofs.ActionLemmas.{IsRegular, IsPartial, kinds}
+use Rattle.asm_aggregate.proofs.Sequence.{proper_value, proper_actions}
 use Rattle.asm_update.proofs.FireLemmas.{stored_or, get-overwrite, has_updated, fired_updates}
-use Rattle.asm_driver.specs.Plays.{AreProper}
 
 -- what is kept at a location
 abbrev IsKept : Place → Value → Type 0
@@ -104,25 +101,7 @@ proper_held A proper q v is =
     (record { locations = proper.locations; values = proper.values; no_undef = proper.no_undef }) q v
     (sym (finite.get-entries A q) ∙ is)
 
-proper_val : (A : State) (q : Place) → state.IsProper A → value.IsProper (val A q)
-proper_val A q proper = by_cases (finite.get A q) refl where
-  by_cases : (o : Option Value) → finite.get A q ≡ o → value.IsProper (unwrap_or o value.undef)
-  by_cases None e = tt
-  by_cases (Some v) e = (proper_held A proper q v e).1
-
--- what a move does at a location is proper
-at_proper : (M : Move) (l : Place) → All IsProperInstruction M → AllProper (actions_at M l)
-at_proper [] l h = All-nil IsProper
-at_proper (x ∷ M) l h = by_test (eq_by_cmp location_cmp x.at l) (at_proper M l (All-tail IsProperInstruction x M h))
-  where
-    by_test : (b : Bool) → AllProper (actions_at M l) →
-        AllProper (map (λ (i : Instruction). i.action)
-        (cond b (x ∷ filter (λ (i : Instruction). eq_by_cmp location_cmp i.at l) M)
-        (filter (λ (i : Instruction). eq_by_cmp location_cmp i.at l) M)))
-    by_test true later = All-cons IsProper x.action (actions_at M l) (All-head IsProperInstruction x M h).1 later
-    by_test false later = later
-
--- and so is a location that it writes
+-- a location that a proper move writes is proper
 written_proper : (M : Move) (l : Place) → All IsProperInstruction M → writes M l ≡ true → place.IsProper l
 written_proper [] l h is = absurd (false≢true is)
 written_proper (x ∷ M) l h is = by_test (eq_by_cmp location_cmp x.at l) refl is
@@ -192,11 +171,11 @@ module _ {a : Meaning} (laws : AggregatorLaws a) where
     by_update q v None e is = proper_held A pA q v is
     by_update q v (Some u) e is =
         let there : writes M q ≡ true = sym (has_updated a.part (val A) M updates.0 updates.1 q) ∙ ap is_some e in
-        let gives : outcome_at a.part (val A) M q ≡ Ok u =
-        subst (λ (o : Option Value). IsSomeAnd o (λ w. outcome_at a.part (val A) M q ≡ Ok w)) e
+        let gives : result_at a.part (val A) M q ≡ Ok u =
+        subst (λ (o : Option Value). IsSomeAnd o (λ w. result_at a.part (val A) M q ≡ Ok w)) e
         (updates.1.written q there) in
         by_undef q u v (value.is_undef u) refl is (written_proper M q pM there)
-        (result_proper (val A q) u (actions_at M q) (proper_val A q pA) (at_proper M q pM) gives)
+        (result_proper (val A q) u (actions_at M q) (proper_value A q pA) (proper_actions M q pM) gives)
 
     held : (q : Place) (v : Value) → finite.get B q ≡ Some v → IsKept q v
     held q v is = by_update q v (finite.get updates.0 q) refl (sym (got q) ∙ is)
@@ -211,14 +190,3 @@ module _ {a : Meaning} (laws : AggregatorLaws a) where
         by_answer : (r : Result State Clash) → fire a.part A M ≡ r → state.IsProper (state_or A r)
         by_answer (Ok B) e = fired_proper A B M pA (All-head (All IsProperInstruction) M q pq) e
         by_answer (Err c) e = pA
-
-moves_prefix : (q r : List Move) → All (All IsProperInstruction) (q ++ r) → All (All IsProperInstruction) q
-moves_prefix [] r all = All-nil (All IsProperInstruction)
-moves_prefix (M ∷ q) r all =
-    All-cons (All IsProperInstruction) M q (All-head (All IsProperInstruction) M (q ++ r) all)
-    (moves_prefix q r (All-tail (All IsProperInstruction) M (q ++ r) all))
-
--- what is proper is so for the first moves
-pub proper_prefix : (A : State) (q r : List Move) → IsPrefix q r → AreProper A r → AreProper A q
-proper_prefix A q r p all =
-    record { state = all.state; moves = moves_prefix q p.0 (subst (All (All IsProperInstruction)) (sym p.1) all.moves) }

@@ -17,18 +17,18 @@ use Rattle.asm_storage.specs.declared.history.Event.{Event}
 use Rattle.asm_storage.specs.declared.receipt.Entry.{Entry}
 use Rattle.asm_storage.specs.declared.receipt.Receipt.{Receipt}
 use Rattle.asm_storage.proofs.Lists.{take-prefix, length-prefix}
-use Rattle.asm_driver.specs.Plays.{AreProper, Plays}
+use Rattle.asm_driver.specs.AgentPlay.{AreProper, Plays}
 use Rattle.asm_driver.specs.Sequencing.{fire_blocks, step_move_on, StandsFor}
-use Rattle.asm_driver.specs.Told.{IsIdle, IsFiring, IsClashing, HasNoRoom, HasFault, Outgrows}
-use Rattle.asm_driver.specs.Told.{stale_fires, reads_among, AreTries, HasTries, EndsWith}
-use Rattle.asm_driver.specs.Told.{IsTold, AreTold}
+use Rattle.asm_driver.specs.StepEvents.{IsIdle, IsFiring, IsClashing, HasNoRoom, HasFault, Outgrows}
+use Rattle.asm_driver.specs.StepEvents.{stale_fires, reads_among, AreTries, HasTries, EndsWith}
+use Rattle.asm_driver.specs.StepEvents.{IsTold, AreTold}
 use Rattle.asm_driver.specs.Trying.{Adds, IsAgain, IsVain, Tried, IsStepPlayed}
-use Rattle.asm_driver.specs.declared.step.Step.{Step}
-use Rattle.asm_driver.specs.declared.step.StepFault.{StepFault}
-use Rattle.asm_driver.specs.declared.step.StepFault.TheVariants as fault
-use Rattle.asm_driver.specs.declared.outcome.Outcome.{Outcome}
-use Rattle.asm_driver.specs.declared.outcome.Outcome.TheVariants as outcome
-use Rattle.asm_driver.proofs.Properness.{proper_prefix}
+use Rattle.asm_driver.specs.declared.script.step.Step.{Step}
+use Rattle.asm_driver.specs.declared.script.step.StepFault.{StepFault}
+use Rattle.asm_driver.specs.declared.script.step.StepFault.TheVariants as fault
+use Rattle.asm_driver.specs.declared.play.outcome.Outcome.{Outcome}
+use Rattle.asm_driver.specs.declared.play.outcome.Outcome.TheVariants as outcome
+use Rattle.asm_driver.proofs.ProperMoves.{proper_prefix}
 use Rattle.asm_driver.proofs.Counts.{stale_both, reads_both, tries_more, no_tries, few_reads}
 use Rattle.asm_driver.proofs.Tries.{prefix_mapped, adds_then, adds_none}
 

@@ -9,10 +9,10 @@ use Rattle.asm_journal.specs.Shape.{IsParsed, IsOnly}
 use Rattle.asm_journal.proofs.Actions.{kind_of_word}
 use Rattle.asm_driver.specs.Terms.{given_number}
 use Rattle.asm_driver.specs.TermForm.{IsTermForm, IsCounted, word_of, AreOperands, IsActionForm}
-use Rattle.asm_driver.specs.declared.term.Term.{Term}
-use Rattle.asm_driver.specs.declared.term.Term.TheVariants as term
-use Rattle.asm_driver.specs.declared.block.TermAction.{TermAction}
-use Rattle.asm_driver.specs.declared.block.TermAction.TheVariants.{Put, Add, Remove, BagAdd, BagRemove, Increment}
+use Rattle.asm_driver.specs.declared.script.term.Term.{Term}
+use Rattle.asm_driver.specs.declared.script.term.Term.TheVariants as term
+use Rattle.asm_driver.specs.declared.script.block.TermAction.{TermAction}
+use Rattle.asm_driver.specs.declared.script.block.TermAction.TheVariants.{Put, Add, Remove, BagAdd, BagRemove, Increment}
 
 -- the number of the kind
 abbrev kind_number : TermAction → ℕ

@@ -7,11 +7,11 @@ use Rattle.asm_element.specs.declared.value.Value.{Value}
 use Rattle.asm_journal.specs.Element.{IsLocationForm}
 use Rattle.asm_journal.specs.Value.{IsValueForm}
 use Rattle.asm_journal.proofs.Arrays.{same_one, same_key, same_pair}
-use Rattle.asm_journal.proofs.Texts.{measure}
+use Rattle.asm_journal.proofs.Words.{measure}
 use Rattle.asm_driver.specs.TermForm.{val_json_of, sum_json_of, IsTermForm}
-use Rattle.asm_driver.specs.declared.term.Term.{Term}
-use Rattle.asm_driver.specs.declared.term.Term.TheVariants as term
-use Rattle.asm_driver.specs.declared.term.Term.TheVariants.{Val, Sum'}
+use Rattle.asm_driver.specs.declared.script.term.Term.{Term}
+use Rattle.asm_driver.specs.declared.script.term.Term.TheVariants as term
+use Rattle.asm_driver.specs.declared.script.term.Term.TheVariants.{Val, Sum'}
 
 not_both : (at a b : Data) → val_json_of at ≡ sum_json_of a b → ⊥
 unfolding measure

@@ -30,19 +30,20 @@ use Rattle.asm_storage.specs.declared.history.Event.{Event}
 use Rattle.asm_storage.specs.declared.receipt.Entry.{Entry}
 use Rattle.asm_storage.specs.declared.receipt.Receipt.{Receipt}
 use Rattle.asm_storage.proofs.Run.{same_value_from, fresh_each, fired_reply}
-use Rattle.asm_driver.specs.Plays.{AreProper}
+use Rattle.asm_driver.specs.AgentPlay.{AreProper}
 use Rattle.asm_driver.specs.StepReads.{AreReads}
 use Rattle.asm_driver.specs.Sequencing.{fired_or_stopped, fire_blocks, step_move_on, IsReadOf, StandsFor, IsStepMove}
-use Rattle.asm_driver.specs.Told.{IsIdle, IsFiring, IsClashing, HasNoRoom, HasFault, EndsWith, IsTold}
-use Rattle.asm_driver.specs.Told.{stale_fire, stale_fires, read_once, reads_among, AreTries}
+use Rattle.asm_driver.specs.StepEvents.{IsIdle, IsFiring, IsClashing, HasNoRoom, HasFault, EndsWith, IsTold}
+use Rattle.asm_driver.specs.StepEvents.{stale_fire, stale_fires, read_once, reads_among, AreTries}
 use Rattle.asm_driver.specs.Trying.{value_among, read_value, name_at, names_of, HasRead, HasTried, outcome_of}
 use Rattle.asm_driver.specs.Trying.{IsEndOf, Adds, IsAgain, IsTry}
-use Rattle.asm_driver.specs.declared.step.Step.{Step}
-use Rattle.asm_driver.specs.declared.step.StepFault.{StepFault}
-use Rattle.asm_driver.specs.declared.step.StepFault.TheVariants as fault
-use Rattle.asm_driver.specs.declared.outcome.Outcome.{Outcome}
-use Rattle.asm_driver.specs.declared.outcome.Outcome.TheVariants as outcome
-use Rattle.asm_driver.proofs.Properness.{moves_proper, proper_prefix}
+use Rattle.asm_driver.specs.declared.script.step.Step.{Step}
+use Rattle.asm_driver.specs.declared.script.step.StepFault.{StepFault}
+use Rattle.asm_driver.specs.declared.script.step.StepFault.TheVariants as fault
+use Rattle.asm_driver.specs.declared.play.outcome.Outcome.{Outcome}
+use Rattle.asm_driver.specs.declared.play.outcome.Outcome.TheVariants as outcome
+use Rattle.asm_driver.proofs.ProperMoves.{proper_prefix}
+use Rattle.asm_driver.proofs.Properness.{moves_proper}
 use Rattle.asm_driver.proofs.Counts.{stale_both, reads_both, tries_with, few_reads}
 use Rattle.asm_driver.proofs.Readings.{value_mapped}
 

@@ -7,12 +7,12 @@ use Rattle.asm_update.specs.declared.action.Action.{Action}
 use Rattle.asm_update.specs.declared.action.Action.TheVariants as action
 use Rattle.asm_update.specs.declared.action.Instruction.{Instruction}
 use Rattle.asm_driver.specs.Terms.{term_value, given_element}
-use Rattle.asm_driver.specs.declared.block.Form.{Form}
-use Rattle.asm_driver.specs.declared.block.Form.TheVariants.{Terms, Ready}
-use Rattle.asm_driver.specs.declared.block.TermAction.{TermAction}
-use Rattle.asm_driver.specs.declared.block.TermAction.TheVariants.{Put, Add, Remove, BagAdd, BagRemove, Increment}
-use Rattle.asm_driver.specs.declared.block.TermInstruction.{TermInstruction}
-use Rattle.asm_driver.specs.declared.block.Block.{Block}
+use Rattle.asm_driver.specs.declared.script.block.Form.{Form}
+use Rattle.asm_driver.specs.declared.script.block.Form.TheVariants.{Terms, Ready}
+use Rattle.asm_driver.specs.declared.script.block.TermAction.{TermAction}
+use Rattle.asm_driver.specs.declared.script.block.TermAction.TheVariants.{Put, Add, Remove, BagAdd, BagRemove, Increment}
+use Rattle.asm_driver.specs.declared.script.block.TermInstruction.{TermInstruction}
+use Rattle.asm_driver.specs.declared.script.block.Block.{Block}
 
 -- the action with the term's value in its place: any value for `put`, a plain one for an element; an increment has no
 -- term

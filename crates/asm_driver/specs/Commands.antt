@@ -15,12 +15,12 @@ use Rattle.asm_driver.specs.Play.{IsNoCapacity, IsPlayOf}
 use Rattle.asm_driver.specs.Report.{line, report_of}
 use Rattle.asm_driver.specs.Script.{IsScriptOf, IsRefusedScript}
 use Rattle.asm_driver.specs.Standard.{standard_part}
-use Rattle.asm_driver.specs.declared.outcome.Played.{Played}
-use Rattle.asm_driver.specs.declared.refusal.Refusal.{Refusal}
-use Rattle.asm_driver.specs.declared.refusal.Refusal.TheVariants as refusal
+use Rattle.asm_driver.specs.declared.play.outcome.Played.{Played}
+use Rattle.asm_driver.specs.declared.program.refusal.Refusal.{Refusal}
+use Rattle.asm_driver.specs.declared.program.refusal.Refusal.TheVariants as refusal
 use Rattle.asm_driver.specs.declared.script.ScriptError.TheVariants.{BadScript}
-use Rattle.asm_driver.specs.declared.words.Request.{Request}
-use Rattle.asm_driver.specs.declared.words.Request.TheVariants.{Run, Check, Rewrite}
+use Rattle.asm_driver.specs.declared.program.words.Request.{Request}
+use Rattle.asm_driver.specs.declared.program.words.Request.TheVariants.{Run, Check, Rewrite}
 
 -- ---- run
 

@@ -1,10 +1,10 @@
 pub mod Standard
 pub mod Plan
-pub mod Told
-pub mod Plays
+pub mod StepEvents
+pub mod AgentPlay
 pub mod Trying
-pub mod Works
-pub mod Turns
+pub mod Jobs
+pub mod PlayedAgents
 pub mod Play
 pub mod Terms
 pub mod Ready

@@ -2,8 +2,8 @@
 use Rattle.std.specs.Prelude.{List, refl}
 use Rattle.std.specs.Coded.{Coded, code_by, coded×, coded_list}
 use Rattle.asm_update.specs.State.{State}
-use Rattle.asm_driver.specs.declared.block.TermInstruction.{TermInstruction}
-use Rattle.asm_driver.specs.declared.step.Step.{Step}
+use Rattle.asm_driver.specs.declared.script.block.TermInstruction.{TermInstruction}
+use Rattle.asm_driver.specs.declared.script.step.Step.{Step}
 
 -- an opening state, and each agent's steps
 pub record Plan : Type 0 where

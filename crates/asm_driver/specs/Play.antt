@@ -1,14 +1,14 @@
 -- What playing a script leaves: its history, and the outcome of each step.
 use Rattle.std.specs.Prelude.{◌≡◌, ◌≤◌, ◌<◌, ◌⊎◌, ◌+◌, ℕ, List, [], ◌∷◌, length}
 use Rattle.asm_storage.specs.Machine.{Machine}
-use Rattle.asm_storage.specs.History.{moves, own, IsLegal}
+use Rattle.asm_storage.specs.History.{fired_moves, events_of, IsLegal}
 use Rattle.asm_storage.specs.declared.history.Event.{Event}
 use Rattle.asm_driver.specs.Plan.{Plan}
 use Rattle.asm_driver.specs.Standard.{standard_meaning, standard_part}
-use Rattle.asm_driver.specs.Told.{AreTold}
-use Rattle.asm_driver.specs.declared.step.Step.{Step}
-use Rattle.asm_driver.specs.declared.outcome.Outcome.{Outcome}
-use Rattle.asm_driver.specs.declared.outcome.Played.{Played}
+use Rattle.asm_driver.specs.StepEvents.{AreTold}
+use Rattle.asm_driver.specs.declared.script.step.Step.{Step}
+use Rattle.asm_driver.specs.declared.play.outcome.Outcome.{Outcome}
+use Rattle.asm_driver.specs.declared.play.outcome.Played.{Played}
 
 -- no moves, or more than 1,048,576
 abbrev pub IsNoCapacity : ℕ → Type 0
@@ -19,12 +19,12 @@ abbrev pub machine_of : Plan → ℕ → Machine
 machine_of plan capacity = record { part = standard_part; init = plan.init; capacity = capacity }
 
 -- from this agent on, the events of each are those of its steps, each step's told by its outcome
-abbrev pub AreTurns : Machine → List Event → ℕ → List (List Step) → List (List Outcome) → Type 0
-AreTurns m h id [] [] = Unit {0}
-AreTurns m h id [] (os ∷ oss) = ⊥
-AreTurns m h id (ss ∷ sss) [] = ⊥
-AreTurns m h id (ss ∷ sss) (os ∷ oss) =
-    AreTold standard_meaning m (moves h) ss os (own h id) × AreTurns m h (id + 1) sss oss
+abbrev pub AreAgentsTold : Machine → List Event → ℕ → List (List Step) → List (List Outcome) → Type 0
+AreAgentsTold m h id [] [] = Unit {0}
+AreAgentsTold m h id [] (os ∷ oss) = ⊥
+AreAgentsTold m h id (ss ∷ sss) [] = ⊥
+AreAgentsTold m h id (ss ∷ sss) (os ∷ oss) =
+    AreTold standard_meaning m (fired_moves h) ss os (events_of h id) × AreAgentsTold m h (id + 1) sss oss
 
 -- What a script's playing leaves: a legal history from the script's opening state and with the given capacity, with
 -- one outcome for each step of each agent, which tells the events of that step, and no event of another agent. The
@@ -34,5 +34,5 @@ pub record IsPlayOf (plan : Plan) (capacity : ℕ) (p : Played) : Type 0 where
   pub capacity_is : p.history.capacity ≡ capacity
   pub agents : p.history.agents ≡ length plan.agents
   pub legal : IsLegal (machine_of plan capacity) p.history.events
-  pub turns : AreTurns (machine_of plan capacity) p.history.events 0 plan.agents p.outcomes
-  pub others : (i : ℕ) → length plan.agents ≤ i → own p.history.events i ≡ []
+  pub told : AreAgentsTold (machine_of plan capacity) p.history.events 0 plan.agents p.outcomes
+  pub others : (i : ℕ) → length plan.agents ≤ i → events_of p.history.events i ≡ []

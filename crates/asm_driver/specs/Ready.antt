@@ -7,13 +7,13 @@ use Rattle.asm_update.specs.declared.action.Action.{Action}
 use Rattle.asm_update.specs.declared.action.Action.TheVariants as action
 use Rattle.asm_update.specs.declared.action.Instruction.{Instruction}
 use Rattle.asm_driver.specs.Terms.{given_element}
-use Rattle.asm_driver.specs.declared.term.Term.{Term}
-use Rattle.asm_driver.specs.declared.term.Term.TheVariants as term
-use Rattle.asm_driver.specs.declared.block.Form.{Form}
-use Rattle.asm_driver.specs.declared.block.Form.TheVariants.{Terms, Ready}
-use Rattle.asm_driver.specs.declared.block.TermAction.{TermAction}
-use Rattle.asm_driver.specs.declared.block.TermAction.TheVariants.{Put, Add, Remove, BagAdd, BagRemove, Increment}
-use Rattle.asm_driver.specs.declared.block.TermInstruction.{TermInstruction}
+use Rattle.asm_driver.specs.declared.script.term.Term.{Term}
+use Rattle.asm_driver.specs.declared.script.term.Term.TheVariants as term
+use Rattle.asm_driver.specs.declared.script.block.Form.{Form}
+use Rattle.asm_driver.specs.declared.script.block.Form.TheVariants.{Terms, Ready}
+use Rattle.asm_driver.specs.declared.script.block.TermAction.{TermAction}
+use Rattle.asm_driver.specs.declared.script.block.TermAction.TheVariants.{Put, Add, Remove, BagAdd, BagRemove, Increment}
+use Rattle.asm_driver.specs.declared.script.block.TermInstruction.{TermInstruction}
 
 -- the value that is written out; a term that is no value has none
 abbrev pub written_value : Term → Option Value

@@ -4,14 +4,14 @@ use Rattle.std.specs.Fmt.{decimal}
 use Rattle.asm_journal.specs.declared.fault.JournalError.{JournalError}
 use Rattle.asm_journal.specs.declared.fault.JournalError.TheVariants as journal
 use Rattle.asm_driver.specs.Report.{line}
-use Rattle.asm_driver.specs.declared.input.InputError.{InputError}
-use Rattle.asm_driver.specs.declared.input.InputError.TheVariants as input
-use Rattle.asm_driver.specs.declared.outcome.RunError.{RunError}
-use Rattle.asm_driver.specs.declared.outcome.RunError.TheVariants as play
-use Rattle.asm_driver.specs.declared.refusal.Line.{Line}
-use Rattle.asm_driver.specs.declared.refusal.Line.TheVariants.{Known, Made}
-use Rattle.asm_driver.specs.declared.refusal.Refusal.{Refusal}
-use Rattle.asm_driver.specs.declared.refusal.Refusal.TheVariants as refusal
+use Rattle.asm_driver.specs.declared.ports.input.InputError.{InputError}
+use Rattle.asm_driver.specs.declared.ports.input.InputError.TheVariants as input
+use Rattle.asm_driver.specs.declared.play.outcome.RunError.{RunError}
+use Rattle.asm_driver.specs.declared.play.outcome.RunError.TheVariants as play
+use Rattle.asm_driver.specs.declared.program.refusal.Line.{Line}
+use Rattle.asm_driver.specs.declared.program.refusal.Line.TheVariants.{Known, Made}
+use Rattle.asm_driver.specs.declared.program.refusal.Refusal.{Refusal}
+use Rattle.asm_driver.specs.declared.program.refusal.Refusal.TheVariants as refusal
 use Rattle.asm_driver.specs.declared.script.ScriptCause.{ScriptCause}
 use Rattle.asm_driver.specs.declared.script.ScriptCause.TheVariants.{NotJson, Shape, Agents, Blocks, Instructions}
 use Rattle.asm_driver.specs.declared.script.ScriptCause.TheVariants.{Reads}

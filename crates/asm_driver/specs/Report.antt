@@ -8,13 +8,13 @@ use Rattle.asm_element.specs.Place.{Place}
 use Rattle.asm_element.specs.declared.value.Value.{Value}
 use Rattle.asm_update.specs.State.{State}
 use Rattle.asm_update.specs.Fire.{Part, state_of}
-use Rattle.asm_storage.specs.History.{moves}
+use Rattle.asm_storage.specs.History.{fired_moves}
 use Rattle.asm_journal.specs.Element.{location_json_of}
 use Rattle.asm_journal.specs.Value.{pair_json_of}
 use Rattle.asm_journal.specs.Event.{word_of_cause}
-use Rattle.asm_driver.specs.declared.outcome.Outcome.{Outcome}
-use Rattle.asm_driver.specs.declared.outcome.Outcome.TheVariants.{Fired, Clash, Full, Term, Large, Many, GaveUp}
-use Rattle.asm_driver.specs.declared.outcome.Played.{Played}
+use Rattle.asm_driver.specs.declared.play.outcome.Outcome.{Outcome}
+use Rattle.asm_driver.specs.declared.play.outcome.Outcome.TheVariants.{Fired, Clash, Full, Term, Large, Many, GaveUp}
+use Rattle.asm_driver.specs.declared.play.outcome.Played.{Played}
 
 -- a line and its line feed
 abbrev pub line : List ℕ → List ℕ
@@ -62,6 +62,6 @@ outcome_lines outcomes = flat_map agent_lines (enumerate_from 0 outcomes)
 -- with this meaning of partial updates: the final state, the number of moves, and the steps that didn't fire
 abbrev pub report_of : Part → Played → List ℕ
 report_of part p =
-    state_lines (state_of part p.history.init (moves p.history.events))
-    ++ moves_line (min (length (moves p.history.events)) 4294967295)
+    state_lines (state_of part p.history.init (fired_moves p.history.events))
+    ++ moves_line (min (length (fired_moves p.history.events)) 4294967295)
     ++ outcome_lines p.outcomes

@@ -8,12 +8,12 @@ use Rattle.asm_driver.specs.Output.{AppendsSome}
 use Rattle.asm_driver.specs.Words.{Words, AsksFor, AsksForHelp, HasMistake, faults}
 use Rattle.asm_driver.specs.Commands.{IsDone, IsNotDone}
 use Rattle.asm_driver.specs.Refusal.{refusal_line, refusal_status, has_number}
-use Rattle.asm_driver.specs.declared.commands.Ending.{Ending}
-use Rattle.asm_driver.specs.declared.refusal.Refusal.{Refusal}
-use Rattle.asm_driver.specs.declared.refusal.Refusal.TheVariants as refusal
-use Rattle.asm_driver.specs.declared.words.Request.{Request}
-use Rattle.asm_driver.specs.declared.words.WordsError.{WordsError}
-use Rattle.asm_driver.specs.declared.words.WordsError.TheVariants as words
+use Rattle.asm_driver.specs.declared.program.commands.Ending.{Ending}
+use Rattle.asm_driver.specs.declared.program.refusal.Refusal.{Refusal}
+use Rattle.asm_driver.specs.declared.program.refusal.Refusal.TheVariants as refusal
+use Rattle.asm_driver.specs.declared.program.words.Request.{Request}
+use Rattle.asm_driver.specs.declared.program.words.WordsError.{WordsError}
+use Rattle.asm_driver.specs.declared.program.words.WordsError.TheVariants as words
 
 -- ---- what a run takes
 

@@ -11,9 +11,9 @@ use Rattle.asm_journal.specs.Value.{IsStateForm}
 use Rattle.asm_driver.specs.Plan.{Plan}
 use Rattle.asm_driver.specs.StepReads.{named}
 use Rattle.asm_driver.specs.TermForm.{IsInstructionForm}
-use Rattle.asm_driver.specs.declared.block.Block.{Block}
-use Rattle.asm_driver.specs.declared.step.Step.{Step}
-use Rattle.asm_driver.specs.declared.parsing.Written.{Written}
+use Rattle.asm_driver.specs.declared.script.block.Block.{Block}
+use Rattle.asm_driver.specs.declared.script.step.Step.{Step}
+use Rattle.asm_driver.specs.declared.script.parsing.UncheckedScript.{UncheckedScript}
 use Rattle.asm_driver.specs.declared.script.ScriptCause.{ScriptCause}
 use Rattle.asm_driver.specs.declared.script.ScriptCause.TheVariants.{NotJson, Shape, Agents, Blocks, Instructions}
 use Rattle.asm_driver.specs.declared.script.ScriptCause.TheVariants.{Reads}
@@ -27,13 +27,13 @@ abbrev pub IsAgentForm : List Step → Data → Type 0
 IsAgentForm = IsListForm (IsListForm (IsListForm IsInstructionForm))
 
 -- {"agents":[AGENT, ..],"init":[PAIR, ..]}
-abbrev pub IsScriptForm : Written → Data → Type 0
+abbrev pub IsScriptForm : UncheckedScript → Data → Type 0
 IsScriptForm w d =
     (agents init : Data) × (d ≡ two_of (codes "agents") agents (codes "init") init)
     × IsListForm IsAgentForm w.agents agents × IsStateForm w.init init
 
 -- the bytes are JSON of this form
-abbrev pub HasForm : List ℕ → Written → Type 0
+abbrev pub HasForm : List ℕ → UncheckedScript → Type 0
 HasForm bytes w = (d : Data) × IsJson bytes d × IsScriptForm w d
 
 -- ---- the limits
@@ -74,20 +74,20 @@ IsFirst causes Memory = Unit {0}
 -- ---- a script
 
 -- what is written is without fault, and this is its plan
-abbrev pub IsPlanOf : Written → Plan → Type 0
+abbrev pub IsPlanOf : UncheckedScript → Plan → Type 0
 IsPlanOf w p = (faults w.agents ≡ []) × (p ≡ record { init = w.init; agents = w.agents })
 
 -- the bytes are a script of this plan
 abbrev pub IsScriptOf : List ℕ → Plan → Type 0
-IsScriptOf bytes p = (w : Written) × HasForm bytes w × IsPlanOf w p
+IsScriptOf bytes p = (w : UncheckedScript) × HasForm bytes w × IsPlanOf w p
 
 -- Why the bytes are no script: they are not JSON; or JSON of another shape; or the first fault of what is written.
 -- Want of memory tells nothing.
 abbrev pub IsRefusedScript : List ℕ → ScriptError → Type 0
 IsRefusedScript bytes (BadScript cause) =
     ((cause ≡ NotJson) × ((d : Data) → ¬ IsJson bytes d))
-    ⊎ ((cause ≡ Shape) × ((d : Data) × IsJson bytes d × ((w : Written) → ¬ IsScriptForm w d)))
-    ⊎ ((w : Written) × HasForm bytes w × IsFirst (faults w.agents) (BadScript cause))
+    ⊎ ((cause ≡ Shape) × ((d : Data) × IsJson bytes d × ((w : UncheckedScript) → ¬ IsScriptForm w d)))
+    ⊎ ((w : UncheckedScript) × HasForm bytes w × IsFirst (faults w.agents) (BadScript cause))
 IsRefusedScript bytes Memory = Unit {0}
 
 -- the bytes are not JSON; an allocation failure tells nothing

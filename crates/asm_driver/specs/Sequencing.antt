@@ -2,7 +2,7 @@
 use Rattle.std.specs.Prelude.{◌≡◌, ◌≤◌, ◌<◌, [], ◌∷◌, length, nat_lt, if◌then◌else◌, Option, Some, None}
 use Rattle.std.specs.Prelude.{Result, Ok, Err, unwrap_or, Contains}
 use Rattle.asm_element.specs.Place.{Place}
-use Rattle.asm_update.specs.Aggregator.{Meaning, Refusal, Refused, TooLarge}
+use Rattle.asm_update.specs.Aggregator.{Meaning, NoJoin, Refused, TooLarge}
 use Rattle.asm_update.specs.Fire.{Part, Old, fire, IsUpdateSet, IsLeastClash}
 use Rattle.asm_update.specs.Move.{Move}
 use Rattle.asm_update.specs.State.{State, Updates, IsProper, val}
@@ -10,10 +10,10 @@ use Rattle.asm_aggregate.specs.Compose.{composition, IsSequence, NeverFires}
 use Rattle.asm_update.specs.declared.clash.Clash.{Clash}
 use Rattle.asm_driver.specs.Blocks.{move_in}
 use Rattle.asm_driver.specs.StepReads.{named}
-use Rattle.asm_driver.specs.declared.block.Block.{Block}
-use Rattle.asm_driver.specs.declared.step.Step.{Step}
-use Rattle.asm_driver.specs.declared.step.StepFault.{StepFault}
-use Rattle.asm_driver.specs.declared.step.StepFault.TheVariants.{Term, Clash as Clashing, Large, Many, Memory}
+use Rattle.asm_driver.specs.declared.script.block.Block.{Block}
+use Rattle.asm_driver.specs.declared.script.step.Step.{Step}
+use Rattle.asm_driver.specs.declared.script.step.StepFault.{StepFault}
+use Rattle.asm_driver.specs.declared.script.step.StepFault.TheVariants.{Term, Clash as Clashing, Large, Many, Memory}
 
 -- why blocks in sequence leave no state
 pub data Stop : Type 0 where
@@ -54,12 +54,12 @@ abbrev pub IsStopped : Result State Stop → Type 0
 IsStopped r = (clash : Clash) × (r ≡ Err (Clashes clash))
 
 -- the fault of a step that is refused at a location
-abbrev pub refused_at : Place → Refusal → StepFault
+abbrev pub refused_at : Place → NoJoin → StepFault
 refused_at l (Refused cause) = Clashing (record { at = l; cause = cause })
 refused_at l TooLarge = Large l
 
 -- what was composed, if it has at most 4,096 instructions, or the fault
-abbrev pub fitting : Result Move (Place × Refusal) → Result Move StepFault
+abbrev pub fitting : Result Move (Place × NoJoin) → Result Move StepFault
 fitting (Ok C) = if nat_lt 4096 (length C) then Err Many else Ok C
 fitting (Err (l, refusal)) = Err (refused_at l refusal)
 

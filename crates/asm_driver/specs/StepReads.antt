@@ -4,9 +4,9 @@ use Rattle.std.specs.List.{flat_map}
 use Rattle.std.specs.List.Sorted.{IsStrictlySortedBy}
 use Rattle.asm_element.specs.Place.{Place, location_cmp}
 use Rattle.asm_driver.specs.Terms.{locations_in}
-use Rattle.asm_driver.specs.declared.block.TermAction.{TermAction}
-use Rattle.asm_driver.specs.declared.block.TermAction.TheVariants.{Put, Add, Remove, BagAdd, BagRemove, Increment}
-use Rattle.asm_driver.specs.declared.block.Block.{Block}
+use Rattle.asm_driver.specs.declared.script.block.TermAction.{TermAction}
+use Rattle.asm_driver.specs.declared.script.block.TermAction.TheVariants.{Put, Add, Remove, BagAdd, BagRemove, Increment}
+use Rattle.asm_driver.specs.declared.script.block.Block.{Block}
 
 -- the locations whose values an action's term takes; an increment has no term
 abbrev pub places_in : TermAction → List Place

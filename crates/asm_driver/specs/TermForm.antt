@@ -7,12 +7,12 @@ use Rattle.asm_journal.specs.Element.{IsIntegerForm, IsLocationForm}
 use Rattle.asm_journal.specs.Set.{IsAmountForm}
 use Rattle.asm_journal.specs.Value.{IsValueForm}
 use Rattle.asm_journal.specs.Instruction.{instruction_of}
-use Rattle.asm_driver.specs.declared.term.Term.{Term}
-use Rattle.asm_driver.specs.declared.term.Term.TheVariants as term
-use Rattle.asm_driver.specs.declared.term.Term.TheVariants.{Val, Sum'}
-use Rattle.asm_driver.specs.declared.block.TermAction.{TermAction}
-use Rattle.asm_driver.specs.declared.block.TermAction.TheVariants.{Put, Add, Remove, BagAdd, BagRemove, Increment}
-use Rattle.asm_driver.specs.declared.block.TermInstruction.{TermInstruction}
+use Rattle.asm_driver.specs.declared.script.term.Term.{Term}
+use Rattle.asm_driver.specs.declared.script.term.Term.TheVariants as term
+use Rattle.asm_driver.specs.declared.script.term.Term.TheVariants.{Val, Sum'}
+use Rattle.asm_driver.specs.declared.script.block.TermAction.{TermAction}
+use Rattle.asm_driver.specs.declared.script.block.TermAction.TheVariants.{Put, Add, Remove, BagAdd, BagRemove, Increment}
+use Rattle.asm_driver.specs.declared.script.block.TermInstruction.{TermInstruction}
 
 -- {"val":LOC}
 abbrev pub val_json_of : Data → Data

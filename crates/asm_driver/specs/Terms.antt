@@ -9,11 +9,11 @@ use Rattle.asm_element.specs.declared.element.Element.TheVariants.{Num}
 use Rattle.asm_element.specs.declared.value.Value.{Value}
 use Rattle.asm_element.specs.declared.value.Value.TheVariants.{Plain}
 use Rattle.asm_update.specs.Fire.{Old}
-use Rattle.asm_driver.specs.declared.term.Term.{Term}
-use Rattle.asm_driver.specs.declared.term.Term.TheVariants as term
-use Rattle.asm_driver.specs.declared.term.Term.TheVariants.{Val, Sum'}
-use Rattle.asm_driver.specs.declared.term.TermFault.{TermFault}
-use Rattle.asm_driver.specs.declared.term.TermFault.TheVariants.{Faulty, Memory}
+use Rattle.asm_driver.specs.declared.script.term.Term.{Term}
+use Rattle.asm_driver.specs.declared.script.term.Term.TheVariants as term
+use Rattle.asm_driver.specs.declared.script.term.Term.TheVariants.{Val, Sum'}
+use Rattle.asm_driver.specs.declared.script.term.TermFault.{TermFault}
+use Rattle.asm_driver.specs.declared.script.term.TermFault.TheVariants.{Faulty, Memory}
 
 -- the element that a plain value is; a set or a bag is none
 abbrev pub plain_in : Value → Option Element

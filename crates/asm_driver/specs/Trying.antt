@@ -17,14 +17,14 @@ use Rattle.asm_storage.specs.declared.call.Answer.TheVariants as answer
 use Rattle.asm_storage.specs.declared.call.Reply.{Reply}
 use Rattle.asm_storage.specs.declared.call.Reply.TheVariants as reply
 use Rattle.asm_storage.specs.declared.receipt.Receipt.{Receipt}
-use Rattle.asm_driver.specs.Plays.{AreProper}
+use Rattle.asm_driver.specs.AgentPlay.{AreProper}
 use Rattle.asm_driver.specs.StepReads.{AreReads}
-use Rattle.asm_driver.specs.Told.{stale_fires, reads_among, AreTries, IsIdle, IsTold}
-use Rattle.asm_driver.specs.declared.step.Step.{Step}
-use Rattle.asm_driver.specs.declared.step.StepFault.{StepFault}
-use Rattle.asm_driver.specs.declared.step.StepFault.TheVariants as fault
-use Rattle.asm_driver.specs.declared.outcome.Outcome.{Outcome}
-use Rattle.asm_driver.specs.declared.outcome.Outcome.TheVariants as outcome
+use Rattle.asm_driver.specs.StepEvents.{stale_fires, reads_among, AreTries, IsIdle, IsTold}
+use Rattle.asm_driver.specs.declared.script.step.Step.{Step}
+use Rattle.asm_driver.specs.declared.script.step.StepFault.{StepFault}
+use Rattle.asm_driver.specs.declared.script.step.StepFault.TheVariants as fault
+use Rattle.asm_driver.specs.declared.play.outcome.Outcome.{Outcome}
+use Rattle.asm_driver.specs.declared.play.outcome.Outcome.TheVariants as outcome
 
 -- the value that stands where the location does; undef where it isn't among them
 abbrev pub value_among : List Place → List Value → Place → Value

@@ -8,10 +8,10 @@ use Rattle.clap.specs.declared.builder.action.ArgAction.TheVariants.{Set, SetTru
 use Rattle.clap.specs.declared.builder.value_parser.ValueParser.TheVariants.{Signed}
 use Rattle.clap.specs.declared.error.kind.ErrorKind.{ErrorKind}
 use Rattle.clap.specs.declared.error.kind.ErrorKind.TheVariants as kind
-use Rattle.asm_driver.specs.declared.words.Request.{Request}
-use Rattle.asm_driver.specs.declared.words.Request.TheVariants.{Run, Check, Rewrite}
-use Rattle.asm_driver.specs.declared.words.WordsError.{WordsError}
-use Rattle.asm_driver.specs.declared.words.WordsError.TheVariants.{Help, Bad, Memory}
+use Rattle.asm_driver.specs.declared.program.words.Request.{Request}
+use Rattle.asm_driver.specs.declared.program.words.Request.TheVariants.{Run, Check, Rewrite}
+use Rattle.asm_driver.specs.declared.program.words.WordsError.{WordsError}
+use Rattle.asm_driver.specs.declared.program.words.WordsError.TheVariants.{Help, Bad, Memory}
 
 -- --capacity N, with N from 1 to 1,048,576, and 4,096 where it isn't given
 abbrev pub capacity : Rule

@@ -3,23 +3,32 @@ ghost use Rattle.std.specs.Prelude.{◌≡◌, ◌≢◌, ◌↔◌, ◌≤◌, 
 ghost use Rattle.std.specs.List.{range_with_len};
 ghost use Rattle.asm_storage.specs.Storage.{accounts, at_start};
 ghost use Rattle.asm_driver.specs.Play.{IsNoCapacity, IsPlayOf};
-ghost use Rattle.asm_driver.specs.Plays.{Plays};
-ghost use Rattle.asm_driver.specs.Standard.{standard_meaning, standard_part};
-ghost use Rattle.asm_driver.specs.Turns.{steps_at, fault_told, refusal_told, ArePlayed, IsNotClosed};
-ghost use Rattle.asm_driver.specs.Works.{GivesEach};
+ghost use Rattle.asm_driver.specs.AgentPlay.{Plays};
+ghost use Rattle.asm_driver.specs.Standard.{standard_meaning};
+ghost use Rattle.asm_driver.specs.PlayedAgents.{steps_at, workers_error_told, close_error_told, ArePlayed, IsNotClosed};
+ghost use Rattle.asm_driver.specs.Jobs.{GivesEach};
+
+#[cfg(test)]
+mod busy_tests;
+pub(crate) mod gate;
+pub(crate) mod outcome;
+mod player;
+mod proper;
+mod read_values;
+mod workers;
 
 use crate::aggregator::{Standard, chosen};
-use crate::gate::{Gate, Passage, Through};
-use crate::outcome::{Outcome, Played, RunError};
-use crate::proper::proper_history;
+use crate::play::gate::{Passage, Through};
+use crate::play::player::{PlayedAgent, Player};
+use crate::play::proper::proper_history;
+use crate::play::workers::{Task, WorkersError};
 use crate::script::Script;
-use crate::step::Step;
-use crate::trying::{Player, Turn};
-use crate::workers;
-use crate::workers::{Fault, Task};
+use crate::script::step::Step;
 use asm_element::Items;
 use asm_storage::{Agent, CloseError, Storage};
 use asm_update::Aggregator;
+pub use gate::{Gate, Open};
+pub use outcome::{Outcome, Played, RunError};
 use std::alloc::{AllocError, Global};
 use std::marker::Sync;
 use std::sync::Wait;
@@ -28,19 +37,19 @@ use std::thread::Threads;
 /// The greatest capacity.
 const CAPACITY_LIMIT: u32 = 1_048_576;
 
-impl From<Fault> for RunError {
-    ghost from_gives = { λ f e. e ≡ fault_told f };
+impl From<WorkersError> for RunError {
+    ghost from_gives = { λ w e. e ≡ workers_error_told w };
 
-    fn from(fault: Fault) -> RunError {
-        match fault {
-            Fault::NoThread => RunError::NoThread,
-            Fault::Memory => RunError::Memory,
+    fn from(error: WorkersError) -> RunError {
+        match error {
+            WorkersError::NoThread => RunError::NoThread,
+            WorkersError::Memory => RunError::Memory,
         }
     }
 }
 
 impl From<CloseError> for RunError {
-    ghost from_gives = { λ e r. r ≡ refusal_told e };
+    ghost from_gives = { λ e r. r ≡ close_error_told e };
 
     fn from(error: CloseError) -> RunError {
         match error {
@@ -52,7 +61,7 @@ impl From<CloseError> for RunError {
 
 // The steps of agents, by their numbers.
 trait Scripted {
-    ghost use Rattle.asm_driver.specs.declared.step.Step.{Step};
+    ghost use Rattle.asm_driver.specs.declared.script.step.Step.{Step};
 
     ghost steps: { Self → List (List Step) };
 
@@ -61,9 +70,9 @@ trait Scripted {
 }
 
 // The steps as they are written in a script.
-struct Written<'p>(&'p [Items<Step>]);
+struct WrittenSteps<'p>(&'p [Items<Step>]);
 
-impl<'p> Scripted for Written<'p> {
+impl<'p> Scripted for WrittenSteps<'p> {
     ghost steps = { λ w. w.0.now };
 
     fn of(&self, id: usize) -> &[Step] {
@@ -80,10 +89,12 @@ struct Playing<'a, P, S> {
     scripted: S,
 }
 
-impl<'a, 's, P: Passage + Sync, S: Scripted + Sync> Task<Agent<'s, Standard>, Turn<'s, Standard>>
-    for Playing<'a, P, S> {
-    ghost use Rattle.asm_driver.specs.Plays.{Plays};
-    ghost use Rattle.asm_driver.specs.Turns.{steps_at};
+impl<'a, 's, P: Passage + Sync, S: Scripted + Sync> Task<
+    Agent<'s, Standard>,
+    PlayedAgent<'s, Standard>,
+> for Playing<'a, P, S> {
+    ghost use Rattle.asm_driver.specs.AgentPlay.{Plays};
+    ghost use Rattle.asm_driver.specs.PlayedAgents.{steps_at};
 
     ghost gives = { λ p a t. Plays (⟦<Standard as Aggregator>⟧.meaning)
         (⟦<Standard as Aggregator>⟧.meaning p.player.aggregator.now) a t.agent
@@ -93,7 +104,7 @@ impl<'a, 's, P: Passage + Sync, S: Scripted + Sync> Task<Agent<'s, Standard>, Tu
         &self,
         rt: &R,
         agent: Agent<'s, Standard>,
-    ) -> Result<Turn<'s, Standard>, AllocError> {
+    ) -> Result<PlayedAgent<'s, Standard>, AllocError> {
         let steps = self.scripted.of(agent.id() as usize);
         self.player.play(rt, agent, steps)
     }
@@ -105,10 +116,10 @@ fn played_apart<'s, 'a, R: Threads + Wait + Sync, P: Passage + Sync, S: Scripted
     alloc: Global,
     playing: &Playing<'a, P, S>,
     agents: Vec<Agent<'s, Standard>>,
-) -> Result<Vec<Turn<'s, Standard>>, Fault>
-    ensures { IfOk result (λ turns. GivesEach (λ a t. Plays (⟦<Standard as Aggregator>⟧.meaning)
+) -> Result<Vec<PlayedAgent<'s, Standard>>, WorkersError>
+    ensures { IfOk result (λ played. GivesEach (λ a t. Plays (⟦<Standard as Aggregator>⟧.meaning)
         (⟦<Standard as Aggregator>⟧.meaning playing.now.player.aggregator.now) a t.agent
-        (steps_at (S.steps playing.now.scripted) a) t.outcomes.items) agents.entry.items turns.items) }
+        (steps_at (S.steps playing.now.scripted) a) t.outcomes.items) agents.entry.items played.items) }
 {
     workers::each(rt, alloc, playing, agents)
 }
@@ -117,19 +128,19 @@ fn played_apart<'s, 'a, R: Threads + Wait + Sync, P: Passage + Sync, S: Scripted
 fn played_as_written<'s, 'a, 'p, R: Threads + Wait + Sync, P: Passage + Sync>(
     rt: &R,
     alloc: Global,
-    playing: &Playing<'a, P, Written<'p>>,
+    playing: &Playing<'a, P, WrittenSteps<'p>>,
     agents: Vec<Agent<'s, Standard>>,
-) -> Result<Vec<Turn<'s, Standard>>, Fault>
-    ensures { IfOk result (λ turns. GivesEach (λ a t. Plays (⟦<Standard as Aggregator>⟧.meaning)
+) -> Result<Vec<PlayedAgent<'s, Standard>>, WorkersError>
+    ensures { IfOk result (λ played. GivesEach (λ a t. Plays (⟦<Standard as Aggregator>⟧.meaning)
         (⟦<Standard as Aggregator>⟧.meaning playing.now.player.aggregator.now) a t.agent
-        (steps_at playing.now.scripted.0.now a) t.outcomes.items) agents.entry.items turns.items) }
+        (steps_at playing.now.scripted.0.now a) t.outcomes.items) agents.entry.items played.items) }
 {
     played_apart(rt, alloc, playing, agents)
 }
 
 // The storage that the script opens. The capacity is looked at before any memory is asked for.
 fn opened(alloc: Global, script: &Script, capacity: u32) -> Result<Storage<Standard>, RunError>
-    ensures part { IfOk result (λ s. (⟦<Standard as Aggregator>⟧.meaning s.agg).part ≡ standard_part) }
+    ensures meaning { IfOk result (λ s. ⟦<Standard as Aggregator>⟧.meaning s.agg ≡ standard_meaning) }
     ensures init { IfOk result (λ s. s.init ≡ script.now.init) }
     ensures capacity { IfOk result (λ s. length s.row ≡ capacity) }
     ensures bad { IsErrOf result RunError.BadCapacity ↔ IsNoCapacity capacity }
@@ -162,40 +173,43 @@ fn agents_of<'s>(
     }
 }
 
-// The agents that played, and apart from them the outcomes of each.
+// The agents that played, and a list of the outcomes of each.
 #[derive(Drop)]
 struct Ended<'s> {
     agents: Vec<Agent<'s, Standard>>,
     outcomes: Vec<Items<Outcome>>,
 }
 
-fn told_apart<'s>(alloc: Global, turns: Vec<Turn<'s, Standard>>) -> Result<Ended<'s>, AllocError>
-    ensures agents { IfOk result (λ e. e.agents.items ≡ map (λ t. t.agent) turns.entry.items) }
-    ensures outcomes { IfOk result (λ e. e.outcomes.items ≡ map (λ t. t.outcomes.items) turns.entry.items) }
+fn told_apart<'s>(
+    alloc: Global,
+    played_agents: Vec<PlayedAgent<'s, Standard>>,
+) -> Result<Ended<'s>, AllocError>
+    ensures agents { IfOk result (λ e. e.agents.items ≡ map (λ t. t.agent) played_agents.entry.items) }
+    ensures outcomes { IfOk result (λ e. e.outcomes.items ≡ map (λ t. t.outcomes.items) played_agents.entry.items) }
 {
     let mut agents = Vec::new(alloc);
     let mut outcomes = Vec::new(alloc);
-    for turn in turns {
-        let Turn {
+    for played in played_agents {
+        let PlayedAgent {
             agent,
             outcomes: told,
-        } = turn;
+        } = played;
         agents.push(agent)?;
         outcomes.push(Items::new(told))?;
     }
     Ok(Ended { agents, outcomes })
 }
 
-// What the agents that played leave.
+// What is left when the agents have played: their closed history, and the outcomes.
 fn closed<'s>(
     alloc: Global,
     storage: &Storage<Standard>,
     script: &Script,
     ended: Ended<'s>,
 ) -> Result<Played, RunError>
-    requires part { (⟦<Standard as Aggregator>⟧.meaning storage.now.agg).part ≡ standard_part }
+    requires meaning { ⟦<Standard as Aggregator>⟧.meaning storage.now.agg ≡ standard_meaning }
     requires init { storage.now.init ≡ script.now.init }
-    requires turns { ArePlayed (⟦<Standard as Aggregator>⟧.meaning) standard_meaning storage.now 0
+    requires agents { ArePlayed (⟦<Standard as Aggregator>⟧.meaning) standard_meaning storage.now 0
         script.now.agents ended.agents.items ended.outcomes.items }
     ensures played { IfOk result (IsPlayOf script.now (length storage.now.row)) }
     ensures later { IfErr result (λ e. e ≢ RunError.BadCapacity) }
@@ -222,33 +236,32 @@ fn play_on<R: Threads + Wait + Sync, G: Gate>(
     script: &Script,
     gate: &G,
 ) -> Result<Played, RunError>
-    requires part { (⟦<Standard as Aggregator>⟧.meaning storage.now.agg).part ≡ standard_part }
+    requires meaning { ⟦<Standard as Aggregator>⟧.meaning storage.now.agg ≡ standard_meaning }
     requires init { storage.now.init ≡ script.now.init }
     ensures played { IfOk result (IsPlayOf script.now (length storage.now.row)) }
     ensures later { IfErr result (λ e. e ≢ RunError.BadCapacity) }
 {
     let scripted = script.agents();
     let agents = agents_of(alloc, storage, scripted.len())?;
-    let aggregator = chosen();
     let player = Player {
         alloc,
-        aggregator: &aggregator,
+        aggregator: storage.aggregator(),
         passage: Through(gate),
     };
     let playing = Playing {
         player,
-        scripted: Written(scripted),
+        scripted: WrittenSteps(scripted),
     };
-    let turns = played_as_written(rt, alloc, &playing, agents);
+    let played = played_as_written(rt, alloc, &playing, agents);
     let Playing {
         player: Player {
             alloc: _,
             aggregator: _,
             passage: Through(_),
         },
-        scripted: Written(_),
+        scripted: WrittenSteps(_),
     } = playing;
-    let ended = told_apart(alloc, turns?)?;
+    let ended = told_apart(alloc, played?)?;
     closed(alloc, storage, script, ended)
 }
 

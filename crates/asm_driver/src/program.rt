@@ -6,20 +6,26 @@ ghost use Rattle.asm_driver.specs.Words.{faults};
 ghost use Rattle.asm_driver.specs.Run.{IsAnswer, IsNoAnswer, IsAnswerTo, Writes, Refuses};
 ghost use Rattle.asm_driver.specs.Run.{Runs, RunsOver, HasFailed, RefusesKind, IsRefusalOfKind};
 
-use crate::commands::{Ending, carry_out};
-use crate::input::read_input;
-use crate::output::write_whole;
-use crate::refusal::Refusal;
-use crate::sink::{NotedWriter, Sink};
-use crate::source::{NotedReader, Source};
-use crate::words::{WordsError, read_words};
+mod commands;
+mod refusal;
+#[cfg(test)]
+mod refusal_tests;
+mod words;
+
+use crate::ports::input::read_input;
+use crate::ports::output::write_whole;
+use crate::ports::sink::{NotedWriter, Sink};
+use crate::ports::source::{NotedReader, Source};
+use crate::program::commands::{Ending, carry_out};
+use crate::program::refusal::Refusal;
+use crate::program::words::{WordsError, read_words};
 use std::alloc::Global;
 use std::io;
 use std::io::{ErrorKind, Read, Write};
 use std::sync::Wait;
 use std::thread::Threads;
 
-// Help that was asked for is no refusal.
+// A request for help is not a refusal.
 fn answer_to(error: WordsError) -> Result<Ending, Refusal>
     ensures { IsAnswerTo error result }
 {
@@ -30,7 +36,7 @@ fn answer_to(error: WordsError) -> Result<Ending, Refusal>
     }
 }
 
-/// What the words ask for, done with the input. Nothing is read unless the words are taken.
+/// Does with the input what the words ask for. Nothing is read unless the words are taken.
 fn answer<T: Threads + Wait + Sync, S: Source>(
     rt: &T,
     alloc: Global,
@@ -54,7 +60,7 @@ fn answer<T: Threads + Wait + Sync, S: Source>(
     carry_out(rt, alloc, request, bytes.as_slice())
 }
 
-// Writes the text. The status is the wanted one, or that of a fault of the output.
+// Writes the text. Gives the wanted status, or 4 where the output failed.
 fn write_out<K: Sink>(output: &mut K, text: &[u8], status: u8) -> u8
     requires { K.failed output.old ≡ false }
     ensures same_reference { K.lender output.new ≡ K.lender output.old }
@@ -71,7 +77,7 @@ fn write_out<K: Sink>(output: &mut K, text: &[u8], status: u8) -> u8
     }
 }
 
-// Writes the line of the refusal, or where there is no memory for it, that for an allocation failure. Gives the status.
+// Writes the refusal's line, or the line for an allocation failure where there is no memory for it. Gives the status.
 fn refuse<K: Sink>(alloc: Global, output: &mut K, refusal: Refusal) -> u8
     requires { K.failed output.old ≡ false }
     ensures same_reference { K.lender output.new ≡ K.lender output.old }
@@ -162,7 +168,7 @@ pub fn run_main<T: Threads + Wait + Sync, R: Read, W: Write>(
     run_noted(rt, alloc, words, &mut source, &mut sink)
 }
 
-// Why the system gave no words.
+// The refusal for words that the system couldn't give.
 fn refusal_of_kind(kind: ErrorKind) -> Refusal
     ensures kind { IsRefusalOfKind kind result }
     ensures known { has_number result ≡ false }

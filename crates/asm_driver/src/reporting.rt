@@ -3,20 +3,19 @@ ghost use Rattle.std.specs.Prelude.{◌≡◌, ◌++◌, false, IfOk, OnOk, stri
 ghost use Rattle.serde_json.specs.View.{view};
 ghost use Rattle.serde_json.specs.Written.{has_float, compact_text};
 ghost use Rattle.asm_journal.specs.Element.{location_json_of};
-ghost use Rattle.asm_journal.specs.Event.{word_of_cause};
 ghost use Rattle.asm_driver.specs.Standard.{standard_part};
 ghost use Rattle.asm_driver.specs.Report.{state_lines, outcome_line};
 ghost use Rattle.asm_driver.specs.Report.{agent_lines, outcome_lines, reason, report_of};
 
 use crate::aggregator::chosen;
-use crate::outcome::{Outcome, Played};
+use crate::play::outcome::{Outcome, Played};
 use asm_element::{Items, Location};
-use asm_journal::{location_json, pair_json, replay};
-use asm_update::{Aggregator, Cause, PlainState};
+use asm_journal::{location_json, pair_json, replay, word_of_cause};
+use asm_update::{Aggregator, PlainState};
 use serde_json::Value as Json;
 use std::alloc::{AllocError, Global};
 
-/// Puts the compact text of the JSON at the end.
+/// Appends the compact text of the JSON.
 fn push_json(alloc: Global, text: &mut String, json: &Json) -> Result<(), AllocError>
     requires { has_float (view json.now) ≡ false }
     ensures { OnOk result (string_bytes text.new ≡ string_bytes text.old ++ compact_text (view json.now)) }
@@ -42,20 +41,6 @@ fn push_state(alloc: Global, text: &mut String, state: &PlainState) -> Result<()
         text.push_str("\n")?;
     }
     Ok(())
-}
-
-fn cause_name(cause: Cause) -> &'static str
-    ensures { result.now ≡ word_of_cause cause }
-{
-    match cause {
-        Cause::Two => "Two",
-        Cause::Mixed => "Mixed",
-        Cause::Kind => "Kind",
-        Cause::Both => "Both",
-        Cause::Against => "Against",
-        Cause::Short => "Short",
-        Cause::Large => "Large",
-    }
 }
 
 /// The line of a step that didn't fire.
@@ -88,7 +73,7 @@ fn push_reason(alloc: Global, text: &mut String, outcome: &Outcome) -> Result<()
             text.push_str(" clash ")?;
             push_location(alloc, text, &clash.at)?;
             text.push_str(" ")?;
-            text.push_str(cause_name(clash.cause))?;
+            text.push_str(word_of_cause(clash.cause))?;
         }
         Outcome::Full => text.push_str(" full")?,
         Outcome::Term => text.push_str(" term")?,

@@ -1,10 +1,22 @@
-//! Scripts: what the agents of a machine are to do, and why a text is none.
+//! Scripts, which say what the agents of a machine do, and why a text is not a script.
 ghost use Rattle.std.specs.Prelude.{◌≡◌, ◌↔◌, ◌<◌, ◌≤◌, length, IfSome, IsNone};
 ghost use Rattle.asm_driver.specs.declared.script.ScriptError.TheVariants as script_error;
 
-use crate::step::Step;
+pub(crate) mod block;
+pub(crate) mod parsing;
+mod ready;
+#[cfg(test)]
+mod ready_tests;
+pub(crate) mod step;
+#[cfg(test)]
+mod step_tests;
+pub(crate) mod term;
+mod term_form;
+
+use crate::script::step::Step;
 use asm_element::Items;
 use asm_update::PlainState;
+pub use parsing::parse_script;
 use std::alloc::{AllocError, AllocFailed};
 use std::marker::Model;
 use thiserror::Error;
@@ -12,7 +24,13 @@ use thiserror::Error;
 /// The most agents of a script.
 pub const AGENTS_LIMIT: usize = 256;
 
-/// Why a text is no script: the first of these causes, in this order; the last three are looked for agent by
+/// The most blocks of a step.
+pub const BLOCKS_LIMIT: usize = 65;
+
+/// The most locations that a step reads.
+pub const READS_LIMIT: usize = 256;
+
+/// Why a text is not a script: the first of these causes, in this order. The last three are looked for agent by
 /// agent and step by step.
 #[derive(Clone, Copy, Debug, PartialEq, Eq)]
 pub enum ScriptCause {
@@ -33,7 +51,7 @@ pub enum ScriptCause {
 /// Why there is no script.
 #[derive(Clone, Copy, Debug, PartialEq, Eq, Error)]
 pub enum ScriptError {
-    /// The text is no script.
+    /// The text is not a script.
     #[error("bad script: {0:?}")]
     BadScript(ScriptCause),
     /// The memory that the call asked for was refused.
@@ -68,7 +86,7 @@ impl Model for Script {
     ghost use Rattle.std.specs.Prelude.{length, ◌≤◌};
     ghost use Rattle.std.specs.Coded.{coded_list};
     ghost use Rattle.asm_update.specs.contracts.plain_state.PlainState.{the_row as state_row};
-    ghost use Rattle.asm_driver.specs.contracts.block.TermInstruction.{the_row as instruction_row};
+    ghost use Rattle.asm_driver.specs.contracts.script.block.TermInstruction.{the_row as instruction_row};
     ghost use Rattle.asm_driver.specs.Plan.{Plan, plan_code};
 
     ghost Value = { Plan };

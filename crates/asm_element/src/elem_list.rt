@@ -12,11 +12,11 @@ use std::cmp::Ordering;
 use std::marker::Model;
 use thiserror::Error;
 
-/// The most items that a list may have.
-const ITEMS_LIMIT: usize = 4096;
+/// The most items of a list.
+pub const ITEMS_LIMIT: usize = 4096;
 
-/// How deep lists may nest.
-const DEPTH_LIMIT: u32 = 8;
+/// How deep lists may nest; an empty list is 1 deep.
+pub const DEPTH_LIMIT: u32 = 8;
 
 /// Why items are no list. Where both reasons hold, the first is given.
 #[derive(Debug, Drop, PartialEq, Eq, Error)]

@@ -59,6 +59,13 @@ impl ElemSet {
         self.elements.len()
     }
 
+    /// Whether the set has no element.
+    pub fn is_empty(&self) -> bool
+        ensures { IsTrue result ↔ (set.len self.now ≡ 0) }
+    {
+        self.len() == 0
+    }
+
     /// Adds the element, and answers whether it was new.
     ///
     /// `AllocError` is an allocation failure, and comes only where the element is new. After it the set is

@@ -12,10 +12,10 @@ mod text;
 mod value;
 
 pub use elem_bag::ElemBag;
-pub use elem_list::{ElemList, ListError};
+pub use elem_list::{DEPTH_LIMIT, ElemList, ITEMS_LIMIT, ListError};
 pub use elem_set::ElemSet;
 pub use element::Element;
 pub use items::Items;
-pub use location::{Location, LocationError};
+pub use location::{ARGS_LIMIT, Location, LocationError, NAME_LIMIT};
 pub use text::ElemText;
 pub use value::Value;

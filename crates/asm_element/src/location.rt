@@ -7,14 +7,15 @@ ghost use Rattle.asm_element.specs.Place as place;
 use crate::element::Element;
 use std::alloc::{AllocError, Global};
 use std::cmp::Ordering;
+use std::fmt;
 use std::marker::Model;
 use thiserror::Error;
 
-/// The most bytes that a location's name may have.
-const NAME_LIMIT: usize = 64;
+/// The most bytes of a location's name.
+pub const NAME_LIMIT: usize = 64;
 
-/// The most arguments that a location may have.
-const ARGS_LIMIT: usize = 8;
+/// The most arguments of a location.
+pub const ARGS_LIMIT: usize = 8;
 
 /// Why a name and arguments are no location. Where both reasons hold, the first is given.
 #[derive(Debug, Drop, PartialEq, Eq, Error)]
@@ -128,6 +129,25 @@ impl Location {
         self.args.as_slice()
     }
 
+    /// Does nothing; its contract tells that a location which a program holds is proper.
+    pub fn proper(&self)
+        ensures { place.IsProper self.now }
+    {
+        let _name = self.name();
+        let _args = self.args();
+    }
+
+    /// Whether the location is below the other one; `None` stands above every location, so a search for the least
+    /// of several begins with it.
+    pub fn comes_before(&self, other: Option<&Location>) -> bool
+        ensures { result ≡ place.comes_before self.now other.entry }
+    {
+        match other {
+            None => true,
+            Some(other) => self < other,
+        }
+    }
+
     /// The same location, in memory of its own. `AllocError` comes only where memory was refused.
     pub fn copy(&self, _alloc: Global) -> Result<Location, AllocError>
         ensures { IfOk result (λ copy. copy ≡ self.now) }
@@ -143,6 +163,17 @@ impl Clone for Location {
         let name = self.name.clone()?;
         let args = self.args.clone()?;
         Ok(Location { name, args })
+    }
+}
+
+/// The name alone where there are no arguments, as `counter`; else with the arguments behind it, as `at[Num(1)]`.
+impl fmt::Display for Location {
+    fn fmt<W: fmt::Write>(&self, f: &mut fmt::Formatter<W>) -> fmt::Result {
+        f.write_str(self.name())?;
+        if self.args().is_empty() {
+            return Ok(());
+        }
+        write!(f, "{:?}", self.args())
     }
 }
 

@@ -1,4 +1,7 @@
-use asm_element::{ElemBag, ElemSet, ElemText, Element, Items, Location, LocationError, Value};
+use asm_element::{
+    ARGS_LIMIT, DEPTH_LIMIT, ElemBag, ElemSet, ElemText, Element, ITEMS_LIMIT, Items, Location,
+    LocationError, NAME_LIMIT, Value,
+};
 use std::alloc::{AllocError, Global};
 use std::test::Fail;
 
@@ -128,6 +131,34 @@ fn a_location_takes_at_most_eight_arguments(rt: HostRuntime) -> Result<(), Fail>
     Ok(())
 }
 
+#[test]
+fn the_limits_are_told(rt: HostRuntime) -> Result<(), Fail> {
+    assert!(rt; NAME_LIMIT == 64 && ARGS_LIMIT == 8);
+    assert!(rt; ITEMS_LIMIT == 4096 && DEPTH_LIMIT == 8);
+    Ok(())
+}
+
+#[test]
+fn a_location_comes_before_a_greater_one_and_before_none(rt: HostRuntime) -> Result<(), Fail> {
+    let lesser = location(rt.alloc(), "a", &[1])?;
+    let greater = location(rt.alloc(), "b", &[])?;
+    assert!(rt; lesser.comes_before(Some(&greater)) && lesser.comes_before(None));
+    assert!(rt; !greater.comes_before(Some(&lesser)) && !lesser.comes_before(Some(&lesser)));
+    Ok(())
+}
+
+/// Whether the location is shown as this text.
+fn is_shown(alloc: Global, name: &str, args: &[i64], text: &str) -> Result<bool, Fail> {
+    Ok(location(alloc, name, args)?.to_string(alloc)?.as_str() == text)
+}
+
+#[test]
+fn a_location_is_shown_with_its_arguments(rt: HostRuntime) -> Result<(), Fail> {
+    assert!(rt; is_shown(rt.alloc(), "counter", &[], "counter")?);
+    assert!(rt; is_shown(rt.alloc(), "at", &[1, -2], "at[Num(1), Num(-2)]")?);
+    Ok(())
+}
+
 fn set_of(alloc: Global, items: &[i64]) -> Result<Value, AllocError> {
     let mut set = ElemSet::new(alloc);
     for item in items {
@@ -165,10 +196,11 @@ fn a_set_has_an_element_once(rt: HostRuntime) -> Result<(), Fail> {
     let alloc = rt.alloc();
     let one = Element::Num(1);
     let mut set = ElemSet::new(alloc);
+    assert!(rt; set.is_empty());
     assert!(rt; set.insert(Element::Num(1))?);
     assert!(rt; !set.insert(Element::Num(1))?);
     assert!(rt; set.contains(&one));
-    assert_eq!(rt; set.len(), 1);
+    assert!(rt; set.len() == 1 && !set.is_empty());
     assert!(rt; set.remove(&one));
     assert!(rt; !set.remove(&one));
     assert_eq!(rt; set.iter().count(), 0);

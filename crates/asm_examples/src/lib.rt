@@ -1,5 +1,23 @@
-//! What the README shows, as the crate of a user has it: the public surface of the libraries alone.
+//! What the README and the page on calling show, as a user has it: by the public surface of the libraries alone.
 #![tactic(auto)]
 
 #[cfg(test)]
 mod balance;
+#[cfg(test)]
+mod elements;
+#[cfg(test)]
+mod following;
+#[cfg(test)]
+mod frames;
+#[cfg(test)]
+mod journal;
+#[cfg(test)]
+mod moves;
+#[cfg(test)]
+mod row;
+#[cfg(test)]
+mod script;
+#[cfg(test)]
+mod shared;
+#[cfg(test)]
+mod two_agents;

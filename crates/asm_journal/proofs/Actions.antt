@@ -16,7 +16,7 @@ use Rattle.asm_journal.specs.Set.{IsCounted}
 use Rattle.asm_journal.specs.Value.{IsValueForm}
 use Rattle.asm_journal.specs.Instruction.{word_of, AreOperands, IsActionForm}
 
--- the number of the kind that a word names, which tells the words apart
+-- the number of a word's kind, which tells the words apart
 abbrev pub kind_of_word : List ℕ → ℕ
 kind_of_word word =
     if bytes_eq word (codes "put") then 0

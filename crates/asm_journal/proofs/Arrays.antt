@@ -1,4 +1,4 @@
--- Arrays: what a value that is one holds, and lists of forms.
+-- Arrays: their items, and lists of forms.
 use Rattle.std.proofs.Common.{◌≡◌, ◌≢◌, ◌<◌, ℕ, zero, suc, List, [], ◌∷◌, ◌++◌, length, get_or, map, Some, refl, sym, ap, ap₂, subst, ◌∙◌, append_assoc, arith}
 use Rattle.std.specs.List.{AllByRecursion}
 use Rattle.serde_json.specs.Data.{Data, null, boolean, number, string, array, object, unsigned, Items, no_items, item}
@@ -58,14 +58,14 @@ AreForms-push F [] x (w ∷ vs) v h k = absurd h
 AreForms-push F (y ∷ xs) x [] v h k = absurd h
 AreForms-push F (y ∷ xs) x (w ∷ vs) v h k = (h.0, AreForms-push F xs x vs v h.1 k)
 
--- a value that is the form of none
+-- an item that is the form of nothing
 pub no_forms : {X : Type 0} (F : X → Data → Type 0) (vs : List Value) (i : ℕ) (d : Value) → i < length vs → ((x : X) → F x (view (get_or vs i d)) → ⊥) → (xs : List X) → AreForms F xs (items_view vs) → ⊥
 no_forms F [] i d h none xs k = absurd (omega arith)
 no_forms F (v ∷ vs) i d h none [] k = k
 no_forms F (v ∷ vs) zero d h none (x ∷ xs) k = none x k.0
 no_forms F (v ∷ vs) (suc i) d h none (x ∷ xs) k = no_forms F vs i d (omega arith) none xs k.1
 
--- items that are written are the forms of what was written
+-- what is written of values are their forms
 pub forms_back : {X : Type 0} {P : X → Type 0} (F : X → Data → Type 0) (f : X → Data) → ((x : X) → P x → F x (f x))
     → (xs : List X) → AllByRecursion P xs → AreForms F xs (items_of (map f xs))
 forms_back F f back [] h = tt

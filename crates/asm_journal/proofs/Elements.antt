@@ -1,12 +1,12 @@
--- Elements and locations: what reading them finds, and that a value is the form of one at most.
-use Rattle.std.proofs.Common.{codes, ◌≢◌, ◌≡◌, ◌<◌, ◌≤◌, ℕ, ℤ, pos, negsuc, Bool, false, List, [], ◌∷◌, length, map, Result, Ok, Err, refl, sym, ap, ap₂, subst, ◌∙◌, arith}
+-- Elements and locations: what reading finds, and that JSON is the form of at most one.
+use Rattle.std.proofs.Common.{codes, ◌≢◌, ◌≡◌, ◌<◌, ◌≤◌, ℕ, ℤ, pos, negsuc, false, List, [], ◌∷◌, length, map, Result, Ok, Err, refl, sym, ap, ap₂, subst, ◌∙◌, arith}
 use Rattle.std.specs.Prelude.{◌↔◌, IfOk, IsTrue, option_map}
 use Rattle.std.specs.Result.{result_ok}
 use Rattle.std.specs.declared.alloc.AllocError.{AllocError}
 use Rattle.std.specs.List.{AllByRecursion}
 use Rattle.std.proofs.lemmas.Bool.{true_from_ne_false}
 use Rattle.std.proofs.lemmas.List.Elements.{All-from_recursion, recursion_from_All}
-use Rattle.serde_json.specs.Data.{Data, null, boolean, number, string, array, object, Num, unsigned, negative, float, Items, no_items, item, Members, no_members, member, depth}
+use Rattle.serde_json.specs.Data.{Data, null, boolean, number, string, array, object, Num, unsigned, negative, float, Items, no_items, item, Members, no_members, member}
 use Rattle.serde_json.specs.Find.{of_integer}
 use Rattle.serde_json.specs.View.{view, items_of}
 use Rattle.serde_json.specs.declared.value.Value.{Value as Json}
@@ -24,12 +24,12 @@ use Rattle.asm_element.specs.declared.location.LocationError.{LocationError}
 use Rattle.asm_element.specs.declared.location.LocationError.TheVariants.{BadName, ManyArgs}
 use Rattle.asm_journal.specs.Shape.{AreForms, IsParsed, one_of, list_of}
 use Rattle.asm_journal.specs.Element.{datum_json_of, items_json_of, element_json_of, location_json_of, IsIntegerForm, IsElementForm, IsLocationForm}
-use Rattle.asm_journal.proofs.Answered.{true_and_false}
+use Rattle.asm_journal.proofs.Parsed.{true_and_false}
 use Rattle.asm_journal.proofs.Arrays.{IsOnce, same_item, forms_back}
 
 -- ---- one at most
 
--- the integer that a number is
+-- a number as an integer
 abbrev integer_from : Num → ℤ
 integer_from (unsigned n) = pos n
 integer_from (negative z) = z
@@ -39,7 +39,7 @@ integer_back : (z : ℤ) → integer_from (of_integer z) ≡ z
 integer_back (pos n) = refl
 integer_back (negsuc n) = refl
 
--- the element that JSON is
+-- JSON as an element
 abbrev mutual
   datum_from : Data → Datum
   datum_from null = datum.undef
@@ -185,7 +185,7 @@ list_is (elements.Num z) ds e = absurd cc
 list_is (elements.Text s) ds e = absurd cc
 list_is (elements.List es) ds e = (es, refl, same_list_json _ _ e)
 
--- what the items are makes a list, or none
+-- the elements make a list, or no list
 pub list_read : (ds : Items) (found : List Element) (n : ℕ) (r : Result Sequence ListError)
     → n ≡ length found → AreForms IsElementForm found ds → IfOk r (λ l. l ≡ sequence found)
     → ((r ≡ Err ManyItems) ↔ (4096 < n)) → ((r ≡ Err TooDeep) ↔ ((n ≤ 4096) × (8 < datum.depth (datum.list (sequence found)))))

@@ -1,4 +1,4 @@
--- Calls, answers and events: a value is the form of one at most, and what reading some of them finds.
+-- Calls, answers and events: JSON is the form of at most one, and what reading finds.
 use Rattle.std.proofs.Common.{codes, ◌≡◌, ℕ, zero, suc, List, [], ◌∷◌, Option, Some, None, refl, sym, ap, ap₂, subst, ◌∙◌, arith}
 use Rattle.std.specs.Prelude.{option_map, if◌then◌else◌}
 use Rattle.std.specs.Str.{bytes_eq}
@@ -27,7 +27,7 @@ use Rattle.asm_journal.specs.Element.{IsIntegerForm, IsElementForm, IsLocationFo
 use Rattle.asm_journal.specs.Value.{IsValueForm}
 use Rattle.asm_journal.specs.Instruction.{AreOperands, IsActionForm, instruction_of, IsInstructionForm}
 use Rattle.asm_journal.specs.Event.{word_of_cause, IsNamedForm, IsMoveForm, IsCallForm, IsCauseForm, IsClashForm, IsReplyForm, IsAnswerForm, IsEventForm}
-use Rattle.asm_journal.proofs.Texts.{measure}
+use Rattle.asm_journal.proofs.Words.{measure}
 use Rattle.asm_journal.proofs.Arrays.{IsOnce, same_text, same_pair, same_one, same_key, same_number, list_once}
 use Rattle.asm_journal.proofs.Elements.{integer_once, element_once, location_once}
 use Rattle.asm_journal.proofs.Sets.{counted_once}

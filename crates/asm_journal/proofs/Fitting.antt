@@ -1,4 +1,4 @@
--- A history as which a text reads fits a journal.
+-- A history that a text reads as fits a journal.
 use Rattle.std.proofs.Common.{◌<◌, ◌≤◌, ◌^◌, ℕ, List, [], ◌∷◌, length, Result, Ok, Err, arith}
 use Rattle.std.specs.Prelude.{IfOk}
 use Rattle.std.specs.List.{AllByRecursion}
@@ -32,7 +32,7 @@ limits_fit h limits events proper = record {
 pub reads_fit : (text : List ℕ) (h : History) → IsProper h → ReadsAs text h → Fits h
 reads_fit text h proper p = limits_fit h p.4.6.5 (events_fit p.2 h.agents p.1 h.events [] p.5) proper
 
--- what was read, and is what a program can hold
+-- a history that was read, and that a program can hold
 pub fitting : (text : List ℕ) (r : Result History JournalError) → IfOk r (ReadsAs text) → IfOk r IsProper → IfOk r Fits
 fitting text (Ok h) reads proper = reads_fit text h proper reads
 fitting text (Err e) reads proper = tt

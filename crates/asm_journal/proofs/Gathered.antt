@@ -24,7 +24,7 @@ use Rattle.asm_journal.specs.Shape.{AreDistinct}
 use Rattle.asm_journal.specs.Set.{IsSetOf, IsBagOf, bag_of}
 use Rattle.asm_journal.specs.Value.{IsStateOf}
 
--- what is left and what is done is all
+-- what is left, and behind it what is done, is all
 pub one_back : {X : Type 0} (xs : List X) (x : X) (left done all : List X) → left ++ done ≡ all → left ≡ xs ++ x ∷ [] → xs ++ x ∷ done ≡ all
 one_back xs x left done all whole step = sym (append_assoc xs (x ∷ []) done) ∙ ap (λ l. l ++ done) (sym step) ∙ whole
 
@@ -116,7 +116,7 @@ bag-more p done b c made above none put =
 
 -- ---- states
 
--- the locations that have a value in the state, or stand beside it as undef, are those of the list
+-- the list's locations are those with a value in the state, and those of undef beside it
 abbrev pub AreRead : State → Updates → List (Place × Value) → Type 0
 AreRead A U done = (q : Place) → (is_some (finite.get A q) || is_some (finite.get U q)) ≡ stands location_cmp q (keys_of done)
 
@@ -128,7 +128,7 @@ none_read A U empty none q =
 pub state-twice : (xs : List (Place × Value)) (p : Place × Value) (done all : List (Place × Value)) (A : State) (U : Updates) → xs ++ p ∷ done ≡ all → AreRead A U done → (is_some (finite.get A p.0) || is_some (finite.get U p.0)) ≡ true → (B : State) → IsStateOf B all → ⊥
 state-twice xs p done all A U whole read there B h = twice_key location_cmp xs p done all whole (sym (read p.0) ∙ there) h.0
 
--- one pair more, whose location stands beside the state where its value is undef
+-- one pair more; a location of undef is put beside the state
 pub read-more : (p : Place × Value) (done : List (Place × Value)) (A B : State) (U V : Updates) → AreRead A U done → B ≡ write A p.0 p.1 → V ≡ cond (held.is_undef p.1) (finite.insert U p.0 p.1) U → AreRead B V (p ∷ done)
 read-more p done A B U V read written noted q =
     ap₂ (λ S W. is_some (finite.get S q) || is_some (finite.get W q)) written noted

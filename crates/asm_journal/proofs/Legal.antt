@@ -18,7 +18,7 @@ use Rattle.asm_state.specs.declared.verdict.Objection.{Objection}
 use Rattle.asm_state.specs.declared.verdict.Objection.TheVariants as objection
 use Rattle.asm_state.proofs.Judged.{same_old}
 use Rattle.asm_storage.specs.Machine.{Machine, machine_state, reply_to, firing_reply, fire_reply}
-use Rattle.asm_storage.specs.History.{move_of, moves}
+use Rattle.asm_storage.specs.History.{move_of, fired_moves}
 use Rattle.asm_storage.specs.declared.call.Call.{Call}
 use Rattle.asm_storage.specs.declared.call.Call.TheVariants as call
 use Rattle.asm_storage.specs.declared.call.Reply.{Reply}
@@ -26,29 +26,29 @@ use Rattle.asm_storage.specs.declared.call.Reply.TheVariants as reply
 use Rattle.asm_storage.specs.declared.call.Answer.{Answer}
 use Rattle.asm_storage.specs.declared.call.Answer.TheVariants as answer
 use Rattle.asm_storage.specs.declared.history.Event.{Event}
-use Rattle.asm_storage.proofs.Legal.{IsLegalFrom, moves-append, legal-append, legal-from}
-use Rattle.asm_journal.specs.Check.{machine, IsFirstWrong, objection_reply, was_fired, IsStep}
-use Rattle.asm_journal.proofs.Answered.{true_and_false}
+use Rattle.asm_storage.proofs.Legal.{IsLegalFrom, fired_moves-append, legal-append, legal-from}
+use Rattle.asm_journal.specs.Check.{machine, IsFirstWrong, judged_reply, was_fired, IsStep}
+use Rattle.asm_journal.proofs.Parsed.{true_and_false}
 
 -- ---- legal from some moves on
 
-legal-push : (m : Machine) (h : List Event) (e : Event) → IsLegalFrom m [] h → e.answer ≡ reply_to m (moves h) e.call → IsLegalFrom m [] (h ++ e ∷ [])
+legal-push : (m : Machine) (h : List Event) (e : Event) → IsLegalFrom m [] h → e.answer ≡ reply_to m (fired_moves h) e.call → IsLegalFrom m [] (h ++ e ∷ [])
 legal-push m h e left right = legal-append m [] h (e ∷ []) left (right, tt)
 
 -- ---- the loop of the check
 
--- the state stands for the moves of the first events, which are legal
+-- the first events are legal, and the state stands for their moves
 abbrev pub IsCheckedTo : Part → State → ℕ → List Event → StateView → ℕ → Type 0
 IsCheckedTo part init capacity events s i =
-    Stands part init s (moves (take i events)) × IsLegalFrom (machine part init capacity) [] (take i events)
+    Stands part init s (fired_moves (take i events)) × IsLegalFrom (machine part init capacity) [] (take i events)
 
 module _ (part : Part) (init : State) (capacity : ℕ) (events : List Event) (i : ℕ) (e : Event) (old new : StateView) (b : Bool)
     (within : i < length events) (here : e ≡ get_or events i e) (step : IsStep part capacity e old new b) (checked : IsCheckedTo part init capacity events old i) where
   pub checked_more : b ≡ true → IsCheckedTo part init capacity events new (i + 1)
   checked_more true_is =
-      let done = subst (IsStep part capacity e old new) true_is step init (moves (take i events)) checked.0 in
+      let done = subst (IsStep part capacity e old new) true_is step init (fired_moves (take i events)) checked.0 in
       let more : take (i + 1) events ≡ take i events ++ e ∷ [] = take_more events i e within ∙ ap (λ x. take i events ++ x ∷ []) (sym here) in (
-        subst (Stands part init new) (sym (ap moves more ∙ moves-append (take i events) (e ∷ []))) done.1,
+        subst (Stands part init new) (sym (ap fired_moves more ∙ fired_moves-append (take i events) (e ∷ []))) done.1,
         subst (IsLegalFrom (machine part init capacity) []) (sym more) (legal-push (machine part init capacity) (take i events) e checked.1 done.0),
       )
 
@@ -60,7 +60,7 @@ module _ (part : Part) (init : State) (capacity : ℕ) (events : List Event) (i 
     stands = ap (λ x. take i events ++ x ∷ drop (suc i) events) here ∙ sym (split_at events i e within);
     counted = length-take-le i events (omega (arith, within));
     legal = legal-from (machine part init capacity) (take i events) checked.1;
-    wrong = subst (IsStep part capacity e old new) false_is step init (moves (take i events)) checked.0;
+    wrong = subst (IsStep part capacity e old new) false_is step init (fired_moves (take i events)) checked.0;
   }
 
 -- ---- one read
@@ -88,33 +88,33 @@ read_step part capacity e s places n vs false call-is answer-is tells = λ init 
 module _ (part : Part) (capacity : ℕ) (e : Event) (old : StateView) (reads : List Named) (M : Move) (r : Reply) (v : Option Objection)
     (call-is : e.call ≡ call.Fire reads M) (answer-is : e.answer ≡ answer.Fire r)
     (judged : (init : State) (q : List Move) → Stands part init old q → IsObjection part init q reads M (Ok v)) where
-  objection_is : (init : State) (q : List Move) (w : Option Objection) → IsObjection part init q reads M (Ok w) → fire_reply (machine part init capacity) q M (least_stale part init q reads) ≡ objection_reply capacity (length q) w
+  objection_is : (init : State) (q : List Move) (w : Option Objection) → IsObjection part init q reads M (Ok w) → fire_reply (machine part init capacity) q M (least_stale part init q reads) ≡ judged_reply capacity (length q) w
   objection_is init q (Some (objection.Stale l)) h = ap (fire_reply (machine part init capacity) q M) h
   objection_is init q (Some (objection.Clash c)) h =
       ap (fire_reply (machine part init capacity) q M) h.0 ∙ ap (λ a. firing_reply (machine part init capacity) q (overwritten (machine_state (machine part init capacity) q) a)) h.1
   objection_is init q None h =
       ap (fire_reply (machine part init capacity) q M) h.0 ∙ taken (aggregated part (val (state_of part init q)) M) h.1 where
-        taken : (a : Result Updates Clash) → IsOk a → firing_reply (machine part init capacity) q (overwritten (machine_state (machine part init capacity) q) a) ≡ objection_reply capacity (length q) None
+        taken : (a : Result Updates Clash) → IsOk a → firing_reply (machine part init capacity) q (overwritten (machine_state (machine part init capacity) q) a) ≡ judged_reply capacity (length q) None
         taken (Ok U) ok = refl
         taken (Err c) ok = absurd (cc ok)
 
-  -- the reply after the moves is that of what stands against the move
-  replied : (init : State) (q : List Move) → Stands part init old q → reply_to (machine part init capacity) q e.call ≡ answer.Fire (objection_reply capacity old.number v)
+  -- the reply after the moves is the one to a move with this objection or with none
+  replied : (init : State) (q : List Move) → Stands part init old q → reply_to (machine part init capacity) q e.call ≡ answer.Fire (judged_reply capacity old.number v)
   replied init q stands =
-      ap (reply_to (machine part init capacity) q) call-is ∙ ap answer.Fire (objection_is init q v (judged init q stands) ∙ ap (λ n. objection_reply capacity n v) (sym stands.number))
+      ap (reply_to (machine part init capacity) q) call-is ∙ ap answer.Fire (objection_is init q v (judged init q stands) ∙ ap (λ n. judged_reply capacity n v) (sym stands.number))
 
-  pub wrong_fire : (new : StateView) → (r ≡ objection_reply capacity old.number v → ⊥) → IsStep part capacity e old new false
+  pub wrong_fire : (new : StateView) → (r ≡ judged_reply capacity old.number v → ⊥) → IsStep part capacity e old new false
   wrong_fire new other = λ init q stands same. other (same_fire _ _ (sym answer-is ∙ same ∙ replied init q stands)) where
     same_fire : (x y : Reply) → answer.Fire x ≡ answer.Fire y → x ≡ y
     same_fire x y e = cc
 
-  right : r ≡ objection_reply capacity old.number v → (init : State) (q : List Move) → Stands part init old q → e.answer ≡ reply_to (machine part init capacity) q e.call
+  right : r ≡ judged_reply capacity old.number v → (init : State) (q : List Move) → Stands part init old q → e.answer ≡ reply_to (machine part init capacity) q e.call
   right is init q stands = answer-is ∙ ap answer.Fire is ∙ sym (replied init q stands)
 
   move-is : (s : Reply) → r ≡ s → move_of e ≡ move_of (record { agent = e.agent; call = call.Fire reads M; answer = answer.Fire s })
   move-is s is = ap₂ (λ c a. move_of (record { agent = e.agent; call = c; answer = a })) call-is (answer-is ∙ ap answer.Fire is)
 
-  pub quiet_fire : r ≡ objection_reply capacity old.number v → was_fired r ≡ false → IsStep part capacity e old old true
+  pub quiet_fire : r ≡ judged_reply capacity old.number v → was_fired r ≡ false → IsStep part capacity e old old true
   quiet_fire is none = λ init q stands.
       (right is init q stands, subst (Stands part init old) (sym (ap (λ o. q ++ cons_option o []) (move-is r refl ∙ quiet r none) ∙ append-nil q)) stands) where
         quiet : (s : Reply) → was_fired s ≡ false → move_of (record { agent = e.agent; call = call.Fire reads M; answer = answer.Fire s }) ≡ None
@@ -123,7 +123,7 @@ module _ (part : Part) (capacity : ℕ) (e : Event) (old : StateView) (reads : L
         quiet (reply.Clash c) none = refl
         quiet reply.Full none = refl
 
-  pub taken_fire : (new : StateView) → r ≡ objection_reply capacity old.number v → was_fired r ≡ true → ((init : State) (q : List Move) → Stands part init old q → Stands part init new (q ++ M ∷ [])) → IsStep part capacity e old new true
+  pub taken_fire : (new : StateView) → r ≡ judged_reply capacity old.number v → was_fired r ≡ true → ((init : State) (q : List Move) → Stands part init old q → Stands part init new (q ++ M ∷ [])) → IsStep part capacity e old new true
   taken_fire new is fired followed = λ init q stands.
       (right is init q stands, subst (Stands part init new) (sym (ap (λ o. q ++ cons_option o []) (move-is r refl ∙ taken r fired))) (followed init q stands)) where
         taken : (s : Reply) → was_fired s ≡ true → move_of (record { agent = e.agent; call = call.Fire reads M; answer = answer.Fire s }) ≡ Some M

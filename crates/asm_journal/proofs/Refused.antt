@@ -1,4 +1,4 @@
--- A text that is refused reads as no history, and has one first fault.
+-- A text that is refused reads as no history, and has only one first fault.
 use Rattle.std.proofs.Common.{◌≡◌, ◌≢◌, ◌<◌, ◌+◌, ◌⊎◌, ℕ, List, [], ◌∷◌, ◌++◌, length, Result, Ok, Err, refl, sym}
 use Rattle.std.proofs.Common.{ap, subst, ◌∙◌, inl, inr, arith}
 use Rattle.std.specs.Prelude.{IfOk, IfErr}
@@ -17,7 +17,7 @@ use Rattle.asm_journal.specs.Version.{IsVersion}
 use Rattle.asm_journal.specs.Reading.{HasNoLineFeed, BeginsWithLine, HasLine, IsJson, IsHeader, HasEvents, ReadsAs}
 use Rattle.asm_journal.specs.Fault.{HasOtherVersion, BreaksLine, BreaksHeader, BreaksEvent, IsRefused}
 use Rattle.asm_journal.specs.Fault.{GivesHistory}
-use Rattle.asm_journal.proofs.Once.{NoFeed, same_split, line_once, header_once, history_once}
+use Rattle.asm_journal.proofs.OneHistory.{NoFeed, same_split, line_once, header_once, history_once}
 
 no_feed_inside : (a r : List ℕ) → NoFeed (a ++ 10 ∷ r) → ⊥
 no_feed_inside [] r h = h.0 refl
@@ -120,7 +120,7 @@ not_both text h e other (inr b) p =
       | inr over ↦ over.1 (same_left p.2 h.agents b.1 b.9 h.events b.10 [] found read (over.0 ∙ events))
     ]
 
--- what reads as a history is answered so, unless memory runs out
+-- a text that reads as a history is answered with it, unless memory is refused
 pub answered : (text : List ℕ) (r : Result History JournalError) → IfOk r (ReadsAs text) → IfErr r (IsRefused text)
     → (h : History) → ReadsAs text h → GivesHistory h r
 answered text (Ok g) ok err h p = history_once text g h ok p
@@ -211,7 +211,7 @@ StopsBehind v agents count es left e =
     ((length es < count) × BreaksEvent v agents (length es + 2) left e)
     ⊎ ((length es ≡ count) × (left ≢ []) × (e ≡ Shape (count + 2)))
 
--- what stands behind one header and isn't read: of two first faults the events before each are the same
+-- two first faults behind one header have the same events before them
 one_behind : (v agents count : ℕ) (text : List ℕ) (e f : JournalError) (es fs : List Event) (left end : List ℕ)
     → e ≢ Memory → f ≢ Memory
     → HasEvents v agents text es left → HasEvents v agents text fs end

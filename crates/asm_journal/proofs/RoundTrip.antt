@@ -14,11 +14,11 @@ use Rattle.asm_journal.specs.Version.{IsOfVersion}
 use Rattle.asm_journal.specs.Reading.{HasLine, HasEvents, ReadsAs}
 use Rattle.asm_storage.specs.Proper.{IsProper, IsProperEvent}
 use Rattle.asm_journal.proofs.Clean.{HasNoLineFeed-compact_text, IsJson-compact_text}
-use Rattle.asm_journal.proofs.Good.{IsGood, deeper, event_good, header_good}
-use Rattle.asm_journal.proofs.Back.{state_back, event_back}
+use Rattle.asm_journal.proofs.CleanDepth.{IsCleanTo, deeper, event_clean, header_clean}
+use Rattle.asm_journal.proofs.WrittenForms.{state_back, event_back}
 
--- the line of a good value
-line_reads : (d : Data) (rest : List ℕ) → IsGood max_depth d → HasLine (line d ++ rest) d rest
+-- the line of a clean value
+line_reads : (d : Data) (rest : List ℕ) → IsCleanTo max_depth d → HasLine (line d ++ rest) d rest
 line_reads d rest g = (
   compact_text d,
   (append_assoc (compact_text d) (10 ∷ []) rest, HasNoLineFeed-compact_text d g.clean),
@@ -36,7 +36,7 @@ events_read agents (e ∷ es) few h k =
     let small : e.agent < 2 ^ 32 = omega (arith, few, h.0.agent) in (
       event_json_of e,
       events_text es,
-      line_reads (event_json_of e) (events_text es) (deeper 23 max_depth _ (omega arith) (event_good e small k.0)),
+      line_reads (event_json_of e) (events_text es) (deeper 23 max_depth _ (omega arith) (event_clean e small k.0)),
       (event_back e small k.0, h.0, not_first (event_json_of e)),
       events_read agents es few h.1 k.1,
     )
@@ -44,12 +44,12 @@ events_read agents (e ∷ es) few h k =
 pub text_reads : (h : History) → IsProper h → Fits h → ReadsAs (text_of h) h
 text_reads h proper fits =
     let few : length h.events < 2 ^ 32 = omega (arith, fits.few) in
-    let good = header_good h.agents h.capacity (length h.events) h.init fits.agents fits.capacity few proper.0 in (
+    let clean = header_clean h.agents h.capacity (length h.events) h.init fits.agents fits.capacity few proper.0 in (
       header_json_of h,
       events_text h.events,
       2,
       line_reads (header_json_of h) (events_text h.events)
-          (deeper 22 max_depth _ (omega arith) good),
+          (deeper 22 max_depth _ (omega arith) clean),
       (
         _,
         _,

@@ -1,15 +1,15 @@
--- Sets and bags: what a read count is seen as, and that a value is the form of one at most.
+-- Sets and bags: counts that are read, and that JSON is the form of at most one.
 use Rattle.std.proofs.Common.{◌≡◌, ℕ, List, map, refl, sym, ap, ap₂, subst, ◌∙◌}
 use Rattle.serde_json.specs.Data.{Data, Items}
 use Rattle.asm_element.specs.Set as set
 use Rattle.asm_element.specs.declared.element.Element.{Element}
-use Rattle.asm_journal.specs.declared.set_form.Counted.{Counted}
+use Rattle.asm_journal.specs.declared.form.set.Counted.{Counted}
 use Rattle.asm_journal.specs.Shape.{IsListForm}
 use Rattle.asm_journal.specs.Element.{IsElementForm}
 use Rattle.asm_journal.specs.Set.{IsSetForm, IsAmountForm, IsCounted, IsCountForm, IsBagForm, bag_of}
 use Rattle.asm_journal.proofs.Arrays.{IsOnce, same_array, same_items, same_number, list_once}
 use Rattle.asm_journal.proofs.Elements.{element_once}
-use Rattle.asm_journal.proofs.Made.{no_list_seen}
+use Rattle.asm_journal.proofs.ItemsRead.{no_list_seen}
 
 pub counted_once : (p q : Element × ℕ) (ds : Items) → IsCounted p ds → IsCounted q ds → p ≡ q
 counted_once p q ds h k =

@@ -1,4 +1,4 @@
--- Values and their pairs with locations: what reading them finds, and that a value is the form of one at most.
+-- Values, and pairs of a location and its value: what reading finds, and that JSON is the form of at most one.
 use Rattle.std.proofs.Common.{codes, ◌≡◌, List, map, Option, Some, None, refl, sym, ap, ap₂, subst, ◌∙◌, arith}
 use Rattle.std.specs.Prelude.{option_map, MatchOption, IsSomeAnd}
 use Rattle.serde_json.specs.Data.{Data}
@@ -9,16 +9,16 @@ use Rattle.asm_element.specs.declared.element.Element.{Element}
 use Rattle.asm_element.specs.declared.element.Element.TheVariants as elements
 use Rattle.asm_element.specs.declared.value.Value.{Value}
 use Rattle.asm_element.specs.declared.value.Value.TheVariants as values
-use Rattle.asm_journal.specs.declared.pair_form.StatePair.{StatePair}
+use Rattle.asm_journal.specs.declared.form.state.StatePair.{StatePair}
 use Rattle.asm_journal.specs.Shape.{IsParsed, IsListForm, one_of}
 use Rattle.asm_journal.specs.Element.{element_json_of, IsLocationForm}
 use Rattle.asm_journal.specs.Set.{IsSetForm, IsBagForm}
 use Rattle.asm_journal.specs.Value.{IsValueForm, IsPairForm}
-use Rattle.asm_journal.proofs.Texts.{measure}
+use Rattle.asm_journal.proofs.Words.{measure}
 use Rattle.asm_journal.proofs.Arrays.{IsOnce, same_one, same_key, same_pair}
 use Rattle.asm_journal.proofs.Elements.{element_once, location_once}
 use Rattle.asm_journal.proofs.Sets.{set_once, bag_once}
-use Rattle.asm_journal.proofs.Made.{no_list_seen}
+use Rattle.asm_journal.proofs.ItemsRead.{no_list_seen}
 
 no_element : (x : Element) (key : List _) (a : Data) → (codes "list" ≡ key → ⊥) → element_json_of x ≡ one_of key a → ⊥
 no_element elements.Undef key a other e = absurd cc
@@ -85,14 +85,14 @@ value_of_bag d items None is h = none where
 
 -- ---- locations with their values that are read, as pairs
 
-abbrev pub place_of : StatePair → Place × Value
-place_of = λ p. (p.0, p.1)
+abbrev pub pair_seen : StatePair → Place × Value
+pair_seen = λ p. (p.0, p.1)
 
-abbrev pub places_of : List StatePair → List (Place × Value)
-places_of = map place_of
+abbrev pub pairs_seen : List StatePair → List (Place × Value)
+pairs_seen = map pair_seen
 
 abbrev pub IsReadPair : StatePair → Data → Type 0
 IsReadPair = λ p. IsPairForm (p.0, p.1)
 
-pub no_places : (d : Data) → ((ps : List StatePair) → IsListForm IsReadPair ps d → ⊥) → (qs : List (Place × Value)) → IsListForm IsPairForm qs d → ⊥
-no_places = no_list_seen place_of (λ p. record { 0 = p.0; 1 = p.1 }) IsPairForm (λ p. refl)
+pub no_pairs : (d : Data) → ((ps : List StatePair) → IsListForm IsReadPair ps d → ⊥) → (qs : List (Place × Value)) → IsListForm IsPairForm qs d → ⊥
+no_pairs = no_list_seen pair_seen (λ p. record { 0 = p.0; 1 = p.1 }) IsPairForm (λ p. refl)

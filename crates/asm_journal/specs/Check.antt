@@ -1,4 +1,4 @@
--- What the check of a history tells, and the state that a history leaves.
+-- What the check of a history answers.
 use Rattle.std.specs.Prelude.{◌≡◌, ◌≢◌, ℕ, Bool, true, false, List, [], ◌∷◌, ◌++◌, length, Option, Some, None}
 use Rattle.std.specs.List.{cons_option}
 use Rattle.asm_update.specs.Move.{Move}
@@ -9,7 +9,7 @@ use Rattle.asm_state.specs.Stands.{Stands}
 use Rattle.asm_state.specs.declared.verdict.Objection.{Objection}
 use Rattle.asm_state.specs.declared.verdict.Objection.TheVariants as objection
 use Rattle.asm_storage.specs.Machine.{Machine, reply_to, taken_reply}
-use Rattle.asm_storage.specs.History.{move_of, moves, IsLegal}
+use Rattle.asm_storage.specs.History.{move_of, fired_moves, IsLegal}
 use Rattle.asm_storage.specs.declared.call.Reply.{Reply}
 use Rattle.asm_storage.specs.declared.call.Reply.TheVariants as reply
 use Rattle.asm_storage.specs.declared.history.Event.{Event}
@@ -25,7 +25,7 @@ machine part init capacity = record { part = part; init = init; capacity = capac
 abbrev pub machine_of : Part → History → Machine
 machine_of part h = machine part h.init h.capacity
 
--- the event with this number, from 0 on, is the first whose answer isn't the one of the storage of one thread
+-- the event with this number, counted from 0, is the first with another answer than the storage of one thread gives
 pub record IsFirstWrong (m : Machine) (events : List Event) (number : ℕ) : Type 0 where
   pub before : List Event
   pub event : Event
@@ -33,24 +33,24 @@ pub record IsFirstWrong (m : Machine) (events : List Event) (number : ℕ) : Typ
   pub stands : before ++ event ∷ after ≡ events
   pub counted : length before ≡ number
   pub legal : IsLegal m before
-  pub wrong : event.answer ≢ reply_to m (moves before) event.call
+  pub wrong : event.answer ≢ reply_to m (fired_moves before) event.call
 
--- legal, with the numbers of events and of moves, or the first event that isn't
+-- legal, with so many events and so many moves, or illegal, first at this event
 abbrev pub IsLegality : Machine → List Event → Legality → Type 0
-IsLegality m events (Legal calls n) = IsLegal m events × (calls ≡ length events) × (n ≡ length (moves events))
+IsLegality m events (Legal calls n) = IsLegal m events × (calls ≡ length events) × (n ≡ length (fired_moves events))
 IsLegality m events (Illegal number) = IsFirstWrong m events number
 
 -- ---- one event
 
--- the reply that tells what stands against a move
-abbrev pub told_reply : Objection → Reply
-told_reply (objection.Stale l) = reply.Stale l
-told_reply (objection.Clash c) = reply.Clash c
+-- the reply that tells an objection
+abbrev pub objection_reply : Objection → Reply
+objection_reply (objection.Stale l) = reply.Stale l
+objection_reply (objection.Clash c) = reply.Clash c
 
--- the reply to a move against which this stands, after so many moves
-abbrev pub objection_reply : ℕ → ℕ → Option Objection → Reply
-objection_reply capacity number (Some o) = told_reply o
-objection_reply capacity number None = taken_reply capacity number
+-- the reply, after so many moves, to a move with this objection or with none
+abbrev pub judged_reply : ℕ → ℕ → Option Objection → Reply
+judged_reply capacity number (Some o) = objection_reply o
+judged_reply capacity number None = taken_reply capacity number
 
 -- whether the move was fired
 abbrev pub was_fired : Reply → Bool
@@ -61,7 +61,8 @@ was_fired _ = false
 abbrev pub moves_with : List Move → Event → List Move
 moves_with q e = q ++ cons_option (move_of e) []
 
--- whether the event's answer is the one after the moves that the state stands for; then it stands for its move, too
+-- whether the answer is right after the moves that the state stands for; if so, the new state stands for the event's
+-- move too
 abbrev pub IsStep : Part → ℕ → Event → StateView → StateView → Bool → Type 0
 IsStep part capacity e old new true = (init : State) (q : List Move) → Stands part init old q →
     (e.answer ≡ reply_to (machine part init capacity) q e.call) × Stands part init new (moves_with q e)

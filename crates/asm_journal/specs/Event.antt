@@ -34,7 +34,7 @@ move_json_of M = list_of (map instruction_json_of M)
 
 -- {"read":[LOC, ..]} or {"fire":[INSTR, ..],"reads":[NAMED, ..]}
 abbrev pub call_json_of : Call → Data
-call_json_of (call.Read places) = one_of (codes "read") (list_of (map location_json_of places))
+call_json_of (call.Read locations) = one_of (codes "read") (list_of (map location_json_of locations))
 call_json_of (call.Fire reads instrs) =
     two_of (codes "fire") (move_json_of instrs) (codes "reads") (list_of (map named_json_of reads))
 
@@ -75,7 +75,7 @@ event_json_of e = event_object (number_json_of e.agent) (call_json_of e.call) (a
 
 -- ---- what is read
 
--- the form of a location, and a number
+-- a location and a number
 abbrev pub IsNamedForm : Named → Data → Type 0
 IsNamedForm r d = (at number : Data) × (d ≡ pair_of at number) × IsLocationForm r.at at × IsNumberForm r.number number
 
@@ -89,8 +89,8 @@ IsMoveForm = IsMadeForm IsInstructionForm IsMoveOf
 
 -- the locations of a read, or the instructions and the named reads of a fire
 abbrev pub IsCallForm : Call → Data → Type 0
-IsCallForm (call.Read places) d =
-    (listed : Data) × (d ≡ one_of (codes "read") listed) × IsListForm IsLocationForm places listed
+IsCallForm (call.Read locations) d =
+    (list : Data) × (d ≡ one_of (codes "read") list) × IsListForm IsLocationForm locations list
 IsCallForm (call.Fire reads instrs) d =
     (move named : Data) × (d ≡ two_of (codes "fire") move (codes "reads") named)
     × IsMoveForm instrs move × IsListForm IsNamedForm reads named
@@ -113,8 +113,8 @@ IsReplyForm reply.Full d = d ≡ string (codes "full")
 -- a number and the values of a read, or the reply to a fire
 abbrev pub IsAnswerForm : Answer → Data → Type 0
 IsAnswerForm (answer.Read number values) d =
-    (n listed : Data) × (d ≡ two_of (codes "number") n (codes "values") listed)
-    × IsNumberForm number n × IsListForm IsValueForm values listed
+    (n list : Data) × (d ≡ two_of (codes "number") n (codes "values") list)
+    × IsNumberForm number n × IsListForm IsValueForm values list
 IsAnswerForm (answer.Fire r) d = IsReplyForm r d
 
 -- the number of an agent, the form of a call, and the form of an answer
@@ -123,6 +123,6 @@ IsEventForm e d =
     (agent call reply : Data) × (d ≡ event_object agent call reply)
     × IsNumberForm e.agent agent × IsCallForm e.call call × IsAnswerForm e.answer reply
 
--- an event that fits a history with so many agents, in a journal of this version
+-- an event that a journal of this version and of so many agents can hold
 abbrev pub IsEventBelow : ℕ → ℕ → Event → Data → Type 0
 IsEventBelow v agents e d = IsEventForm e d × EventFits agents e × IsOfVersion v d

@@ -10,7 +10,7 @@ use Rattle.asm_journal.specs.declared.fault.JournalError.TheVariants.{NotJson, S
 use Rattle.asm_journal.specs.Event.{IsEventBelow}
 use Rattle.asm_journal.specs.Reading.{IsJson, HasNoLineFeed, BeginsWithLine, HasLine, IsHeader, HasEvents, ReadsAs}
 
--- Line k, with which the text begins, is cut, or it isn't JSON: no byte is left; it isn't JSON; it has no line feed.
+-- The text begins with line k, which is cut (no byte is left, or JSON without a line feed) or isn't JSON.
 abbrev pub BreaksLine : ℕ → List ℕ → JournalError → Type 0
 BreaksLine k text Cut = (text ≡ []) ⊎ (HasNoLineFeed text × (text ≢ []) × ((d : Data) × IsJson text d))
 BreaksLine k text (NotJson n) =
@@ -36,13 +36,13 @@ BreaksHeader text (Shape n) =
     (n ≡ 1) × ((d : Data) × (rest : List ℕ) × HasLine text d rest × ¬ HasOtherVersion d × IsNoHeader d)
 BreaksHeader text e = BreaksLine 1 text e
 
--- line k, with which the text begins, is at fault, and should be an event of this version that fits so many agents
+-- the text begins with line k, which is at fault as an event of a journal of this version and of so many agents
 abbrev pub BreaksEvent : ℕ → ℕ → ℕ → List ℕ → JournalError → Type 0
 BreaksEvent v agents k text (Shape n) =
     (n ≡ k) × ((d : Data) × (rest : List ℕ) × HasLine text d rest × ((e : Event) → ¬ IsEventBelow v agents e d))
 BreaksEvent v agents k text e = BreaksLine k text e
 
--- behind the header some events stand and the next line is at fault, or all events do and a byte is left
+-- behind the header there are some events and then a line at fault, or all events and then a byte more
 abbrev pub BreaksBehind : List ℕ → JournalError → Type 0
 BreaksBehind text e =
     (d : Data) × (rest : List ℕ) × (v agents capacity count : ℕ) × (init : State)
@@ -51,7 +51,7 @@ BreaksBehind text e =
     × (((length es < count) × BreaksEvent v agents (length es + 2) left e)
     ⊎ ((length es ≡ count) × (left ≢ []) × (e ≡ Shape (count + 2))))
 
--- the text is refused with this fault: its header is at fault, or what stands behind it; an allocation failure tells nothing
+-- the text is refused with this fault, in its header or behind it; an allocation failure says nothing of the text
 abbrev pub IsRefused : List ℕ → JournalError → Type 0
 IsRefused text e = BreaksHeader text e ⊎ BreaksBehind text e
 
@@ -65,12 +65,12 @@ abbrev pub RefusedReadsAsNone : Type 0
 RefusedReadsAsNone = (text : List ℕ) (h : History) (e : JournalError) →
     e ≢ Memory → IsRefused text e → ¬ ReadsAs text h
 
--- A text has one first fault at most.
+-- A text has at most one first fault.
 abbrev pub OneFault : Type 0
 OneFault = (text : List ℕ) (e f : JournalError) →
     e ≢ Memory → f ≢ Memory → IsRefused text e → IsRefused text f → e ≡ f
 
--- A text that reads as no history has a first fault: it can't be that it has none.
+-- A text that reads as no history has a first fault: it isn't so that it has none.
 abbrev pub SomeFault : Type 0
 SomeFault = (text : List ℕ) → ((h : History) → ¬ ReadsAs text h)
     → ¬ ((e : JournalError) → e ≢ Memory → ¬ IsRefused text e)

@@ -1,4 +1,4 @@
--- The laws of the text, by which writing and reading belong together.
+-- The laws by which the texts that are written are those that are read.
 use Rattle.std.specs.Prelude.{◌≡◌, ℕ, List}
 use Rattle.asm_storage.specs.History.{Fits}
 use Rattle.asm_storage.specs.declared.history.History.{History}
@@ -10,11 +10,10 @@ use Rattle.asm_journal.specs.Text.{text_of}
 abbrev pub TextReadsBack : Type 0
 TextReadsBack = (h : History) → IsProper h → Fits h → ReadsAs (text_of h) h
 
--- A text reads as one history at most.
+-- A text reads as at most one history.
 abbrev pub OneReading : Type 0
 OneReading = (text : List ℕ) (g h : History) → ReadsAs text g → ReadsAs text h → g ≡ h
 
--- A text that reads as a history that a program can hold, in either version, may be written anew: the history's own
--- text reads as the same history.
+-- A text, of either version, reads as a history that a program can hold. Then the history's own text reads as it too.
 abbrev pub RewrittenReadsBack : Type 0
 RewrittenReadsBack = (text : List ℕ) (h : History) → IsProper h → ReadsAs text h → ReadsAs (text_of h) h

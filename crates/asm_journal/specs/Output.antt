@@ -4,8 +4,8 @@ use Rattle.std.specs.Io.KnownBytes.{Appends, Keeps}
 use Rattle.asm_journal.specs.declared.fault.WriteError.{WriteError}
 use Rattle.asm_journal.specs.declared.fault.WriteError.TheVariants.{Output, Memory}
 
--- the bytes that went out are the first ones of the text, as many as the error says, and not all;
--- none did because memory was refused
+-- the first bytes of the text went out, as many as the error says and fewer than all, or none because memory was
+-- refused
 abbrev pub Stops : Option (List ℕ) → Option (List ℕ) → List ℕ → WriteError → Type 0
 Stops old new text (Output written) = (written < length text) × Appends old new (take written text)
 Stops old new text Memory = Keeps old new

@@ -19,16 +19,16 @@ IsJson bytes d = IsUtf8 bytes × (read bytes ≡ Some d)
 abbrev pub HasNoLineFeed : List ℕ → Type 0
 HasNoLineFeed bytes = All (λ b. b ≢ 10) bytes
 
--- the text begins with this line, which a line feed ends, and goes on with the rest
+-- the text is this line, its line feed, and the rest
 abbrev pub EndsLine : List ℕ → List ℕ → List ℕ → Type 0
 EndsLine text body rest = (text ≡ body ++ 10 ∷ rest) × HasNoLineFeed body
 
--- the text begins with this line: up to the next line feed, or up to the end where there is none
+-- the text begins with this line, which goes up to the first line feed, or up to the end where there is none
 abbrev pub BeginsWithLine : List ℕ → List ℕ → Type 0
 BeginsWithLine text body =
     ((rest : List ℕ) × EndsLine text body rest) ⊎ ((body ≡ text) × HasNoLineFeed text)
 
--- the text begins with a line that is JSON of this value and has its line feed, and goes on with the rest
+-- the text is a line of JSON of this value, its line feed, and the rest
 abbrev pub HasLine : List ℕ → Data → List ℕ → Type 0
 HasLine text d rest = (body : List ℕ) × EndsLine text body rest × IsJson body d
 
@@ -37,7 +37,7 @@ abbrev pub AreLimits : ℕ → ℕ → ℕ → Type 0
 AreLimits agents capacity events =
     (agents ≤ 256) × (1 ≤ capacity) × (capacity ≤ 1048576) × (events < 2 ^ 32)
 
--- the values are these numbers, and the version is one that is read
+-- the values are these numbers, which are within the limits, and journals of the version are read
 abbrev pub AreNumbers : ℕ → ℕ → ℕ → ℕ → Data → Data → Data → Data → Type 0
 AreNumbers v agents capacity events a c n version =
     (a ≡ number_json_of agents) × (c ≡ number_json_of capacity) × (n ≡ number_json_of events)
@@ -49,7 +49,7 @@ IsHeader v agents capacity events init d =
     (a c n pairs version : Data) × (d ≡ header_with a c n pairs version)
     × AreNumbers v agents capacity events a c n version × IsStateForm init pairs × IsOfVersion v d
 
--- the text begins with a line of this version for each event, and goes on with the rest
+-- the text is a line of this version for each event, and the rest
 abbrev pub HasEvents : ℕ → ℕ → List ℕ → List Event → List ℕ → Type 0
 HasEvents v agents text [] rest = text ≡ rest
 HasEvents v agents text (e ∷ es) rest =

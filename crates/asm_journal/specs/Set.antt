@@ -1,4 +1,4 @@
--- The JSON of sets and bags: written in ascending order, and read in any order of items, of which none stands twice.
+-- The JSON of sets and bags: written in ascending order, and read in any order. No element stands twice.
 use Rattle.std.specs.Prelude.{◌≡◌, ℕ, List, [], ◌∷◌, map, codes}
 use Rattle.std.specs.Map.{keys_of}
 use Rattle.serde_json.specs.Data.{Data, array, Items}
@@ -34,7 +34,7 @@ IsSetForm = IsMadeForm IsElementForm IsSetOf
 abbrev pub IsAmountForm : ℕ → Data → Type 0
 IsAmountForm n d = bag.IsCount n × (d ≡ number_json_of n)
 
--- an element with its count, or with an amount of it, as two items
+-- two items: an element, and its count or an amount of it
 abbrev pub IsCounted : Element × ℕ → Items → Type 0
 IsCounted p ds =
     (e n : Data) × (ds ≡ items_of (e ∷ n ∷ [])) × IsElementForm p.0 e × IsAmountForm p.1 n

@@ -1,4 +1,4 @@
--- Arrays and objects in general, and what reading answers.
+-- The shapes of arrays and objects, and what reading answers.
 use Rattle.std.specs.Prelude.{◌≡◌, ◌<◌, ◌^◌, ℕ, List, [], ◌∷◌, Option, Some, None}
 use Rattle.std.specs.List.{IsDistinct}
 use Rattle.std.specs.Ordering.{eq_by_cmp}
@@ -6,31 +6,31 @@ use Rattle.std.specs.declared.cmp.Ordering.{Ordering}
 use Rattle.serde_json.specs.Data.{Data, number, array, object, unsigned, Items, no_items, item, member, no_members}
 use Rattle.serde_json.specs.View.{items_of}
 
--- what reading answers: the x that the value is a form of, or None where it is a form of none
+-- what reading answers: an x with this form, or None where no x has it
 abbrev pub IsParsed : {X J : Type 0} → (X → J → Type 0) → J → Option X → Type 0
 IsParsed IsForm d (Some x) = IsForm x d
 IsParsed {X} IsForm d None = (x : X) → ¬ IsForm x d
 
--- as many values as items, each the form of the item in its place
+-- as many items as values, and each item is the form of the value in its place
 abbrev pub AreForms : {X : Type 0} → (X → Data → Type 0) → List X → Items → Type 0
 AreForms IsForm [] no_items = Unit {0}
 AreForms IsForm [] (item d ds) = ⊥
 AreForms IsForm (x ∷ xs) no_items = ⊥
 AreForms IsForm (x ∷ xs) (item d ds) = IsForm x d × AreForms IsForm xs ds
 
--- an array of the items' forms, in their order
+-- an array of the values' forms, in their order
 abbrev pub IsListForm : {X : Type 0} → (X → Data → Type 0) → List X → Data → Type 0
 IsListForm IsForm xs d = (ds : Items) × (d ≡ array ds) × AreForms IsForm xs ds
 
--- no key of the list is equal to one after it
+-- no two keys of the list are equal
 abbrev pub AreDistinct : {K : Type 0} → (K → K → Ordering) → List K → Type 0
 AreDistinct cmp = IsDistinct (eq_by_cmp cmp)
 
--- an array of the forms of some items, of which this is made
+-- an array of the forms of the values that y is made of
 abbrev pub IsMadeForm : {X Y : Type 0} → (X → Data → Type 0) → (Y → List X → Type 0) → Y → Data → Type 0
 IsMadeForm {X} IsForm IsMadeOf y d = (xs : List X) × IsListForm IsForm xs d × IsMadeOf y xs
 
--- one item, which is the form of x
+-- one item alone, the form of x
 abbrev pub IsOnly : {X : Type 0} → (X → Data → Type 0) → X → Items → Type 0
 IsOnly IsForm x ds = (d : Data) × (ds ≡ items_of (d ∷ [])) × IsForm x d
 

@@ -18,7 +18,7 @@ value_json_of (values.Plain x) = element_json_of x
 value_json_of (values.Set s) = set_json_of s
 value_json_of (values.Bag b) = bag_json_of b
 
--- an element, or the one member of an object, with a set or a bag
+-- an element, or an object whose only member is a set or a bag
 abbrev pub IsValueForm : Value → Data → Type 0
 IsValueForm (values.Plain x) d = IsElementForm x d
 IsValueForm (values.Set s) d = (items : Data) × (d ≡ one_of (codes "set") items) × IsSetForm s items
@@ -28,11 +28,11 @@ IsValueForm (values.Bag b) d = (items : Data) × (d ≡ one_of (codes "bag") ite
 abbrev pub pair_json_of : Place × Value → Data
 pair_json_of p = pair_of (location_json_of p.0) (value_json_of p.1)
 
--- the form of a location, and the form of its value
+-- a location and its value
 abbrev pub IsPairForm : Place × Value → Data → Type 0
 IsPairForm p d = (at value : Data) × (d ≡ pair_of at value) × IsLocationForm p.0 at × IsValueForm p.1 value
 
--- the state with these values at their locations, of which none stands twice; undef is nothing
+-- no location stands twice, and the state has these values at their locations; undef is no value
 abbrev pub IsStateOf : State → List (Place × Value) → Type 0
 IsStateOf A ps = AreDistinct place.location_cmp (keys_of ps) × (A ≡ write_all state.empty ps)
 

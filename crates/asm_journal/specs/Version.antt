@@ -4,7 +4,7 @@ use Rattle.std.specs.Str.{bytes_eq}
 use Rattle.serde_json.specs.Data.{Data, null, boolean, number, string, array, object}
 use Rattle.serde_json.specs.Data.{Items, no_items, item, Members, no_members, member}
 
--- a version that is read
+-- journals of this version are read
 abbrev pub IsVersion : ℕ → Type 0
 IsVersion v = (v ≡ 1) ⊎ (v ≡ 2)
 
@@ -29,6 +29,6 @@ abbrev mutual
   members_have_list no_members = false
   members_have_list (member k d ms) = bytes_eq k (codes "list") || (has_list d || members_have_list ms)
 
--- the value may stand in a journal of this version
+-- a journal of this version may have the value
 abbrev pub IsOfVersion : ℕ → Data → Type 0
 IsOfVersion v d = v ≡ 1 → has_list d ≡ false

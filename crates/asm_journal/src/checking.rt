@@ -1,7 +1,7 @@
-//! Whether a history is one of the storage of one thread.
+//! Whether a history is one that the storage of one thread could have.
 ghost use Rattle.std.specs.Prelude.{◌≡◌, ◌↔◌, map, IsTrue, IfOk};
 ghost use Rattle.asm_state.specs.View.{value_at};
-ghost use Rattle.asm_journal.specs.Check.{machine_of, IsLegality, told_reply, objection_reply, was_fired, IsStep};
+ghost use Rattle.asm_journal.specs.Check.{machine_of, IsLegality, objection_reply, judged_reply, was_fired, IsStep};
 ghost use Rattle.asm_storage.specs.Machine.{taken_reply};
 
 use asm_element::{Location, Value};
@@ -10,12 +10,12 @@ use asm_storage::{Answer, Call, Event, History, Reply};
 use asm_update::{Aggregator, Lookup};
 use std::alloc::{AllocError, Global};
 
-/// Whether a history is legal: whether each answer is the one of the storage of one thread.
+/// Whether a history is legal: whether each answer is the one that the storage of one thread gives.
 #[derive(Clone, Copy, Debug, Drop, PartialEq, Eq)]
 pub enum Legality {
-    /// It is: the numbers of its events and of its fired moves.
+    /// It is legal, with so many calls (its events) and so many fired moves.
     Legal { calls: u64, moves: u32 },
-    /// It isn't: the number of the first event whose answer is another, counted from 0.
+    /// It isn't: the first call (event) with another answer has this number, counted from 0.
     Illegal { call: u64 },
 }
 
@@ -30,13 +30,13 @@ fn holds(state: &State, at: &Location, value: &Value) -> bool
 }
 
 /// Whether these are the values of the locations.
-fn are_values(state: &State, places: &[Location], values: &[Value]) -> bool
-    ensures { IsTrue result ↔ (map (value_at state.now) places.now ≡ values.now) }
+fn are_values(state: &State, locations: &[Location], values: &[Value]) -> bool
+    ensures { IsTrue result ↔ (map (value_at state.now) locations.now ≡ values.now) }
 {
-    if places.len() != values.len() {
+    if locations.len() != values.len() {
         return false;
     }
-    for (index, at) in places.iter().enumerate() {
+    for (index, at) in locations.iter().enumerate() {
         if !holds(state, at, &values[index]) {
             return false;
         }
@@ -44,9 +44,9 @@ fn are_values(state: &State, places: &[Location], values: &[Value]) -> bool
     true
 }
 
-/// Whether the reply tells what stands against a move.
+/// Whether the reply tells the objection to a move.
 fn tells(objection: &Objection, reply: &Reply) -> bool
-    ensures { IsTrue result ↔ (reply.now ≡ told_reply objection.now) }
+    ensures { IsTrue result ↔ (reply.now ≡ objection_reply objection.now) }
 {
     match (objection, reply) {
         (Objection::Stale(at), Reply::Stale(told)) => at == told,
@@ -57,7 +57,7 @@ fn tells(objection: &Objection, reply: &Reply) -> bool
     }
 }
 
-/// Whether this is the reply to a move that fires, if there is room after so many moves.
+/// Whether this is the reply, after so many moves, to a move without an objection.
 fn is_taken(capacity: u32, number: u32, reply: &Reply) -> bool
     ensures { IsTrue result ↔ (reply.now ≡ taken_reply capacity number) }
 {
@@ -68,9 +68,9 @@ fn is_taken(capacity: u32, number: u32, reply: &Reply) -> bool
     }
 }
 
-/// Whether this is the reply to a move against which this stands, after so many moves.
+/// Whether this is the reply, after so many moves, to a move with this objection or with none.
 fn is_reply(objection: &Option<Objection>, capacity: u32, number: u32, reply: &Reply) -> bool
-    ensures { IsTrue result ↔ (reply.now ≡ objection_reply capacity number objection.now) }
+    ensures { IsTrue result ↔ (reply.now ≡ judged_reply capacity number objection.now) }
 {
     match objection {
         Some(objection) => tells(objection, reply),
@@ -85,8 +85,8 @@ fn is_fired(reply: &Reply) -> bool
     matches!(reply, Reply::Fired(_))
 }
 
-/// Whether the event's answer is the one after the moves that the state has followed; then the
-/// state follows its move too, if it has one.
+/// Judges the event's answer after the moves that the state has followed. Where the answer is right, the state follows
+/// the event's move too.
 fn step<A: Aggregator>(
     alloc: Global,
     aggregator: &A,
@@ -98,8 +98,11 @@ fn step<A: Aggregator>(
         event.now state.old state.new) }
 {
     match (&event.call, &event.answer) {
-        (Call::Read(places), Answer::Read { number, values }) => {
-            Ok(*number == state.number() && are_values(state, places.as_slice(), values.as_slice()))
+        (Call::Read(locations), Answer::Read { number, values }) => {
+            Ok(
+                *number == state.number()
+                    && are_values(state, locations.as_slice(), values.as_slice()),
+            )
         }
         (Call::Fire { reads, instrs }, Answer::Fire(reply)) => {
             let objection = state.objection(alloc, aggregator, reads.as_slice(), instrs)?;
@@ -115,11 +118,10 @@ fn step<A: Aggregator>(
     }
 }
 
-/// Whether each event of a history has the answer of the storage of one thread.
+/// Whether each event of a history has the answer that the storage of one thread gives.
 ///
-/// It costs a judgement for each event, whatever came before it. `AllocError` comes only where
-/// memory was refused. Source: a history is legal by the sequential specification of its object, as
-/// in Herlihy and Shavit.
+/// It costs one judgement for each event, however many came before it. `AllocError` comes only where memory was
+/// refused. Source: Herlihy and Shavit, where a history is legal by the sequential specification of its object.
 pub fn check<A: Aggregator>(
     alloc: Global,
     aggregator: &A,

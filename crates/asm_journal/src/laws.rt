@@ -1,7 +1,6 @@
 //! The laws of the journal's text. Each function does nothing; its contract is the law.
 ghost use Rattle.std.specs.Prelude.{◌≡◌};
 ghost use Rattle.asm_storage.specs.History.{Fits};
-ghost use Rattle.asm_storage.specs.Proper.{IsProper};
 ghost use Rattle.asm_storage.specs.declared.history.History.{History as Log};
 ghost use Rattle.asm_journal.specs.Text.{text_of};
 ghost use Rattle.asm_journal.specs.Reading.{ReadsAs};
@@ -20,29 +19,23 @@ pub fn one_reading()
     ensures { OneReading }
 {}
 
-/// A text that reads as a history, in either version, may be written anew: the history's own text reads as
-/// the same history.
+/// A history that was read, from a journal of either version, may be written anew: the new text reads as the same
+/// history.
 pub fn rewritten_reads_back()
     ensures { RewrittenReadsBack }
 {}
 
-/// A text that is refused, for another cause than an allocation failure, reads as no history.
+/// A text with a fault reads as no history. An allocation failure is no fault of the text.
 pub fn refused_reads_as_none()
     ensures { RefusedReadsAsNone }
 {}
 
-/// A text has one first fault at most, an allocation failure aside, and has one where it reads as no history.
+/// A text has at most one first fault, and has one where it reads as no history. An allocation failure is no fault of
+/// the text.
 pub fn one_fault()
     ensures one { OneFault }
     ensures some { SomeFault }
 {}
-
-/// Each history that a program holds is proper.
-pub fn proper(history: &History)
-    ensures { IsProper history.now }
-{
-    history.proper();
-}
 
 /// The text of a history that fits a journal reads as that history, and as no other.
 pub fn reads_back(history: &History)
@@ -50,7 +43,7 @@ pub fn reads_back(history: &History)
     ensures back { ReadsAs (text_of history.now) history.now }
     ensures only { (h : Log) → ReadsAs (text_of history.now) h → h ≡ history.now }
 {
-    proper(history);
+    history.proper();
     text_reads_back();
     one_reading();
 }

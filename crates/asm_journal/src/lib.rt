@@ -1,65 +1,27 @@
 //! Journals of histories: their JSON forms, their check, and the states that they leave.
 #![tactic(auto)]
 
-mod answer_form;
-mod array;
-mod call_form;
 mod checking;
-mod element_form;
-mod event_form;
 mod fault;
-mod instruction_form;
+mod form;
 pub mod laws;
 mod line;
-mod listed;
-mod number_form;
-mod object;
 mod output;
-mod pair_form;
-mod reader;
+mod reading;
 mod replaying;
-mod set_form;
-mod telling;
-mod value_form;
+mod texts;
 mod version;
 mod writing;
 
-pub use array::FromJson;
 pub use checking::{Legality, check};
-pub use element_form::{location_json, read_location};
 pub use fault::{JournalError, WriteError};
-pub use instruction_form::{instruction_json, read_instruction};
-pub use listed::Listed;
-pub use object::two_members;
+pub use form::{
+    FromJson, Listed, instruction_json, instruction_parts, location_json, one_member, pair_json,
+    read_amount, read_instruction, read_location, read_one, read_value, two_items, two_members,
+    value_json, word_of_cause,
+};
 pub use output::write_text;
-pub use pair_form::pair_json;
-pub use reader::from_text;
+pub use reading::from_text;
 pub use replaying::replay;
-pub use telling::{answer_text, state_text};
-pub use value_form::{read_value, value_json};
+pub use texts::{answer_text, state_text};
 pub use writing::to_text;
-
-#[cfg(test)]
-mod check_tests;
-#[cfg(test)]
-mod clash_tests;
-#[cfg(test)]
-mod closing_tests;
-#[cfg(test)]
-mod equality_tests;
-#[cfg(test)]
-mod fault_tests;
-#[cfg(test)]
-mod form_tests;
-#[cfg(test)]
-mod header_tests;
-#[cfg(test)]
-mod journal_tests;
-#[cfg(test)]
-mod list_tests;
-#[cfg(test)]
-mod output_tests;
-#[cfg(test)]
-mod replay_tests;
-#[cfg(test)]
-mod telling_tests;

@@ -9,7 +9,7 @@ use crate::fault::JournalError;
 use serde_json::Value as Json;
 use std::alloc::Global;
 
-/// The first line, and what is behind its line feed.
+/// Splits a text behind its first line feed, into the line before it and the rest.
 fn split_line(text: &[u8]) -> Option<(&[u8], &[u8])>
     ensures some { IfSome result (λ p. EndsLine text.now p.0.now p.1.now) }
     ensures none { IfNone result (HasNoLineFeed text.now) }
@@ -18,7 +18,7 @@ fn split_line(text: &[u8]) -> Option<(&[u8], &[u8])>
     Some((&text[..end], &text[end + 1..]))
 }
 
-/// The value of a line with this number.
+/// Parses the line with this number.
 fn parse(alloc: Global, line: &[u8], number: u64) -> Result<Json, JournalError>
     ensures ok { IfOk result (λ v. IsJson line.now (view v)) }
     ensures err { IfErr result (λ e. (e ≡ JournalError.Memory)
@@ -31,7 +31,7 @@ fn parse(alloc: Global, line: &[u8], number: u64) -> Result<Json, JournalError>
     }
 }
 
-/// The value of the first line, which has this number, and what is behind its line feed.
+/// Parses the first line of a text, which is the line with this number, and gives the rest of the text too.
 pub(crate) fn json_line(
     alloc: Global,
     text: &[u8],

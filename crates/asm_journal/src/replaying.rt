@@ -1,31 +1,20 @@
 //! The state that a history leaves.
 ghost use Rattle.std.specs.Prelude.{◌≡◌, OnOk, IfOk};
-ghost use Rattle.std.specs.Option.{option_copied};
 ghost use Rattle.asm_update.specs.State.{overwrite};
 ghost use Rattle.asm_update.specs.Fire.{state_of};
 ghost use Rattle.asm_update.specs.Move.{Move};
 ghost use Rattle.asm_state.specs.Change.{IsOneChange};
 ghost use Rattle.asm_state.specs.Stands.{after_move};
-ghost use Rattle.asm_storage.specs.History.{move_of, moves};
+ghost use Rattle.asm_storage.specs.History.{fired_moves};
 
 use asm_aggregate::aggregate;
 use asm_element::Location;
 use asm_state::one_change;
-use asm_storage::{Answer, Call, Event, History, Reply};
+use asm_storage::History;
 use asm_update::{AggError, Aggregator, Group, Instructions, PlainState, ResultError, UpdateSet};
 use std::alloc::{AllocError, Global};
 
-/// The instructions of the move, where the call fired one.
-fn fired_move(event: &Event) -> Option<&Instructions>
-    ensures { option_copied result ≡ move_of event.now }
-{
-    match (&event.call, &event.answer) {
-        (Call::Fire { instrs, .. }, Answer::Fire(Reply::Fired(_))) => Some(instrs),
-        _ => None,
-    }
-}
-
-/// Writes each of the updates; after an allocation failure some of them are written.
+/// Writes the updates one by one. Where memory is refused, those before are written.
 fn write_updates(state: &mut PlainState, updates: UpdateSet) -> Result<(), AllocError>
     ensures { OnOk result (state.new ≡ overwrite state.old updates) }
 {
@@ -35,7 +24,7 @@ fn write_updates(state: &mut PlainState, updates: UpdateSet) -> Result<(), Alloc
     Ok(())
 }
 
-/// Fires a move by its update set, unless it clashes.
+/// Fires a move by its update set. A move that clashes changes nothing.
 fn fire_all<A: Aggregator>(
     alloc: Global,
     aggregator: &A,
@@ -52,7 +41,7 @@ fn fire_all<A: Aggregator>(
     }
 }
 
-/// Fires a move that changes one location alone by its group, unless it clashes.
+/// Fires a move of one location by its group. A move that clashes changes nothing.
 fn change_or_keep<A: Aggregator>(
     alloc: Global,
     aggregator: &A,
@@ -70,7 +59,7 @@ fn change_or_keep<A: Aggregator>(
     }
 }
 
-/// Fires a move, unless it clashes.
+/// Fires a move. A move that clashes changes nothing.
 fn fire_or_keep<A: Aggregator>(
     alloc: Global,
     aggregator: &A,
@@ -86,7 +75,7 @@ fn fire_or_keep<A: Aggregator>(
     }
 }
 
-/// The opening state of a history with its fired moves in order; a move that clashes changes
+/// The state that a history leaves: its opening state, with its moves fired in order. A move that clashes changes
 /// nothing.
 ///
 /// `AllocError` comes only where memory was refused.
@@ -96,11 +85,11 @@ pub fn replay<A: Aggregator>(
     history: &History,
 ) -> Result<PlainState, AllocError>
     ensures { IfOk result (λ state. state ≡ state_of (A.meaning aggregator.now).part
-        history.now.init (moves history.now.events)) }
+        history.now.init (fired_moves history.now.events)) }
 {
     let mut state = history.init.copy(alloc)?;
     for event in history.events.as_slice() {
-        if let Some(instructions) = fired_move(event) {
+        if let Some(instructions) = event.fired_move() {
             fire_or_keep(alloc, aggregator, &mut state, instructions)?;
         }
     }

@@ -3,28 +3,14 @@ ghost use Rattle.std.specs.Prelude.{◌≡◌, ◌≤◌, ◌++◌, false, lengt
 ghost use Rattle.serde_json.specs.View.{view};
 ghost use Rattle.serde_json.specs.Written.{has_float};
 ghost use Rattle.asm_storage.specs.History.{Fits};
-ghost use Rattle.asm_journal.specs.Text.{state_json_of, header_json_of, line, text_of};
+ghost use Rattle.asm_journal.specs.Text.{header_json_of, line, text_of};
 
-use crate::array::{ToJson, array_of};
-use crate::pair_form::pair_json;
+use crate::form::ToJson;
 use asm_storage::History;
-use asm_update::PlainState;
 use serde_json::{Map, Value as Json};
 use std::alloc::{AllocError, Global};
 
-impl ToJson for PlainState {
-    ghost json_of = { state_json_of };
-
-    fn to_json(&self, alloc: Global) -> Result<Json, AllocError> {
-        let mut list = Vec::new(alloc);
-        for (at, value) in self.iter() {
-            list.push(pair_json(alloc, at, value)?)?;
-        }
-        Ok(array_of(list))
-    }
-}
-
-/// The header of a history.
+/// The JSON of a history's header.
 fn header_json(alloc: Global, history: &History) -> Result<Json, AllocError>
     requires { length history.now.events ≤ 4294967295 }
     ensures { IfOk result (λ json. view json ≡ header_json_of history.now) }
@@ -39,7 +25,7 @@ fn header_json(alloc: Global, history: &History) -> Result<Json, AllocError>
     Ok(Json::Object(header))
 }
 
-/// Puts the compact text of a value and a line feed at the end of a text.
+/// Appends the compact text of a value, and a line feed.
 fn push_line(alloc: Global, text: &mut String, json: &Json) -> Result<(), AllocError>
     requires { has_float (view json.now) ≡ false }
     ensures { OnOk result (string_bytes text.new ≡ string_bytes text.old ++ line (view json.now)) }
@@ -50,7 +36,7 @@ fn push_line(alloc: Global, text: &mut String, json: &Json) -> Result<(), AllocE
     Ok(())
 }
 
-/// The journal of a history, version 2: a header line, and a line for each event.
+/// Writes a history as a journal of version 2: a header line, and a line for each event.
 ///
 /// The history must be within the limits of a journal, which `History::fits` tests. `AllocError`
 /// comes only where memory was refused. It costs one pass over the text.

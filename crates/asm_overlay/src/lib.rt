@@ -8,4 +8,4 @@ mod over;
 mod overlay;
 
 pub use over::Over;
-pub use overlay::{Overlay, OverlayError, Seen};
+pub use overlay::{FRAMES_LIMIT, Overlay, OverlayError, Seen};

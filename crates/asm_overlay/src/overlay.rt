@@ -10,7 +10,7 @@ use std::marker::Model;
 use thiserror::Error;
 
 /// The most frames of one overlay.
-const FRAMES_LIMIT: usize = 64;
+pub const FRAMES_LIMIT: usize = 64;
 
 /// Why a frame isn't pushed; the frame that was passed is handed back.
 #[derive(Debug, Drop, PartialEq, Eq, Error)]

@@ -5,11 +5,15 @@ use std::alloc::Global;
 use std::sync::Wait;
 use std::sync::atomic::{AtomicU64, Ordering};
 use std::test::Fail;
-use std::thread::Threads;
+use std::thread::{Threads, yield_now};
 
 const PUT: &str = r#"[[["put",["x"],1]]]"#;
 
-/// Before its first call each agent sets its flag, and looks for those of all others, so often at most.
+/// How often an agent looks for the others, at most.
+const LOOKS: u64 = 50_000_000;
+
+/// Before its first call each agent sets its flag, and looks for those of all others. Between two looks it lets other
+/// threads run, so that it finds them on a busy machine too.
 #[derive(Drop)]
 struct Meeting {
     all: u64,
@@ -23,10 +27,11 @@ impl Gate for Meeting {
             return;
         }
         self.flags.fetch_or(1 << agent, Ordering::SeqCst);
-        for _ in 0..200_000_000u64 {
+        for _ in 0..LOOKS {
             if self.flags.load(Ordering::SeqCst) == self.all {
                 return;
             }
+            yield_now();
         }
         self.missed.fetch_or(1 << agent, Ordering::SeqCst);
     }

@@ -1,4 +1,4 @@
--- The notes that a `Known` owns: they can be had twice, and of what two such lists know, one begins the other. Assumes `Logic`.
+-- The notes that a `KnownPrefix` owns: they can be had twice, and of two prefixes of one row, one begins the other. Assumes `Logic`.
 use Rattle.std.proofs.Common.{◌≡◌, ◌⊎◌, inl, inr, ℕ, zero, suc, List, [], ◌∷◌, ◌++◌, length, slice_get, unwrap_or, arith, refl, ap, sym, subst}
 use denote.Steps.{heard}
 use seplogic.Ra.Ura.{Ura}
@@ -19,12 +19,12 @@ use Rattle.std.specs.declared.option.Option.{Option}
 use Rattle.std.specs.declared.option.Option.TheVariants.{Some}
 use Rattle.once_cell.specs.Once.{noted}
 use Rattle.once_cell.proofs.Notes.{noted_twice, noted_agree}
-use Rattle.asm_row.specs.Known.{all_noted}
+use Rattle.asm_row.specs.KnownPrefix.{all_noted}
 use mathlib.Core.List.{IsPrefix}
 use Rattle.asm_row.proofs.Prefixes.{one_begins-cons}
-use Rattle.asm_row.specs.contracts.known.Known as Known
+use Rattle.asm_row.specs.contracts.known_prefix.KnownPrefix as KnownPrefix
 
--- the machine value of a `Known`: a struct of its marker alone
+-- the machine value of a `KnownPrefix`: a struct of its marker alone
 abbrev pub token : Val
 token = vstruct (vcons (vstruct vnil) vnil)
 
@@ -75,7 +75,7 @@ module _ {M : Type 1} {𝓤 : Ura M} (𝓛 : Logic 𝓤) (R : RattleType) where
   all_snoc (b ∷ cells) (y ∷ ys) c x e = qed 𝓛 (‵ (all_noted R (b ∷ cells) (y ∷ ys)) ∷ ‵ (noted R c (Some x)) ∷ []) ∵ fsplit ! $ move ! (1 ∷ 2 ∷ []) $
       use2 𝓛 (‵ (all_noted R cells (ys ++ x ∷ []))) (all_snoc cells ys c x e) $ move ! (1 ∷ 0 ∷ []) $ fjoin ! $ done !
 
-  -- over notes, the machine value of a `Known` is a `Known`
-  pub known_made : (cells : List ℕ) (xs : List R.Denot) → ent 𝓤 (sem 𝓛 (all_noted R cells xs)) (sem 𝓛 ((Known.the_row R).own_val (record { marker = record {}; row = cells; seen = xs }) (token ∷ [])))
-  known_made cells xs = let F = (Struct (shape (Known.the_type R))).own_val (tt, tt) (token ∷ []) in
+  -- over notes, the machine value of a `KnownPrefix` is a `KnownPrefix`
+  pub prefix_made : (cells : List ℕ) (xs : List R.Denot) → ent 𝓤 (sem 𝓛 (all_noted R cells xs)) (sem 𝓛 ((KnownPrefix.the_row R).own_val (record { marker = record {}; row = cells; seen = xs }) (token ∷ [])))
+  prefix_made cells xs = let F = (Struct (shape (KnownPrefix.the_type R))).own_val (tt, tt) (token ∷ []) in
       qed 𝓛 (‵ (all_noted R cells xs) ∷ []) ∵ use0 𝓛 (‵ F) (makes_shadow 𝓛 F (λ vss. (tt, ((λ uss. (tt, tt)), tt))) ((vstruct vnil ∷ [], tt), (refl, ((tt, (refl, tt)), tt)))) $ done !

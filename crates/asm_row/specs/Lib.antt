@@ -1,4 +1,4 @@
-pub mod Known
+pub mod KnownPrefix
 pub mod Mark
 pub mod Offer
 pub mod Row

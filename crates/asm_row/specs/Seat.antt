@@ -10,8 +10,8 @@ pub record SeatView (X : Type 0) : Type 0 where
   pub misses : ℕ
 
 -- the lengths are counted, what was seen fits the row, and no more offers won than entries were seen
-pub record IsProgress {X : Type 0} (capacity len won : ℕ) (row : List ℕ) (seen : List X) : Type 0 where
+pub record IsProgress {X : Type 0} (capacity seen_len won : ℕ) (row : List ℕ) (seen : List X) : Type 0 where
   pub whole : capacity ≡ length row
-  pub counted : len ≡ length seen
-  pub within : len ≤ capacity
-  pub won_within : won ≤ len
+  pub counted : seen_len ≡ length seen
+  pub within : seen_len ≤ capacity
+  pub won_within : won ≤ seen_len

@@ -4,7 +4,7 @@ ghost use mathlib.Core.List.{IsPrefix};
 ghost use Rattle.std.specs.declared.option.Option.TheVariants.{None, Some};
 ghost use Rattle.asm_row.specs.Offer.{IfWon, IfLost};
 
-use crate::known::Known;
+use crate::known_prefix::KnownPrefix;
 use crate::mark::Mark;
 use crate::row::Row;
 use crate::seat::Offer;
@@ -15,15 +15,15 @@ use std::marker::Model;
 /// How far one thread has come at a row: what a `Seat` has beside its borrow of the row.
 ///
 /// It borrows nothing, so one value may hold it beside an owner of the row, which it may outlive. Each
-/// call that touches a cell is passed the row, and has the condition that it is the one that the
-/// progress was made at; no call tests this. Contracts see the same as of a seat: the row that it is
-/// of, the entries that were seen, how many offers won, and how many looks found an empty cell. It is
+/// call that touches a cell is passed the row, which must be the one that made the progress; no call tests
+/// this. Contracts see it as they see a seat: its row, the entries that were seen, how many offers won, and
+/// how many looks found an empty cell. It is
 /// `Send` and `Sync` for every `T`. No call waits, takes a lock or asks for memory.
 #[derive(Drop)]
 pub struct Progress<T> {
     capacity: u32,
-    len: u32,
-    known: Known<T>,
+    seen_len: u32,
+    prefix: KnownPrefix<T>,
     won: u32,
     misses: u64,
 }
@@ -33,9 +33,9 @@ impl<T> Model for Progress<T> {
 
     ghost Value = { SeatView T };
 
-    ghost view = { λ s. record { row = s.known.row; seen = s.known.seen; won = s.won; misses = s.misses } };
+    ghost view = { λ s. record { row = s.prefix.row; seen = s.prefix.seen; won = s.won; misses = s.misses } };
 
-    ghost invariant = { λ s. IsProgress s.capacity s.len s.won s.known.row s.known.seen };
+    ghost invariant = { λ s. IsProgress s.capacity s.seen_len s.won s.prefix.row s.prefix.seen };
 }
 
 impl<T> Progress<T> {
@@ -45,8 +45,8 @@ impl<T> Progress<T> {
     {
         Progress {
             capacity: row.capacity(),
-            len: 0,
-            known: Known::nothing(row),
+            seen_len: 0,
+            prefix: KnownPrefix::nothing(row),
             won: 0,
             misses: 0,
         }
@@ -57,7 +57,7 @@ impl<T> Progress<T> {
         ensures value { result ≡ length self.now.seen }
         ensures within { length self.now.seen ≤ length self.now.row }
     {
-        self.len
+        self.seen_len
     }
 
     /// Whether an entry was seen in each cell of the row.
@@ -66,7 +66,7 @@ impl<T> Progress<T> {
             (length self.now.seen ≡ length self.now.row)
             (length self.now.seen < length self.now.row) }
     {
-        self.len == self.capacity
+        self.seen_len == self.capacity
     }
 
     /// The entry at place `k`, counted from 0, of those that were seen.
@@ -75,10 +75,10 @@ impl<T> Progress<T> {
         requires seen { k < length self.now.seen }
         ensures { slice_get self.now.seen k ≡ Some result.now }
     {
-        let known = &self.known;
+        let prefix = &self.prefix;
         let cell = row.cell(k as usize);
         let mut note = cell.note();
-        known.tell(k as usize, &mut note);
+        prefix.tell(k as usize, &mut note);
         match cell.get_as(&mut note) {
             Some(entry) => entry,
             None => unreachable!(),
@@ -100,15 +100,15 @@ impl<T> Progress<T> {
         self.misses
     }
 
-    // Takes in what the note knows of the first cell that was not seen yet.
+    // Takes in the entry of the first unseen cell, which the note knows.
     fn see(&mut self, note: &mut Note<T>)
         requires cell { slice_get self.old.row (length self.old.seen) ≡ Some note.old.cell }
         requires known { IsSome note.old.known }
         ensures { IfSome note.old.known (λ entry.
             self.new ≡ record self.old { seen = self.old.seen ++ entry ∷ [] }) }
     {
-        self.known.add(note);
-        self.len += 1;
+        self.prefix.add(note);
+        self.seen_len += 1;
     }
 
     /// Looks once at the first cell that was not seen.
@@ -129,7 +129,7 @@ impl<T> Progress<T> {
         if self.is_full() {
             return None;
         }
-        let cell = row.cell(self.len as usize);
+        let cell = row.cell(self.seen_len as usize);
         let mut note = cell.note();
         match cell.get_as(&mut note) {
             Some(entry) => {
@@ -148,8 +148,8 @@ impl<T> Progress<T> {
         ensures { result ≡ record { row = self.now.row; seen = self.now.seen } }
     {
         Mark {
-            len: self.len,
-            known: self.known.copy(),
+            len: self.seen_len,
+            prefix: self.prefix.copy(),
         }
     }
 
@@ -167,8 +167,8 @@ impl<T> Progress<T> {
 
     /// Takes in what a mark of the same row holds, without a look at the row.
     ///
-    /// Afterwards what was seen begins with what the mark holds and with what was seen before, and is
-    /// as long as the longer of the two. Wins and misses stay as they are.
+    /// The mark's entries and those that were seen before are prefixes of one list; the longer of the two is
+    /// what was seen afterwards. Wins and misses stay as they are.
     pub fn learn(&mut self, mark: &Mark<T>)
         requires { mark.now.row ≡ self.old.row }
         ensures kept { self.new ≡ record self.old { seen = self.new.seen } }
@@ -176,10 +176,10 @@ impl<T> Progress<T> {
         ensures theirs { IsPrefix mark.now.seen self.new.seen }
         ensures longest { length self.new.seen ≡ max (length self.old.seen) (length mark.now.seen) }
     {
-        self.known.agrees(&mark.known);
-        if self.len < mark.len {
-            self.len = mark.len;
-            self.known = mark.known.copy();
+        self.prefix.agrees(&mark.prefix);
+        if self.seen_len < mark.len {
+            self.seen_len = mark.len;
+            self.prefix = mark.prefix.copy();
         }
     }
 }
@@ -189,8 +189,8 @@ impl<T: Drop> Progress<T> {
     ///
     /// Either way one entry more was then seen, the one that stands in the cell: on `Won` the passed
     /// one, and `won` grows by one; on `Lost` the returned one, and `value` is dropped. Contracts
-    /// speak of the cells that were seen alone: that a value which lost is put into no other cell is
-    /// shown by tests. `try_offer` gives a value that lost back.
+    /// speak of the seen cells alone; tests show that a lost value is put into no other cell. `try_offer`
+    /// gives a lost value back.
     pub fn offer<'r>(&mut self, row: &'r Row<T>, value: Box<T>) -> Offer<'r, T>
         requires own { row.now ≡ self.old.row }
         requires room { length self.old.seen < length self.old.row }
@@ -200,7 +200,7 @@ impl<T: Drop> Progress<T> {
         ensures lost { IfLost result (λ entry.
             self.new ≡ record self.old { seen = self.old.seen ++ entry.now ∷ [] }) }
     {
-        let k = self.len;
+        let k = self.seen_len;
         match self.try_offer(row, value) {
             Ok(()) => Offer::Won,
             Err(_) => Offer::Lost(self.at(row, k)),
@@ -211,9 +211,8 @@ impl<T: Drop> Progress<T> {
     ///
     /// Either way one entry more was then seen, the one that stands in the cell. On `Ok` that is the
     /// passed one, and `won` grows by one. `Err` has the same box, which may be offered again, for the
-    /// next cell; the entry that stands is that of `at`, at the place that was the first unseen one.
-    /// Contracts speak of the cells that were seen alone: that a value which lost is put into no other
-    /// cell is shown by tests.
+    /// next cell; the entry that stands is the last of those that were seen.
+    /// Contracts speak of the seen cells alone; tests show that a lost value is put into no other cell.
     pub fn try_offer(&mut self, row: &Row<T>, value: Box<T>) -> Result<(), Box<T>>
         requires own { row.now ≡ self.old.row }
         requires room { length self.old.seen < length self.old.row }
@@ -224,7 +223,7 @@ impl<T: Drop> Progress<T> {
             (self.new ≡ record self.old { seen = self.old.seen ++ entry ∷ [] })) }
         ensures back { IfErr result (λ back. back.value ≡ value.value) }
     {
-        let cell = row.cell(self.len as usize);
+        let cell = row.cell(self.seen_len as usize);
         let mut note = cell.note();
         let offer = cell.set_as(value, &mut note);
         self.see(&mut note);

@@ -36,7 +36,7 @@ impl From<AllocError> for RowError {
 /// Multiprocessor Programming"): threads that look at it and offer to it agree on one list of
 /// entries. The number of cells is fixed (this project's profile). An entry stands for as long as
 /// the row, and is dropped with it. Contracts see a row as the names of its cells, which tell it
-/// from other rows; what stands in the cells is told by the seats alone.
+/// from other rows; only seats tell what stands in the cells.
 #[derive(Drop)]
 pub struct Row<T> {
     cells: Vec<OnceBox<T>>,

@@ -18,12 +18,11 @@ pub enum Offer<'r, T> {
     Lost(&'r T),
 }
 
-/// One thread's place at a row: it follows the row from its first cell, and has seen a prefix of its entries.
+/// One thread's seat at a row: it follows the row from its first cell, and has seen a prefix of its entries.
 ///
-/// It is the thread's view of the list that the threads agree on in a universal construction
-/// (Herlihy and Shavit): a borrow of the row beside a `Progress`, which has the work. Contracts see it
-/// as the row that it sits at, the list of entries that it has seen, how many of its offers won, and
-/// how many of its looks found an empty cell. A seat is `Send` where `T` is `Send` and `Sync`. No
+/// It is the thread's view of the agreed list of a universal construction (Herlihy and Shavit): a borrow
+/// of the row beside a `Progress`, which does the work. Contracts see it as its row, the list of entries
+/// that it has seen, how many of its offers won, and how many of its looks found an empty cell. A seat is `Send` where `T` is `Send` and `Sync`. No
 /// call waits, takes a lock or asks for memory.
 #[derive(Drop)]
 pub struct Seat<'r, T> {
@@ -123,8 +122,8 @@ impl<'r, T> Seat<'r, T> {
 
     /// Takes in what a mark of the same row holds, without a look at the row.
     ///
-    /// Afterwards what is seen begins with what the mark holds and with what was seen before, and is
-    /// as long as the longer of the two. Wins and misses stay as they are.
+    /// The mark's entries and those that the seat had seen are prefixes of one list; afterwards the seat has
+    /// seen the longer of the two. Wins and misses stay as they are.
     pub fn learn(&mut self, mark: &Mark<T>)
         requires { mark.now.row ≡ self.old.row }
         ensures kept { self.new ≡ record self.old { seen = self.new.seen } }
@@ -143,9 +142,8 @@ impl<'r, T> Seat<'r, T> {
 
     /// Takes in what each of the seats of the same row has seen, by their marks.
     ///
-    /// This is the law of a row: what its seats have seen are prefixes of one list. That list is
-    /// what this seat has seen afterwards, and is the list of the one of them that had seen most.
-    /// Wins and misses stay as they are.
+    /// This is the law of a row: its seats have seen prefixes of one list. Afterwards this seat has seen the
+    /// longest of them. Wins and misses stay as they are.
     pub fn learn_all(&mut self, seats: &[Seat<'_, T>])
         requires { All (λ seat. seat.row ≡ self.old.row) seats.now }
         ensures kept { self.new ≡ record self.old { seen = self.new.seen } }
@@ -164,8 +162,7 @@ impl<'r, T: Drop> Seat<'r, T> {
     ///
     /// Either way the seat has then seen one entry more, the one that stands in the cell: on `Won`
     /// the passed one, and `won` grows by one; on `Lost` the returned one, and `value` is dropped.
-    /// Contracts speak of the cells that were seen alone: that a value which lost is put into no
-    /// other cell is shown by tests.
+    /// Contracts speak of the seen cells alone; tests show that a lost value is put into no other cell.
     pub fn offer(&mut self, value: Box<T>) -> Offer<'r, T>
         requires { length self.old.seen < length self.old.row }
         ensures row { self.new.row ≡ self.old.row }

@@ -5,7 +5,7 @@ use Rattle.std.proofs.MapsCrossing.{BTreeMap-send, BTreeMap-sync}
 use Rattle.asm_element.proofs.Crossing.{location_is_sent, location_is_shared, value_is_sent, value_is_shared}
 use Rattle.asm_update.proofs.Crossing as plain
 use Rattle.asm_state.specs.contracts.named.Named as Named
-use Rattle.asm_state.specs.contracts.entries.Written as Written
+use Rattle.asm_state.specs.contracts.entries.WrittenValue as WrittenValue
 use Rattle.asm_state.specs.contracts.entries.Entries as Entries
 use Rattle.asm_state.specs.contracts.entries.Entries.TheInside as InsideEntries
 use Rattle.asm_state.specs.contracts.state.State as State
@@ -17,10 +17,10 @@ named_is_sent = search (sendable, location_is_sent) depth 20
 pub named_is_shared : IsSync Named.the_row
 named_is_shared = search (sendable, location_is_shared) depth 20
 
-written_is_sent : IsSend Written.the_row
+written_is_sent : IsSend WrittenValue.the_row
 written_is_sent = search (sendable, value_is_sent) depth 20
 
-written_is_shared : IsSync Written.the_row
+written_is_shared : IsSync WrittenValue.the_row
 written_is_shared = search (sendable, value_is_shared) depth 20
 
 inside_entries_is_sent : IsSend InsideEntries.the_row

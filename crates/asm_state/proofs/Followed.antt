@@ -8,17 +8,17 @@ use Rattle.asm_update.specs.State.{State, Updates, val, overwrite}
 use Rattle.asm_update.specs.Fire.{Part, Old, aggregated, overwritten, fire, state_or, state_of, IsUpdateSet, IsLeastClash}
 use Rattle.asm_update.specs.declared.clash.Clash.{Clash}
 use Rattle.asm_update.proofs.FireLemmas.{aggregated-update_set, aggregated-clash, val-overwrite, stored_reads, has_updated}
-use Rattle.asm_state.specs.declared.entries.Written.{Written}
+use Rattle.asm_state.specs.declared.entries.WrittenValue.{WrittenValue}
 use Rattle.asm_state.specs.View.{StateView, value_over, writer_of, value_at, writer_at}
 use Rattle.asm_state.specs.Stands.{Stands, overwrites, writer}
 use Rattle.asm_state.specs.Follow.{entry_after, IsFollowed}
 use Rattle.asm_state.proofs.Writers.{state_of-push, writer_from-push}
 
-value_after : (n : ℕ) (v : Value) (u : Option Value) (x : Option Written) → value_over v (entry_after n u x) ≡ unwrap_or u (value_over v x)
+value_after : (n : ℕ) (v : Value) (u : Option Value) (x : Option WrittenValue) → value_over v (entry_after n u x) ≡ unwrap_or u (value_over v x)
 value_after n v (Some w) x = stored_reads w
 value_after n v None x = refl
 
-writer_after : (n : ℕ) (u : Option Value) (x : Option Written) → writer_of (entry_after n u x) ≡ cond (is_some u) n (writer_of x)
+writer_after : (n : ℕ) (u : Option Value) (x : Option WrittenValue) → writer_of (entry_after n u x) ≡ cond (is_some u) n (writer_of x)
 writer_after n (Some v) x = refl
 writer_after n None x = refl
 
@@ -70,10 +70,10 @@ module _ (part : Part) (init : State) (q : List Move) (old new : StateView) (M :
         number = number_more;
         values = λ l.
             ap (λ (B : State). value_over (val B l) (map.get new.entries l)) followed.base
-            ∙ ap (λ (m : map.FinMap _ Written). value_over (val old.base l) (map.get m l)) entries ∙ stands.values l
+            ∙ ap (λ (m : map.FinMap _ WrittenValue). value_over (val old.base l) (map.get m l)) entries ∙ stands.values l
             ∙ ap (λ r. val (state_or (state_of part init q) r) l) (sym clashed) ∙ ap (λ (B : State). val B l) (sym (state_of-push part init q M));
         writers = λ l.
-            ap (λ (m : map.FinMap _ Written). writer_of (map.get m l)) entries ∙ stands.writers l
+            ap (λ (m : map.FinMap _ WrittenValue). writer_of (map.get m l)) entries ∙ stands.writers l
             ∙ ap (λ (r : Result State Clash). cond (is_ok r && writes M l) (old.number + 1) (writer part init q l)) (sym clashed)
             ∙ sym (writer_more l);
       }

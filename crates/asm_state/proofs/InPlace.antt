@@ -11,7 +11,7 @@ use Rattle.asm_element.specs.Place.{Place, location_cmp, location_cmp_total, sam
 use Rattle.asm_element.specs.Tests.{both, itself}
 use Rattle.asm_element.specs.declared.value.Value.{Value}
 use Rattle.asm_update.specs.Action.{is_partial, regular_value}
-use Rattle.asm_update.specs.Fire.{Part, Old, res, group_result, first, outcome_at, IsUpdateSet, IsLeastClash}
+use Rattle.asm_update.specs.Fire.{Part, Old, res, group_result, first, result_at, IsUpdateSet, IsLeastClash}
 use Rattle.asm_update.specs.Group.{ArePartials}
 use Rattle.asm_update.specs.Move.{Move, actions_at, are_different, writes}
 use Rattle.asm_update.specs.State.{Updates}
@@ -20,7 +20,7 @@ use Rattle.asm_update.specs.declared.action.Instruction.{Instruction}
 use Rattle.asm_update.specs.declared.clash.Cause.{Cause}
 use Rattle.asm_update.specs.declared.clash.Cause.TheVariants.{Two}
 use Rattle.asm_update.proofs.ActionLemmas.{partial_none}
-use Rattle.asm_state.specs.Change.{changes_only, HasNoPlace}
+use Rattle.asm_state.specs.Change.{changes_only, IsNotOneChange}
 
 abbrev pub actions : Move → List Action
 actions M = map (λ i. i.action) M
@@ -69,7 +69,7 @@ pub are_partials : (l : Place) (M : Move) → M ≢ [] → changes_only l M ≡ 
 are_partials l M some only = record { some = some_left M some; partial = all_partial l M only }
 
 pub outcome_here : (part : Part) (old : Old) (l : Place) (M : Move) → changes_only l M ≡ true →
-    outcome_at part old M l ≡ part (old l) None (actions M)
+    result_at part old M l ≡ part (old l) None (actions M)
 outcome_here part old l M only =
     ap (res part (old l)) (all_here l M only)
     ∙ (λ i. cond (are_different (no_values (actions M) (all_partial l M only) i)) (Err Two)
@@ -90,9 +90,9 @@ written_alone l q (i ∷ M) only h =
       by_first false is at later = later (sym (ap (λ b. b || writes M q) is) ∙ h)
 
 -- where they aren't all partial updates of the first one's location, they are so of no location
-pub no_place : (i : Instruction) (M : Move) → slice_get M 0 ≡ Some i → changes_only i.at M ≡ false → HasNoPlace M
-no_place i [] at_first other = λ l some. absurd (some refl)
-no_place i (j ∷ M) at_first other = λ l some. by_test l (changes_only l (j ∷ M)) refl where
+pub not_one_change : (i : Instruction) (M : Move) → slice_get M 0 ≡ Some i → changes_only i.at M ≡ false → IsNotOneChange M
+not_one_change i [] at_first other = λ l some. absurd (some refl)
+not_one_change i (j ∷ M) at_first other = λ l some. by_test l (changes_only l (j ∷ M)) refl where
   is : j ≡ i
   is = let e : Some j ≡ Some i = at_first in cc
 
@@ -113,9 +113,9 @@ module _ (part : Part) (old : Old) (l : Place) (M : Move) (some : M ≢ []) (onl
   -- what the location's partial updates give is the update set
   pub updates_here : (v : Value) → part (old l) None (actions M) ≡ Ok v → IsUpdateSet part old M (alone l v)
   updates_here v gave = record {
-    written = λ q w. subst (λ (k : Place). IsSomeAnd (map.get (alone l v) k) (λ u. outcome_at part old M k ≡ Ok u))
+    written = λ q w. subst (λ (k : Place). IsSomeAnd (map.get (alone l v) k) (λ u. result_at part old M k ≡ Ok u))
         (sym (written_alone l q M only w))
-        (subst (λ (o : Option Value). IsSomeAnd o (λ u. outcome_at part old M l ≡ Ok u))
+        (subst (λ (o : Option Value). IsSomeAnd o (λ u. result_at part old M l ≡ Ok u))
         (sym (map.get-insert location_cmp_total nothing l v l ∙ ap (λ b. cond b (Some v) (map.get nothing l)) (itself location_cmp_total l)))
         (outcome_here part old l M only ∙ gave));
     others = λ q w. map.get-insert location_cmp_total nothing l v q

@@ -1,11 +1,11 @@
 pub mod Crossing
-pub mod Filled
+pub mod Insertions
 pub mod Followed
-mod Changed
+mod ChangedInPlace
 pub mod InPlace
 pub mod Judged
-pub mod Opened
+pub mod OpeningState
 pub mod Overwritten
-pub mod Stored
-pub mod Undone
+pub mod Settled
+pub mod TakenBack
 pub mod Writers

@@ -9,12 +9,12 @@ use Rattle.asm_update.specs.Move.{Move}
 use Rattle.asm_update.specs.State.{Updates}
 use Rattle.asm_update.specs.Fire.{Part, aggregated}
 use Rattle.asm_update.specs.declared.clash.Clash.{Clash}
-use Rattle.asm_state.specs.declared.entries.Written.{Written}
+use Rattle.asm_state.specs.declared.entries.WrittenValue.{WrittenValue}
 use Rattle.asm_state.specs.View.{StateView, value_at}
 
 -- the entry of a location to which the move with this number writes the value
-abbrev pub written_by : ℕ → Value → Written
-written_by n v = record { value = if is_undef v then None else Some v; number = n }
+abbrev pub written_by : ℕ → Value → WrittenValue
+written_by n v = record { value = if is_undef v then None else Some v; writer = n }
 
 -- the first, if there is one, else the second
 abbrev pub over : {X : Type 0} → Option X → Option X → Option X
@@ -22,7 +22,7 @@ over (Some w) x = Some w
 over None x = x
 
 -- the entry of a location after its update in the move with this number, or as it was
-abbrev pub entry_after : ℕ → Option Value → Option Written → Option Written
+abbrev pub entry_after : ℕ → Option Value → Option WrittenValue → Option WrittenValue
 entry_after n update old = over (option_map (written_by n) update) old
 
 -- the new state is the old one after the move: it has followed one more, and opened as it did; where the

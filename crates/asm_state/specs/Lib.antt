@@ -1,6 +1,6 @@
 pub mod Follow
 pub mod Named
-pub mod Noted
+pub mod Replaced
 pub mod Stands
 pub mod Verdict
 pub mod View

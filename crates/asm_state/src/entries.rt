@@ -1,15 +1,15 @@
-//! What a state keeps of its locations, and how the updates of a move come in.
+//! What a state keeps of the locations that moves wrote, and how the updates of a move come in.
 ghost use Rattle.std.specs.Prelude.{◌≡◌, IfOk, IfErr, OnOk, OnErr, Some, Err};
 ghost use Rattle.asm_update.specs.Aggregator.{IsOutcome};
 ghost use Rattle.asm_state.specs.Change.{IsChanged};
-ghost use Rattle.asm_state.specs.declared.entries.Written.{Written};
+ghost use Rattle.asm_state.specs.declared.entries.WrittenValue.{WrittenValue};
 ghost use Rattle.std.specs.Option.{option_copied};
 ghost use Rattle.std.specs.FinMap as map;
 ghost use Rattle.asm_element.specs.Place.{Place};
 ghost use Rattle.asm_update.specs.State.{val};
 ghost use Rattle.asm_state.specs.View.{value_of, value_over};
 ghost use Rattle.asm_state.specs.Follow.{written_by, entry_after};
-ghost use Rattle.asm_state.specs.Noted.{AreNoted};
+ghost use Rattle.asm_state.specs.Replaced.{AreReplaced};
 ghost use Rattle.asm_state.specs.View as view;
 
 use asm_element::{Location, Value};
@@ -20,37 +20,37 @@ use std::collections::btree_map::Iter;
 use std::marker::Model;
 use std::mem;
 
-/// What a location holds, and the number of the move that wrote it last.
+/// What a location holds, and its writer: the number of the move that wrote it last.
 #[derive(Debug, Drop)]
-pub(crate) struct Written {
+pub(crate) struct WrittenValue {
     /// None where it is undef, whatever the opening state has there.
     pub(crate) value: Option<Value>,
-    pub(crate) number: u32,
+    pub(crate) writer: u32,
 }
 
-impl Written {
+impl WrittenValue {
     /// What the move with this number leaves where it writes the value.
-    fn by(number: u32, value: Value) -> Written
-        ensures { result ≡ written_by number value }
+    fn by(writer: u32, value: Value) -> WrittenValue
+        ensures { result ≡ written_by writer value }
     {
         if value.is_undef() {
-            Written {
+            WrittenValue {
                 value: None,
-                number,
+                writer,
             }
         } else {
-            Written {
+            WrittenValue {
                 value: Some(value),
-                number,
+                writer,
             }
         }
     }
 
-    /// Notes the move that wrote it last, and keeps no undef as a value.
-    fn settle(&mut self, number: u32)
-        ensures { self.new ≡ written_by number (value_of (Some self.old)) }
+    /// Notes its writer, and keeps no undef as a value.
+    fn settle(&mut self, writer: u32)
+        ensures { self.new ≡ written_by writer (value_of (Some self.old)) }
     {
-        self.number = number;
+        self.writer = writer;
         let is_undef = match &self.value {
             Some(value) => value.is_undef(),
             None => true,
@@ -60,15 +60,16 @@ impl Written {
         }
     }
 
-    /// Changes it in place to what the group gives on it in the move with this number. After an error it is as it was.
+    /// Changes the value in place to the group's result on it, in the move with this number. After an error
+    /// nothing is changed.
     fn change<A: Aggregator>(
         &mut self,
         alloc: Global,
         aggregator: &A,
-        number: u32,
+        writer: u32,
         group: &Group,
     ) -> Result<(), ResultError>
-        ensures ok { OnOk result (IsChanged (A.meaning aggregator.now).part (value_of (Some self.old)) group.now number self.new) }
+        ensures ok { OnOk result (IsChanged (A.meaning aggregator.now).part (value_of (Some self.old)) group.now writer self.new) }
         ensures cause { IfErr result (λ e. IsOutcome (Err e)
             ((A.meaning aggregator.now).part (value_of (Some self.old)) group.now.regular group.now.partials)) }
         ensures err { OnErr result (self.new ≡ self.old) }
@@ -77,20 +78,20 @@ impl Written {
             Some(value) => aggregator.change(alloc, value, group)?,
             None => self.value = Some(aggregator.result(alloc, None, group)?),
         }
-        self.settle(number);
+        self.settle(writer);
         Ok(())
     }
 
-    fn copy(&self, alloc: Global) -> Result<Written, AllocError>
+    fn copy(&self, alloc: Global) -> Result<WrittenValue, AllocError>
         ensures { IfOk result (λ copy. copy ≡ self.now) }
     {
         let value = match &self.value {
             Some(value) => Some(value.copy(alloc)?),
             None => None,
         };
-        Ok(Written {
+        Ok(WrittenValue {
             value,
-            number: self.number,
+            writer: self.writer,
         })
     }
 }
@@ -98,7 +99,7 @@ impl Written {
 /// Entries of locations, which contracts see as a finite map.
 #[derive(Debug, Drop)]
 pub(crate) struct Entries {
-    tree: BTreeMap<Location, Written>,
+    tree: BTreeMap<Location, WrittenValue>,
 }
 
 impl Model for Entries {
@@ -107,10 +108,10 @@ impl Model for Entries {
     ghost use Rattle.std.specs.Map.{keys_of};
     ghost use Rattle.asm_element.specs.Place.{location_cmp};
     ghost use Rattle.asm_element.specs.contracts.location.Location.{the_row as location_row};
-    ghost use Rattle.asm_state.specs.declared.entries.Written.{Written};
-    ghost use Rattle.asm_state.specs.contracts.entries.Written.{the_row as written_row};
+    ghost use Rattle.asm_state.specs.declared.entries.WrittenValue.{WrittenValue};
+    ghost use Rattle.asm_state.specs.contracts.entries.WrittenValue.{the_row as written_row};
 
-    ghost Value = { map.FinMap location_cmp Written };
+    ghost Value = { map.FinMap location_cmp WrittenValue };
 
     ghost coded = { map.code location_row.coded written_row.coded };
 
@@ -128,20 +129,20 @@ impl Entries {
         }
     }
 
-    pub(crate) fn get(&self, at: &Location) -> Option<&Written>
+    pub(crate) fn get(&self, at: &Location) -> Option<&WrittenValue>
         ensures { option_copied result ≡ map.get self.now at.now }
     {
         self.tree.get(at)
     }
 
-    fn iter(&self) -> Iter<'_, Location, Written>
+    fn iter(&self) -> Iter<'_, Location, WrittenValue>
         ensures { result ≡ map.entries self.now }
     {
         self.tree.iter()
     }
 
     /// Writes an entry, and drops the one that it replaces; only a new one takes memory.
-    pub(crate) fn put(&mut self, at: Location, written: Written) -> Result<(), AllocError>
+    pub(crate) fn put(&mut self, at: Location, written: WrittenValue) -> Result<(), AllocError>
         ensures ok { OnOk result (self.new ≡ map.insert self.old at written) }
         ensures absent { OnErr result (map.get self.old at ≡ None) }
         ensures err { OnErr result (self.new ≡ self.old) }
@@ -167,55 +168,59 @@ impl Entries {
         Ok(copy)
     }
 
-    /// Makes the entry of a location that has none, by what the group gives on its opening value.
+    /// Makes the entry of a location that has none: the group's result on its opening value.
     fn open_at<A: Aggregator>(
         &mut self,
         alloc: Global,
         aggregator: &A,
         base: &PlainState,
         at: &Location,
-        number: u32,
+        writer: u32,
         group: &Group,
     ) -> Result<(), ResultError>
-        ensures ok { OnOk result ((w : Written) × (self.new ≡ map.insert self.old at.now w)
-            × IsChanged (A.meaning aggregator.now).part (val base.now at.now) group.now number w) }
+        ensures ok { OnOk result ((w : WrittenValue) × (self.new ≡ map.insert self.old at.now w)
+            × IsChanged (A.meaning aggregator.now).part (val base.now at.now) group.now writer w) }
         ensures cause { IfErr result (λ e. IsOutcome (Err e)
             ((A.meaning aggregator.now).part (val base.now at.now) group.now.regular group.now.partials)) }
         ensures err { OnErr result (self.new ≡ self.old) }
     {
         let value = aggregator.result(alloc, base.get(at), group)?;
-        self.put(at.copy(alloc)?, Written::by(number, value))?;
+        self.put(at.copy(alloc)?, WrittenValue::by(writer, value))?;
         Ok(())
     }
 
-    /// Gives the location what the group gives on its value: an entry is changed in place, and where there is
-    /// none the location has its opening value. After an error nothing is changed.
+    /// Gives the location the group's result on its value. An entry is changed in place; a location that has
+    /// none has its opening value. After an error nothing is changed.
     pub(crate) fn change_at<A: Aggregator>(
         &mut self,
         alloc: Global,
         aggregator: &A,
         base: &PlainState,
         at: &Location,
-        number: u32,
+        writer: u32,
         group: &Group,
     ) -> Result<(), ResultError>
-        ensures ok { OnOk result ((w : Written) × (self.new ≡ map.insert self.old at.now w)
+        ensures ok { OnOk result ((w : WrittenValue) × (self.new ≡ map.insert self.old at.now w)
             × IsChanged (A.meaning aggregator.now).part (value_over (val base.now at.now) (map.get self.old at.now))
-            group.now number w) }
+            group.now writer w) }
         ensures cause { IfErr result (λ e. IsOutcome (Err e)
             ((A.meaning aggregator.now).part (value_over (val base.now at.now) (map.get self.old at.now))
             group.now.regular group.now.partials)) }
         ensures err { OnErr result (self.new ≡ self.old) }
     {
         match self.tree.get_mut(at) {
-            Some(written) => written.change(alloc, aggregator, number, group),
-            None => self.open_at(alloc, aggregator, base, at, number, group),
+            Some(written) => written.change(alloc, aggregator, writer, group),
+            None => self.open_at(alloc, aggregator, base, at, writer, group),
         }
     }
 
-    /// Puts this entry in the place of the one at the location, and hands that one back; where there is none,
-    /// hands back this one.
-    fn exchange(&mut self, at: &Location, written: Written) -> Result<Written, Written>
+    /// Replaces the entry of the location by this one and hands the old one back; where there is none, hands
+    /// this one back.
+    fn exchange(
+        &mut self,
+        at: &Location,
+        written: WrittenValue,
+    ) -> Result<WrittenValue, WrittenValue>
         ensures there { IfOk result (λ old. map.get self.old at.now ≡ Some old) }
         ensures ok { OnOk result (self.new ≡ map.insert self.old at.now written) }
         ensures absent { OnErr result (map.get self.old at.now ≡ None) }
@@ -233,8 +238,8 @@ impl Entries {
         &mut self,
         alloc: Global,
         at: &Location,
-        written: Written,
-    ) -> Result<Option<Written>, AllocError>
+        written: WrittenValue,
+    ) -> Result<Option<WrittenValue>, AllocError>
         ensures before { IfOk result (λ before. before ≡ map.get self.old at.now) }
         ensures ok { OnOk result (self.new ≡ map.insert self.old at.now written) }
         ensures err { OnErr result (self.new ≡ self.old) }
@@ -249,8 +254,8 @@ impl Entries {
     }
 
     /// Takes the last write of a location back, which takes no memory.
-    fn take_back(&mut self, at: &Location, before: Option<Written>)
-        ensures { (old : view.Entries) (w : Written) → before ≡ map.get old at.now →
+    fn take_back(&mut self, at: &Location, before: Option<WrittenValue>)
+        ensures { (old : view.Entries) (w : WrittenValue) → before ≡ map.get old at.now →
             self.old ≡ map.insert old at.now w → self.new ≡ old }
     {
         match before {
@@ -261,11 +266,11 @@ impl Entries {
         }
     }
 
-    /// Takes writes back, the last one first.
-    fn take_all_back(&mut self, mut noted: Vec<(Location, Option<Written>)>)
-        ensures { (old : view.Entries) → AreNoted noted.items old self.old → self.new ≡ old }
+    /// Takes writes back by what they replaced, the last one first.
+    fn take_all_back(&mut self, mut replaced: Vec<(Location, Option<WrittenValue>)>)
+        ensures { (old : view.Entries) → AreReplaced replaced.items old self.old → self.new ≡ old }
     {
-        while let Some((at, before)) = noted.pop() {
+        while let Some((at, before)) = replaced.pop() {
             self.take_back(&at, before);
         }
     }
@@ -274,19 +279,19 @@ impl Entries {
     fn write_each(
         &mut self,
         alloc: Global,
-        number: u32,
+        writer: u32,
         updates: UpdateSet,
     ) -> Result<(), AllocError>
         ensures ok { OnOk result ((q : Place) →
-            map.get self.new q ≡ entry_after number (map.get updates q) (map.get self.old q)) }
+            map.get self.new q ≡ entry_after writer (map.get updates q) (map.get self.old q)) }
         ensures err { OnErr result (self.new ≡ self.old) }
     {
-        let mut noted = Vec::with_capacity(alloc, updates.len())?;
+        let mut replaced = Vec::with_capacity(alloc, updates.len())?;
         for (at, value) in updates {
-            match self.write_at(alloc, &at, Written::by(number, value)) {
-                Ok(before) => noted.push_reserved((at, before)),
+            match self.write_at(alloc, &at, WrittenValue::by(writer, value)) {
+                Ok(before) => replaced.push_reserved((at, before)),
                 Err(error) => {
-                    self.take_all_back(noted);
+                    self.take_all_back(replaced);
                     return Err(error);
                 }
             }
@@ -298,19 +303,19 @@ impl Entries {
     pub(crate) fn write(
         &mut self,
         alloc: Global,
-        number: u32,
+        writer: u32,
         updates: UpdateSet,
     ) -> Result<(), AllocError>
         ensures ok { OnOk result ((q : Place) →
-            map.get self.new q ≡ entry_after number (map.get updates q) (map.get self.old q)) }
+            map.get self.new q ≡ entry_after writer (map.get updates q) (map.get self.old q)) }
         ensures err { OnErr result (self.new ≡ self.old) }
     {
         if updates.len() > 1 {
-            return self.write_each(alloc, number, updates);
+            return self.write_each(alloc, writer, updates);
         }
-        // An insert works or changes nothing, so one update needs no note.
+        // An insert works or changes nothing, so what one update replaces needn't be kept.
         match updates.into_iter().next() {
-            Some((at, value)) => self.put(at, Written::by(number, value)),
+            Some((at, value)) => self.put(at, WrittenValue::by(writer, value)),
             None => Ok(()),
         }
     }

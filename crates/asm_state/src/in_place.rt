@@ -3,7 +3,7 @@ ghost use Rattle.std.specs.Prelude.{◌≡◌, ◌≢◌, ◌&&◌, [], None, tr
 ghost use Rattle.std.specs.Ordering.{eq_by_cmp};
 ghost use Rattle.asm_element.specs.Place.{location_cmp};
 ghost use Rattle.asm_update.specs.Action.{is_partial};
-ghost use Rattle.asm_state.specs.Change.{changes_only, HasNoPlace, IsOneChange};
+ghost use Rattle.asm_state.specs.Change.{changes_only, IsNotOneChange, IsOneChange};
 
 use asm_element::Location;
 use asm_update::{Group, Instruction, Instructions};
@@ -23,11 +23,11 @@ fn are_changes_at(at: &Location, instructions: &[Instruction]) -> bool
         .all(|instruction| is_change_at(at, instruction))
 }
 
-/// The location at which all instructions are, if they are partial updates and there is one.
-fn only_place(instructions: &[Instruction]) -> Option<&Location>
+/// The one location of all instructions, if they are all partial updates and there is at least one.
+fn only_location(instructions: &[Instruction]) -> Option<&Location>
     ensures some { IfSome result (λ l. instructions.now ≢ []) }
     ensures only { IfSome result (λ l. changes_only l.now instructions.now ≡ true) }
-    ensures none { IsNone result → HasNoPlace instructions.now }
+    ensures none { IsNone result → IsNotOneChange instructions.now }
 {
     let first = instructions.first()?;
     let at = &first.at;
@@ -62,9 +62,9 @@ pub fn one_change(
     instructions: &Instructions,
 ) -> Result<Option<(&Location, Group)>, AllocError>
     ensures some { IfOk result (λ change. IfSome change (λ c. IsOneChange instructions.now c.0.now c.1)) }
-    ensures none { IfOk result (λ change. IsNone change → HasNoPlace instructions.now) }
+    ensures none { IfOk result (λ change. IsNone change → IsNotOneChange instructions.now) }
 {
-    match only_place(instructions.as_slice()) {
+    match only_location(instructions.as_slice()) {
         Some(at) => Ok(Some((at, group_of(alloc, at, instructions.as_slice())?))),
         None => Ok(None),
     }

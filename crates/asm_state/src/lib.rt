@@ -11,10 +11,3 @@ pub use in_place::one_change;
 pub use named::Named;
 pub use state::State;
 pub use verdict::{Objection, Verdict};
-
-#[cfg(test)]
-mod in_place_tests;
-#[cfg(test)]
-mod opening_tests;
-#[cfg(test)]
-mod tests;

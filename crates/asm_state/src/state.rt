@@ -5,7 +5,7 @@ ghost use Rattle.std.specs.FinMap as map;
 ghost use Rattle.std.specs.Option.{option_copied};
 ghost use Rattle.asm_element.specs.Place.{Place};
 ghost use Rattle.asm_update.specs.Fire.{Part};
-ghost use Rattle.asm_update.specs.Move.{Move, comes_before};
+ghost use Rattle.asm_update.specs.Move.{Move};
 ghost use Rattle.asm_update.specs.State as plain;
 ghost use Rattle.asm_state.specs.Change.{IsOneChange};
 ghost use Rattle.asm_state.specs.View.{value_at, writer_at, holds_undef};
@@ -13,7 +13,7 @@ ghost use Rattle.asm_state.specs.Follow.{entry_after, IsFollowed};
 ghost use Rattle.asm_state.specs.Stands.{Stands, IsLastWriter};
 ghost use Rattle.asm_state.specs.Verdict.{IsObjection, IsVerdict, least_named};
 
-use crate::entries::{Entries, Written};
+use crate::entries::{Entries, WrittenValue};
 use crate::in_place::one_change;
 use crate::named::Named;
 use crate::verdict::{Objection, Verdict};
@@ -26,8 +26,8 @@ use std::alloc::{AllocError, Global};
 use std::marker::Model;
 use std::sync::Arc;
 
-/// A state that follows a list of moves: its number, which is how many they are, the values of its
-/// locations, and for each location the number of the move that wrote it last.
+/// A state that follows moves. It has a number, which counts the moves that it has followed, a value for
+/// each location, and for each location the number of the move that wrote it last.
 ///
 /// A location that was written undef keeps the number of its writer. The first move has the number 1.
 /// Source: a state after the moves of a run, by Börger and Stärk; the numbers of the writers are of
@@ -45,8 +45,8 @@ impl Model for State {
     ghost use Rattle.std.specs.Arc.{arc_value};
     ghost use Rattle.asm_element.specs.contracts.location.Location.{the_row as location_row};
     ghost use Rattle.asm_update.specs.contracts.plain_state.PlainState.{the_row as base_row};
-    ghost use Rattle.asm_state.specs.contracts.entries.Written.{the_row as written_row};
-    ghost use Rattle.asm_state.specs.View.{StateView, view_code, IsStored};
+    ghost use Rattle.asm_state.specs.contracts.entries.WrittenValue.{the_row as written_row};
+    ghost use Rattle.asm_state.specs.View.{StateView, view_code, AreSettled};
 
     ghost Value = { StateView };
 
@@ -54,7 +54,7 @@ impl Model for State {
 
     ghost view = { λ s. record { number = s.number; base = arc_value s.base; entries = s.entries } };
 
-    ghost invariant = { λ s. IsStored s.entries };
+    ghost invariant = { λ s. AreSettled s.entries };
 }
 
 impl Lookup for State {
@@ -65,16 +65,6 @@ impl Lookup for State {
             Some(written) => written.value.as_ref(),
             None => self.base.get(at),
         }
-    }
-}
-
-// Whether the location is below the other one, or there is no other one.
-fn comes_before(at: &Location, other: Option<&Location>) -> bool
-    ensures { result ≡ comes_before at.now other.entry }
-{
-    match other {
-        None => true,
-        Some(other) => at < other,
     }
 }
 
@@ -102,14 +92,14 @@ impl State {
         }
     }
 
-    /// How many moves it has followed, those that clashed among them.
+    /// How many moves it has followed, those that clashed included.
     pub fn number(&self) -> u32
         ensures { result ≡ self.now.number }
     {
         self.number
     }
 
-    fn entry(&self, at: &Location) -> Option<&Written>
+    fn entry(&self, at: &Location) -> Option<&WrittenValue>
         ensures value { option_copied result ≡ map.get self.now.entries at.now }
         ensures held { IfSome result (λ w. holds_undef w.now ≡ false) }
     {
@@ -126,12 +116,12 @@ impl State {
             IsLastWriter part init q at.now result }
     {
         match self.entry(at) {
-            Some(written) => written.number,
+            Some(written) => written.writer,
             None => 0,
         }
     }
 
-    // Whether a move above its number wrote the location.
+    // Whether a move after the read wrote the location.
     fn is_written_since(&self, named: &Named) -> bool
         ensures { result ≡ nat_lt named.now.number (writer_at self.now named.now.at) }
     {
@@ -144,7 +134,7 @@ impl State {
     {
         let mut best: Option<&'a Location> = None;
         for named in reads {
-            if self.is_written_since(named) && comes_before(&named.at, best) {
+            if self.is_written_since(named) && named.at.comes_before(best) {
                 best = Some(&named.at);
             }
         }

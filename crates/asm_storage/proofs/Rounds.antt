@@ -12,11 +12,11 @@ use Rattle.asm_storage.specs.declared.history.Event.{Event}
 use Rattle.asm_storage.specs.declared.receipt.Entry.{Entry}
 use Rattle.asm_update.specs.Move.{Move}
 use Rattle.asm_storage.specs.Machine.{Machine, reply_to}
-use Rattle.asm_storage.specs.History.{fired_move, moves, move_of}
+use Rattle.asm_storage.specs.History.{fired_move, fired_moves, move_of}
 use Rattle.asm_storage.specs.Agents.{AgentView, ids, moves_seen, is_fired, next_after, StandInOrder, StandsInRow, IsAgent, event_of, is_quiet_at, is_move_at, quiet_at, fired_at, round, rounds, has_receipt, IsGathered}
 use Rattle.asm_storage.proofs.Lists.{Each-map_filter, Each-flat_map, Each-weaker, slice_get-prefix, slice_get-map, take-slice_get}
-use Rattle.asm_storage.proofs.Kept.{stood_le, next_fired, stood_within, take-moves_seen}
-use Rattle.asm_storage.proofs.Legal.{IsLegalFrom, legal-append, legal_quiet, moves-append}
+use Rattle.asm_storage.proofs.AgentKept.{stood_le, next_fired, stood_within, take-moves_seen}
+use Rattle.asm_storage.proofs.Legal.{IsLegalFrom, legal-append, legal_quiet, fired_moves-append}
 
 -- a receipt, told of the whole row
 record IsPlaced (m : Machine) (all : List Entry) (a : AgentView) (r : Receipt) : Type 0 where
@@ -183,9 +183,9 @@ quiet_all m all n agents seen =
 -- what a part of a round does after the first n moves
 pub record IsPart (m : Machine) (all : List Entry) (before after : List Move) (h : List Event) : Type 0 where
   pub legal : IsLegalFrom m before h
-  pub leaves : before ++ moves h ≡ after
+  pub leaves : before ++ fired_moves h ≡ after
 
-no_moves : (m : Machine) (all : List Entry) (n : ℕ) (h : List Event) → AllByRecursion (λ e. IsAt m all n e × (move_of e ≡ None)) h → moves h ≡ []
+no_moves : (m : Machine) (all : List Entry) (n : ℕ) (h : List Event) → AllByRecursion (λ e. IsAt m all n e × (move_of e ≡ None)) h → fired_moves h ≡ []
 no_moves m all n [] each = refl
 no_moves m all n (e ∷ h) each = rw each.0.1 (no_moves m all n h each.1)
 
@@ -207,7 +207,7 @@ fired_part m all n [] one each = absurd cc
 fired_part m all n (e ∷ f ∷ h) one each = absurd (omega arith)
 fired_part m all n (e ∷ []) one each =
     let entry = fired_entry m all n e each.0.0 each.0.1 in
-    let mine : moves (e ∷ []) ≡ entry.0.instrs ∷ [] = rw entry.3 refl in
+    let mine : fired_moves (e ∷ []) ≡ entry.0.instrs ∷ [] = rw entry.3 refl in
     record {
       legal = (each.0.0.replied, tt);
       leaves = ap (λ r. take n (moves_seen all) ++ r) mine ∙ sym (take-slice_get (moves_seen all) n entry.0.instrs (slice_get-map (λ x. x.instrs) all n entry.0 entry.1));
@@ -216,7 +216,7 @@ fired_part m all n (e ∷ []) one each =
 part-append : (m : Machine) (all : List Entry) (q r s : List Move) (g h : List Event) → IsPart m all q r g → IsPart m all r s h → IsPart m all q s (g ++ h)
 part-append m all q r s g h first second = record {
   legal = legal-append m q g h first.legal (subst (λ w. IsLegalFrom m w h) (sym first.leaves) second.legal);
-  leaves = ap (λ w. q ++ w) (moves-append g h) ∙ sym (append_assoc q (moves g) (moves h)) ∙ ap (λ w. w ++ moves h) first.leaves ∙ second.leaves;
+  leaves = ap (λ w. q ++ w) (fired_moves-append g h) ∙ sym (append_assoc q (fired_moves g) (fired_moves h)) ∙ ap (λ w. w ++ fired_moves h) first.leaves ∙ second.leaves;
 }
 
 get_at : (all : List Entry) (n : ℕ) → n < length all → (x : Entry) × (slice_get all n ≡ Some x)

@@ -23,9 +23,9 @@ use Rattle.asm_state.specs.Stands.{after_move, overwrites, is_stale}
 use Rattle.asm_state.specs.Verdict.{lesser, least, least_stale}
 use Rattle.asm_state.proofs.Writers.{state_of-push}
 use Rattle.asm_storage.specs.Machine.{Machine, machine_state, taken_reply, firing_reply, fire_reply, reply_to}
-use Rattle.asm_storage.specs.History.{fired_move, moves, move_of, IsRun, steps_from, step_and, IsCoherentAt, IsCoherent, fired_number, numbers, count_up}
+use Rattle.asm_storage.specs.History.{fired_move, fired_moves, move_of, IsRun, steps_from, step_and, IsCoherentAt, IsCoherent, fired_number, numbers, count_up}
 use Rattle.asm_storage.proofs.Lists.{Each-weaker}
-use Rattle.asm_storage.proofs.Legal.{IsLegalFrom, moves-append}
+use Rattle.asm_storage.proofs.Legal.{IsLegalFrom, fired_moves-append}
 
 -- what Fired tells
 pub record IsFiredReply (m : Machine) (q : List Move) (reads : List Named) (M : Move) (k : ℕ) : Type 0 where
@@ -67,7 +67,7 @@ fired_cases (call.Read places) a M is = absurd (cc is)
 -- the fired moves of a legal history are a run
 pub run_from : (m : Machine) (q : List Move) (h : List Event) → IsLegalFrom m q h → IsRun m (machine_state m q) (steps_from m (machine_state m q) h)
 run_from m q [] legal = tt
-run_from m q (e ∷ h) legal = here (move_of e) refl (run_from m (q ++ moves (e ∷ [])) h legal.1) where
+run_from m q (e ∷ h) legal = here (move_of e) refl (run_from m (q ++ fired_moves (e ∷ [])) h legal.1) where
   here : (o : Option Move) → move_of e ≡ o → IsRun m (machine_state m (q ++ cons_option (move_of e) [])) (steps_from m (machine_state m (q ++ cons_option (move_of e) [])) h) → IsRun m (machine_state m q) (step_and m (machine_state m q) e.agent o (λ B. steps_from m B h))
   here None is rest = subst (λ r. IsRun m (machine_state m r) (steps_from m (machine_state m r) h)) (ap (λ o. q ++ cons_option o []) is ∙ append-nil q) rest
   here (Some M) is rest =
@@ -86,16 +86,16 @@ told m q (call.Fire reads instrs) (answer.Fire (reply.Clash c)) is = inl (refl, 
 told m q (call.Fire reads instrs) (answer.Fire reply.Full) is = inl (refl, refl)
 
 -- the numbers that are answered count up
-pub numbered_from : (m : Machine) (q : List Move) (h : List Event) → IsLegalFrom m q h → numbers h ≡ count_up (length q + 1) (length (moves h))
+pub numbered_from : (m : Machine) (q : List Move) (h : List Event) → IsLegalFrom m q h → numbers h ≡ count_up (length q + 1) (length (fired_moves h))
 numbered_from m q [] legal = refl
-numbered_from m q (e ∷ h) legal = here (told m q e.call e.answer legal.0) (numbered_from m (q ++ moves (e ∷ [])) h legal.1) where
-  here : ((fired_number e.answer ≡ None) × (fired_move e.call e.answer ≡ None)) ⊎ ((M : Move) × (fired_number e.answer ≡ Some (length q + 1)) × (fired_move e.call e.answer ≡ Some M)) → numbers h ≡ count_up (length (q ++ moves (e ∷ [])) + 1) (length (moves h)) → numbers (e ∷ h) ≡ count_up (length q + 1) (length (moves (e ∷ h)))
+numbered_from m q (e ∷ h) legal = here (told m q e.call e.answer legal.0) (numbered_from m (q ++ fired_moves (e ∷ [])) h legal.1) where
+  here : ((fired_number e.answer ≡ None) × (fired_move e.call e.answer ≡ None)) ⊎ ((M : Move) × (fired_number e.answer ≡ Some (length q + 1)) × (fired_move e.call e.answer ≡ Some M)) → numbers h ≡ count_up (length (q ++ fired_moves (e ∷ [])) + 1) (length (fired_moves h)) → numbers (e ∷ h) ≡ count_up (length q + 1) (length (fired_moves (e ∷ h)))
   here (inl t) rest =
-      let len : length (q ++ moves (e ∷ [])) ≡ length q = ap (λ o. length (q ++ cons_option o [])) t.1 ∙ ap length (append-nil q) in
-      ap (λ o. cons_option o (numbers h)) t.0 ∙ rest ∙ ap (λ k. count_up (k + 1) (length (moves h))) len ∙ sym (ap (λ o. count_up (length q + 1) (length (cons_option o (moves h)))) t.1)
+      let len : length (q ++ fired_moves (e ∷ [])) ≡ length q = ap (λ o. length (q ++ cons_option o [])) t.1 ∙ ap length (append-nil q) in
+      ap (λ o. cons_option o (numbers h)) t.0 ∙ rest ∙ ap (λ k. count_up (k + 1) (length (fired_moves h))) len ∙ sym (ap (λ o. count_up (length q + 1) (length (cons_option o (fired_moves h)))) t.1)
   here (inr t) rest =
-      let len : length (q ++ moves (e ∷ [])) ≡ length q + 1 = ap (λ o. length (q ++ cons_option o [])) t.2 ∙ length-append q (t.0 ∷ []) in
-      ap (λ o. cons_option o (numbers h)) t.1 ∙ ap (λ xs. (length q + 1) ∷ xs) (rest ∙ ap (λ k. count_up (k + 1) (length (moves h))) len) ∙ sym (ap (λ o. count_up (length q + 1) (length (cons_option o (moves h)))) t.2)
+      let len : length (q ++ fired_moves (e ∷ [])) ≡ length q + 1 = ap (λ o. length (q ++ cons_option o [])) t.2 ∙ length-append q (t.0 ∷ []) in
+      ap (λ o. cons_option o (numbers h)) t.1 ∙ ap (λ xs. (length q + 1) ∷ xs) (rest ∙ ap (λ k. count_up (k + 1) (length (fired_moves h))) len) ∙ sym (ap (λ o. count_up (length q + 1) (length (cons_option o (fired_moves h)))) t.2)
 
 -- a state keeps what a move doesn't overwrite
 kept : (m : Machine) → (A : State) (M : Move) (l : Place) → overwrites m.part A M l ≡ false → val A l ≡ val (after_move m.part A M) l
@@ -142,13 +142,13 @@ coherent_at m q (call.Fire reads instrs) k is all begins =
     ap (λ w. val (machine_state m w) r.at) short ∙ same_value_from m m.init q r.at r.number fresh le ∙ sym (ap (λ w. val (machine_state m w) r.at) begins))
     reads (fresh_each (λ r. is_stale m.part m.init q r.at r.number) reads f.fresh)))
 
-coherent_from : (m : Machine) → (q : List Move) (h : List Event) (all : List Move) → q ++ moves h ≡ all → IsLegalFrom m q h → AllByRecursion (λ e. (k : ℕ) → e.answer ≡ answer.Fire (reply.Fired k) → IsCoherentAt m all e.call (k - 1)) h
+coherent_from : (m : Machine) → (q : List Move) (h : List Event) (all : List Move) → q ++ fired_moves h ≡ all → IsLegalFrom m q h → AllByRecursion (λ e. (k : ℕ) → e.answer ≡ answer.Fire (reply.Fired k) → IsCoherentAt m all e.call (k - 1)) h
 coherent_from m q [] all is legal = tt
 coherent_from m q (e ∷ h) all is legal =
-    let begins : take (length q) all ≡ q = subst (λ w. take (length q) w ≡ q) is (take_at q (moves (e ∷ h)) (length q) refl) in (
+    let begins : take (length q) all ≡ q = subst (λ w. take (length q) w ≡ q) is (take_at q (fired_moves (e ∷ h)) (length q) refl) in (
       (λ k fired. coherent_at m q e.call k (sym fired ∙ legal.0) all begins),
-      coherent_from m (q ++ moves (e ∷ [])) h all (append_assoc q (moves (e ∷ [])) (moves h) ∙ ap (λ w. q ++ w) (sym (moves-append (e ∷ []) h)) ∙ is) legal.1,
+      coherent_from m (q ++ fired_moves (e ∷ [])) h all (append_assoc q (fired_moves (e ∷ [])) (fired_moves h) ∙ ap (λ w. q ++ w) (sym (fired_moves-append (e ∷ []) h)) ∙ is) legal.1,
     )
 
 pub coherent : (m : Machine) → (h : List Event) → IsLegalFrom m [] h → IsCoherent m h
-coherent m h legal = All-from_recursion (λ e. (k : ℕ) → e.answer ≡ answer.Fire (reply.Fired k) → IsCoherentAt m (moves h) e.call (k - 1)) h (coherent_from m [] h (moves h) refl legal)
+coherent m h legal = All-from_recursion (λ e. (k : ℕ) → e.answer ≡ answer.Fire (reply.Fired k) → IsCoherentAt m (fired_moves h) e.call (k - 1)) h (coherent_from m [] h (fired_moves h) refl legal)

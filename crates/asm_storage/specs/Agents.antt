@@ -11,7 +11,7 @@ use Rattle.asm_storage.specs.declared.history.Event.{Event}
 use Rattle.asm_storage.specs.declared.receipt.Entry.{Entry}
 use Rattle.asm_storage.specs.declared.receipt.Receipt.{Receipt}
 use Rattle.asm_storage.specs.Machine.{Machine, reply_to}
-use Rattle.asm_storage.specs.History.{fired_move, moves, own, IsLegal, IsRun, steps_from, IsCoherent, numbers, count_up}
+use Rattle.asm_storage.specs.History.{fired_move, fired_moves, events_of, IsLegal, IsRun, steps_from, IsCoherent, numbers, count_up}
 
 -- an agent: its number, what it has seen of the row, how many of its offers won, and its receipts
 pub record AgentView : Type 0 where
@@ -124,17 +124,17 @@ pub record IsGathered (m : Machine) (all : List Entry) (agents : List AgentView)
 -- the history tells each answered call of the agents once, each agent's in its own order, as the storage of one
 -- thread answers them in that order, and its fired moves are a run of the machine from the opening state
 pub record IsHistoryOf (m : Machine) (agents : List AgentView) (h : List Event) : Type 0 where
-  pub own_receipts : All (λ a. own h a.id ≡ map (event_of a.id) a.receipts) agents
-  pub no_others : (i : ℕ) → All (λ a. a.id ≢ i) agents → own h i ≡ []
+  pub own_receipts : All (λ a. events_of h a.id ≡ map (event_of a.id) a.receipts) agents
+  pub no_others : (i : ℕ) → All (λ a. a.id ≢ i) agents → events_of h i ≡ []
   pub legal : IsLegal m h
   pub run : IsRun m m.init (steps_from m m.init h)
-  pub seen_first : All (λ a. IsPrefix (moves_seen a.seen) (moves h)) agents
-  pub numbered : numbers h ≡ count_up 1 (length (moves h))
+  pub seen_first : All (λ a. IsPrefix (moves_seen a.seen) (fired_moves h)) agents
+  pub numbered : numbers h ≡ count_up 1 (length (fired_moves h))
   pub coherent : IsCoherent m h
 
 -- no receipt tells the move at k, which one of the agents has seen, and one tells each move before it
-pub record IsLeastMissing (agents : List AgentView) (moves k : ℕ) : Type 0 where
-  pub below : k < moves
+pub record IsLeastMissing (agents : List AgentView) (bound k : ℕ) : Type 0 where
+  pub below : k < bound
   pub missing : has_receipt agents k ≡ false
   pub least : (j : ℕ) → j < k → has_receipt agents j ≡ true
 

@@ -26,37 +26,37 @@ abbrev pub move_of : Event → Option Move
 move_of e = fired_move e.call e.answer
 
 -- the moves of a history: those of its events that fired
-abbrev pub moves : List Event → List Move
-moves h = filter_map move_of h
+abbrev pub fired_moves : List Event → List Move
+fired_moves h = filter_map move_of h
 
 -- the events of one agent, in order
-abbrev pub own : List Event → ℕ → List Event
-own h i = filter (λ e. nat_eq e.agent i) h
+abbrev pub events_of : List Event → ℕ → List Event
+events_of h i = filter (λ e. nat_eq e.agent i) h
 
 -- each event's answer is the reply to its call after the events before it
 abbrev pub IsLegal : Machine → List Event → Type 0
 IsLegal m h = (before after : List Event) (e : Event) →
-    before ++ e ∷ after ≡ h → e.answer ≡ reply_to m (moves before) e.call
+    before ++ e ∷ after ≡ h → e.answer ≡ reply_to m (fired_moves before) e.call
 
 -- a step of the machine: one move of one agent, and the state that it leaves
-pub record Step : Type 0 where
+pub record RunStep : Type 0 where
   pub agent : ℕ
   pub move : Move
   pub state : State
 
 -- a run from the state A: each step's move fires on the state before it, and leaves the step's state
-abbrev pub IsRun : Machine → State → List Step → Type 0
+abbrev pub IsRun : Machine → State → List RunStep → Type 0
 IsRun m A [] = Unit {0}
 IsRun m A (s ∷ ss) = (fire m.part A s.move ≡ Ok s.state) × IsRun m s.state ss
 
 -- the step of a move of the agent, if there is one, and the others after it
-abbrev pub step_and : Machine → State → ℕ → Option Move → (State → List Step) → List Step
+abbrev pub step_and : Machine → State → ℕ → Option Move → (State → List RunStep) → List RunStep
 step_and m A agent None rest = rest A
 step_and m A agent (Some M) rest =
     record { agent = agent; move = M; state = after_move m.part A M } ∷ rest (after_move m.part A M)
 
 -- the steps of the fired moves of a history, from the state A
-abbrev pub steps_from : Machine → State → List Event → List Step
+abbrev pub steps_from : Machine → State → List Event → List RunStep
 steps_from m A [] = []
 steps_from m A (e ∷ h) = step_and m A e.agent (move_of e) (λ B. steps_from m B h)
 
@@ -69,7 +69,7 @@ IsCoherentAt m q (call.Fire reads instrs) before = All (λ r. r.number ≤ befor
 -- each fired move does
 abbrev pub IsCoherent : Machine → List Event → Type 0
 IsCoherent m h = All (λ e. (k : ℕ) →
-    e.answer ≡ answer.Fire (reply.Fired k) → IsCoherentAt m (moves h) e.call (k - 1)) h
+    e.answer ≡ answer.Fire (reply.Fired k) → IsCoherentAt m (fired_moves h) e.call (k - 1)) h
 
 -- the number that a Fired event answers
 abbrev pub fired_number : Answer → Option ℕ

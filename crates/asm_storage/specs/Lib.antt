@@ -6,5 +6,5 @@ pub mod Offering
 pub mod Part
 pub mod Plain
 pub mod Proper
-pub mod Slip
+pub mod ReceiptOrder
 pub mod Storage

@@ -3,7 +3,7 @@ use Rattle.std.specs.Prelude.{◌≡◌, ℕ, List}
 use Rattle.asm_update.specs.Move.{Move}
 use Rattle.asm_state.specs.declared.named.Named.{Named}
 use Rattle.asm_storage.specs.declared.call.Call.TheVariants as call
-use Rattle.asm_storage.specs.declared.offering.Offering.{Offering}
+use Rattle.asm_storage.specs.declared.part.offering.Offering.{Offering}
 
 -- the agent's entry of this move, and the call to fire it with these named reads
 pub record IsOffering (agent : ℕ) (reads : List Named) (M : Move) (o : Offering) : Type 0 where

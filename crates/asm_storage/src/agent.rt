@@ -54,7 +54,7 @@ impl<'s, A: Aggregator + Sync + Drop> Model for Agent<'s, A> {
 }
 
 impl<'s, A: Aggregator + Sync + Drop> Agent<'s, A> {
-    /// The agent of which this is the part, at its storage.
+    /// The agent with this part, at its storage.
     pub fn of(storage: &'s Storage<A>, part: AgentPart) -> Agent<'s, A>
         requires { IsPartOf A.meaning storage.now part }
         ensures { result ≡ agent_of storage.now part }
@@ -62,7 +62,7 @@ impl<'s, A: Aggregator + Sync + Drop> Agent<'s, A> {
         Agent { storage, part }
     }
 
-    /// Its part, which borrows nothing.
+    /// The agent's part, which borrows nothing.
     pub fn into_part(self) -> AgentPart
         ensures agent { self.entry ≡ agent_of self.entry.storage result }
         ensures part { IsPartOf A.meaning self.entry.storage result }
@@ -117,7 +117,7 @@ impl<'s, A: Aggregator + Sync + Drop> Agent<'s, A> {
 
     /// A mark of what it has seen, which another agent of the storage can learn.
     ///
-    /// The answer is always `Ok`: a mark takes no memory of its own.
+    /// It always answers `Ok`: a mark takes no memory of its own.
     pub fn mark(&self, alloc: Global) -> Result<Mark, AllocError>
         ensures made { IsOk result }
         ensures holds { IfOk result (λ m. m ≡ record { row = self.now.storage.row; seen = self.now.account.seen }) }
@@ -128,7 +128,7 @@ impl<'s, A: Aggregator + Sync + Drop> Agent<'s, A> {
     /// Takes in what a mark of the same storage holds, without a look at the row.
     ///
     /// Afterwards what it has seen begins with what the mark holds and with what it had seen before. Its
-    /// receipts, wins and misses stay as they are. The answer is always `Ok`: its state follows what was
+    /// receipts, wins and misses stay as they are. It always answers `Ok`: the agent's state follows what was
     /// learnt at the start of the next call.
     pub fn learn(&mut self, alloc: Global, mark: &Mark) -> Result<(), AllocError>
         requires { mark.now.row ≡ self.old.storage.row }

@@ -1,6 +1,6 @@
 ghost use Rattle.std.specs.Prelude.{◌≡◌, IfOk};
 
-use crate::copying::same_list;
+use crate::shared_lists::same_list;
 use asm_element::{Items, Location, Value};
 use asm_state::Named;
 use asm_update::{Clash, Instructions};
@@ -20,8 +20,7 @@ pub enum Call {
     },
 }
 
-/// What the storage replies to a fire: the first of these that holds, in the order `Stale`, `Clash`,
-/// `Full`, `Fired`.
+/// The reply to a fire: the first that holds, in the order `Stale`, `Clash`, `Full`, `Fired`.
 ///
 /// Source: this project's profile; a clash is an inconsistent update set as in Börger and Stärk.
 #[derive(Debug, Drop, PartialEq, Eq)]

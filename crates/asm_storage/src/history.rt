@@ -1,6 +1,6 @@
 ghost use Rattle.std.specs.Prelude.{◌≡◌, ◌↔◌, length, min, All, IsTrue};
 ghost use Rattle.std.specs.Option.{option_copied};
-ghost use Rattle.asm_storage.specs.History.{move_of, moves, EventFits, CallFits, Fits};
+ghost use Rattle.asm_storage.specs.History.{move_of, fired_moves, EventFits, CallFits, Fits};
 
 use crate::call::{Answer, Call, Reply};
 use asm_element::Items;
@@ -18,8 +18,8 @@ pub struct Event {
 }
 
 impl Event {
-    // The instructions of the move, where the call fired one.
-    fn fired_move(&self) -> Option<&Instructions>
+    /// The instructions of the move that the call fired, or `None` where it fired none.
+    pub fn fired_move(&self) -> Option<&Instructions>
         ensures { option_copied result ≡ move_of self.now }
     {
         match (&self.call, &self.answer) {
@@ -42,8 +42,9 @@ impl Event {
         }
     }
 
-    // Whether it is an event of a history with so many agents that can be written as a journal.
-    fn fits(&self, agents: u32) -> bool
+    /// Whether a journal of so many agents can hold the event: its agent's number is below `agents`, its call has at
+    /// most 256 locations or named reads, and its answer is one to such a call, with a value for each location read.
+    pub fn fits(&self, agents: u32) -> bool
         ensures { IsTrue result ↔ EventFits agents self.now }
     {
         self.agent < agents && self.call_fits()
@@ -66,7 +67,7 @@ pub struct History {
 impl History {
     /// How many moves were fired; 4,294,967,295 where there are more.
     pub fn moves(&self) -> u32
-        ensures { result ≡ min (length (moves self.now.events)) 4294967295 }
+        ensures { result ≡ min (length (fired_moves self.now.events)) 4294967295 }
     {
         let mut count = 0u32;
         for event in self.events.as_slice() {
@@ -79,8 +80,8 @@ impl History {
 
     /// Whether the history is within the limits of a journal: at most 256 agents, a capacity of 1 to
     /// 1,048,576, at most 4,294,967,295 events, each of an agent with a number below `agents`, with at
-    /// most 256 locations or named reads, and with an answer that is one to such a call. Lists of at most
-    /// 4,096 items, at most 8 deep, are a limit too, which each list that a program holds keeps.
+    /// most 256 locations or named reads, and with an answer to such a call. That lists hold at most 4,096 items and
+    /// nest at most 8 deep is a limit too, which every list in a program keeps.
     pub fn fits(&self) -> bool
         ensures { IsTrue result ↔ Fits self.now }
     {

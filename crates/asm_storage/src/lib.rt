@@ -7,53 +7,16 @@
 #![tactic(auto)]
 
 mod agent;
-#[cfg(test)]
-mod beside;
 mod call;
-#[cfg(test)]
-mod closed;
-mod closing;
-#[cfg(test)]
-mod contest;
-mod copying;
-#[cfg(test)]
-mod crowd;
-#[cfg(test)]
-mod equality;
+mod close;
 mod error;
-mod fire;
-#[cfg(test)]
-mod held;
 mod history;
-#[cfg(test)]
-mod limits;
-#[cfg(test)]
-mod lost_offers;
-mod merging;
-mod missing;
-#[cfg(test)]
-mod naming;
-mod offering;
-#[cfg(test)]
-mod opening_tests;
 mod part;
-#[cfg(test)]
-mod part_tests;
-#[cfg(test)]
-mod plain_moves;
-#[cfg(test)]
-mod plain_paths;
 mod proper;
-mod read;
 mod reading;
 mod receipt;
-#[cfg(test)]
-mod rows;
+mod shared_lists;
 mod storage;
-#[cfg(test)]
-mod tests;
-#[cfg(test)]
-mod thread_tests;
 
 pub use agent::{Agent, Mark};
 pub use call::{Answer, Call, Reply};

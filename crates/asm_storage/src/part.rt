@@ -4,6 +4,11 @@ ghost use mathlib.Core.List.{IsPrefix};
 ghost use Rattle.asm_storage.specs.Storage.{at_start, has_seen, last_look, Missed};
 ghost use Rattle.asm_storage.specs.Part.{agent_of, IsPartOf, LooksOn};
 
+mod fire;
+mod judging;
+mod offering;
+mod read;
+
 use crate::agent::Mark;
 use crate::receipt::{Entry, Receipt};
 use crate::storage::Storage;
@@ -15,8 +20,8 @@ use std::alloc::{AllocError, Global};
 /// What an agent has beside its borrow of the storage: its number, how far it has come at the row, its own
 /// state, which may lag behind what was seen, and its receipts.
 ///
-/// It borrows nothing, so one value may hold it beside an owner of the storage. Its calls are passed the
-/// storage, with the condition that it is the one that the part is of.
+/// It borrows nothing, so one value may hold it beside an owner of the storage. Each of its calls takes the
+/// storage, which must be the one of the agent.
 #[derive(Drop)]
 pub struct AgentPart {
     pub(crate) id: u32,

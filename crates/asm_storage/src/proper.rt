@@ -1,4 +1,4 @@
-//! That what a history holds is proper.
+//! What a history holds is proper.
 ghost use Rattle.std.specs.Prelude.{All};
 ghost use Rattle.asm_element.specs.Place as place;
 ghost use Rattle.asm_element.specs.Value as value;
@@ -9,20 +9,12 @@ use crate::history::{Event, History};
 use asm_element::{Location, Value};
 use asm_state::Named;
 
-// Does nothing; its contract tells that a location which a program holds is proper.
-fn proper_location(at: &Location)
-    ensures { place.IsProper at.now }
-{
-    let _name = at.name();
-    let _args = at.args();
-}
-
 // Does nothing; its contract tells that the locations are proper.
 fn proper_locations(places: &[Location])
     ensures { All place.IsProper places.now }
 {
     for at in places {
-        proper_location(at);
+        at.proper();
     }
 }
 
@@ -39,7 +31,7 @@ fn proper_values(values: &[Value])
 fn proper_read(read: &Named)
     ensures { IsProperNamed read.now }
 {
-    proper_location(&read.at);
+    read.at.proper();
     let _number = read.number;
 }
 
@@ -78,8 +70,8 @@ fn proper_answer(answer: &Answer)
         Answer::Fire(Reply::Fired(number)) => {
             let _number = *number;
         }
-        Answer::Fire(Reply::Stale(at)) => proper_location(at),
-        Answer::Fire(Reply::Clash(clash)) => proper_location(&clash.at),
+        Answer::Fire(Reply::Stale(at)) => at.proper(),
+        Answer::Fire(Reply::Clash(clash)) => clash.at.proper(),
         Answer::Fire(Reply::Full) => {}
     }
 }
@@ -95,8 +87,8 @@ fn proper_events(events: &[Event])
 }
 
 impl History {
-    /// Does nothing. Its contract tells that the history is one that a program can hold: its opening state
-    /// and its events are proper, so each list in it has at most 4,096 items and nests at most 8 deep.
+    /// Does nothing. Its contract tells what is true of every history in a program: its opening state and its
+    /// events are proper, so each list in it has at most 4,096 items and nests at most 8 deep.
     pub fn proper(&self)
         ensures { IsProper self.now }
     {

@@ -1,4 +1,4 @@
-ghost use Rattle.std.specs.Prelude.{◌≡◌, ◌<◌, length, Some, slice_get, IfOk};
+ghost use Rattle.std.specs.Prelude.{◌≡◌, ◌↔◌, ◌<◌, IsTrue, length, Some, slice_get, IfOk};
 
 use asm_element::{Items, Location, Value};
 use asm_state::Named;
@@ -44,6 +44,13 @@ impl Reading {
         self.places.as_slice().len()
     }
 
+    /// Whether no location was read.
+    pub fn is_empty(&self) -> bool
+        ensures { IsTrue result ↔ (length self.now.places ≡ 0) }
+    {
+        0 == self.len()
+    }
+
     /// The value of the location at place `i` of the call, counted from 0; `i` must be below `len`.
     pub fn value(&self, i: usize) -> &Value
         requires { i < length self.now.places }
@@ -60,8 +67,8 @@ impl Reading {
         &self.places.as_slice()[i]
     }
 
-    /// The location at a place of the call, named with the number of the reading: what a fire that rests on this
-    /// value passes.
+    /// The location at place `i` of the call with the number of the reading. A fire that rests on the value passes
+    /// it as a named read.
     ///
     /// `AllocError` comes only where memory was refused.
     pub fn named(&self, alloc: Global, i: usize) -> Result<Named, AllocError>

@@ -13,7 +13,7 @@ pub struct Receipt {
     pub call: Call,
     /// What was answered.
     pub answer: Answer,
-    /// How many moves had been fired where the answer was judged; for `Fired(k)` it is k − 1.
+    /// The number of fired moves on which the answer was judged; for `Fired(k)` it is k − 1.
     pub stood: u32,
 }
 

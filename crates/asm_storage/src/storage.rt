@@ -21,8 +21,8 @@ use std::sync::Arc;
 ///
 /// It is the shared object of a universal construction (Herlihy and Shavit, "The Art of Multiprocessor
 /// Programming"): threads agree on the list of moves, and each agent follows that list with a state of its
-/// own, beside the opening state, which all share. Contracts see the cells of the row, the aggregator and the opening state. It is `Sync` where the
-/// aggregator is, and no call of it or of its agents waits.
+/// own, beside the opening state, which all share. Contracts see the cells of the row, the aggregator and the
+/// opening state. It is `Sync` where the aggregator is, and no call of it or of its agents waits.
 #[derive(Drop)]
 pub struct Storage<A: Aggregator + Sync + Drop> {
     row: Row<Entry>,
@@ -46,7 +46,7 @@ impl<A: Aggregator + Sync + Drop> Model for Storage<A> {
 impl<A: Aggregator + Sync + Drop> Storage<A> {
     /// A storage for at most `capacity` moves, from 1 to 1,048,576.
     ///
-    /// No move stands in its row; contracts don't tell that, and it is tested.
+    /// Its row is empty, which is tested, as contracts don't tell what stands there.
     ///
     /// `StorageError::BadCapacity` comes exactly for another capacity, before any memory is asked for;
     /// `Memory` only where memory was refused.
@@ -77,8 +77,8 @@ impl<A: Aggregator + Sync + Drop> Storage<A> {
         })
     }
 
-    /// So many agents, from 1 to 256, with the numbers from 0 up; they have seen nothing, and have no
-    /// receipts. A second call numbers from 0 again. That the call adds no move to the row is tested.
+    /// `n` agents, from 1 to 256, with the numbers 0 to n − 1. They have seen nothing and have no receipts. A
+    /// second call numbers from 0 again. That the call adds no move to the row is tested.
     ///
     /// `AgentsError::BadAgents` comes exactly for another number, before any memory is asked for;
     /// `Memory` only where memory was refused.
@@ -97,10 +97,10 @@ impl<A: Aggregator + Sync + Drop> Storage<A> {
         Ok(agents)
     }
 
-    /// An agent with this number, below 256, that has made no call.
+    /// A new agent with the number `id`, below 256.
     ///
-    /// The numbers of agents whose receipts are closed together have to differ. That the call adds no
-    /// move to the row is tested. `AllocError` comes only where memory was refused.
+    /// Agents that are closed together must have different numbers. That the call adds no move to the row
+    /// is tested. `AllocError` comes only where memory was refused.
     pub fn agent_at(&self, alloc: Global, id: u32) -> Result<Agent<'_, A>, AllocError>
         requires { id < 256 }
         ensures { IfOk result (λ a. a ≡ at_start self.now id) }
@@ -115,7 +115,8 @@ impl<A: Aggregator + Sync + Drop> Storage<A> {
         &self.row
     }
 
-    pub(crate) fn aggregator(&self) -> &A
+    /// The aggregator by which it answers.
+    pub fn aggregator(&self) -> &A
         ensures { result.now ≡ self.now.agg }
     {
         &self.aggregator

@@ -13,7 +13,7 @@ use Rattle.asm_element.specs.declared.value.Value.{Value}
 use Rattle.asm_element.specs.Place.{Place, location_cmp, location_cmp_total, location_cmp-IsAntisymmetric, same_location}
 use Rattle.asm_update.specs.Move.{Move, writes}
 use Rattle.asm_update.specs.State.{State, Updates, val, write, write_all, overwrite}
-use Rattle.asm_update.specs.Fire.{Part, Old, Outcome, outcome_at, written, locations, gathered, aggregated, overwritten, fire, IsUpdateSet, IsLeastClash}
+use Rattle.asm_update.specs.Fire.{Part, Old, GroupResult, result_at, written, locations, gathered, aggregated, overwritten, fire, IsUpdateSet, IsLeastClash}
 use Rattle.asm_update.specs.declared.clash.Clash.{Clash}
 use Rattle.asm_element.specs.Value.{undef_is}
 use Rattle.asm_element.specs.Ascending.{both_T, is_less}
@@ -85,15 +85,15 @@ rising (e ∷ es) h = (λ q. below_each e.0 es q (both_T _ _ h).0, rising es (bo
 rising_locations : (M : Move) → Rising (locations M)
 rising_locations M = rising (finite.entries (written M)) (finite.entries_sorted (written M))
 
-abbrev results : (Place → Outcome) → List Place → List (Place × Outcome)
+abbrev results : (Place → GroupResult) → List Place → List (Place × GroupResult)
 results out ls = map (λ l. (l, out l)) ls
 
-abbrev ok_of : Outcome → Option Value
+abbrev ok_of : GroupResult → Option Value
 ok_of (Ok v) = Some v
 ok_of (Err cause) = None
 
 -- where each of the locations has a result, those are gathered
-gathered_value : (out : Place → Outcome) (ls : List Place) (U V : Updates) (q : Place) → gathered U (results out ls) ≡ Ok V → finite.get V q ≡ cond (is_in ls q) (ok_of (out q)) (finite.get U q)
+gathered_value : (out : Place → GroupResult) (ls : List Place) (U V : Updates) (q : Place) → gathered U (results out ls) ≡ Ok V → finite.get V q ≡ cond (is_in ls q) (ok_of (out q)) (finite.get U q)
 gathered_value out [] U V q h = ap (λ W. finite.get W q) (sym (ok_is U V h))
 gathered_value out (l ∷ ls) U V q h = by_outcome (out l) refl h (λ W. gathered_value out ls W V q) where
   by_test : (v : Value) (b c : Bool) → eq_by_cmp location_cmp q l ≡ b → out l ≡ Ok v → cond c (ok_of (out q)) (cond b (Some v) (finite.get U q)) ≡ cond (b || c) (ok_of (out q)) (finite.get U q)
@@ -101,30 +101,30 @@ gathered_value out (l ∷ ls) U V q h = by_outcome (out l) refl h (λ W. gathere
   by_test v true false is e = ap ok_of (sym e ∙ ap out (sym (same_location q l is)))
   by_test v false c is e = refl
 
-  by_outcome : (o : Outcome) → out l ≡ o → gathered U ((l, o) ∷ results out ls) ≡ Ok V → ((W : Updates) → gathered W (results out ls) ≡ Ok V → finite.get V q ≡ cond (is_in ls q) (ok_of (out q)) (finite.get W q)) →
+  by_outcome : (o : GroupResult) → out l ≡ o → gathered U ((l, o) ∷ results out ls) ≡ Ok V → ((W : Updates) → gathered W (results out ls) ≡ Ok V → finite.get V q ≡ cond (is_in ls q) (ok_of (out q)) (finite.get W q)) →
       finite.get V q ≡ cond (eq_by_cmp location_cmp q l || is_in ls q) (ok_of (out q)) (finite.get U q)
   by_outcome (Ok v) e h later =
       later (finite.insert U l v) h ∙ ap (cond (is_in ls q) (ok_of (out q))) (finite.get-insert location_cmp_total U l v q) ∙ by_test v (eq_by_cmp location_cmp q l) (is_in ls q) refl e
   by_outcome (Err cause) e h later = cc
 
-gathered_each : (out : Place → Outcome) (ls : List Place) (U V : Updates) (q : Place) → gathered U (results out ls) ≡ Ok V → is_in ls q ≡ true → IsOk (out q)
+gathered_each : (out : Place → GroupResult) (ls : List Place) (U V : Updates) (q : Place) → gathered U (results out ls) ≡ Ok V → is_in ls q ≡ true → IsOk (out q)
 gathered_each out [] U V q h k = cc
 gathered_each out (l ∷ ls) U V q h k = by_outcome (out l) refl h (λ W. gathered_each out ls W V q) where
   by_test : (v : Value) (b : Bool) → eq_by_cmp location_cmp q l ≡ b → out l ≡ Ok v → (b || is_in ls q) ≡ true → (is_in ls q ≡ true → IsOk (out q)) → IsOk (out q)
   by_test v true is e k later = subst IsOk (sym e ∙ ap out (sym (same_location q l is))) refl
   by_test v false is e k later = later k
 
-  by_outcome : (o : Outcome) → out l ≡ o → gathered U ((l, o) ∷ results out ls) ≡ Ok V → ((W : Updates) → gathered W (results out ls) ≡ Ok V → is_in ls q ≡ true → IsOk (out q)) → IsOk (out q)
+  by_outcome : (o : GroupResult) → out l ≡ o → gathered U ((l, o) ∷ results out ls) ≡ Ok V → ((W : Updates) → gathered W (results out ls) ≡ Ok V → is_in ls q ≡ true → IsOk (out q)) → IsOk (out q)
   by_outcome (Ok v) e h later = by_test v (eq_by_cmp location_cmp q l) refl e k (later (finite.insert U l v) h)
   by_outcome (Err cause) e h later = cc
 
 -- the clash stands at the first of the locations that has no result
-record IsFirstClash (out : Place → Outcome) (ls : List Place) (clash : Clash) : Type 0 where
+record IsFirstClash (out : Place → GroupResult) (ls : List Place) (clash : Clash) : Type 0 where
   stands : is_in ls clash.at ≡ true
   cause : out clash.at ≡ Err clash.cause
   least : (q : Place) → location_cmp q clash.at ≡ Less → is_in ls q ≡ true → IsOk (out q)
 
-gathered_clash : (out : Place → Outcome) (ls : List Place) (U : Updates) (clash : Clash) → Rising ls → gathered U (results out ls) ≡ Err clash → IsFirstClash out ls clash
+gathered_clash : (out : Place → GroupResult) (ls : List Place) (U : Updates) (clash : Clash) → Rising ls → gathered U (results out ls) ≡ Err clash → IsFirstClash out ls clash
 gathered_clash out [] U clash r h = cc
 gathered_clash out (l ∷ ls) U clash r h = by_outcome (out l) refl h (λ W. gathered_clash out ls W clash r.1) where
   by_test : (v : Value) (q : Place) (b : Bool) → eq_by_cmp location_cmp q l ≡ b → out l ≡ Ok v → (b || is_in ls q) ≡ true → (is_in ls q ≡ true → IsOk (out q)) → IsOk (out q)
@@ -135,7 +135,7 @@ gathered_clash out (l ∷ ls) U clash r h = by_outcome (out l) refl h (λ W. gat
   above q true is k lt = absurd (false≢true (ap is_eq (sym lt) ∙ is))
   above q false is k lt = absurd (false≢true (ap is_gt (sym lt ∙ location_cmp_total.antisymm q l) ∙ ap (λ o. is_gt (ordering_reverse o)) (r.0 q k)))
 
-  by_outcome : (o : Outcome) → out l ≡ o → gathered U ((l, o) ∷ results out ls) ≡ Err clash → ((W : Updates) → gathered W (results out ls) ≡ Err clash → IsFirstClash out ls clash) → IsFirstClash out (l ∷ ls) clash
+  by_outcome : (o : GroupResult) → out l ≡ o → gathered U ((l, o) ∷ results out ls) ≡ Err clash → ((W : Updates) → gathered W (results out ls) ≡ Err clash → IsFirstClash out ls clash) → IsFirstClash out (l ∷ ls) clash
   by_outcome (Ok v) e h later =
       let rest = later (finite.insert U l v) h in
       record {
@@ -150,20 +150,20 @@ gathered_clash out (l ∷ ls) U clash r h = by_outcome (out l) refl h (λ W. gat
         least = λ q lt k. above q (eq_by_cmp location_cmp q l) refl k lt;
       })
 
-has_value : (o : Outcome) (x : Option Value) → x ≡ ok_of o → IsOk o → IsSomeAnd x (λ v. o ≡ Ok v)
-has_value (Ok v) x e k = subst (λ (y : Option Value). IsSomeAnd y (λ w. ◌≡◌ {A = Outcome} (Ok v) (Ok w))) (sym e) refl
+has_value : (o : GroupResult) (x : Option Value) → x ≡ ok_of o → IsOk o → IsSomeAnd x (λ v. o ≡ Ok v)
+has_value (Ok v) x e k = subst (λ (y : Option Value). IsSomeAnd y (λ w. ◌≡◌ {A = GroupResult} (Ok v) (Ok w))) (sym e) refl
 has_value (Err cause) x e k = cc
 
-same_value_there : (o : Outcome) (x y : Option Value) → IsSomeAnd x (λ v. o ≡ Ok v) → IsSomeAnd y (λ v. o ≡ Ok v) → x ≡ y
+same_value_there : (o : GroupResult) (x y : Option Value) → IsSomeAnd x (λ v. o ≡ Ok v) → IsSomeAnd y (λ v. o ≡ Ok v) → x ≡ y
 same_value_there o (Some v) (Some w) h k = ap Some (ok_is v w (sym h ∙ k))
 same_value_there o None y h k = absurd h
 same_value_there o (Some v) None h k = absurd k
 
-no_cause : {X : Type 0} (o : Outcome) (x : Option Value) (cause : _) → IsSomeAnd x (λ v. o ≡ Ok v) → o ≡ Err cause → X
+no_cause : {X : Type 0} (o : GroupResult) (x : Option Value) (cause : _) → IsSomeAnd x (λ v. o ≡ Ok v) → o ≡ Err cause → X
 no_cause o (Some v) cause h e = cc
 no_cause o None cause h e = absurd h
 
-ok_no_cause : {X : Type 0} (o : Outcome) (cause : _) → IsOk o → o ≡ Err cause → X
+ok_no_cause : {X : Type 0} (o : GroupResult) (cause : _) → IsOk o → o ≡ Err cause → X
 ok_no_cause (Ok v) cause k e = cc
 ok_no_cause (Err c) cause k e = cc
 
@@ -172,23 +172,23 @@ module _ (part : Part) (old : Old) (M : Move) where
   update_set_from U h = record {
     written = λ l w.
         let here = in_locations M l ∙ w in
-        has_value (outcome_at part old M l) (finite.get U l)
-        (gathered_value (outcome_at part old M) (locations M) finite.empty U l h ∙ ap (λ b. cond b (ok_of (outcome_at part old M l)) (finite.get {R = location_cmp} finite.empty l)) here)
-        (gathered_each (outcome_at part old M) (locations M) finite.empty U l h here);
+        has_value (result_at part old M l) (finite.get U l)
+        (gathered_value (result_at part old M) (locations M) finite.empty U l h ∙ ap (λ b. cond b (ok_of (result_at part old M l)) (finite.get {R = location_cmp} finite.empty l)) here)
+        (gathered_each (result_at part old M) (locations M) finite.empty U l h here);
     others = λ l w.
-        gathered_value (outcome_at part old M) (locations M) finite.empty U l h ∙ ap (λ b. cond b (ok_of (outcome_at part old M l)) (finite.get {R = location_cmp} finite.empty l)) (in_locations M l ∙ w)
+        gathered_value (result_at part old M) (locations M) finite.empty U l h ∙ ap (λ b. cond b (ok_of (result_at part old M l)) (finite.get {R = location_cmp} finite.empty l)) (in_locations M l ∙ w)
         ∙ finite.get-empty location_cmp l;
   }
 
   least_clash_from : (clash : Clash) → aggregated part old M ≡ Err clash → IsLeastClash part old M clash
   least_clash_from clash h =
-      let is = gathered_clash (outcome_at part old M) (locations M) finite.empty clash (rising_locations M) h in
+      let is = gathered_clash (result_at part old M) (locations M) finite.empty clash (rising_locations M) h in
       record { written = sym (in_locations M clash.at) ∙ is.stands; cause = is.cause; least = λ l lt w. is.least l lt (in_locations M l ∙ w) }
 
   same_updates : (U V : Updates) → IsUpdateSet part old M U → IsUpdateSet part old M V → U ≡ V
   same_updates U V h k = same_state U V (λ q. by_test q (writes M q) refl) where
     by_test : (q : Place) (b : Bool) → writes M q ≡ b → finite.get U q ≡ finite.get V q
-    by_test q true w = same_value_there (outcome_at part old M q) _ _ (h.written q w) (k.written q w)
+    by_test q true w = same_value_there (result_at part old M q) _ _ (h.written q w) (k.written q w)
     by_test q false w = h.others q w ∙ sym (k.others q w)
 
   same_clash : (c d : Clash) → IsLeastClash part old M c → IsLeastClash part old M d → c ≡ d
@@ -198,7 +198,7 @@ module _ (part : Part) (old : Old) (M : Move) where
     by_order Greater e = ok_no_cause _ d.cause (h.least d.at (location_cmp_total.antisymm d.at c.at ∙ ap ordering_reverse e) k.written) k.cause
     by_order Equal e =
         let at = location_cmp-IsAntisymmetric c.at d.at e in
-        let causes = err_is c.cause d.cause (sym h.cause ∙ ap (outcome_at part old M) at ∙ k.cause) in
+        let causes = err_is c.cause d.cause (sym h.cause ∙ ap (result_at part old M) at ∙ k.cause) in
         λ i. record { at = at i; cause = causes i }
 
   update_set_to : (U : Updates) → IsUpdateSet part old M U → aggregated part old M ≡ Ok U
@@ -224,12 +224,12 @@ module _ (part : Part) (old : Old) (M : Move) where
 -- an update set has exactly the locations that the move writes
 pub has_updated : (part : Part) (old : Old) (M : Move) (U : Updates) → IsUpdateSet part old M U → (l : Place) → is_some (finite.get U l) ≡ writes M l
 has_updated part old M U is l = by_test (writes M l) refl where
-  some_there : (o : Outcome) (x : Option Value) → IsSomeAnd x (λ v. o ≡ Ok v) → is_some x ≡ true
+  some_there : (o : GroupResult) (x : Option Value) → IsSomeAnd x (λ v. o ≡ Ok v) → is_some x ≡ true
   some_there o (Some v) h = refl
   some_there o None h = absurd h
 
   by_test : (b : Bool) → writes M l ≡ b → is_some (finite.get U l) ≡ writes M l
-  by_test true w = some_there (outcome_at part old M l) (finite.get U l) (is.written l w) ∙ sym w
+  by_test true w = some_there (result_at part old M l) (finite.get U l) (is.written l w) ∙ sym w
   by_test false w = ap is_some (is.others l w) ∙ sym w
 
 module _ (part : Part) (A : State) (M : Move) where
@@ -253,9 +253,9 @@ module _ (part : Part) (A : State) (M : Move) where
     by_answer (Err c) e k = subst (IsLeastClash part (val A) M) (err_is c clash k) (least_clash_from part (val A) M c e)
 
   -- a state that holds the result at each location that the move writes, and elsewhere what it held, is the one that the move leaves
-  pub fires_to : (B : State) → ((l : Place) → writes M l ≡ true → (v : Value) × (outcome_at part (val A) M l ≡ Ok v) × (finite.get B l ≡ stored v)) → ((l : Place) → writes M l ≡ false → finite.get B l ≡ finite.get A l) → fire part A M ≡ Ok B
+  pub fires_to : (B : State) → ((l : Place) → writes M l ≡ true → (v : Value) × (result_at part (val A) M l ≡ Ok v) × (finite.get B l ≡ stored v)) → ((l : Place) → writes M l ≡ false → finite.get B l ≡ finite.get A l) → fire part A M ≡ Ok B
   fires_to B here others = by_answer (aggregated part (val A) M) refl where
-    held_after : (q : Place) (x y : Option Value) → IsSomeAnd y (λ v. outcome_at part (val A) M q ≡ Ok v) → (v : Value) → outcome_at part (val A) M q ≡ Ok v → stored_or y x ≡ stored v
+    held_after : (q : Place) (x y : Option Value) → IsSomeAnd y (λ v. result_at part (val A) M q ≡ Ok v) → (v : Value) → result_at part (val A) M q ≡ Ok v → stored_or y x ≡ stored v
     held_after q x (Some w) h v e = ap stored (ok_is w v (sym h ∙ e))
     held_after q x None h v e = absurd h
 
@@ -281,11 +281,11 @@ val-overwrite A U q = ap (λ o. unwrap_or o held.undef) (get-overwrite A U q) �
   by_cases None = refl
 
 -- the value at each location that a move writes is its result there
-pub val-fired : (part : Part) (A B : State) (M : Move) (l : Place) → fire part A M ≡ Ok B → writes M l ≡ true → outcome_at part (val A) M l ≡ Ok (val B l)
+pub val-fired : (part : Part) (A B : State) (M : Move) (l : Place) → fire part A M ≡ Ok B → writes M l ≡ true → result_at part (val A) M l ≡ Ok (val B l)
 val-fired part A B M l h w =
     let had = fired_updates part A M B h in
     by_cases (finite.get had.0 l) (had.1.written l w) ∙ ap Ok (sym (val-overwrite A had.0 l) ∙ ap (λ S. val S l) had.2) where
-      by_cases : (o : Option Value) → IsSomeAnd o (λ v. outcome_at part (val A) M l ≡ Ok v) → outcome_at part (val A) M l ≡ Ok (unwrap_or o (val A l))
+      by_cases : (o : Option Value) → IsSomeAnd o (λ v. result_at part (val A) M l ≡ Ok v) → result_at part (val A) M l ≡ Ok (unwrap_or o (val A l))
       by_cases (Some v) k = k
       by_cases None k = absurd k
 

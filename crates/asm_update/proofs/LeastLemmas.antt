@@ -9,9 +9,9 @@ use Rattle.std.specs.declared.cmp.Ordering.{Ordering}
 use Rattle.std.proofs.lemmas.Bool.{false≢true, false_from_ne_true}
 use Rattle.std.proofs.lemmas.Cmp.{upto, tied_itself}
 use Rattle.std.proofs.lemmas.List.{get_or_read}
-use Rattle.asm_element.specs.Place.{Place, location_cmp, location_cmp_total, same_location}
+use Rattle.asm_element.specs.Place.{Place, location_cmp, location_cmp_total, same_location, comes_before}
 use Rattle.asm_update.specs.Action.{regular_value}
-use Rattle.asm_update.specs.Move.{Move, has_two, regular_values, are_different, comes_before, IsLeast}
+use Rattle.asm_update.specs.Move.{Move, has_two, regular_values, are_different, IsLeast}
 use Rattle.asm_update.specs.declared.action.Instruction.{Instruction}
 
 -- no location of the first n instructions has two values

@@ -14,7 +14,7 @@ use Rattle.asm_element.proofs.Same.{same_value}
 use Rattle.asm_update.specs.Action.{regular_value, is_regular, is_partial}
 use Rattle.asm_update.specs.Move.{Move, actions_at, writes, regular_values, are_different, has_two, IsLeast}
 use Rattle.asm_update.specs.State.{State, val, write}
-use Rattle.asm_update.specs.Fire.{Part, Outcome, outcome_at, group_result, first, fire}
+use Rattle.asm_update.specs.Fire.{Part, GroupResult, result_at, group_result, first, fire}
 use Rattle.asm_update.specs.declared.action.Action.{Action}
 use Rattle.asm_update.specs.declared.action.Action.TheVariants.{Regular}
 use Rattle.asm_update.specs.declared.action.Instruction.{Instruction}
@@ -96,13 +96,13 @@ alike_stored v (w ∷ vs) h =
     ap (λ u. last_stored (stored u) vs) (sym (same_value v w (true_from_not _ _ refl parts.0))) ∙ alike_stored v vs parts.1
 
 module _ (part : Part) (A : State) (M : Move) (regular : list_all (λ i. is_regular i.action) M ≡ true) where
-  abbrev outcome_by : Place → List Value → List Action → Outcome
+  abbrev outcome_by : Place → List Value → List Action → GroupResult
   outcome_by l vs ps = cond (are_different vs) (Err Two) (group_result part (val A l) (first vs) ps)
 
-  outcome_is : (l : Place) (vs : List Value) → regular_values M l ≡ vs → outcome_at part (val A) M l ≡ outcome_by l vs []
+  outcome_is : (l : Place) (vs : List Value) → regular_values M l ≡ vs → result_at part (val A) M l ≡ outcome_by l vs []
   outcome_is l vs e = ap (λ us. outcome_by l us (filter is_partial (actions_at M l))) e ∙ ap (outcome_by l vs) (no_partials l M regular)
 
-  agreed : (l : Place) (vs : List Value) → regular_values M l ≡ vs → has_some l vs ≡ true → are_different vs ≡ false → (v : Value) × (outcome_at part (val A) M l ≡ Ok v) × (finite.get (write_in_order A M) l ≡ stored v)
+  agreed : (l : Place) (vs : List Value) → regular_values M l ≡ vs → has_some l vs ≡ true → are_different vs ≡ false → (v : Value) × (result_at part (val A) M l ≡ Ok v) × (finite.get (write_in_order A M) l ≡ stored v)
   agreed l [] e some alike = cc
   agreed l (v ∷ vs) e some alike = (
     v,

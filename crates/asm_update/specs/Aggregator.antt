@@ -8,7 +8,7 @@ use Rattle.std.specs.declared.alloc.Global.{Global}
 use Rattle.asm_element.specs.Value as value
 use Rattle.asm_element.specs.declared.value.Value.{Value}
 use Rattle.asm_update.specs.Action.{is_of, is_partial, kind_of, AllProper}
-use Rattle.asm_update.specs.Fire.{Part, Outcome}
+use Rattle.asm_update.specs.Fire.{Part, GroupResult}
 use Rattle.asm_update.specs.declared.action.Action.{Action}
 use Rattle.asm_update.specs.declared.action.Family.{Family}
 use Rattle.asm_update.specs.declared.clash.Cause.{Cause}
@@ -19,13 +19,13 @@ use Rattle.asm_update.specs.declared.errors.JoinError.{JoinError}
 use Rattle.asm_update.specs.declared.errors.JoinError.TheVariants as join_error
 
 -- why two lists have no join: a cause, or an amount that no partial update can have
-pub data Refusal : Type 0 where
-  Refused : Cause → Refusal
-  TooLarge : Refusal
+pub data NoJoin : Type 0 where
+  Refused : Cause → NoJoin
+  TooLarge : NoJoin
 
 -- the list that stands for two in a row, or the refusal
 abbrev pub Joined : Type 0
-Joined = Result (List Action) Refusal
+Joined = Result (List Action) NoJoin
 
 -- which families are owned, what a group with partials gives on an old value, and the join of two lists of partials
 pub record Meaning : Type 0 where
@@ -34,7 +34,7 @@ pub record Meaning : Type 0 where
   pub joins : List Action → List Action → Joined
 
 -- what a list of partials gives on a value: an empty list leaves it as it is
-abbrev pub after : Meaning → Value → List Action → Outcome
+abbrev pub after : Meaning → Value → List Action → GroupResult
 after a v [] = Ok v
 after a v (p ∷ ps) = a.part v None (p ∷ ps)
 
@@ -52,7 +52,7 @@ pub record AggregatorLaws (a : Meaning) : Type 0 where
       value.IsProper v → AllProper first → AllProper second → first ++ second ≢ [] →
       a.joins first second ≡ Ok joined → after a v first ≡ Ok w → after a v joined ≡ after a w second
   -- where the join is refused, no value lets the first and then the second have results
-  pub refused_join : (v w x : Value) (first second : List Action) (refusal : Refusal) →
+  pub refused_join : (v w x : Value) (first second : List Action) (refusal : NoJoin) →
       value.IsProper v → AllProper first → AllProper second → first ++ second ≢ [] →
       a.joins first second ≡ Err refusal → after a v first ≡ Ok w → after a w second ≢ Ok x
   -- a regular value is the result, or there is a cause
@@ -76,19 +76,19 @@ pub record AggregatorLaws (a : Meaning) : Type 0 where
       list_any (is_of f) (first ++ second) ≡ true
 
 -- a call answers this outcome: its value, or its cause; an allocation failure tells nothing
-abbrev pub IsOutcome : Result Value ResultError → Outcome → Type 0
+abbrev pub IsOutcome : Result Value ResultError → GroupResult → Type 0
 IsOutcome (Ok value) outcome = outcome ≡ Ok value
 IsOutcome (Err (result_error.Cause cause)) outcome = outcome ≡ Err cause
 IsOutcome (Err result_error.Memory) outcome = Unit {0}
 
 -- a call answers whether this outcome is a value, or else its cause; an allocation failure tells nothing
-abbrev pub IsAdmitted : Result (Unit {0}) ResultError → Outcome → Type 0
+abbrev pub IsAdmitted : Result (Unit {0}) ResultError → GroupResult → Type 0
 IsAdmitted (Ok _) outcome = IsOk outcome
 IsAdmitted (Err (result_error.Cause cause)) outcome = outcome ≡ Err cause
 IsAdmitted (Err result_error.Memory) outcome = Unit {0}
 
 -- a call leaves this outcome's value, or answers its cause; an allocation failure tells nothing
-abbrev pub IsLeft : Result (Unit {0}) ResultError → Value → Outcome → Type 0
+abbrev pub IsLeft : Result (Unit {0}) ResultError → Value → GroupResult → Type 0
 IsLeft (Ok _) left outcome = outcome ≡ Ok left
 IsLeft (Err (result_error.Cause cause)) left outcome = outcome ≡ Err cause
 IsLeft (Err result_error.Memory) left outcome = Unit {0}

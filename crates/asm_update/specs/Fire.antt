@@ -17,12 +17,12 @@ use Rattle.asm_update.specs.declared.clash.AggError.{AggError}
 use Rattle.asm_update.specs.declared.clash.AggError.TheVariants.{Clash as Clashes, Memory}
 
 -- a value, or the cause why there is none
-abbrev pub Outcome : Type 0
-Outcome = Result Value Cause
+abbrev pub GroupResult : Type 0
+GroupResult = Result Value Cause
 
 -- what an aggregator makes of the old value, the group's regular value if it has one, and its partials
 abbrev pub Part : Type 0
-Part = Value → Option Value → List Action → Outcome
+Part = Value → Option Value → List Action → GroupResult
 
 -- the first value, if there is one
 abbrev pub first : List Value → Option Value
@@ -30,13 +30,13 @@ first [] = None
 first (v ∷ vs) = Some v
 
 -- a regular value alone is the result, and partials are the aggregator's
-abbrev pub group_result : Part → Value → Option Value → List Action → Outcome
+abbrev pub group_result : Part → Value → Option Value → List Action → GroupResult
 group_result part old (Some v) [] = Ok v
 group_result part old (Some v) (p ∷ ps) = part old (Some v) (p ∷ ps)
 group_result part old None ps = part old None ps
 
 -- the result of the actions at one location on the old value
-abbrev pub res : Part → Value → List Action → Outcome
+abbrev pub res : Part → Value → List Action → GroupResult
 res part old G =
     if are_different (filter_map regular_value G) then Err Two
     else group_result part old (first (filter_map regular_value G)) (filter is_partial G)
@@ -46,8 +46,8 @@ abbrev pub Old : Type 0
 Old = Place → Value
 
 -- the result of a move at a location
-abbrev pub outcome_at : Part → Old → Move → Place → Outcome
-outcome_at part old M l = res part (old l) (actions_at M l)
+abbrev pub result_at : Part → Old → Move → Place → GroupResult
+result_at part old M l = res part (old l) (actions_at M l)
 
 -- the set of the locations that a move writes
 abbrev pub written : Move → finite.FinMap location_cmp (Unit {0})
@@ -59,14 +59,14 @@ abbrev pub locations : Move → List Place
 locations M = finite.keys (written M)
 
 -- the values of the outcomes, or the first cause, with its location
-abbrev pub gathered : Updates → List (Place × Outcome) → Result Updates Clash
+abbrev pub gathered : Updates → List (Place × GroupResult) → Result Updates Clash
 gathered U [] = Ok U
 gathered U ((l, Ok v) ∷ rest) = gathered (finite.insert U l v) rest
 gathered U ((l, Err cause) ∷ rest) = Err (record { at = l; cause = cause })
 
 -- the update set of a move, or its clash at the least location that has no result
 abbrev pub aggregated : Part → Old → Move → Result Updates Clash
-aggregated part old M = gathered finite.empty (map (λ l. (l, outcome_at part old M l)) (locations M))
+aggregated part old M = gathered finite.empty (map (λ l. (l, result_at part old M l)) (locations M))
 
 -- the state with the updates, or the clash
 abbrev pub overwritten : State → Result Updates Clash → Result State Clash
@@ -98,14 +98,14 @@ state_of part A (M ∷ q) = state_of part (state_or A (fire part A M)) q
 
 -- the updates have the result at each location that the move writes, and no other location
 pub record IsUpdateSet (part : Part) (old : Old) (M : Move) (U : Updates) : Type 0 where
-  pub written : (l : Place) → writes M l ≡ true → IsSomeAnd (finite.get U l) (λ v. outcome_at part old M l ≡ Ok v)
+  pub written : (l : Place) → writes M l ≡ true → IsSomeAnd (finite.get U l) (λ v. result_at part old M l ≡ Ok v)
   pub others : (l : Place) → writes M l ≡ false → finite.get U l ≡ None
 
 -- the clash stands at the least location that the move writes and where there is no result
 pub record IsLeastClash (part : Part) (old : Old) (M : Move) (clash : Clash) : Type 0 where
   pub written : writes M clash.at ≡ true
-  pub cause : outcome_at part old M clash.at ≡ Err clash.cause
-  pub least : (l : Place) → location_cmp l clash.at ≡ Less → writes M l ≡ true → IsOk (outcome_at part old M l)
+  pub cause : result_at part old M clash.at ≡ Err clash.cause
+  pub least : (l : Place) → location_cmp l clash.at ≡ Less → writes M l ≡ true → IsOk (result_at part old M l)
 
 -- a clash that is answered is the one of firing, whatever partial updates mean; an allocation failure tells nothing
 abbrev pub TellsClash : State → Move → AggError → Type 0

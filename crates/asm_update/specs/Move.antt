@@ -1,8 +1,7 @@
 -- Moves: what they do at a location, which locations they write, and where two values differ.
-use Rattle.std.specs.Prelude.{◌≡◌, Bool, true, false, not, List, [], ◌∷◌, Option, Some, None, IsTrue, map}
-use Rattle.std.specs.Borrow.{Bor}
+use Rattle.std.specs.Prelude.{◌≡◌, Bool, false, not, List, [], ◌∷◌, IsTrue, map}
 use Rattle.std.specs.List.{list_any, list_all, filter_map, filter}
-use Rattle.std.specs.Ordering.{eq_by_cmp, is_gt, is_lt}
+use Rattle.std.specs.Ordering.{eq_by_cmp, is_gt}
 use Rattle.asm_element.specs.Place.{Place, location_cmp}
 use Rattle.asm_element.specs.Value.{value_eq}
 use Rattle.asm_element.specs.declared.value.Value.{Value}
@@ -43,8 +42,3 @@ has_two M l = are_different (regular_values M l)
 pub record IsLeast (test : Place → Bool) (l : Place) : Type 0 where
   pub passes : IsTrue (test l)
   pub least : (k : Place) → IsTrue (test k) → is_gt (location_cmp l k) ≡ false
-
--- whether a location is below the other one, if there is one
-abbrev pub comes_before : Place → Option (Bor Place) → Bool
-comes_before l None = true
-comes_before l (Some k) = is_lt (location_cmp l k.now)

@@ -3,6 +3,7 @@ ghost use Rattle.asm_update.specs.declared.clash.AggError.TheVariants as agg_err
 
 use asm_element::Location;
 use std::alloc::{AllocError, AllocFailed};
+use std::fmt;
 use thiserror::Error;
 
 /// Why the updates of a location have no result; the first that holds, in this order.
@@ -28,6 +29,21 @@ pub enum Cause {
     Large,
 }
 
+/// The cause in words, as `two different regular values`.
+impl fmt::Display for Cause {
+    fn fmt<W: fmt::Write>(&self, f: &mut fmt::Formatter<W>) -> fmt::Result {
+        f.write_str(match self {
+            Cause::Two => "two different regular values",
+            Cause::Mixed => "partial updates of two families, or of one that has no aggregator",
+            Cause::Kind => "partial updates of a value that isn't of their kind",
+            Cause::Both => "an element both added and removed",
+            Cause::Against => "a regular value against partial updates",
+            Cause::Short => "more of an element removed than there is",
+            Cause::Large => "a count or a number too large",
+        })
+    }
+}
+
 /// A location whose updates have no result, with the cause.
 ///
 /// Source: an inconsistent update set, in Börger and Stärk; the causes are of this project's profile.
@@ -39,11 +55,18 @@ pub struct Clash {
     pub cause: Cause,
 }
 
+/// The location and the cause, as `counter: two different regular values`.
+impl fmt::Display for Clash {
+    fn fmt<W: fmt::Write>(&self, f: &mut fmt::Formatter<W>) -> fmt::Result {
+        write!(f, "{}: {}", self.at, self.cause)
+    }
+}
+
 /// Why instructions don't become a state or an update set.
 #[derive(Debug, Drop, PartialEq, Eq, Error)]
 pub enum AggError {
     /// The instructions clash: the least location whose updates have no result, with its first cause.
-    #[error("the updates clash")]
+    #[error("the updates clash at {0}")]
     Clash(Clash),
     /// The memory that the call asked for was refused.
     #[error("out of memory")]

@@ -1,6 +1,6 @@
 ghost use Rattle.std.specs.Prelude.{◌≡◌, false, MatchOption};
 ghost use Rattle.asm_element.specs.Place.{Place};
-ghost use Rattle.asm_update.specs.Move.{has_two, IsLeast, comes_before};
+ghost use Rattle.asm_update.specs.Move.{has_two, IsLeast};
 
 use crate::action::{Action, Instruction};
 use crate::instructions::Instructions;
@@ -29,16 +29,6 @@ fn has_two_values(instructions: &[Instruction], at: &Location) -> bool
     false
 }
 
-/// Whether the location is below the other one, or there is no other one.
-fn comes_before(at: &Location, other: Option<&Location>) -> bool
-    ensures { result ≡ comes_before at.now other.entry }
-{
-    match other {
-        None => true,
-        Some(other) => at < other,
-    }
-}
-
 /// The least location with two different regular values; None where the instructions are consistent.
 ///
 /// Partial updates don't count. Source: Börger and Stärk, for regular updates.
@@ -51,7 +41,7 @@ pub fn consistent(instructions: &Instructions) -> Option<&Location>
     let mut least: Option<&Location> = None;
     for instruction in list {
         let at = &instruction.at;
-        if comes_before(at, least) && has_two_values(list, at) {
+        if at.comes_before(least) && has_two_values(list, at) {
             least = Some(at);
         }
     }

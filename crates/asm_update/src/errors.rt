@@ -10,7 +10,7 @@ use thiserror::Error;
 #[derive(Clone, Copy, Debug, PartialEq, Eq, Error)]
 pub enum ResultError {
     /// The group has no result, for this cause.
-    #[error("the updates of a location have no result")]
+    #[error("the updates of a location have no result: {0}")]
     Cause(Cause),
     /// The memory that the call asked for was refused.
     #[error("out of memory")]
@@ -21,7 +21,7 @@ pub enum ResultError {
 #[derive(Clone, Copy, Debug, PartialEq, Eq, Error)]
 pub enum JoinError {
     /// One of the lists, or the two together, have no result on any value, for this cause.
-    #[error("the updates of a location have no result")]
+    #[error("the updates of a location have no result: {0}")]
     Cause(Cause),
     /// A joined amount of a bag would be above 4,294,967,295, or the sum of the increments of both lists is
     /// farther from 0 than 18,446,744,073,709,551,615.

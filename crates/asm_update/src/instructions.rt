@@ -1,6 +1,7 @@
 ghost use Rattle.std.specs.Prelude.{◌≡◌, ◌<◌, ◌≤◌, ◌++◌, ◌∷◌, [], ◌↔◌, length, All, IsTrue};
 ghost use Rattle.std.specs.Prelude.{OnOk, OnErr, IfOk, Some, Err, slice_get, vec_len};
 ghost use Rattle.std.specs.Arc.{arc_value};
+ghost use Rattle.std.specs.Slice.Iter.{iter_rest};
 ghost use Rattle.std.specs.Cmp.{partial_equiv_from_equiv};
 ghost use Rattle.asm_update.specs.Action.{IsProperInstruction};
 ghost use Rattle.asm_update.specs.Move as move_spec;
@@ -11,11 +12,12 @@ use crate::action::{Action, Instruction};
 use crate::proper::{proper_instruction, proper_instructions};
 use std::alloc::{AllocError, AllocFailed, Global};
 use std::marker::Model;
+use std::slice;
 use std::sync::Arc;
 use thiserror::Error;
 
 /// The most instructions of one move.
-const INSTRUCTIONS_LIMIT: usize = 4096;
+pub const INSTRUCTIONS_LIMIT: usize = 4096;
 
 /// Why an instruction isn't appended.
 #[derive(Clone, Copy, Debug, PartialEq, Eq, Error)]
@@ -77,8 +79,8 @@ fn append(list: &mut Arc<Vec<Instruction>>, instruction: Instruction) -> Result<
     ensures ok { OnOk result ((arc_value list.new).items ≡ (arc_value list.old).items ++ instruction ∷ []) }
     ensures err { OnErr result ((arc_value list.new).items ≡ (arc_value list.old).items) }
 {
-    let own = Arc::make_mut(list)?;
-    own.push(instruction)?;
+    let unshared = Arc::make_mut(list)?;
+    unshared.push(instruction)?;
     Ok(())
 }
 
@@ -118,6 +120,13 @@ impl Instructions {
         self.as_slice().len()
     }
 
+    /// Whether there is no instruction.
+    pub fn is_empty(&self) -> bool
+        ensures { IsTrue result ↔ (length self.now ≡ 0) }
+    {
+        self.len() == 0
+    }
+
     /// Appends an instruction.
     ///
     /// `ManyInstructions` comes exactly where there are 4,096 already, before memory is asked for,
@@ -150,11 +159,18 @@ impl Instructions {
         &self.as_slice()[i]
     }
 
+    /// The instructions, from the first to the last.
+    pub fn iter(&self) -> slice::Iter<'_, Instruction>
+        ensures { iter_rest result ≡ self.now }
+    {
+        self.as_slice().iter()
+    }
+
     /// Whether no instruction is partial; true of the empty list.
     pub fn all_regular(&self) -> bool
         ensures { result ≡ move_spec.all_regular self.now }
     {
-        self.as_slice().iter().all(|instruction| matches!(&instruction.action, Action::Regular(_)))
+        self.iter().all(|instruction| matches!(&instruction.action, Action::Regular(_)))
     }
 
     /// Does nothing; its contract tells that each instruction is proper.

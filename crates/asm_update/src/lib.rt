@@ -1,4 +1,4 @@
-// Moves of an abstract state machine: update instructions, consistency and firing.
+//! Moves of an abstract state machine: update instructions, consistency and firing.
 #![tactic(auto)]
 
 mod action;
@@ -21,7 +21,7 @@ pub use consistency::consistent;
 pub use errors::{JoinError, ResultError};
 pub use fire::fire_plain;
 pub use group::Group;
-pub use instructions::{Instructions, InstructionsError};
+pub use instructions::{INSTRUCTIONS_LIMIT, Instructions, InstructionsError};
 pub use lookup::Lookup;
 pub use plain_state::PlainState;
 pub use update_set::UpdateSet;

@@ -14,7 +14,6 @@ ghost use Rattle.asm_update.specs.Equal.{state_eq, state_eq-equiv};
 use crate::aggregator::Aggregator;
 use crate::errors::ResultError;
 use crate::group::Group;
-use crate::proper::proper_location;
 use asm_element::{Location, Value};
 use std::alloc::{AllocError, Global};
 use std::collections::BTreeMap;
@@ -82,6 +81,13 @@ impl PlainState {
         ensures { result ≡ map.len self.now }
     {
         self.values.len()
+    }
+
+    /// Whether each location is undef.
+    pub fn is_empty(&self) -> bool
+        ensures { IsTrue result ↔ (map.len self.now ≡ 0) }
+    {
+        self.len() == 0
     }
 
     /// The value at a location; None exactly where it is undef.
@@ -164,7 +170,7 @@ impl PlainState {
         ensures err { OnErr result (self.new ≡ self.old) }
         ensures absent { OnErr result (map.get self.old at ≡ None) }
     {
-        proper_location(&at);
+        at.proper();
         value.proper();
         self.values.insert(at, value)?;
         Ok(())

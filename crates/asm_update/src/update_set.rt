@@ -57,6 +57,13 @@ impl UpdateSet {
         self.values.len()
     }
 
+    /// Whether no location is written.
+    pub fn is_empty(&self) -> bool
+        ensures { IsTrue result ↔ (map.len self.now ≡ 0) }
+    {
+        self.len() == 0
+    }
+
     /// The value that is written at a location; None where none is.
     pub fn get(&self, at: &Location) -> Option<&Value>
         ensures { option_copied result ≡ map.get self.now at.now }

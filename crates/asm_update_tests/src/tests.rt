@@ -3,9 +3,8 @@ ghost use Rattle.asm_update.specs.Move.{all_regular};
 
 use asm_element::{Element, Location, Value};
 use asm_update::{
-    Action, AggError, Amount, Cause, Clash, Family, Group, Instruction, Instructions,
-    InstructionsError, JoinError, Lookup, PlainState, ResultError, UpdateSet, consistent,
-    fire_plain,
+    Action, AggError, Amount, Cause, Clash, Family, Group, INSTRUCTIONS_LIMIT, Instruction,
+    Instructions, InstructionsError, Lookup, PlainState, UpdateSet, consistent, fire_plain,
 };
 use std::alloc::{AllocError, Global};
 use std::test::Fail;
@@ -23,7 +22,7 @@ enum Update {
     BagRemove(i64, u32),
 }
 
-fn location(alloc: Global, name: &str, args: &[i64]) -> Result<Location, Fail> {
+pub(crate) fn location(alloc: Global, name: &str, args: &[i64]) -> Result<Location, Fail> {
     let mut elements = Vec::new(alloc);
     for arg in args {
         elements.push(Element::Num(*arg))?;
@@ -212,6 +211,28 @@ fn one_instruction_more_than_4096_is_refused(rt: HostRuntime) -> Result<(), Fail
 }
 
 #[test]
+fn the_limit_of_instructions_is_told(rt: HostRuntime) -> Result<(), Fail> {
+    assert_eq!(rt; INSTRUCTIONS_LIMIT, 4096);
+    Ok(())
+}
+
+/// Whether a walk of the instructions gives each at its place, and there are as many as this.
+fn is_walked(list: &Instructions, len: usize) -> bool {
+    list.iter().enumerate().all(|(i, instruction)| Some(instruction) == list.as_slice().get(i))
+        && list.iter().count() == len
+        && list.is_empty() == (len == 0)
+}
+
+#[test]
+fn instructions_are_walked_in_their_order(rt: HostRuntime) -> Result<(), Fail> {
+    assert!(rt; is_walked(&Instructions::new(rt.alloc()), 0));
+    let updates = [("x", Update::Put(Some(1))), ("y", Update::SetAdd(2))];
+    let list = list_of(rt.alloc(), &updates)?;
+    assert!(rt; is_walked(&list, 2));
+    Ok(())
+}
+
+#[test]
 fn a_list_becomes_the_instructions_of_a_move(rt: HostRuntime) -> Result<(), Fail> {
     let alloc = rt.alloc();
     for (length, fits) in [(0, true), (1, true), (4096, true), (4097, false)] {
@@ -284,11 +305,12 @@ fn gives<L: Lookup>(lookup: &L, at: &Location, value: &Value) -> bool {
 fn a_state_is_looked_up_and_walked_in_order(rt: HostRuntime) -> Result<(), Fail> {
     let alloc = rt.alloc();
     let mut state = PlainState::new(alloc);
+    assert!(rt; state.is_empty());
     set(alloc, &mut state, "b", &[], 4)?;
     set(alloc, &mut state, "a", &[0, 0], 3)?;
     set(alloc, &mut state, "a", &[9], 2)?;
     set(alloc, &mut state, "a", &[], 1)?;
-    assert!(rt; state.len() == 4 && is_undef(alloc, &state, "c")?);
+    assert!(rt; state.len() == 4 && !state.is_empty() && is_undef(alloc, &state, "c")?);
     for ((at, found), n) in state.iter().zip(1..5) {
         assert!(rt; *found == value(Some(n)) && gives(&state, at, found));
     }
@@ -317,6 +339,7 @@ fn an_update_set_keeps_the_last_value(rt: HostRuntime) -> Result<(), Fail> {
     let alloc = rt.alloc();
     let updates = set_of(alloc, &[("y", None), ("x", Some(1)), ("x", Some(2))])?;
     assert!(rt; updates.len() == 2 && begins_with(alloc, &updates, "x", 2)?);
+    assert!(rt; !updates.is_empty() && UpdateSet::new(alloc).is_empty());
     let shorter = set_of(alloc, &[("x", Some(2))])?;
     assert!(rt; updates != shorter);
     let same = set_of(alloc, &[("x", Some(2)), ("y", None)])?;
@@ -333,34 +356,5 @@ fn a_group_has_what_it_was_made_of(rt: HostRuntime) -> Result<(), Fail> {
     assert_eq!(rt; group.regular(), Some(&Value::Plain(Element::Num(2))));
     assert_eq!(rt; group.partials().len(), 1);
     assert_eq!(rt; group.partials()[0], Action::SetAdd(Element::Num(1)));
-    Ok(())
-}
-
-/// A clash at a location without arguments.
-fn clash_at(alloc: Global, name: &str) -> Result<Clash, Fail> {
-    let at = location(alloc, name, &[])?;
-    let cause = Cause::Two;
-    Ok(Clash { at, cause })
-}
-
-#[test]
-fn errors_have_their_texts(rt: HostRuntime) -> Result<(), Fail> {
-    let alloc = rt.alloc();
-    let full = InstructionsError::ManyInstructions.to_string(alloc)?;
-    assert!(rt; full.as_str() == "more than 4,096 instructions");
-    let clash = AggError::Clash(clash_at(alloc, "x")?).to_string(alloc)?;
-    assert!(rt; clash.as_str() == "the updates clash");
-    let result = ResultError::Cause(Cause::Kind).to_string(alloc)?;
-    assert!(rt; result.as_str() == "the updates of a location have no result");
-    for (error, want) in [
-        (
-            JoinError::Cause(Cause::Both),
-            "the updates of a location have no result",
-        ),
-        (JoinError::Large, "a joined amount or sum is too large"),
-        (JoinError::Memory, "out of memory"),
-    ] {
-        assert!(rt; error.to_string(alloc)?.as_str() == want, "{want}");
-    }
     Ok(())
 }

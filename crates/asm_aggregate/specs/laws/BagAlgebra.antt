@@ -26,7 +26,7 @@ use Rattle.asm_update.specs.declared.action.Family.TheVariants.{Bag}
 use Rattle.asm_aggregate.specs.Side.{other}
 use Rattle.asm_aggregate.specs.Sets.{elements_by}
 use Rattle.asm_aggregate.specs.Steps.{names}
-use Rattle.asm_aggregate.specs.BagMeaning.{amount, amount_in, element_of, named, new_count, recounted, counted}
+use Rattle.asm_aggregate.specs.BagMeaning.{amount, amount_in, element_of, named, new_count, recounted, renewed, counted}
 use Rattle.asm_aggregate.specs.BagMeaning.{bag_action, bag_side, bag_actions}
 use Rattle.asm_aggregate.specs.declared.side.Side.{Side}
 use Rattle.asm_aggregate.specs.declared.side.Side.TheVariants.{Added, Removed}
@@ -124,10 +124,7 @@ small_counts b is below q = subst (λ (o : Option ℕ). IfSome o IsCount) (sym (
   at zero h = tt
   at (suc n) h = (omega arith, h)
 
--- the bag after the actions, and what it holds at each element
-abbrev pub renewed : ElementBag → List Action → ElementBag
-renewed b actions = recounted b (new_count b actions) (named actions)
-
+-- what the bag after the actions holds at each element
 pub get-renewed : (b : ElementBag) (actions : List Action) (q : Element) → Small b →
     finite.get (renewed b actions) q ≡ held (new_count b actions q)
 get-renewed b actions q h =
@@ -231,25 +228,25 @@ nothing true n m h = omega arith
 nothing false n m h = omega arith
 
 -- one side's actions have its amounts, and none of the other side's
-pub own_amount : (side : Side) (q k : Element) (n : ℕ) →
+pub amount-bag_action : (side : Side) (q k : Element) (n : ℕ) →
     amount side q (bag_action side k n) ≡ cond (eq_by_cmp element_cmp q k) n 0
-own_amount Added q k n = refl
-own_amount Removed q k n = refl
+amount-bag_action Added q k n = refl
+amount-bag_action Removed q k n = refl
 
 other_amount : (side : Side) (q k : Element) (n : ℕ) → amount side q (bag_action (other side) k n) ≡ 0
 other_amount Added q k n = refl
 other_amount Removed q k n = refl
 
 module _ (side : Side) (f : Element → ℕ) where
-  own_amounts : (ks : List Element) (q : Element) → amount_in side (bag_side side f ks) q ≡ total f ks q
-  own_amounts [] q = refl
-  own_amounts (k ∷ ks) q = at (nat_lt 0 (f k)) refl (own_amounts ks q) where
+  amount-bag_side : (ks : List Element) (q : Element) → amount_in side (bag_side side f ks) q ≡ total f ks q
+  amount-bag_side [] q = refl
+  amount-bag_side (k ∷ ks) q = at (nat_lt 0 (f k)) refl (amount-bag_side ks q) where
     at : (b : Bool) → nat_lt 0 (f k) ≡ b → amount_in side (bag_side side f ks) q ≡ total f ks q →
         amount_in side (map (λ e. bag_action side e (f e)) (cond b (k ∷ counted f ks) (counted f ks))) q
         ≡ cond (eq_by_cmp element_cmp q k) (f k) 0 + total f ks q
     at true i later =
         summed (amount side q) (bag_action side k (f k)) (bag_side side f ks)
-        ∙ (λ i. own_amount side q k (f k) i + later i)
+        ∙ (λ i. amount-bag_action side q k (f k) i + later i)
     at false i later =
         later ∙ sym (nothing (eq_by_cmp element_cmp q k) (total f ks q) (f k) (grind (arith, nat_tests)))
 
@@ -275,13 +272,13 @@ pub amount-bag_actions : (side : Side) (f : Side → Element → ℕ) (actions :
 amount-bag_actions Added f actions q h =
     let es = named actions in
     sum_by-append (amount Added q) (bag_side Added (f Added) es) (bag_side Removed (f Removed) es)
-    ∙ (λ i. (own_amounts Added (f Added) es q ∙ total_named (f Added) actions q h) i
+    ∙ (λ i. (amount-bag_side Added (f Added) es q ∙ total_named (f Added) actions q h) i
     + other_amounts Added (f Removed) (counted (f Removed) es) q i) ∙ add-zero (f Added q)
 amount-bag_actions Removed f actions q h =
     let es = named actions in
     sum_by-append (amount Removed q) (bag_side Added (f Added) es) (bag_side Removed (f Removed) es)
     ∙ (λ i. other_amounts Removed (f Added) (counted (f Added) es) q i
-    + (own_amounts Removed (f Removed) es q ∙ total_named (f Removed) actions q h) i) ∙ zero-add (f Removed q)
+    + (amount-bag_side Removed (f Removed) es q ∙ total_named (f Removed) actions q h) i) ∙ zero-add (f Removed q)
 
 all_on : (side : Side) (f : Element → ℕ) (ks : List Element) →
     list_all (is_of Bag) (map (λ e. bag_action side e (f e)) ks) ≡ true

@@ -14,8 +14,8 @@ use Rattle.asm_element.specs.Value as value
 use Rattle.asm_element.specs.declared.value.Value.{Value}
 use Rattle.asm_element.specs.declared.value.Value.TheVariants as values
 use Rattle.asm_update.specs.Action.{is_of, kind_of, IsProper, AllProper}
-use Rattle.asm_update.specs.Aggregator.{AggregatorLaws, Refusal, after}
-use Rattle.asm_update.specs.Fire.{Outcome}
+use Rattle.asm_update.specs.Aggregator.{AggregatorLaws, NoJoin, after}
+use Rattle.asm_update.specs.Fire.{GroupResult}
 use Rattle.asm_update.specs.declared.action.Action.{Action}
 use Rattle.asm_update.specs.declared.action.Action.TheVariants.{BagAdd, BagRemove}
 use Rattle.asm_update.specs.declared.action.Family.{Family}
@@ -26,29 +26,17 @@ use Rattle.asm_element.specs.Tests.{itself, ok_is}
 use Rattle.asm_aggregate.specs.Families.{is_kind}
 use Rattle.asm_aggregate.specs.BagMeaning.{owns_bags, counts, amount, amount_in, named, is_large, new_count, recounted}
 use Rattle.asm_aggregate.specs.BagMeaning.{joined_amount, is_either_large, bag_actions, bag_result, bag_joins}
-use Rattle.asm_aggregate.specs.BagMeaning.{bag_meaning, bag_action}
+use Rattle.asm_aggregate.specs.BagMeaning.{bag_meaning, bag_action, renewed, short, large, tabled}
 use Rattle.asm_aggregate.specs.declared.side.Side.{Side}
 use Rattle.asm_aggregate.specs.declared.side.Side.TheVariants.{Added, Removed}
 use Rattle.asm_aggregate.specs.laws.FamilyLemmas.{kind_is, all_of_one, all-IsPermutation, all_partial, joined_family}
 use Rattle.asm_aggregate.specs.laws.FamilyLemmas.{nil_parts}
 use Rattle.asm_aggregate.specs.laws.TableLemmas.{passed}
 use Rattle.asm_aggregate.specs.laws.SetAlgebra.{elements-empty}
-use Rattle.asm_aggregate.specs.laws.BagAlgebra.{has, Small, held, renewed, unnamed, fails_everywhere, none_passes}
+use Rattle.asm_aggregate.specs.laws.BagAlgebra.{has, Small, held, unnamed, fails_everywhere, none_passes}
 use Rattle.asm_aggregate.specs.laws.BagAlgebra.{get-renewed, count-renewed, small_renewed, small_below, small_held}
 use Rattle.asm_aggregate.specs.laws.BagAlgebra.{small_bag, bag_small, same_counts, amount-bag_actions, all-bag_actions}
-use Rattle.asm_aggregate.specs.laws.BagAlgebra.{named-IsPermutation, own_amount, summed, renewed_elements}
-
--- the tests of the table, over the elements named
-abbrev pub short : ElementBag → List Action → Bool
-short b actions = list_any (λ e. nat_lt (count b e) (amount_in Removed actions e)) (named actions)
-
-abbrev pub large : ElementBag → List Action → Bool
-large b actions = list_any (λ e. is_large (new_count b actions e)) (named actions)
-
--- what the tests and the bag give, also of an empty list
-abbrev pub tabled : ElementBag → List Action → Outcome
-tabled b actions =
-    cond (short b actions) (Err Short) (cond (large b actions) (Err Large) (Ok (values.Bag (renewed b actions))))
+use Rattle.asm_aggregate.specs.laws.BagAlgebra.{named-IsPermutation, amount-bag_action, summed, renewed_elements}
 
 at_none : (n m : ℕ) → m ≡ 0 → nat_lt n m ≡ false
 at_none n m h = grind (arith, nat_tests)
@@ -126,7 +114,7 @@ after_on_bag b [] p h =
 after_on_bag b (x ∷ xs) p h = rw h refl
 
 -- what a group gives, from what its list tells
-abbrev by_parts : Value → Option Value → Bool → (Element → ℕ) → (Element → ℕ) → List Element → Outcome
+abbrev by_parts : Value → Option Value → Bool → (Element → ℕ) → (Element → ℕ) → List Element → GroupResult
 by_parts old regular bags a r es =
     let base = unwrap_or regular old in
     let renew : Element → ℕ = λ e. (count (counts base) e - r e) + a e in
@@ -282,9 +270,9 @@ first_amount : (side : Side) (x : Element) (n : ℕ) (xs : List Action) → 1 �
     0 < amount_in side (bag_action side x n ∷ xs) x
 first_amount side x n xs least =
     let sum = summed (amount side x) (bag_action side x n) xs in
-    let own : amount side x (bag_action side x n) ≡ n =
-    own_amount side x x n ∙ ap (λ t. cond t n 0) (itself element_cmp_total x) in
-    omega (arith, least, sum, own)
+    let of_one : amount side x (bag_action side x n) ≡ n =
+    amount-bag_action side x x n ∙ ap (λ t. cond t n 0) (itself element_cmp_total x) in
+    omega (arith, least, sum, of_one)
 
 has_amount : (actions : List Action) → AllProper actions → list_all (is_of Bag) actions ≡ true → actions ≢ [] →
     HasAmount actions
@@ -391,7 +379,7 @@ amounts_fit : (v w x : Value) (first second : List Action) → value.IsProper v 
 amounts_fit (values.Bag b) w x first second p ne h k q = small_on_bag b w x first second (small_bag b p.1) h k q
 amounts_fit v w x first second p ne h k q = absurd (not_off_bag v w x first second refl ne h k)
 
-refused_join : (v w x : Value) (first second : List Action) (refusal : Refusal) →
+refused_join : (v w x : Value) (first second : List Action) (refusal : NoJoin) →
     value.IsProper v → AllProper first → AllProper second → first ++ second ≢ [] →
     bag_joins first second ≡ Err refusal → after bag_meaning v first ≡ Ok w → after bag_meaning w second ≢ Ok x
 refused_join v w x first second refusal pv p1 p2 ne join h k =

@@ -50,10 +50,6 @@ total_is (x ∷ xs) =
     let lowered = summed lower x xs in
     omega (arith, ints, one, rest, raised, lowered)
 
-pub total-append : (xs ys : List Action) → total (xs ++ ys) ≡ total xs +ℤ total ys
-total-append [] ys = omega (arith, ints)
-total-append (x ∷ xs) ys = let rest = total-append xs ys in omega (arith, ints, rest)
-
 pub total-IsPermutation : (xs ys : List Action) → IsPermutation xs ys → total ys ≡ total xs
 total-IsPermutation xs ys p =
     total_is ys

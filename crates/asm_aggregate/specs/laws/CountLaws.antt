@@ -13,8 +13,8 @@ use Rattle.asm_element.specs.declared.value.Value.{Value}
 use Rattle.asm_element.specs.declared.value.Value.TheVariants as values
 use Rattle.asm_element.specs.Tests.{ok_is}
 use Rattle.asm_update.specs.Action.{is_of, kind_of, AllProper}
-use Rattle.asm_update.specs.Aggregator.{AggregatorLaws, Refusal, after}
-use Rattle.asm_update.specs.Fire.{Outcome}
+use Rattle.asm_update.specs.Aggregator.{AggregatorLaws, NoJoin, after}
+use Rattle.asm_update.specs.Fire.{GroupResult}
 use Rattle.asm_update.specs.declared.action.Action.{Action}
 use Rattle.asm_update.specs.declared.action.Action.TheVariants.{Increment}
 use Rattle.asm_update.specs.declared.action.Family.{Family}
@@ -67,7 +67,7 @@ after_counts v w [] h = refl
 after_counts v w (x ∷ xs) h = (had_result v w None (x ∷ xs) h).counts
 
 -- what a number is as a counter's value
-abbrev tabled : ℤ → Outcome
+abbrev tabled : ℤ → GroupResult
 tabled n = cond (is_outside n) (Err Large) (Ok (values.Plain (Num n)))
 
 after_on_number : (n : ℤ) (actions : List Action) → FitsSigned w64 n → list_all (is_of Count) actions ≡ true →
@@ -194,7 +194,7 @@ never_off v w x [] (y ∷ ys) off ne h k =
     let off_w = ap (is_kind Count) (sym (ok_is _ _ h)) ∙ off in cc
 never_off v w x (z ∷ zs) second off ne h k = let on = (had_result v w None (z ∷ zs) h).on_number in cc
 
-refused_join : (v w x : Value) (first second : List Action) (refusal : Refusal) →
+refused_join : (v w x : Value) (first second : List Action) (refusal : NoJoin) →
     value.IsProper v → AllProper first → AllProper second → first ++ second ≢ [] →
     count_joins first second ≡ Err refusal → after count_meaning v first ≡ Ok w → after count_meaning w second ≢ Ok x
 refused_join v w x first second refusal pv _ _ ne join h k = by_kind (is_kind Count v) refl where

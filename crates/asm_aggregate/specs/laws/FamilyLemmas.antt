@@ -122,8 +122,8 @@ all_of_rest f (x ∷ xs) h only =
       here : (o : Option Family) → family_of x ≡ o → is_partial x ≡ true → is_of f x ≡ true
       here None e h = let none : is_partial x ≡ false = ap is_some e in cc
       here (Some g) e h =
-          let own : is_of g x ≡ true = is_family g (family_of x) e in
-          is_family f (family_of x) (e ∙ ap Some (sym (only g (ap (λ b. b || list_any (is_of g) xs) own))))
+          let at_head : is_of g x ≡ true = is_family g (family_of x) e in
+          is_family f (family_of x) (e ∙ ap Some (sym (only g (ap (λ b. b || list_any (is_of g) xs) at_head))))
 
 -- the common family of a list, and what it tells
 pub common_is : (f : Family) (xs : List Action) → xs ≢ [] → list_all (is_of f) xs ≡ true → common_family xs ≡ Some f
@@ -188,7 +188,3 @@ joined_family f g first second joined are nothing some =
     let ne : first ++ second ≢ [] = λ none. (let empty = ap (list_any (is_of g)) (sym (nothing none)) ∙ some in cc) in
     subst (λ (g : Family). list_any (is_of g) (first ++ second) ≡ true) same
     (some_among (is_of f) (first ++ second) ne (all_of_both (is_of f) first second are.one are.two))
-
--- actions of one family are partial, also with nothing after them
-pub common_partial : (f : Family) (xs : List Action) → common_family xs ≡ Some f → list_all is_partial (xs ++ []) ≡ true
-common_partial f xs h = all_partial f (xs ++ []) (all_of_both (is_of f) xs [] (common_all f xs h) refl)

@@ -9,7 +9,7 @@ use Rattle.std.proofs.lemmas.List.Elements.{All-nil}
 use Rattle.asm_element.specs.Value as value
 use Rattle.asm_element.specs.declared.value.Value.{Value}
 use Rattle.asm_update.specs.Action.{is_of, kind_of, AllProper, IsProper}
-use Rattle.asm_update.specs.Aggregator.{Meaning, AggregatorLaws, Joined, Refusal, Refused, TooLarge, after}
+use Rattle.asm_update.specs.Aggregator.{Meaning, AggregatorLaws, Joined, NoJoin, Refused, TooLarge, after}
 use Rattle.asm_update.specs.declared.action.Action.{Action}
 use Rattle.asm_update.specs.declared.action.Family.{Family}
 use Rattle.asm_update.specs.declared.clash.Cause.{Cause}
@@ -18,7 +18,7 @@ use Rattle.asm_element.specs.Tests.{ok_is}
 use Rattle.asm_aggregate.specs.Families.{common_family}
 use Rattle.asm_aggregate.specs.laws.FamilyLemmas.{both_true, one_family, all-IsPermutation, all_of_rest, among_all}
 use Rattle.asm_aggregate.specs.laws.FamilyLemmas.{common_is, common_all, common_some, cons_some}
-use Rattle.asm_aggregate.specs.PairMeaning.{pair_owns, by_owner, pair_result, refused, own_cause, unless, pair_joins}
+use Rattle.asm_aggregate.specs.PairMeaning.{pair_owns, by_owner, pair_result, refused, cause_by_owner, unless, pair_joins}
 use Rattle.asm_aggregate.specs.PairMeaning.{pair_meaning}
 
 -- what two lists of one family join to is of that family
@@ -187,10 +187,10 @@ module _ {a b : Meaning} (al : AggregatorLaws a) (bl : AggregatorLaws b) where
   after_second f v (x ∷ xs) h o q =
       owned_second a b f (common_family (x ∷ xs)) _ _ _ (common_is f (x ∷ xs) (cons_some x xs) h) o q
 
-  no_own_cause : (v w : Value) (xs : List Action) → value.IsProper v → AllProper xs → after pair v xs ≡ Ok w →
-      own_cause a b xs ≡ None
-  no_own_cause v w [] pv px h = refl
-  no_own_cause v w (x ∷ xs) pv px h = elim (answered a b (common_family (x ∷ xs)) _ _ _ _ h) [
+  no_cause_by_owner : (v w : Value) (xs : List Action) → value.IsProper v → AllProper xs → after pair v xs ≡ Ok w →
+      cause_by_owner a b xs ≡ None
+  no_cause_by_owner v w [] pv px h = refl
+  no_cause_by_owner v w (x ∷ xs) pv px h = elim (answered a b (common_family (x ∷ xs)) _ _ _ _ h) [
     | OfFirst f e k is ↦ owned_first a b f (common_family (x ∷ xs)) _ _ _ e k
         ∙ refused_none _
         (λ cause j. al.refused_join v w w (x ∷ xs) [] (Refused cause) pv px (All-nil IsProper) (λ n. cc) j is refl)
@@ -204,9 +204,9 @@ module _ {a b : Meaning} (al : AggregatorLaws a) (bl : AggregatorLaws b) where
       AllProper second → first ++ second ≢ [] → pair_joins a b first second ≡ Ok joined → after pair v first ≡ Ok w →
       after pair v joined ≡ after pair w second
   join_is_sequence v w first second joined pv p1 p2 ne join h =
-      let own1 = passed_unless _ _ joined join in
-      let own2 = passed_unless _ _ joined own1.1 in
-      elim (answered a b (common_family (first ++ second)) _ _ _ _ own2.1) [
+      let passes_first = passed_unless _ _ joined join in
+      let passes_both = passed_unless _ _ joined passes_first.1 in
+      elim (answered a b (common_family (first ++ second)) _ _ _ _ passes_both.1) [
         | OfFirst f e o is ↦
             let all = common_all f (first ++ second) e in
             let parts = both_parts (is_of f) first second all in
@@ -246,21 +246,21 @@ module _ {a b : Meaning} (al : AggregatorLaws a) (bl : AggregatorLaws b) where
       ∙ ap (λ b. b && list_all (is_of f.family) (y ∷ ys)) first_all ∙ on_second in
       record { family = f.family; common = common_is f.family ((z ∷ zs) ++ (y ∷ ys)) ne all; owned = f.owned }
 
-  refused_join : (v w x : Value) (first second : List Action) (refusal : Refusal) → value.IsProper v → AllProper first →
+  refused_join : (v w x : Value) (first second : List Action) (refusal : NoJoin) → value.IsProper v → AllProper first →
       AllProper second → first ++ second ≢ [] → pair_joins a b first second ≡ Err refusal → after pair v first ≡ Ok w →
       after pair w second ≢ Ok x
   refused_join v w x first second refusal pv p1 p2 ne join h k =
-      let own1 = no_own_cause v w first pv p1 h in
-      let own2 = no_own_cause w x second (proper_after v w first pv p1 h) p2 k in
+      let passes_first = no_cause_by_owner v w first pv p1 h in
+      let passes_both = no_cause_by_owner w x second (proper_after v w first pv p1 h) p2 k in
       let had = results_family v w x first second ne h k in
-      let past_own = passed_none _ _ _ own2 (passed_none _ _ _ own1 join) in
+      let past_causes = passed_none _ _ _ passes_both (passed_none _ _ _ passes_first join) in
       let parts = both_parts (is_of had.family) first second (common_all had.family (first ++ second) had.common) in
       elim had.owned [
         | inl o ↦ al.refused_join v w x first second refusal pv p1 p2 ne
-            (sym (owned_first a b had.family (common_family (first ++ second)) _ _ _ had.common o) ∙ past_own)
+            (sym (owned_first a b had.family (common_family (first ++ second)) _ _ _ had.common o) ∙ past_causes)
             (sym (after_first had.family v first parts.0 o) ∙ h) (sym (after_first had.family w second parts.1 o) ∙ k)
         | inr o ↦ bl.refused_join v w x first second refusal pv p1 p2 ne
-            (sym (owned_second a b had.family (common_family (first ++ second)) _ _ _ had.common o.0 o.1) ∙ past_own)
+            (sym (owned_second a b had.family (common_family (first ++ second)) _ _ _ had.common o.0 o.1) ∙ past_causes)
             (sym (after_second had.family v first parts.0 o.0 o.1) ∙ h)
             (sym (after_second had.family w second parts.1 o.0 o.1) ∙ k)
       ]
@@ -269,9 +269,9 @@ module _ {a b : Meaning} (al : AggregatorLaws a) (bl : AggregatorLaws b) where
   by_joiner : (first second joined : List Action) → pair_joins a b first second ≡ Ok joined →
       (a.joins first second ≡ Ok joined) ⊎ (b.joins first second ≡ Ok joined)
   by_joiner first second joined join =
-      let own1 = passed_unless _ _ joined join in
-      let own2 = passed_unless _ _ joined own1.1 in
-      elim (answered a b (common_family (first ++ second)) _ _ _ _ own2.1) [
+      let passes_first = passed_unless _ _ joined join in
+      let passes_both = passed_unless _ _ joined passes_first.1 in
+      elim (answered a b (common_family (first ++ second)) _ _ _ _ passes_both.1) [
         | OfFirst f e k is ↦
             inl is
         | OfSecond f e k l is ↦ inr is

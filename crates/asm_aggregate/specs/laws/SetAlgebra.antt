@@ -34,10 +34,6 @@ pub same_element : (a b : Element) → eq_by_cmp element_cmp a b ≡ true → a 
 same_element a b h = element_cmp-IsAntisymmetric a b ((Equal-is (element_cmp a b)).0 h)
 
 -- members of sets that are made
-is_some-none : (b : Bool) (x : Option (Unit {0})) → is_some (cond b None x) ≡ (not b && is_some x)
-is_some-none true x = refl
-is_some-none false x = refl
-
 is_some-kept : (b : Bool) (x : Option (Unit {0})) → is_some (cond b x None) ≡ (is_some x && b)
 is_some-kept true None = refl
 is_some-kept true (Some u) = refl
@@ -50,10 +46,6 @@ contains-empty q = ap is_some (finite.get-empty element_cmp q)
 pub elements-empty : elements empty ≡ []
 elements-empty =
     ap (map (λ e. e.0)) (nil_from_length _ (sym (finite.len-entries empty) ∙ finite.len-empty element_cmp (Unit {0})))
-
-pub contains-remove : (s : ElementSet) (e q : Element) →
-    contains (remove s e) q ≡ (not (eq_by_cmp element_cmp q e) && contains s q)
-contains-remove s e q = ap is_some (finite.get-remove element_cmp_total s e q) ∙ is_some-none _ (finite.get s q)
 
 pub contains-elements : (s : ElementSet) (q : Element) → contains s q ≡ list_any (eq_by_cmp element_cmp q) (elements s)
 contains-elements s q = finite.contains_key-keys s q
@@ -172,12 +164,12 @@ module _ (element_of : Action → Option Element) where
         at (Some e) here later k = one_of element.IsProper e q (contains (elements_by element_of xs) q) here later k
 
 -- the actions of the elements of each side
-any_own : (side : Side) (es : List Element) (e : Element) →
+any_on_side : (side : Side) (es : List Element) (e : Element) →
     list_any (λ x. is_the e (element_on side x)) (map (λ y. set_action side y) es)
     ≡ list_any (eq_by_cmp element_cmp e) es
-any_own side [] e = refl
-any_own Added (x ∷ xs) e = ap (λ b. eq_by_cmp element_cmp e x || b) (any_own Added xs e)
-any_own Removed (x ∷ xs) e = ap (λ b. eq_by_cmp element_cmp e x || b) (any_own Removed xs e)
+any_on_side side [] e = refl
+any_on_side Added (x ∷ xs) e = ap (λ b. eq_by_cmp element_cmp e x || b) (any_on_side Added xs e)
+any_on_side Removed (x ∷ xs) e = ap (λ b. eq_by_cmp element_cmp e x || b) (any_on_side Removed xs e)
 
 none_other : (side : Side) (es : List Element) (e : Element) →
     list_any (λ x. is_the e (element_on side x)) (map (λ y. set_action (other side) y) es) ≡ false
@@ -189,11 +181,11 @@ any_of_both : (side : Side) (s : Side → ElementSet) (e : Element) →
     list_any (λ x. is_the e (element_on side x)) (set_actions s) ≡ contains (s side) e
 any_of_both Added s e =
     list_any-append (λ x. is_the e (element_on Added x)) (set_side Added (s Added)) (set_side Removed (s Removed))
-    ∙ (λ i. any_own Added (elements (s Added)) e i || none_other Added (elements (s Removed)) e i)
+    ∙ (λ i. any_on_side Added (elements (s Added)) e i || none_other Added (elements (s Removed)) e i)
     ∙ or_false _ ∙ sym (contains-elements (s Added) e)
 any_of_both Removed s e =
     list_any-append (λ x. is_the e (element_on Removed x)) (set_side Added (s Added)) (set_side Removed (s Removed))
-    ∙ (λ i. none_other Removed (elements (s Added)) e i || any_own Removed (elements (s Removed)) e i)
+    ∙ (λ i. none_other Removed (elements (s Added)) e i || any_on_side Removed (elements (s Removed)) e i)
     ∙ sym (contains-elements (s Removed) e)
 
 pub elements_on-set_actions : (side : Side) (s : Side → ElementSet) → elements_on side (set_actions s) ≡ s side

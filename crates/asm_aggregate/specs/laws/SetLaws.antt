@@ -9,7 +9,7 @@ use Rattle.asm_element.specs.Value as value
 use Rattle.asm_element.specs.declared.value.Value.{Value}
 use Rattle.asm_element.specs.declared.value.Value.TheVariants as values
 use Rattle.asm_update.specs.Action.{is_of, kind_of, AllProper}
-use Rattle.asm_update.specs.Aggregator.{AggregatorLaws, Refusal, after}
+use Rattle.asm_update.specs.Aggregator.{AggregatorLaws, NoJoin, after}
 use Rattle.asm_update.specs.declared.action.Action.{Action}
 use Rattle.asm_update.specs.declared.action.Family.{Family}
 use Rattle.asm_update.specs.declared.action.Family.TheVariants.{Set}
@@ -181,7 +181,7 @@ join_is_sequence v w first second list _ _ _ ne join h =
     let had = had_join first second list join in
     ap (after set_meaning v) (sym had.gave) ∙ in_sequence v w first second had.fair ne h
 
-refused_join : (v w x : Value) (first second : List Action) (refusal : Refusal) →
+refused_join : (v w x : Value) (first second : List Action) (refusal : NoJoin) →
     value.IsProper v → AllProper first → AllProper second → first ++ second ≢ [] →
     set_joins first second ≡ Err refusal → after set_meaning v first ≡ Ok w → after set_meaning w second ≢ Ok x
 refused_join v w x first second refusal _ _ _ ne join h k =

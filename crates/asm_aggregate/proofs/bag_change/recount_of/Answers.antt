@@ -3,7 +3,7 @@ use Rattle.std.proofs.lemmas.Result.{err_from_is_err_and}
 use Rattle.std.specs.Result.{IfErr}
 use Rattle.std.specs.Prelude.{Err}
 use Rattle.asm_update.specs.Aggregator.{IsOutcome}
-use Rattle.asm_aggregate.specs.laws.BagLaws.{tabled}
+use Rattle.asm_aggregate.specs.BagMeaning.{tabled}
 use Rattle.asm_aggregate.proofs.BagRecount.{IsPart, part_of, short_part, large_part, part_answer}
 use Rattle.asm_aggregate.proofs.Exits.{handed_on}
 use Rattle.asm_aggregate.proofs.bag_change.recount_of.Goals as goal

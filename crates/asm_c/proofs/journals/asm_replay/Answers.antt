@@ -1,7 +1,7 @@
 use Rattle.std.proofs.Common.{◌≡◌, List, ℕ, subst, sym, ◌∙◌}
 use Rattle.std.specs.Prelude.{slice_range}
 use Rattle.asm_c.specs.Journals.{IsReplayed}
-use Rattle.asm_c.proofs.Among.{at_zero}
+use Rattle.asm_c.proofs.CodeZero.{at_zero}
 use Rattle.asm_c.proofs.journals.asm_replay.Goals as goal
 
 pub returns-in-Ok-clause-told : goal.returns-in-Ok-clause-told

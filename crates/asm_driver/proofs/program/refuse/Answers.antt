@@ -1,7 +1,7 @@
 use Rattle.std.proofs.Common.{refl, inr}
 use Rattle.asm_driver.specs.Refusal.{has_number}
-use Rattle.asm_driver.specs.declared.refusal.Refusal.TheVariants.{Memory}
-use Rattle.asm_driver.proofs.Ports.{otherwise}
+use Rattle.asm_driver.specs.declared.program.refusal.Refusal.TheVariants.{Memory}
+use Rattle.asm_driver.proofs.Runs.{otherwise}
 use Rattle.asm_driver.proofs.program.refuse.Goals as goal
 
 pub returns-in-Err-clause-refuses : goal.returns-in-Err-clause-refuses

@@ -1,5 +1,5 @@
 use Rattle.std.proofs.Common.{rules}
-use Rattle.asm_driver.proofs.Ports.{runs_over}
+use Rattle.asm_driver.proofs.Runs.{runs_over}
 use Rattle.asm_driver.proofs.program.run_main.Goals as goal
 
 pub returns-clause-runs : goal.returns-clause-runs

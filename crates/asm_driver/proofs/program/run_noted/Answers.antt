@@ -1,6 +1,6 @@
 use Rattle.std.proofs.Common.{ap, map, string_bytes}
 use Rattle.asm_driver.proofs.Faulting.{faults_answered, faults_refused}
-use Rattle.asm_driver.proofs.Ports.{answered, refused}
+use Rattle.asm_driver.proofs.Runs.{answered, refused}
 use Rattle.asm_driver.proofs.program.run_noted.Goals as goal
 
 pub returns-in-Ok-clause-runs : goal.returns-in-Ok-clause-runs

@@ -5,4 +5,4 @@ use Rattle.asm_journal.proofs.checking.are_values.Given as goal
 
 -- the values so far are those of the locations so far
 abbrev pub invariant-loop-index : goal.invariant-loop-index
-invariant-loop-index l = map (value_at l.state) (take l.index l.places) ≡ take l.index l.values
+invariant-loop-index l = map (value_at l.state) (take l.index l.locations) ≡ take l.index l.values

@@ -1,7 +1,7 @@
 use Rattle.std.proofs.Common.{length, ap, subst, ◌∙◌, []}
 use Rattle.std.proofs.lemmas.List.{take_all}
 use Rattle.asm_state.specs.Stands.{Stands}
-use Rattle.asm_storage.specs.History.{moves, IsLegal}
+use Rattle.asm_storage.specs.History.{fired_moves, IsLegal}
 use Rattle.asm_journal.specs.Check.{machine_of, IsFirstWrong}
 use Rattle.asm_storage.proofs.Legal.{legal-from}
 use Rattle.asm_journal.proofs.Legal.{checked_more, first_wrong}
@@ -35,4 +35,4 @@ returns g c =
     let h = c.args.history.now in
     let l = c.loop-index in
     let all = take_all l.index c.as_slice-events.result.now c.loop-index-test.false ∙ c.as_slice-events.ensures in
-    (subst (IsLegal (machine_of part h)) all (legal-from (machine_of part h) _ l.invariant.1), ap length c.as_slice-events.ensures, c.number.ensures ∙ l.invariant.0.number ∙ ap (λ es. length (moves es)) all)
+    (subst (IsLegal (machine_of part h)) all (legal-from (machine_of part h) _ l.invariant.1), ap length c.as_slice-events.ensures, c.number.ensures ∙ l.invariant.0.number ∙ ap (λ es. length (fired_moves es)) all)

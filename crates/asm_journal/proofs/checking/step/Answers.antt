@@ -1,19 +1,19 @@
 use Rattle.std.proofs.Common.{sym, ap, subst, ◌∙◌, true}
 use Rattle.asm_storage.specs.declared.call.Call.TheVariants as call
 use Rattle.asm_storage.specs.declared.call.Answer.TheVariants as answer
-use Rattle.asm_journal.specs.Check.{objection_reply, IsStep}
+use Rattle.asm_journal.specs.Check.{judged_reply, IsStep}
 use Rattle.asm_journal.proofs.Legal.{read_step, wrong_fire, quiet_fire, taken_fire}
-use Rattle.asm_journal.proofs.Answered.{true_and_false}
+use Rattle.asm_journal.proofs.Parsed.{true_and_false}
 use Rattle.asm_journal.proofs.checking.step.Goals as goal
 use Rattle.asm_journal.proofs.checking.step.Goals.{then-is_fired+in_ok-follow-in-Fire-Fire, else-is_fired}
 
 pub returns-then-number : goal.returns-then-number
 returns-then-number g c =
     let part = (g.A.Aggregator.meaning c.args.aggregator.now).part in
-    let places = c.as_slice.result.now in
+    let locations = c.as_slice.result.now in
     let values = c.as_slice-then-number.result.now in
     let number = c.if-number.true ∙ c.number.ensures in
-    read_step part c.args.capacity c.args.event.now c.args.state.now places c.in-Read-Read.number values c.are_values.result
+    read_step part c.args.capacity c.args.event.now c.args.state.now locations c.in-Read-Read.number values c.are_values.result
     (c.in-Read-Read.is-0 ∙ ap call.Read (sym c.as_slice.ensures)) (c.in-Read-Read.is-1 ∙ ap (answer.Read c.in-Read-Read.number) (sym c.as_slice-then-number.ensures))
     (λ t. (number, c.are_values.ensures.0 t), λ h. c.are_values.ensures.1 h.1)
 
@@ -25,7 +25,7 @@ returns-then-not-is_reply g c =
     let reads = c.as_slice-in-Fire-Fire.result.now in
     wrong_fire part c.args.capacity c.args.event.now c.args.state.now reads f.instrs f.reply v
     (f.is-0 ∙ ap (λ rs. call.Fire rs f.instrs) (sym c.as_slice-in-Fire-Fire.ensures)) f.is-1 c.in_ok-objection-in-Fire-Fire.ensures c.args.state.now
-    (λ e. true_and_false c.is_reply.result (c.is_reply.ensures.1 (e ∙ ap (λ n. objection_reply c.args.capacity n v) (sym c.number-in-Fire-Fire.ensures))) c.if-not-is_reply.true)
+    (λ e. true_and_false c.is_reply.result (c.is_reply.ensures.1 (e ∙ ap (λ n. judged_reply c.args.capacity n v) (sym c.number-in-Fire-Fire.ensures))) c.if-not-is_reply.true)
 
 pub returns-after-is_fired : goal.returns-after-is_fired
 returns-after-is_fired g c =
@@ -34,7 +34,7 @@ returns-after-is_fired g c =
     let v = c.in_ok-objection-in-Fire-Fire.objection in
     let reads = c.as_slice-in-Fire-Fire.result.now in
     let call-is = f.is-0 ∙ ap (λ rs. call.Fire rs f.instrs) (sym c.as_slice-in-Fire-Fire.ensures) in
-    let is = c.is_reply.ensures.0 c.if-not-is_reply.false ∙ ap (λ n. objection_reply c.args.capacity n v) c.number-in-Fire-Fire.ensures in
+    let is = c.is_reply.ensures.0 c.if-not-is_reply.false ∙ ap (λ n. judged_reply c.args.capacity n v) c.number-in-Fire-Fire.ensures in
     elim c.if-is_fired.branch [
       | then-is_fired+in_ok-follow-in-Fire-Fire w ↦
           let done = taken_fire part c.args.capacity c.args.event.now c.args.state.now reads f.instrs f.reply v call-is f.is-1 c.in_ok-objection-in-Fire-Fire.ensures

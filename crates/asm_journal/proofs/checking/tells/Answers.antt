@@ -2,7 +2,7 @@ use Rattle.std.proofs.Common.{◌≡◌, sym, ap, ◌∙◌}
 use Rattle.asm_element.specs.Place.{Place}
 use Rattle.asm_element.specs.Same.{location_eq-same}
 use Rattle.asm_storage.specs.declared.call.Reply.TheVariants as reply
-use Rattle.asm_journal.specs.Check.{told_reply}
+use Rattle.asm_journal.specs.Check.{objection_reply}
 use Rattle.asm_journal.proofs.checking.tells.Goals as goal
 
 same_stale : (k l : Place) → reply.Stale k ≡ reply.Stale l → k ≡ l
@@ -13,7 +13,7 @@ returns-in-Stale-Stale c =
     let at = c.in-Stale-Stale.at in
     let told = c.in-Stale-Stale.told in
     let same = location_eq-same at told in
-    let wanted = ap told_reply c.in-Stale-Stale.is-0 in (
+    let wanted = ap objection_reply c.in-Stale-Stale.is-0 in (
       λ t. c.in-Stale-Stale.is-1 ∙ ap reply.Stale (sym (same.0 (sym c.eq.ensures ∙ t))) ∙ sym wanted,
       λ e. c.eq.ensures ∙ same.1 (sym (same_stale _ _ (sym c.in-Stale-Stale.is-1 ∙ e ∙ wanted))),
     )

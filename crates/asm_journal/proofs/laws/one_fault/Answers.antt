@@ -1,5 +1,5 @@
 use Rattle.asm_journal.proofs.Refused.{one_fault}
-use Rattle.asm_journal.proofs.Told.{some_fault}
+use Rattle.asm_journal.proofs.FaultFound.{some_fault}
 use Rattle.asm_journal.proofs.laws.one_fault.Goals as goal
 
 pub returns-clause-one : goal.returns-clause-one

@@ -1,6 +1,6 @@
 use Rattle.std.proofs.Common.{◌≡◌, ◌+◌, false, MatchOption, sym, subst, ◌∙◌, inl, inr, arith}
-use Rattle.asm_element.specs.Place.{Place}
-use Rattle.asm_update.specs.Move.{Move, has_two, comes_before, IsLeast}
+use Rattle.asm_element.specs.Place.{Place, comes_before}
+use Rattle.asm_update.specs.Move.{Move, has_two, IsLeast}
 use Rattle.std.specs.Prelude.{◌⊎◌}
 use Rattle.asm_update.proofs.LeastLemmas.{Known, takes, skips, known_all}
 use Rattle.asm_update.proofs.consistency.consistent.Goals as goal

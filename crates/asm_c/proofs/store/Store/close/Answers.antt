@@ -5,8 +5,8 @@ use Rattle.std.specs.List.Sorted.{IsStrictlyIncreasing}
 use Rattle.asm_storage.specs.Agents.{ids}
 use Rattle.asm_storage.specs.Storage.{AgentAt, StorageView, IsOf, accounts}
 use Rattle.asm_c.specs.Standard.{Standard, meaning}
-use Rattle.asm_c.specs.declared.sharing.Shared.{Shared}
-use Rattle.asm_c.proofs.Parts.{ids_of, rises_again}
+use Rattle.asm_c.specs.declared.shared.Shared.{Shared}
+use Rattle.asm_c.proofs.PartsAndAgents.{ids_of, rises_again}
 use Rattle.asm_c.proofs.store.Store.close.Goals as goal
 
 pub journal_of-text-requires-clause-of_this : goal.journal_of-text-requires-clause-of_this

@@ -1,26 +1,16 @@
-use Rattle.std.proofs.Common.{◌≡◌, Bool, true, false, cond, Option, Some, None, IsSome, ap, sym, subst, refl, ◌∙◌}
+use Rattle.std.proofs.Common.{◌≡◌, Option, Some, None, IsSome, ap, sym, subst, refl, ◌∙◌}
 use Rattle.std.specs.Prelude.{Err, IfErr}
-use Rattle.std.specs.Cmp.{Equal-is}
-use Rattle.std.specs.Ordering.{eq_by_cmp}
 use Rattle.std.specs.FinMap as map
 use Rattle.std.specs.BTreeMap.{BTreeMap, get_by}
 use Rattle.std.proofs.lemmas.Result.{on_ok_weaker, on_err_weaker}
 use Rattle.asm_element.specs.Place.{Place, location_cmp, location_cmp_total, location_cmp-IsAntisymmetric}
-use Rattle.asm_element.proofs.Ordered.{get-from_tree, insert-from_tree}
+use Rattle.asm_element.proofs.Ordered.{get-from_tree, insert-from_tree, insert_same}
 use Rattle.asm_update.specs.Aggregator.{IsOutcome}
-use Rattle.asm_state.specs.declared.entries.Written.{Written}
+use Rattle.asm_state.specs.declared.entries.WrittenValue.{WrittenValue}
 use Rattle.asm_update.specs.State.{val}
 use Rattle.asm_state.specs.View.{Entries, value_over}
 use Rattle.asm_state.specs.Change.{IsChanged}
 use Rattle.asm_state.proofs.entries.Entries.change_at.Goals as goal
-
--- writing over an entry what it has
-insert_same : (m : Entries) (l : Place) (w : Written) → map.get m l ≡ Some w → map.insert m l w ≡ m
-insert_same m l w has = map.same_map location_cmp_total location_cmp-IsAntisymmetric _ _ (λ q.
-    map.get-insert location_cmp_total m l w q ∙ at q (eq_by_cmp location_cmp q l) refl) where
-      at : (q : Place) (b : Bool) → eq_by_cmp location_cmp q l ≡ b → cond b (Some w) (map.get m q) ≡ map.get m q
-      at q true i = sym (ap (map.get m) (location_cmp-IsAntisymmetric q l ((Equal-is (location_cmp q l)).0 i)) ∙ has)
-      at q false i = refl
 
 pub returns-in-Some-clause-ok : goal.returns-in-Some-clause-ok
 returns-in-Some-clause-ok g c =
@@ -33,7 +23,7 @@ returns-in-Some-clause-ok g c =
     insert-from_tree location_cmp_total location_cmp-IsAntisymmetric c.self.inside.tree (c.get_mut.follows.lender c.change.new.self) c.args.at.now c.change.new.self (wrote.3 there).0
     ∙ ap (λ (s : Entries). map.insert s c.args.at.now c.change.new.self) c.self.view_is in
     on_ok_weaker c.change.result
-    (λ p. (c.change.new.self, is, subst (λ (o : Option Written). IsChanged (g.A.Aggregator.meaning c.args.aggregator.now).part (value_over (val c.args.base.now c.args.at.now) o) c.args.group.now c.args.number c.change.new.self) (sym old) p))
+    (λ p. (c.change.new.self, is, subst (λ (o : Option WrittenValue). IsChanged (g.A.Aggregator.meaning c.args.aggregator.now).part (value_over (val c.args.base.now c.args.at.now) o) c.args.group.now c.args.writer c.change.new.self) (sym old) p))
     c.change.ensures.ok
 
 pub returns-in-Some-clause-cause : goal.returns-in-Some-clause-cause
@@ -41,7 +31,7 @@ returns-in-Some-clause-cause g c =
     let old : map.get c.args.self.now c.args.at.now ≡ Some c.in-Some.written.now =
     ap (λ (m : Entries). map.get m c.args.at.now) (sym c.self.view_is)
     ∙ get-from_tree location_cmp_total c.self.inside.tree.entries c.args.at.now ∙ sym c.in-Some.ensures.value in
-    subst (λ (o : Option Written). IfErr c.change.result (λ e. IsOutcome (Err e) ((g.A.Aggregator.meaning c.args.aggregator.now).part (value_over (val c.args.base.now c.args.at.now) o) c.args.group.now.regular c.args.group.now.partials))) (sym old) c.change.ensures.cause
+    subst (λ (o : Option WrittenValue). IfErr c.change.result (λ e. IsOutcome (Err e) ((g.A.Aggregator.meaning c.args.aggregator.now).part (value_over (val c.args.base.now c.args.at.now) o) c.args.group.now.regular c.args.group.now.partials))) (sym old) c.change.ensures.cause
 
 pub returns-in-Some-clause-err : goal.returns-in-Some-clause-err
 returns-in-Some-clause-err g c =
@@ -54,7 +44,7 @@ returns-in-Some-clause-err g c =
     insert-from_tree location_cmp_total location_cmp-IsAntisymmetric c.self.inside.tree (c.get_mut.follows.lender c.change.new.self) c.args.at.now c.change.new.self (wrote.3 there).0
     ∙ ap (λ (s : Entries). map.insert s c.args.at.now c.change.new.self) c.self.view_is in
     on_err_weaker c.change.result
-    (λ same. is ∙ ap (map.insert c.args.self.now c.args.at.now) same ∙ insert_same c.args.self.now c.args.at.now c.in-Some.written.now old)
+    (λ same. is ∙ ap (map.insert c.args.self.now c.args.at.now) same ∙ insert_same location_cmp_total location_cmp-IsAntisymmetric c.args.self.now c.args.at.now c.in-Some.written.now old)
     c.change.ensures.err
 
 pub returns-in-None-clause-ok : goal.returns-in-None-clause-ok
@@ -62,9 +52,9 @@ returns-in-None-clause-ok g c =
     let none : map.get c.args.self.now c.args.at.now ≡ None =
     ap (λ (m : Entries). map.get m c.args.at.now) (sym c.self.view_is)
     ∙ get-from_tree location_cmp_total c.self.inside.tree.entries c.args.at.now ∙ sym c.in-None.ensures.value in
-    let same = ap (λ (t : BTreeMap Place Written). map.from_entries {R = location_cmp} t.entries) c.get_mut.follows.holds-at-none ∙ c.self.view_is in
+    let same = ap (λ (t : BTreeMap Place WrittenValue). map.from_entries {R = location_cmp} t.entries) c.get_mut.follows.holds-at-none ∙ c.self.view_is in
     on_ok_weaker c.open_at.result
-    (λ p. let (w, is, changed) = p in (w, is ∙ ap (λ (m : Entries). map.insert m c.args.at.now w) same, subst (λ (o : Option Written). IsChanged (g.A.Aggregator.meaning c.args.aggregator.now).part (value_over (val c.args.base.now c.args.at.now) o) c.args.group.now c.args.number w) (sym none) changed))
+    (λ p. let (w, is, changed) = p in (w, is ∙ ap (λ (m : Entries). map.insert m c.args.at.now w) same, subst (λ (o : Option WrittenValue). IsChanged (g.A.Aggregator.meaning c.args.aggregator.now).part (value_over (val c.args.base.now c.args.at.now) o) c.args.group.now c.args.writer w) (sym none) changed))
     c.open_at.ensures.ok
 
 pub returns-in-None-clause-cause : goal.returns-in-None-clause-cause
@@ -72,4 +62,4 @@ returns-in-None-clause-cause g c =
     let none : map.get c.args.self.now c.args.at.now ≡ None =
     ap (λ (m : Entries). map.get m c.args.at.now) (sym c.self.view_is)
     ∙ get-from_tree location_cmp_total c.self.inside.tree.entries c.args.at.now ∙ sym c.in-None.ensures.value in
-    subst (λ (o : Option Written). IfErr c.open_at.result (λ e. IsOutcome (Err e) ((g.A.Aggregator.meaning c.args.aggregator.now).part (value_over (val c.args.base.now c.args.at.now) o) c.args.group.now.regular c.args.group.now.partials))) (sym none) c.open_at.ensures.cause
+    subst (λ (o : Option WrittenValue). IfErr c.open_at.result (λ e. IsOutcome (Err e) ((g.A.Aggregator.meaning c.args.aggregator.now).part (value_over (val c.args.base.now c.args.at.now) o) c.args.group.now.regular c.args.group.now.partials))) (sym none) c.open_at.ensures.cause

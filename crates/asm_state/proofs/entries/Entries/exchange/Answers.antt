@@ -4,7 +4,7 @@ use Rattle.std.specs.BTreeMap.{get_by}
 use Rattle.asm_element.specs.Place.{location_cmp, location_cmp_total, location_cmp-IsAntisymmetric}
 use Rattle.asm_element.proofs.Ordered.{get-from_tree, insert-from_tree}
 use Rattle.asm_state.specs.View.{Entries}
-use Rattle.asm_state.specs.declared.entries.Written.{Written}
+use Rattle.asm_state.specs.declared.entries.WrittenValue.{WrittenValue}
 use Rattle.asm_state.proofs.entries.Entries.exchange.Goals as goal
 
 pub returns-in_default-clause-absent : goal.returns-in_default-clause-absent
@@ -24,4 +24,4 @@ returns-clause-ok c =
     let there : IsSome (get_by (location_cmp c.args.at.now) c.self.inside.tree) = subst IsSome c.in-Some.ensures.value refl in
     insert-from_tree location_cmp_total location_cmp-IsAntisymmetric c.self.inside.tree (c.get_mut.follows.lender c.replace.new.dest) c.args.at.now c.replace.new.dest (wrote.3 there).0
     ∙ ap (λ (s : Entries). map.insert s c.args.at.now c.replace.new.dest) c.self.view_is
-    ∙ ap (λ (w : Written). map.insert c.args.self.now c.args.at.now w) c.replace.ensures.after
+    ∙ ap (λ (w : WrittenValue). map.insert c.args.self.now c.args.at.now w) c.replace.ensures.after

@@ -1,7 +1,7 @@
 use Rattle.std.proofs.Common.{ap, sym, ◌∙◌}
 use Rattle.std.specs.FinMap as map
 use Rattle.asm_state.specs.View.{Entries}
-use Rattle.asm_state.proofs.Undone.{exchanged, none_again}
+use Rattle.asm_state.proofs.TakenBack.{exchanged, none_again}
 use Rattle.asm_state.proofs.entries.Entries.take_back.Goals as goal
 
 pub returns-in-Some : goal.returns-in-Some

@@ -2,12 +2,12 @@ use Rattle.std.proofs.Common.{T, List, Option, length, refl, ap, sym, ◌∙◌,
 use Rattle.std.specs.FinMap as finite
 use Rattle.asm_element.specs.Place.{Place, location_cmp}
 use Rattle.asm_element.specs.declared.value.Value.{Value}
-use Rattle.asm_state.specs.declared.entries.Written.{Written}
+use Rattle.asm_state.specs.declared.entries.WrittenValue.{WrittenValue}
 use Rattle.asm_state.specs.Follow.{written_by, entry_after}
-use Rattle.asm_state.specs.Noted.{AreNoted}
+use Rattle.asm_state.specs.Replaced.{AreReplaced}
 use Rattle.asm_element.specs.Ascending.{rising_rest}
-use Rattle.asm_state.proofs.Filled.{rising_start, insert_step}
-use Rattle.asm_state.proofs.Undone.{noted_more}
+use Rattle.asm_state.proofs.Insertions.{rising_start, insert_step}
+use Rattle.asm_state.proofs.TakenBack.{replaced_more}
 use Rattle.asm_state.proofs.entries.Entries.write_each.Goals as goal
 
 pub loop-at-init : goal.loop-at-init
@@ -16,9 +16,9 @@ loop-at-init c =
     let many = ap length all ∙ sym (finite.len-entries c.args.updates) in
     record {
       rising = rising_start c.args.updates c.into_iter-at-iterator.result all;
-      done = λ q. ap (λ o. entry_after c.args.number o (finite.get c.args.self.now q)) (ap (λ (es : List (Place × Value)). finite.find location_cmp q es) all ∙ sym (finite.get-entries c.args.updates q));
-      noted = subst (λ (us : List (Place × Option Written)). AreNoted us c.args.self.now c.args.self.now) (sym c.in_ok-noted.ensures.items) refl;
-      room = omega (arith, many, c.len.ensures, c.in_ok-noted.ensures.len, c.in_ok-noted.ensures.capacity);
+      done = λ q. ap (λ o. entry_after c.args.writer o (finite.get c.args.self.now q)) (ap (λ (es : List (Place × Value)). finite.find location_cmp q es) all ∙ sym (finite.get-entries c.args.updates q));
+      replaced = subst (λ (us : List (Place × Option WrittenValue)). AreReplaced us c.args.self.now c.args.self.now) (sym c.in_ok-replaced.ensures.items) refl;
+      room = omega (arith, many, c.len.ensures, c.in_ok-replaced.ensures.len, c.in_ok-replaced.ensures.capacity);
     }
 
 pub push_reserved-requires : goal.push_reserved-requires
@@ -31,7 +31,7 @@ loop-at-preserved c =
     let before = c.loop-at.invariant in
     let k = c.in-Some.at in
     let v = c.in-Some.value in
-    let n = c.args.number in
+    let n = c.args.writer in
     let rest = c.next.new.self in
     let old = c.loop-at.self in
     let step = c.in-Some.ensures.steps in
@@ -43,12 +43,12 @@ loop-at-preserved c =
       done = λ q.
           insert_step (written_by n) k v rest old c.write_at.new.self k (written_by n v) inserted (λ _. k) (λ _. written_by n v) sorted q
           ∙ ap (λ (es : List (Place × Value)). entry_after n (finite.find location_cmp q es) (finite.get old q)) (sym step) ∙ before.done q;
-      noted = subst (λ (us : List (Place × Option Written)). AreNoted us c.args.self.now c.write_at.new.self) (sym c.push_reserved.ensures.items)
-          (subst (AreNoted _ c.args.self.now) (sym inserted) (noted_more c.loop-at.noted.items c.args.self.now old k c.in-Ok.before (written_by n v) before.noted c.in-Ok.ensures.before));
+      replaced = subst (λ (us : List (Place × Option WrittenValue)). AreReplaced us c.args.self.now c.write_at.new.self) (sym c.push_reserved.ensures.items)
+          (subst (AreReplaced _ c.args.self.now) (sym inserted) (replaced_more c.loop-at.replaced.items c.args.self.now old k c.in-Ok.before (written_by n v) before.replaced c.in-Ok.ensures.before));
       room = omega (arith, count, before.room, c.push_reserved.ensures.len, c.push_reserved.ensures.capacity);
     }
 
 pub returns-in-Err-clause-err : goal.returns-in-Err-clause-err
 returns-in-Err-clause-err c =
     c.take_all_back.ensures c.args.self.now
-    (subst (AreNoted c.loop-at.noted.items c.args.self.now) (sym c.in-Err.ensures.err) c.loop-at.invariant.noted)
+    (subst (AreReplaced c.loop-at.replaced.items c.args.self.now) (sym c.in-Err.ensures.err) c.loop-at.invariant.replaced)

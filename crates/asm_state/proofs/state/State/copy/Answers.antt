@@ -1,9 +1,9 @@
 use Rattle.std.proofs.Common.{◌≡◌, sym, ap, ◌∙◌, subst}
-use Rattle.asm_state.specs.View.{StateView, IsStored}
+use Rattle.asm_state.specs.View.{StateView, AreSettled}
 use Rattle.asm_state.proofs.state.State.copy.Goals as goal
 
 pub invariant_of-result : goal.invariant_of-result
-invariant_of-result c = subst IsStored (sym c.in_ok-entries.ensures) c.self.invariant
+invariant_of-result c = subst AreSettled (sym c.in_ok-entries.ensures) c.self.invariant
 
 pub returns : goal.returns
 returns c =

@@ -9,7 +9,7 @@ use Rattle.asm_update.specs.declared.errors.ResultError.{ResultError}
 use Rattle.asm_state.specs.Change.{IsChanged, IsOneChange}
 use Rattle.asm_state.specs.Follow.{IsFollowed}
 use Rattle.asm_state.specs.View.{Entries, StateView, value_over}
-use Rattle.asm_state.proofs.Changed.{changed_stored, changed_followed, unchanged_followed}
+use Rattle.asm_state.proofs.ChangedInPlace.{changed_settled, changed_followed, unchanged_followed}
 use Rattle.asm_state.proofs.state.State.follow_at.Goals as goal
 
 pub invariant_of-self : goal.invariant_of-self
@@ -18,7 +18,7 @@ invariant_of-self g c =
     let (w, is, given) = c.in-Ok.ensures.ok in
     let changed = subst (λ (B : State). IsChanged part (value_over (val B c.args.at.now) (map.get c.self.inside.entries c.args.at.now)) c.args.group.now (c.self.inside.number + 1) w) c.deref.ensures given in
     let s : StateView = record { number = c.self.inside.number; base = arc_value c.self.inside.base; entries = c.self.inside.entries } in
-    changed_stored part s c.args.at.now c.args.group.now c.change_at.new.self w is changed c.self.invariant
+    changed_settled part s c.args.at.now c.args.group.now c.change_at.new.self w is changed c.self.invariant
 
 pub returns-in-Ok-clause-followed : goal.returns-in-Ok-clause-followed
 returns-in-Ok-clause-followed g c =

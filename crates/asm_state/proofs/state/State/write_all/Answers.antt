@@ -2,13 +2,13 @@ use Rattle.std.proofs.Common.{ap, sym, ◌∙◌, subst}
 use Rattle.std.specs.Arc.{arc_value}
 use Rattle.std.specs.FinMap as finite
 use Rattle.asm_element.specs.Tests.{on_err}
-use Rattle.asm_state.specs.View.{StateView, IsStored}
+use Rattle.asm_state.specs.View.{StateView, AreSettled}
 use Rattle.asm_state.specs.Follow.{entry_after}
-use Rattle.asm_state.proofs.Stored.{stored_after}
+use Rattle.asm_state.proofs.Settled.{settled_after}
 use Rattle.asm_state.proofs.state.State.write_all.Goals as goal
 
 pub invariant_of-self : goal.invariant_of-self
-invariant_of-self c = subst IsStored (sym c.in_err-write.ensures.err) c.self.invariant
+invariant_of-self c = subst AreSettled (sym c.in_err-write.ensures.err) c.self.invariant
 
 pub returns-in_err-write-clause-err : goal.returns-in_err-write-clause-err
 returns-in_err-write-clause-err c =
@@ -16,7 +16,7 @@ returns-in_err-write-clause-err c =
 
 pub invariant_of-self-2 : goal.invariant_of-self-2
 invariant_of-self-2 c =
-    stored_after c.args.number c.args.updates c.self.inside.entries c.write.new.self c.requires c.self.invariant
+    settled_after c.args.number c.args.updates c.self.inside.entries c.write.new.self c.requires c.self.invariant
     c.in_ok-write.ensures.ok
 
 pub returns-clause-written : goal.returns-clause-written

@@ -4,8 +4,8 @@ use Rattle.asm_state.specs.Stands.{Stands}
 use Rattle.asm_storage.specs.declared.receipt.Entry.{Entry}
 use Rattle.asm_storage.specs.Part.{IsFollowing}
 use Rattle.asm_storage.specs.Storage.{machine_of}
-use Rattle.asm_storage.proofs.Following.{fresh_agent, fresh_following}
-use Rattle.asm_storage.proofs.Kept.{same_agent}
+use Rattle.asm_storage.proofs.PartKept.{fresh_agent, fresh_following}
+use Rattle.asm_storage.proofs.AgentKept.{same_agent}
 use Rattle.asm_storage.proofs.part.AgentPart.at_start.Goals as goal
 
 pub returns-clause-part : goal.returns-clause-part

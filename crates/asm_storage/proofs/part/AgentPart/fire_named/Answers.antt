@@ -4,11 +4,11 @@ use Rattle.asm_storage.specs.declared.call.Reply.{Reply}
 use Rattle.asm_storage.specs.Calls.{HasOffered, IsBusy, MadeOffers, Ran}
 use Rattle.asm_storage.specs.Part.{agent_of, IsTurn, LooksOn, offers_in, misses_in}
 use Rattle.asm_storage.proofs.Coherent.{answered_coherent}
-use Rattle.asm_storage.proofs.Following.{looks_then}
-use Rattle.asm_storage.proofs.Turns.{answered_after, offered_then, offers_answered, offers_wanting, looked_id, ran_then, same_offering}
+use Rattle.asm_storage.proofs.PartKept.{looks_then}
+use Rattle.asm_storage.proofs.FireTurns.{answered_after, offered_then, offers_answered, offers_refused, looked_id, ran_then, same_offering}
 use Rattle.asm_storage.proofs.part.AgentPart.fire_named.Goals as goal
 
--- memory was wanting in a turn
+-- memory was refused in a turn
 pub returns-in_err-reply-clause-offers : goal.returns-in_err-reply-clause-offers
 returns-in_err-reply-clause-offers g c =
     let s = c.args.storage.now in
@@ -18,7 +18,7 @@ returns-in_err-reply-clause-offers g c =
     let lost = c.loop-lost.lost in
     let before = c.loop-lost.invariant in
     let told = err_from_is_err_and c.from_residual.result c.from_residual.ensures.1 in
-    let made = offers_wanting old mid new lost before.counted c.loop-lost-test.true c.in_err-reply.ensures.counted in (
+    let made = offers_refused old mid new lost before.counted c.loop-lost-test.true c.in_err-reply.ensures.counted in (
       lost + 0,
       subst (λ r. MadeOffers old new r (lost + 0)) (sym (told.1 ∙ ap Err told.2)) made,
       ran_then _ c.args.between.now c.loop-lost.between c.turn.new.between lost 0 before.calls c.in_err-reply.ensures.calls,

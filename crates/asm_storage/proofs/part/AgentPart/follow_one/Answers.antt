@@ -3,7 +3,7 @@ use Rattle.asm_update.specs.Move.{Move}
 use Rattle.asm_update.specs.State.{State}
 use Rattle.asm_state.specs.Stands.{Stands}
 use Rattle.asm_storage.specs.Storage.{machine_of}
-use Rattle.asm_storage.proofs.Following.{following_next}
+use Rattle.asm_storage.proofs.PartKept.{following_next}
 use Rattle.asm_storage.proofs.part.AgentPart.follow_one.Goals as goal
 
 pub returns-clause-part : goal.returns-clause-part

@@ -1,7 +1,7 @@
 use Rattle.std.proofs.Common.{ap, arith}
 use Rattle.asm_row.specs.Seat.{SeatView}
 use Rattle.asm_storage.specs.declared.receipt.Entry.{Entry}
-use Rattle.asm_storage.proofs.Following.{seen_part}
+use Rattle.asm_storage.proofs.PartKept.{seen_part}
 use Rattle.asm_storage.proofs.part.AgentPart.learn.Goals as goal
 
 pub returns-clause-part : goal.returns-clause-part

@@ -1,4 +1,4 @@
-use Rattle.asm_storage.proofs.Following.{looked_once}
+use Rattle.asm_storage.proofs.PartKept.{looked_once}
 use Rattle.asm_storage.proofs.part.AgentPart.look_once.Goals as goal
 
 pub returns-clause-looks : goal.returns-clause-looks

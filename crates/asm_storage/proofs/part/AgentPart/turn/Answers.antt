@@ -3,7 +3,7 @@ use Rattle.asm_state.specs.declared.named.Named.{Named}
 use Rattle.asm_storage.specs.declared.call.Reply.{Reply}
 use Rattle.asm_storage.specs.Part.{agent_of, IsJudged}
 use Rattle.asm_storage.specs.Storage.{machine_of}
-use Rattle.asm_storage.proofs.Turns.{answered_quiet, attempt_counted, attempt_ran, attempt_seen, attempted, looked_id, same_offering}
+use Rattle.asm_storage.proofs.FireTurns.{answered_quiet, attempt_counted, attempt_ran, attempt_seen, attempted, looked_id, same_offering}
 use Rattle.asm_storage.proofs.part.AgentPart.turn.Goals as goal
 
 pub returns-in_ok-keep_reply-in-Some-clause-turn : goal.returns-in_ok-keep_reply-in-Some-clause-turn

@@ -5,7 +5,7 @@ use Rattle.asm_state.specs.View.{value_at}
 use Rattle.asm_storage.specs.Agents.{moves_seen}
 use Rattle.asm_storage.specs.Machine.{machine_state}
 use Rattle.asm_storage.specs.Storage.{machine_of}
-use Rattle.asm_storage.proofs.Following.{stands_for_all}
+use Rattle.asm_storage.proofs.PartKept.{stands_for_all}
 use Rattle.asm_storage.proofs.part.AgentPart.values.Goals as goal
 
 pub returns : goal.returns

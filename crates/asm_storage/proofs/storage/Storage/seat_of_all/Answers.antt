@@ -7,7 +7,7 @@ use Rattle.asm_row.specs.Mark.{MarkView}
 use Rattle.asm_storage.specs.Agents.{AgentView, most_seen, IsAgent}
 use Rattle.asm_storage.specs.Storage.{StorageView, IsOf, accounts, machine_of}
 use Rattle.asm_storage.proofs.Accounts.{each_more, most_more}
-use Rattle.asm_storage.proofs.Following.{prefix-trans}
+use Rattle.asm_row.proofs.Prefixes.{IsPrefix-trans}
 use Rattle.asm_storage.proofs.storage.Storage.seat_of_all.Goals as goal
 
 pub learn-requires : goal.learn-requires
@@ -30,7 +30,7 @@ loop-agent-preserved g c =
       same_row = ap (λ (s : SeatView _). s.row) c.learn.ensures.kept ∙ c.loop-agent.invariant.same_row;
       each = each_more (IsAgent (machine c.args.self.now)) all i agent c.loop-agent-test.true c.agent-item.is c.loop-agent.invariant.each (subst (λ s. IsAgent (machine s) agent.account) mine c.holds.ensures);
       prefixes = each_more (λ a. IsPrefix a.seen after) all i agent c.loop-agent-test.true c.agent-item.is
-          (All-weaker (λ (a : AgentView). IsPrefix a.seen before) (λ (a : AgentView). IsPrefix a.seen after) (λ (a : AgentView) p. prefix-trans a.seen before after p c.learn.ensures.mine) (accounts (take i all)) c.loop-agent.invariant.prefixes)
+          (All-weaker (λ (a : AgentView). IsPrefix a.seen before) (λ (a : AgentView). IsPrefix a.seen after) (λ (a : AgentView) p. IsPrefix-trans a.seen before after p c.learn.ensures.mine) (accounts (take i all)) c.loop-agent.invariant.prefixes)
           theirs;
       longest = omega (arith, most_more all i agent c.loop-agent-test.true c.agent-item.is, c.learn.ensures.longest, c.loop-agent.invariant.longest, len);
     }

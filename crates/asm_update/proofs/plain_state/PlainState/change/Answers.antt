@@ -1,40 +1,31 @@
-use Rattle.std.proofs.Common.{◌≡◌, Bool, true, false, cond, Option, Some, IsSome, unwrap_or, ap, sym, subst, refl, ◌∙◌}
+use Rattle.std.proofs.Common.{◌≡◌, false, cond, Option, Some, IsSome, unwrap_or, ap, sym, subst, refl, ◌∙◌}
 use Rattle.std.specs.Prelude.{Result, Ok, Err, IfErr, OnOk}
-use Rattle.std.specs.Ordering.{eq_by_cmp}
 use Rattle.std.specs.FinMap as map
 use Rattle.std.specs.BTreeMap.{BTreeMap, get_by}
 use Rattle.std.proofs.lemmas.Map.Views.{All-values-set_value}
 use Rattle.std.proofs.lemmas.Result.{on_err_weaker}
-use Rattle.asm_element.specs.Place.{Place, location_cmp, location_cmp_total, location_cmp-IsAntisymmetric, same_location}
+use Rattle.asm_element.specs.Place.{Place, location_cmp, location_cmp_total, location_cmp-IsAntisymmetric}
 use Rattle.asm_element.specs.Value as held
 use Rattle.asm_element.specs.declared.value.Value.{Value}
-use Rattle.asm_element.proofs.Ordered.{get-from_tree, insert-from_tree}
+use Rattle.asm_element.proofs.Ordered.{get-from_tree, insert-from_tree, insert_same}
 use Rattle.asm_update.specs.Aggregator.{IsOutcome, IsLeft}
-use Rattle.asm_update.specs.Fire.{Outcome}
+use Rattle.asm_update.specs.Fire.{GroupResult}
 use Rattle.asm_update.specs.declared.errors.ResultError.{ResultError}
 use Rattle.asm_update.specs.declared.errors.ResultError.TheVariants as result_error
 use Rattle.asm_update.specs.State.{State, write}
 use Rattle.asm_update.proofs.plain_state.PlainState.change.Goals as goal
-
--- writing over a value what it has
-insert_same : (m : State) (l : Place) (v : Value) → map.get m l ≡ Some v → map.insert m l v ≡ m
-insert_same m l v has = map.same_map location_cmp_total location_cmp-IsAntisymmetric _ _ (λ q.
-    map.get-insert location_cmp_total m l v q ∙ at q (eq_by_cmp location_cmp q l) refl) where
-      at : (q : Place) (b : Bool) → eq_by_cmp location_cmp q l ≡ b → cond b (Some v) (map.get m q) ≡ map.get m q
-      at q true i = sym (ap (map.get m) (same_location q l i) ∙ has)
-      at q false i = refl
 
 -- a value other than undef is written in
 written_in : (m : State) (l : Place) (v : Value) → held.is_undef v ≡ false → map.insert m l v ≡ write m l v
 written_in m l v h = ap (λ b. cond b (map.remove m l) (map.insert m l v)) (sym h)
 
 -- what a call that leaves a value says where it succeeds
-left_ok : {P : Type 0} {v : Value} {o : Outcome} (r : Result (Unit {0}) ResultError) → (o ≡ Ok v → P) → IsLeft r v o → OnOk r P
+left_ok : {P : Type 0} {v : Value} {o : GroupResult} (r : Result (Unit {0}) ResultError) → (o ≡ Ok v → P) → IsLeft r v o → OnOk r P
 left_ok (Ok _) f h = f h
 left_ok (Err _) f h = tt
 
 -- and where it answers a cause
-left_cause : {o p : Outcome} (v : Value) (r : Result (Unit {0}) ResultError) → p ≡ o → IsLeft r v o → IfErr r (λ e. IsOutcome (Err e) p)
+left_cause : {o p : GroupResult} (v : Value) (r : Result (Unit {0}) ResultError) → p ≡ o → IsLeft r v o → IfErr r (λ e. IsOutcome (Err e) p)
 left_cause v (Ok _) is h = tt
 left_cause v (Err (result_error.Cause cause)) is h = is ∙ h
 left_cause v (Err result_error.Memory) is h = tt
@@ -92,5 +83,5 @@ returns-in-Some-clause-err g c =
     insert-from_tree location_cmp_total location_cmp-IsAntisymmetric c.self.inside.values (c.get_mut.follows.lender v) c.args.at.now v ((c.get_mut.follows.holds v).3 there).0
     ∙ ap (λ (s : State). map.insert s c.args.at.now v) c.self.view_is in
     on_err_weaker c.change_value.result
-    (λ same. is ∙ ap (map.insert c.args.self.now c.args.at.now) same ∙ insert_same c.args.self.now c.args.at.now c.in-Some.value.now old)
+    (λ same. is ∙ ap (map.insert c.args.self.now c.args.at.now) same ∙ insert_same location_cmp_total location_cmp-IsAntisymmetric c.args.self.now c.args.at.now c.in-Some.value.now old)
     c.change_value.ensures.err

@@ -18,8 +18,8 @@ pub invariant_of-self-2 : goal.invariant_of-self-2
 invariant_of-self-2 c = record {
   ordered = c.insert.ensures.ordered;
   no_undef = rw c.in_ok-insert.ensures.entries (All-values-insert_entry location_cmp c.args.at c.args.value (λ v. held.is_undef v ≡ false) c.self.inside.values.entries c.self.invariant.no_undef c.requires);
-  locations = rw c.in_ok-insert.ensures.entries (All-keys-insert_entry location_cmp c.args.at c.args.value place.IsProper c.self.inside.values.entries c.self.invariant.locations c.proper_location.ensures);
-  values = rw c.in_ok-insert.ensures.entries (All-values-insert_entry location_cmp c.args.at c.args.value held.IsProper c.self.inside.values.entries c.self.invariant.values c.proper.ensures);
+  locations = rw c.in_ok-insert.ensures.entries (All-keys-insert_entry location_cmp c.args.at c.args.value place.IsProper c.self.inside.values.entries c.self.invariant.locations c.proper.ensures);
+  values = rw c.in_ok-insert.ensures.entries (All-values-insert_entry location_cmp c.args.at c.args.value held.IsProper c.self.inside.values.entries c.self.invariant.values c.proper-2.ensures);
 }
 
 pub returns-in_err-insert-clause-absent : goal.returns-in_err-insert-clause-absent

@@ -1,0 +1,127 @@
+use crate::compose_tests::compose_of;
+use crate::shorthand::Act::{BagAdd, BagRemove};
+use crate::shorthand::Old::{Bag, Counts};
+use crate::shorthand::{do_at, location, value_of};
+use crate::tests::{Row, aggregate_on, judge_all};
+use asm_aggregate::standard;
+use asm_update::{Instructions, PlainState, UpdateSet};
+use std::alloc::Global;
+use std::test::Fail;
+
+static AMONG_OTHERS: [Row; 4] = [
+    Row(
+        Counts(&[("a", 1), ("b", 2), ("c", 3)]),
+        &[],
+        &[BagAdd("d", 4)],
+        Ok(Counts(&[("a", 1), ("b", 2), ("c", 3), ("d", 4)])),
+    ),
+    Row(
+        Counts(&[("a", 1), ("b", 2), ("c", 3)]),
+        &[],
+        &[BagAdd("b", 4)],
+        Ok(Counts(&[("a", 1), ("b", 6), ("c", 3)])),
+    ),
+    Row(
+        Counts(&[("a", 1), ("b", 2), ("c", 3), ("d", 4)]),
+        &[],
+        &[BagRemove("b", 2)],
+        Ok(Counts(&[("a", 1), ("c", 3), ("d", 4)])),
+    ),
+    Row(
+        Counts(&[("a", 1), ("b", 2), ("c", 3), ("d", 4)]),
+        &[],
+        &[BagRemove("c", 1), BagAdd("e", 5), BagRemove("d", 4)],
+        Ok(Counts(&[("a", 1), ("b", 2), ("c", 2), ("e", 5)])),
+    ),
+];
+
+#[test]
+fn other_counts_stay(rt: HostRuntime) -> Result<(), Fail> {
+    judge_all(&rt, rt.alloc(), &standard(), &AMONG_OTHERS)
+}
+
+/// Additions of one e each, by turns at c and at b.
+fn additions_by_turns(alloc: Global, count: u32) -> Result<Instructions, Fail> {
+    let mut list = Instructions::new(alloc);
+    for n in 0..count {
+        let name = if n % 2 == 0 { "c" } else { "b" };
+        do_at(alloc, &mut list, name, BagAdd("e", 1))?;
+    }
+    Ok(list)
+}
+
+fn set_bag(alloc: Global, state: &mut PlainState, name: &str) -> Result<(), Fail> {
+    let at = location(alloc, name)?;
+    let empty = value_of(alloc, Bag(0, 0))?;
+    state.set(at, empty)?;
+    Ok(())
+}
+
+/// A state in which b and c are empty bags.
+fn two_empty_bags(alloc: Global) -> Result<PlainState, Fail> {
+    let mut state = PlainState::new(alloc);
+    for name in ["b", "c"] {
+        set_bag(alloc, &mut state, name)?;
+    }
+    Ok(state)
+}
+
+fn put_count(alloc: Global, updates: &mut UpdateSet, name: &str, count: u32) -> Result<(), Fail> {
+    let at = location(alloc, name)?;
+    let bag = value_of(alloc, Bag(count, 0))?;
+    updates.put(at, bag)?;
+    Ok(())
+}
+
+/// Updates by which b and c are bags with this count of e.
+fn counts_at_both(alloc: Global, count: u32) -> Result<UpdateSet, Fail> {
+    let mut updates = UpdateSet::new(alloc);
+    for name in ["b", "c"] {
+        put_count(alloc, &mut updates, name, count)?;
+    }
+    Ok(updates)
+}
+
+fn updates_by_turns(alloc: Global, count: u32) -> Result<UpdateSet, Fail> {
+    let list = additions_by_turns(alloc, count)?;
+    let state = two_empty_bags(alloc)?;
+    Ok(aggregate_on(alloc, &standard(), state, list)?)
+}
+
+#[test]
+fn many_additions_to_two_bags_are_counted(rt: HostRuntime) -> Result<(), Fail> {
+    let updates = updates_by_turns(rt.alloc(), 4096)?;
+    let wanted = counts_at_both(rt.alloc(), 2048)?;
+    assert!(rt; updates == wanted);
+    Ok(())
+}
+
+/// One addition of so many e at b, and one at c.
+fn additions_at_both(alloc: Global, count: u32) -> Result<Instructions, Fail> {
+    let mut list = Instructions::new(alloc);
+    for name in ["b", "c"] {
+        do_at(alloc, &mut list, name, BagAdd("e", count))?;
+    }
+    Ok(list)
+}
+
+/// What so many additions, and then so many, compose to.
+fn composed_by_turns(alloc: Global, first: u32, second: u32) -> Result<Instructions, Fail> {
+    let first = additions_by_turns(alloc, first)?;
+    let second = additions_by_turns(alloc, second)?;
+    Ok(compose_of(alloc, &standard(), first, second)?)
+}
+
+fn is_one_at_each(alloc: Global, first: u32, second: u32) -> Result<bool, Fail> {
+    let composed = composed_by_turns(alloc, first, second)?;
+    let wanted = additions_at_both(alloc, 2048)?;
+    Ok(composed == wanted)
+}
+
+#[test]
+fn many_additions_to_two_bags_are_joined(rt: HostRuntime) -> Result<(), Fail> {
+    assert!(rt; is_one_at_each(rt.alloc(), 4096, 0)?);
+    assert!(rt; is_one_at_each(rt.alloc(), 0, 4096)?);
+    assert!(rt; is_one_at_each(rt.alloc(), 2048, 2048)?);
+    Ok(())
+}

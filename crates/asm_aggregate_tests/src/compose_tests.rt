@@ -1,0 +1,324 @@
+use crate::shorthand::Act::{self, Add, BagAdd, BagRemove, Remove};
+use crate::shorthand::Old::{self, Bag, Num, Set};
+use crate::shorthand::{do_at, location, put_at, state_with};
+use crate::tests::{is_clash, is_wanted, pairs};
+use asm_aggregate::{ComposeError, SetAgg, aggregate, compose, standard};
+use asm_update::{Aggregator, Cause, Instructions};
+use std::alloc::{AllocError, Global};
+use std::process::Abort;
+use std::test::Fail;
+
+/// What is done at a location, in few letters.
+#[derive(Clone, Copy)]
+pub(crate) enum Line {
+    Put(&'static str, Old),
+    Do(&'static str, Act),
+}
+
+/// Why there is no composition, and where.
+#[derive(Clone, Copy)]
+pub(crate) enum NoComposition {
+    Clashes(&'static str, Cause),
+    Large(&'static str),
+}
+
+use Line::{Do, Put};
+use NoComposition::{Clashes, Large};
+
+/// What is done first, what is done then, and what the two compose to.
+#[derive(Clone, Copy)]
+pub(crate) struct Row(
+    pub(crate) &'static [Line],
+    pub(crate) &'static [Line],
+    pub(crate) Result<&'static [Line], NoComposition>,
+);
+
+fn steps(alloc: Global, lines: &[Line]) -> Result<Instructions, Fail> {
+    let mut list = Instructions::new(alloc);
+    for line in lines {
+        match *line {
+            Put(name, value) => put_at(alloc, &mut list, name, value)?,
+            Do(name, act) => do_at(alloc, &mut list, name, act)?,
+        }
+    }
+    Ok(list)
+}
+
+fn is_move(
+    alloc: Global,
+    list: &Instructions,
+    want: Result<&[Line], NoComposition>,
+) -> Result<bool, Fail> {
+    match want {
+        Ok(lines) => Ok(*list == steps(alloc, lines)?),
+        Err(_) => Ok(false),
+    }
+}
+
+fn is_refusal(error: &ComposeError, want: Result<&[Line], NoComposition>) -> bool {
+    match (error, want) {
+        (ComposeError::Clash(clash), Err(Clashes(name, cause))) => is_clash(clash, name, cause),
+        (ComposeError::Large(at), Err(Large(name))) => at.name() == name && at.args().is_empty(),
+        _ => false,
+    }
+}
+
+/// Whether it is the wanted move, or the wanted refusal. `AllocError` comes only where memory was refused.
+fn is_composed(
+    alloc: Global,
+    answer: Result<Instructions, ComposeError>,
+    want: Result<&[Line], NoComposition>,
+) -> Result<bool, Fail> {
+    match answer {
+        Ok(list) => is_move(alloc, &list, want),
+        Err(ComposeError::Memory) => Err(Fail::from(AllocError)),
+        Err(error) => Ok(is_refusal(&error, want)),
+    }
+}
+
+/// The composition of the two moves, which are dropped.
+pub(crate) fn compose_of<A: Aggregator>(
+    alloc: Global,
+    aggregator: &A,
+    first: Instructions,
+    second: Instructions,
+) -> Result<Instructions, ComposeError> {
+    compose(alloc, aggregator, &first, &second)
+}
+
+fn composes<A: Aggregator>(alloc: Global, aggregator: &A, row: Row) -> Result<bool, Fail> {
+    let first = steps(alloc, row.0)?;
+    let second = steps(alloc, row.1)?;
+    let answer = compose_of(alloc, aggregator, first, second);
+    is_composed(alloc, answer, row.2)
+}
+
+pub(crate) fn compose_all<R: Abort, A: Aggregator>(
+    rt: &R,
+    alloc: Global,
+    aggregator: &A,
+    rows: &[Row],
+) -> Result<(), Fail> {
+    for (k, row) in rows.iter().enumerate() {
+        assert!(rt; composes(alloc, aggregator, *row)?, "at row {k}");
+    }
+    Ok(())
+}
+
+static PUTS: [Row; 3] = [
+    Row(
+        &[Put("x", Num(1))],
+        &[Put("x", Num(2))],
+        Ok(&[Put("x", Num(2))]),
+    ),
+    Row(
+        &[Put("s", Set(&[1]))],
+        &[Do("s", Add(2)), Do("s", Remove(1))],
+        Ok(&[Put("s", Set(&[2]))]),
+    ),
+    Row(
+        &[Put("s", Set(&[1])), Do("s", Add(1))],
+        &[Do("s", Add(3))],
+        Ok(&[Put("s", Set(&[1, 3]))]),
+    ),
+];
+
+#[test]
+fn values_that_are_put(rt: HostRuntime) -> Result<(), Fail> {
+    compose_all(&rt, rt.alloc(), &standard(), &PUTS)
+}
+
+static PUTS_OVER_PARTIALS: [Row; 3] = [
+    Row(
+        &[Do("s", Add(1))],
+        &[Put("s", Num(5))],
+        Ok(&[Put("s", Num(5))]),
+    ),
+    Row(
+        &[Do("s", Add(1)), Do("s", Remove(1))],
+        &[Put("s", Num(5))],
+        Err(Clashes("s", Cause::Both)),
+    ),
+    Row(
+        &[Put("s", Num(1))],
+        &[Do("s", Add(1))],
+        Err(Clashes("s", Cause::Kind)),
+    ),
+];
+
+#[test]
+fn values_put_over_partial_updates(rt: HostRuntime) -> Result<(), Fail> {
+    compose_all(&rt, rt.alloc(), &standard(), &PUTS_OVER_PARTIALS)
+}
+
+static SETS: [Row; 3] = [
+    Row(
+        &[Do("s", Add(1))],
+        &[Do("s", Add(2)), Do("s", Remove(1))],
+        Ok(&[Do("s", Add(2)), Do("s", Remove(1))]),
+    ),
+    Row(
+        &[Do("s", Add(1)), Do("s", Remove(2))],
+        &[Do("s", Add(2)), Do("s", Remove(1))],
+        Ok(&[Do("s", Add(2)), Do("s", Remove(1))]),
+    ),
+    Row(
+        &[Do("s", Add(1))],
+        &[Do("s", BagAdd("e", 1))],
+        Err(Clashes("s", Cause::Kind)),
+    ),
+];
+
+#[test]
+fn partial_updates_of_sets(rt: HostRuntime) -> Result<(), Fail> {
+    compose_all(&rt, rt.alloc(), &standard(), &SETS)
+}
+
+static BAGS: [Row; 3] = [
+    Row(
+        &[Do("b", BagAdd("e", 3))],
+        &[Do("b", BagRemove("e", 5))],
+        Ok(&[Do("b", BagRemove("e", 2))]),
+    ),
+    Row(
+        &[Do("b", BagAdd("e", 3)), Do("b", BagRemove("f", 1))],
+        &[Do("b", BagRemove("e", 1)), Do("b", BagAdd("f", 4))],
+        Ok(&[
+            Do("b", BagAdd("e", 2)),
+            Do("b", BagAdd("f", 4)),
+            Do("b", BagRemove("f", 1)),
+        ]),
+    ),
+    Row(
+        &[Do("b", BagAdd("e", 1)), Do("b", BagAdd("e", 1))],
+        &[],
+        Ok(&[Do("b", BagAdd("e", 2))]),
+    ),
+];
+
+#[test]
+fn partial_updates_of_bags(rt: HostRuntime) -> Result<(), Fail> {
+    compose_all(&rt, rt.alloc(), &standard(), &BAGS)
+}
+
+static AMOUNTS: [Row; 3] = [
+    Row(
+        &[Do("b", BagAdd("e", 1))],
+        &[Do("b", BagRemove("e", 1))],
+        Ok(&[]),
+    ),
+    Row(
+        &[Do("b", BagRemove("e", u32::MAX))],
+        &[Do("b", BagRemove("e", 1))],
+        Err(Large("b")),
+    ),
+    Row(
+        &[Do("b", BagAdd("e", u32::MAX))],
+        &[Do("b", BagAdd("e", 1))],
+        Err(Large("b")),
+    ),
+];
+
+#[test]
+fn amounts_that_cancel_or_are_too_large(rt: HostRuntime) -> Result<(), Fail> {
+    compose_all(&rt, rt.alloc(), &standard(), &AMOUNTS)
+}
+
+/// Whether the move gives this at x where that stands there.
+pub(crate) fn fires(
+    alloc: Global,
+    list: &Instructions,
+    old: Old,
+    want: Result<Old, Cause>,
+) -> Result<bool, Fail> {
+    let state = state_with(alloc, old)?;
+    is_wanted(alloc, aggregate(alloc, &standard(), &state, list), want)
+}
+
+static BACK_AGAIN: [Row; 1] = [Row(
+    &[Do("x", BagRemove("e", 1))],
+    &[Do("x", BagAdd("e", 1))],
+    Ok(&[Do("x", BagAdd("e", 1)), Do("x", BagRemove("e", 1))]),
+)];
+
+pub(crate) fn composition_of(alloc: Global, row: Row) -> Result<Instructions, Fail> {
+    let first = steps(alloc, row.0)?;
+    let second = steps(alloc, row.1)?;
+    Ok(compose_of(alloc, &standard(), first, second)?)
+}
+
+#[test]
+fn a_removal_stays_though_the_amount_comes_back(rt: HostRuntime) -> Result<(), Fail> {
+    let alloc = rt.alloc();
+    compose_all(&rt, alloc, &standard(), &BACK_AGAIN)?;
+    let composed = composition_of(alloc, BACK_AGAIN[0])?;
+    assert!(rt; fires(alloc, &composed, Bag(1, 0), Ok(Bag(1, 0)))?);
+    assert!(rt; fires(alloc, &composed, Bag(0, 0), Err(Cause::Short))?);
+    Ok(())
+}
+
+static LEAST: [Row; 2] = [
+    Row(
+        &[
+            Do("d", BagAdd("e", u32::MAX)),
+            Put("c", Num(1)),
+            Put("a", Num(2)),
+        ],
+        &[Do("d", BagAdd("e", 1)), Do("c", Add(1)), Put("b", Num(3))],
+        Err(Clashes("c", Cause::Kind)),
+    ),
+    Row(
+        &[Put("a", Num(2))],
+        &[Put("b", Num(3))],
+        Ok(&[Put("a", Num(2)), Put("b", Num(3))]),
+    ),
+];
+
+#[test]
+fn the_least_location_that_refuses_is_answered(rt: HostRuntime) -> Result<(), Fail> {
+    compose_all(&rt, rt.alloc(), &standard(), &LEAST)
+}
+
+static BY_SETS: [Row; 2] = [
+    Row(
+        &[Do("s", Add(1))],
+        &[Do("s", Add(2))],
+        Ok(&[Do("s", Add(1)), Do("s", Add(2))]),
+    ),
+    Row(
+        &[Do("s", BagAdd("e", 1))],
+        &[],
+        Err(Clashes("s", Cause::Mixed)),
+    ),
+];
+
+static BY_PAIRS: [Row; 2] = [
+    Row(
+        &[Do("s", Add(1))],
+        &[Do("s", Add(2))],
+        Ok(&[Do("s", Add(1)), Do("s", Add(2))]),
+    ),
+    Row(
+        &[Do("s", BagAdd("e", 1))],
+        &[Do("s", Add(1))],
+        Err(Clashes("s", Cause::Kind)),
+    ),
+];
+
+#[test]
+fn any_aggregator_composes(rt: HostRuntime) -> Result<(), Fail> {
+    compose_all(&rt, rt.alloc(), &SetAgg, &BY_SETS)?;
+    compose_all(&rt, rt.alloc(), &pairs(), &BY_PAIRS)
+}
+
+#[test]
+fn errors_have_their_texts(rt: HostRuntime) -> Result<(), Fail> {
+    let alloc = rt.alloc();
+    let large = ComposeError::Large(location(alloc, "b")?).to_string(alloc)?;
+    assert!(rt; large.as_str() == "a composed amount or sum is too large");
+    let many = ComposeError::ManyInstructions.to_string(alloc)?;
+    assert!(rt; many.as_str() == "more than 4,096 instructions");
+    let memory = ComposeError::Memory.to_string(alloc)?;
+    assert!(rt; memory.as_str() == "out of memory");
+    Ok(())
+}

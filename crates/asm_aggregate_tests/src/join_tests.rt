@@ -1,0 +1,222 @@
+use crate::shorthand::Act::{self, Add, BagAdd, BagRemove, Remove};
+use crate::shorthand::actions_of;
+use crate::tests::{are_partial, pairs};
+use asm_aggregate::{BagAgg, SetAgg, standard};
+use asm_update::{Action, Aggregator, Cause, JoinError};
+use std::alloc::{AllocError, Global};
+use std::process::Abort;
+use std::test::Fail;
+
+/// What is done first, what is done then, and what joins the two.
+#[derive(Clone, Copy)]
+pub(crate) struct Joint(
+    pub(crate) &'static [Act],
+    pub(crate) &'static [Act],
+    pub(crate) Result<&'static [Act], JoinError>,
+);
+
+fn are_actions(
+    alloc: Global,
+    actions: &[Action],
+    want: Result<&[Act], JoinError>,
+) -> Result<bool, Fail> {
+    match want {
+        Ok(wanted) => Ok(actions == actions_of(alloc, wanted)?.as_slice()),
+        Err(_) => Ok(false),
+    }
+}
+
+/// Whether they are the wanted actions, or it is the wanted refusal. `AllocError` comes only where memory was refused.
+fn is_joined(
+    alloc: Global,
+    answer: Result<Vec<Action>, JoinError>,
+    want: Result<&[Act], JoinError>,
+) -> Result<bool, Fail> {
+    match answer {
+        Ok(actions) => are_actions(alloc, actions.as_slice(), want),
+        Err(JoinError::Memory) => Err(Fail::from(AllocError)),
+        Err(error) => match want {
+            Ok(_) => Ok(false),
+            Err(wanted) => Ok(error == wanted),
+        },
+    }
+}
+
+fn join_by<R: Abort, A: Aggregator>(
+    rt: &R,
+    alloc: Global,
+    aggregator: &A,
+    first: &[Action],
+    second: &[Action],
+) -> Result<Vec<Action>, JoinError> {
+    assert!(rt; !first.is_empty() || !second.is_empty());
+    assert!(rt; are_partial(first));
+    assert!(rt; are_partial(second));
+    aggregator.join(alloc, first, second)
+}
+
+/// What joins the two lists, which are dropped.
+pub(crate) fn join_of<R: Abort, A: Aggregator>(
+    rt: &R,
+    alloc: Global,
+    aggregator: &A,
+    first: Vec<Action>,
+    second: Vec<Action>,
+) -> Result<Vec<Action>, JoinError> {
+    join_by(rt, alloc, aggregator, first.as_slice(), second.as_slice())
+}
+
+fn joins<R: Abort, A: Aggregator>(
+    rt: &R,
+    alloc: Global,
+    aggregator: &A,
+    row: Joint,
+) -> Result<bool, Fail> {
+    let first = actions_of(alloc, row.0)?;
+    let second = actions_of(alloc, row.1)?;
+    let answer = join_of(rt, alloc, aggregator, first, second);
+    is_joined(alloc, answer, row.2)
+}
+
+pub(crate) fn join_all<R: Abort, A: Aggregator>(
+    rt: &R,
+    alloc: Global,
+    aggregator: &A,
+    rows: &[Joint],
+) -> Result<(), Fail> {
+    for (k, row) in rows.iter().enumerate() {
+        assert!(rt; joins(rt, alloc, aggregator, *row)?, "at row {k}");
+    }
+    Ok(())
+}
+
+static SET_JOINTS: [Joint; 2] = [
+    Joint(&[Add(1)], &[Add(2), Remove(1)], Ok(&[Add(2), Remove(1)])),
+    Joint(
+        &[Add(1)],
+        &[BagAdd("e", 1)],
+        Err(JoinError::Cause(Cause::Kind)),
+    ),
+];
+
+#[test]
+fn joins_of_sets(rt: HostRuntime) -> Result<(), Fail> {
+    join_all(&rt, rt.alloc(), &standard(), &SET_JOINTS)
+}
+
+static BAG_JOINTS: [Joint; 3] = [
+    Joint(
+        &[BagAdd("e", 3)],
+        &[BagRemove("e", 5)],
+        Ok(&[BagRemove("e", 2)]),
+    ),
+    Joint(
+        &[BagAdd("e", 3), BagRemove("f", 1)],
+        &[BagRemove("e", 1), BagAdd("f", 4)],
+        Ok(&[BagAdd("e", 2), BagAdd("f", 4), BagRemove("f", 1)]),
+    ),
+    Joint(
+        &[BagRemove("e", u32::MAX)],
+        &[BagRemove("e", 1)],
+        Err(JoinError::Large),
+    ),
+];
+
+#[test]
+fn joins_of_bags(rt: HostRuntime) -> Result<(), Fail> {
+    join_all(&rt, rt.alloc(), &standard(), &BAG_JOINTS)
+}
+
+static CANCELLING: [Joint; 3] = [
+    Joint(
+        &[BagRemove("e", 1)],
+        &[BagAdd("e", 1)],
+        Ok(&[BagAdd("e", 1), BagRemove("e", 1)]),
+    ),
+    Joint(&[BagAdd("e", 1)], &[BagRemove("e", 1)], Ok(&[])),
+    Joint(
+        &[Add(1), Remove(2)],
+        &[Add(2), Remove(1)],
+        Ok(&[Add(2), Remove(1)]),
+    ),
+];
+
+#[test]
+fn joins_that_cancel(rt: HostRuntime) -> Result<(), Fail> {
+    join_all(&rt, rt.alloc(), &standard(), &CANCELLING)
+}
+
+static NOTHING_AFTER: [Joint; 2] = [
+    Joint(
+        &[BagAdd("e", 1), BagAdd("e", 1)],
+        &[],
+        Ok(&[BagAdd("e", 2)]),
+    ),
+    Joint(
+        &[Add(1), Remove(1)],
+        &[],
+        Err(JoinError::Cause(Cause::Both)),
+    ),
+];
+
+#[test]
+fn joins_with_nothing_after(rt: HostRuntime) -> Result<(), Fail> {
+    join_all(&rt, rt.alloc(), &standard(), &NOTHING_AFTER)
+}
+
+static BAGS_BESIDE_NOTHING: [Joint; 4] = [
+    Joint(&[], &[BagAdd("e", 1)], Ok(&[BagAdd("e", 1)])),
+    Joint(
+        &[],
+        &[BagAdd("f", 1), BagRemove("e", 2), BagAdd("f", 2)],
+        Ok(&[BagAdd("f", 3), BagRemove("e", 2)]),
+    ),
+    Joint(&[BagRemove("e", 1)], &[], Ok(&[BagRemove("e", 1)])),
+    Joint(
+        &[BagAdd("f", 1), BagRemove("e", 2), BagAdd("f", 2)],
+        &[],
+        Ok(&[BagAdd("f", 3), BagRemove("e", 2)]),
+    ),
+];
+
+#[test]
+fn joins_of_bags_with_an_empty_side(rt: HostRuntime) -> Result<(), Fail> {
+    join_all(&rt, rt.alloc(), &BagAgg, &BAGS_BESIDE_NOTHING)?;
+    join_all(&rt, rt.alloc(), &standard(), &BAGS_BESIDE_NOTHING)
+}
+
+static SETS_BESIDE_NOTHING: [Joint; 4] = [
+    Joint(
+        &[],
+        &[Remove(1), Add(3), Add(2), Add(3)],
+        Ok(&[Add(2), Add(3), Remove(1)]),
+    ),
+    Joint(
+        &[Remove(1), Add(3), Add(2), Add(3)],
+        &[],
+        Ok(&[Add(2), Add(3), Remove(1)]),
+    ),
+    Joint(
+        &[],
+        &[Add(1), Remove(1)],
+        Err(JoinError::Cause(Cause::Both)),
+    ),
+    Joint(
+        &[Add(1), Remove(1)],
+        &[],
+        Err(JoinError::Cause(Cause::Both)),
+    ),
+];
+
+#[test]
+fn joins_of_sets_with_an_empty_side(rt: HostRuntime) -> Result<(), Fail> {
+    join_all(&rt, rt.alloc(), &SetAgg, &SETS_BESIDE_NOTHING)?;
+    join_all(&rt, rt.alloc(), &standard(), &SETS_BESIDE_NOTHING)
+}
+
+static BY_PAIRS: [Joint; 1] = [Joint(&[Add(1)], &[Remove(1)], Ok(&[Remove(1)]))];
+
+#[test]
+fn joins_by_a_pair_of_pairs(rt: HostRuntime) -> Result<(), Fail> {
+    join_all(&rt, rt.alloc(), &pairs(), &BY_PAIRS)
+}

@@ -1,0 +1,160 @@
+//! Values, partial updates, moves and states in few letters, of which the tests are made.
+use asm_element::{ElemBag, ElemSet, ElemText, Element, Location, Value};
+use asm_update::{Action, Amount, Instruction, Instructions, PlainState, UpdateSet};
+use std::alloc::Global;
+use std::test::Fail;
+
+/// A value, in few letters. A bag has these counts of e and of f, or counts of the named texts.
+#[derive(Clone, Copy)]
+pub(crate) enum Old {
+    Undef,
+    Num(i64),
+    Set(&'static [i64]),
+    Bag(u32, u32),
+    Counts(&'static [(&'static str, u32)]),
+}
+
+/// A partial update, in few letters.
+#[derive(Clone, Copy)]
+pub(crate) enum Act {
+    Add(i64),
+    Remove(i64),
+    BagAdd(&'static str, u32),
+    BagRemove(&'static str, u32),
+    Inc(i64),
+}
+
+use Act::{Add, BagAdd, BagRemove, Inc, Remove};
+use Old::{Bag, Counts, Num, Set, Undef};
+
+#[derive(Debug, Drop)]
+struct Zero;
+
+pub(crate) fn location(alloc: Global, name: &str) -> Result<Location, Fail> {
+    Ok(Location::new(String::from_str(alloc, name)?, Vec::new(alloc))?)
+}
+
+fn text(alloc: Global, text: &str) -> Result<Element, Fail> {
+    Ok(Element::Text(ElemText::new(String::from_str(alloc, text)?)))
+}
+
+fn put_text(alloc: Global, bag: &mut ElemBag, name: &str, n: u32) -> Result<(), Fail> {
+    let element = text(alloc, name)?;
+    if n > 0 && bag.count(&element) == 0 {
+        bag.put(element, n)?;
+    }
+    Ok(())
+}
+
+fn set_of(alloc: Global, numbers: &[i64]) -> Result<Value, Fail> {
+    let mut set = ElemSet::new(alloc);
+    for n in numbers {
+        set.insert(Element::Num(*n))?;
+    }
+    Ok(Value::Set(set))
+}
+
+fn bag_of(alloc: Global, e: u32, f: u32) -> Result<Value, Fail> {
+    let mut bag = ElemBag::new(alloc);
+    put_text(alloc, &mut bag, "e", e)?;
+    put_text(alloc, &mut bag, "f", f)?;
+    Ok(Value::Bag(bag))
+}
+
+fn counts_of(alloc: Global, counts: &[(&'static str, u32)]) -> Result<Value, Fail> {
+    let mut bag = ElemBag::new(alloc);
+    for (name, n) in counts {
+        put_text(alloc, &mut bag, name, *n)?;
+    }
+    Ok(Value::Bag(bag))
+}
+
+pub(crate) fn value_of(alloc: Global, value: Old) -> Result<Value, Fail> {
+    match value {
+        Undef => Ok(Value::Plain(Element::Undef)),
+        Num(n) => Ok(Value::Plain(Element::Num(n))),
+        Set(numbers) => set_of(alloc, numbers),
+        Bag(e, f) => bag_of(alloc, e, f),
+        Counts(counts) => counts_of(alloc, counts),
+    }
+}
+
+pub(crate) fn action_of(alloc: Global, action: Act) -> Result<Action, Fail> {
+    Ok(match action {
+        Add(n) => Action::SetAdd(Element::Num(n)),
+        Remove(n) => Action::SetRemove(Element::Num(n)),
+        BagAdd(name, n) => {
+            let amount = Amount::new(n).ok_or(Zero)?;
+            Action::BagAdd(text(alloc, name)?, amount)
+        }
+        BagRemove(name, n) => {
+            let amount = Amount::new(n).ok_or(Zero)?;
+            Action::BagRemove(text(alloc, name)?, amount)
+        }
+        Inc(n) => Action::Increment(n),
+    })
+}
+
+pub(crate) fn actions_of(alloc: Global, actions: &[Act]) -> Result<Vec<Action>, Fail> {
+    let mut list = Vec::new(alloc);
+    for action in actions {
+        list.push(action_of(alloc, *action)?)?;
+    }
+    Ok(list)
+}
+
+pub(crate) fn push_at(
+    alloc: Global,
+    list: &mut Instructions,
+    name: &str,
+    action: Action,
+) -> Result<(), Fail> {
+    let at = location(alloc, name)?;
+    list.push(Instruction { at, action })?;
+    Ok(())
+}
+
+pub(crate) fn put_at(
+    alloc: Global,
+    list: &mut Instructions,
+    name: &str,
+    value: Old,
+) -> Result<(), Fail> {
+    push_at(alloc, list, name, Action::Regular(value_of(alloc, value)?))
+}
+
+pub(crate) fn do_at(
+    alloc: Global,
+    list: &mut Instructions,
+    name: &str,
+    action: Act,
+) -> Result<(), Fail> {
+    push_at(alloc, list, name, action_of(alloc, action)?)
+}
+
+pub(crate) fn move_of(alloc: Global, puts: &[Old], partials: &[Act]) -> Result<Instructions, Fail> {
+    let mut list = Instructions::new(alloc);
+    for put in puts {
+        put_at(alloc, &mut list, "x", *put)?;
+    }
+    for partial in partials {
+        do_at(alloc, &mut list, "x", *partial)?;
+    }
+    Ok(list)
+}
+
+pub(crate) fn state_with(alloc: Global, old: Old) -> Result<PlainState, Fail> {
+    let at = location(alloc, "x")?;
+    let value = value_of(alloc, old)?;
+    let mut state = PlainState::new(alloc);
+    state.set(at, value)?;
+    Ok(state)
+}
+
+pub(crate) fn updates_of(alloc: Global, value: Old) -> Result<UpdateSet, Fail> {
+    let at = location(alloc, "x")?;
+    let value = value_of(alloc, value)?;
+    let mut updates = UpdateSet::new(alloc);
+    updates.put(at, value)?;
+    Ok(updates)
+}

@@ -1,0 +1,11 @@
+//! What a slot contains, in the box behind its handle.
+use crate::owned_agent::OwnedAgent;
+use crate::store::Store;
+
+/// The box is reused: it contains nothing while a call works on what was taken out.
+#[derive(Drop)]
+pub enum Content {
+    Nothing,
+    Store(Store),
+    Agent(OwnedAgent),
+}

@@ -1,0 +1,86 @@
+-- A run, from what was answered; and a run over a reader and a writer, from one over an input and an output.
+use Rattle.std.proofs.Common.{◌≡◌, ℕ, List, Bool, true, false, refl, sym, subst, inl, inr}
+use Rattle.asm_driver.specs.Commands.{IsNotDone}
+use Rattle.asm_driver.specs.Input.{Known}
+use Rattle.asm_driver.specs.Refusal.{refusal_line, refusal_status, has_number}
+use Rattle.asm_driver.specs.Words.{Words}
+use Rattle.asm_driver.specs.Run.{Input, Output, IsAnswer, IsNoAnswer, IsNoInput, IsShown, Writes, Refuses, Runs}
+use Rattle.asm_driver.specs.Run.{RunsOver}
+use Rattle.asm_driver.specs.Run.{Ports, input_of, output_of}
+use Rattle.asm_driver.specs.declared.program.refusal.Refusal.{Refusal}
+use Rattle.asm_driver.specs.declared.program.refusal.Refusal.TheVariants as refusal
+use Rattle.asm_driver.specs.declared.program.words.Request.{Request}
+use Rattle.asm_driver.specs.declared.program.words.Request.TheVariants.{Run, Check, Rewrite}
+
+pub answered : (given words : Words) (i : Input) (o : Output) (status : ℕ) (text bytes : List ℕ) (result : ℕ) →
+    given ≡ words → bytes ≡ text → IsAnswer given i status text → Writes o status bytes result → Runs words i o result
+answered given words i o status text bytes result same written answer writes = (
+  status,
+  text,
+  inl (subst (λ w. IsAnswer w i status text) same answer),
+  subst (λ t. Writes o status t result)
+      written writes,
+)
+
+-- an allocation failure may come wherever something is done
+memory_done : (bytes : List ℕ) (request : Request) → IsNotDone bytes request refusal.Memory
+memory_done bytes (Run capacity asked) = tt
+memory_done bytes Check = tt
+memory_done bytes Rewrite = tt
+
+-- a refusal of the input has no number
+input_plain : (i : Input) (r : Refusal) → IsNoInput i r → has_number r ≡ true → ⊥
+input_plain i refusal.TooLarge is e = cc (e)
+input_plain i refusal.InputFault is e = cc (e)
+input_plain i refusal.Memory is e = cc (e)
+input_plain i refusal.Words is e = is
+input_plain i (refusal.BadScript cause) is e = is
+input_plain i (refusal.BadJournal f) is e = is
+input_plain i refusal.Unfit is e = is
+input_plain i (refusal.Missing k) is e = is
+input_plain i refusal.NoThread is e = is
+
+memory_told : (words : Words) (i : Input) (r : Refusal) → has_number r ≡ true → IsNoAnswer words i r →
+    IsNoAnswer words i refusal.Memory
+memory_told words i r number (inl (bad, unread)) = inl (tt, unread)
+memory_told words i r number (inr (inl (taken, is))) = absurd (input_plain i r is number)
+memory_told words i r number (inr (inr (bytes, request, whole, asks, is))) = inr
+    (inr (bytes, request, whole, asks, memory_done bytes request))
+
+-- the refusal that is shown tells why there is no answer
+shown_told : (words : Words) (i : Input) (r shown : Refusal) → IsNoAnswer words i r → IsShown r shown →
+    IsNoAnswer words i shown
+shown_told words i r shown none (inl is) = subst (IsNoAnswer words i) (sym is) none
+shown_told words i r shown none (inr (is, number)) = subst (IsNoAnswer words i) (sym is)
+    (memory_told words i r number none)
+
+pub refused : (given words : Words) (i : Input) (o : Output) (r : Refusal) (result : ℕ) → given ≡ words →
+    IsNoAnswer given i r → Refuses o r result → Runs words i o result
+refused given words i o r result same none (shown, is, writes) = (
+  refusal_status shown,
+  refusal_line shown,
+  inr (shown, subst (λ w. IsNoAnswer w i shown) same (shown_told given i r shown none is), refl, refl),
+  writes,
+)
+
+pub runs_over : (words : Words) (had left held holds had' left' held' holds' : Known) (read write flushed : Bool)
+    (result : ℕ)
+    → had ≡ had' → left ≡ left' → held ≡ held' → holds ≡ holds'
+    → Runs words (record { had = had; left = left; failed = read })
+    (record { held = held; holds = holds; failed = write; flushed = flushed }) result
+    → RunsOver words (record { had = had'; left = left'; held = held'; holds = holds' }) result
+runs_over words had left held holds had' left' held' holds' read write flushed result a b c d runs =
+    let ports : record { had = had; left = left; held = held; holds = holds } ≡ record
+    { had = had'; left = left'; held = held'; holds = holds' } =
+    λ i. record { had = a i; left = b i; held = c i; holds = d i } in (
+      read,
+      write,
+      flushed,
+      subst (λ (p : Ports). Runs words (input_of p read) (output_of p write flushed) result)
+          ports runs,
+    )
+
+-- a test that isn't false is true
+pub otherwise : (b : Bool) → (b ≡ false → false ≡ true) → b ≡ true
+otherwise true h = refl
+otherwise false h = h refl

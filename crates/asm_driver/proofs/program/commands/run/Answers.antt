@@ -1,0 +1,61 @@
+use Rattle.std.proofs.Common.{◌≡◌, ℕ, Bool, List, Result, Ok, Err, IfOk, IfErr, refl, string_bytes}
+use Rattle.std.proofs.lemmas.Result.{err_from_is_err_and}
+use Rattle.asm_driver.specs.Commands.{text_of_played, IsScript, IsPlayed, IsNoText, IsRunText, IsNoRun}
+use Rattle.asm_driver.specs.Play.{IsNoCapacity}
+use Rattle.asm_driver.specs.Refusal.{refusal_of_run}
+use Rattle.asm_driver.specs.declared.play.outcome.Played.{Played}
+use Rattle.asm_driver.specs.declared.play.outcome.RunError.{RunError}
+use Rattle.asm_driver.specs.declared.play.outcome.RunError.TheVariants.{BadCapacity, NoThread, Missing, Memory}
+use Rattle.asm_driver.specs.declared.program.refusal.Refusal.{Refusal}
+use Rattle.asm_driver.specs.declared.program.refusal.Refusal.TheVariants as refusal
+use Rattle.asm_driver.proofs.program.commands.run.Goals as goal
+
+-- a script that isn't played, told as a refusal
+unplayed : (bytes : List ℕ) (capacity : ℕ) (asked : Bool) (e : RunError) → IsScript bytes →
+    ((e ≡ BadCapacity) → IsNoCapacity capacity) → IsNoRun bytes capacity asked (refusal_of_run e)
+unplayed bytes capacity asked BadCapacity is none = (is, none refl)
+unplayed bytes capacity asked NoThread is none = is
+unplayed bytes capacity asked (Missing k) is none = is
+unplayed bytes capacity asked Memory is none = tt
+
+-- a play without a text
+untold : (bytes : List ℕ) (capacity : ℕ) (asked : Bool) (p : Played) (r : Refusal) → IsPlayed bytes capacity p →
+    IsNoText asked p r → IsNoRun bytes capacity asked r
+untold bytes capacity asked p refusal.Words is h = absurd h
+untold bytes capacity asked p refusal.TooLarge is h = absurd h
+untold bytes capacity asked p (refusal.BadScript cause) is h = absurd h
+untold bytes capacity asked p (refusal.BadJournal e) is h = absurd h
+untold bytes capacity asked p refusal.Unfit is h = (p, is, h)
+untold bytes capacity asked p (refusal.Missing k) is h = absurd h
+untold bytes capacity asked p refusal.InputFault is h = absurd h
+untold bytes capacity asked p refusal.NoThread is h = absurd h
+untold bytes capacity asked p refusal.Memory is h = tt
+
+pub returns-in_err-played-clause-err : goal.returns-in_err-played-clause-err
+returns-in_err-played-clause-err g c =
+    let p = err_from_is_err_and c.from_residual-in_err-played.result c.from_residual-in_err-played.ensures.1 in
+    rw (p.1, p.2) (unplayed c.args.bytes.now c.args.capacity c.args.journal c.in_err-played.field-0.0
+    (c.in_ok-script.script, c.in_ok-script.ensures.ok) (λ e. c.in_err-played.ensures.capacity.0 (cc (e))))
+
+-- the text of a play, by what makes its bytes
+told : {X : Type 0} (bytes_of : X → List ℕ) (bytes : List ℕ) (capacity : ℕ) (asked : Bool) (p : Played)
+    (r : Result X Refusal) → IsPlayed bytes capacity p → IfOk r (λ text. bytes_of text ≡ text_of_played asked p) →
+    IfOk r (λ text. IsRunText bytes capacity asked (bytes_of text))
+told bytes_of bytes capacity asked p (Ok text) is h = (p, is, h)
+told bytes_of bytes capacity asked p (Err r) is h = tt
+
+-- a play that has none
+told_not : {X : Type 0} (bytes : List ℕ) (capacity : ℕ) (asked : Bool) (p : Played) (r : Result X Refusal) →
+    IsPlayed bytes capacity p → IfErr r (IsNoText asked p) → IfErr r (IsNoRun bytes capacity asked)
+told_not bytes capacity asked p (Ok text) is h = tt
+told_not bytes capacity asked p (Err r) is h = untold bytes capacity asked p r is h
+
+pub returns-clause-ok : goal.returns-clause-ok
+returns-clause-ok g c =
+    told string_bytes c.args.bytes.now c.args.capacity c.args.journal c.in_ok-played.played c.played_text.result
+    (c.in_ok-script.script, c.in_ok-script.ensures.ok, c.in_ok-played.ensures.played) c.played_text.ensures.ok
+
+pub returns-clause-err : goal.returns-clause-err
+returns-clause-err g c =
+    told_not c.args.bytes.now c.args.capacity c.args.journal c.in_ok-played.played c.played_text.result
+    (c.in_ok-script.script, c.in_ok-script.ensures.ok, c.in_ok-played.ensures.played) c.played_text.ensures.err

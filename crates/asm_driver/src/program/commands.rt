@@ -1,0 +1,114 @@
+//! What the commands do with the input.
+ghost use Rattle.std.specs.Prelude.{◌≡◌, IfOk, IfErr, string_bytes};
+ghost use Rattle.asm_driver.specs.Commands.{text_of_played, IsNoText, IsRunText, IsNoRun, IsCheck};
+ghost use Rattle.asm_driver.specs.Commands.{IsNoJournal, IsRewrite};
+ghost use Rattle.asm_driver.specs.Commands.{legality_line, legality_status, IsDone, IsNotDone};
+
+use crate::aggregator::chosen;
+use crate::play::gate::Open;
+use crate::play::outcome::Played;
+use crate::play::run_script;
+use crate::program::refusal::Refusal;
+use crate::program::words::Request;
+use crate::reporting::report;
+use crate::script::parsing::parse_script;
+use asm_journal::{Legality, check, from_text, to_text};
+use std::alloc::{AllocError, Global};
+use std::sync::Wait;
+use std::thread::Threads;
+
+/// The answer: the program's status, and the text that it writes.
+#[derive(Drop)]
+pub(crate) struct Ending {
+    pub(crate) status: u8,
+    pub(crate) text: String,
+}
+
+/// The text for a played script: its journal if that was asked for, and otherwise its report.
+fn played_text(alloc: Global, played: &Played, journal: bool) -> Result<String, Refusal>
+    ensures ok { IfOk result (λ text. string_bytes text ≡ text_of_played journal played.now) }
+    ensures err { IfErr result (IsNoText journal played.now) }
+{
+    if !journal {
+        return Ok(report(alloc, played)?);
+    }
+    if !played.history.fits() {
+        return Err(Refusal::Unfit);
+    }
+    Ok(to_text(alloc, &played.history)?)
+}
+
+/// Reads the bytes as a script, and plays it.
+fn run<T: Threads + Wait + Sync>(
+    rt: &T,
+    alloc: Global,
+    bytes: &[u8],
+    capacity: u32,
+    journal: bool,
+) -> Result<String, Refusal>
+    ensures ok { IfOk result (λ text. IsRunText bytes.now capacity journal (string_bytes text)) }
+    ensures err { IfErr result (IsNoRun bytes.now capacity journal) }
+{
+    let script = parse_script(alloc, bytes)?;
+    let played = run_script(rt, alloc, &script, capacity, &Open)?;
+    played_text(alloc, &played, journal)
+}
+
+/// The line and the status of a check.
+fn legality_ending(alloc: Global, legality: Legality) -> Result<Ending, AllocError>
+    ensures status { IfOk result (λ e. e.status ≡ legality_status legality) }
+    ensures text { IfOk result (λ e. string_bytes e.text ≡ legality_line legality) }
+{
+    Ok(match legality {
+        Legality::Legal { calls, moves } => Ending {
+            status: 0,
+            text: format!(in alloc; "legal {calls} {moves}\n")?,
+        },
+        Legality::Illegal { call } => Ending {
+            status: 1,
+            text: format!(in alloc; "illegal {call}\n")?,
+        },
+    })
+}
+
+/// Reads the bytes as a journal, and checks it.
+fn check_journal(alloc: Global, bytes: &[u8]) -> Result<Ending, Refusal>
+    ensures ok { IfOk result (λ e. IsCheck bytes.now e.status (string_bytes e.text)) }
+    ensures err { IfErr result (IsNoJournal bytes.now) }
+{
+    let history = from_text(alloc, bytes)?;
+    let legality = check(alloc, &chosen(), &history)?;
+    Ok(legality_ending(alloc, legality)?)
+}
+
+/// Reads the bytes as a journal, legal or not, and writes it anew. What was read always fits a journal.
+fn rewrite(alloc: Global, bytes: &[u8]) -> Result<String, Refusal>
+    ensures ok { IfOk result (λ text. IsRewrite bytes.now (string_bytes text)) }
+    ensures err { IfErr result (IsNoJournal bytes.now) }
+{
+    let history = from_text(alloc, bytes)?;
+    Ok(to_text(alloc, &history)?)
+}
+
+/// Does what is asked with the bytes of the input.
+pub(crate) fn carry_out<T: Threads + Wait + Sync>(
+    rt: &T,
+    alloc: Global,
+    request: Request,
+    bytes: &[u8],
+) -> Result<Ending, Refusal>
+    ensures ok { IfOk result (λ e. IsDone bytes.now request e.status (string_bytes e.text)) }
+    ensures err { IfErr result (IsNotDone bytes.now request) }
+{
+    match request {
+        Request::Run { capacity, journal } => Ok(Ending {
+            status: 0,
+            text: run(rt, alloc, bytes, capacity, journal)?,
+        }),
+        Request::Check => check_journal(alloc, bytes),
+        Request::Rewrite => Ok(Ending {
+            status: 0,
+            text: rewrite(alloc, bytes)?,
+        }),
+    }
+}

@@ -1,0 +1,183 @@
+//! Why the program doesn't do what is asked, with the line and the status of each cause.
+ghost use Rattle.std.specs.Prelude.{◌≡◌, false, IfOk, IsOk, string_bytes};
+ghost use Rattle.asm_driver.specs.Refusal.{refusal_line, refusal_status, has_number, cause_line as line_of_cause};
+ghost use Rattle.asm_driver.specs.Refusal.{journal_line as line_of_journal, journal_has_number, line_bytes};
+ghost use Rattle.asm_driver.specs.Refusal.{journal_status as status_of_journal, refusal_of_input, refusal_of_script};
+ghost use Rattle.asm_driver.specs.Refusal.{refusal_of_run, refusal_of_journal};
+ghost use Rattle.asm_driver.specs.declared.program.refusal.Refusal.TheVariants as refusals;
+
+use crate::play::outcome::RunError;
+use crate::ports::input::InputError;
+use crate::script::{ScriptCause, ScriptError};
+use asm_journal::JournalError;
+use std::alloc::{AllocError, Global};
+
+/// Why the program doesn't do what is asked. Each cause has a line and a status.
+#[derive(Clone, Copy, Debug, PartialEq, Eq)]
+pub enum Refusal {
+    /// The program does not take these words.
+    Words,
+    /// The input has more than 16,777,216 bytes.
+    TooLarge,
+    /// The input is not a script.
+    BadScript(ScriptCause),
+    /// The input is not a journal.
+    BadJournal(JournalError),
+    /// The history of the script's calls is too long for a journal.
+    Unfit,
+    /// The fired move with this number has no receipt.
+    Missing(u32),
+    /// A read of the input failed.
+    InputFault,
+    /// A thread for an agent couldn't be started.
+    NoThread,
+    /// Memory was refused.
+    Memory,
+}
+
+impl From<AllocError> for Refusal {
+    ghost from_gives = { λ _ e. e ≡ refusals.Memory };
+
+    fn from(_refused: AllocError) -> Refusal {
+        Refusal::Memory
+    }
+}
+
+impl From<InputError> for Refusal {
+    ghost from_gives = { λ e r. r ≡ refusal_of_input e };
+
+    fn from(error: InputError) -> Refusal {
+        match error {
+            InputError::TooLarge => Refusal::TooLarge,
+            InputError::Fault => Refusal::InputFault,
+            InputError::Memory => Refusal::Memory,
+        }
+    }
+}
+
+impl From<ScriptError> for Refusal {
+    ghost from_gives = { λ e r. r ≡ refusal_of_script e };
+
+    fn from(error: ScriptError) -> Refusal {
+        match error {
+            ScriptError::BadScript(cause) => Refusal::BadScript(cause),
+            ScriptError::Memory => Refusal::Memory,
+        }
+    }
+}
+
+impl From<RunError> for Refusal {
+    ghost from_gives = { λ e r. r ≡ refusal_of_run e };
+
+    fn from(error: RunError) -> Refusal {
+        match error {
+            RunError::BadCapacity => Refusal::Words,
+            RunError::NoThread => Refusal::NoThread,
+            RunError::Missing(number) => Refusal::Missing(number),
+            RunError::Memory => Refusal::Memory,
+        }
+    }
+}
+
+impl From<JournalError> for Refusal {
+    ghost from_gives = { λ e r. r ≡ refusal_of_journal e };
+
+    fn from(error: JournalError) -> Refusal {
+        match error {
+            JournalError::Memory => Refusal::Memory,
+            _ => Refusal::BadJournal(error),
+        }
+    }
+}
+
+/// A line with its line feed: a fixed one, which needs no memory, or one that was put together.
+#[derive(Drop)]
+pub(crate) enum Line {
+    Known(&'static [u8]),
+    Made(String),
+}
+
+impl Line {
+    pub(crate) fn as_bytes(&self) -> &[u8]
+        ensures { result.now ≡ line_bytes self.now }
+    {
+        match self {
+            Line::Known(line) => line,
+            Line::Made(line) => line.as_bytes(),
+        }
+    }
+}
+
+fn cause_line(cause: ScriptCause) -> &'static [u8]
+    ensures { result.now ≡ line_of_cause cause }
+{
+    match cause {
+        ScriptCause::NotJson => b"bad script: not JSON\n",
+        ScriptCause::Shape => b"bad script: shape\n",
+        ScriptCause::Agents => b"bad script: agents\n",
+        ScriptCause::Blocks => b"bad script: blocks\n",
+        ScriptCause::Instructions => b"bad script: instructions\n",
+        ScriptCause::Reads => b"bad script: reads\n",
+    }
+}
+
+fn journal_line(alloc: Global, error: JournalError) -> Result<Line, AllocError>
+    ensures line { IfOk result (λ l. line_bytes l ≡ line_of_journal error) }
+    ensures known { (journal_has_number error ≡ false) → IsOk result }
+{
+    Ok(match error {
+        JournalError::NotJson(line) => {
+            Line::Made(format!(in alloc; "journal line {line}: not JSON\n")?)
+        }
+        JournalError::Shape(line) => {
+            Line::Made(format!(in alloc; "journal line {line}: shape\n")?)
+        }
+        JournalError::Version => Line::Known(b"journal version\n"),
+        JournalError::Cut => Line::Known(b"journal cut\n"),
+        JournalError::Memory => Line::Known(b"out of memory\n"),
+    })
+}
+
+fn journal_status(error: JournalError) -> u8
+    ensures { result ≡ status_of_journal error }
+{
+    match error {
+        JournalError::Memory => 3,
+        _ => 2,
+    }
+}
+
+impl Refusal {
+    /// The line that is written. Only a line with a number needs memory.
+    pub(crate) fn line(self, alloc: Global) -> Result<Line, AllocError>
+        ensures line { IfOk result (λ l. line_bytes l ≡ refusal_line self) }
+        ensures known { (has_number self ≡ false) → IsOk result }
+    {
+        Ok(match self {
+            Refusal::Words => Line::Known(b"bad words\n"),
+            Refusal::TooLarge => Line::Known(b"input too large\n"),
+            Refusal::BadScript(cause) => Line::Known(cause_line(cause)),
+            Refusal::BadJournal(error) => return journal_line(alloc, error),
+            Refusal::Unfit => Line::Known(b"bad script: shape\n"),
+            Refusal::Missing(number) => {
+                Line::Made(format!(in alloc; "missing move {number}\n")?)
+            }
+            Refusal::InputFault => Line::Known(b"input fault\n"),
+            Refusal::NoThread => Line::Known(b"no thread\n"),
+            Refusal::Memory => Line::Known(b"out of memory\n"),
+        })
+    }
+
+    /// The program's status.
+    pub(crate) fn status(self) -> u8
+        ensures { result ≡ refusal_status self }
+    {
+        match self {
+            Refusal::Missing(_) => 1,
+            Refusal::Words | Refusal::TooLarge | Refusal::BadScript(_) | Refusal::Unfit => 2,
+            Refusal::BadJournal(error) => journal_status(error),
+            Refusal::NoThread | Refusal::Memory => 3,
+            Refusal::InputFault => 4,
+        }
+    }
+}

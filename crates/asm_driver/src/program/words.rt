@@ -1,0 +1,145 @@
+//! The program's words.
+ghost use Rattle.std.specs.Prelude.{◌≡◌, false, map, IfOk, IfErr, IfSome, IfNone, string_bytes};
+ghost use Rattle.clap.specs.Words.{FailsBy, app_of, found_of, kind_of, rows_of, rule_of, subcommand_of};
+ghost use Rattle.clap.specs.Words.{subcommand_rows_of};
+ghost use Rattle.asm_driver.specs.Words.{capacity as capacity_rule, journal as journal_rule, program, faults};
+ghost use Rattle.asm_driver.specs.Words.{Asks, AsksRun, AsksFor, IsNoCommand, IsMadeOf, IsRefusal, Answers};
+
+use clap::error::ErrorKind;
+use clap::{Arg, ArgAction, ArgMatches, Command, Error, value_parser};
+use std::alloc::{AllocError, Global};
+
+/// What the words ask for.
+#[derive(Clone, Copy, Debug, PartialEq, Eq)]
+pub enum Request {
+    /// To play a script with at most so many moves, and to write the report, or the journal.
+    Run { capacity: u32, journal: bool },
+    /// To check a journal.
+    Check,
+    /// To write a journal again.
+    Rewrite,
+}
+
+/// Why the words are no request.
+#[derive(Drop)]
+pub enum WordsError {
+    /// Help was asked for: its text.
+    Help(String),
+    /// The program does not take these words.
+    Bad,
+    /// Memory was refused.
+    Memory,
+}
+
+fn capacity_option<'a>(alloc: Global) -> Arg<'a>
+    ensures rule { rule_of result ≡ capacity_rule }
+    ensures local { result.global ≡ false }
+{
+    Arg::new(alloc, "capacity")
+        .long("capacity")
+        .action(ArgAction::Set)
+        .value_parser(value_parser!(u32).range(1..=1_048_576))
+        .default_value("4096")
+        .value_name("N")
+        .help("How many moves may be fired, from 1 to 1048576")
+}
+
+fn journal_option<'a>(alloc: Global) -> Arg<'a>
+    ensures rule { rule_of result ≡ journal_rule }
+    ensures local { result.global ≡ false }
+{
+    Arg::new(alloc, "journal")
+        .long("journal")
+        .action(ArgAction::SetTrue)
+        .help("Writes the journal of the calls in place of the report")
+}
+
+fn program_command<'a>(alloc: Global) -> Result<Command<'a>, AllocError>
+    ensures app { IfOk result (λ c. app_of c ≡ program) }
+{
+    let run = Command::new(alloc, "run")
+        .about("Plays a script, which is read from standard input, and writes the report")
+        .arg(capacity_option(alloc))?
+        .arg(journal_option(alloc))?;
+    let check = Command::new(alloc, "check").about(
+        "Checks a journal, which is read from standard input, and writes whether it is legal",
+    );
+    let rewrite = Command::new(alloc, "rewrite").about(
+        "Rewrites a journal, which is read from standard input, in version 2, and doesn't check it",
+    );
+    let named = Command::new(alloc, "asm_driver")
+        .about(
+            "Plays the steps of an abstract state machine's agents on one storage, and checks and rewrites journals",
+        )
+        .subcommand_required(true);
+    named
+        .subcommand(run)?
+        .subcommand(check)?
+        .subcommand(rewrite)
+}
+
+fn parse<'a>(alloc: Global, words: &'a [String]) -> Result<ArgMatches<'a>, Error>
+    ensures matches { IfOk result (λ m. subcommand_rows_of m ≡ subcommand_of program (map string_bytes words.now)) }
+    ensures kinds { FailsBy (faults (map string_bytes words.now)) result }
+{
+    let command = program_command(alloc)?;
+    command.try_get_matches_from(words)
+}
+
+/// What the options of `run` ask for.
+fn run_asked(options: &ArgMatches<'_>) -> Request
+    ensures { AsksRun (rows_of (found_of options.now)) result }
+{
+    Request::Run {
+        capacity: options.get_one::<u32>("capacity").unwrap_or(4096),
+        journal: options.get_flag("journal"),
+    }
+}
+
+/// What the command asks for, if the program has this command.
+fn asked(matches: &ArgMatches<'_>) -> Option<Request>
+    ensures some { IfSome result (Asks (subcommand_rows_of matches.now)) }
+    ensures none { IfNone result (IsNoCommand (subcommand_rows_of matches.now)) }
+{
+    let (name, options) = matches.subcommand()?;
+    if name == "run" {
+        return Some(run_asked(options));
+    }
+    if name == "check" {
+        return Some(Request::Check);
+    }
+    if name == "rewrite" {
+        Some(Request::Rewrite)
+    } else {
+        None
+    }
+}
+
+// Help that was asked for is no mistake.
+fn refusal(alloc: Global, error: &Error) -> WordsError
+    ensures { IsMadeOf (kind_of error.now) result }
+{
+    match error.kind() {
+        ErrorKind::OutOfMemory => WordsError::Memory,
+        ErrorKind::DisplayHelp => match error.to_string(alloc) {
+            Ok(text) => WordsError::Help(text),
+            Err(_) => WordsError::Memory,
+        },
+        _ => WordsError::Bad,
+    }
+}
+
+/// What the words ask for. They begin with the program's name.
+///
+/// `Help` is returned where they ask for help, and `Bad` where they are not the program's name, a command and
+/// its options. Words that `clap` takes are refused only if memory was refused.
+pub fn read_words(alloc: Global, words: &[String]) -> Result<Request, WordsError>
+    ensures asked { IfOk result (AsksFor (map string_bytes words.now)) }
+    ensures refused { IfErr result (IsRefusal (map string_bytes words.now)) }
+    ensures answers { Answers (map string_bytes words.now) result }
+{
+    match parse(alloc, words) {
+        Ok(matches) => asked(&matches).ok_or(WordsError::Bad),
+        Err(error) => Err(refusal(alloc, &error)),
+    }
+}

@@ -1,0 +1,27 @@
+//! Moves that raise one counter.
+use crate::shared::{location, number, one};
+use asm_aggregate::{admit, aggregate, compose, standard};
+use asm_update::{Action, AggError, Cause, Clash, PlainState};
+use std::test::Fail;
+
+#[test]
+fn one_move_does_what_two_do(rt: HostRuntime) -> Result<(), Fail> {
+    let alloc = rt.alloc();
+    let first = one(alloc, "count", Action::Regular(number(1)))?;
+    let second = one(alloc, "count", Action::Increment(2))?;
+    let both = compose(alloc, &standard(), &first, &second)?;
+    let updates = aggregate(alloc, &standard(), &PlainState::new(alloc), &both)?;
+    assert_eq!(rt; updates.get(&location(alloc, "count")?), Some(&number(3)));
+    Ok(())
+}
+
+#[test]
+fn what_holds_no_number_is_not_raised(rt: HostRuntime) -> Result<(), Fail> {
+    let alloc = rt.alloc();
+    let step = one(alloc, "count", Action::Increment(2))?;
+    let answer = admit(alloc, &standard(), &PlainState::new(alloc), &step);
+    let at = location(alloc, "count")?;
+    let cause = Cause::Kind;
+    assert_eq!(rt; answer, Err(AggError::Clash(Clash { at, cause })));
+    Ok(())
+}

@@ -1,0 +1,309 @@
+-- What is written is clean, and nests less deep than JSON may.
+use Rattle.std.proofs.Common.{codes, zero, ◌*◌, ◌≡◌, ◌<◌, ◌≤◌, ◌^◌, ◌&&◌, ℕ, suc, max, Bool, ℤ, pos, negsuc, List, [], ◌∷◌, length, map, true}
+use Rattle.std.proofs.Common.{false, IsUtf8, refl, sym, ap, ◌∙◌, true≢false, inl, inr, nat_lt, arith}
+use Rattle.std.specs.Prelude.{FitsSigned, All, IsTrue, nat_le}
+use Rattle.std.specs.Int.{w64}
+use Rattle.std.specs.FinMap as finite
+use Rattle.std.specs.List.{AllByRecursion, list_all}
+use Rattle.std.proofs.lemmas.Bool.{and_parts, cases_lt, lt-ltb}
+use Rattle.std.proofs.lemmas.Bool.Decides.{nat_tests}
+use Rattle.std.proofs.lemmas.List.Elements.{recursion_from_All}
+use Rattle.json.proofs.Printed.Utf8.{are_ascii, IsUtf8-are_ascii}
+use Rattle.serde_json.specs.Data.{Data, number, string, array, object, Items, item, no_items, Members, member}
+use Rattle.serde_json.specs.Data.{no_members, depth, items_depth, members_depth}
+use Rattle.serde_json.specs.Find.{of_integer}
+use Rattle.serde_json.specs.View.{items_of}
+use Rattle.asm_element.specs.Datum as datum
+use Rattle.asm_element.specs.Datum.{Datum, Sequence, IsProperDatum, AreProperItems}
+use Rattle.asm_element.specs.Element as element
+use Rattle.asm_element.specs.Place as place
+use Rattle.asm_element.specs.Place.{Place, is_name, is_name_start, is_name_byte}
+use Rattle.asm_element.specs.Value as value
+use Rattle.asm_element.specs.Set as set
+use Rattle.asm_element.specs.Bag as bag
+use Rattle.asm_element.specs.declared.element.Element.{Element}
+use Rattle.asm_element.specs.declared.element.Element.TheVariants as elements
+use Rattle.asm_element.specs.declared.value.Value.{Value}
+use Rattle.asm_element.specs.declared.value.Value.TheVariants as values
+use Rattle.asm_update.specs.Action.{IsProper as IsProperAction, IsProperInstruction}
+use Rattle.asm_update.specs.State as state
+use Rattle.asm_update.specs.State.{State}
+use Rattle.asm_update.specs.declared.action.Action.{Action}
+use Rattle.asm_update.specs.declared.action.Action.TheVariants.{Regular, SetAdd, SetRemove, BagAdd, BagRemove, Increment}
+use Rattle.asm_update.specs.declared.action.Instruction.{Instruction}
+use Rattle.asm_update.specs.declared.clash.Cause.{Cause}
+use Rattle.asm_update.specs.declared.clash.Cause.TheVariants as cause
+use Rattle.asm_state.specs.declared.named.Named.{Named}
+use Rattle.asm_storage.specs.declared.call.Call.{Call}
+use Rattle.asm_storage.specs.declared.call.Call.TheVariants as call
+use Rattle.asm_storage.specs.declared.call.Reply.{Reply}
+use Rattle.asm_storage.specs.declared.call.Reply.TheVariants as reply
+use Rattle.asm_storage.specs.declared.call.Answer.{Answer}
+use Rattle.asm_storage.specs.declared.call.Answer.TheVariants as answer
+use Rattle.asm_storage.specs.declared.history.Event.{Event}
+use Rattle.asm_journal.specs.Shape.{list_of, pair_of, one_of, two_of, number_json_of}
+use Rattle.asm_journal.specs.Element.{datum_json_of, items_json_of, element_json_of, location_json_of}
+use Rattle.asm_journal.specs.Set.{count_json_of}
+use Rattle.asm_journal.specs.Value.{value_json_of, pair_json_of}
+use Rattle.asm_journal.specs.Instruction.{word_of, operands_of, instruction_of, instruction_json_of}
+use Rattle.asm_journal.specs.Event.{named_json_of, call_json_of, word_of_cause, reply_json_of, answer_json_of}
+use Rattle.asm_journal.specs.Event.{event_json_of}
+use Rattle.asm_journal.specs.Text.{state_json_of, header_of}
+use Rattle.asm_storage.specs.Proper.{IsProperNamed, IsProperCall, IsProperReply, IsProperAnswer, IsProperEvent}
+use Rattle.asm_journal.proofs.Clean.{IsClean, AreCleanItems, AreCleanMembers, put_all}
+use Rattle.asm_journal.proofs.EntriesKept.{pairs_kept}
+
+-- clean, and nested at most to this depth
+pub record IsCleanTo (n : ℕ) (d : Data) : Type 0 where
+  pub clean : IsClean d
+  pub shallow : depth d ≤ n
+
+record AreItemsCleanTo (n : ℕ) (ds : Items) : Type 0 where
+  clean : AreCleanItems ds
+  shallow : items_depth ds ≤ n
+
+record AreMembersCleanTo (n : ℕ) (ms : Members) : Type 0 where
+  clean : AreCleanMembers ms
+  shallow : members_depth ms ≤ n
+
+both_below : (a b n : ℕ) → a ≤ n → b ≤ n → max a b ≤ n
+both_below a b n h k = omega (arith, h, k)
+
+-- what is clean to one depth is clean to any greater one
+pub deeper : (m n : ℕ) (d : Data) → m ≤ n → IsCleanTo m d → IsCleanTo n d
+deeper m n d h g = record { clean = g.clean; shallow = omega (arith, h, g.shallow) }
+
+-- ---- arrays and objects
+
+no_item : (n : ℕ) → AreItemsCleanTo n no_items
+no_item n = record { clean = tt; shallow = omega arith }
+
+more_items : (n : ℕ) (d : Data) (ds : Items) → IsCleanTo n d → AreItemsCleanTo n ds → AreItemsCleanTo n (item d ds)
+more_items n d ds g gs = record { clean = (g.clean, gs.clean); shallow = both_below _ _ n g.shallow gs.shallow }
+
+array_clean : (n : ℕ) (ds : Items) → AreItemsCleanTo n ds → IsCleanTo (suc n) (array ds)
+array_clean n ds gs = record { clean = gs.clean; shallow = omega (arith, gs.shallow) }
+
+items_clean : {X : Type 0} {P : X → Type 0} (n : ℕ) (f : X → Data) → ((x : X) → P x → IsCleanTo n (f x)) → (xs : List X)
+    → AllByRecursion P xs → AreItemsCleanTo n (items_of (map f xs))
+items_clean n f each [] h = no_item n
+items_clean n f each (x ∷ xs) h = more_items n (f x) _ (each x h.0) (items_clean n f each xs h.1)
+
+all_clean : {X : Type 0} {P : X → Type 0} (n : ℕ) (f : X → Data) → ((x : X) → P x → IsCleanTo n (f x)) → (xs : List X)
+    → AllByRecursion P xs → IsCleanTo (suc n) (list_of (map f xs))
+all_clean n f each xs h = array_clean n _ (items_clean n f each xs h)
+
+pair_clean : (n : ℕ) (a b : Data) → IsCleanTo n a → IsCleanTo n b → IsCleanTo (suc n) (pair_of a b)
+pair_clean n a b g h = array_clean n _ (more_items n a _ g (more_items n b _ h (no_item n)))
+
+no_member : (n : ℕ) → AreMembersCleanTo n no_members
+no_member n = record { clean = tt; shallow = omega arith }
+
+more_members : (n : ℕ) (key : List ℕ) (d : Data) (ms : Members) → are_ascii key ≡ true → IsCleanTo n d
+    → AreMembersCleanTo n ms → AreMembersCleanTo n (member key d ms)
+more_members n key d ms plain g gs =
+    record { clean = (IsUtf8-are_ascii key plain, g.clean, gs.clean); shallow = both_below _ _ n g.shallow gs.shallow }
+
+object_clean : (n : ℕ) (ms : Members) → AreMembersCleanTo n ms → put_all no_members ms ≡ ms → IsCleanTo (suc n) (object ms)
+object_clean n ms gs ordered = record { clean = (gs.clean, ordered); shallow = omega (arith, gs.shallow) }
+
+one_clean : (n : ℕ) (key : List ℕ) (d : Data) → are_ascii key ≡ true → IsCleanTo n d → IsCleanTo (suc n) (one_of key d)
+one_clean n key d plain g = object_clean n _ (more_members n key d _ plain g (no_member n)) refl
+
+-- ---- elements, locations and values
+
+number_clean : (n : ℕ) → n < 2 ^ 64 → IsCleanTo 0 (number_json_of n)
+number_clean n h = record { clean = h; shallow = omega arith }
+
+small_clean : (n : ℕ) → n < 2 ^ 32 → IsCleanTo 0 (number_json_of n)
+small_clean n h = number_clean n (omega (arith, h))
+
+string_clean : (s : List ℕ) → IsUtf8 s → IsCleanTo 0 (string s)
+string_clean s h = record { clean = h; shallow = omega arith }
+
+word_clean : (s : List ℕ) → are_ascii s ≡ true → IsCleanTo 0 (string s)
+word_clean s plain = string_clean s (IsUtf8-are_ascii s plain)
+
+integer_clean : (z : ℤ) → FitsSigned w64 z → IsCleanTo 0 (number (of_integer z))
+integer_clean (pos n) h = record { clean = omega (arith, h); shallow = omega arith }
+integer_clean (negsuc n) h = record { clean = omega (arith, h); shallow = omega arith }
+
+left_below : (a b n : ℕ) → max a b ≤ n → a ≤ n
+left_below a b n h = omega (arith, h)
+
+right_below : (a b n : ℕ) → max a b ≤ n → b ≤ n
+right_below a b n h = omega (arith, h)
+
+-- an array in an object for each level of lists
+mutual
+  datum_clean : (n : ℕ) (d : Datum) → datum.depth d ≤ n → IsProperDatum d → IsCleanTo (2 * n) (datum_json_of d)
+  datum_clean n datum.undef below h = record { clean = tt; shallow = omega arith }
+  datum_clean n (datum.truth b) below h = record { clean = tt; shallow = omega arith }
+  datum_clean n (datum.number z) below h = deeper 0 (2 * n) _ (omega arith) (integer_clean z h)
+  datum_clean n (datum.text s) below h = deeper 0 (2 * n) _ (omega arith) (string_clean s h)
+  datum_clean zero (datum.list ds) below h = absurd (omega (arith, below))
+  datum_clean (suc n) (datum.list ds) below h =
+      let items = sequence_clean n ds (omega (arith, below)) h.1.1 in
+      deeper (suc (suc (2 * n))) (2 * suc n) _ (omega arith)
+      (one_clean (suc (2 * n)) (codes "list") _ refl (array_clean (2 * n) _ items))
+
+  sequence_clean : (n : ℕ) (ds : Sequence) → datum.items_depth ds ≤ n → AreProperItems ds → AreItemsCleanTo (2 * n) (items_json_of ds)
+  sequence_clean n datum.nothing below h = no_item (2 * n)
+  sequence_clean n (datum.item d ds) below h =
+      more_items (2 * n) _ _ (datum_clean n d (left_below _ _ n below) h.0) (sequence_clean n ds (right_below _ _ n below) h.1)
+
+element_clean : (x : Element) → element.IsProper x → IsCleanTo 16 (element_json_of x)
+element_clean elements.Undef h = record { clean = tt; shallow = omega arith }
+element_clean (elements.Bool b) h = record { clean = tt; shallow = omega arith }
+element_clean (elements.Num z) h = deeper 0 16 _ (omega arith) (integer_clean z h)
+element_clean (elements.Text s) h = deeper 0 16 _ (omega arith) (string_clean s h)
+element_clean (elements.List ds) h = datum_clean 8 (datum.list ds) h.1.0 h
+
+-- a test that refuses each byte from 128 on takes bytes below 128 alone
+below_128 : (test : ℕ → Bool) → ((b : ℕ) → 128 ≤ b → test b ≡ false) → (b : ℕ) → test b ≡ true → nat_lt b 128 ≡ true
+below_128 test high b e = elim (cases_lt b 128) [
+  | inl low ↦ lt-ltb b 128 low
+  | inr past ↦ absurd (true≢false (sym e ∙ high b past))
+]
+
+high_byte : (b : ℕ) → 128 ≤ b → is_name_byte b ≡ false
+high_byte b h = grind (arith, nat_tests)
+
+high_start : (b : ℕ) → 128 ≤ b → is_name_start b ≡ false
+high_start b h = grind (arith, nat_tests)
+
+all_low : (bs : List ℕ) → list_all is_name_byte bs ≡ true → are_ascii bs ≡ true
+all_low [] e = refl
+all_low (b ∷ bs) e =
+    let parts = and_parts (is_name_byte b) (list_all is_name_byte bs) e in
+    ap (λ x. x && are_ascii bs) (below_128 is_name_byte high_byte b parts.0) ∙ all_low bs parts.1
+
+-- a name is ASCII
+name_ascii : (bs : List ℕ) → IsTrue (is_name bs) → are_ascii bs ≡ true
+name_ascii [] h = absurd cc
+name_ascii (b ∷ bs) h =
+    let parts = and_parts (nat_le (length (b ∷ bs)) 64) (is_name_start b && list_all is_name_byte bs) h in
+    let bytes = and_parts (is_name_start b) (list_all is_name_byte bs) parts.1 in
+    ap (λ x. x && are_ascii bs) (below_128 is_name_start high_start b bytes.0) ∙ all_low bs bytes.1
+
+elements_clean : (xs : List Element) → All element.IsProper xs → AreItemsCleanTo 16 (items_of (map element_json_of xs))
+elements_clean xs h = items_clean 16 element_json_of element_clean xs (recursion_from_All element.IsProper xs h)
+
+pub location_clean : (p : Place) → place.IsProper p → IsCleanTo 17 (location_json_of p)
+location_clean p h =
+    array_clean 16 _ (more_items 16 _ _ (deeper 0 16 _ (omega arith) (word_clean p.name (name_ascii p.name h.0)))
+    (elements_clean p.args h.2))
+
+count_clean : (p : Element × ℕ) → element.IsProper p.0 × bag.IsCount p.1 → IsCleanTo 17 (count_json_of p)
+count_clean p h = pair_clean 16 _ _ (element_clean p.0 h.0) (deeper 0 16 _ (omega arith) (small_clean p.1 h.1.1))
+
+pub value_clean : (v : Value) → value.IsProper v → IsCleanTo 19 (value_json_of v)
+value_clean (values.Plain x) h = deeper 16 19 _ (omega arith) (element_clean x h)
+value_clean (values.Set s) h =
+    deeper 18 19 _ (omega arith) (one_clean 17 _ _ refl (array_clean 16 _ (elements_clean (set.elements s) h)))
+value_clean (values.Bag b) h =
+    one_clean 18 _ _ refl (all_clean 17 count_json_of count_clean (bag.entries b)
+    (pairs_kept element.IsProper bag.IsCount (bag.entries b) h.0 h.1))
+
+pub pair_json_clean : (p : Place × Value) → place.IsProper p.0 × value.IsProper p.1 → IsCleanTo 20 (pair_json_of p)
+pair_json_clean p h = pair_clean 19 _ _ (deeper 17 19 _ (omega arith) (location_clean p.0 h.0)) (value_clean p.1 h.1)
+
+-- ---- calls
+
+operand_clean : (w : List ℕ) (p : Place) (ds : Items) → are_ascii w ≡ true → place.IsProper p → AreItemsCleanTo 19 ds
+    → IsCleanTo 20 (instruction_of w (location_json_of p) ds)
+operand_clean w p ds plain h gs =
+    array_clean 19 _ (more_items 19 _ _ (deeper 0 19 _ (omega arith) (word_clean w plain))
+    (more_items 19 _ _ (deeper 17 19 _ (omega arith) (location_clean p h)) gs))
+
+only_clean : (d : Data) → IsCleanTo 19 d → AreItemsCleanTo 19 (items_of (d ∷ []))
+only_clean d g = more_items 19 d _ g (no_item 19)
+
+counted_clean : (x : Element) (n : ℕ) → element.IsProper x → n < 2 ^ 32
+    → AreItemsCleanTo 19 (items_of (element_json_of x ∷ number_json_of n ∷ []))
+counted_clean x n h k =
+    more_items 19 _ _ (deeper 16 19 _ (omega arith) (element_clean x h))
+    (more_items 19 _ _ (deeper 0 19 _ (omega arith) (small_clean n k)) (no_item 19))
+
+action_clean : (p : Place) (a : Action) → place.IsProper p → IsProperAction a
+    → IsCleanTo 20 (instruction_of (word_of a) (location_json_of p) (items_of (operands_of a)))
+action_clean p (Regular v) h k = operand_clean _ p _ refl h (only_clean _ (value_clean v k))
+action_clean p (SetAdd e) h k = operand_clean _ p _ refl h (only_clean _ (deeper 16 19 _ (omega arith) (element_clean e k)))
+action_clean p (SetRemove e) h k =
+    operand_clean _ p _ refl h (only_clean _ (deeper 16 19 _ (omega arith) (element_clean e k)))
+action_clean p (BagAdd e n) h k = operand_clean _ p _ refl h (counted_clean e n k.0 k.2)
+action_clean p (BagRemove e n) h k = operand_clean _ p _ refl h (counted_clean e n k.0 k.2)
+action_clean p (Increment n) h k = operand_clean _ p _ refl h (only_clean _ (deeper 0 19 _ (omega arith) (integer_clean n k)))
+
+instruction_clean : (i : Instruction) → IsProperInstruction i → IsCleanTo 20 (instruction_json_of i)
+instruction_clean i h = action_clean i.at i.action h.0 h.1
+
+named_clean : (r : Named) → IsProperNamed r → IsCleanTo 18 (named_json_of r)
+named_clean r h = pair_clean 17 _ _ (location_clean r.at h.0) (deeper 0 17 _ (omega arith) (small_clean r.number h.1))
+
+two_clean : (n : ℕ) (k l : List ℕ) (a b : Data) → are_ascii k ≡ true → are_ascii l ≡ true
+    → put_all no_members (member k a (member l b no_members)) ≡ member k a (member l b no_members)
+    → IsCleanTo n a → IsCleanTo n b → IsCleanTo (suc n) (two_of k a l b)
+two_clean n k l a b plain clear ordered g h =
+    object_clean n _ (more_members n k a _ plain g (more_members n l b _ clear h (no_member n))) ordered
+
+call_clean : (c : Call) → IsProperCall c → IsCleanTo 22 (call_json_of c)
+call_clean (call.Read places) h =
+    deeper 19 22 _ (omega arith)
+    (one_clean 18 _ _ refl
+    (all_clean 17 location_json_of location_clean places (recursion_from_All place.IsProper places h)))
+call_clean (call.Fire reads instrs) h =
+    two_clean 21 _ _ _ _ refl refl refl
+    (all_clean 20 instruction_json_of instruction_clean instrs (recursion_from_All IsProperInstruction instrs h.1.0))
+    (deeper 19 21 _ (omega arith)
+    (all_clean 18 named_json_of named_clean reads (recursion_from_All IsProperNamed reads h.0)))
+
+-- ---- answers
+
+cause_clean : (c : Cause) → IsCleanTo 0 (string (word_of_cause c))
+cause_clean cause.Two = word_clean _ refl
+cause_clean cause.Mixed = word_clean _ refl
+cause_clean cause.Kind = word_clean _ refl
+cause_clean cause.Both = word_clean _ refl
+cause_clean cause.Against = word_clean _ refl
+cause_clean cause.Short = word_clean _ refl
+cause_clean cause.Large = word_clean _ refl
+
+reply_clean : (r : Reply) → IsProperReply r → IsCleanTo 21 (reply_json_of r)
+reply_clean (reply.Fired k) h = deeper 1 21 _ (omega arith) (one_clean 0 _ _ refl (small_clean k h))
+reply_clean (reply.Stale l) h = deeper 18 21 _ (omega arith) (one_clean 17 _ _ refl (location_clean l h))
+reply_clean (reply.Clash c) h =
+    deeper 19 21 _ (omega arith)
+    (one_clean 18 _ _ refl (pair_clean 17 _ _ (location_clean c.at h) (deeper 0 17 _ (omega arith) (cause_clean c.cause))))
+reply_clean reply.Full h = deeper 0 21 _ (omega arith) (word_clean _ refl)
+
+answer_clean : (a : Answer) → IsProperAnswer a → IsCleanTo 21 (answer_json_of a)
+answer_clean (answer.Read n vs) h =
+    two_clean 20 _ _ _ _ refl refl refl (deeper 0 20 _ (omega arith) (small_clean n h.0))
+    (all_clean 19 value_json_of value_clean vs (recursion_from_All value.IsProper vs h.1))
+answer_clean (answer.Fire r) h = reply_clean r h
+
+-- ---- events and the header
+
+pub event_clean : (e : Event) → e.agent < 2 ^ 32 → IsProperEvent e → IsCleanTo 23 (event_json_of e)
+event_clean e few h =
+    object_clean 22 _ (more_members 22 _ _ _ refl (deeper 0 22 _ (omega arith) (small_clean e.agent few))
+    (more_members 22 _ _ _ refl (call_clean e.call h.0)
+    (more_members 22 _ _ _ refl (deeper 21 22 _ (omega arith) (answer_clean e.answer h.1)) (no_member 22)))) refl
+
+state_clean : (A : State) → state.IsProper A → IsCleanTo 21 (state_json_of A)
+state_clean A h =
+    all_clean 20 pair_json_of pair_json_clean (finite.entries A)
+    (pairs_kept place.IsProper value.IsProper (finite.entries A) h.locations h.values)
+
+flat : (n : ℕ) → n < 2 ^ 32 → IsCleanTo 21 (number_json_of n)
+flat n h = deeper 0 21 _ (omega arith) (small_clean n h)
+
+pub header_clean : (agents capacity events : ℕ) (A : State) → agents ≤ 256 → capacity ≤ 1048576 → events < 2 ^ 32
+    → state.IsProper A → IsCleanTo 22 (header_of agents capacity events (state_json_of A))
+header_clean a c n A ha hc hn h =
+    object_clean 21 _ (more_members 21 _ _ _ refl (flat a (omega (arith, ha)))
+    (more_members 21 _ _ _ refl (flat c (omega (arith, hc)))
+    (more_members 21 _ _ _ refl (flat n hn)
+    (more_members 21 _ _ _ refl (state_clean A h)
+    (more_members 21 _ _ _ refl (flat 2 (omega arith)) (no_member 21)))))) refl

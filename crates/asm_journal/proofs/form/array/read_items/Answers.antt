@@ -1,0 +1,20 @@
+use Rattle.std.proofs.lemmas.List.{take_more}
+use Rattle.serde_json.specs.View.{view}
+use Rattle.asm_journal.proofs.Arrays.{AreForms-push, no_forms}
+use Rattle.asm_journal.proofs.Parsed.{IsParsed-some, IsParsed-none}
+use Rattle.asm_journal.proofs.form.array.read_items.Goals as goal
+
+pub returns-in-None : goal.returns-in-None
+returns-in-None g c =
+    let F = g.T.FromJson.is_form in
+    let v = c.item-item.result in
+    let none = IsParsed-none F (view v) _ c.in-None.is c.in_ok-x.ensures in
+    no_forms F c.args.items.now c.loop-item.item-index v c.loop-item-test.true (λ x. rw (← c.item-item.is) (none x))
+
+pub loop-item-preserved : goal.loop-item-preserved
+loop-item-preserved g c =
+    let F = g.T.FromJson.is_form in
+    let v = c.item-item.result in
+    let some = IsParsed-some F (view v) _ c.in-Some.x c.in-Some.is c.in_ok-x.ensures in
+    let pushed = AreForms-push F c.loop-item.found.items c.in-Some.x _ v c.loop-item.invariant some in
+    rw (c.in_ok-push-in-Some.ensures.items, take_more c.args.items.now c.loop-item.item-index v c.loop-item-test.true, ← c.item-item.is) pushed

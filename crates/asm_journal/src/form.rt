@@ -1,0 +1,54 @@
+//! The JSON forms of elements, values, states, instructions, calls, answers and events, read and written.
+ghost use Rattle.std.specs.Prelude.{◌≡◌, IfOk};
+ghost use Rattle.serde_json.specs.Data.{Data};
+ghost use Rattle.serde_json.specs.View.{view};
+ghost use Rattle.asm_journal.specs.Shape.{IsParsed};
+
+use serde_json::Value as Json;
+use std::alloc::{AllocError, Global};
+
+mod answer;
+mod array;
+mod call;
+mod element;
+mod event;
+mod instruction;
+mod number;
+mod object;
+mod set;
+mod state;
+mod value;
+
+pub use answer::word_of_cause;
+pub use array::{Listed, read_one, two_items};
+pub use element::{location_json, read_location};
+pub use instruction::{instruction_json, instruction_parts, read_instruction};
+pub(crate) use number::read_number;
+pub(crate) use object::five_members;
+pub use object::{one_member, two_members};
+pub use set::read_amount;
+pub use state::pair_json;
+pub use value::{read_value, value_json};
+
+/// A value that is read from JSON.
+pub trait FromJson: Drop {
+    // the JSON that is read as this value
+    ghost is_form: { Self → Data → Type 0 };
+
+    /// The value with this form, or `None` where no value has it.
+    ///
+    /// `AllocError` comes only where memory was refused.
+    fn from_json(alloc: Global, json: &Json) -> Result<Option<Self>, AllocError>
+    where
+        Self: Sized,
+        ensures { IfOk result (λ o. IsParsed is_form (view json.now) o) };
+}
+
+/// A value that is written as JSON.
+pub(crate) trait ToJson {
+    // the JSON that is written
+    ghost json_of: { Self → Data };
+
+    fn to_json(&self, alloc: Global) -> Result<Json, AllocError>
+        ensures { IfOk result (λ json. view json ≡ json_of self.now) };
+}

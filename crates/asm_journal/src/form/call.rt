@@ -1,0 +1,152 @@
+//! The JSON of calls: reads, and fires with their named reads.
+ghost use Rattle.std.specs.Prelude.{◌≡◌, IfOk, codes, map};
+ghost use Rattle.serde_json.specs.View.{view};
+ghost use Rattle.asm_journal.specs.Shape.{IsParsed, list_of, one_of, two_of};
+ghost use Rattle.asm_journal.specs.Event.{named_json_of, move_json_of, call_json_of};
+ghost use Rattle.asm_journal.specs.Event.{IsNamedForm, IsMoveForm, IsMoveOf, IsCallForm};
+
+use crate::form::array::{Listed, array_of, list_json, pair_items, pair_of};
+use crate::form::number::read_number;
+use crate::form::object::{object_of, one_member, two_members};
+use crate::form::{FromJson, ToJson};
+use asm_element::{Items, Location};
+use asm_state::Named;
+use asm_storage::Call;
+use asm_update::{Instruction, Instructions};
+use serde_json::{Map, Value as Json};
+use std::alloc::{AllocError, Global};
+
+impl ToJson for Named {
+    ghost json_of = { named_json_of };
+
+    fn to_json(&self, alloc: Global) -> Result<Json, AllocError> {
+        pair_of(alloc, self.at.to_json(alloc)?, Json::from(self.number))
+    }
+}
+
+impl FromJson for Named {
+    ghost is_form = { IsNamedForm };
+
+    fn from_json(alloc: Global, json: &Json) -> Result<Option<Named>, AllocError> {
+        let Some((at, number)) = pair_items(json) else {
+            return Ok(None);
+        };
+        let Some(number) = read_number(number) else {
+            return Ok(None);
+        };
+        match Location::from_json(alloc, at)? {
+            Some(at) => Ok(Some(Named { at, number })),
+            None => Ok(None),
+        }
+    }
+}
+
+impl ToJson for Instructions {
+    ghost json_of = { move_json_of };
+
+    fn to_json(&self, alloc: Global) -> Result<Json, AllocError> {
+        let mut list = Vec::new(alloc);
+        for index in 0..self.len() {
+            list.push(self.get(index).to_json(alloc)?)?;
+        }
+        Ok(array_of(list))
+    }
+}
+
+/// Makes a move of the instructions, unless there are more than 4,096.
+fn instructions_of(
+    alloc: Global,
+    list: Vec<Instruction>,
+) -> Result<Option<Instructions>, AllocError>
+    ensures { IfOk result (IsParsed IsMoveOf list.items) }
+{
+    if list.len() > 4096 {
+        return Ok(None);
+    }
+    let mut instructions = Instructions::new(alloc);
+    for instruction in list {
+        match instructions.push(instruction) {
+            Ok(()) => {}
+            Err(_) => return Err(AllocError),
+        }
+    }
+    Ok(Some(instructions))
+}
+
+impl FromJson for Instructions {
+    ghost is_form = { IsMoveForm };
+
+    fn from_json(alloc: Global, json: &Json) -> Result<Option<Instructions>, AllocError> {
+        match Listed::<Instruction>::from_json(alloc, json)? {
+            Some(list) => instructions_of(alloc, list.into_vec()),
+            None => Ok(None),
+        }
+    }
+}
+
+/// The JSON of a fire: its instructions and its named reads.
+fn fire_json(alloc: Global, instrs: &Instructions, reads: &[Named]) -> Result<Json, AllocError>
+    ensures { IfOk result (λ json. view json ≡ two_of (codes "fire") (move_json_of instrs.now)
+        (codes "reads") (list_of (map named_json_of reads.now))) }
+{
+    let mut members = Map::new(alloc);
+    serde_json::put(&mut members, alloc, "fire", instrs.to_json(alloc)?)?;
+    serde_json::put(&mut members, alloc, "reads", list_json(alloc, reads)?)?;
+    Ok(Json::Object(members))
+}
+
+impl ToJson for Call {
+    ghost json_of = { call_json_of };
+
+    fn to_json(&self, alloc: Global) -> Result<Json, AllocError> {
+        match self {
+            Call::Read(locations) => object_of(
+                alloc,
+                "read",
+                list_json(alloc, locations.as_slice())?,
+            ),
+            Call::Fire { reads, instrs } => fire_json(alloc, instrs, reads.as_slice()),
+        }
+    }
+}
+
+/// Reads a fire from the JSON of its instructions and of its named reads.
+fn read_fire(alloc: Global, instrs: &Json, reads: &Json) -> Result<Option<Call>, AllocError>
+    ensures { IfOk result (IsParsed IsCallForm
+        (two_of (codes "fire") (view instrs.now) (codes "reads") (view reads.now))) }
+{
+    let Some(instrs) = Instructions::from_json(alloc, instrs)? else {
+        return Ok(None);
+    };
+    match Listed::<Named>::from_json(alloc, reads)? {
+        Some(reads) => Ok(Some(Call::Fire {
+            reads: Items::new(reads.into_vec()),
+            instrs,
+        })),
+        None => Ok(None),
+    }
+}
+
+/// Reads a read from the JSON of its locations.
+fn read_read(alloc: Global, locations: &Json) -> Result<Option<Call>, AllocError>
+    ensures { IfOk result (IsParsed IsCallForm (one_of (codes "read") (view locations.now))) }
+{
+    match Listed::<Location>::from_json(alloc, locations)? {
+        Some(locations) => Ok(Some(Call::Read(Items::new(locations.into_vec())))),
+        None => Ok(None),
+    }
+}
+
+impl FromJson for Call {
+    ghost is_form = { IsCallForm };
+
+    fn from_json(alloc: Global, json: &Json) -> Result<Option<Call>, AllocError> {
+        if let Some(locations) = one_member(json, "read") {
+            return read_read(alloc, locations);
+        }
+        match two_members(json, "fire", "reads") {
+            Some((instrs, reads)) => read_fire(alloc, instrs, reads),
+            None => Ok(None),
+        }
+    }
+}

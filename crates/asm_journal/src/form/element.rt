@@ -1,0 +1,160 @@
+//! The JSON of whole numbers, elements and locations.
+ghost use Rattle.std.specs.Prelude.{◌≡◌, ◌≢◌, IfOk, IfSome, IfNone, codes};
+ghost use Rattle.serde_json.specs.Data.{Items, array};
+ghost use Rattle.serde_json.specs.View.{view, items_view};
+ghost use Rattle.asm_journal.specs.Shape.{IsParsed, one_of};
+ghost use Rattle.asm_journal.specs.Element.{integer_json_of, element_json_of, location_json_of, IsIntegerForm, IsElementForm, IsLocationForm};
+
+use crate::form::array::{array_of, push_items, read_items};
+use crate::form::object::{object_of, one_member};
+use crate::form::{FromJson, ToJson};
+use asm_element::{ElemList, ElemText, Element, Location};
+use serde_json::Value as Json;
+use std::alloc::{AllocError, Global};
+
+impl ToJson for i64 {
+    ghost json_of = { integer_json_of };
+
+    fn to_json(&self, _alloc: Global) -> Result<Json, AllocError> {
+        Ok(Json::from(*self))
+    }
+}
+
+impl FromJson for i64 {
+    ghost is_form = { IsIntegerForm };
+
+    fn from_json(_alloc: Global, json: &Json) -> Result<Option<i64>, AllocError> {
+        Ok(json.as_i64())
+    }
+}
+
+/// Writes an element as JSON. It recurses as deep as lists nest, at most 8 levels.
+fn write_element(alloc: Global, element: &Element) -> Result<Json, AllocError>
+    ensures { IfOk result (λ json. view json ≡ element_json_of element.now) }
+{
+    match element {
+        Element::Undef => Ok(Json::Null),
+        Element::Bool(truth) => Ok(Json::Bool(*truth)),
+        Element::Num(number) => number.to_json(alloc),
+        Element::Text(text) => Json::try_from_str(alloc, text.as_str()),
+        Element::List(list) => {
+            let mut items = Vec::new(alloc);
+            for item in list.items() {
+                items.push(write_element(alloc, item)?)?;
+            }
+            object_of(alloc, "list", array_of(items))
+        }
+    }
+}
+
+impl ToJson for Element {
+    ghost json_of = { element_json_of };
+
+    fn to_json(&self, alloc: Global) -> Result<Json, AllocError> {
+        write_element(alloc, self)
+    }
+}
+
+/// The array in an object whose only member is `list`.
+fn list_items(json: &Json) -> Option<&Vec<Json>>
+    ensures some { IfSome result
+        (λ v. view json.now ≡ one_of (codes "list") (array (items_view v.now.items))) }
+    ensures none { IfNone result ((ds : Items) → view json.now ≢ one_of (codes "list") (array ds)) }
+{
+    one_member(json, "list")?.as_array()
+}
+
+/// Reads an element. It recurses as deep as the value nests, at most 127 levels in what was read from a text.
+#[cycle(read_element)]
+fn read_element(alloc: Global, json: &Json) -> Result<Option<Element>, AllocError>
+    ensures { IfOk result (IsParsed IsElementForm (view json.now)) }
+{
+    if let Some(items) = list_items(json) {
+        return read_list(alloc, items);
+    }
+    match json {
+        Json::Null => Ok(Some(Element::Undef)),
+        Json::Bool(truth) => Ok(Some(Element::Bool(*truth))),
+        Json::Number(_) => Ok(i64::from_json(alloc, json)?.map(Element::Num)),
+        Json::String(text) => Ok(Some(Element::Text(ElemText::new(text.clone()?)))),
+        Json::Array(_) | Json::Object(_) => Ok(None),
+    }
+}
+
+/// Reads a list from the JSON of its items.
+#[cycle(read_element)]
+fn read_list(alloc: Global, items: &[Json]) -> Result<Option<Element>, AllocError>
+    ensures { IfOk result (IsParsed IsElementForm (one_of (codes "list") (array (items_view items.now)))) }
+{
+    let mut found = Vec::new(alloc);
+    for item in items {
+        match read_element(alloc, item)? {
+            Some(x) => found.push(x)?,
+            None => return Ok(None),
+        }
+    }
+    match ElemList::new(found) {
+        Ok(list) => Ok(Some(Element::List(list))),
+        Err(_) => Ok(None),
+    }
+}
+
+impl FromJson for Element {
+    ghost is_form = { IsElementForm };
+
+    fn from_json(alloc: Global, json: &Json) -> Result<Option<Element>, AllocError> {
+        read_element(alloc, json)
+    }
+}
+
+impl ToJson for Location {
+    ghost json_of = { location_json_of };
+
+    fn to_json(&self, alloc: Global) -> Result<Json, AllocError> {
+        let mut list = Vec::new(alloc);
+        list.push(Json::try_from_str(alloc, self.name())?)?;
+        push_items(alloc, &mut list, self.args())?;
+        Ok(Json::Array(list))
+    }
+}
+
+impl FromJson for Location {
+    ghost is_form = { IsLocationForm };
+
+    fn from_json(alloc: Global, json: &Json) -> Result<Option<Location>, AllocError> {
+        let Some(items) = json.as_array() else {
+            return Ok(None);
+        };
+        let Some((first, rest)) = items.split_first() else {
+            return Ok(None);
+        };
+        let Some(name) = first.as_str() else {
+            return Ok(None);
+        };
+        let Some(args) = read_items(alloc, rest)? else {
+            return Ok(None);
+        };
+        Ok(Location::new(String::from_str(alloc, name)?, args).ok())
+    }
+}
+
+/// Writes a location as JSON: an array of its name and its arguments.
+///
+/// `AllocError` comes only where memory was refused.
+pub fn location_json(alloc: Global, location: &Location) -> Result<Json, AllocError>
+    ensures { IfOk result (λ json. view json ≡ location_json_of location.now) }
+{
+    location.to_json(alloc)
+}
+
+/// Reads a location from JSON.
+///
+/// `None` where the value isn't an array of a name and at most 8 elements, or where the name breaks the rule of
+/// names.
+///
+/// `AllocError` comes only where memory was refused.
+pub fn read_location(alloc: Global, json: &Json) -> Result<Option<Location>, AllocError>
+    ensures { IfOk result (IsParsed IsLocationForm (view json.now)) }
+{
+    Location::from_json(alloc, json)
+}

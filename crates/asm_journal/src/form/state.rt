@@ -1,0 +1,108 @@
+//! The JSON of states: locations with their values.
+ghost use Rattle.std.specs.Prelude.{◌≡◌, ◌||◌, IfOk, OnOk, is_some, if◌then◌else◌};
+ghost use Rattle.std.specs.Prelude as list;
+ghost use Rattle.std.specs.FinMap as map;
+ghost use Rattle.serde_json.specs.View.{view};
+ghost use Rattle.asm_element.specs.Value.{is_undef};
+ghost use Rattle.asm_journal.specs.Shape.{IsParsed};
+ghost use Rattle.asm_journal.specs.Value.{pair_json_of, IsPairForm, IsStateOf, IsStateForm};
+ghost use Rattle.asm_journal.specs.Text.{state_json_of};
+
+use crate::form::array::{Listed, array_of, pair_items, pair_of};
+use crate::form::{FromJson, ToJson};
+use asm_element::{Location, Value};
+use asm_update::{PlainState, UpdateSet};
+use serde_json::Value as Json;
+use std::alloc::{AllocError, Global};
+
+/// A location with its value.
+#[derive(Drop)]
+pub(crate) struct StatePair(Location, Value);
+
+impl FromJson for StatePair {
+    ghost is_form = { λ p. IsPairForm (p.0, p.1) };
+
+    fn from_json(alloc: Global, json: &Json) -> Result<Option<StatePair>, AllocError> {
+        let Some((at, value)) = pair_items(json) else {
+            return Ok(None);
+        };
+        let Some(at) = Location::from_json(alloc, at)? else {
+            return Ok(None);
+        };
+        let Some(value) = Value::from_json(alloc, value)? else {
+            return Ok(None);
+        };
+        Ok(Some(StatePair(at, value)))
+    }
+}
+
+// Whether a pair of the location was read. A state keeps no undef, so the locations of undef stand beside it.
+fn is_read(state: &PlainState, undefined: &UpdateSet, at: &Location) -> bool
+    ensures { result ≡ (is_some (map.get state.now at.now) || is_some (map.get undefined.now at.now)) }
+{
+    state.get(at).is_some() || undefined.get(at).is_some()
+}
+
+// Notes the location of a value that is undef.
+fn note_undef(
+    alloc: Global,
+    undefined: &mut UpdateSet,
+    at: &Location,
+    value: &Value,
+) -> Result<(), AllocError>
+    ensures { OnOk result (undefined.new ≡
+        if is_undef value.now then map.insert undefined.old at.now value.now else undefined.old) }
+{
+    if value.is_undef() {
+        undefined.put(at.copy(alloc)?, value.copy(alloc)?)?;
+    }
+    Ok(())
+}
+
+/// Makes a state of the pairs, unless a location stands twice.
+fn state_from(alloc: Global, mut pairs: Vec<StatePair>) -> Result<Option<PlainState>, AllocError>
+    ensures { IfOk result (IsParsed IsStateOf (list.map (λ p. (p.0, p.1)) pairs.items)) }
+{
+    let mut state = PlainState::new(alloc);
+    let mut undefined = UpdateSet::new(alloc);
+    while let Some(StatePair(at, value)) = pairs.pop() {
+        if is_read(&state, &undefined, &at) {
+            return Ok(None);
+        }
+        note_undef(alloc, &mut undefined, &at, &value)?;
+        state.set(at, value)?;
+    }
+    Ok(Some(state))
+}
+
+impl FromJson for PlainState {
+    ghost is_form = { IsStateForm };
+
+    fn from_json(alloc: Global, json: &Json) -> Result<Option<PlainState>, AllocError> {
+        match Listed::<StatePair>::from_json(alloc, json)? {
+            Some(pairs) => state_from(alloc, pairs.into_vec()),
+            None => Ok(None),
+        }
+    }
+}
+
+/// Writes a location and its value as JSON: an array of both.
+///
+/// `AllocError` comes only where memory was refused.
+pub fn pair_json(alloc: Global, location: &Location, value: &Value) -> Result<Json, AllocError>
+    ensures { IfOk result (λ json. view json ≡ pair_json_of (location.now, value.now)) }
+{
+    pair_of(alloc, location.to_json(alloc)?, value.to_json(alloc)?)
+}
+
+impl ToJson for PlainState {
+    ghost json_of = { state_json_of };
+
+    fn to_json(&self, alloc: Global) -> Result<Json, AllocError> {
+        let mut list = Vec::new(alloc);
+        for (at, value) in self.iter() {
+            list.push(pair_json(alloc, at, value)?)?;
+        }
+        Ok(array_of(list))
+    }
+}

@@ -1,0 +1,59 @@
+//! The JSON of values.
+ghost use Rattle.std.specs.Prelude.{◌≡◌, IfOk};
+ghost use Rattle.serde_json.specs.View.{view};
+ghost use Rattle.asm_journal.specs.Shape.{IsParsed};
+ghost use Rattle.asm_journal.specs.Value.{value_json_of, IsValueForm};
+
+use crate::form::object::one_member;
+use crate::form::{FromJson, ToJson};
+use asm_element::{ElemBag, ElemSet, Element, Value};
+use serde_json::Value as Json;
+use std::alloc::{AllocError, Global};
+
+impl ToJson for Value {
+    ghost json_of = { value_json_of };
+
+    fn to_json(&self, alloc: Global) -> Result<Json, AllocError> {
+        match self {
+            Value::Plain(element) => element.to_json(alloc),
+            Value::Set(set) => set.to_json(alloc),
+            Value::Bag(bag) => bag.to_json(alloc),
+        }
+    }
+}
+
+impl FromJson for Value {
+    ghost is_form = { IsValueForm };
+
+    fn from_json(alloc: Global, json: &Json) -> Result<Option<Value>, AllocError> {
+        if let Some(items) = one_member(json, "set") {
+            return Ok(ElemSet::from_json(alloc, items)?.map(Value::Set));
+        }
+        if let Some(items) = one_member(json, "bag") {
+            return Ok(ElemBag::from_json(alloc, items)?.map(Value::Bag));
+        }
+        Ok(Element::from_json(alloc, json)?.map(Value::Plain))
+    }
+}
+
+/// Writes a value as JSON: an element, or an object whose member `set` or `bag` has the elements in ascending
+/// order.
+///
+/// `AllocError` comes only where memory was refused.
+pub fn value_json(alloc: Global, value: &Value) -> Result<Json, AllocError>
+    ensures { IfOk result (λ json. view json ≡ value_json_of value.now) }
+{
+    value.to_json(alloc)
+}
+
+/// Reads a value from JSON. The elements of sets and bags may come in any order.
+///
+/// `None` where the JSON has another shape, where an element stands twice in a set or a bag, where a number is
+/// outside the range of i64, or where a count isn't 1 to 4,294,967,295.
+///
+/// `AllocError` comes only where memory was refused.
+pub fn read_value(alloc: Global, json: &Json) -> Result<Option<Value>, AllocError>
+    ensures { IfOk result (IsParsed IsValueForm (view json.now)) }
+{
+    Value::from_json(alloc, json)
+}

@@ -1,0 +1,195 @@
+//! Reading a journal.
+ghost use Rattle.std.specs.Prelude.{◌≡◌, ◌<◌, ◌+◌, ◌↔◌, ℕ, List, length, IsTrue, IfOk, IfErr, IfSome, IfNone};
+ghost use Rattle.serde_json.specs.Data.{Data};
+ghost use Rattle.serde_json.specs.View.{view};
+ghost use Rattle.asm_storage.specs.History.{Fits};
+ghost use Rattle.asm_storage.specs.Proper.{IsProper};
+ghost use Rattle.asm_storage.specs.declared.history.Event.{Event as Item};
+ghost use Rattle.asm_storage.specs.declared.history.History.{History as Log};
+ghost use Rattle.asm_journal.specs.Shape.{IsParsed};
+ghost use Rattle.asm_journal.specs.Event.{IsEventBelow};
+ghost use Rattle.asm_journal.specs.Reading.{AreNumbers, HasLine, IsHeader, HasEvents, ReadsAs};
+ghost use Rattle.asm_journal.specs.Fault.{HasOtherVersion, BreaksHeader, BreaksEvent, IsRefused, GivesHistory};
+
+use crate::fault::JournalError;
+use crate::form::{FromJson, five_members, read_number};
+use crate::line::json_line;
+use crate::version::{is_of_version, is_version};
+use asm_element::Items;
+use asm_storage::{Event, History};
+use asm_update::PlainState;
+use serde_json::Value as Json;
+use std::alloc::{AllocError, Global};
+
+/// A header of a journal.
+#[derive(Drop)]
+struct Header {
+    limits: Limits,
+    init: PlainState,
+}
+
+/// Whether the value is an object whose version is a whole number other than 1 and 2.
+fn has_other_version(json: &Json) -> bool
+    ensures { IsTrue result ↔ HasOtherVersion (view json.now) }
+{
+    match json.get("version").and_then(Json::as_number) {
+        Some(version) => {
+            !version.is_f64() && version.as_u64() != Some(1) && version.as_u64() != Some(2)
+        }
+        None => false,
+    }
+}
+
+/// The numbers of a header.
+#[derive(Clone, Copy, Drop)]
+struct Limits {
+    agents: u32,
+    capacity: u32,
+    events: u32,
+    version: u32,
+}
+
+/// Reads the numbers of a header, unless one is outside its limits or no journal of the version is read.
+fn limits_of(agents: &Json, capacity: &Json, events: &Json, version: &Json) -> Option<Limits>
+    ensures some { IfSome result (λ l. AreNumbers l.version l.agents l.capacity l.events
+        (view agents.now) (view capacity.now) (view events.now) (view version.now)) }
+    ensures none { IfNone result ((v a c n : ℕ) → ¬ AreNumbers v a c n
+        (view agents.now) (view capacity.now) (view events.now) (view version.now)) }
+{
+    let agents = read_number(agents)?;
+    let capacity = read_number(capacity)?;
+    let events = read_number(events)?;
+    let version = read_number(version)?;
+    if is_version(version) && agents <= 256 && 1 <= capacity && capacity <= 1_048_576 {
+        Some(Limits {
+            agents,
+            capacity,
+            events,
+            version,
+        })
+    } else {
+        None
+    }
+}
+
+/// Reads a header from the value of its line.
+fn header_from(alloc: Global, json: &Json) -> Result<Option<Header>, AllocError>
+    ensures { IfOk result (IsParsed (λ h d. IsHeader h.limits.version h.limits.agents h.limits.capacity
+        h.limits.events h.init d) (view json.now)) }
+{
+    let members = five_members(json, "agents", "capacity", "events", "init", "version");
+    let Some((agents, capacity, events, init, version)) = members else {
+        return Ok(None);
+    };
+    let Some(limits) = limits_of(agents, capacity, events, version) else {
+        return Ok(None);
+    };
+    if !is_of_version(json, limits.version) {
+        return Ok(None);
+    }
+    match PlainState::from_json(alloc, init)? {
+        Some(init) => Ok(Some(Header { limits, init })),
+        None => Ok(None),
+    }
+}
+
+/// Reads the header line, and gives the rest of the text too.
+fn read_header(alloc: Global, text: &[u8]) -> Result<(Header, &[u8]), JournalError>
+    ensures ok { IfOk result (λ p. (d : Data) × HasLine text.now d p.1.now
+        × IsHeader p.0.limits.version p.0.limits.agents p.0.limits.capacity p.0.limits.events p.0.init d) }
+    ensures err { IfErr result (BreaksHeader text.now) }
+{
+    let (json, rest) = json_line(alloc, text, 1)?;
+    if has_other_version(&json) {
+        return Err(JournalError::Version);
+    }
+    match header_from(alloc, &json)? {
+        Some(header) => Ok((header, rest)),
+        None => Err(JournalError::Shape(1)),
+    }
+}
+
+/// Reads the event in the line with this number, of a journal with these limits, and gives the rest of the text too.
+fn read_event(
+    alloc: Global,
+    text: &[u8],
+    number: u64,
+    limits: Limits,
+) -> Result<(Event, &[u8]), JournalError>
+    ensures ok { IfOk result (λ p. (d : Data) × HasLine text.now d p.1.now
+        × IsEventBelow limits.version limits.agents p.0 d) }
+    ensures err { IfErr result (BreaksEvent limits.version limits.agents number text.now) }
+{
+    let (json, rest) = json_line(alloc, text, number)?;
+    if !is_of_version(&json, limits.version) {
+        return Err(JournalError::Shape(number));
+    }
+    match Event::from_json(alloc, &json)? {
+        Some(event) if event.fits(limits.agents) => Ok((event, rest)),
+        _ => Err(JournalError::Shape(number)),
+    }
+}
+
+/// Reads as many events as the limits say, each on its line, and gives the rest of the text too.
+fn read_events(
+    alloc: Global,
+    text: &[u8],
+    limits: Limits,
+) -> Result<(Vec<Event>, &[u8]), JournalError>
+    ensures ok { IfOk result (λ p. (length p.0.items ≡ limits.events)
+        × HasEvents limits.version limits.agents text.now p.0.items p.1.now) }
+    ensures err { IfErr result (λ e. (es : List Item) × (left : List ℕ)
+        × HasEvents limits.version limits.agents text.now es left × (length es < limits.events)
+        × BreaksEvent limits.version limits.agents (length es + 2) left e) }
+{
+    let mut events = Vec::new(alloc);
+    let mut rest = text;
+    for index in 0..limits.events {
+        let (event, after) = read_event(alloc, rest, u64::from(index) + 2, limits)?;
+        events.push(event)?;
+        rest = after;
+    }
+    Ok((events, rest))
+}
+
+/// Reads a journal, or answers its first fault.
+fn read_journal(alloc: Global, bytes: &[u8]) -> Result<History, JournalError>
+    ensures ok { IfOk result (ReadsAs bytes.now) }
+    ensures err { IfErr result (IsRefused bytes.now) }
+    ensures proper { IfOk result IsProper }
+{
+    let (header, rest) = read_header(alloc, bytes)?;
+    let limits = header.limits;
+    let (events, rest) = read_events(alloc, rest, limits)?;
+    if !rest.is_empty() {
+        return Err(JournalError::Shape(u64::from(limits.events) + 2));
+    }
+    let history = History {
+        init: header.init,
+        capacity: limits.capacity,
+        agents: limits.agents,
+        events: Items::new(events),
+    };
+    history.proper();
+    Ok(history)
+}
+
+/// Reads a journal, of version 1 or 2, or answers its first fault.
+///
+/// Lines are judged in turn: a line that isn't JSON is `NotJson`, a text that ends before a line or before its line
+/// feed is `Cut`, and a line of a wrong shape is `Shape`, in this order for each line. Another version in the header is
+/// `Version`, before the header's shape. In version 1 a line with a list in it has a wrong shape. Bytes behind the
+/// last line are one line more, of a wrong shape. `Memory` comes only where memory was refused.
+///
+/// It costs one pass over the text, and in version 1 one more over each line's value. No memory is reserved by the
+/// numbers in the header. A history that was read fits a journal, so it may be written as one.
+pub fn from_text(alloc: Global, bytes: &[u8]) -> Result<History, JournalError>
+    ensures ok { IfOk result (ReadsAs bytes.now) }
+    ensures err { IfErr result (IsRefused bytes.now) }
+    // A text that reads as a history is answered with it, unless memory is refused.
+    ensures only { (h : Log) → ReadsAs bytes.now h → GivesHistory h result }
+    // A history that was read may be written.
+    ensures fits { IfOk result Fits }
+{
+    read_journal(alloc, bytes)
+}

@@ -1,0 +1,141 @@
+//! Replays of moves, with and without changes in place.
+use asm_aggregate::standard;
+use asm_journal::{JournalError, from_text, replay};
+use asm_storage::History;
+use std::alloc::{AllocError, Global};
+use std::test::Fail;
+
+/// Opening values, the moves' instructions, and the values that they leave.
+#[derive(Clone, Copy)]
+struct Row {
+    init: &'static str,
+    moves: &'static [&'static str],
+    left: &'static str,
+}
+
+static ROWS: [Row; 12] = [
+    Row {
+        init: r#"[["s"],{"set":[1]}]"#,
+        moves: &[r#"["add",["s"],2]"#, r#"["remove",["s"],1]"#],
+        left: r#"[["s"],{"set":[2]}]"#,
+    },
+    Row {
+        init: r#"[["a"],1],[["s"],{"set":[1]}],[["z"],2]"#,
+        moves: &[r#"["add",["s"],3],["add",["s"],2],["remove",["s"],1],["add",["s"],2]"#],
+        left: r#"[["a"],1],[["s"],{"set":[2,3]}],[["z"],2]"#,
+    },
+    // A set that is left empty is a value.
+    Row {
+        init: r#"[["s"],{"set":[1]}]"#,
+        moves: &[r#"["remove",["s"],1]"#],
+        left: r#"[["s"],{"set":[]}]"#,
+    },
+    // Moves that clash: an element both added and removed, partial updates of two families, and such of numbers.
+    Row {
+        init: r#"[["s"],{"set":[1]}]"#,
+        moves: &[
+            r#"["add",["s"],2],["remove",["s"],2]"#,
+            r#"["add",["s"],3],["remove",["s"],3],["add",["s"],5]"#,
+            r#"["add",["s"],3],["bagadd",["s"],3,1]"#,
+            r#"["inc",["s"],3]"#,
+            r#"["add",["s"],4]"#,
+        ],
+        left: r#"[["s"],{"set":[1,4]}]"#,
+    },
+    // A location that is undef.
+    Row {
+        init: r#"[["a"],1]"#,
+        moves: &[r#"["add",["t"],5]"#, r#"["bagadd",["t"],5,1]"#],
+        left: r#"[["a"],1]"#,
+    },
+    Row {
+        init: r#"[["a"],1]"#,
+        moves: &[r#"["put",["t"],{"set":[]}]"#, r#"["add",["t"],5]"#],
+        left: r#"[["a"],1],[["t"],{"set":[5]}]"#,
+    },
+    Row {
+        init: r#"[["b"],{"bag":[["e",2]]}]"#,
+        moves: &[
+            r#"["bagadd",["b"],"e",3]"#,
+            r#"["bagremove",["b"],"e",4]"#,
+            r#"["bagremove",["b"],"e",2]"#,
+            r#"["bagadd",["b"],"d",1]"#,
+        ],
+        left: r#"[["b"],{"bag":[["d",1],["e",1]]}]"#,
+    },
+    Row {
+        init: r#"[["b"],{"bag":[["e",4294967295]]}]"#,
+        moves: &[
+            r#"["bagadd",["b"],"d",1],["bagadd",["b"],"e",1]"#,
+            r#"["bagadd",["b"],"f",7]"#,
+        ],
+        left: r#"[["b"],{"bag":[["e",4294967295],["f",7]]}]"#,
+    },
+    Row {
+        init: r#"[["n"],5]"#,
+        moves: &[r#"["inc",["n"],-7]"#, r#"["inc",["n"],1],["inc",["n"],2]"#],
+        left: r#"[["n"],1]"#,
+    },
+    Row {
+        init: r#"[["n"],9223372036854775807]"#,
+        moves: &[r#"["inc",["n"],1]"#, r#"["inc",["n"],-1]"#],
+        left: r#"[["n"],9223372036854775806]"#,
+    },
+    // Moves of several locations, or with a put.
+    Row {
+        init: r#"[["s"],{"set":[]}],[["t"],{"set":[]}]"#,
+        moves: &[
+            r#"["add",["s"],1],["add",["t"],2]"#,
+            r#"["add",["s"],3],["remove",["t"],4],["add",["u"],4]"#,
+            r#"["add",["s"],5],["put",["s"],{"set":[5]}]"#,
+        ],
+        left: r#"[["s"],{"set":[5]}],[["t"],{"set":[2]}]"#,
+    },
+    Row {
+        init: r#"[["n"],5],[["s"],{"set":[1]}]"#,
+        moves: &[
+            r#"["put",["n"],null]"#,
+            r#"["inc",["n"],1]"#,
+            r#"["add",["s"],2]"#,
+        ],
+        left: r#"[["s"],{"set":[1,2]}]"#,
+    },
+];
+
+/// The journal of these moves, each fired as the next.
+fn journal(alloc: Global, init: &str, moves: &[&'static str]) -> Result<String, AllocError> {
+    let count = moves.len();
+    let mut text = format!(in alloc;
+        r#"{{"agents":1,"capacity":9,"events":{count},"init":[{init}],"version":2}}
+"#
+    )?;
+    for (index, fired) in moves.iter().enumerate() {
+        let number = index.saturating_add(1);
+        text.push_str(r#"{"agent":0,"call":{"fire":["#)?;
+        text.push_str(fired)?;
+        let reply = format!(in alloc; r#"],"reads":[]}},"reply":{{"fired":{number}}}}}"#)?;
+        text.push_str(reply.as_str())?;
+        text.push_str("\n")?;
+    }
+    Ok(text)
+}
+
+fn history(alloc: Global, init: &str, moves: &[&'static str]) -> Result<History, JournalError> {
+    let text = journal(alloc, init, moves)?;
+    from_text(alloc, text.as_str().as_bytes())
+}
+
+/// Whether a replay of the row's moves leaves the row's values.
+fn is_replayed(alloc: Global, row: Row) -> Result<bool, JournalError> {
+    let played = history(alloc, row.init, row.moves)?;
+    let left = history(alloc, row.left, &[])?;
+    Ok(replay(alloc, &standard(), &played)? == left.init)
+}
+
+#[test]
+fn a_replay_leaves_what_the_moves_leave(rt: HostRuntime) -> Result<(), Fail> {
+    for row in ROWS.iter() {
+        assert!(rt; is_replayed(rt.alloc(), *row)?);
+    }
+    Ok(())
+}

@@ -1,0 +1,27 @@
+//! Which capacities a row may have, and the texts of what is refused.
+use asm_row::{Row, RowError};
+use std::test::Fail;
+
+#[test]
+fn capacities_out_of_range_are_refused(rt: HostRuntime) {
+    for capacity in [0, 1_048_577] {
+        let row: Result<Row<char>, RowError> = Row::new(rt.alloc(), capacity);
+        assert!(rt; matches!(row, Err(RowError::BadCapacity)), "at {capacity}");
+    }
+}
+
+#[test]
+fn largest_row_is_made(rt: HostRuntime) -> Result<(), Fail> {
+    let row: Row<char> = Row::new(rt.alloc(), 1_048_576)?;
+    assert!(rt; row.capacity() == 1_048_576);
+    Ok(())
+}
+
+#[test]
+fn errors_have_their_texts(rt: HostRuntime) -> Result<(), Fail> {
+    let bad_capacity = RowError::BadCapacity.to_string(rt.alloc())?;
+    assert!(rt; bad_capacity.as_str() == "the capacity is not in 1 to 1,048,576");
+    let memory = RowError::Memory.to_string(rt.alloc())?;
+    assert!(rt; memory.as_str() == "out of memory");
+    Ok(())
+}

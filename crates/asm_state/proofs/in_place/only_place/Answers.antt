@@ -1,7 +1,0 @@
-use Rattle.std.proofs.Common.{sym, ◌∙◌}
-use Rattle.asm_state.proofs.InPlace.{no_place}
-use Rattle.asm_state.proofs.in_place.only_place.Goals as goal
-
-pub returns-else-are_changes_at-clause-none : goal.returns-else-are_changes_at-clause-none
-returns-else-are_changes_at-clause-none c = λ none.
-    no_place c.in_ok-first.first.now c.args.instructions.now (sym c.in_ok-first.ensures.value) (sym c.are_changes_at.ensures ∙ c.if-are_changes_at.false)

@@ -1,0 +1,336 @@
+//! How moves are judged and followed: stale reads, clashes, the numbers of writers, and copies.
+use asm_aggregate::standard;
+use asm_element::{Element, Location, Value};
+use asm_state::{Named, State, Verdict};
+use asm_update::{Action, Cause, Instruction, Instructions, Lookup, PlainState, UpdateSet};
+use std::alloc::Global;
+use std::process::Abort;
+use std::test::Fail;
+
+/// A put of a number, or of undef, at the location of this name.
+#[derive(Clone, Copy)]
+struct Put(&'static str, Option<i64>);
+
+/// Two different values at one location.
+const TWO: [Put; 2] = [Put("x", Some(1)), Put("x", Some(2))];
+
+fn location(alloc: Global, name: &str) -> Result<Location, Fail> {
+    Ok(Location::new(String::from_str(alloc, name)?, Vec::new(alloc))?)
+}
+
+fn element(number: Option<i64>) -> Element {
+    match number {
+        Some(n) => Element::Num(n),
+        None => Element::Undef,
+    }
+}
+
+fn move_of(alloc: Global, puts: &[Put]) -> Result<Instructions, Fail> {
+    let mut list = Instructions::new(alloc);
+    for put in puts {
+        let action = Action::Regular(Value::Plain(element(put.1)));
+        let at = location(alloc, put.0)?;
+        list.push(Instruction { at, action })?;
+    }
+    Ok(list)
+}
+
+/// A state at number 0 where x is 7.
+fn opened(alloc: Global) -> Result<State, Fail> {
+    let mut init = PlainState::new(alloc);
+    init.set(location(alloc, "x")?, Value::Plain(Element::Num(7)))?;
+    Ok(State::new(alloc, init)?)
+}
+
+fn follow<R: Abort>(rt: &R, alloc: Global, state: &mut State, puts: &[Put]) -> Result<(), Fail> {
+    let instructions = move_of(alloc, puts)?;
+    assert!(rt; state.number() < 4_294_967_295);
+    state.follow(alloc, &standard(), &instructions)?;
+    Ok(())
+}
+
+/// A state that has followed `put x 7`, and then a move that clashes at x.
+fn played<R: Abort>(rt: &R, alloc: Global) -> Result<State, Fail> {
+    let mut state = opened(alloc)?;
+    follow(rt, alloc, &mut state, &[Put("x", Some(7))])?;
+    follow(rt, alloc, &mut state, &TWO)?;
+    Ok(state)
+}
+
+/// What becomes of a move.
+#[derive(Clone, Copy)]
+enum Want {
+    Stale(&'static str),
+    /// Two values clash there.
+    Clash(&'static str),
+    /// It writes undef there, and nothing else.
+    Undef(&'static str),
+}
+
+fn is_undef_at(updates: &UpdateSet, name: &str) -> bool {
+    match updates.iter().next() {
+        Some((at, value)) => updates.len() == 1 && at.name() == name && value.is_undef(),
+        None => false,
+    }
+}
+
+fn is_wanted(verdict: &Verdict, want: Want) -> bool {
+    match (verdict, want) {
+        (Verdict::Stale(at), Want::Stale(name)) => at.name() == name,
+        (Verdict::Clash(clash), Want::Clash(name)) => {
+            clash.at.name() == name && clash.cause == Cause::Two
+        }
+        (Verdict::Ready(updates), Want::Undef(name)) => is_undef_at(updates, name),
+        _ => false,
+    }
+}
+
+fn named_of(alloc: Global, reads: &[(&'static str, u32)]) -> Result<Vec<Named>, Fail> {
+    let mut named = Vec::new(alloc);
+    for (name, number) in reads {
+        let at = location(alloc, name)?;
+        named.push(Named {
+            at,
+            number: *number,
+        })?;
+    }
+    Ok(named)
+}
+
+fn judges(
+    alloc: Global,
+    state: &State,
+    reads: &[(&'static str, u32)],
+    puts: &[Put],
+    want: Want,
+) -> Result<bool, Fail> {
+    let named = named_of(alloc, reads)?;
+    let instructions = move_of(alloc, puts)?;
+    let verdict = state.judge(alloc, &standard(), named.as_slice(), &instructions)?;
+    Ok(is_wanted(&verdict, want))
+}
+
+/// Whether the state holds this number at the location, or nothing, since the move with that number.
+fn holds(state: &State, at: &Location, number: Option<i64>, writer: u32) -> bool {
+    let value = Value::Plain(element(number));
+    let held = match state.get(at) {
+        Some(held) => *held == value,
+        None => value.is_undef(),
+    };
+    held && state.written_at(at) == writer
+}
+
+fn holds_at(
+    alloc: Global,
+    state: &State,
+    name: &str,
+    number: Option<i64>,
+    writer: u32,
+) -> Result<bool, Fail> {
+    let at = location(alloc, name)?;
+    Ok(holds(state, &at, number, writer))
+}
+
+#[test]
+fn a_move_that_clashes_is_counted_and_changes_nothing(rt: HostRuntime) -> Result<(), Fail> {
+    let (rt, alloc) = (&rt, rt.alloc());
+    assert_eq!(rt; opened(alloc)?.number(), 0);
+    let state = played(rt, alloc)?;
+    assert_eq!(rt; state.number(), 2);
+    assert!(rt; holds_at(alloc, &state, "x", Some(7), 1)?);
+    assert!(rt; holds_at(alloc, &state, "y", None, 0)?);
+    Ok(())
+}
+
+#[test]
+fn a_stale_read_is_told_before_a_clash(rt: HostRuntime) -> Result<(), Fail> {
+    let (rt, alloc) = (&rt, rt.alloc());
+    let state = played(rt, alloc)?;
+    assert!(rt; judges(alloc, &state, &[("x", 0)], &TWO, Want::Stale("x"))?);
+    Ok(())
+}
+
+#[test]
+fn a_fresh_read_leaves_the_clash(rt: HostRuntime) -> Result<(), Fail> {
+    let (rt, alloc) = (&rt, rt.alloc());
+    let state = played(rt, alloc)?;
+    assert!(rt; judges(alloc, &state, &[("x", 1)], &TWO, Want::Clash("x"))?);
+    Ok(())
+}
+
+#[test]
+fn a_location_that_was_written_undef_keeps_the_number(rt: HostRuntime) -> Result<(), Fail> {
+    let (rt, alloc) = (&rt, rt.alloc());
+    let mut state = played(rt, alloc)?;
+    let puts = [Put("y", None)];
+    assert!(rt; judges(alloc, &state, &[], &puts, Want::Undef("y"))?);
+    follow(rt, alloc, &mut state, &puts)?;
+    assert!(rt; holds_at(alloc, &state, "y", None, 3)?);
+    Ok(())
+}
+
+#[test]
+fn the_least_of_the_stale_reads_is_told(rt: HostRuntime) -> Result<(), Fail> {
+    let (rt, alloc) = (&rt, rt.alloc());
+    let mut state = opened(alloc)?;
+    let puts = [Put("c", Some(1)), Put("b", Some(1)), Put("a", Some(1))];
+    follow(rt, alloc, &mut state, &puts)?;
+    let reads = [("x", 0), ("c", 0), ("b", 0), ("a", 1), ("d", 9)];
+    assert!(rt; judges(alloc, &state, &reads, &TWO, Want::Stale("b"))?);
+    Ok(())
+}
+
+fn is_same_at(alloc: Global, one: &State, two: &State, name: &str) -> Result<bool, Fail> {
+    let at = location(alloc, name)?;
+    Ok(one.get(&at) == two.get(&at) && one.written_at(&at) == two.written_at(&at))
+}
+
+fn is_copied(alloc: Global, state: &State) -> Result<bool, Fail> {
+    let copy = state.copy(alloc)?;
+    let is_x = is_same_at(alloc, &copy, state, "x")?;
+    let is_y = is_same_at(alloc, &copy, state, "y")?;
+    Ok(is_x && is_y && copy.number() == state.number())
+}
+
+#[test]
+fn copies_are_equal(rt: HostRuntime) -> Result<(), Fail> {
+    let (rt, alloc) = (&rt, rt.alloc());
+    let at = location(alloc, "x")?;
+    let named = Named { at, number: 3 };
+    assert!(rt; named.copy(alloc)? == named);
+    let state = played(rt, alloc)?;
+    assert!(rt; is_copied(alloc, &state)?);
+    Ok(())
+}
+
+fn location_at(alloc: Global, number: i64) -> Result<Location, Fail> {
+    let args = vec![in alloc; Element::Num(number)]?;
+    Ok(Location::new(String::from_str(alloc, "n")?, args)?)
+}
+
+/// A state where n(1), n(3) and so on hold their argument, below the limit.
+fn half_held(alloc: Global, limit: i64) -> Result<State, Fail> {
+    let mut init = PlainState::new(alloc);
+    for n in 0..limit {
+        if n % 2 == 1 {
+            init.set(location_at(alloc, n)?, Value::Plain(Element::Num(n)))?;
+        }
+    }
+    Ok(State::new(alloc, init)?)
+}
+
+/// Puts of -1 at n(0), n(1) and so on, below the limit, from the last to the first.
+fn many_puts(alloc: Global, limit: i64) -> Result<Instructions, Fail> {
+    let mut list = Instructions::new(alloc);
+    for n in (0..limit).rev() {
+        let action = Action::Regular(Value::Plain(Element::Num(-1)));
+        let at = location_at(alloc, n)?;
+        list.push(Instruction { at, action })?;
+    }
+    Ok(list)
+}
+
+/// Whether the puts are written at all locations below the limit, or at none.
+fn is_all_or_nothing(alloc: Global, state: &State, limit: i64, fired: bool) -> Result<bool, Fail> {
+    for n in 0..limit {
+        let at = location_at(alloc, n)?;
+        let before = if n % 2 == 1 { Some(n) } else { None };
+        let is_right = if fired {
+            holds(state, &at, Some(-1), 1)
+        } else {
+            holds(state, &at, before, 0)
+        };
+        if !is_right {
+            return Ok(false);
+        }
+    }
+    Ok(state.number() == u32::from(fired))
+}
+
+/// After a follow of puts at as many locations, half of which are held: it wrote each, or, where memory was refused,
+/// the number, the values and the writers are as before.
+fn follow_writes_all_or_nothing<R: Abort>(rt: &R, alloc: Global, limit: i64) -> Result<(), Fail> {
+    let puts = many_puts(alloc, limit)?;
+    let mut state = half_held(alloc, limit)?;
+    assert!(rt; state.number() == 0);
+    let fired = state.follow(alloc, &standard(), &puts).is_ok();
+    assert!(rt; is_all_or_nothing(alloc, &state, limit, fired)?);
+    Ok(())
+}
+
+#[test]
+fn a_follow_of_16_updates_writes_all_or_nothing(rt: HostRuntime) -> Result<(), Fail> {
+    follow_writes_all_or_nothing(&rt, rt.alloc(), 16)
+}
+
+#[test]
+fn a_follow_of_4096_updates_writes_all_or_nothing(rt: HostRuntime) -> Result<(), Fail> {
+    follow_writes_all_or_nothing(&rt, rt.alloc(), 4096)
+}
+
+/// A verdict that tells that the location of this name is stale.
+fn stale_at(alloc: Global, name: &str) -> Result<Verdict, Fail> {
+    Ok(Verdict::Stale(location(alloc, name)?))
+}
+
+fn are_equal(alloc: Global, one: &str, two: &str) -> Result<bool, Fail> {
+    let one = stale_at(alloc, one)?;
+    let two = stale_at(alloc, two)?;
+    Ok(one == two)
+}
+
+#[test]
+fn stale_verdicts_are_equal_at_one_location_alone(rt: HostRuntime) -> Result<(), Fail> {
+    assert!(rt; are_equal(rt.alloc(), "x", "x")?);
+    assert!(rt; !are_equal(rt.alloc(), "x", "y")?);
+    Ok(())
+}
+
+/// A state where a move wrote n(0), n(1) and so on, 256 locations.
+fn written_at_256<R: Abort>(rt: &R, alloc: Global) -> Result<State, Fail> {
+    let puts = many_puts(alloc, 256)?;
+    let mut state = half_held(alloc, 256)?;
+    assert!(rt; state.number() == 0);
+    state.follow(alloc, &standard(), &puts)?;
+    Ok(state)
+}
+
+/// Reads of n(0), n(1) and so on, 256 of them, at number 1, and those from this one on at number 0.
+fn reads_stale_from(alloc: Global, first: i64) -> Result<Vec<Named>, Fail> {
+    let mut named = Vec::new(alloc);
+    for n in 0i64..256 {
+        let at = location_at(alloc, n)?;
+        let number = if n < first { 1 } else { 0 };
+        named.push(Named { at, number })?;
+    }
+    Ok(named)
+}
+
+/// What becomes of a move that writes undef at y, and names those reads.
+fn verdict_from(alloc: Global, state: &State, first: i64) -> Result<Verdict, Fail> {
+    let named = reads_stale_from(alloc, first)?;
+    let instructions = move_of(alloc, &[Put("y", None)])?;
+    Ok(state.judge(alloc, &standard(), named.as_slice(), &instructions)?)
+}
+
+fn is_stale_from(alloc: Global, state: &State, first: i64) -> Result<bool, Fail> {
+    let at = location_at(alloc, first)?;
+    let verdict = verdict_from(alloc, state, first)?;
+    Ok(verdict == Verdict::Stale(at))
+}
+
+fn is_ready(alloc: Global, state: &State) -> Result<bool, Fail> {
+    let verdict = verdict_from(alloc, state, 256)?;
+    Ok(is_wanted(&verdict, Want::Undef("y")))
+}
+
+#[test]
+fn each_of_256_reads_is_judged(rt: HostRuntime) -> Result<(), Fail> {
+    let (rt, alloc) = (&rt, rt.alloc());
+    let state = written_at_256(rt, alloc)?;
+    assert!(rt; is_ready(alloc, &state)?);
+    for first in [255i64, 100, 0] {
+        assert!(rt; is_stale_from(alloc, &state, first)?, "from {first}");
+    }
+    Ok(())
+}

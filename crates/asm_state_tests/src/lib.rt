@@ -1,0 +1,9 @@
+//! Tests of `asm_state`, which see its public items alone.
+#![tactic(auto)]
+
+#[cfg(test)]
+mod in_place;
+#[cfg(test)]
+mod judging;
+#[cfg(test)]
+mod opening;

@@ -1,0 +1,240 @@
+-- One turn of a fire, and several.
+use Rattle.std.proofs.Common.{◌≡◌, ℕ, zero, suc, ◌+◌, ◌-◌, ◌^◌, ◌<◌, ◌≤◌, true, cond, nat_lt, min, List, [], ◌∷◌, ◌++◌, length, length-append, take, Option, Some, None}
+use Rattle.std.proofs.Common.{Ok, Err, IfOk, OnErr, IfSome, IfNone, Result, arith, refl, ap, sym, ◌∙◌, subst}
+use Rattle.std.specs.declared.alloc.AllocError.{AllocError}
+use Rattle.std.proofs.lemmas.Bool.Decides.{nat_tests}
+use Rattle.std.proofs.lemmas.List.{take-append-le, take_all}
+use mathlib.Core.List.{IsPrefix}
+use Rattle.asm_update.specs.Aggregator.{Meaning}
+use Rattle.asm_update.specs.Move.{Move}
+use Rattle.asm_state.specs.declared.named.Named.{Named}
+use Rattle.asm_storage.specs.declared.call.Answer.TheVariants as answer
+use Rattle.asm_storage.specs.declared.call.Call.TheVariants as call
+use Rattle.asm_storage.specs.declared.call.Reply.{Reply}
+use Rattle.asm_storage.specs.declared.call.Reply.TheVariants as reply
+use Rattle.asm_storage.specs.declared.error.FireError.TheVariants as fire_error
+use Rattle.asm_storage.specs.declared.part.offering.Offering.{Offering}
+use Rattle.asm_storage.specs.declared.part.AgentPart.{AgentPart}
+use Rattle.asm_storage.specs.declared.receipt.Entry.{Entry}
+use Rattle.asm_storage.specs.declared.receipt.Receipt.{Receipt}
+use Rattle.asm_storage.specs.Agents.{moves_seen}
+use Rattle.asm_storage.specs.Calls.{receipt_at, judged_on, fired, HasOffered, IsAnswered, MadeOffers, Ran}
+use Rattle.asm_storage.specs.History.{fired_move}
+use Rattle.asm_storage.specs.Machine.{reply_to}
+use Rattle.asm_storage.specs.Offering.{IsOffering}
+use Rattle.asm_storage.specs.Part.{agent_of, HasFired, IsLost, IsPartOf, IsTurn, LooksOn, offers_in, misses_in}
+use Rattle.asm_storage.specs.Storage.{AgentAt, StorageView, machine_of, has_looked, has_seen, has_fired, with_receipt}
+use Rattle.asm_storage.specs.Storage.{last_look, IsReplyOf, Missed}
+use Rattle.asm_row.proofs.Prefixes.{IsPrefix-trans}
+use Rattle.asm_storage.proofs.Lists.{length-prefix}
+
+take_before : {X : Type 0} (xs : List X) (x : X) → take (length xs + 1 - 1) (xs ++ x ∷ []) ≡ xs
+take_before xs x =
+    let n : length xs + 1 - 1 ≡ length xs = omega arith in
+    ap (λ k. take k (xs ++ x ∷ [])) n ∙ take-append-le (length xs) xs (x ∷ []) (omega arith)
+    ∙ take_all (length xs) xs (omega arith)
+
+module _ {A : Type 0} (meaning : A → Meaning) (old mid : AgentAt A) (reads : List Named) (M : Move) where
+  -- a reply that fired nothing was judged on all that was seen
+  quiet_as : (r : Reply) (seen : List Entry) →
+      fired_move (call.Fire reads M) (answer.Fire r) ≡ None → judged_on r seen ≡ seen
+  quiet_as (reply.Fired k) seen quiet = absurd cc
+  quiet_as (reply.Stale l) seen quiet = refl
+  quiet_as (reply.Clash c) seen quiet = refl
+  quiet_as reply.Full seen quiet = refl
+
+  quiet_fired : (r : Reply) (new : AgentAt A) → fired_move (call.Fire reads M) (answer.Fire r) ≡ None →
+      fired old new reads M r ≡
+      with_receipt (has_looked old new.account.seen new.misses)
+      (receipt_at (length new.account.seen) (call.Fire reads M) (answer.Fire r))
+  quiet_fired (reply.Fired k) new quiet = absurd cc
+  quiet_fired (reply.Stale l) new quiet = refl
+  quiet_fired (reply.Clash c) new quiet = refl
+  quiet_fired reply.Full new quiet = refl
+
+  -- an agent that looked on and then kept the receipt of a reply that fired nothing
+  pub answered_quiet : (new : AgentAt A) (r : Reply) → mid ≡ has_looked old mid.account.seen mid.misses →
+      IsPrefix old.account.seen mid.account.seen → IsReplyOf meaning mid (call.Fire reads M) (answer.Fire r) →
+      fired_move (call.Fire reads M) (answer.Fire r) ≡ None →
+      new ≡ with_receipt mid (receipt_at (length mid.account.seen) (call.Fire reads M) (answer.Fire r)) →
+      IsAnswered meaning old new reads M r
+  answered_quiet new r looked begins told quiet is =
+      let receipt : Receipt = receipt_at (length mid.account.seen) (call.Fire reads M) (answer.Fire r) in
+      let kept : AgentAt A = with_receipt mid receipt in
+      let judged = quiet_as r mid.account.seen quiet in
+      let replies : StorageView A → List Entry → Type 0 = λ s q.
+      answer.Fire r ≡ reply_to (machine_of meaning s) (moves_seen q) (call.Fire reads M) in
+      let there = subst (λ q. replies mid.storage q) (sym judged) told in
+      subst (λ (n : AgentAt A). IsAnswered meaning old n reads M r) (sym is) (record {
+        reply = subst (λ s. replies s (judged_on r mid.account.seen)) (ap (λ (a : AgentAt A). a.storage) looked) there;
+        begins = subst (IsPrefix old.account.seen) (sym judged) begins;
+        agent = ap (λ (a : AgentAt A). with_receipt a receipt) looked ∙ sym (quiet_fired r kept quiet);
+      })
+
+  -- an agent that looked on and then fired
+  pub answered_fired : (new : AgentAt A) → mid ≡ has_looked old mid.account.seen mid.misses →
+      IsPrefix old.account.seen mid.account.seen →
+      IsReplyOf meaning mid (call.Fire reads M) (answer.Fire (reply.Fired (length mid.account.seen + 1))) →
+      new ≡ has_fired mid (receipt_at (length mid.account.seen) (call.Fire reads M)
+      (answer.Fire (reply.Fired (length mid.account.seen + 1)))) M →
+      IsAnswered meaning old new reads M (reply.Fired (length mid.account.seen + 1))
+  answered_fired new looked begins told is =
+      let n = length mid.account.seen in
+      let r : Reply = reply.Fired (n + 1) in
+      let entry : Entry = record { agent = mid.account.id; instrs = M } in
+      let before = take_before mid.account.seen entry in
+      let number : n ≡ n + 1 - 1 = omega arith in
+      let replies : StorageView A → List Entry → Type 0 = λ s q.
+      answer.Fire r ≡ reply_to (machine_of meaning s) (moves_seen q) (call.Fire reads M) in
+      let there = subst (λ q. replies mid.storage q) (sym before) told in
+      let grown = take (n + 1 - 1) (mid.account.seen ++ entry ∷ []) in
+      let receipt : ℕ → Receipt = λ k. receipt_at k (call.Fire reads M) (answer.Fire r) in
+      subst (λ (a : AgentAt A). IsAnswered meaning old a reads M r) (sym is) (record {
+        reply = subst (λ s. replies s grown) (ap (λ (a : AgentAt A). a.storage) looked) there;
+        begins = subst (IsPrefix old.account.seen) (sym before) begins;
+        agent = ap (λ (a : AgentAt A). has_fired a (receipt n) M) looked
+            ∙ ap (λ k. has_fired (has_looked old mid.account.seen mid.misses) (receipt k) M) number
+            ∙ ap (λ seen. has_fired (has_looked old seen mid.misses) (receipt (n + 1 - 1)) M) (sym before);
+      })
+
+  -- what a turn answers after others were lost is an answer of the whole call
+  pub answered_after : (new : AgentAt A) (r : Reply) → mid ≡ has_looked old mid.account.seen mid.misses →
+      IsPrefix old.account.seen mid.account.seen → IsAnswered meaning mid new reads M r →
+      IsAnswered meaning old new reads M r
+  answered_after new r looked begins is = record {
+    reply = subst (λ s. answer.Fire r ≡
+        reply_to (machine_of meaning s) (moves_seen (judged_on r new.account.seen)) (call.Fire reads M))
+        (ap (λ (a : AgentAt A). a.storage) looked) is.reply;
+    begins = IsPrefix-trans old.account.seen mid.account.seen (judged_on r new.account.seen) begins is.begins;
+    agent = is.agent ∙ refired r;
+  } where
+    refired : (s : Reply) → fired mid new reads M s ≡ fired old new reads M s
+    refired (reply.Fired k) = ap (λ (a : AgentAt A). fired a new reads M (reply.Fired k)) looked
+    refired (reply.Stale l) = ap (λ (a : AgentAt A). fired a new reads M (reply.Stale l)) looked
+    refired (reply.Clash c) = ap (λ (a : AgentAt A). fired a new reads M (reply.Clash c)) looked
+    refired reply.Full = ap (λ (a : AgentAt A). fired a new reads M reply.Full) looked
+
+-- an agent that looked on keeps its number
+pub looked_id : {A : Type 0} (meaning : A → Meaning) (s : StorageView A) (old new : AgentPart) →
+    LooksOn meaning s old new → new.id ≡ old.id
+looked_id {A} meaning s old new looks = ap (λ (a : AgentAt A). a.account.id) looks.agent
+
+-- what is offered by an agent is so by one of the same number
+pub same_offering : (i k : ℕ) (reads : List Named) (M : Move) (o : Option Offering) → i ≡ k →
+    IfSome o (IsOffering i reads M) → IfSome o (IsOffering k reads M)
+same_offering i k reads M o e is = subst (λ n. IfSome o (IsOffering n reads M)) e is
+
+module _ {A : Type 0} (meaning : A → Meaning) (s : StorageView A) (old mid new : AgentPart) (reads : List Named) (M : Move)
+    (looks : LooksOn meaning s old mid) where
+  lost_after : IsLost s mid new → IsPartOf meaning s new → LooksOn meaning s old new
+  lost_after lost part = record {
+    agent = lost.agent ∙ ap (λ (a : AgentAt A). has_seen a new.progress.seen) looks.agent
+        ∙ ap (λ k. has_looked (agent_of s old) new.progress.seen k) (sym (ap (λ (a : AgentAt A). a.misses) lost.agent));
+    seen = IsPrefix-trans old.progress.seen mid.progress.seen new.progress.seen looks.seen lost.seen;
+    part = part;
+  }
+
+  longer : length old.progress.seen ≤ length mid.progress.seen
+  longer = length-prefix old.progress.seen mid.progress.seen looks.seen
+
+  looked : length mid.progress.seen < length s.row →
+      Missed (agent_of s old) (last_look (agent_of s mid)) (agent_of s mid) → Missed (agent_of s old) 1 (agent_of s mid)
+  looked room missed =
+      let one : nat_lt (length mid.progress.seen) (length s.row) ≡ true = grind (arith, nat_tests) in
+      missed ∙ ap (λ b. min (old.progress.misses + cond b 1 0) (2 ^ 64 - 1)) one
+
+  -- what an offer of a move that was judged to fire makes of the turn
+  pub attempted : (r : Result (Option Reply) AllocError) → IsPartOf meaning s new →
+      IsReplyOf meaning (agent_of s mid) (call.Fire reads M) (answer.Fire (reply.Fired (length mid.progress.seen + 1))) →
+      IfOk r (λ o. IfSome o (HasFired s mid new reads M)) → IfOk r (λ o. IfNone o (IsLost s mid new)) →
+      IfOk r (IsTurn meaning s old new reads M)
+  attempted (Ok (Some r)) part told won lost =
+      let first = agent_of s old in
+      let is = won.agent ∙ ap (λ t. has_fired (agent_of s mid)
+      (receipt_at (length mid.progress.seen) (call.Fire reads M) (answer.Fire t)) M) won.reply in
+      subst (IsAnswered meaning first (agent_of s new) reads M) (sym won.reply)
+      (answered_fired meaning first (agent_of s mid) reads M (agent_of s new) looks.agent looks.seen told is)
+  attempted (Ok None) part told won lost = lost_after lost part
+  attempted (Err e) part told won lost = tt
+
+  -- what was seen begins with what had been seen
+  pub attempt_seen : (r : Result (Option Reply) AllocError) →
+      IfOk r (λ o. IfSome o (HasFired s mid new reads M)) → IfOk r (λ o. IfNone o (IsLost s mid new)) →
+      OnErr r (agent_of s new ≡ agent_of s mid) → IsPrefix old.progress.seen new.progress.seen
+  attempt_seen (Ok (Some r)) won lost err =
+      let entry : Entry = record { agent = mid.id; instrs = M } in
+      let grown = sym (ap (λ (a : AgentAt A). a.account.seen) won.agent) in
+      IsPrefix-trans old.progress.seen mid.progress.seen new.progress.seen looks.seen (entry ∷ [], grown)
+  attempt_seen (Ok None) won lost err =
+      IsPrefix-trans old.progress.seen mid.progress.seen new.progress.seen looks.seen lost.seen
+  attempt_seen (Err e) won lost err =
+      subst (IsPrefix old.progress.seen) (sym (ap (λ (a : AgentAt A). a.account.seen) err)) looks.seen
+
+  -- an offer that was made adds one entry, and one that was not adds none
+  pub attempt_counted : (r : Result (Option Reply) AllocError) → length mid.progress.seen < length s.row →
+      Missed (agent_of s old) (last_look (agent_of s mid)) (agent_of s mid) →
+      IfOk r (λ o. IfSome o (HasFired s mid new reads M)) → IfOk r (λ o. IfNone o (IsLost s mid new)) →
+      OnErr r (agent_of s new ≡ agent_of s mid) →
+      HasOffered (agent_of s old) (agent_of s new) (offers_in r) (misses_in (agent_of s new) r)
+  attempt_counted (Ok (Some r)) room missed won lost err =
+      let entry : Entry = record { agent = mid.id; instrs = M } in
+      let seen = ap (λ (a : AgentAt A). a.account.seen) won.agent in
+      let misses = ap (λ (a : AgentAt A). a.misses) won.agent in
+      subst (λ (q : Reply). HasOffered (agent_of s old) (agent_of s new) (offers_in (Ok (Some q))) (misses_in (agent_of s new) (Ok (Some q))))
+      (sym won.reply) (record {
+        longer = omega (arith, longer, ap length seen, length-append mid.progress.seen (entry ∷ []));
+        missed = misses ∙ looked room missed;
+      })
+  attempt_counted (Ok None) room missed won lost err = record {
+    longer = omega (arith, longer, lost.longer);
+    missed = ap (λ (a : AgentAt A). a.misses) lost.agent ∙ looked room missed;
+  }
+  attempt_counted (Err e) room missed won lost err =
+      subst (λ (a : AgentAt A). HasOffered (agent_of s old) a 0 (last_look a)) (sym err)
+      (record { longer = omega (arith, longer); missed = missed })
+
+module _ {A : Type 0} (old mid new : AgentAt A) (n : ℕ) (lost : HasOffered old mid n n) where
+  pub offered_then : (k j : ℕ) → HasOffered mid new k j → HasOffered old new (n + k) (n + j)
+  offered_then k j more = record {
+    longer = omega (arith, lost.longer, more.longer);
+    missed = omega (arith, lost.missed, more.missed);
+  }
+
+  quiet : HasOffered mid new 0 (last_look new) → HasOffered old new (n + 0) (n + 0 + last_look new)
+  quiet more = record {
+    longer = omega (arith, lost.longer, more.longer);
+    missed = omega (arith, lost.missed, more.missed);
+  }
+
+  -- the offers of a call of whose turns n were lost and the next one was answered
+  pub offers_answered : (r : Reply) → n < 64 → HasOffered mid new (offers_in (Ok (Some r))) (misses_in new (Ok (Some r))) →
+      MadeOffers old new (Ok r) (n + offers_in (Ok (Some r)))
+  offers_answered (reply.Fired k) lt more = (omega arith, omega (arith, lt), offered_then 1 1 more)
+  offers_answered (reply.Stale l) lt more = (omega (arith, lt), quiet more)
+  offers_answered (reply.Clash c) lt more = (omega (arith, lt), quiet more)
+  offers_answered reply.Full lt more = (omega (arith, lt), quiet more)
+
+  -- and of one in whose next turn memory was refused
+  pub offers_refused : n < 64 → HasOffered mid new 0 (last_look new) →
+      MadeOffers old new (Err fire_error.Memory) (n + 0)
+  offers_refused lt more = (omega (arith, lt), quiet more)
+
+-- an offer that was made calls the closure once
+pub attempt_ran : {A F : Type 0} (step : F → F → Type 0) (f g : F) (s : StorageView A) (old new : AgentPart)
+    (reads : List Named) (M : Move) (r : Result (Option Reply) AllocError) →
+    IfOk r (λ o. IfSome o (HasFired s old new reads M)) → IfOk r (λ o. step f g) → OnErr r (g ≡ f) →
+    Ran step f (offers_in r) g
+attempt_ran step f g s old new reads M (Ok (Some r)) won called uncalled =
+    subst (λ (q : Reply). Ran step f (offers_in (Ok (Some q))) g) (sym won.reply) (g, called, refl)
+attempt_ran step f g s old new reads M (Ok None) won called uncalled = (g, called, refl)
+attempt_ran step f g s old new reads M (Err e) won called uncalled = sym uncalled
+
+-- calls of a closure, and then more
+pub ran_then : {F : Type 0} (step : F → F → Type 0) (f g h : F) (n k : ℕ) →
+    Ran step f n g → Ran step g k h → Ran step f (n + k) h
+ran_then step f g h zero k first more =
+    let all : k ≡ 0 + k = omega arith in
+    subst (λ j. Ran step f j h) all (subst (λ x. Ran step x k h) (sym first) more)
+ran_then step f g h (suc n) k first more =
+    let all : suc (n + k) ≡ suc n + k = omega arith in
+    subst (λ j. Ran step f j h) all (first.0, first.1, ran_then step first.0 g h n k first.2 more)

@@ -1,0 +1,120 @@
+-- What is true of an agent's part stays true when it sees more, and when its state follows one more move.
+use Rattle.std.proofs.Common.{◌≡◌, ℕ, ◌+◌, ◌-◌, ◌^◌, ◌≤◌, min, List, [], ◌∷◌, ◌++◌, length, take, Option, Some, None}
+use Rattle.std.proofs.Common.{IfSome, IfNone, Bor, slice_get, add-one, append-nil, append_assoc, arith, refl, ap, sym, ◌∙◌, subst}
+use Rattle.std.proofs.lemmas.List.{take_all, length-map}
+use Rattle.std.proofs.lemmas.Option.{slice_get_within}
+use Rattle.std.proofs.lemmas.List.Elements.{All-from_recursion}
+use mathlib.Core.List.{IsPrefix}
+use Rattle.asm_row.specs.Seat.{SeatView}
+use Rattle.asm_row.proofs.Prefixes.{IsPrefix-trans}
+use Rattle.asm_update.specs.Aggregator.{Meaning}
+use Rattle.asm_update.specs.Move.{Move}
+use Rattle.asm_update.specs.State.{State}
+use Rattle.asm_state.specs.Stands.{Stands}
+use Rattle.asm_state.specs.View.{StateView}
+use Rattle.asm_storage.specs.declared.part.AgentPart.{AgentPart}
+use Rattle.asm_storage.specs.declared.receipt.Entry.{Entry}
+use Rattle.asm_storage.specs.Agents.{AgentView, IsAgent, moves_seen}
+use Rattle.asm_storage.specs.Machine.{Machine}
+use Rattle.asm_storage.specs.Part.{account_of, IsFollowing, IsPartOf, LooksOn}
+use Rattle.asm_storage.specs.Storage.{StorageView, AgentAt, has_looked, machine_of}
+use Rattle.asm_storage.proofs.AgentKept.{take-moves_seen, seen_more}
+use Rattle.asm_storage.proofs.Lists.{slice_get-map, take-slice_get, length-prefix}
+
+pub following_more : (m : Machine) (seen more : List Entry) (s : StateView) →
+    IsPrefix seen more → IsFollowing m seen s → IsFollowing m more s
+following_more m seen more s prefix f = record {
+  within = omega (arith, f.within, length-prefix seen more prefix);
+  stands = subst (Stands m.part m.init s) (take-moves_seen s.number seen more prefix f.within) f.stands;
+}
+
+pub following_next : (m : Machine) (seen : List Entry) (old new : StateView) (x : Entry) →
+    IsFollowing m seen old → slice_get seen old.number ≡ Some x → new.number ≡ old.number + 1 →
+    ((init : State) (q : List Move) → Stands m.part init old q → Stands m.part init new (q ++ x.instrs ∷ [])) →
+    IsFollowing m seen new
+following_next m seen old new x f at number next =
+    let lt = slice_get_within seen old.number x at in
+    let last = slice_get-map (λ (e : Entry). e.instrs) seen old.number x at in
+    let one_more : take (old.number + 1) (moves_seen seen) ≡ take old.number (moves_seen seen) ++ x.instrs ∷ [] =
+    ap (λ n. take n (moves_seen seen)) (add-one old.number) ∙ take-slice_get (moves_seen seen) old.number x.instrs last in
+    record {
+      within = omega (arith, lt, number);
+      stands = subst (Stands m.part m.init new) (sym one_more ∙ ap (λ n. take n (moves_seen seen)) (sym number))
+          (next m.init (take old.number (moves_seen seen)) f.stands);
+    }
+
+-- a state that has followed all stands for all
+pub stands_for_all : (m : Machine) (seen : List Entry) (s : StateView) →
+    IsFollowing m seen s → s.number ≡ length seen → Stands m.part m.init s (moves_seen seen)
+stands_for_all m seen s f level =
+    let all = take_all s.number (moves_seen seen) (omega (arith, level, length-map seen (λ (x : Entry). x.instrs))) in
+    subst (Stands m.part m.init s) all f.stands
+
+-- an agent that has made no call
+pub fresh_agent : (m : Machine) (id : ℕ) → IsAgent m (record { id = id; seen = []; won = 0; receipts = [] })
+fresh_agent m id = record {
+  replied = All-from_recursion _ [] tt;
+  in_order = tt;
+  within = omega arith;
+  in_row = All-from_recursion _ [] tt;
+  won_is = refl;
+}
+
+pub fresh_following : (m : Machine) (s : StateView) → Stands m.part m.init s [] → IsFollowing m [] s
+fresh_following m s stands = record {
+  within = omega (arith, stands.number);
+  stands = subst (λ n. Stands m.part m.init s (take n (moves_seen []))) (sym stands.number) stands;
+}
+
+module _ {A : Type 0} (meaning : A → Meaning) (s : StorageView A) where
+  pub looks_then : (old mid new : AgentPart) → LooksOn meaning s old mid → LooksOn meaning s mid new →
+      LooksOn meaning s old new
+  looks_then old mid new first more = record {
+    agent = more.agent ∙ ap (λ (a : AgentAt A). has_looked a new.progress.seen new.progress.misses) first.agent;
+    seen = IsPrefix-trans old.progress.seen mid.progress.seen new.progress.seen first.seen more.seen;
+    part = more.part;
+  }
+
+  -- more was seen
+  pub seen_part : (old : AgentPart) (new : SeatView Entry) → IsPartOf meaning s old →
+      new.row ≡ old.progress.row → new.won ≡ old.progress.won → new.misses ≤ 2 ^ 64 - 1 →
+      IsPrefix old.progress.seen new.seen → IsPartOf meaning s (record old { progress = new })
+  seen_part old new part row won counted more =
+      let m = machine_of meaning s in
+      let account : ℕ → AgentView = λ w. record (account_of old) { seen = new.seen; won = w } in
+      record {
+        row = row ∙ part.row;
+        few = part.few;
+        counted = counted;
+        agent = subst (λ w. IsAgent m (account w)) (sym won) (seen_more m (account_of old) new.seen more part.agent);
+        following = following_more m old.progress.seen new.seen old.state more part.following;
+      }
+
+  pub looks_with : (old : AgentPart) (new : SeatView Entry) → IsPartOf meaning s old →
+      new.row ≡ old.progress.row → new.won ≡ old.progress.won → new.misses ≤ 2 ^ 64 - 1 →
+      IsPrefix old.progress.seen new.seen → LooksOn meaning s old (record old { progress = new })
+  looks_with old new part row won counted more =
+      let account : ℕ → AgentView = λ w. record (account_of old) { seen = new.seen; won = w } in
+      let agent : ℕ → AgentAt A = λ w. record { storage = s; misses = new.misses; account = account w } in
+      record {
+        agent = ap agent won;
+        seen = more;
+        part = seen_part old new part row won counted more;
+      }
+
+  -- one look found the next entry, or counted a miss
+  pub looked_once : (old : AgentPart) (new : SeatView Entry) (r : Option (Bor Entry)) → IsPartOf meaning s old →
+      new.row ≡ old.progress.row →
+      IfSome r (λ e. new ≡ record old.progress { seen = old.progress.seen ++ e.now ∷ [] }) →
+      IfNone r (new ≡ record old.progress { misses = min (old.progress.misses + 1) (2 ^ 64 - 1) }) →
+      LooksOn meaning s old (record old { progress = new })
+  looked_once old new (Some e) part row found miss =
+      let won = ap (λ (p : SeatView Entry). p.won) found in
+      let misses = ap (λ (p : SeatView Entry). p.misses) found in
+      let more : IsPrefix old.progress.seen new.seen = (e.now ∷ [], sym (ap (λ (p : SeatView Entry). p.seen) found)) in
+      looks_with old new part row won (omega (arith, misses, part.counted)) more
+  looked_once old new None part row found miss =
+      let won = ap (λ (p : SeatView Entry). p.won) miss in
+      let misses = ap (λ (p : SeatView Entry). p.misses) miss in
+      let same = ap (λ (p : SeatView Entry). p.seen) miss in
+      looks_with old new part row won (omega (arith, misses)) ([], append-nil old.progress.seen ∙ sym same)

@@ -1,0 +1,91 @@
+ghost use Rattle.std.specs.Prelude.{◌≡◌, ◌+◌, ◌<◌, All, length, IfOk, IfErr};
+ghost use Rattle.std.specs.List.Sorted.{IsStrictlyIncreasing};
+ghost use mathlib.Core.List.{IsPrefix};
+ghost use Rattle.asm_storage.specs.Agents.{ids, id_bound, merged, most_seen, IsAgent, NoneMissing, IsHistoryOf};
+ghost use Rattle.asm_storage.specs.Storage.{machine_of, accounts, IsOf, IsMissing};
+
+mod merging;
+mod missing_moves;
+
+use crate::agent::Agent;
+use crate::close::merging::merge;
+use crate::close::missing_moves::first_missing;
+use crate::error::CloseError;
+use crate::history::History;
+use crate::receipt::Entry;
+use crate::storage::Storage;
+use asm_element::Items;
+use asm_row::Seat;
+use asm_update::Aggregator;
+use std::alloc::{AllocError, Global};
+
+// One more than the greatest of the agents' numbers, or 0.
+fn bound_of_ids<A: Aggregator + Sync + Drop>(agents: &[Agent<'_, A>]) -> u32
+    ensures { result ≡ id_bound (accounts agents.now) }
+{
+    let mut bound = 0;
+    for agent in agents {
+        bound = bound.max(agent.id() + 1);
+    }
+    bound
+}
+
+impl<A: Aggregator + Sync + Drop> Storage<A> {
+    // A seat that has seen what each of the agents has.
+    fn seat_of_all(
+        &self,
+        alloc: Global,
+        agents: &[Agent<'_, A>],
+    ) -> Result<Seat<'_, Entry>, AllocError>
+        requires { All (IsOf self.now) agents.now }
+        ensures each { IfOk result (λ s. All (IsAgent (machine_of A.meaning self.now)) (accounts agents.now)) }
+        ensures prefixes { IfOk result (λ s. All (λ a. IsPrefix a.seen s.seen) (accounts agents.now)) }
+        ensures longest { IfOk result (λ s. length s.seen ≡ most_seen (accounts agents.now)) }
+    {
+        let mut seat = self.row().seat(alloc)?;
+        for agent in agents {
+            agent.holds();
+            seat.learn(&agent.mark(alloc)?);
+        }
+        Ok(seat)
+    }
+
+    /// The receipts of agents as one history: that of a storage of one thread.
+    ///
+    /// The agents must be of this storage and stand in strictly ascending order of their numbers; there may
+    /// be none. They are only lent, so no call of theirs is under way. The history has the opening state and
+    /// the capacity of the storage and one more than the greatest number of an agent, or 0. Its events stand
+    /// by the number of moves at which they were answered: for each number those that fired nothing, agent by
+    /// agent, and then the move with the next number. It is legal, has each agent's calls once and in their
+    /// order, and its fired moves are a run of the machine. The agents stay as they are, and the call may be
+    /// made again; that it adds no move to the row is tested, as contracts don't tell what stands there.
+    ///
+    /// `CloseError::Missing` has the least number of a move that one of the agents has seen and none has a
+    /// receipt of, and comes exactly where there is one, apart from `Memory`, which comes only where memory
+    /// was refused.
+    pub fn close(&self, alloc: Global, agents: &[Agent<'_, A>]) -> Result<History, CloseError>
+        requires of_this { All (IsOf self.now) agents.now }
+        requires ascending { IsStrictlyIncreasing (ids (accounts agents.now)) }
+        ensures merged { IfOk result (λ h. h.events ≡ merged (accounts agents.now)) }
+        ensures history { IfOk result (λ h.
+            IsHistoryOf (machine_of A.meaning self.now) (accounts agents.now) h.events) }
+        ensures init { IfOk result (λ h. h.init ≡ self.now.init) }
+        ensures capacity { IfOk result (λ h. h.capacity ≡ length self.now.row) }
+        ensures agents { IfOk result (λ h. h.agents ≡ id_bound (accounts agents.now)) }
+        ensures none_missing { IfOk result (λ h. NoneMissing (accounts agents.now)) }
+        ensures missing { IfErr result (IsMissing (accounts agents.now)) }
+    {
+        let seat = self.seat_of_all(alloc, agents)?;
+        match first_missing(alloc, agents, seat.seen_len())? {
+            Some(k) => return Err(CloseError::Missing(k + 1)),
+            None => {}
+        }
+        let events = merge(alloc, agents)?;
+        Ok(History {
+            init: self.init().copy(alloc)?,
+            capacity: self.row().capacity(),
+            agents: bound_of_ids(agents),
+            events: Items::new(events),
+        })
+    }
+}

@@ -1,0 +1,317 @@
+ghost use Rattle.std.specs.Prelude.{◌≡◌, ◌≢◌, ◌+◌, ◌<◌, ℕ, length, IfOk, IfErr, OnOk, OnErr, Some, None, Err, false};
+ghost use Rattle.std.specs.Prelude.{IfSome, IfNone};
+ghost use mathlib.Core.List.{IsPrefix};
+ghost use Rattle.asm_storage.specs.Plain.{is_plain};
+ghost use Rattle.asm_storage.specs.declared.call.Answer.TheVariants as answer;
+ghost use Rattle.asm_storage.specs.declared.call.Call.TheVariants as call;
+ghost use Rattle.asm_storage.specs.declared.call.Reply.TheVariants as reply;
+ghost use Rattle.asm_storage.specs.declared.error.FireError.TheVariants as fire_error;
+ghost use Rattle.asm_storage.specs.History.{fired_move};
+ghost use Rattle.asm_storage.specs.Storage.{machine_of, has_fired, with_receipt, last_look, IsReplyOf, Missed};
+ghost use Rattle.asm_storage.specs.Offering.{IsOffering, IsSameOffering};
+ghost use Rattle.asm_storage.specs.Calls.{receipt_at, HasOffered, IsAnswered, IsBusy, IsCoherentReply, MadeOffers, Ran};
+ghost use Rattle.asm_storage.specs.Part.{agent_of, HasFired, IsJudged, IsLost, IsPartOf, IsTurn, LooksOn};
+ghost use Rattle.asm_storage.specs.Part.{offers_in, misses_in};
+
+use crate::call::{Answer, Call, Reply};
+use crate::error::FireError;
+use crate::part::AgentPart;
+use crate::part::judging::{is_plain, judged, judged_plain};
+use crate::part::offering::{Offering, fire_call};
+use crate::receipt::Receipt;
+use crate::shared_lists::copied_named;
+use crate::storage::Storage;
+use asm_element::Items;
+use asm_state::Named;
+use asm_update::{Aggregator, Instructions};
+use std::alloc::{AllocError, Global};
+
+impl AgentPart {
+    // Looks on, and has the state follow where the move needs it.
+    fn make_ready<A: Aggregator + Sync + Drop>(
+        &mut self,
+        alloc: Global,
+        storage: &Storage<A>,
+        reads: &[Named],
+        instrs: &Instructions,
+    ) -> Result<(), AllocError>
+        requires { IsPartOf A.meaning storage.now self.old }
+        ensures looks { LooksOn A.meaning storage.now self.old self.new }
+        ensures missed { Missed (agent_of storage.now self.old) (last_look (agent_of storage.now self.new))
+            (agent_of storage.now self.new) }
+        ensures level { OnOk result (is_plain reads.now instrs.now ≡ false →
+            self.new.state.number ≡ length self.new.progress.seen) }
+    {
+        if is_plain(reads, instrs) {
+            self.look(storage);
+            return Ok(());
+        }
+        self.follow_row(alloc, storage)
+    }
+
+    // The reply to a fire, where it fires nothing; None where the move is to fire, and there is room.
+    fn judge<A: Aggregator + Sync + Drop>(
+        &self,
+        alloc: Global,
+        storage: &Storage<A>,
+        reads: &[Named],
+        instrs: &Instructions,
+    ) -> Result<Option<Reply>, AllocError>
+        requires part { IsPartOf A.meaning storage.now self.now }
+        requires level { is_plain reads.now instrs.now ≡ false → self.now.state.number ≡ length self.now.progress.seen }
+        ensures { IfOk result (
+            IsJudged (machine_of A.meaning storage.now) self.now.progress.seen reads.now instrs.now) }
+    {
+        let is_full = self.progress.is_full();
+        if is_plain(reads, instrs) {
+            return judged_plain(alloc, is_full, reads, instrs);
+        }
+        let aggregator = storage.aggregator();
+        judged(alloc, aggregator, &self.state, is_full, reads, instrs)
+    }
+
+    /// Keeps the receipt of a call that fired nothing.
+    pub(crate) fn keep<A: Aggregator + Sync + Drop>(
+        &mut self,
+        storage: &Storage<A>,
+        call: Call,
+        answer: Answer,
+    ) -> Result<(), AllocError>
+        requires part { IsPartOf A.meaning storage.now self.old }
+        requires reply { IsReplyOf A.meaning (agent_of storage.now self.old) call answer }
+        requires quiet { fired_move call answer ≡ None }
+        ensures part { IsPartOf A.meaning storage.now self.new }
+        ensures id { self.new.id ≡ self.old.id }
+        ensures ok { OnOk result (agent_of storage.now self.new ≡ with_receipt (agent_of storage.now self.old)
+            (receipt_at (length self.old.progress.seen) call answer)) }
+        ensures err { OnErr result (agent_of storage.now self.new ≡ agent_of storage.now self.old) }
+    {
+        let _ = storage;
+        let stood = self.progress.seen_len();
+        self.receipts.push(Receipt {
+            call,
+            answer,
+            stood,
+        })?;
+        Ok(())
+    }
+
+    // Keeps the receipt of a fire that fired nothing.
+    fn keep_reply<A: Aggregator + Sync + Drop>(
+        &mut self,
+        alloc: Global,
+        storage: &Storage<A>,
+        reads: &Items<Named>,
+        instrs: &Instructions,
+        reply: &Reply,
+    ) -> Result<(), AllocError>
+        requires part { IsPartOf A.meaning storage.now self.old }
+        requires reply { IsReplyOf A.meaning (agent_of storage.now self.old) (call.Fire reads.now instrs.now)
+            (answer.Fire reply.now) }
+        requires quiet { fired_move (call.Fire reads.now instrs.now) (answer.Fire reply.now) ≡ None }
+        ensures part { IsPartOf A.meaning storage.now self.new }
+        ensures id { self.new.id ≡ self.old.id }
+        ensures ok { OnOk result (agent_of storage.now self.new ≡ with_receipt (agent_of storage.now self.old)
+            (receipt_at (length self.old.progress.seen) (call.Fire reads.now instrs.now) (answer.Fire reply.now))) }
+        ensures err { OnErr result (agent_of storage.now self.new ≡ agent_of storage.now self.old) }
+    {
+        let call = fire_call(alloc, reads, instrs)?;
+        let answer = Answer::Fire(reply.copy(alloc)?);
+        self.keep(storage, call, answer)
+    }
+
+    // Offers a move that was judged to fire, and keeps the receipt where it won: the room for that is made
+    // before. Where the offer lost, another entry was seen, and the offering comes back.
+    fn offer<A: Aggregator + Sync + Drop, F: FnMut()>(
+        &mut self,
+        storage: &Storage<A>,
+        offering: Offering,
+        answer: Answer,
+        between: &mut F,
+    ) -> Result<Option<Offering>, AllocError>
+        requires part { IsPartOf A.meaning storage.now self.old }
+        requires room { length self.old.progress.seen < length storage.now.row }
+        requires reply { IsReplyOf A.meaning (agent_of storage.now self.old) offering.call answer }
+        requires fired { fired_move offering.call answer ≡ Some offering.entry.value.instrs }
+        requires mine { offering.entry.value.agent ≡ self.old.id }
+        requires callable { F.IsAlwaysCallable between.old }
+        ensures part { IsPartOf A.meaning storage.now self.new }
+        ensures id { self.new.id ≡ self.old.id }
+        ensures won { IfOk result (λ o. IfNone o (
+            agent_of storage.now self.new ≡ has_fired (agent_of storage.now self.old)
+            (receipt_at (length self.old.progress.seen) offering.call answer) offering.entry.value.instrs)) }
+        ensures lost { IfOk result (λ o. IfSome o (λ back. IsLost storage.now self.old self.new)) }
+        ensures back { IfOk result (λ o. IfSome o (IsSameOffering offering)) }
+        ensures err { OnErr result (agent_of storage.now self.new ≡ agent_of storage.now self.old) }
+        ensures callable { F.IsAlwaysCallable between.new }
+        ensures called { IfOk result (λ o. F.step between.old tt between.new) }
+        ensures uncalled { OnErr result (between.new ≡ between.old) }
+    {
+        self.receipts.reserve(1)?;
+        let stood = self.progress.seen_len();
+        between();
+        let Offering { entry, call } = offering;
+        match self.progress.try_offer(storage.row(), entry) {
+            Ok(()) => {
+                let receipt = Receipt {
+                    call,
+                    answer,
+                    stood,
+                };
+                self.receipts.push(receipt).unwrap();
+                Ok(None)
+            }
+            Err(entry) => Ok(Some(Offering { entry, call })),
+        }
+    }
+
+    // Offers the move, which was judged to fire; None where the offer lost. What is offered is what an
+    // earlier turn left, or is made here.
+    fn attempt<A: Aggregator + Sync + Drop, F: FnMut()>(
+        &mut self,
+        alloc: Global,
+        storage: &Storage<A>,
+        reads: &Items<Named>,
+        instrs: &Instructions,
+        pending: &mut Option<Offering>,
+        between: &mut F,
+    ) -> Result<Option<Reply>, AllocError>
+        requires part { IsPartOf A.meaning storage.now self.old }
+        requires room { length self.old.progress.seen < length storage.now.row }
+        requires reply { IsReplyOf A.meaning (agent_of storage.now self.old) (call.Fire reads.now instrs.now)
+            (answer.Fire (reply.Fired (length self.old.progress.seen + 1))) }
+        requires pending { IfSome pending.old (IsOffering self.old.id reads.now instrs.now) }
+        requires callable { F.IsAlwaysCallable between.old }
+        ensures part { IsPartOf A.meaning storage.now self.new }
+        ensures id { self.new.id ≡ self.old.id }
+        ensures won { IfOk result (λ o. IfSome o (HasFired storage.now self.old self.new reads.now instrs.now)) }
+        ensures lost { IfOk result (λ o. IfNone o (IsLost storage.now self.old self.new)) }
+        ensures pending { IfSome pending.new (IsOffering self.old.id reads.now instrs.now) }
+        ensures err { OnErr result (agent_of storage.now self.new ≡ agent_of storage.now self.old) }
+        ensures callable { F.IsAlwaysCallable between.new }
+        ensures called { IfOk result (λ o. F.step between.old tt between.new) }
+        ensures uncalled { OnErr result (between.new ≡ between.old) }
+    {
+        let _capacity = storage.row().capacity();
+        let number = self.progress.seen_len() + 1;
+        let offering = Offering::take(pending, alloc, self.id, reads, instrs)?;
+        let answer = Answer::Fire(Reply::Fired(number));
+        match self.offer(storage, offering, answer, between)? {
+            None => Ok(Some(Reply::Fired(number))),
+            Some(back) => {
+                *pending = Some(back);
+                Ok(None)
+            }
+        }
+    }
+
+    // One turn of a fire: the reply, or None where an offer was lost.
+    fn turn<A: Aggregator + Sync + Drop, F: FnMut()>(
+        &mut self,
+        alloc: Global,
+        storage: &Storage<A>,
+        reads: &Items<Named>,
+        instrs: &Instructions,
+        pending: &mut Option<Offering>,
+        between: &mut F,
+    ) -> Result<Option<Reply>, AllocError>
+        requires part { IsPartOf A.meaning storage.now self.old }
+        requires pending { IfSome pending.old (IsOffering self.old.id reads.now instrs.now) }
+        requires callable { F.IsAlwaysCallable between.old }
+        ensures part { IsPartOf A.meaning storage.now self.new }
+        ensures id { self.new.id ≡ self.old.id }
+        ensures turn { IfOk result (IsTurn A.meaning storage.now self.old self.new reads.now instrs.now) }
+        ensures seen { IsPrefix self.old.progress.seen self.new.progress.seen }
+        ensures err { OnErr result (LooksOn A.meaning storage.now self.old self.new) }
+        ensures counted { HasOffered (agent_of storage.now self.old) (agent_of storage.now self.new)
+            (offers_in result) (misses_in (agent_of storage.now self.new) result) }
+        ensures pending { IfSome pending.new (IsOffering self.old.id reads.now instrs.now) }
+        ensures callable { F.IsAlwaysCallable between.new }
+        ensures calls { Ran (λ f g. F.step f tt g) between.old (offers_in result) between.new }
+    {
+        self.make_ready(alloc, storage, reads.as_slice(), instrs)?;
+        match self.judge(alloc, storage, reads.as_slice(), instrs)? {
+            Some(reply) => {
+                self.keep_reply(alloc, storage, reads, instrs, &reply)?;
+                Ok(Some(reply))
+            }
+            None => self.attempt(alloc, storage, reads, instrs, pending, between),
+        }
+    }
+
+    // Turns until one is answered, at most 64.
+    fn fire_named<A: Aggregator + Sync + Drop, F: FnMut()>(
+        &mut self,
+        alloc: Global,
+        storage: &Storage<A>,
+        reads: &Items<Named>,
+        instrs: &Instructions,
+        between: &mut F,
+    ) -> Result<Reply, FireError>
+        requires part { IsPartOf A.meaning storage.now self.old }
+        requires callable { F.IsAlwaysCallable between.old }
+        ensures part { IsPartOf A.meaning storage.now self.new }
+        ensures id { self.new.id ≡ self.old.id }
+        ensures answered { IfOk result (
+            IsAnswered A.meaning (agent_of storage.now self.old) (agent_of storage.now self.new) reads.now instrs.now) }
+        ensures coherent { IfOk result (
+            IsCoherentReply A.meaning (agent_of storage.now self.new) reads.now instrs.now) }
+        ensures seen { IsPrefix self.old.progress.seen self.new.progress.seen }
+        ensures refused { OnErr result (LooksOn A.meaning storage.now self.old self.new) }
+        ensures busy { IfErr result (IsBusy (agent_of storage.now self.old) (agent_of storage.now self.new)) }
+        ensures not_many { result ≢ Err fire_error.ManyReads }
+        ensures callable { F.IsAlwaysCallable between.new }
+        ensures offers { (n : ℕ) ×
+            MadeOffers (agent_of storage.now self.old) (agent_of storage.now self.new) result n ×
+            Ran (λ f g. F.step f tt g) between.old n between.new }
+    {
+        let from = self.progress.seen_len();
+        let mut pending = None;
+        for lost in 0..64u32 {
+            match self.turn(alloc, storage, reads, instrs, &mut pending, between)? {
+                Some(reply) => return Ok(reply),
+                None => {}
+            }
+        }
+        Err(FireError::Busy {
+            from,
+            to: self.progress.seen_len(),
+        })
+    }
+
+    /// Fires a move in turns, of which there are at most 64; for all of them the named reads are copied once, and what
+    /// is offered is made once.
+    pub(crate) fn fire<A: Aggregator + Sync + Drop, F: FnMut()>(
+        &mut self,
+        alloc: Global,
+        storage: &Storage<A>,
+        reads: &[Named],
+        instrs: &Instructions,
+        between: &mut F,
+    ) -> Result<Reply, FireError>
+        requires part { IsPartOf A.meaning storage.now self.old }
+        requires callable { F.IsAlwaysCallable between.old }
+        ensures part { IsPartOf A.meaning storage.now self.new }
+        ensures id { self.new.id ≡ self.old.id }
+        ensures answered { IfOk result (
+            IsAnswered A.meaning (agent_of storage.now self.old) (agent_of storage.now self.new) reads.now instrs.now) }
+        ensures coherent { IfOk result (
+            IsCoherentReply A.meaning (agent_of storage.now self.new) reads.now instrs.now) }
+        ensures seen { IsPrefix self.old.progress.seen self.new.progress.seen }
+        ensures refused { OnErr result (LooksOn A.meaning storage.now self.old self.new) }
+        ensures busy { IfErr result (IsBusy (agent_of storage.now self.old) (agent_of storage.now self.new)) }
+        ensures not_many { result ≢ Err fire_error.ManyReads }
+        ensures callable { F.IsAlwaysCallable between.new }
+        ensures offers { (n : ℕ) ×
+            MadeOffers (agent_of storage.now self.old) (agent_of storage.now self.new) result n ×
+            Ran (λ f g. F.step f tt g) between.old n between.new }
+    {
+        match copied_named(alloc, reads) {
+            Ok(named) => self.fire_named(alloc, storage, &named, instrs, between),
+            Err(_) => {
+                self.look(storage);
+                Err(FireError::Memory)
+            }
+        }
+    }
+}

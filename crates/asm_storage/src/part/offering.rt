@@ -1,0 +1,70 @@
+ghost use Rattle.std.specs.Prelude.{◌≡◌, ℕ, IfOk, IfSome, None};
+ghost use Rattle.asm_storage.specs.declared.call.Call.TheVariants as call;
+ghost use Rattle.asm_storage.specs.Offering.{IsOffering};
+
+use crate::call::Call;
+use crate::receipt::Entry;
+use crate::shared_lists::same_list;
+use asm_element::Items;
+use asm_state::Named;
+use asm_update::Instructions;
+use std::alloc::{AllocError, Global};
+
+/// What a fire offers, and the call of its receipt. A turn that lost its offer leaves both to the next one.
+#[derive(Drop)]
+pub(crate) struct Offering {
+    pub(crate) entry: Box<Entry>,
+    pub(crate) call: Call,
+}
+
+/// A call to fire, which shares its lists.
+pub(crate) fn fire_call(
+    alloc: Global,
+    reads: &Items<Named>,
+    instrs: &Instructions,
+) -> Result<Call, AllocError>
+    ensures { IfOk result (λ c. c ≡ call.Fire reads.now instrs.now) }
+{
+    Ok(Call::Fire {
+        reads: same_list(reads)?,
+        instrs: instrs.copy(alloc)?,
+    })
+}
+
+impl Offering {
+    fn new(
+        alloc: Global,
+        agent: u32,
+        reads: &Items<Named>,
+        instrs: &Instructions,
+    ) -> Result<Offering, AllocError>
+        ensures { IfOk result (IsOffering agent reads.now instrs.now) }
+    {
+        let instrs_copy = instrs.copy(alloc)?;
+        let entry = Entry {
+            agent,
+            instrs: instrs_copy,
+        };
+        let entry = Box::new(alloc, entry)?;
+        let call = fire_call(alloc, reads, instrs)?;
+        Ok(Offering { entry, call })
+    }
+
+    /// The one that a lost turn left, or else a new one.
+    pub(crate) fn take(
+        pending: &mut Option<Offering>,
+        alloc: Global,
+        agent: u32,
+        reads: &Items<Named>,
+        instrs: &Instructions,
+    ) -> Result<Offering, AllocError>
+        requires { IfSome pending.old (IsOffering agent reads.now instrs.now) }
+        ensures taken { pending.new ≡ None }
+        ensures offering { IfOk result (IsOffering agent reads.now instrs.now) }
+    {
+        match pending.take() {
+            Some(left) => Ok(left),
+            None => Offering::new(alloc, agent, reads, instrs),
+        }
+    }
+}

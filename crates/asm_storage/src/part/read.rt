@@ -1,0 +1,135 @@
+ghost use Rattle.std.specs.Prelude.{◌≡◌, map, length, IfOk, OnOk, OnErr};
+ghost use mathlib.Core.List.{IsPrefix};
+ghost use Rattle.asm_update.specs.State.{val};
+ghost use Rattle.asm_storage.specs.declared.call.Call.TheVariants as call;
+ghost use Rattle.asm_storage.specs.Machine.{machine_state, reply_to};
+ghost use Rattle.asm_storage.specs.Agents.{moves_seen};
+ghost use Rattle.asm_storage.specs.Storage.{machine_of, with_receipt, last_look, IsReplyOf, Missed};
+ghost use Rattle.asm_storage.specs.Calls.{receipt_at, read_answer, IsRead};
+ghost use Rattle.asm_storage.specs.Part.{agent_of, IsPartOf, LooksOn};
+
+use crate::call::{Answer, Call};
+use crate::part::AgentPart;
+use crate::reading::Reading;
+use crate::receipt::Receipt;
+use crate::shared_lists::{copied_places, same_list, shared_list};
+use crate::storage::Storage;
+use asm_element::{Element, Items, Location, Value};
+use asm_update::{Aggregator, Lookup};
+use std::alloc::{AllocError, Global};
+
+// The value at a location, in memory of its own.
+fn value_or_undef<L: Lookup>(alloc: Global, lookup: &L, at: &Location) -> Result<Value, AllocError>
+    ensures { IfOk result (λ v. v ≡ L.value_at lookup.now at.now) }
+{
+    match lookup.get(at) {
+        Some(value) => value.copy(alloc),
+        None => Ok(Value::Plain(Element::Undef)),
+    }
+}
+
+// The values of the locations, in their order.
+fn values_at<L: Lookup>(
+    alloc: Global,
+    lookup: &L,
+    places: &[Location],
+) -> Result<Items<Value>, AllocError>
+    ensures { IfOk result (λ values. values ≡ map (L.value_at lookup.now) places.now) }
+{
+    let mut values = Vec::with_capacity(alloc, places.len())?;
+    for place in places {
+        let value = value_or_undef(alloc, lookup, place)?;
+        values.push(value)?;
+    }
+    shared_list(alloc, values)
+}
+
+impl AgentPart {
+    // The values of the locations after all moves that were seen.
+    fn values<A: Aggregator + Sync + Drop>(
+        &self,
+        alloc: Global,
+        storage: &Storage<A>,
+        places: &[Location],
+    ) -> Result<Items<Value>, AllocError>
+        requires part { IsPartOf A.meaning storage.now self.now }
+        requires level { self.now.state.number ≡ length self.now.progress.seen }
+        ensures { IfOk result (λ values. values ≡
+            map (val (machine_state (machine_of A.meaning storage.now) (moves_seen self.now.progress.seen)))
+            places.now) }
+    {
+        let _ = storage;
+        values_at(alloc, &self.state, places)
+    }
+
+    // The locations with their values after all moves that were seen.
+    fn take_reading<A: Aggregator + Sync + Drop>(
+        &self,
+        alloc: Global,
+        storage: &Storage<A>,
+        places: &[Location],
+    ) -> Result<Reading, AllocError>
+        requires part { IsPartOf A.meaning storage.now self.now }
+        requires level { self.now.state.number ≡ length self.now.progress.seen }
+        ensures places { IfOk result (λ r. r.places ≡ places.now) }
+        ensures reply { IfOk result (λ r.
+            IsReplyOf A.meaning (agent_of storage.now self.now) (call.Read places.now) (read_answer r)) }
+    {
+        let values = self.values(alloc, storage, places)?;
+        let places = copied_places(alloc, places)?;
+        let number = self.progress.seen_len();
+        Ok(Reading {
+            number,
+            places,
+            values,
+        })
+    }
+
+    // Keeps the receipt of a read.
+    fn keep_reading<A: Aggregator + Sync + Drop>(
+        &mut self,
+        alloc: Global,
+        storage: &Storage<A>,
+        reading: &Reading,
+    ) -> Result<(), AllocError>
+        requires part { IsPartOf A.meaning storage.now self.old }
+        requires reply { IsReplyOf A.meaning (agent_of storage.now self.old) (call.Read reading.now.places)
+            (read_answer reading.now) }
+        ensures part { IsPartOf A.meaning storage.now self.new }
+        ensures id { self.new.id ≡ self.old.id }
+        ensures ok { OnOk result (agent_of storage.now self.new ≡ with_receipt (agent_of storage.now self.old)
+            (receipt_at (length self.old.progress.seen) (call.Read reading.now.places) (read_answer reading.now))) }
+        ensures err { OnErr result (agent_of storage.now self.new ≡ agent_of storage.now self.old) }
+    {
+        let places = same_list(&reading.places)?;
+        let values = same_list(&reading.values)?;
+        let answer = Answer::Read {
+            number: reading.number,
+            values,
+        };
+        self.keep(storage, Call::Read(places), answer)
+    }
+
+    /// Looks on, reads the locations, and keeps the receipt.
+    pub(crate) fn read<A: Aggregator + Sync + Drop>(
+        &mut self,
+        alloc: Global,
+        storage: &Storage<A>,
+        places: &[Location],
+    ) -> Result<Reading, AllocError>
+        requires { IsPartOf A.meaning storage.now self.old }
+        ensures part { IsPartOf A.meaning storage.now self.new }
+        ensures id { self.new.id ≡ self.old.id }
+        ensures answered { IfOk result (
+            IsRead A.meaning (agent_of storage.now self.old) (agent_of storage.now self.new) places.now) }
+        ensures seen { IsPrefix self.old.progress.seen self.new.progress.seen }
+        ensures refused { OnErr result (LooksOn A.meaning storage.now self.old self.new) }
+        ensures missed { Missed (agent_of storage.now self.old) (last_look (agent_of storage.now self.new))
+            (agent_of storage.now self.new) }
+    {
+        self.follow_row(alloc, storage)?;
+        let reading = self.take_reading(alloc, storage, places)?;
+        self.keep_reading(alloc, storage, &reading)?;
+        Ok(reading)
+    }
+}

@@ -1,0 +1,83 @@
+//! Agents that are made one by one, and their parts.
+ghost use Rattle.std.specs.Prelude.{◌<◌};
+
+use crate::closings::holds;
+use crate::two_agents::{Put, Standard, counts, move_of, storage_of};
+use asm_storage::{Agent, Reply, Storage};
+use asm_update::Instructions;
+use std::alloc::{AllocError, Global};
+use std::test::Fail;
+
+/// Whether the agent has this number, and has made no call.
+fn is_new(agent: &Agent<'_, Standard>, id: u32) -> bool {
+    agent.id() == id && counts(agent, 0, 0, 0) && agent.receipts().is_empty()
+}
+
+/// Whether the agent fires, with this number of moves then. `AllocError` comes only where memory was refused.
+fn fires_as(
+    alloc: Global,
+    mut agent: Agent<'_, Standard>,
+    instrs: &Instructions,
+    number: u32,
+) -> Result<bool, AllocError> {
+    match agent.try_fire(alloc, &[], instrs) {
+        Ok(reply) => Ok(reply == Reply::Fired(number) && counts(&agent, number, 1, 1)),
+        Err(_) => Err(AllocError),
+    }
+}
+
+/// Whether an agent made with this `id` is new, its part has the same `id`, and its fire is then the move with this
+/// `number`.
+fn is_made(
+    alloc: Global,
+    storage: &Storage<Standard>,
+    instrs: &Instructions,
+    id: u32,
+    number: u32,
+) -> Result<bool, AllocError>
+    requires { id < 256 }
+{
+    let agent = storage.agent_at(alloc, id)?;
+    let is_new = is_new(&agent, id);
+    let part = agent.into_part();
+    let is_same = is_new && part.id() == id;
+    let has_fired = fires_as(alloc, Agent::of(storage, part), instrs, number)?;
+    Ok(is_same && has_fired)
+}
+
+/// Whether that is so, and the row then holds as many moves as the `number` says.
+fn is_held(
+    alloc: Global,
+    storage: &Storage<Standard>,
+    instrs: &Instructions,
+    id: u32,
+    number: u32,
+) -> Result<bool, AllocError>
+    requires { id < 256 }
+{
+    Ok(is_made(alloc, storage, instrs, id, number)? && holds(alloc, storage, number)?)
+}
+
+/// Whether agents with the least and the greatest number, and two with one number, are made and fire one move each.
+fn are_made(
+    alloc: Global,
+    storage: &Storage<Standard>,
+    instrs: &Instructions,
+) -> Result<bool, AllocError> {
+    Ok(
+        is_held(alloc, storage, instrs, 255, 1)?
+            && is_held(alloc, storage, instrs, 0, 2)?
+            && is_held(alloc, storage, instrs, 7, 3)?
+            && is_held(alloc, storage, instrs, 7, 4)?,
+    )
+}
+
+#[test]
+fn an_agent_has_the_number_that_it_is_made_with(rt: HostRuntime) -> Result<(), Fail> {
+    let alloc = rt.alloc();
+    let storage = storage_of(alloc, None, 8)?;
+    let instrs = move_of(alloc, &[Put("x", 1)])?;
+    assert!(rt; holds(alloc, &storage, 0)?);
+    assert!(rt; are_made(alloc, &storage, &instrs)?);
+    Ok(())
+}

@@ -1,0 +1,39 @@
+//! Tests of `asm_storage`, which see its public items alone.
+#![tactic(auto)]
+
+#[cfg(test)]
+mod agent_parts;
+#[cfg(test)]
+mod answers_and_marks;
+#[cfg(test)]
+mod closings;
+#[cfg(test)]
+mod equality;
+#[cfg(test)]
+mod fires_on_threads;
+#[cfg(test)]
+mod limits;
+#[cfg(test)]
+mod lost_offers;
+#[cfg(test)]
+mod many_agents;
+#[cfg(test)]
+mod moves_in_row;
+#[cfg(test)]
+mod named_readings;
+#[cfg(test)]
+mod opening_state;
+#[cfg(test)]
+mod plain_histories;
+#[cfg(test)]
+mod plain_moves;
+#[cfg(test)]
+mod reads_on_threads;
+#[cfg(test)]
+mod rival_fires;
+#[cfg(test)]
+mod two_agents;
+#[cfg(test)]
+mod workers;
+#[cfg(test)]
+mod writers_and_reader;
