@@ -42,13 +42,11 @@ use Rattle.asm_driver.specs.declared.script.step.StepFault.{StepFault}
 use Rattle.asm_driver.specs.declared.script.step.StepFault.TheVariants as fault
 use Rattle.asm_driver.specs.declared.play.outcome.Outcome.{Outcome}
 use Rattle.asm_driver.specs.declared.play.outcome.Outcome.TheVariants as outcome
+use Rattle.asm_row.proofs.Prefixes.{IsPrefix-trans}
 use Rattle.asm_driver.proofs.ProperMoves.{proper_prefix}
 use Rattle.asm_driver.proofs.Properness.{moves_proper}
 use Rattle.asm_driver.proofs.Counts.{stale_both, reads_both, tries_with, few_reads}
 use Rattle.asm_driver.proofs.Readings.{value_mapped}
-
-pub prefix_trans : {X : Type 0} (xs ys zs : List X) → IsPrefix xs ys → IsPrefix ys zs → IsPrefix xs zs
-prefix_trans xs ys zs p q = (p.0 ++ q.0, sym (append_assoc xs p.0 q.0) ∙ ap (λ w. w ++ q.0) p.1 ∙ q.1)
 
 pub prefix_mapped : {X Y : Type 0} (f : X → Y) (xs ys : List X) → IsPrefix xs ys → IsPrefix (map f xs) (map f ys)
 prefix_mapped f xs ys p = (map f p.0, sym (map-append f xs p.0) ∙ ap (map f) p.1)
@@ -62,7 +60,7 @@ pub adds_then : {A : Type 0} (old mid new : AgentAt A) (xs ys : List Receipt) �
     Adds old new (xs ++ ys)
 adds_then old mid new xs ys first second = record {
   same = record { storage = second.same.storage ∙ first.same.storage; id = second.same.id ∙ first.same.id };
-  begins = prefix_trans old.account.seen mid.account.seen new.account.seen first.begins second.begins;
+  begins = IsPrefix-trans old.account.seen mid.account.seen new.account.seen first.begins second.begins;
   added = second.added ∙ ap (λ rs. rs ++ ys) first.added ∙ append_assoc old.account.receipts xs ys;
 }
 
@@ -226,7 +224,7 @@ module _ {A : Type 0} (meaning : A → Meaning) where
       Adds mid new (receipt_at stood (call.Fire reads M) (answer.Fire r) ∷ [])
   fire_adds mid new reads M stood r seen storage id receipts before begins = record {
     same = record { storage = storage; id = id };
-    begins = prefix_trans mid.account.seen seen new.account.seen before begins;
+    begins = IsPrefix-trans mid.account.seen seen new.account.seen before begins;
     added = receipts;
   }
 

@@ -8,12 +8,11 @@ ghost use Rattle.asm_driver.specs.Blocks.{action_in, instruction_in, move_in, Is
 use crate::script::ready::{are_ready, ready_instructions};
 use crate::script::term::{Term, TermFault, evaluate};
 use asm_element::{Element, Location, Value};
-use asm_update::{Action, Amount, Instruction, Instructions, InstructionsError, Lookup};
+use asm_update::{
+    Action, Amount, INSTRUCTIONS_LIMIT, Instruction, Instructions, InstructionsError, Lookup,
+};
 use std::alloc::{AllocError, Global};
 use std::marker::Model;
-
-/// The most instructions of a block.
-const INSTRUCTIONS_LIMIT: usize = 4096;
 
 /// What an instruction of a script does at its location.
 #[derive(Debug, Drop)]
