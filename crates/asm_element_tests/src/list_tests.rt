@@ -1,3 +1,4 @@
+use crate::tests::are_told_apart;
 use asm_element::{ElemList, ElemText, Element, ListError};
 use std::alloc::{AllocError, Global};
 use std::test::Fail;
@@ -146,6 +147,11 @@ fn copies_of_lists_are_equal(rt: HostRuntime) -> Result<(), Fail> {
     let list = around(alloc, 7)??;
     assert!(rt; list.clone()? == list);
     Ok(())
+}
+
+#[test]
+fn errors_are_equal_by_their_reason(rt: HostRuntime) {
+    assert!(rt; are_told_apart(&[ListError::ManyItems, ListError::TooDeep]));
 }
 
 #[test]

@@ -246,6 +246,26 @@ fn clones_of_a_list_have_its_items(rt: HostRuntime) -> Result<(), Fail> {
     Ok(())
 }
 
+/// An item that no memory is found to clone.
+#[derive(Drop)]
+struct Unclonable;
+
+impl Clone for Unclonable {
+    ghost is_clone = { λ _ _. ⊥ };
+
+    fn clone(&self) -> Result<Unclonable, AllocError> {
+        Err(AllocError)
+    }
+}
+
+#[test]
+fn a_clone_of_a_shared_list_clones_no_item(rt: HostRuntime) -> Result<(), Fail> {
+    let alloc = rt.alloc();
+    let list = Items::shared(alloc, vec![in alloc; Unclonable, Unclonable]?)?;
+    assert_eq!(rt; list.clone()?.as_slice().len(), 2);
+    Ok(())
+}
+
 #[test]
 fn undef_alone_is_undef(rt: HostRuntime) -> Result<(), Fail> {
     let alloc = rt.alloc();
@@ -253,6 +273,23 @@ fn undef_alone_is_undef(rt: HostRuntime) -> Result<(), Fail> {
     assert!(rt; !Value::Plain(Element::Bool(false)).is_undef());
     assert!(rt; !Value::Set(ElemSet::new(alloc)).is_undef());
     Ok(())
+}
+
+/// Whether each is equal to itself alone.
+pub(crate) fn are_told_apart<T: PartialEq>(items: &[T]) -> bool {
+    for (i, left) in items.iter().enumerate() {
+        for (j, right) in items.iter().enumerate() {
+            if (left == right) != (i == j) {
+                return false;
+            }
+        }
+    }
+    true
+}
+
+#[test]
+fn errors_are_equal_by_their_reason(rt: HostRuntime) {
+    assert!(rt; are_told_apart(&[LocationError::BadName, LocationError::ManyArgs]));
 }
 
 #[test]
