@@ -1,6 +1,8 @@
 //! The texts of errors, which name the location and the cause of a clash.
 use crate::tests::location;
-use asm_update::{AggError, Cause, Clash, InstructionsError, JoinError, ResultError};
+use asm_update::{
+    AggError, Amount, Cause, Clash, Family, InstructionsError, JoinError, ResultError,
+};
 use std::alloc::Global;
 use std::test::Fail;
 
@@ -28,11 +30,86 @@ fn each_cause_is_told_in_words(rt: HostRuntime) -> Result<(), Fail> {
     Ok(())
 }
 
+/// Whether each is equal to itself alone.
+fn are_told_apart<T: PartialEq>(items: &[T]) -> bool {
+    for (i, left) in items.iter().enumerate() {
+        for (j, right) in items.iter().enumerate() {
+            if (left == right) != (i == j) {
+                return false;
+            }
+        }
+    }
+    true
+}
+
+static EACH_CAUSE: [Cause; 7] = [
+    Cause::Two,
+    Cause::Mixed,
+    Cause::Kind,
+    Cause::Both,
+    Cause::Against,
+    Cause::Short,
+    Cause::Large,
+];
+
+static RESULT_ERRORS: [ResultError; 3] = [
+    ResultError::Cause(Cause::Kind),
+    ResultError::Cause(Cause::Both),
+    ResultError::Memory,
+];
+
+static JOIN_ERRORS: [JoinError; 4] = [
+    JoinError::Cause(Cause::Kind),
+    JoinError::Cause(Cause::Both),
+    JoinError::Large,
+    JoinError::Memory,
+];
+
+#[test]
+fn plain_data_are_equal_by_kind_and_content(rt: HostRuntime) {
+    assert!(rt; are_told_apart(&[Amount::new(1), Amount::new(2), Amount::new(0)]));
+    assert!(rt; are_told_apart(&[Family::Set, Family::Bag, Family::Count]));
+    assert!(rt; are_told_apart(&EACH_CAUSE));
+    assert!(rt; are_told_apart(&RESULT_ERRORS) && are_told_apart(&JOIN_ERRORS));
+    let refusals = [
+        InstructionsError::ManyInstructions,
+        InstructionsError::Memory,
+    ];
+    assert!(rt; are_told_apart(&refusals));
+}
+
 /// A clash at a location without arguments.
-fn clash_at(alloc: Global, name: &str) -> Result<Clash, Fail> {
+fn clash_at(alloc: Global, name: &str, cause: Cause) -> Result<Clash, Fail> {
     let at = location(alloc, name, &[])?;
-    let cause = Cause::Two;
     Ok(Clash { at, cause })
+}
+
+static CLASHES: [(&str, Cause); 4] = [
+    ("x", Cause::Two),
+    ("y", Cause::Two),
+    ("x", Cause::Kind),
+    ("y", Cause::Kind),
+];
+
+#[test]
+fn clashes_are_equal_by_location_and_cause(rt: HostRuntime) -> Result<(), Fail> {
+    let mut clashes = Vec::new(rt.alloc());
+    for (name, cause) in CLASHES {
+        clashes.push(clash_at(rt.alloc(), name, cause)?)?;
+    }
+    assert!(rt; clashes.len() == 4 && are_told_apart(&clashes));
+    Ok(())
+}
+
+#[test]
+fn errors_of_moves_are_equal_by_their_clash(rt: HostRuntime) -> Result<(), Fail> {
+    let mut errors = Vec::new(rt.alloc());
+    for (name, cause) in CLASHES {
+        errors.push(AggError::Clash(clash_at(rt.alloc(), name, cause)?))?;
+    }
+    errors.push(AggError::Memory)?;
+    assert!(rt; errors.len() == 5 && are_told_apart(&errors));
+    Ok(())
 }
 
 #[test]
@@ -40,7 +117,7 @@ fn errors_have_their_texts(rt: HostRuntime) -> Result<(), Fail> {
     let alloc = rt.alloc();
     let full = InstructionsError::ManyInstructions.to_string(alloc)?;
     assert!(rt; full.as_str() == "more than 4,096 instructions");
-    let clash = AggError::Clash(clash_at(alloc, "x")?).to_string(alloc)?;
+    let clash = AggError::Clash(clash_at(alloc, "x", Cause::Two)?).to_string(alloc)?;
     assert!(rt; clash.as_str() == "the updates clash at x: two different regular values");
     let result = ResultError::Cause(Cause::Kind).to_string(alloc)?;
     let want =
@@ -56,5 +133,15 @@ fn errors_have_their_texts(rt: HostRuntime) -> Result<(), Fail> {
     ] {
         assert!(rt; error.to_string(alloc)?.as_str() == want, "{want}");
     }
+    Ok(())
+}
+
+#[test]
+fn refused_memory_has_one_text(rt: HostRuntime) -> Result<(), Fail> {
+    let alloc = rt.alloc();
+    let want = "out of memory";
+    assert!(rt; InstructionsError::Memory.to_string(alloc)?.as_str() == want);
+    assert!(rt; AggError::Memory.to_string(alloc)?.as_str() == want);
+    assert!(rt; ResultError::Memory.to_string(alloc)?.as_str() == want);
     Ok(())
 }
