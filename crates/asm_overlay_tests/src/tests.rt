@@ -1,5 +1,5 @@
 use asm_element::{Element, Location, Value};
-use asm_overlay::{Over, Overlay, OverlayError, Seen};
+use asm_overlay::{FRAMES_LIMIT, Over, Overlay, OverlayError, Seen};
 use asm_update::{Lookup, PlainState, UpdateSet};
 use std::alloc::Global;
 use std::process::Abort;
@@ -122,6 +122,12 @@ fn the_65th_frame_is_handed_back(rt: HostRuntime) -> Result<(), Fail> {
     play(&rt, rt.alloc(), &mut overlay, &AT_64_FRAMES)
 }
 
+#[test]
+fn the_limit_of_frames_is_told(rt: HostRuntime) -> Result<(), Fail> {
+    assert_eq!(rt; FRAMES_LIMIT, 64);
+    Ok(())
+}
+
 /// Whether the frame is put on top, or, where memory was refused, is handed back, with as many frames as before.
 fn is_handed_back(alloc: Global, overlay: &mut Overlay, put: Put) -> Result<bool, Fail> {
     let copy = frame(alloc, put)?;
@@ -242,6 +248,30 @@ fn an_overlay_stands_over_another(rt: HostRuntime) -> Result<(), Fail> {
     assert!(rt; gives(alloc, &over, "y", Some(6))?);
     assert!(rt; gives(alloc, &over, "z", Some(3))?);
     assert!(rt; gives(alloc, &below, "y", Some(5))?);
+    Ok(())
+}
+
+/// Whether each is equal to itself alone.
+fn are_told_apart<T: PartialEq>(items: &[T]) -> bool {
+    for (i, left) in items.iter().enumerate() {
+        for (j, right) in items.iter().enumerate() {
+            if (left == right) != (i == j) {
+                return false;
+            }
+        }
+    }
+    true
+}
+
+#[test]
+fn errors_are_equal_by_their_kind_and_frame(rt: HostRuntime) -> Result<(), Fail> {
+    let alloc = rt.alloc();
+    let mut errors = Vec::new(alloc);
+    for number in [Some(1), Some(2), None] {
+        errors.push(OverlayError::Deep(frame(alloc, Put("x", number))?))?;
+        errors.push(OverlayError::Memory(frame(alloc, Put("x", number))?))?;
+    }
+    assert!(rt; errors.len() == 6 && are_told_apart(&errors));
     Ok(())
 }
 
