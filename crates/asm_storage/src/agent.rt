@@ -1,4 +1,4 @@
-ghost use Rattle.std.specs.Prelude.{filter, ◌≡◌, ◌↔◌, ◌<◌, ℕ, length, IfOk, IfErr, OnOk, OnErr, IsOk, IsErrOf};
+ghost use Rattle.std.specs.Prelude.{filter, ◌≡◌, ◌↔◌, ◌<◌, ℕ, length, max, IfOk, IfErr, OnOk, OnErr, IsOk, IsErrOf};
 ghost use mathlib.Core.List.{IsPrefix};
 ghost use Rattle.asm_storage.specs.declared.error.FireError.TheVariants.{ManyReads};
 ghost use Rattle.asm_storage.specs.declared.error.ReadError.TheVariants.{ManyLocations};
@@ -127,14 +127,15 @@ impl<'s, A: Aggregator + Sync + Drop> Agent<'s, A> {
 
     /// Takes in what a mark of the same storage holds, without a look at the row.
     ///
-    /// Afterwards what it has seen begins with what the mark holds and with what it had seen before. Its
-    /// receipts, wins and misses stay as they are. It always answers `Ok`: the agent's state follows what was
-    /// learnt at the start of the next call.
+    /// Afterwards it has seen what the mark holds or what it had seen before, whichever is longer; the other
+    /// begins it. Its receipts, wins and misses stay as they are. It always answers `Ok`: the agent's state
+    /// follows what was learnt at the start of the next call.
     pub fn learn(&mut self, alloc: Global, mark: &Mark) -> Result<(), AllocError>
         requires { mark.now.row ≡ self.old.storage.row }
         ensures kept { self.new ≡ has_seen self.old self.new.account.seen }
         ensures mine { IsPrefix self.old.account.seen self.new.account.seen }
         ensures theirs { IsPrefix mark.now.seen self.new.account.seen }
+        ensures longest { length self.new.account.seen ≡ max (length self.old.account.seen) (length mark.now.seen) }
         ensures made { IsOk result }
     {
         let _ = alloc;

@@ -1,6 +1,7 @@
-ghost use Rattle.std.specs.Prelude.{◌≡◌, ◌+◌, ◌<◌, All, length, IfOk, IfErr};
+ghost use Rattle.std.specs.Prelude.{◌≡◌, ◌+◌, ◌<◌, ◌≤◌, ℕ, All, length, Err, IfOk, IfErr};
 ghost use Rattle.std.specs.List.Sorted.{IsStrictlyIncreasing};
 ghost use mathlib.Core.List.{IsPrefix};
+ghost use Rattle.asm_storage.specs.declared.error.CloseError.TheVariants.{Missing};
 ghost use Rattle.asm_storage.specs.Agents.{ids, id_bound, merged, most_seen, IsAgent, NoneMissing, IsHistoryOf};
 ghost use Rattle.asm_storage.specs.Storage.{machine_of, accounts, IsOf, IsMissing};
 
@@ -74,6 +75,8 @@ impl<A: Aggregator + Sync + Drop> Storage<A> {
         ensures agents { IfOk result (λ h. h.agents ≡ id_bound (accounts agents.now)) }
         ensures none_missing { IfOk result (λ h. NoneMissing (accounts agents.now)) }
         ensures missing { IfErr result (IsMissing (accounts agents.now)) }
+        ensures within { (number : ℕ) → result ≡ Err (Missing number) →
+            (1 ≤ number) × (number ≤ most_seen (accounts agents.now)) }
     {
         let seat = self.seat_of_all(alloc, agents)?;
         match first_missing(alloc, agents, seat.seen_len())? {

@@ -1,4 +1,4 @@
-ghost use Rattle.std.specs.Prelude.{◌≡◌, ◌+◌, ◌<◌, ◌≤◌, nat_lt, length, map, IfOk, OnOk};
+ghost use Rattle.std.specs.Prelude.{◌≡◌, ◌+◌, ◌<◌, ◌≤◌, nat_lt, length, map, max, IfOk, OnOk};
 ghost use Rattle.std.specs.Bool.{OnTrue, OnFalse};
 ghost use mathlib.Core.List.{IsPrefix};
 ghost use Rattle.asm_storage.specs.Storage.{at_start, has_seen, last_look, Missed};
@@ -20,8 +20,9 @@ use std::alloc::{AllocError, Global};
 /// What an agent has beside its borrow of the storage: its number, how far it has come at the row, its own
 /// state, which may lag behind what was seen, and its receipts.
 ///
-/// It borrows nothing, so one value may hold it beside an owner of the storage. Each of its calls takes the
-/// storage, which must be the one of the agent.
+/// It borrows nothing, so one value may hold it beside an owner of the storage. To call the agent, its owner
+/// hands the part to `Agent::of` with the storage that it came from, and takes it out again by
+/// `Agent::into_part`.
 #[derive(Drop)]
 pub struct AgentPart {
     pub(crate) id: u32,
@@ -154,6 +155,7 @@ impl AgentPart {
         ensures kept { agent_of storage.now self.new ≡ has_seen (agent_of storage.now self.old) self.new.progress.seen }
         ensures mine { IsPrefix self.old.progress.seen self.new.progress.seen }
         ensures theirs { IsPrefix mark.now.seen self.new.progress.seen }
+        ensures longest { length self.new.progress.seen ≡ max (length self.old.progress.seen) (length mark.now.seen) }
     {
         let _ = storage;
         self.progress.learn(mark);
