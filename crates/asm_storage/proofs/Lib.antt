@@ -11,6 +11,7 @@ pub mod Lists
 pub mod MergedHistory
 pub mod MergedReceipts
 pub mod Moves
+pub mod OfferBounds
 pub mod OwnReceipts
 pub mod PartKept
 pub mod Rounds

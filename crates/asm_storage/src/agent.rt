@@ -1,6 +1,8 @@
-ghost use Rattle.std.specs.Prelude.{filter, ◌≡◌, ◌↔◌, ◌<◌, ℕ, length, max, IfOk, IfErr, OnOk, OnErr, IsOk, IsErrOf};
+ghost use Rattle.std.specs.Prelude.{filter, ◌≡◌, ◌↔◌, ◌<◌, ◌≤◌, ◌+◌, ◌-◌, ◌^◌, ℕ, length, max, min};
+ghost use Rattle.std.specs.Prelude.{Ok, Err, IfOk, IfErr, OnOk, OnErr, IsOk, IsErrOf};
 ghost use mathlib.Core.List.{IsPrefix};
-ghost use Rattle.asm_storage.specs.declared.error.FireError.TheVariants.{ManyReads};
+ghost use Rattle.asm_storage.specs.declared.call.Reply.TheVariants.{Fired};
+ghost use Rattle.asm_storage.specs.declared.error.FireError.TheVariants.{Busy, ManyReads};
 ghost use Rattle.asm_storage.specs.declared.error.ReadError.TheVariants.{ManyLocations};
 ghost use Rattle.asm_storage.specs.Agents.{IsAgent, is_fired};
 ghost use Rattle.asm_storage.specs.Calls.{HasLookedFor, IsAnswered, IsBusy, IsCoherentReply, IsRead, MadeOffers, Ran};
@@ -198,6 +200,10 @@ impl<'s, A: Aggregator + Sync + Drop> Agent<'s, A> {
         ensures refused { OnErr result (self.new ≡ has_looked self.old self.new.account.seen self.new.misses) }
         ensures busy { IfErr result (IsBusy self.old self.new) }
         ensures many { IsErrOf result ManyReads ↔ (256 < length reads.now) }
+        // One at least before a fired move, counted up to 2^64 - 1, and 64 at most.
+        ensures missed { (k : ℕ) → result ≡ Ok (Fired k) → min (self.old.misses + 1) (2 ^ 64 - 1) ≤ self.new.misses }
+        ensures few { self.new.misses ≤ self.old.misses + 64 }
+        ensures lost { (from to : ℕ) → result ≡ Err (Busy from to) → from + 64 ≤ to }
         ensures callable { F.IsAlwaysCallable between.new }
         ensures offers { (n : ℕ) × MadeOffers self.old self.new result n ×
             Ran (λ f g. F.step f tt g) between.old n between.new }
@@ -224,6 +230,10 @@ impl<'s, A: Aggregator + Sync + Drop> Agent<'s, A> {
         ensures refused { OnErr result (self.new ≡ has_looked self.old self.new.account.seen self.new.misses) }
         ensures busy { IfErr result (IsBusy self.old self.new) }
         ensures many { IsErrOf result ManyReads ↔ (256 < length reads.now) }
+        // One at least before a fired move, counted up to 2^64 - 1, and 64 at most.
+        ensures missed { (k : ℕ) → result ≡ Ok (Fired k) → min (self.old.misses + 1) (2 ^ 64 - 1) ≤ self.new.misses }
+        ensures few { self.new.misses ≤ self.old.misses + 64 }
+        ensures lost { (from to : ℕ) → result ≡ Err (Busy from to) → from + 64 ≤ to }
         ensures offers { (n : ℕ) × MadeOffers self.old self.new result n }
     {
         self.try_fire_with(alloc, reads, instrs, &mut || {})
