@@ -39,7 +39,7 @@ fn every_cut_is_told(rt: HostRuntime) -> Result<(), Fail> {
 }
 
 /// The first fault of a text: these lines, each with its line feed, and then the rest.
-fn fault(
+pub(crate) fn fault(
     alloc: Global,
     header: &str,
     event: &str,
@@ -53,7 +53,7 @@ fn fault(
     fault_of(alloc, text.as_str().as_bytes())
 }
 
-const HEADER: &str = r#"{"agents":2,"capacity":8,"events":1,"init":[],"version":2}"#;
+pub(crate) const HEADER: &str = r#"{"agents":2,"capacity":8,"events":1,"init":[],"version":2}"#;
 
 const EVENT: &str = r#"{"agent":1,"call":{"read":[["x"]]},"reply":{"number":0,"values":[1]}}"#;
 
@@ -233,7 +233,14 @@ fn errors_have_their_texts(rt: HostRuntime) -> Result<(), Fail> {
     ] {
         assert!(rt; error.to_string(rt.alloc())?.as_str() == want, "{want}");
     }
-    let output = WriteError::Output { written: 5 }.to_string(rt.alloc())?;
-    assert!(rt; output.as_str() == "the output failed after 5 bytes");
+    for (error, want) in [
+        (
+            WriteError::Output { written: 5 },
+            "the output failed after 5 bytes",
+        ),
+        (WriteError::Memory, "out of memory"),
+    ] {
+        assert!(rt; error.to_string(rt.alloc())?.as_str() == want, "{want}");
+    }
     Ok(())
 }
