@@ -1,5 +1,5 @@
 //! Writing a journal to an output.
-ghost use Rattle.std.specs.Prelude.{OnOk, IfErr};
+ghost use Rattle.std.specs.Prelude.{◌≡◌, ◌<◌, ℕ, length, OnOk, IfErr};
 ghost use Rattle.std.specs.Io.KnownBytes.{Appends};
 ghost use Rattle.asm_storage.specs.History.{Fits};
 ghost use Rattle.asm_journal.specs.Text.{text_of};
@@ -41,6 +41,9 @@ pub fn write_text<W: Write>(alloc: Global, out: &mut W, history: &History) -> Re
         (Appends (W.contents out.old) (W.contents out.new) (text_of history.now)) }
     ensures err { IfErr result
         (Stops (W.contents out.old) (W.contents out.new) (text_of history.now)) }
+    // Where the output failed, not all of the text went out.
+    ensures part { IfErr result (λ e. (written : ℕ) → e ≡ WriteError.Output written
+        → written < length (text_of history.now)) }
 {
     let text = to_text(alloc, history)?;
     write_bytes(out, text.as_bytes())
