@@ -14,18 +14,18 @@ texts =
     codes "the updates of the move clash" ∷
     codes "out of memory" ∷
     codes "as many moves were fired as the capacity" ∷
-    codes "the slot holds nothing of this kind" ∷
-    codes "the capacity or the number is out of range" ∷
+    codes "a slot holds nothing of this kind, or is passed twice" ∷
+    codes "the capacity, the agent's number or the count of slots is out of range" ∷
     codes "the buffer is too small" ∷
     codes "64 offers were lost" ∷
     codes "more than 256 locations" ∷
     codes "there is no answer or no journal yet" ∷
     codes "the slot that was to be filled is full" ∷
-    codes "an agent with this number was given before" ∷
-    codes "a move has no receipt among the agents that were given" ∷
+    codes "an agent with this number was given back before" ∷
+    codes "a move has no receipt among the agents that were given back" ∷
     codes "the two slots are of two storages" ∷
     codes "the journal is not legal" ∷
-    codes "no JSON" ∷
+    codes "not JSON" ∷
     codes "JSON of another shape" ∷
     codes "a journal of another version" ∷
     codes "the journal is cut off" ∷

@@ -139,7 +139,7 @@ struct NoJournal {
     line: u64,
 }
 
-static NO_JOURNALS: [NoJournal; 5] = [
+static NO_JOURNALS: [NoJournal; 7] = [
     NoJournal {
         text: b"",
         code: 19,
@@ -164,6 +164,18 @@ static NO_JOURNALS: [NoJournal; 5] = [
         text: b"{\"agents\":1,\"capacity\":2,\"events\":1,\"init\":[],\"version\":2}\n",
         code: 19,
         line: 0,
+    },
+    NoJournal {
+        text: b"{\"agents\":1,\"capacity\":2,\"events\":1,\"init\":[],\"version\":2}\n{\n",
+        code: 16,
+        line: 2,
+    },
+    NoJournal {
+        text: b"{\"agents\":1,\"capacity\":2,\"events\":2,\"init\":[],\"version\":2}\n\
+            {\"agent\":0,\"call\":{\"read\":[]},\"reply\":{\"number\":0,\"values\":[]}}\n\
+            {}\n",
+        code: 17,
+        line: 3,
     },
 ];
 
@@ -192,7 +204,7 @@ struct CodeText {
     text: &'static [u8],
 }
 
-static CODE_TEXTS: [CodeText; 4] = [
+static CODE_TEXTS: [CodeText; 7] = [
     CodeText {
         code: 0,
         text: b"done",
@@ -200,6 +212,18 @@ static CODE_TEXTS: [CodeText; 4] = [
     CodeText {
         code: 3,
         text: b"out of memory",
+    },
+    CodeText {
+        code: 5,
+        text: b"a slot holds nothing of this kind, or is passed twice",
+    },
+    CodeText {
+        code: 6,
+        text: b"the capacity, the agent's number or the count of slots is out of range",
+    },
+    CodeText {
+        code: 16,
+        text: b"not JSON",
     },
     CodeText {
         code: 20,
@@ -213,7 +237,7 @@ static CODE_TEXTS: [CodeText; 4] = [
 
 #[test]
 fn codes_have_texts(rt: HostRuntime) {
-    let mut out = [0u8; 64];
+    let mut out = [0u8; 80];
     let mut written = 0;
     for row in CODE_TEXTS.iter() {
         assert!(rt; asm_error_text(row.code, &mut out, &mut written) == 0);

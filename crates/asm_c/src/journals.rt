@@ -1,7 +1,8 @@
 //! Checking a journal, and the state that it leaves.
 ghost use Rattle.std.specs.Prelude.{◌≡◌, ◌≢◌, ◌∷◌, [], pos, slice_range, string_bytes, IfOk, IfErr};
 ghost use Rattle.asm_c.specs.Codes.{IsOneOf};
-ghost use Rattle.asm_c.specs.Journals.{IsChecked, IsReplayed};
+ghost use Rattle.asm_c.specs.Journals.{IsChecked, IsReplayed, IsRefusal, TellsError};
+ghost use Rattle.asm_journal.specs.Fault.{IsRefused};
 ghost use Rattle.asm_journal.specs.declared.checking.Legality.TheVariants as legality;
 
 use crate::codes::{CUT, DONE, ILLEGAL, MEMORY, NOT_JSON, SHAPE, VERSION, copied};
@@ -11,7 +12,8 @@ use std::alloc::{AllocError, Global};
 
 // The code of the error, with the number of the line at fault.
 fn code_of_error(error: JournalError, line: &mut u64) -> i32
-    ensures { IsOneOf (3 ∷ 16 ∷ 17 ∷ 18 ∷ 19 ∷ []) result }
+    ensures codes { IsOneOf (3 ∷ 16 ∷ 17 ∷ 18 ∷ 19 ∷ []) result }
+    ensures told { TellsError error result line.new }
 {
     match error {
         JournalError::NotJson(number) => {
@@ -29,7 +31,8 @@ fn code_of_error(error: JournalError, line: &mut u64) -> i32
 }
 
 fn checked(alloc: Global, journal: &[u8]) -> Result<Legality, JournalError>
-    ensures { IfOk result (IsChecked journal.now) }
+    ensures ok { IfOk result (IsChecked journal.now) }
+    ensures err { IfErr result (IsRefused journal.now) }
 {
     let history = from_text(alloc, journal)?;
     match check(alloc, &standard(), &history) {
@@ -49,6 +52,7 @@ pub extern "C" fn asm_check(alloc: Global, journal: &[u8], calls: &mut u64, move
     ensures codes { IsOneOf (0 ∷ 3 ∷ 15 ∷ 16 ∷ 17 ∷ 18 ∷ 19 ∷ []) result }
     ensures legal { result ≡ pos 0 → IsChecked journal.now (legality.Legal calls.new moves.new) }
     ensures illegal { result ≡ pos 15 → IsChecked journal.now (legality.Illegal calls.new) }
+    ensures refused { IsOneOf (16 ∷ 17 ∷ 18 ∷ 19 ∷ []) result → IsRefusal journal.now result calls.new }
 {
     *calls = 0;
     *moves = 0;
@@ -72,7 +76,8 @@ pub extern "C" fn asm_check(alloc: Global, journal: &[u8], calls: &mut u64, move
 }
 
 fn replayed(alloc: Global, journal: &[u8]) -> Result<String, JournalError>
-    ensures { IfOk result (λ text. IsReplayed journal.now (string_bytes text)) }
+    ensures ok { IfOk result (λ text. IsReplayed journal.now (string_bytes text)) }
+    ensures err { IfErr result (IsRefused journal.now) }
 {
     let history = from_text(alloc, journal)?;
     let Ok(state) = replay(alloc, &standard(), &history) else {
@@ -100,6 +105,7 @@ pub extern "C" fn asm_replay(
     ensures codes { IsOneOf (0 ∷ 3 ∷ 7 ∷ 16 ∷ 17 ∷ 18 ∷ 19 ∷ []) result }
     ensures told { result ≡ pos 0 → IsReplayed journal.now (slice_range out.new 0 written.new) }
     ensures unwritten { result ≢ pos 0 → out.new ≡ out.old }
+    ensures refused { IsOneOf (16 ∷ 17 ∷ 18 ∷ 19 ∷ []) result → IsRefusal journal.now result line.new }
 {
     *written = 0;
     *line = 0;

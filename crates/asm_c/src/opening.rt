@@ -159,7 +159,7 @@ fn clear(alloc: Global, slots: &mut [Slot])
 /// Makes an agent of the storage in each of the empty slots, at most 256, with the numbers from 0 up.
 ///
 /// 6: more than 256 slots. 11: one of them is full. 5: the other slot has no storage. 3: out of memory.
-/// After each of these the storage's slot is as it was, and the others hold what they shell.
+/// After each of these the storage's slot is as it was, and every agent slot still holds what it held.
 #[unsafe(no_mangle)]
 pub extern "C" fn asm_agents(alloc: Global, store: &mut Slot, agents: &mut [Slot]) -> i32
     ensures codes { IsOneOf (0 ∷ 3 ∷ 5 ∷ 6 ∷ 11 ∷ []) result }

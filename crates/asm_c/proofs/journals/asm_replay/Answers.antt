@@ -7,4 +7,4 @@ use Rattle.asm_c.proofs.journals.asm_replay.Goals as goal
 pub returns-in-Ok-clause-told : goal.returns-in-Ok-clause-told
 returns-in-Ok-clause-told c =
     at_zero c.copied.result (IsReplayed c.args.journal.now (slice_range c.copied.new.out 0 c.copied.new.written)) c.copied.ensures.codes
-    (λ done. subst (λ (text : List ℕ). IsReplayed c.args.journal.now text) (sym (c.copied.ensures.bytes done ∙ c.as_bytes.ensures.value)) c.in-Ok.ensures)
+    (λ done. subst (λ (text : List ℕ). IsReplayed c.args.journal.now text) (sym (c.copied.ensures.bytes done ∙ c.as_bytes.ensures.value)) c.in-Ok.ensures.ok)

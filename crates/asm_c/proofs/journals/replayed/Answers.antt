@@ -4,8 +4,8 @@ use Rattle.asm_update.specs.State.{State}
 use Rattle.asm_journal.specs.Text.{state_json_of}
 use Rattle.asm_c.proofs.journals.replayed.Goals as goal
 
-pub returns-in-Ok-state_text : goal.returns-in-Ok-state_text
-returns-in-Ok-state_text c = record {
+pub returns-in-Ok-state_text-clause-ok : goal.returns-in-Ok-state_text-clause-ok
+returns-in-Ok-state_text-clause-ok c = record {
   history = c.in_ok-history.history;
   reads = c.in_ok-history.ensures.ok;
   left = c.in-Ok-state_text.ensures ∙ ap (λ (A : State). compact_text (state_json_of A)) c.in-Ok.ensures;
