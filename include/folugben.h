@@ -7,27 +7,42 @@
  *
  * WHAT THE CALLER OWES
  *
- *  - Threads. A slot is given to one call at a time. Different slots may be in calls at once, those
- *    of one storage too. A slot goes from one thread to another by the start or the end of a
- *    thread, or under a lock. No call starts a thread, waits or takes a lock, and each returns. No
- *    call from a signal handler, nor in the child of a fork of a process with threads.
- *  - Slots. A slot begins as zeros ({0}) and is then used through its one address: no copy of it is
- *    given to a call. It may lie anywhere. What lies in it is freed by asm_free, or by asm_give,
- *    once.
- *  - Buffers. A buffer is `room` bytes long at least. The bytes passed and the buffer don't
- *    overlap, and neither lies in a slot. With a length of 0 the pointer may be null. No text has a
- *    zero byte at its end.
- *  - Storages. asm_learn takes two agents of one storage, and asm_give an agent of the storage:
- *    ASM_OTHER tells a mistake, but not surely while other threads are in asm_learn or asm_give on
- *    both storages.
+ *  - Threads. Never use one slot in two calls at the same time. Different slots may be in calls at
+ *    once, those of one storage too. A slot goes from one thread to another by the start or the end
+ *    of a thread, or under a lock. No call starts a thread, waits, or takes a lock, apart from what
+ *    malloc, realloc and free do; and each returns. Make no call from a signal handler, nor in the
+ *    child of a fork of a process with threads.
+ *  - Slots. Initialise a slot with {0}. Never move it or pass a copy of it. It may lie anywhere.
+ *    What it holds is released by asm_free, or handed over by asm_give.
+ *  - Pointers. None may be null, except that of bytes, of a buffer or of slots whose length is 0.
+ *    asm_free(NULL) isn't allowed either.
+ *  - Buffers. A buffer is at least `room` bytes long. The bytes passed, the buffer and the numbers
+ *    that a call writes overlap neither one another nor a slot. No text has a zero byte at its end.
+ *  - Storages. asm_learn takes two agents of one storage, and asm_give an agent of the storage.
+ *    ASM_OTHER reports a mistake, except possibly while other threads are in asm_learn or asm_give
+ *    on both storages. The behaviour is undefined where a mistake isn't reported.
  *  - malloc, realloc and free are of one allocator, and malloc aligns a block to each power of two
  *    up to 16 that divides its size.
+ *  - The platform has pointers and size_t of 64 bits. ./build_c builds for Linux on x86-64
+ *    processors of level v2 or above.
+ *
+ * WORDS
+ *
+ *  - A receipt is an agent's record of one call that was answered: the call and its answer. The
+ *    journal is made of the receipts.
+ *  - A look is one read of the first move that the agent hasn't seen; it finds that move, or that
+ *    no further move was fired yet.
+ *  - An offer is one try to make the agent's move the next one of the storage; it is lost if
+ *    another agent's move is there first.
  *
  * WHAT STANDS AFTER A CALL
  *
- *  - Of asm_read and asm_try_fire any answer but ASM_DONE, ASM_STALE, ASM_CLASH and ASM_FULL adds
- *    no receipt, and the agent may have seen more moves. Of each other call, any answer but
- *    ASM_DONE leaves the slots as they were.
+ *  - asm_read and asm_try_fire add a receipt with ASM_DONE, ASM_STALE, ASM_CLASH and ASM_FULL.
+ *    After asm_read or asm_try_fire, any other code means that no receipt was added; the agent may
+ *    have seen more moves. After any other call, each code but ASM_DONE means that the slots are as
+ *    they were.
+ *  - A number that a call writes is 0 unless its code is said to set it. `*written` is set with
+ *    ASM_DONE, to the length of the text, and with ASM_SMALL.
  *  - ASM_MEMORY: nothing was fired or lost, and the call may be made again.
  *  - ASM_SMALL: nothing was written to the buffer; `*written` is the room that is needed. The call
  *    may be made again: nothing is read, fired or closed by it.
@@ -36,8 +51,19 @@
  *
  *    LOC     ["name",ELEMENT,..]          ELEMENT  null, true, 7, "text" or {"list":[ELEMENT,..]}
  *    VALUE   ELEMENT, {"set":[ELEMENT,..]} or {"bag":[[ELEMENT,COUNT],..]}
- *    PAIR    [LOC,VALUE]                  NAMED    [LOC,NUMBER]
- *    INSTR   ["put",LOC,VALUE], ["add",LOC,ELEMENT], ["remove",LOC,ELEMENT], ..
+ *    PAIR    [LOC,VALUE]                  COUNT    1 to 4294967295, as AMOUNT
+ *    NAMED   [LOC,NUMBER], with the number that the read of the location answered
+ *    INSTR   ["put",LOC,VALUE]; of a set ["add",LOC,ELEMENT] and ["remove",LOC,ELEMENT]; of a bag
+ *            ["bagadd",LOC,ELEMENT,AMOUNT] and ["bagremove",LOC,ELEMENT,AMOUNT]; of a number
+ *            ["inc",LOC,N], with a whole number N
+ *    CAUSE   why updates of one location clash:
+ *            "Two"      two different values are put
+ *            "Mixed"    instructions of two of these: sets, bags, numbers
+ *            "Kind"     the value that is there is no set, no bag or no number
+ *            "Both"     an element is added to a set and removed from it
+ *            "Against"  a value is put that the other instructions don't agree with
+ *            "Short"    more of an element is removed than the bag has
+ *            "Large"    a count above 4294967295, or a number outside the range of int64_t
  *
  * AN EXAMPLE: one agent adds 1 to a count.
  *
@@ -97,21 +123,21 @@ enum asm_code {
     ASM_MISSING = 13,  /* a move has no receipt among the agents that were given back */
     ASM_OTHER = 14,    /* the two slots are of two storages */
     ASM_ILLEGAL = 15,  /* the journal isn't legal */
-    ASM_NOT_JSON = 16, /* the bytes, or a line of the journal, are no JSON */
+    ASM_NOT_JSON = 16, /* the bytes, or a line of the journal, are not JSON */
     ASM_SHAPE = 17,    /* they are JSON of another shape, or beyond a limit */
     ASM_VERSION = 18,  /* a journal of another version than 1 and 2 */
     ASM_CUT = 19,      /* the journal ends too early */
     ASM_LARGE = 20     /* more calls than the 4,294,967,295 that a journal holds */
 };
 
-/* What a code means, in a line of English. ASM_DONE, or ASM_SMALL. */
+/* Writes what a code means, in a line of English. ASM_SMALL. */
 int32_t asm_error_text(int32_t code, uint8_t *out, size_t room, size_t *written);
 
 /* The version of the library. */
 uint32_t asm_version(void);
 
-/* Room for a storage or an agent. Zeros hold nothing. `full` may be read between calls, and
- * neither is written. */
+/* Room for a storage or an agent. Zeros hold nothing. `full` may be read between calls;
+ * write neither. */
 typedef struct asm_slot {
     bool full;
     void *at;
@@ -142,11 +168,12 @@ typedef struct asm_numbers {
     uint32_t to;    /* ASM_BUSY: how many at its end */
 } asm_numbers;
 
-/* Fires the move {"fire":[INSTR, ..],"reads":[NAMED, ..]}, unless one of the at most 256 named
- * locations was written since the number of moves under which it is named. ASM_DONE: fired.
- * ASM_STALE, ASM_CLASH and ASM_FULL are answers too: asm_answer writes {"fired":N}, {"stale":LOC},
- * {"clash":[LOC,CAUSE]} or "full". ASM_BUSY, ASM_EMPTY, ASM_NOT_JSON, ASM_SHAPE, ASM_MANY,
- * ASM_MEMORY: not answered, and nothing was fired. */
+/* Fires the move {"fire":[INSTR, ..],"reads":[NAMED, ..]} of at most 4,096 instructions (else
+ * ASM_SHAPE), unless one of the at most 256 named locations (else ASM_MANY) was written since the
+ * number of moves under which it is named. ASM_DONE: fired. ASM_STALE, ASM_CLASH and ASM_FULL are
+ * answers too: asm_answer writes {"fired":N}, {"stale":LOC}, {"clash":[LOC,CAUSE]} or "full".
+ * ASM_BUSY, ASM_EMPTY, ASM_NOT_JSON, ASM_SHAPE, ASM_MANY, ASM_MEMORY: not answered, and nothing was
+ * fired. */
 int32_t asm_try_fire(asm_slot *agent, const uint8_t *call, size_t len, asm_numbers *numbers);
 
 /* Writes the text of the answer to the agent's last answered call.
@@ -165,7 +192,8 @@ uint32_t asm_won(asm_slot *agent);
 uint64_t asm_misses(asm_slot *agent);
 
 /* Gives an agent back to its storage, in any order; its slot is then empty, and the journal of an
- * earlier asm_close is let go. ASM_EMPTY (one of the slots), ASM_OTHER, ASM_NUMBER, ASM_MEMORY. */
+ * earlier asm_close is discarded.
+ * ASM_EMPTY (one of the slots), ASM_OTHER, ASM_NUMBER, ASM_MEMORY. */
 int32_t asm_give(asm_slot *storage, asm_slot *agent);
 
 /* Makes the journal of the agents that were given back. ASM_MISSING: the move `*number` has no
@@ -176,7 +204,7 @@ int32_t asm_close(asm_slot *storage, uint32_t *number);
 /* Writes the journal that asm_close made. ASM_EMPTY, ASM_NONE, ASM_SMALL. */
 int32_t asm_journal(asm_slot *storage, uint8_t *out, size_t room, size_t *written);
 
-/* Lets go of what the slot holds, if anything, and leaves it empty. The memory of a storage is
+/* Releases what the slot holds, if anything, and leaves it empty. The memory of a storage is
  * freed with the last slot that holds it or an agent of it. */
 void asm_free(asm_slot *slot);
 

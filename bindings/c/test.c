@@ -209,6 +209,21 @@ static void many_locations(void) {
     asm_free(&agent);
 }
 
+static void many_instructions(void) {
+    static char text[2 * ROOM];
+    asm_slot storage = {0}, agent = {0};
+    REQUIRE(open_with("[]", 4, &storage) == ASM_DONE && asm_agent(&storage, 0, &agent) == ASM_DONE);
+    for (int count = 4096; count <= 4097; count++) {
+        char *at = text + sprintf(text, "{\"fire\":[");
+        for (int i = 0; i < count; i++)
+            at += sprintf(at, "%s[\"put\",[\"x\"],1]", i ? "," : "");
+        sprintf(at, "],\"reads\":[]}");
+        REQUIRE(fire_of(&agent, text) == (count > 4096 ? ASM_SHAPE : ASM_DONE));
+    }
+    asm_free(&storage);
+    asm_free(&agent);
+}
+
 /* Agents of two storages with the same opening state and the same moves. */
 static void two_storages(void) {
     asm_slot s[2] = {{0}, {0}}, a[2] = {{0}, {0}};
@@ -286,6 +301,7 @@ int main(void) {
     garbage();
     fires();
     many_locations();
+    many_instructions();
     two_storages();
     ends();
     texts_of_codes();

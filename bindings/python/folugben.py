@@ -10,14 +10,20 @@ others into a journal:
             agent.fire([["put", ["count"], count + 1]], [[["count"], number]])
         journal = storage.close_journal()
 
-An Agent and a Storage are used by one thread at a time. ctypes lets go of the interpreter's lock while a call runs.
+Any thread may call an Agent or a Storage: each has a lock, so that no slot is in two calls at the same time. ctypes releases
+the interpreter's lock while a call runs, so agents in different threads do run at the same time. Of the header's calls only
+asm_agents has no method here: call `Storage.agent` for each number.
 """
 import ctypes
 import json
+import operator
 import os
 import pathlib
+import threading
 
 HERE = pathlib.Path(__file__).resolve().parent
+# The version of the library that this module was written for.
+WRITTEN_FOR = 1000
 
 
 class Slot(ctypes.Structure):
@@ -31,14 +37,15 @@ class Numbers(ctypes.Structure):
 def _load():
     path = os.environ.get("FOLUGBEN_LIBRARY", HERE.parent / "out" / "libfolugben.so")
     library = ctypes.CDLL(str(path))
+    library.asm_version.restype = ctypes.c_uint32
+    if library.asm_version() != WRITTEN_FOR:
+        raise ImportError(f"{path} has version {library.asm_version()}, and this module was written for {WRITTEN_FOR}")
     text, size, slot = ctypes.c_char_p, ctypes.c_size_t, ctypes.POINTER(Slot)
     u32, u64, written = ctypes.c_uint32, ctypes.c_uint64, ctypes.POINTER(ctypes.c_size_t)
     calls = {
-        "asm_version": (u32, []),
         "asm_error_text": (ctypes.c_int32, [ctypes.c_int32, text, size, written]),
         "asm_open": (ctypes.c_int32, [text, size, u32, slot]),
         "asm_agent": (ctypes.c_int32, [slot, u32, slot]),
-        "asm_agents": (ctypes.c_int32, [slot, slot, size]),
         "asm_read": (ctypes.c_int32, [slot, text, size]),
         "asm_try_fire": (ctypes.c_int32, [slot, text, size, ctypes.POINTER(Numbers)]),
         "asm_answer": (ctypes.c_int32, [slot, text, size, written]),
@@ -62,6 +69,14 @@ def _load():
 _lib = _load()
 DONE, STALE, CLASH, MEMORY, FULL, EMPTY, RANGE, SMALL, BUSY, MANY, NONE = range(11)
 TAKEN, NUMBER, MISSING, OTHER, ILLEGAL, NOT_JSON, SHAPE, VERSION, CUT, LARGE = range(11, 21)
+# What the numbers of an error mean, for the codes that have some.
+NUMBERS = {
+    BUSY: "the agent had seen {} moves at the start of the call and {} at its end",
+    MISSING: "move {}",
+    ILLEGAL: "call {}, counted from 0",
+    NOT_JSON: "line {}",
+    SHAPE: "line {}",
+}
 
 
 def _text(call, *slots_and_bytes, after=()):
@@ -77,6 +92,8 @@ def _text(call, *slots_and_bytes, after=()):
 
 def error_text(code):
     """What a code means, in a line."""
+    # ctypes would take 2**32 for 0.
+    code = code if -(2**31) <= code < 2**31 else -1
     return _text(_lib.asm_error_text, code)[1].decode()
 
 
@@ -86,11 +103,15 @@ def version():
 
 
 class Error(Exception):
-    """A call that wasn't answered, with its code."""
+    """A call that wasn't answered, with its code, and its numbers where the code has some."""
 
     def __init__(self, code, numbers=()):
-        super().__init__(error_text(code), *numbers)
-        self.code, self.numbers = code, numbers
+        self.code, self.numbers = code, tuple(numbers) if code in NUMBERS else ()
+        super().__init__(self.code, self.numbers)
+
+    def __str__(self):
+        text = error_text(self.code)
+        return f"{text} ({NUMBERS[self.code].format(*self.numbers)})" if self.numbers else text
 
 
 class Stale(Error):
@@ -114,7 +135,7 @@ class Missing(Error):
 
 
 class BadJournal(Error):
-    """The journal is illegal, or is none; `numbers` has the number of the call or of the line."""
+    """The journal is illegal, or is none; `numbers` has the number of the call or of the line, if there is one."""
 
 
 def _expect(code, kind=Error, numbers=()):
@@ -124,19 +145,31 @@ def _expect(code, kind=Error, numbers=()):
         raise kind(code, numbers)
 
 
+def _unsigned(number):
+    """The number, which ctypes would cut to 32 bits."""
+    if not 0 <= operator.index(number) < 2**32:
+        raise Error(RANGE)
+    return number
+
+
 def _json(value):
     return json.dumps(value, separators=(",", ":"), ensure_ascii=False).encode()
 
 
 class _Held:
-    """Something in a slot, which is let go at the end of a `with`."""
+    """Something in a slot, which is released at the end of a `with`.
+
+    The lock is held during each call on the slot. Who needs several takes a storage's before an agent's, and those of two
+    agents in the order of their id, so that no two threads wait for each other.
+    """
 
     def __init__(self):
-        self._slot = Slot()
+        self._lock, self._slot = threading.RLock(), Slot()
 
     def free(self):
-        """Lets go of it; it may be called again."""
-        _lib.asm_free(self._slot)
+        """Releases it; it may be called again."""
+        with self._lock:
+            _lib.asm_free(self._slot)
 
     def __enter__(self):
         return self
@@ -155,24 +188,27 @@ class Agent(_Held):
     def __init__(self, storage, number):
         super().__init__()
         self._storage = storage
-        _expect(_lib.asm_agent(storage._slot, number, self._slot))
+        with storage._lock:
+            _expect(_lib.asm_agent(storage._slot, _unsigned(number), self._slot))
 
     def read(self, places):
         """The number of moves, and the values of the locations after them."""
         call = _json(places)
-        _expect(_lib.asm_read(self._slot, call, len(call)))
-        answer = self.answer()
+        with self._lock:
+            _expect(_lib.asm_read(self._slot, call, len(call)))
+            answer = self.answer()
         return answer["number"], answer["values"]
 
     def fire(self, instructions, reads=()):
         """Fires a move that rests on these reads, pairs of a location and a number. The number of the move."""
         call, numbers = _json({"fire": instructions, "reads": list(reads)}), Numbers()
-        code = _lib.asm_try_fire(self._slot, call, len(call), numbers)
+        with self._lock:
+            code = _lib.asm_try_fire(self._slot, call, len(call), numbers)
+            answer = self.answer() if code in (STALE, CLASH) else None
         if code == BUSY:
             raise Busy(code, (numbers.from_, numbers.to))
         if code in (STALE, CLASH):
             error = (Stale if code == STALE else Clash)(code)
-            answer = self.answer()
             error.at, error.cause = (answer["stale"], None) if code == STALE else answer["clash"]
             raise error
         _expect(code, Full if code == FULL else Error)
@@ -180,26 +216,34 @@ class Agent(_Held):
 
     def answer(self):
         """The answer to the last answered call."""
-        code, text = _text(_lib.asm_answer, self._slot)
+        with self._lock:
+            code, text = _text(_lib.asm_answer, self._slot)
         _expect(code)
         return json.loads(text)
 
     def learn(self, other):
-        """Takes in what another agent of the storage has seen, which no other thread may use meanwhile."""
-        _expect(_lib.asm_learn(self._slot, other._slot))
+        """Takes in what another agent of the storage has seen."""
+        first, second = sorted((self, other), key=id)
+        with first._lock, second._lock:
+            _expect(_lib.asm_learn(self._slot, other._slot))
 
-    seen = property(lambda self: _lib.asm_seen(self._slot), doc="How many moves it has seen.")
-    won = property(lambda self: _lib.asm_won(self._slot), doc="How many moves it fired.")
-    misses = property(lambda self: _lib.asm_misses(self._slot), doc="How many looks found no move.")
+    def _count(self, call):
+        with self._lock:
+            return call(self._slot)
+
+    seen = property(lambda self: self._count(_lib.asm_seen), doc="How many moves it has seen.")
+    won = property(lambda self: self._count(_lib.asm_won), doc="How many moves it fired.")
+    misses = property(lambda self: self._count(_lib.asm_misses), doc="How many looks found no move.")
 
     def give(self):
         """Gives it back to its storage."""
-        _expect(_lib.asm_give(self._storage._slot, self._slot))
+        self._storage.give(self)
 
     def __exit__(self, kind, *_):
-        if kind is None and self._slot.full:
-            self.give()
-        self.free()
+        with self._storage._lock, self._lock:
+            if kind is None and self._slot.full:
+                self.give()
+            self.free()
 
 
 class Storage(_Held):
@@ -208,7 +252,7 @@ class Storage(_Held):
     def __init__(self, init=(), capacity=4096):
         super().__init__()
         state = _json(list(init))
-        _expect(_lib.asm_open(state, len(state), capacity, self._slot))
+        _expect(_lib.asm_open(state, len(state), _unsigned(capacity), self._slot))
 
     def agent(self, number):
         """An agent with this number, below 256."""
@@ -216,14 +260,16 @@ class Storage(_Held):
 
     def give(self, agent):
         """Takes an agent back."""
-        _expect(_lib.asm_give(self._slot, agent._slot))
+        with self._lock, agent._lock:
+            _expect(_lib.asm_give(self._slot, agent._slot))
 
     def close_journal(self):
         """The journal, as bytes, of the agents that were given back. `Missing` where one is missing."""
         missing = ctypes.c_uint32()
-        code = _lib.asm_close(self._slot, missing)
-        _expect(code, Missing if code == MISSING else Error, (missing.value,))
-        code, journal = _text(_lib.asm_journal, self._slot)
+        with self._lock:
+            code = _lib.asm_close(self._slot, missing)
+            _expect(code, Missing if code == MISSING else Error, (missing.value,))
+            code, journal = _text(_lib.asm_journal, self._slot)
         _expect(code)
         return journal
 

@@ -1,10 +1,42 @@
 """Tests of the Python module: python3 test.py"""
+import pickle
+import threading
 import unittest
+from unittest import mock
 
 import folugben
-from folugben import BadJournal, Clash, Error, Full, Missing, Stale, Storage, check, replay
+from folugben import BadJournal, Busy, Clash, Error, Full, Missing, Stale, Storage, check, replay
 
 COUNT = [["count"]]
+
+
+def in_threads(work, count):
+    """Calls work with 0, 1 .. at once, each in a thread of its own; the errors, and whether all threads ended."""
+    start, errors = threading.Barrier(count), []
+
+    def run(own):
+        start.wait()
+        try:
+            work(own)
+        except Exception as error:
+            errors.append(error)
+
+    threads = [threading.Thread(target=run, args=(own,), daemon=True) for own in range(count)]
+    for thread in threads:
+        thread.start()
+    for thread in threads:
+        thread.join(60)
+    return errors, not any(thread.is_alive() for thread in threads)
+
+
+def add_one(agent):
+    """Adds 1 to the count, however often another agent is quicker."""
+    while True:
+        number, (count,) = agent.read(COUNT)
+        try:
+            return agent.fire([["put", ["count"], count + 1]], [[["count"], number]])
+        except (Stale, Busy):
+            pass
 
 
 class Agents(unittest.TestCase):
@@ -51,6 +83,7 @@ class Agents(unittest.TestCase):
         with self.assertRaises(Missing) as caught:
             self.storage.close_journal()
         self.assertEqual(caught.exception.numbers, (1,))
+        self.assertEqual(str(caught.exception), folugben.error_text(folugben.MISSING) + " (move 1)")
         first.give()
         journal = self.storage.close_journal()
         self.assertEqual(check(journal), (2, 1))
@@ -67,6 +100,36 @@ class Agents(unittest.TestCase):
         self.assertEqual(agent.read(COUNT), (1, ["x" * 5000]))
         agent.give()
         self.assertEqual(replay(self.storage.close_journal()), [[["count"], "x" * 5000]])
+
+    def test_threads_that_make_and_give_agents_of_one_storage(self):
+        def work(own):
+            for turn in range(30):
+                with storage.agent(8 * turn + own) as agent:
+                    add_one(agent)
+
+        # Calls that nothing keeps apart meet only by chance, so the threads play several times.
+        for _ in range(8):
+            with Storage([[["count"], 0]], 240) as storage:
+                self.assertEqual(in_threads(work, 8), ([], True))
+                journal = storage.close_journal()
+            self.assertEqual(check(journal)[1], 240)
+            self.assertEqual(replay(journal), [[["count"], 240]])
+
+    def test_agents_that_learn_of_each_other_at_once(self):
+        agents = [self.storage.agent(0), self.storage.agent(1)]
+
+        def work(own):
+            for _ in range(2000):
+                agents[own].learn(agents[1 - own])
+
+        self.assertEqual(in_threads(work, 2), ([], True))
+
+    def test_numbers_that_have_no_32_bits(self):
+        for number in (2**32, 2**32 + 1, 2**64 + 1, -1):
+            self.assertEqual(self.code_of(self.storage.agent, number), folugben.RANGE)
+            self.assertEqual(self.code_of(Storage, (), number), folugben.RANGE)
+        self.assertRaises(TypeError, self.storage.agent, 0.5)
+        self.assertEqual(folugben.error_text(2**32), folugben.error_text(21))
 
     def test_codes(self):
         agent, other = self.storage.agent(0), Storage()
@@ -88,23 +151,38 @@ class Agents(unittest.TestCase):
         with self.storage.agent(0) as agent:
             agent.fire([])
         journal = self.storage.close_journal()
-        for text, code in [
-            (b"", folugben.CUT),
-            (b"{\n", folugben.NOT_JSON),
-            (b"{}\n", folugben.SHAPE),
-            (journal[:-1], folugben.CUT),
-            (journal.replace(b'"version":2', b'"version":3'), folugben.VERSION),
-            (journal.replace(b'"fired":1', b'"fired":2'), folugben.ILLEGAL),
+        for text, code, numbers, behind in [
+            (b"", folugben.CUT, (), ""),
+            (b"{\n", folugben.NOT_JSON, (1,), " (line 1)"),
+            (b"{}\n", folugben.SHAPE, (1,), " (line 1)"),
+            (journal + b"7\n", folugben.SHAPE, (3,), " (line 3)"),
+            (journal[:-1], folugben.CUT, (), ""),
+            (journal.replace(b'"version":2', b'"version":3'), folugben.VERSION, (), ""),
+            (journal.replace(b'"fired":1', b'"fired":2'), folugben.ILLEGAL, (0,), " (call 0, counted from 0)"),
         ]:
             with self.assertRaises(BadJournal) as caught:
                 check(text)
-            self.assertEqual(caught.exception.code, code, text)
+            error = caught.exception
+            self.assertEqual((error.code, error.numbers), (code, numbers), text)
+            self.assertEqual(str(error), folugben.error_text(code) + behind)
+
+    def test_an_error_is_told_in_words(self):
+        busy = Busy(folugben.BUSY, (3, 67))
+        told = "64 offers were lost (the agent had seen 3 moves at the start of the call and 67 at its end)"
+        self.assertEqual(str(busy), told)
+        self.assertEqual(str(pickle.loads(pickle.dumps(busy))), told)
+        self.assertEqual(str(Error(folugben.NOT_JSON)), "not JSON")
 
     def test_texts_of_codes(self):
         texts = [folugben.error_text(code) for code in range(22)]
         self.assertEqual(len(set(texts)), 22)
         self.assertEqual(folugben.error_text(-1), texts[21])
         self.assertEqual(folugben.version(), 1000)
+
+    def test_a_library_of_another_version_is_refused(self):
+        with mock.patch.object(folugben, "WRITTEN_FOR", 2000), self.assertRaises(ImportError) as caught:
+            folugben._load()
+        self.assertIn("has version 1000, and this module was written for 2000", str(caught.exception))
 
 
 if __name__ == "__main__":

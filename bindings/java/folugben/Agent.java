@@ -4,7 +4,8 @@ import com.sun.jna.Memory;
 
 /**
  * An agent of a storage, which reads locations and fires moves. Texts are JSON in the forms of
- * docs/FORMATS.md. Its calls may be made by any thread, one after the other.
+ * docs/FORMATS.md. Any thread may call it. Nothing is released by the garbage collector; call
+ * close().
  */
 public final class Agent implements AutoCloseable {
     final Memory slot = Calls.slot();
@@ -22,7 +23,7 @@ public final class Agent implements AutoCloseable {
         }
 
         /** Whether a named location was written since it was read, or 64 offers were lost. */
-        public boolean isToTryAgain() {
+        public boolean shouldRetry() {
             return code == FolugbenException.STALE || code == FolugbenException.BUSY;
         }
     }
@@ -93,7 +94,10 @@ public final class Agent implements AutoCloseable {
         storage.give(this);
     }
 
-    /** Lets go of it; its calls are lost unless it was given back. */
+    /**
+     * Releases the agent <b>without</b> giving it back: call {@link #give} first, or {@link
+     * Storage#closeJournal} throws MISSING if another agent saw a move it fired.
+     */
     @Override
     public synchronized void close() {
         Calls.asm_free(slot);

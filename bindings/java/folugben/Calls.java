@@ -8,8 +8,12 @@ import java.nio.charset.StandardCharsets;
 
 /** The calls of include/folugben.h. A slot is 16 bytes of memory, and a size_t a long. */
 final class Calls {
+    /** The version of the library that these classes were written for. */
+    static final int WRITTEN_FOR = 1000;
+
     static {
         Native.register(Calls.class, System.getProperty("folugben.library", "folugben"));
+        expectVersion(asm_version());
     }
 
     private Calls() {}
@@ -48,6 +52,12 @@ final class Calls {
 
     static native int asm_replay(
             byte[] journal, long len, byte[] out, long room, long[] written, long[] line);
+
+    static void expectVersion(int version) {
+        if (version != WRITTEN_FOR)
+            throw new UnsatisfiedLinkError("libfolugben has version " + version
+                    + ", and these classes were written for " + WRITTEN_FOR);
+    }
 
     /** An empty slot. */
     static Memory slot() {

@@ -32,7 +32,7 @@ public final class Example {
             Agent.Reply reply = agent.fire("[[\"put\",[\"count\"]," + (count + 1)
                             + "],[\"put\",[\"own\"," + own + "]," + (done + 1) + "]]",
                     "[[[\"count\"]," + read.group(1) + "]]");
-            if (reply.isToTryAgain())
+            if (reply.shouldRetry())
                 continue;
             require(reply.isFired() && reply.move() == count + 1,
                     "the move after those that were read");

@@ -29,8 +29,8 @@ public final class FolugbenException extends RuntimeException {
     private final int code;
     private final long number;
 
-    private FolugbenException(int code, long number) {
-        super(errorText(code) + (number == 0 ? "" : " (" + number + ")"));
+    private FolugbenException(int code, long number, boolean hasNumber) {
+        super(errorText(code) + (hasNumber ? " (" + numberName(code) + " " + number + ")" : ""));
         this.code = code;
         this.number = number;
     }
@@ -40,9 +40,27 @@ public final class FolugbenException extends RuntimeException {
         return code;
     }
 
-    /** The missing move, the first call that isn't legal, or the line at fault; else 0. */
+    /**
+     * The missing move, the first call that isn't legal, counted from 0, or the line at fault; else
+     * 0.
+     */
     public long number() {
         return number;
+    }
+
+    /** What the number of a code counts; null where a code has none. */
+    private static String numberName(int code) {
+        switch (code) {
+            case MISSING:
+                return "move";
+            case ILLEGAL:
+                return "call";
+            case NOT_JSON:
+            case SHAPE:
+                return "line";
+            default:
+                return null;
+        }
     }
 
     /** What a code means, in a line. */
@@ -56,7 +74,8 @@ public final class FolugbenException extends RuntimeException {
     static void expect(int code, long... numbers) {
         if (code == MEMORY)
             throw new OutOfMemoryError(errorText(code));
+        boolean hasNumber = numbers.length > 0 && numberName(code) != null;
         if (code != DONE)
-            throw new FolugbenException(code, numbers.length == 0 ? 0 : numbers[0]);
+            throw new FolugbenException(code, hasNumber ? numbers[0] : 0, hasNumber);
     }
 }

@@ -4,7 +4,9 @@ import com.sun.jna.Memory;
 
 /**
  * A storage of which agents read and fire in threads. Texts are JSON in the forms of
- * docs/FORMATS.md.
+ * docs/FORMATS.md. Any thread may call it. Nothing is released by the garbage collector; call
+ * close(). Of the header's calls only asm_agents has no method here: call agent(number) for each
+ * number.
  */
 public final class Storage implements AutoCloseable {
     private final Memory slot = Calls.slot();
@@ -37,7 +39,7 @@ public final class Storage implements AutoCloseable {
                 (out, room, written) -> Calls.asm_journal(slot, out, room, written), new long[1]);
     }
 
-    /** Lets go of it. Its agents go on, and can't be given back any more. */
+    /** Releases it. Its agents go on, and can't be given back any more. */
     @Override
     public synchronized void close() {
         Calls.asm_free(slot);

@@ -9,14 +9,21 @@ public final class Test {
             throw new IllegalStateException("told " + told + ", wanted " + wanted);
     }
 
-    static void refused(int code, Runnable call) {
+    static FolugbenException refused(int code, Runnable call) {
         try {
             call.run();
         } catch (FolugbenException error) {
             equal(error.code(), code);
-            return;
+            return error;
         }
         throw new IllegalStateException("not refused: code " + code);
+    }
+
+    /** The call is refused with this number, which the message tells too, as what it counts. */
+    static void refusedAt(int code, long number, String told, Runnable call) {
+        FolugbenException error = refused(code, call);
+        equal(error.number(), number);
+        equal(error.getMessage(), FolugbenException.errorText(code) + told);
     }
 
     static void answers() {
@@ -27,7 +34,7 @@ public final class Test {
                     new Agent.Reply(0, 1, 0, 0));
             equal(first.answer(), "{\"fired\":1}");
             Agent.Reply stale = second.fire("[[\"put\",[\"count\"],9]]", "[[[\"count\"],0]]");
-            equal(stale.isToTryAgain(), true);
+            equal(stale.shouldRetry(), true);
             equal(second.answer(), "{\"stale\":[\"count\"]}");
             equal(second.fire("[[\"put\",[\"x\"],1],[\"put\",[\"x\"],2]]", "[]").code(),
                     FolugbenException.CLASH);
@@ -60,14 +67,41 @@ public final class Test {
         refused(FolugbenException.NUMBER, () -> storage.agent(0).give());
         String journal = storage.closeJournal();
         equal(Storage.check(journal), new Storage.Checked(1, 1));
-        refused(FolugbenException.CUT,
+        refusedAt(FolugbenException.CUT, 0, "",
                 () -> Storage.check(journal.substring(0, journal.length() - 1)));
-        refused(FolugbenException.ILLEGAL,
+        refusedAt(FolugbenException.ILLEGAL, 0, " (call 0)",
                 () -> Storage.check(journal.replace("\"fired\":1", "\"fired\":2")));
+        refusedAt(FolugbenException.SHAPE, 3, " (line 3)", () -> Storage.check(journal + "7\n"));
+        refusedAt(FolugbenException.NOT_JSON, 1, " (line 1)", () -> Storage.replay("{\n"));
+        refusedAt(FolugbenException.NOT_JSON, 0, "", () -> new Storage("[", 1));
         storage.close();
         refused(FolugbenException.EMPTY, () -> storage.agent(1));
         other.close();
         stranger.close();
+    }
+
+    /** The moves of an agent that is closed without being given back have no receipts. */
+    static void closedAgents() {
+        try (Storage storage = new Storage("[]", 8); Agent reader = storage.agent(1)) {
+            try (Agent lost = storage.agent(0)) {
+                lost.fire("[]", "[]");
+            }
+            reader.read("[]");
+            reader.give();
+            refusedAt(FolugbenException.MISSING, 1, " (move 1)", storage::closeJournal);
+        }
+    }
+
+    static void versions() {
+        Calls.expectVersion(Storage.version());
+        try {
+            Calls.expectVersion(Calls.WRITTEN_FOR + 1);
+        } catch (UnsatisfiedLinkError error) {
+            equal(error.getMessage(),
+                    "libfolugben has version 1001, and these classes were written for 1000");
+            return;
+        }
+        throw new IllegalStateException("a library of another version is taken");
     }
 
     static void longTexts() {
@@ -85,6 +119,10 @@ public final class Test {
         System.out.println("answers");
         codes();
         System.out.println("codes");
+        closedAgents();
+        System.out.println("closed agents");
+        versions();
+        System.out.println("versions");
         longTexts();
         System.out.println("long texts");
         Example.play();
