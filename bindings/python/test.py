@@ -102,18 +102,23 @@ class Agents(unittest.TestCase):
         self.assertEqual(replay(self.storage.close_journal()), [[["count"], "x" * 5000]])
 
     def test_threads_that_make_and_give_agents_of_one_storage(self):
-        def work(own):
-            for turn in range(30):
-                with storage.agent(8 * turn + own) as agent:
-                    add_one(agent)
+        # A large state makes the calls that close long, so that others begin meanwhile.
+        state = [[["count"], 0]] + [[["own", k], k] for k in range(2000)]
 
-        # Calls that nothing keeps apart meet only by chance, so the threads play several times.
-        for _ in range(8):
-            with Storage([[["count"], 0]], 240) as storage:
-                self.assertEqual(in_threads(work, 8), ([], True))
-                journal = storage.close_journal()
-            self.assertEqual(check(journal)[1], 240)
-            self.assertEqual(replay(journal), [[["count"], 240]])
+        def work(own):
+            for turn in range(own, 240, 8):
+                with storage.agent(turn) as agent:
+                    add_one(agent)
+                try:
+                    storage.close_journal()
+                except Missing:
+                    pass
+
+        with Storage(state, 240) as storage:
+            self.assertEqual(in_threads(work, 8), ([], True))
+            journal = storage.close_journal()
+        self.assertEqual(check(journal)[1], 240)
+        self.assertEqual(replay(journal), [[["count"], 240]] + state[1:])
 
     def test_agents_that_learn_of_each_other_at_once(self):
         agents = [self.storage.agent(0), self.storage.agent(1)]
