@@ -166,7 +166,8 @@ impl Clone for Location {
     }
 }
 
-/// The name alone where there are no arguments, as `counter`; else with the arguments behind it, as `at[Num(1)]`.
+/// The name alone where there are no arguments, as `counter`; else with the arguments behind it in their `Debug`
+/// form, as `at[Num(1)]`. That form isn't promised: it is for a reader of messages, and may change.
 impl fmt::Display for Location {
     fn fmt<W: fmt::Write>(&self, f: &mut fmt::Formatter<W>) -> fmt::Result {
         f.write_str(self.name())?;
