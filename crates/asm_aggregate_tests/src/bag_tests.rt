@@ -2,7 +2,7 @@ use crate::compose_tests::compose_of;
 use crate::shorthand::Act::{BagAdd, BagRemove};
 use crate::shorthand::Old::{Bag, Counts};
 use crate::shorthand::{do_at, location, value_of};
-use crate::tests::{Row, aggregate_on, judge_all};
+use crate::tests::{Row, judge_all};
 use asm_aggregate::standard;
 use asm_update::{Instructions, PlainState, UpdateSet};
 use std::alloc::Global;
@@ -41,7 +41,7 @@ fn other_counts_stay(rt: HostRuntime) -> Result<(), Fail> {
 }
 
 /// Additions of one e each, by turns at c and at b.
-fn additions_by_turns(alloc: Global, count: u32) -> Result<Instructions, Fail> {
+pub(crate) fn additions_by_turns(alloc: Global, count: u32) -> Result<Instructions, Fail> {
     let mut list = Instructions::new(alloc);
     for n in 0..count {
         let name = if n % 2 == 0 { "c" } else { "b" };
@@ -58,7 +58,7 @@ fn set_bag(alloc: Global, state: &mut PlainState, name: &str) -> Result<(), Fail
 }
 
 /// A state in which b and c are empty bags.
-fn two_empty_bags(alloc: Global) -> Result<PlainState, Fail> {
+pub(crate) fn two_empty_bags(alloc: Global) -> Result<PlainState, Fail> {
     let mut state = PlainState::new(alloc);
     for name in ["b", "c"] {
         set_bag(alloc, &mut state, name)?;
@@ -74,26 +74,12 @@ fn put_count(alloc: Global, updates: &mut UpdateSet, name: &str, count: u32) -> 
 }
 
 /// Updates by which b and c are bags with this count of e.
-fn counts_at_both(alloc: Global, count: u32) -> Result<UpdateSet, Fail> {
+pub(crate) fn counts_at_both(alloc: Global, count: u32) -> Result<UpdateSet, Fail> {
     let mut updates = UpdateSet::new(alloc);
     for name in ["b", "c"] {
         put_count(alloc, &mut updates, name, count)?;
     }
     Ok(updates)
-}
-
-fn updates_by_turns(alloc: Global, count: u32) -> Result<UpdateSet, Fail> {
-    let list = additions_by_turns(alloc, count)?;
-    let state = two_empty_bags(alloc)?;
-    Ok(aggregate_on(alloc, &standard(), state, list)?)
-}
-
-#[test]
-fn many_additions_to_two_bags_are_counted(rt: HostRuntime) -> Result<(), Fail> {
-    let updates = updates_by_turns(rt.alloc(), 4096)?;
-    let wanted = counts_at_both(rt.alloc(), 2048)?;
-    assert!(rt; updates == wanted);
-    Ok(())
 }
 
 /// One addition of so many e at b, and one at c.

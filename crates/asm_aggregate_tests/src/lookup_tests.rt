@@ -1,8 +1,11 @@
 ghost use Rattle.asm_update.specs.State.{val};
 
-use crate::shorthand::location;
+use crate::bag_tests::{additions_by_turns, counts_at_both, two_empty_bags};
+use crate::shorthand::Act::BagAdd;
+use crate::shorthand::Old::Num;
+use crate::shorthand::{do_at, put_at};
 use asm_aggregate::{ComposeError, admit, aggregate, compose, standard};
-use asm_element::{ElemSet, Element, Location, Value};
+use asm_element::{Element, Location, Value};
 use asm_update::{Action, AggError, Instruction, Instructions, Lookup, PlainState, UpdateSet};
 use std::alloc::{AllocError, Global};
 use std::cell::Cell;
@@ -37,30 +40,11 @@ fn numbered(alloc: Global, n: i64) -> Result<Location, Fail> {
     Ok(Location::new(String::from_str(alloc, "x")?, args)?)
 }
 
-fn set_empty(alloc: Global, state: &mut PlainState, name: &str) -> Result<(), Fail> {
-    let at = location(alloc, name)?;
-    state.set(at, Value::Set(ElemSet::new(alloc)))?;
-    Ok(())
-}
-
-/// A look-up in which b and c are empty sets, and which was asked for nothing.
-fn two_empty_sets(alloc: Global) -> Result<Noting, Fail> {
-    let mut state = PlainState::new(alloc);
-    set_empty(alloc, &mut state, "b")?;
-    set_empty(alloc, &mut state, "c")?;
+/// A look-up in which b and c are empty bags, and which was asked for nothing.
+fn noting_two_bags(alloc: Global) -> Result<Noting, Fail> {
+    let state = two_empty_bags(alloc)?;
     let asked = Cell::new(0);
     Ok(Noting { state, asked })
-}
-
-/// Additions of 4,096 numbers, by turns at c and at b.
-fn additions_by_turns(alloc: Global) -> Result<Instructions, Fail> {
-    let mut list = Instructions::new(alloc);
-    for n in 0i64..4096 {
-        let at = location(alloc, if n % 2 == 0 { "c" } else { "b" })?;
-        let action = Action::SetAdd(Element::Num(n));
-        list.push(Instruction { at, action })?;
-    }
-    Ok(list)
 }
 
 /// What the move gives on the look-up, and what that was asked for.
@@ -75,27 +59,15 @@ fn aggregate_on(
     }
 }
 
-fn size_at(updates: &UpdateSet, at: &Location) -> usize {
-    match updates.get(at) {
-        Some(Value::Set(set)) => set.len(),
-        _ => 0,
-    }
-}
-
-fn size_by_name(alloc: Global, updates: &UpdateSet, name: &str) -> Result<usize, Fail> {
-    let at = location(alloc, name)?;
-    Ok(size_at(updates, &at))
-}
-
 #[test]
 fn each_location_is_looked_up_once_in_ascending_order(rt: HostRuntime) -> Result<(), Fail> {
     let alloc = rt.alloc();
-    let lookup = two_empty_sets(alloc)?;
-    let list = additions_by_turns(alloc)?;
+    let lookup = noting_two_bags(alloc)?;
+    let list = additions_by_turns(alloc, 4096)?;
     let (asked, updates) = aggregate_on(alloc, lookup, list)?;
     assert_eq!(rt; asked, 12);
-    assert_eq!(rt; size_by_name(alloc, &updates, "b")?, 2048);
-    assert_eq!(rt; size_by_name(alloc, &updates, "c")?, 2048);
+    let wanted = counts_at_both(alloc, 2048)?;
+    assert!(rt; updates == wanted);
     Ok(())
 }
 
@@ -126,7 +98,7 @@ fn ascends(updates: &UpdateSet) -> bool {
 #[test]
 fn puts_are_not_looked_up(rt: HostRuntime) -> Result<(), Fail> {
     let alloc = rt.alloc();
-    let lookup = two_empty_sets(alloc)?;
+    let lookup = noting_two_bags(alloc)?;
     let list = puts_downwards(alloc)?;
     let (asked, updates) = aggregate_on(alloc, lookup, list)?;
     assert_eq!(rt; asked, 0);
@@ -148,11 +120,11 @@ fn admit_on(alloc: Global, lookup: Noting, list: Instructions) -> Result<(u64, b
 #[test]
 fn an_admission_looks_up_what_an_aggregation_does(rt: HostRuntime) -> Result<(), Fail> {
     let alloc = rt.alloc();
-    let lookup = two_empty_sets(alloc)?;
-    let (asked, admitted) = admit_on(alloc, lookup, additions_by_turns(alloc)?)?;
+    let lookup = noting_two_bags(alloc)?;
+    let (asked, admitted) = admit_on(alloc, lookup, additions_by_turns(alloc, 4096)?)?;
     assert_eq!(rt; asked, 12);
     assert!(rt; admitted);
-    let lookup = two_empty_sets(alloc)?;
+    let lookup = noting_two_bags(alloc)?;
     let (asked, admitted) = admit_on(alloc, lookup, puts_downwards(alloc)?)?;
     assert_eq!(rt; asked, 0);
     assert!(rt; admitted);
@@ -162,24 +134,35 @@ fn an_admission_looks_up_what_an_aggregation_does(rt: HostRuntime) -> Result<(),
 /// An addition at c, then two values at b.
 fn a_clash_below_an_addition(alloc: Global) -> Result<Instructions, Fail> {
     let mut list = Instructions::new(alloc);
-    let at = location(alloc, "c")?;
-    let action = Action::SetAdd(Element::Num(1));
-    list.push(Instruction { at, action })?;
-    for n in 0i64..2 {
-        let at = location(alloc, "b")?;
-        let action = Action::Regular(Value::Plain(Element::Num(n)));
-        list.push(Instruction { at, action })?;
-    }
+    do_at(alloc, &mut list, "c", BagAdd("e", 1))?;
+    put_at(alloc, &mut list, "b", Num(0))?;
+    put_at(alloc, &mut list, "b", Num(1))?;
     Ok(list)
+}
+
+/// What the look-up was asked for until the move was found to clash, and no number where it doesn't.
+fn asked_before_clash(
+    alloc: Global,
+    lookup: Noting,
+    list: Instructions,
+) -> Result<Option<u64>, AllocError> {
+    match aggregate(alloc, &standard(), &lookup, &list) {
+        Ok(_updates) => Ok(None),
+        Err(AggError::Clash(_clash)) => Ok(Some(lookup.asked.get())),
+        Err(AggError::Memory) => Err(AllocError),
+    }
 }
 
 #[test]
 fn nothing_is_looked_up_above_a_clash(rt: HostRuntime) -> Result<(), Fail> {
     let alloc = rt.alloc();
-    let lookup = two_empty_sets(alloc)?;
+    let lookup = noting_two_bags(alloc)?;
     let (asked, admitted) = admit_on(alloc, lookup, a_clash_below_an_addition(alloc)?)?;
     assert_eq!(rt; asked, 0);
     assert!(rt; !admitted);
+    let lookup = noting_two_bags(alloc)?;
+    let asked = asked_before_clash(alloc, lookup, a_clash_below_an_addition(alloc)?)?;
+    assert_eq!(rt; asked, Some(0));
     Ok(())
 }
 
