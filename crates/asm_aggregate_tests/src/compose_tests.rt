@@ -1,6 +1,6 @@
 use crate::shorthand::Act::{self, Add, BagAdd, BagRemove, Remove};
 use crate::shorthand::Old::{self, Bag, Num, Set};
-use crate::shorthand::{do_at, location, put_at, state_with};
+use crate::shorthand::{do_at, put_at, state_with};
 use crate::tests::{is_clash, is_wanted, pairs};
 use asm_aggregate::{ComposeError, SetAgg, aggregate, compose, standard};
 use asm_update::{Aggregator, Cause, Instructions};
@@ -20,6 +20,8 @@ pub(crate) enum Line {
 pub(crate) enum NoComposition {
     Clashes(&'static str, Cause),
     Large(&'static str),
+    Many,
+    OutOfMemory,
 }
 
 use Line::{Do, Put};
@@ -105,7 +107,7 @@ pub(crate) fn compose_all<R: Abort, A: Aggregator>(
     Ok(())
 }
 
-static PUTS: [Row; 3] = [
+static PUTS: [Row; 5] = [
     Row(
         &[Put("x", Num(1))],
         &[Put("x", Num(2))],
@@ -121,6 +123,16 @@ static PUTS: [Row; 3] = [
         &[Do("s", Add(3))],
         Ok(&[Put("s", Set(&[1, 3]))]),
     ),
+    Row(
+        &[Put("x", Num(1)), Put("x", Num(2))],
+        &[],
+        Err(Clashes("x", Cause::Two)),
+    ),
+    Row(
+        &[Put("x", Num(1))],
+        &[Put("x", Num(2)), Put("x", Num(3))],
+        Err(Clashes("x", Cause::Two)),
+    ),
 ];
 
 #[test]
@@ -128,7 +140,7 @@ fn values_that_are_put(rt: HostRuntime) -> Result<(), Fail> {
     compose_all(&rt, rt.alloc(), &standard(), &PUTS)
 }
 
-static PUTS_OVER_PARTIALS: [Row; 3] = [
+static PUTS_OVER_PARTIALS: [Row; 5] = [
     Row(
         &[Do("s", Add(1))],
         &[Put("s", Num(5))],
@@ -143,6 +155,16 @@ static PUTS_OVER_PARTIALS: [Row; 3] = [
         &[Put("s", Num(1))],
         &[Do("s", Add(1))],
         Err(Clashes("s", Cause::Kind)),
+    ),
+    Row(
+        &[Do("s", Add(1))],
+        &[Put("s", Set(&[1, 2])), Do("s", Add(2))],
+        Ok(&[Put("s", Set(&[1, 2]))]),
+    ),
+    Row(
+        &[],
+        &[Put("s", Set(&[1])), Do("s", Add(2))],
+        Err(Clashes("s", Cause::Against)),
     ),
 ];
 
@@ -222,6 +244,25 @@ static AMOUNTS: [Row; 3] = [
 #[test]
 fn amounts_that_cancel_or_are_too_large(rt: HostRuntime) -> Result<(), Fail> {
     compose_all(&rt, rt.alloc(), &standard(), &AMOUNTS)
+}
+
+/// More of an element than one amount can be, which no bag takes.
+const OVER: &[Line] = &[Do("b", BagAdd("e", u32::MAX)), Do("b", BagAdd("e", 1))];
+
+static TOO_LARGE_ALONE: [Row; 4] = [
+    Row(OVER, &[], Err(Large("b"))),
+    Row(&[], OVER, Err(Large("b"))),
+    Row(OVER, &[Put("b", Num(5))], Ok(&[Put("b", Num(5))])),
+    Row(
+        OVER,
+        &[Do("b", BagRemove("e", 1))],
+        Ok(&[Do("b", BagAdd("e", u32::MAX))]),
+    ),
+];
+
+#[test]
+fn an_amount_that_is_too_large_alone_counts_in_the_join(rt: HostRuntime) -> Result<(), Fail> {
+    compose_all(&rt, rt.alloc(), &standard(), &TOO_LARGE_ALONE)
 }
 
 /// Whether the move gives this at x where that stands there.
@@ -309,16 +350,4 @@ static BY_PAIRS: [Row; 2] = [
 fn any_aggregator_composes(rt: HostRuntime) -> Result<(), Fail> {
     compose_all(&rt, rt.alloc(), &SetAgg, &BY_SETS)?;
     compose_all(&rt, rt.alloc(), &pairs(), &BY_PAIRS)
-}
-
-#[test]
-fn errors_have_their_texts(rt: HostRuntime) -> Result<(), Fail> {
-    let alloc = rt.alloc();
-    let large = ComposeError::Large(location(alloc, "b")?).to_string(alloc)?;
-    assert!(rt; large.as_str() == "a composed amount or sum is too large");
-    let many = ComposeError::ManyInstructions.to_string(alloc)?;
-    assert!(rt; many.as_str() == "more than 4,096 instructions");
-    let memory = ComposeError::Memory.to_string(alloc)?;
-    assert!(rt; memory.as_str() == "out of memory");
-    Ok(())
 }

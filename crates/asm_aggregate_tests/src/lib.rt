@@ -12,6 +12,8 @@ mod compose_tests;
 #[cfg(test)]
 mod count_tests;
 #[cfg(test)]
+mod error_tests;
+#[cfg(test)]
 mod example;
 #[cfg(test)]
 mod join_tests;
