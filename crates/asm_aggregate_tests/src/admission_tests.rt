@@ -1,10 +1,10 @@
-//! What `admit` and `change` answer beside `aggregate` and `result`.
+//! What `admit` and `change` answer beside `aggregate` and `result`, and how a group changes a state.
 use crate::shorthand::Act::{Add, BagAdd, BagRemove, Inc, Remove};
-use crate::shorthand::Old::{Bag, Num, Set, Undef};
-use crate::shorthand::{move_of, state_with, value_of};
+use crate::shorthand::Old::{self, Bag, Num, Set, Undef};
+use crate::shorthand::{location, move_of, state_with, value_of};
 use crate::tests::{Row, group_in, is_clash, is_value, judge_all};
 use asm_aggregate::{admit, standard};
-use asm_element::Value;
+use asm_element::{Location, Value};
 use asm_update::{AggError, Aggregator, Cause, Group, Instructions, PlainState, ResultError};
 use std::alloc::{AllocError, Global};
 use std::test::Fail;
@@ -43,8 +43,27 @@ fn changed_by<A: Aggregator>(
     (value, answer)
 }
 
-/// Whether a change by the row's group leaves the row's value, or for the row's cause the old value. Also
-/// where memory was refused the old value has to be left.
+/// Whether the answer goes with what is left: the new value, or for the wanted cause the old one. Also where
+/// memory was refused the old one has to be left.
+fn is_told(
+    answer: Result<(), ResultError>,
+    is_new: bool,
+    is_old: bool,
+    want: Result<Old, Cause>,
+) -> Result<bool, Fail> {
+    match answer {
+        Ok(()) => Ok(is_new),
+        Err(ResultError::Cause(cause)) => Ok(is_old && want.err() == Some(cause)),
+        Err(ResultError::Memory) => {
+            if is_old {
+                return Err(Fail::from(AllocError));
+            }
+            Ok(false)
+        }
+    }
+}
+
+/// Whether a change by the row's group leaves the row's value, or for the row's cause the old value.
 pub(crate) fn changes<A: Aggregator>(
     alloc: Global,
     aggregator: &A,
@@ -55,18 +74,48 @@ pub(crate) fn changes<A: Aggregator>(
         return Ok(false);
     };
     let (left, answer) = changed_by(alloc, aggregator, old, group);
-    match answer {
-        Ok(()) => is_value(alloc, &left, row.3),
-        Err(ResultError::Cause(cause)) => {
-            Ok(row.3.err() == Some(cause) && is_value(alloc, &left, Ok(row.0))?)
-        }
-        Err(ResultError::Memory) => {
-            if is_value(alloc, &left, Ok(row.0))? {
-                return Err(Fail::from(AllocError));
-            }
-            Ok(false)
-        }
+    let is_new = is_value(alloc, &left, row.3)?;
+    let is_old = is_value(alloc, &left, Ok(row.0))?;
+    is_told(answer, is_new, is_old, row.3)
+}
+
+/// What a change at the location by the group leaves of the state, with its answer.
+fn state_changed_by<A: Aggregator>(
+    alloc: Global,
+    aggregator: &A,
+    old: PlainState,
+    at: Location,
+    group: Group,
+) -> (PlainState, Result<(), ResultError>) {
+    let mut state = old;
+    let answer = state.change(alloc, aggregator, &at, &group);
+    (state, answer)
+}
+
+/// Whether the state has the wanted value at x, and nothing else.
+fn is_state(alloc: Global, state: &PlainState, want: Result<Old, Cause>) -> Result<bool, Fail> {
+    match want {
+        Ok(value) => Ok(*state == state_with(alloc, value)?),
+        Err(_) => Ok(false),
     }
+}
+
+/// Whether a change by the row's group of a state with the old value at x leaves the row's value there, or for
+/// the row's cause the old state.
+pub(crate) fn changes_a_state<A: Aggregator>(
+    alloc: Global,
+    aggregator: &A,
+    row: Row,
+) -> Result<bool, Fail> {
+    let at = location(alloc, "x")?;
+    let old = state_with(alloc, row.0)?;
+    let Some(group) = group_in(alloc, row)? else {
+        return Ok(false);
+    };
+    let (left, answer) = state_changed_by(alloc, aggregator, old, at, group);
+    let is_new = is_state(alloc, &left, row.3)?;
+    let is_old = is_state(alloc, &left, Ok(row.0))?;
+    is_told(answer, is_new, is_old, row.3)
 }
 
 static GROWN: [Row; 8] = [
@@ -124,7 +173,8 @@ static REFUSED: [Row; 6] = [
     Row(Set(&[1]), &[], &[Add(2), BagAdd("e", 1)], Err(Cause::Mixed)),
 ];
 
-static BESIDE_A_VALUE: [Row; 4] = [
+static BESIDE_A_VALUE: [Row; 5] = [
+    Row(Undef, &[Set(&[1, 2])], &[Add(1)], Ok(Set(&[1, 2]))),
     Row(
         Set(&[9]),
         &[Set(&[1, 2])],

@@ -90,7 +90,7 @@ static JOINTS: [Joint; 8] = [
     Joint(&[Inc(0)], &[Inc(0)], Ok(&[])),
 ];
 
-static SPLIT: [Joint; 8] = [
+static SPLIT: [Joint; 9] = [
     Joint(&[Inc(MAX)], &[Inc(1)], Ok(&[Inc(MAX), Inc(1)])),
     Joint(&[Inc(MAX)], &[Inc(MAX)], Ok(&[Inc(MAX), Inc(MAX)])),
     Joint(
@@ -99,6 +99,7 @@ static SPLIT: [Joint; 8] = [
         Ok(&[Inc(MAX), Inc(MAX), Inc(1)]),
     ),
     Joint(&[Inc(MAX), Inc(MAX)], &[Inc(2)], Err(JoinError::Large)),
+    Joint(&[Inc(MAX), Inc(MAX), Inc(2)], &[], Err(JoinError::Large)),
     Joint(&[Inc(MIN)], &[Inc(0)], Ok(&[Inc(MIN)])),
     Joint(&[Inc(-1)], &[Inc(MIN)], Ok(&[Inc(MIN), Inc(-1)])),
     Joint(
@@ -123,9 +124,15 @@ static REFUSED: [Joint; 3] = [
     ),
 ];
 
+static BESIDE_ANOTHER_FAMILY: [Joint; 2] = [
+    Joint(&[Add(1)], &[Inc(1)], Err(JoinError::Cause(Cause::Mixed))),
+    Joint(&[Inc(1)], &[Add(1)], Err(JoinError::Cause(Cause::Mixed))),
+];
+
 #[test]
 fn joins_of_counters(rt: HostRuntime) -> Result<(), Fail> {
     join_all(&rt, rt.alloc(), &CountAgg, &JOINTS)?;
+    join_all(&rt, rt.alloc(), &CountAgg, &BESIDE_ANOTHER_FAMILY)?;
     join_all(&rt, rt.alloc(), &standard(), &JOINTS)?;
     join_all(&rt, rt.alloc(), &standard(), &SPLIT)?;
     join_all(&rt, rt.alloc(), &standard(), &REFUSED)

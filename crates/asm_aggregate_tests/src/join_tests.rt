@@ -1,4 +1,4 @@
-use crate::shorthand::Act::{self, Add, BagAdd, BagRemove, Remove};
+use crate::shorthand::Act::{self, Add, BagAdd, BagRemove, Inc, Remove};
 use crate::shorthand::actions_of;
 use crate::tests::{are_partial, pairs};
 use asm_aggregate::{BagAgg, SetAgg, standard};
@@ -214,7 +214,30 @@ fn joins_of_sets_with_an_empty_side(rt: HostRuntime) -> Result<(), Fail> {
     join_all(&rt, rt.alloc(), &standard(), &SETS_BESIDE_NOTHING)
 }
 
-static BY_PAIRS: [Joint; 1] = [Joint(&[Add(1)], &[Remove(1)], Ok(&[Remove(1)]))];
+static BESIDE_ANOTHER_FAMILY: [Joint; 2] = [
+    Joint(
+        &[Add(1)],
+        &[BagAdd("e", 1)],
+        Err(JoinError::Cause(Cause::Mixed)),
+    ),
+    Joint(
+        &[BagAdd("e", 1)],
+        &[Add(1)],
+        Err(JoinError::Cause(Cause::Mixed)),
+    ),
+];
+
+#[test]
+fn one_family_alone_is_joined(rt: HostRuntime) -> Result<(), Fail> {
+    join_all(&rt, rt.alloc(), &BagAgg, &BESIDE_ANOTHER_FAMILY)?;
+    join_all(&rt, rt.alloc(), &SetAgg, &BESIDE_ANOTHER_FAMILY)
+}
+
+static BY_PAIRS: [Joint; 3] = [
+    Joint(&[Add(1)], &[Remove(1)], Ok(&[Remove(1)])),
+    Joint(&[Inc(1)], &[], Err(JoinError::Cause(Cause::Mixed))),
+    Joint(&[Add(1)], &[Inc(1)], Err(JoinError::Cause(Cause::Mixed))),
+];
 
 #[test]
 fn joins_by_a_pair_of_pairs(rt: HostRuntime) -> Result<(), Fail> {

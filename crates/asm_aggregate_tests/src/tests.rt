@@ -4,8 +4,8 @@ ghost use Rattle.asm_update.specs.Action.{is_partial};
 ghost use Rattle.asm_aggregate_tests.specs.Nobody.{nobody_meaning};
 ghost use Rattle.asm_aggregate_tests.specs.laws.NobodyLaws.{nobody_laws};
 
-use crate::admission_tests::{admits, changes};
-use crate::shorthand::Act::{Add, BagAdd, BagRemove, Remove};
+use crate::admission_tests::{admits, changes, changes_a_state};
+use crate::shorthand::Act::{Add, BagAdd, BagRemove, Inc, Remove};
 use crate::shorthand::Old::{Bag, Num, Set, Undef};
 use crate::shorthand::{Act, Old, actions_of, move_of, push_at, state_with, updates_of, value_of};
 use asm_aggregate::{BagAgg, Pair, SetAgg, aggregate, standard};
@@ -145,14 +145,19 @@ fn results<A: Aggregator>(alloc: Global, aggregator: &A, row: Row) -> Result<boo
 }
 
 /// Whether the aggregator makes of the row what it tells, by `aggregate` and `admit` and, for a group with partial
-/// updates and at most one put, by `result` and `change`.
+/// updates and at most one put, by `result` and by `change` of a value and of a state.
 fn judges<A: Aggregator>(alloc: Global, aggregator: &A, row: Row) -> Result<bool, Fail> {
     let is_group = row.1.len() <= 1 && !row.2.is_empty();
     let is_told = aggregates(alloc, aggregator, row)? && admits(alloc, aggregator, row)?;
     if !is_group {
         return Ok(is_told);
     }
-    Ok(is_told && results(alloc, aggregator, row)? && changes(alloc, aggregator, row)?)
+    Ok(
+        is_told
+            && results(alloc, aggregator, row)?
+            && changes(alloc, aggregator, row)?
+            && changes_a_state(alloc, aggregator, row)?,
+    )
 }
 
 pub(crate) fn judge_all<R: Abort, A: Aggregator>(
@@ -279,9 +284,10 @@ pub(crate) fn pairs() -> Pair<Pair<Nobody, BagAgg>, Pair<SetAgg, Nobody>> {
     Pair::new(Pair::new(Nobody, BagAgg), Pair::new(SetAgg, Nobody))
 }
 
-static BY_PAIRS: [Row; 2] = [
+static BY_PAIRS: [Row; 3] = [
     Row(Set(&[1]), &[], &[Add(2)], Ok(Set(&[1, 2]))),
     Row(Bag(1, 0), &[], &[BagAdd("e", 1)], Ok(Bag(2, 0))),
+    Row(Num(1), &[], &[Inc(1)], Err(Cause::Mixed)),
 ];
 
 #[test]
