@@ -101,22 +101,22 @@ fn are_alike_at(alloc: Global, one: &State, other: &State, name: &str) -> Result
     Ok(one.get(&at) == other.get(&at) && one.written_at(&at) == other.written_at(&at))
 }
 
-fn are_alike(alloc: Global, one: State, other: State) -> Result<bool, Fail> {
+fn are_alike(alloc: Global, one: &State, other: State) -> Result<bool, Fail> {
     for name in ["s", "b", "n", "q"] {
-        if !are_alike_at(alloc, &one, &other, name)? {
+        if !are_alike_at(alloc, one, &other, name)? {
             return Ok(false);
         }
     }
-    Ok(one.number() == 2 && other.number() == 2)
+    Ok(one.number() == other.number())
 }
 
 fn follows_alike(alloc: Global, name: &str, acts: &[Act]) -> Result<bool, Fail> {
     let one = followed_twice(alloc, move_of(alloc, name, acts)?)?;
     let other = followed_twice(alloc, beside(alloc, name, acts)?)?;
-    are_alike(alloc, one, other)
+    Ok(one.number() == 2 && are_alike(alloc, &one, other)?)
 }
 
-static ROWS: [(&str, &[Act]); 14] = [
+static ROWS: [(&str, &[Act]); 16] = [
     ("s", &[Add(2)]),
     ("s", &[Add(1)]),
     ("s", &[Remove(1)]),
@@ -131,6 +131,8 @@ static ROWS: [(&str, &[Act]); 14] = [
     ("n", &[Add(1)]),
     ("q", &[Add(1)]),
     ("s", &[Add(2), BagAdd(1, 1)]),
+    ("n", &[Inc(1); 4095]),
+    ("b", &[BagAdd(1, 1); 4095]),
 ];
 
 #[test]
@@ -138,6 +140,35 @@ fn a_change_in_place_leaves_what_firing_leaves(rt: HostRuntime) -> Result<(), Fa
     for (k, (name, acts)) in ROWS.iter().enumerate() {
         assert!(rt; follows_alike(rt.alloc(), name, acts)?, "at row {k}");
     }
+    Ok(())
+}
+
+/// Whether a copy is like the state once it has followed the move as well.
+fn is_copied_after(
+    alloc: Global,
+    state: &mut State,
+    name: &str,
+    acts: &[Act],
+) -> Result<bool, Fail> {
+    let instructions = move_of(alloc, name, acts)?;
+    if state.number() == 4_294_967_295 {
+        return Ok(false);
+    }
+    state.follow(alloc, &standard(), &instructions)?;
+    are_alike(alloc, state, state.copy(alloc)?)
+}
+
+#[test]
+fn a_copy_after_each_change_is_like_its_original(rt: HostRuntime) -> Result<(), Fail> {
+    let alloc = rt.alloc();
+    let mut state = opened(alloc)?;
+    for (k, (name, acts)) in ROWS.iter().enumerate() {
+        assert!(rt;
+            is_copied_after(alloc, &mut state, name, acts)?,
+            "at row {k}"
+        );
+    }
+    assert_eq!(rt; state.number(), 16);
     Ok(())
 }
 
