@@ -247,14 +247,25 @@ fn is_all_or_nothing(alloc: Global, state: &State, limit: i64, fired: bool) -> R
     Ok(state.number() == u32::from(fired))
 }
 
+/// Whether a copy of the state has the puts at all locations below the limit, as the state has.
+fn is_copied_whole(alloc: Global, state: &State, limit: i64) -> Result<bool, Fail> {
+    let copy = state.copy(alloc)?;
+    is_all_or_nothing(alloc, &copy, limit, true)
+}
+
 /// After a follow of puts at as many locations, half of which are held: it wrote each, or, where memory was refused,
-/// the number, the values and the writers are as before.
+/// the number, the values and the writers are as before, and a second follow, which has memory, writes each.
 fn follow_writes_all_or_nothing<R: Abort>(rt: &R, alloc: Global, limit: i64) -> Result<(), Fail> {
     let puts = many_puts(alloc, limit)?;
     let mut state = half_held(alloc, limit)?;
     assert!(rt; state.number() == 0);
     let fired = state.follow(alloc, &standard(), &puts).is_ok();
     assert!(rt; is_all_or_nothing(alloc, &state, limit, fired)?);
+    if !fired && state.number() < 4_294_967_295 {
+        state.follow(alloc, &standard(), &puts)?;
+    }
+    assert!(rt; is_all_or_nothing(alloc, &state, limit, true)?);
+    assert!(rt; is_copied_whole(alloc, &state, limit)?);
     Ok(())
 }
 
@@ -266,24 +277,6 @@ fn a_follow_of_16_updates_writes_all_or_nothing(rt: HostRuntime) -> Result<(), F
 #[test]
 fn a_follow_of_4096_updates_writes_all_or_nothing(rt: HostRuntime) -> Result<(), Fail> {
     follow_writes_all_or_nothing(&rt, rt.alloc(), 4096)
-}
-
-/// A verdict that tells that the location of this name is stale.
-fn stale_at(alloc: Global, name: &str) -> Result<Verdict, Fail> {
-    Ok(Verdict::Stale(location(alloc, name)?))
-}
-
-fn are_equal(alloc: Global, one: &str, two: &str) -> Result<bool, Fail> {
-    let one = stale_at(alloc, one)?;
-    let two = stale_at(alloc, two)?;
-    Ok(one == two)
-}
-
-#[test]
-fn stale_verdicts_are_equal_at_one_location_alone(rt: HostRuntime) -> Result<(), Fail> {
-    assert!(rt; are_equal(rt.alloc(), "x", "x")?);
-    assert!(rt; !are_equal(rt.alloc(), "x", "y")?);
-    Ok(())
 }
 
 /// A state where a move wrote n(0), n(1) and so on, 256 locations.
