@@ -73,8 +73,8 @@ pub(crate) fn clash_at(alloc: Global, at: &Location, error: ResultError) -> AggE
 /// `AggError::Clash` comes exactly where some location's instructions have no result: at the least
 /// such location, with the first cause of its group. `Memory` comes only where memory was refused.
 /// The lookup is asked for the old values of locations with partial updates alone, once each, in
-/// ascending order, and for none above a clash. The list is walked once. Source: aggregation of
-/// partial updates in CoreASM; the choice of the clash is of this project's profile.
+/// ascending order, and for none above a clash. Source: aggregation of partial updates in CoreASM; the
+/// choice of the clash is of this project's profile.
 pub fn aggregate<A: Aggregator, L: Lookup>(
     alloc: Global,
     aggregator: &A,

@@ -24,11 +24,11 @@ use thiserror::Error;
 pub enum ComposeError {
     /// At the least location that refuses no state lets the first and then the second fire; with
     /// the cause.
-    #[error("the two moves clash")]
+    #[error("the two moves clash at {0}")]
     Clash(Clash),
     /// At the least location that refuses, a composed amount of a bag would be above 4,294,967,295, or
     /// the sum of the increments of a counter is farther from 0 than 18,446,744,073,709,551,615.
-    #[error("a composed amount or sum is too large")]
+    #[error("a composed amount or sum is too large at {0}")]
     Large(Location),
     /// No location refuses, and there would be more than 4,096 instructions.
     #[error("more than 4,096 instructions")]

@@ -48,8 +48,12 @@ fn errors_with_other_contents_differ(rt: HostRuntime) -> Result<(), Fail> {
     Ok(())
 }
 
-static TEXTS: [(NoComposition, &str); 3] = [
-    (Large("b"), "a composed amount or sum is too large"),
+static TEXTS: [(NoComposition, &str); 4] = [
+    (Large("b"), "a composed amount or sum is too large at b"),
+    (
+        Clashes("b", Cause::Two),
+        "the two moves clash at b: two different regular values",
+    ),
     (Many, "more than 4,096 instructions"),
     (OutOfMemory, "out of memory"),
 ];
