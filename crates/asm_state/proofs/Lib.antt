@@ -4,6 +4,7 @@ pub mod Followed
 mod ChangedInPlace
 pub mod InPlace
 pub mod Judged
+pub mod LeastFound
 pub mod OpeningState
 pub mod Overwritten
 pub mod Settled

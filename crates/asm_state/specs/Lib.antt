@@ -1,4 +1,5 @@
 pub mod Follow
+pub mod LeastNamed
 pub mod Named
 pub mod Replaced
 pub mod Stands

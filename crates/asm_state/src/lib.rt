@@ -3,6 +3,7 @@
 
 mod entries;
 mod in_place;
+pub mod laws;
 mod named;
 mod state;
 mod verdict;

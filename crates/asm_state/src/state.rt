@@ -10,7 +10,8 @@ ghost use Rattle.asm_update.specs.State as plain;
 ghost use Rattle.asm_state.specs.Change.{IsOneChange};
 ghost use Rattle.asm_state.specs.View.{value_at, writer_at, holds_undef};
 ghost use Rattle.asm_state.specs.Follow.{entry_after, IsFollowed};
-ghost use Rattle.asm_state.specs.Stands.{Stands, IsLastWriter};
+ghost use Rattle.asm_state.specs.LeastNamed.{IsLeastNamed, told_stale};
+ghost use Rattle.asm_state.specs.Stands.{Stands, IsLastWriter, is_stale};
 ghost use Rattle.asm_state.specs.Verdict.{IsObjection, IsVerdict, least_named};
 
 use crate::entries::{Entries, WrittenValue};
@@ -153,8 +154,13 @@ impl State {
         reads: &[Named],
         instructions: &Instructions,
     ) -> Result<Verdict, AllocError>
-        ensures { (init : plain.State) (q : List Move) → Stands (A.meaning aggregator.now).part init self.now q →
+        ensures verdict { (init : plain.State) (q : List Move) →
+            Stands (A.meaning aggregator.now).part init self.now q →
             IsVerdict (A.meaning aggregator.now).part init q reads.now instructions.now result }
+        ensures least { (init : plain.State) (q : List Move) →
+            Stands (A.meaning aggregator.now).part init self.now q →
+            IfOk result (λ verdict. IsLeastNamed (is_stale (A.meaning aggregator.now).part init q) reads.now
+            (told_stale verdict)) }
     {
         match self.least_stale(reads) {
             Some(at) => return Ok(Verdict::Stale(at.copy(alloc)?)),
