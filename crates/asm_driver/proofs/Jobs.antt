@@ -1,7 +1,9 @@
 -- What two lists of jobs give.
-use Rattle.std.proofs.Common.{◌≡◌, ◌++◌, List, [], ◌∷◌, Result, Ok, Err, Vec, Global, subst, sym}
-use Rattle.std.specs.Prelude.{IfOk, IsOkAnd}
+use Rattle.std.proofs.Common.{◌≡◌, ◌≤◌, ◌++◌, ℕ, List, [], ◌∷◌, Result, Ok, Err, Vec, Global, subst, sym}
+use Rattle.std.specs.Prelude.{IfOk, IfErr, IsOkAnd}
 use Rattle.asm_driver.specs.Jobs.{GivesEach}
+use Rattle.asm_driver.specs.declared.play.workers.WorkersError.{WorkersError}
+use Rattle.asm_driver.specs.declared.play.workers.WorkersError.TheVariants.{NoThread, Memory}
 
 -- what the first jobs gave and then what the others gave
 pub gives_each_append : {J X : Type 0} (gives : J → X → Type 0) (a b : List J) (x y : List X) →
@@ -25,3 +27,8 @@ joins gives k l a b c (Ok x) (Ok y) (Ok z) same jobs p q e =
 joins gives k l a b c (Ok x) (Err s) (Ok z) same jobs p q e = absurd e
 joins gives k l a b c (Err r) s (Ok z) same jobs p q e = absurd e
 joins gives k l a b c r s (Err t) same jobs p q e = tt
+
+-- refused memory isn't a missing thread
+pub only_memory : {X : Type 0} (r : Result X WorkersError) (n : ℕ) → IfErr r (λ e. e ≡ Memory) → r ≡ Err NoThread → 2 ≤ n
+only_memory r n refused is =
+    let no : NoThread ≡ Memory = subst (λ q. IfErr q (λ e. e ≡ Memory)) is refused in absurd (cc no)

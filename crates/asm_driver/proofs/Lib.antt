@@ -12,12 +12,14 @@ mod Asking
 mod Answering
 mod Runs
 mod Faulting
+mod Taking
 mod TermForms
 mod TermActions
 mod Faults
 mod Jobs
 mod PlayParts
 mod ClosedPlay
+mod AgentsBelow
 mod Crossing
 mod ProperMoves
 mod Properness

@@ -1,14 +1,20 @@
 -- What the agents played, put together to the play of a script.
-use Rattle.std.proofs.Common.{◌≡◌, ℕ, ◌+◌, List, [], ◌∷◌, ◌++◌, length, map}
-use Rattle.std.proofs.Common.{get_or, refl, ap, sym, ◌∙◌, subst, length-append}
+use Rattle.std.proofs.Common.{◌≡◌, ◌≤◌, ℕ, ◌+◌, Result, Err, IfErr, IsErrAnd, Vec, Global, vec_len, List, [], ◌∷◌, ◌++◌, length, map}
+use Rattle.std.proofs.Common.{arith, get_or, refl, ap, sym, ◌∙◌, subst, length-append}
 use Rattle.std.proofs.Math.Seq.{get_or-append_seam}
-use Rattle.std.proofs.lemmas.List.{append_assoc}
+use Rattle.std.proofs.lemmas.List.{append_assoc, length-map}
+use Rattle.std.proofs.lemmas.List.FromFn.{length-range_with_len}
 use Rattle.std.specs.List.{range_with_len}
 use Rattle.asm_update.specs.Aggregator.{Meaning}
+use Rattle.asm_storage.specs.Agents.{AgentView}
 use Rattle.asm_storage.specs.Storage.{StorageView, AgentAt, at_start}
 use Rattle.asm_driver.specs.AgentPlay.{Plays}
-use Rattle.asm_driver.specs.PlayedAgents.{steps_at, ArePlayed}
+use Rattle.asm_driver.specs.PlayedAgents.{steps_at, workers_error_told, ArePlayed, IsNotClosed}
 use Rattle.asm_driver.specs.Jobs.{GivesEach}
+use Rattle.asm_driver.specs.declared.play.outcome.RunError.{RunError}
+use Rattle.asm_driver.specs.declared.play.outcome.RunError.TheVariants as run_error
+use Rattle.asm_driver.specs.declared.play.workers.WorkersError.{WorkersError}
+use Rattle.asm_driver.specs.declared.play.workers.WorkersError.TheVariants as workers_error
 use Rattle.asm_driver.specs.declared.script.step.Step.{Step}
 use Rattle.asm_driver.specs.declared.play.outcome.Outcome.{Outcome}
 
@@ -72,3 +78,27 @@ agents_ended {A = A} meaning mine theirs other s xa xo first played_agents writt
     (subst (λ (p : List (AgentAt A)). ArePlayed meaning (meaning mine) s 0 written p oss) (sym left)
     (subst (λ (p : List (List Outcome)). ArePlayed meaning (meaning mine) s 0 written (map xa played_agents) p)
     (sym told) played)))
+
+-- a worker whose thread is missing is one of several, and so is its agent
+pub missing_of_several : {A X : Type 0} (s : StorageView A) (agents : Vec (AgentAt A) Global)
+    (written sss : List (List Step)) (w : WorkersError) (r : Result X RunError) →
+    agents.items ≡ map (at_start s) (range_with_len 0 (length written)) → written ≡ sss →
+    (w ≡ workers_error.NoThread → 2 ≤ vec_len agents) → IsErrAnd r (λ e. e ≡ workers_error_told w) →
+    r ≡ Err run_error.NoThread → 2 ≤ length sss
+missing_of_several s agents written sss workers_error.NoThread r begun same several told is =
+    let first = map (at_start s) (range_with_len 0 (length written)) in
+    let count : length first ≡ length written =
+    length-map (range_with_len 0 (length written)) (at_start s) ∙ length-range_with_len 0 (length written) in
+    let items : length agents.items ≡ length first = ap length begun in
+    let all : length written ≡ length sss = ap length same in
+    let long : vec_len agents ≡ length agents.items = agents.ok.0 in
+    let two : 2 ≤ vec_len agents = several refl in
+    omega (arith, two, long, items, count, all)
+missing_of_several s agents written sss workers_error.Memory r begun same several told is =
+    let no : run_error.NoThread ≡ run_error.Memory =
+    subst (λ q. IsErrAnd q (λ e. e ≡ run_error.Memory)) is told in absurd (cc no)
+
+-- closing starts no thread
+pub closed_alone : {X : Type 0} (agents : List AgentView) (r : Result X RunError) (n : ℕ) →
+    IfErr r (IsNotClosed agents) → r ≡ Err run_error.NoThread → 2 ≤ n
+closed_alone agents r n why is = absurd (subst (λ q. IfErr q (IsNotClosed agents)) is why)

@@ -1,5 +1,5 @@
 -- What the program does with the bytes of its input, and why it doesn't.
-use Rattle.std.specs.Prelude.{◌≡◌, ◌≢◌, ℕ, Bool, true, false, List, ◌++◌, codes}
+use Rattle.std.specs.Prelude.{◌≡◌, ◌≢◌, ◌≤◌, ℕ, Bool, true, false, List, ◌++◌, codes, length}
 use Rattle.std.specs.Fmt.{decimal}
 use Rattle.asm_storage.specs.History.{Fits}
 use Rattle.asm_storage.specs.declared.history.History.{History}
@@ -28,6 +28,10 @@ use Rattle.asm_driver.specs.declared.program.words.Request.TheVariants.{Run, Che
 abbrev pub IsScript : List ℕ → Type 0
 IsScript bytes = (plan : Plan) × IsScriptOf bytes plan
 
+-- the bytes are a script of two agents or more, so that threads are started
+abbrev pub IsOfSeveral : List ℕ → Type 0
+IsOfSeveral bytes = (plan : Plan) × IsScriptOf bytes plan × (2 ≤ length plan.agents)
+
 -- the script of these bytes, played with this capacity, leaves this
 abbrev pub IsPlayed : List ℕ → ℕ → Played → Type 0
 IsPlayed bytes capacity p = (plan : Plan) × IsScriptOf bytes plan × IsPlayOf plan capacity p
@@ -49,12 +53,12 @@ IsNoText asked p refusal.Unfit = (asked ≡ true) × ¬ Fits p.history
 IsNoText asked p refusal.Memory = Unit {0}
 IsNoText asked p r = ⊥
 
--- why these bytes aren't played: they are no script; the capacity is out of range; a thread couldn't be started, or a
--- move has no receipt; what was played has no text; an allocation failure tells nothing
+-- why these bytes aren't played: they are no script; the capacity is out of range; a thread couldn't be started for a
+-- script of several agents, or a move has no receipt; what was played has no text; an allocation failure tells nothing
 abbrev pub IsNoRun : List ℕ → ℕ → Bool → Refusal → Type 0
 IsNoRun bytes capacity asked (refusal.BadScript cause) = IsRefusedScript bytes (BadScript cause)
 IsNoRun bytes capacity asked refusal.Words = IsScript bytes × IsNoCapacity capacity
-IsNoRun bytes capacity asked refusal.NoThread = IsScript bytes
+IsNoRun bytes capacity asked refusal.NoThread = IsOfSeveral bytes
 IsNoRun bytes capacity asked (refusal.Missing k) = IsScript bytes
 IsNoRun bytes capacity asked refusal.Unfit = (p : Played) × IsPlayed bytes capacity p × IsNoText asked p refusal.Unfit
 IsNoRun bytes capacity asked refusal.Memory = Unit {0}

@@ -1,5 +1,6 @@
 //! Playing a script: its agents on one storage, each on a thread of its own.
-ghost use Rattle.std.specs.Prelude.{◌≡◌, ◌≢◌, ◌↔◌, ◌≤◌, List, [], IfOk, IfErr, IsErrOf, get_or, length, map};
+ghost use Rattle.std.specs.Prelude.{◌≡◌, ◌≢◌, ◌↔◌, ◌≤◌, ◌<◌, ◌⊎◌, List, [], All, IfOk, IfErr, IsErrOf, get_or, length};
+ghost use Rattle.std.specs.Prelude.{map, vec_len};
 ghost use Rattle.std.specs.List.{range_with_len};
 ghost use Rattle.asm_storage.specs.Storage.{accounts, at_start};
 ghost use Rattle.asm_driver.specs.Play.{IsNoCapacity, IsPlayOf};
@@ -7,6 +8,7 @@ ghost use Rattle.asm_driver.specs.AgentPlay.{Plays};
 ghost use Rattle.asm_driver.specs.Standard.{standard_meaning};
 ghost use Rattle.asm_driver.specs.PlayedAgents.{steps_at, workers_error_told, close_error_told, ArePlayed, IsNotClosed};
 ghost use Rattle.asm_driver.specs.Jobs.{GivesEach};
+ghost use Rattle.asm_driver.specs.declared.play.workers.WorkersError.TheVariants as workers_error;
 
 #[cfg(test)]
 mod busy_tests;
@@ -117,9 +119,10 @@ fn played_apart<'s, 'a, R: Threads + Wait + Sync, P: Passage + Sync, S: Scripted
     playing: &Playing<'a, P, S>,
     agents: Vec<Agent<'s, Standard>>,
 ) -> Result<Vec<PlayedAgent<'s, Standard>>, WorkersError>
-    ensures { IfOk result (λ played. GivesEach (λ a t. Plays (⟦<Standard as Aggregator>⟧.meaning)
+    ensures played { IfOk result (λ played. GivesEach (λ a t. Plays (⟦<Standard as Aggregator>⟧.meaning)
         (⟦<Standard as Aggregator>⟧.meaning playing.now.player.aggregator.now) a t.agent
         (steps_at (S.steps playing.now.scripted) a) t.outcomes.items) agents.entry.items played.items) }
+    ensures threads { IsErrOf result workers_error.NoThread → 2 ≤ vec_len agents.entry }
 {
     workers::each(rt, alloc, playing, agents)
 }
@@ -131,9 +134,10 @@ fn played_as_written<'s, 'a, 'p, R: Threads + Wait + Sync, P: Passage + Sync>(
     playing: &Playing<'a, P, WrittenSteps<'p>>,
     agents: Vec<Agent<'s, Standard>>,
 ) -> Result<Vec<PlayedAgent<'s, Standard>>, WorkersError>
-    ensures { IfOk result (λ played. GivesEach (λ a t. Plays (⟦<Standard as Aggregator>⟧.meaning)
+    ensures played { IfOk result (λ played. GivesEach (λ a t. Plays (⟦<Standard as Aggregator>⟧.meaning)
         (⟦<Standard as Aggregator>⟧.meaning playing.now.player.aggregator.now) a t.agent
         (steps_at playing.now.scripted.0.now a) t.outcomes.items) agents.entry.items played.items) }
+    ensures threads { IsErrOf result workers_error.NoThread → 2 ≤ vec_len agents.entry }
 {
     played_apart(rt, alloc, playing, agents)
 }
@@ -144,6 +148,7 @@ fn opened(alloc: Global, script: &Script, capacity: u32) -> Result<Storage<Stand
     ensures init { IfOk result (λ s. s.init ≡ script.now.init) }
     ensures capacity { IfOk result (λ s. length s.row ≡ capacity) }
     ensures bad { IsErrOf result RunError.BadCapacity ↔ IsNoCapacity capacity }
+    ensures error { IfErr result (λ e. (e ≡ RunError.BadCapacity) ⊎ (e ≡ RunError.Memory)) }
 {
     if capacity == 0 || CAPACITY_LIMIT < capacity {
         return Err(RunError::BadCapacity);
@@ -240,6 +245,7 @@ fn play_on<R: Threads + Wait + Sync, G: Gate>(
     requires init { storage.now.init ≡ script.now.init }
     ensures played { IfOk result (IsPlayOf script.now (length storage.now.row)) }
     ensures later { IfErr result (λ e. e ≢ RunError.BadCapacity) }
+    ensures threads { IsErrOf result RunError.NoThread → 2 ≤ length script.now.agents }
 {
     let scripted = script.agents();
     let agents = agents_of(alloc, storage, scripted.len())?;
@@ -280,6 +286,8 @@ pub fn run_script<R: Threads + Wait + Sync, G: Gate>(
 ) -> Result<Played, RunError>
     ensures capacity { IsErrOf result RunError.BadCapacity ↔ IsNoCapacity capacity }
     ensures played { IfOk result (IsPlayOf script.now capacity) }
+    ensures agents { IfOk result (λ p. All (λ e. e.agent < length script.now.agents) p.history.events) }
+    ensures threads { IsErrOf result RunError.NoThread → 2 ≤ length script.now.agents }
 {
     let storage = opened(alloc, script, capacity)?;
     play_on(rt, alloc, &storage, script, gate)

@@ -1,6 +1,7 @@
 //! The program over an input and an output.
 ghost use Rattle.std.specs.Prelude.{◌≡◌, ◌↔◌, false, [], map, IfOk, IfErr, string_bytes};
 ghost use Rattle.std.specs.IoError.{error_kind};
+ghost use Rattle.asm_driver.specs.Input.{TakesUpTo};
 ghost use Rattle.asm_driver.specs.Refusal.{has_number};
 ghost use Rattle.asm_driver.specs.Words.{faults};
 ghost use Rattle.asm_driver.specs.Run.{IsAnswer, IsNoAnswer, IsAnswerTo, Writes, Refuses};
@@ -126,6 +127,7 @@ pub fn run_noted<T: Threads + Wait + Sync, S: Source, K: Sink>(
           failed = K.failed output.new;
           flushed = K.flushed output.new;
         }) }
+    ensures taken { TakesUpTo 16777217 (S.remaining input.old) (S.remaining input.new) }
     ensures unread { ¬ (faults (map string_bytes words.items) ≡ []) → input.new ≡ input.old }
 {
     match answer(rt, alloc, words.as_slice(), input) {

@@ -1,5 +1,5 @@
 //! Jobs, each done on a thread of its own.
-ghost use Rattle.std.specs.Prelude.{◌≡◌, ◌<◌, ◌++◌, IfOk, IfErr, IsOkAnd, vec_len};
+ghost use Rattle.std.specs.Prelude.{◌≡◌, ◌≤◌, ◌<◌, ◌++◌, IfOk, IfErr, IsErrOf, IsOkAnd, vec_len};
 ghost use Rattle.std.specs.Thread.{IsSync};
 ghost use denote.Param.Send.{IsSend};
 ghost use Rattle.asm_driver.specs.Jobs.{GivesEach, told_first, error_of_both};
@@ -10,7 +10,7 @@ use std::marker::{PhantomData, Send, Sync};
 use std::snapshot::Snapshot;
 use std::sync::Wait;
 use std::thread;
-use std::thread::{Promise, Threads};
+use std::thread::{Promise, SpawnError, Threads};
 
 /// What is done with a job.
 pub trait Task<J, X>: Sync {
@@ -44,6 +44,14 @@ impl<T: Drop> From<AllocFailed<T>> for WorkersError {
 
     fn from(_refused: AllocFailed<T>) -> WorkersError {
         WorkersError::Memory
+    }
+}
+
+impl<F: Drop> From<SpawnError<F>> for WorkersError {
+    ghost from_gives = { λ _ e. e ≡ errors.NoThread };
+
+    fn from(_refused: SpawnError<F>) -> WorkersError {
+        WorkersError::NoThread
     }
 }
 
@@ -84,7 +92,7 @@ impl<J, X, T: Task<J, X>> Promise<Result<Vec<X>, WorkersError>> for GivesEachOf<
 ///
 /// The jobs are halved until they stand alone, so a worker starts the workers of its half. It returns when
 /// all of them have ended. The error is `NoThread` where a thread couldn't be started, and otherwise `Memory` where
-/// memory was refused.
+/// memory was refused. Fewer than two jobs start no thread.
 #[cycle(halves)]
 pub fn each<R: Threads + Wait + Sync, J: Send + Drop, X: Send + Drop, T: Task<J, X>>(
     rt: &R,
@@ -92,7 +100,8 @@ pub fn each<R: Threads + Wait + Sync, J: Send + Drop, X: Send + Drop, T: Task<J,
     task: &T,
     mut jobs: Vec<J>,
 ) -> Result<Vec<X>, WorkersError>
-    ensures { IfOk result (λ done. GivesEach (T.gives task.now) jobs.items done.items) }
+    ensures done { IfOk result (λ done. GivesEach (T.gives task.now) jobs.items done.items) }
+    ensures threads { IsErrOf result errors.NoThread → 2 ≤ vec_len jobs }
 {
     if jobs.len() < 2 {
         return at_most_one(rt, alloc, task, jobs);
@@ -108,7 +117,8 @@ fn at_most_one<R: Wait, J: Drop, X: Drop, T: Task<J, X>>(
     mut jobs: Vec<J>,
 ) -> Result<Vec<X>, WorkersError>
     requires { vec_len jobs < 2 }
-    ensures { IfOk result (λ done. GivesEach (T.gives task.now) jobs.items done.items) }
+    ensures done { IfOk result (λ done. GivesEach (T.gives task.now) jobs.items done.items) }
+    ensures error { IfErr result (λ e. e ≡ errors.Memory) }
 {
     let mut done = Vec::new(alloc);
     let Some(job) = jobs.pop() else {
@@ -146,9 +156,7 @@ fn both<R: Threads + Wait + Sync, J: Send + Drop, X: Send + Drop, T: Task<J, X>>
                 requires { IsSync R.row × IsSync T.row × IsSend J.row × IsSend X.row }
                 ensures { IfOk result (λ done. GivesEach (T.gives task.entry.now) first.items done.items) }
             { each(rt, alloc, task, first) };
-            let Ok(worker) = scope.spawn_with(promise, work) else {
-                return Err(WorkersError::NoThread);
-            };
+            let worker = scope.spawn_with(promise, work)?;
             let ours = each(rt, alloc, task, second);
             joined(worker.join(rt), ours)
         },

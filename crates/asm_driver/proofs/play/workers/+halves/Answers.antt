@@ -4,7 +4,7 @@ use Rattle.asm_driver.proofs.play.workers.+halves.Goals as goal
 
 pub both-scope-returns : goal.both-scope-returns
 both-scope-returns g t c =
-    let promised = c.in-Ok.ensures.ok in
+    let promised = c.in_ok-worker.ensures.ok in
     joins g.T.Task.gives _ _ _ _ _ _ _ _ (ap (λ p. p.task.value) promised ∙ c.of.ensures)
-    (ap (λ p. p.jobs.value.items) promised ∙ ap (λ v. v.items) c.of-2.ensures) c.join.ensures c.each-ours.ensures
+    (ap (λ p. p.jobs.value.items) promised ∙ ap (λ v. v.items) c.of-2.ensures) c.join.ensures c.each-ours.ensures.done
     c.joined.ensures.done

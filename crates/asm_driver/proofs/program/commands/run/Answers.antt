@@ -1,8 +1,10 @@
-use Rattle.std.proofs.Common.{◌≡◌, ℕ, Bool, List, Result, Ok, Err, IfOk, IfErr, refl, string_bytes}
+use Rattle.std.proofs.Common.{◌≡◌, ◌≤◌, ℕ, Bool, List, Result, Ok, Err, IfOk, IfErr, length, refl, string_bytes}
 use Rattle.std.proofs.lemmas.Result.{err_from_is_err_and}
-use Rattle.asm_driver.specs.Commands.{text_of_played, IsScript, IsPlayed, IsNoText, IsRunText, IsNoRun}
+use Rattle.asm_driver.specs.Commands.{text_of_played, IsPlayed, IsNoText, IsRunText, IsNoRun}
+use Rattle.asm_driver.specs.Plan.{Plan}
 use Rattle.asm_driver.specs.Play.{IsNoCapacity}
 use Rattle.asm_driver.specs.Refusal.{refusal_of_run}
+use Rattle.asm_driver.specs.Script.{IsScriptOf}
 use Rattle.asm_driver.specs.declared.play.outcome.Played.{Played}
 use Rattle.asm_driver.specs.declared.play.outcome.RunError.{RunError}
 use Rattle.asm_driver.specs.declared.play.outcome.RunError.TheVariants.{BadCapacity, NoThread, Missing, Memory}
@@ -11,12 +13,13 @@ use Rattle.asm_driver.specs.declared.program.refusal.Refusal.TheVariants as refu
 use Rattle.asm_driver.proofs.program.commands.run.Goals as goal
 
 -- a script that isn't played, told as a refusal
-unplayed : (bytes : List ℕ) (capacity : ℕ) (asked : Bool) (e : RunError) → IsScript bytes →
-    ((e ≡ BadCapacity) → IsNoCapacity capacity) → IsNoRun bytes capacity asked (refusal_of_run e)
-unplayed bytes capacity asked BadCapacity is none = (is, none refl)
-unplayed bytes capacity asked NoThread is none = is
-unplayed bytes capacity asked (Missing k) is none = is
-unplayed bytes capacity asked Memory is none = tt
+unplayed : (bytes : List ℕ) (capacity : ℕ) (asked : Bool) (e : RunError) (plan : Plan) → IsScriptOf bytes plan →
+    ((e ≡ BadCapacity) → IsNoCapacity capacity) → ((e ≡ NoThread) → 2 ≤ length plan.agents) →
+    IsNoRun bytes capacity asked (refusal_of_run e)
+unplayed bytes capacity asked BadCapacity plan is none several = ((plan, is), none refl)
+unplayed bytes capacity asked NoThread plan is none several = (plan, is, several refl)
+unplayed bytes capacity asked (Missing k) plan is none several = (plan, is)
+unplayed bytes capacity asked Memory plan is none several = tt
 
 -- a play without a text
 untold : (bytes : List ℕ) (capacity : ℕ) (asked : Bool) (p : Played) (r : Refusal) → IsPlayed bytes capacity p →
@@ -35,7 +38,8 @@ pub returns-in_err-played-clause-err : goal.returns-in_err-played-clause-err
 returns-in_err-played-clause-err g c =
     let p = err_from_is_err_and c.from_residual-in_err-played.result c.from_residual-in_err-played.ensures.1 in
     rw (p.1, p.2) (unplayed c.args.bytes.now c.args.capacity c.args.journal c.in_err-played.field-0.0
-    (c.in_ok-script.script, c.in_ok-script.ensures.ok) (λ e. c.in_err-played.ensures.capacity.0 (cc (e))))
+    c.in_ok-script.script c.in_ok-script.ensures.ok (λ e. c.in_err-played.ensures.capacity.0 (cc (e)))
+    (λ e. c.in_err-played.ensures.threads (cc (e))))
 
 -- the text of a play, by what makes its bytes
 told : {X : Type 0} (bytes_of : X → List ℕ) (bytes : List ℕ) (capacity : ℕ) (asked : Bool) (p : Played)
