@@ -1,5 +1,5 @@
-//! Which capacities a row may have, and the texts of what is refused.
-use asm_row::{Row, RowError};
+//! Which capacities a row may have, the texts of what is refused, and which refusals and offers are equal.
+use asm_row::{Offer, Row, RowError};
 use std::test::Fail;
 
 #[test]
@@ -24,4 +24,20 @@ fn errors_have_their_texts(rt: HostRuntime) -> Result<(), Fail> {
     let memory = RowError::Memory.to_string(rt.alloc())?;
     assert!(rt; memory.as_str() == "out of memory");
     Ok(())
+}
+
+#[test]
+fn errors_are_equal_to_themselves_alone(rt: HostRuntime) {
+    assert!(rt; RowError::BadCapacity == RowError::BadCapacity);
+    assert!(rt; RowError::Memory == RowError::Memory);
+    assert!(rt; RowError::BadCapacity != RowError::Memory);
+}
+
+#[test]
+fn offers_are_equal_where_they_lost_to_equal_entries(rt: HostRuntime) {
+    let (p, q) = ('p', 'q');
+    assert!(rt; Offer::Lost(&p) == Offer::Lost(&'p'));
+    assert!(rt; Offer::Lost(&p) != Offer::Lost(&q));
+    assert!(rt; Offer::Lost(&p) != Offer::Won);
+    assert!(rt; Offer::<char>::Won == Offer::Won);
 }
