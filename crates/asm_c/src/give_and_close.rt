@@ -56,7 +56,7 @@ fn give_at(
 }
 
 /// Gives an agent back to its storage, in any order, and leaves its slot empty. The journal that the
-/// storage kept is let go.
+/// storage kept is discarded.
 ///
 /// 5: the first slot has no storage, the second no agent, or the two are one. 12: an agent with this
 /// number was given before. 14: the agent is of another storage. 3: out of memory. After each of these

@@ -44,7 +44,7 @@ fn checked(alloc: Global, journal: &[u8]) -> Result<Legality, JournalError>
 /// Checks a journal, of version 1 or 2.
 ///
 /// 0: it is legal, with the numbers of its calls and of its moves. 15: it isn't, and `calls` is the number
-/// of the first call whose answer is another, counted from 0. 16 and 17: a line is no JSON, or not that
+/// of the first call whose answer is another, counted from 0. 16 and 17: a line is not JSON, or not that
 /// of a journal, and `calls` is the number of the line. 18: another version. 19: it is cut off.
 /// 3: out of memory.
 #[unsafe(no_mangle)]
@@ -91,7 +91,7 @@ fn replayed(alloc: Global, journal: &[u8]) -> Result<String, JournalError>
 
 /// Writes the state `[PAIR, ..]` that the moves of a journal leave, of version 1 or 2, legal or not.
 ///
-/// 7: the buffer is too small, and `written` is the room that it needs. 16 and 17: a line is no JSON, or
+/// 7: the buffer is too small, and `written` is the room that it needs. 16 and 17: a line is not JSON, or
 /// not that of a journal, and `line` is its number. 18: another version. 19: it is cut off. 3: out of
 /// memory.
 #[unsafe(no_mangle)]

@@ -1,7 +1,7 @@
 //! The storage for C: slots that hold a storage or an agent of one, and calls on them.
 //!
 //! A slot lies in the memory of whoever calls; one of zeros holds nothing. Each agent owns a share of its
-//! storage, so slots may be let go in any order. Texts are those of journals. Each call answers a code.
+//! storage, so slots may be released in any order. Texts are those of journals. Each call answers a code.
 #![tactic(auto)]
 
 mod codes;

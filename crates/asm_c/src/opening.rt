@@ -52,7 +52,7 @@ fn opened(alloc: Global, init: &[u8], capacity: u32) -> Result<Box<Content>, i32
 
 /// Opens a storage with the state `[PAIR, ..]`, for at most `capacity` moves, in an empty slot.
 ///
-/// 11: the slot is full. 6: the capacity isn't 1 to 1,048,576. 16 and 17: no JSON, or not that of a state.
+/// 11: the slot is full. 6: the capacity isn't 1 to 1,048,576. 16 and 17: not JSON, or not that of a state.
 /// 3: out of memory. After each of these the slot is as it was.
 #[unsafe(no_mangle)]
 pub extern "C" fn asm_open(alloc: Global, init: &[u8], capacity: u32, store: &mut Slot) -> i32
@@ -147,7 +147,7 @@ fn fill(alloc: Global, store: &Store, agents: &mut [Slot]) -> bool
     true
 }
 
-// Lets go of what the slots hold.
+// Releases what the slots hold.
 fn clear(alloc: Global, slots: &mut [Slot])
     ensures { AreEmpty slots.new }
 {
@@ -190,7 +190,7 @@ pub extern "C" fn asm_agents(alloc: Global, store: &mut Slot, agents: &mut [Slot
     MEMORY
 }
 
-/// Lets go of what the slot holds, if anything. A storage ends with the last slot that has a share of it.
+/// Releases what the slot holds, if anything. A storage ends with the last slot that has a share of it.
 #[unsafe(no_mangle)]
 pub extern "C" fn asm_free(alloc: Global, slot: &mut Slot)
     ensures { slot.new.handle.value ≡ None }

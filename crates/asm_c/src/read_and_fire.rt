@@ -45,7 +45,7 @@ fn read_at(
 
 /// Reads the locations `[LOC, ..]`, at most 256; `asm_answer` tells what was read.
 ///
-/// 5: the slot has no agent, and stays as it was. 9: more than 256 locations. 16 and 17: no JSON, or not
+/// 5: the slot has no agent, and stays as it was. 9: more than 256 locations. 16 and 17: not JSON, or not
 /// that of locations. 3: out of memory. After these the agent has no receipt more, and may have seen more.
 #[unsafe(no_mangle)]
 pub extern "C" fn asm_read(alloc: Global, agent: &mut Slot, locations: &[u8]) -> i32
@@ -134,7 +134,7 @@ fn fire_at(
 /// 0: fired, with the number of the move. 1: a named location was written since. 2: the updates clash.
 /// 4: as many moves were fired as the capacity. `asm_answer` tells the whole reply. With any other code
 /// nothing was fired and there is no receipt more: 8: 64 offers were lost, with what had been seen at the
-/// start and at the end; 9: more than 256 named locations; 16 and 17: no JSON, or not that of a fire;
+/// start and at the end; 9: more than 256 named locations; 16 and 17: not JSON, or not that of a fire;
 /// 3: out of memory; 5: the slot has no agent, and stays as it was.
 #[unsafe(no_mangle)]
 pub extern "C" fn asm_try_fire(

@@ -1,4 +1,4 @@
-//! Slots that are filled, refused and let go.
+//! Slots that are filled, refused and released.
 use crate::opening::{asm_agent, asm_agents, asm_free, asm_open};
 use crate::read_and_fire::asm_read;
 use crate::shared::{Shared, are_one};
@@ -101,7 +101,7 @@ fn makes_agents(rt: HostRuntime) -> Result<(), Fail> {
     Ok(())
 }
 
-// The codes of reads of an agent after its storage is let go, and after it is let go itself, twice.
+// The codes of reads of an agent after its storage is released, and after it is released itself, twice.
 fn codes_of_free(alloc: Global) -> [i32; 3] {
     let mut store = store(alloc);
     let mut agent = agent(alloc, &mut store, 0);
