@@ -2,13 +2,16 @@
  *
  * The allocations that the program makes from the start of its main on are counted from 1. The one with the number in
  * the environment's FAIL_AT is answered as where there is no memory. Where that happens, an empty file is made at the
- * path in REFUSED_MARK, so that whoever tries one number after the other knows where to end. */
+ * path in REFUSED_MARK, so that whoever tries one number after the other knows where to end.
+ *
+ * Where the environment has ASKED_FOR, the sum of the bytes that were asked for is written to that file as the program exits. */
 #define _GNU_SOURCE
 #include <dlfcn.h>
 #include <errno.h>
 #include <fcntl.h>
 #include <stdatomic.h>
 #include <stddef.h>
+#include <stdio.h>
 #include <stdlib.h>
 #include <unistd.h>
 
@@ -20,12 +23,15 @@ extern void *__libc_memalign(size_t alignment, size_t size);
 typedef int Main(int argc, char **argv, char **environment);
 
 static atomic_long calls;
+static atomic_ulong asked;
 static long fail_at;
 static const char *mark;
 static Main *program;
 
-/* Tells whether this is the call that is refused. Until the program's main begins, none is counted. */
-static int refuses(void) {
+/* Tells whether this call, which asks for so many bytes, is the one that is refused. Until the program's main begins, none is
+ * counted. */
+static int refuses(size_t size) {
+    atomic_fetch_add(&asked, size);
     if (fail_at == 0 || atomic_fetch_add(&calls, 1) + 1 != fail_at) {
         return 0;
     }
@@ -37,21 +43,21 @@ static int refuses(void) {
     return 1;
 }
 
-void *malloc(size_t size) { return refuses() ? NULL : __libc_malloc(size); }
+void *malloc(size_t size) { return refuses(size) ? NULL : __libc_malloc(size); }
 
-void *calloc(size_t count, size_t size) { return refuses() ? NULL : __libc_calloc(count, size); }
+void *calloc(size_t count, size_t size) { return refuses(count * size) ? NULL : __libc_calloc(count, size); }
 
-void *realloc(void *old, size_t size) { return refuses() ? NULL : __libc_realloc(old, size); }
+void *realloc(void *old, size_t size) { return refuses(size) ? NULL : __libc_realloc(old, size); }
 
 void *aligned_alloc(size_t alignment, size_t size) {
-    return refuses() ? NULL : __libc_memalign(alignment, size);
+    return refuses(size) ? NULL : __libc_memalign(alignment, size);
 }
 
 int posix_memalign(void **answer, size_t alignment, size_t size) {
     if (alignment % sizeof(void *) != 0 || (alignment & (alignment - 1)) != 0 || alignment == 0) {
         return EINVAL;
     }
-    void *room = refuses() ? NULL : __libc_memalign(alignment, size);
+    void *room = refuses(size) ? NULL : __libc_memalign(alignment, size);
     if (!room) {
         return ENOMEM;
     }
@@ -63,7 +69,18 @@ static int main_that_counts(int argc, char **argv, char **environment) {
     const char *given = getenv("FAIL_AT");
     mark = getenv("REFUSED_MARK");
     fail_at = given ? atol(given) : 0;
+    atomic_store(&asked, 0);
     return program(argc, argv, environment);
+}
+
+static __attribute__((destructor)) void tell_asked(void) {
+    const char *path = getenv("ASKED_FOR");
+    unsigned long bytes = atomic_load(&asked);
+    FILE *file = path ? fopen(path, "w") : NULL;
+    if (file) {
+        fprintf(file, "%lu\n", bytes);
+        fclose(file);
+    }
 }
 
 /* What a program's first instructions call; it is handed the program's main. */
