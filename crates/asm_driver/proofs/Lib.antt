@@ -1,9 +1,3 @@
-mod Counts
-mod BlockMoves
-mod ReadyInstructions
-mod Gathering
-mod Agreeing
-mod Advancing
 mod Lines
 mod OutcomeLines
 mod TextPieces
@@ -13,16 +7,3 @@ mod Answering
 mod Runs
 mod Faulting
 mod Taking
-mod TermForms
-mod TermActions
-mod Faults
-mod Jobs
-mod PlayParts
-mod ClosedPlay
-mod AgentsBelow
-mod Crossing
-mod ProperMoves
-mod Properness
-mod Readings
-mod Tries
-mod Stepping

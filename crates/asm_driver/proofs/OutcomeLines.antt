@@ -1,8 +1,8 @@
 -- The lines of outcomes.
 use Rattle.std.proofs.Common.{◌≡◌, ℕ, ◌++◌, refl}
 use Rattle.asm_driver.specs.Report.{step_name, reason, line, outcome_line}
-use Rattle.asm_driver.specs.declared.play.outcome.Outcome.{Outcome}
-use Rattle.asm_driver.specs.declared.play.outcome.Outcome.TheVariants.{Fired, Clash, Full, Term, Large, Many, GaveUp}
+use Rattle.asm_play.specs.declared.outcome.Outcome.{Outcome}
+use Rattle.asm_play.specs.declared.outcome.Outcome.TheVariants.{Fired, Clash, Full, Term, Large, Many, GaveUp}
 
 pub not_fired : (agent step : ℕ) (o : Outcome) → ((k : ℕ) → o ≡ Fired k → ⊥) →
     outcome_line agent step o ≡ line (step_name agent step ++ reason o)

@@ -10,15 +10,15 @@ use Rattle.asm_journal.specs.Text.{text_of}
 use Rattle.asm_journal.specs.declared.checking.Legality.{Legality}
 use Rattle.asm_journal.specs.declared.checking.Legality.TheVariants.{Legal, Illegal}
 use Rattle.asm_journal.specs.declared.fault.JournalError.TheVariants as journal_error
-use Rattle.asm_driver.specs.Plan.{Plan}
-use Rattle.asm_driver.specs.Play.{IsNoCapacity, IsPlayOf}
+use Rattle.asm_script.specs.Plan.{Plan}
+use Rattle.asm_play.specs.Play.{IsNoCapacity, IsPlayOf}
 use Rattle.asm_driver.specs.Report.{line, report_of}
-use Rattle.asm_driver.specs.Script.{IsScriptOf, IsRefusedScript}
-use Rattle.asm_driver.specs.Standard.{standard_part}
-use Rattle.asm_driver.specs.declared.play.outcome.Played.{Played}
+use Rattle.asm_script.specs.Script.{IsScriptOf, IsRefusedScript}
+use Rattle.asm_play.specs.Standard.{standard_part}
+use Rattle.asm_play.specs.declared.outcome.Played.{Played}
 use Rattle.asm_driver.specs.declared.program.refusal.Refusal.{Refusal}
 use Rattle.asm_driver.specs.declared.program.refusal.Refusal.TheVariants as refusal
-use Rattle.asm_driver.specs.declared.script.ScriptError.TheVariants.{BadScript}
+use Rattle.asm_script.specs.declared.script.ScriptError.TheVariants.{BadScript}
 use Rattle.asm_driver.specs.declared.program.words.Request.{Request}
 use Rattle.asm_driver.specs.declared.program.words.Request.TheVariants.{Run, Check, Rewrite}
 

@@ -6,17 +6,17 @@ use Rattle.asm_journal.specs.declared.fault.JournalError.TheVariants as journal
 use Rattle.asm_driver.specs.Report.{line}
 use Rattle.asm_driver.specs.declared.ports.input.InputError.{InputError}
 use Rattle.asm_driver.specs.declared.ports.input.InputError.TheVariants as input
-use Rattle.asm_driver.specs.declared.play.outcome.RunError.{RunError}
-use Rattle.asm_driver.specs.declared.play.outcome.RunError.TheVariants as play
+use Rattle.asm_play.specs.declared.outcome.RunError.{RunError}
+use Rattle.asm_play.specs.declared.outcome.RunError.TheVariants as play
 use Rattle.asm_driver.specs.declared.program.refusal.Line.{Line}
 use Rattle.asm_driver.specs.declared.program.refusal.Line.TheVariants.{Known, Made}
 use Rattle.asm_driver.specs.declared.program.refusal.Refusal.{Refusal}
 use Rattle.asm_driver.specs.declared.program.refusal.Refusal.TheVariants as refusal
-use Rattle.asm_driver.specs.declared.script.ScriptCause.{ScriptCause}
-use Rattle.asm_driver.specs.declared.script.ScriptCause.TheVariants.{NotJson, Shape, Agents, Blocks, Instructions}
-use Rattle.asm_driver.specs.declared.script.ScriptCause.TheVariants.{Reads}
-use Rattle.asm_driver.specs.declared.script.ScriptError.{ScriptError}
-use Rattle.asm_driver.specs.declared.script.ScriptError.TheVariants.{BadScript, Memory}
+use Rattle.asm_script.specs.declared.script.ScriptCause.{ScriptCause}
+use Rattle.asm_script.specs.declared.script.ScriptCause.TheVariants.{NotJson, Shape, Agents, Blocks, Instructions}
+use Rattle.asm_script.specs.declared.script.ScriptCause.TheVariants.{Reads}
+use Rattle.asm_script.specs.declared.script.ScriptError.{ScriptError}
+use Rattle.asm_script.specs.declared.script.ScriptError.TheVariants.{BadScript, Memory}
 
 -- ---- each error, and the refusal that is made of it
 

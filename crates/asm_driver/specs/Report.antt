@@ -12,9 +12,9 @@ use Rattle.asm_storage.specs.History.{fired_moves}
 use Rattle.asm_journal.specs.Element.{location_json_of}
 use Rattle.asm_journal.specs.Value.{pair_json_of}
 use Rattle.asm_journal.specs.Event.{word_of_cause}
-use Rattle.asm_driver.specs.declared.play.outcome.Outcome.{Outcome}
-use Rattle.asm_driver.specs.declared.play.outcome.Outcome.TheVariants.{Fired, Clash, Full, Term, Large, Many, GaveUp}
-use Rattle.asm_driver.specs.declared.play.outcome.Played.{Played}
+use Rattle.asm_play.specs.declared.outcome.Outcome.{Outcome}
+use Rattle.asm_play.specs.declared.outcome.Outcome.TheVariants.{Fired, Clash, Full, Term, Large, Many, GaveUp}
+use Rattle.asm_play.specs.declared.outcome.Played.{Played}
 
 -- a line and its line feed
 abbrev pub line : List ℕ → List ℕ

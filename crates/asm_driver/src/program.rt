@@ -9,8 +9,6 @@ ghost use Rattle.asm_driver.specs.Run.{Runs, RunsOver, HasFailed, RefusesKind, I
 
 mod commands;
 mod refusal;
-#[cfg(test)]
-mod refusal_tests;
 mod words;
 
 use crate::ports::input::read_input;

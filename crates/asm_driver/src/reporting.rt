@@ -3,14 +3,14 @@ ghost use Rattle.std.specs.Prelude.{◌≡◌, ◌++◌, false, IfOk, OnOk, stri
 ghost use Rattle.serde_json.specs.View.{view};
 ghost use Rattle.serde_json.specs.Written.{has_float, compact_text};
 ghost use Rattle.asm_journal.specs.Element.{location_json_of};
-ghost use Rattle.asm_driver.specs.Standard.{standard_part};
+ghost use Rattle.asm_play.specs.Standard.{standard_part};
 ghost use Rattle.asm_driver.specs.Report.{state_lines, outcome_line};
 ghost use Rattle.asm_driver.specs.Report.{agent_lines, outcome_lines, reason, report_of};
 
-use crate::aggregator::chosen;
-use crate::play::outcome::{Outcome, Played};
 use asm_element::{Items, Location};
 use asm_journal::{location_json, pair_json, replay, word_of_cause};
+use asm_play::aggregator::chosen;
+use asm_play::{Outcome, Played};
 use asm_update::{Aggregator, PlainState};
 use serde_json::Value as Json;
 use std::alloc::{AllocError, Global};

@@ -2,10 +2,6 @@
 #![tactic(auto)]
 
 #[cfg(test)]
-mod gate_tests;
-#[cfg(test)]
-mod play_tests;
+mod refusal_tests;
 #[cfg(test)]
 mod report_tests;
-#[cfg(test)]
-mod script_tests;

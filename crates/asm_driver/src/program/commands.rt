@@ -4,15 +4,13 @@ ghost use Rattle.asm_driver.specs.Commands.{text_of_played, IsNoText, IsRunText,
 ghost use Rattle.asm_driver.specs.Commands.{IsNoJournal, IsRewrite};
 ghost use Rattle.asm_driver.specs.Commands.{legality_line, legality_status, IsDone, IsNotDone};
 
-use crate::aggregator::chosen;
-use crate::play::gate::Open;
-use crate::play::outcome::Played;
-use crate::play::run_script;
 use crate::program::refusal::Refusal;
 use crate::program::words::Request;
 use crate::reporting::report;
-use crate::script::parsing::parse_script;
 use asm_journal::{Legality, check, from_text, to_text};
+use asm_play::aggregator::chosen;
+use asm_play::{Open, Played, run_script};
+use asm_script::parse_script;
 use std::alloc::{AllocError, Global};
 use std::sync::Wait;
 use std::thread::Threads;

@@ -6,10 +6,10 @@ ghost use Rattle.asm_driver.specs.Refusal.{journal_status as status_of_journal, 
 ghost use Rattle.asm_driver.specs.Refusal.{refusal_of_run, refusal_of_journal};
 ghost use Rattle.asm_driver.specs.declared.program.refusal.Refusal.TheVariants as refusals;
 
-use crate::play::outcome::RunError;
 use crate::ports::input::InputError;
-use crate::script::{ScriptCause, ScriptError};
 use asm_journal::JournalError;
+use asm_play::RunError;
+use asm_script::{ScriptCause, ScriptError};
 use std::alloc::{AllocError, Global};
 
 /// Why the program doesn't do what is asked. Each cause has a line and a status.

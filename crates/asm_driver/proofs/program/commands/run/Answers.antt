@@ -1,13 +1,13 @@
 use Rattle.std.proofs.Common.{◌≡◌, ◌≤◌, ℕ, Bool, List, Result, Ok, Err, IfOk, IfErr, length, refl, string_bytes}
 use Rattle.std.proofs.lemmas.Result.{err_from_is_err_and}
 use Rattle.asm_driver.specs.Commands.{text_of_played, IsPlayed, IsNoText, IsRunText, IsNoRun}
-use Rattle.asm_driver.specs.Plan.{Plan}
-use Rattle.asm_driver.specs.Play.{IsNoCapacity}
+use Rattle.asm_script.specs.Plan.{Plan}
+use Rattle.asm_play.specs.Play.{IsNoCapacity}
 use Rattle.asm_driver.specs.Refusal.{refusal_of_run}
-use Rattle.asm_driver.specs.Script.{IsScriptOf}
-use Rattle.asm_driver.specs.declared.play.outcome.Played.{Played}
-use Rattle.asm_driver.specs.declared.play.outcome.RunError.{RunError}
-use Rattle.asm_driver.specs.declared.play.outcome.RunError.TheVariants.{BadCapacity, NoThread, Missing, Memory}
+use Rattle.asm_script.specs.Script.{IsScriptOf}
+use Rattle.asm_play.specs.declared.outcome.Played.{Played}
+use Rattle.asm_play.specs.declared.outcome.RunError.{RunError}
+use Rattle.asm_play.specs.declared.outcome.RunError.TheVariants.{BadCapacity, NoThread, Missing, Memory}
 use Rattle.asm_driver.specs.declared.program.refusal.Refusal.{Refusal}
 use Rattle.asm_driver.specs.declared.program.refusal.Refusal.TheVariants as refusal
 use Rattle.asm_driver.proofs.program.commands.run.Goals as goal

@@ -1,9 +1,0 @@
-use Rattle.std.proofs.Common.{take}
-use Rattle.asm_driver.specs.AgentPlay.{Plays}
-use Rattle.asm_driver.proofs.play.player.Player.play.Given as goal
-
--- the steps so far were played
-abbrev pub invariant-loop-step : goal.invariant-loop-step
-invariant-loop-step g l =
-    Plays g.A.Aggregator.meaning (g.A.Aggregator.meaning l.self.aggregator.now) l.fn.agent l.agent
-    (take l.step-index l.steps) l.outcomes.items

@@ -1,6 +1,0 @@
-use Rattle.asm_driver.proofs.Readings.{TellsFrom}
-use Rattle.asm_driver.proofs.play.read_values.ReadValuesLookup.get.Given as goal
-
--- the location isn't among those so far
-abbrev pub invariant-loop-i : goal.invariant-loop-i
-invariant-loop-i l = TellsFrom l.reading l.at l.i

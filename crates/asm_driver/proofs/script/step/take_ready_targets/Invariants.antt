@@ -1,9 +1,0 @@
-use Rattle.std.proofs.Common.{◌≡◌, ◌++◌, map, take}
-use Rattle.asm_driver.specs.Ready.{written}
-use Rattle.asm_driver.specs.StepReads.{changed}
-use Rattle.asm_driver.proofs.script.step.take_ready_targets.Given as goal
-
--- what the instructions so far have was appended
-abbrev pub invariant-loop-instruction : goal.invariant-loop-instruction
-invariant-loop-instruction l = l.places.items ≡ l.initial.places.items ++ changed
-    (map written (take l.instruction-index l.instructions))

@@ -1,0 +1,11 @@
+mod Counts
+mod Jobs
+mod PlayParts
+mod ClosedPlay
+mod AgentsBelow
+mod Crossing
+mod ProperMoves
+mod Properness
+mod Readings
+mod Tries
+mod Stepping

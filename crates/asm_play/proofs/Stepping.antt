@@ -1,0 +1,341 @@
+-- Steps that were played, one after another.
+use Rattle.std.proofs.Common.{◌≡◌, ◌≢◌, inl, inr, ℕ, zero, suc, ◌+◌, ◌-◌, ◌*◌, ◌≤◌, List, [], ◌∷◌, ◌++◌, length}
+use Rattle.std.proofs.Common.{take, map, All, None, Ok, Err, append_assoc, append-nil, length-append, arith, refl, sym}
+use Rattle.std.proofs.Common.{ap, subst, ◌∙◌}
+use Rattle.std.proofs.lemmas.List.Elements.{All-nil, All-append}
+use Rattle.std.proofs.lemmas.List.{map-append, length-map, length-take}
+use mathlib.Core.List.{IsPrefix}
+use Rattle.asm_element.specs.Place.{Place}
+use Rattle.asm_update.specs.Aggregator.{Meaning}
+use Rattle.asm_update.specs.Fire.{fire}
+use Rattle.asm_update.specs.Move.{Move}
+use Rattle.asm_update.specs.declared.clash.Clash.{Clash}
+use Rattle.asm_storage.specs.Agents.{event_of, moves_seen}
+use Rattle.asm_storage.specs.Machine.{Machine, machine_state}
+use Rattle.asm_storage.specs.Storage.{AgentAt, StorageView, IsSameAgent, machine_of}
+use Rattle.asm_storage.specs.declared.history.Event.{Event}
+use Rattle.asm_storage.specs.declared.receipt.Entry.{Entry}
+use Rattle.asm_storage.specs.declared.receipt.Receipt.{Receipt}
+use Rattle.asm_storage.proofs.Lists.{take-prefix, length-prefix}
+use Rattle.asm_play.specs.AgentPlay.{AreProper, Plays}
+use Rattle.asm_script.specs.Sequencing.{fire_blocks, step_move_on, StandsFor}
+use Rattle.asm_play.specs.StepEvents.{IsIdle, IsFiring, IsClashing, HasNoRoom, HasFault, Outgrows}
+use Rattle.asm_play.specs.StepEvents.{stale_fires, reads_among, AreTries, HasTries, EndsWith}
+use Rattle.asm_play.specs.StepEvents.{IsTold, AreTold}
+use Rattle.asm_play.specs.Trying.{Adds, IsAgain, IsVain, Tried, IsStepPlayed}
+use Rattle.asm_script.specs.declared.step.Step.{Step}
+use Rattle.asm_script.specs.declared.step.StepFault.{StepFault}
+use Rattle.asm_script.specs.declared.step.StepFault.TheVariants as fault
+use Rattle.asm_play.specs.declared.outcome.Outcome.{Outcome}
+use Rattle.asm_play.specs.declared.outcome.Outcome.TheVariants as outcome
+use Rattle.asm_play.proofs.ProperMoves.{proper_prefix}
+use Rattle.asm_play.proofs.Counts.{stale_both, reads_both, tries_more, no_tries, few_reads}
+use Rattle.asm_play.proofs.Tries.{prefix_mapped, adds_then, adds_none}
+
+-- idle events in front change nothing
+idle_front : (P : Event → Type 0) (xs es : List Event) → All IsIdle xs → EndsWith P es → EndsWith P (xs ++ es)
+idle_front P xs es idle ends = (
+  xs ++ ends.0,
+  ends.1,
+  ap (λ w. xs ++ w) ends.2 ∙ sym (append_assoc xs ends.0 (ends.1 ∷ [])),
+  All-append IsIdle xs ends.0 idle ends.3,
+  ends.4,
+)
+
+module _ (own : Meaning) (m : Machine) (q : List Move) (step : Step) where
+  idle_before : (o : Outcome) (xs es : List Event) → All IsIdle xs → IsTold own m q step o es →
+      IsTold own m q step o (xs ++ es)
+  idle_before (outcome.Fired k) xs es idle told = idle_front (IsFiring own m q step k) xs es idle told
+  idle_before outcome.Full xs es idle told = idle_front (HasNoRoom own m q step) xs es idle told
+  idle_before (outcome.Clash c) xs es idle (inl told) = inl (idle_front (IsClashing own m q step c) xs es idle told)
+  idle_before (outcome.Clash c) xs es idle (inr told) = inr (All-append IsIdle xs es idle told.0, told.1)
+  idle_before outcome.Term xs es idle told = (All-append IsIdle xs es idle told.0, told.1)
+  idle_before (outcome.Large l) xs es idle told = (All-append IsIdle xs es idle told.0, told.1)
+  idle_before outcome.Many xs es idle told = (All-append IsIdle xs es idle told.0, told.1)
+  idle_before outcome.GaveUp xs es idle told = All-append IsIdle xs es idle told
+
+-- what was told of some moves is so of more
+module _ (own : Meaning) (m : Machine) (q r : List Move) (p : IsPrefix q r) where
+  fault_later : (step : Step) (f : StepFault) → HasFault own m q step f → HasFault own m r step f
+  fault_later step f (n, le, stands) = (
+    n,
+    omega (arith, le, length-prefix q r p),
+    subst (λ w. StandsFor own (machine_state m w) step (Err f)) (take-prefix n q r p le) stands,
+  )
+
+  outgrows_later : (step : Step) → Outgrows own m q step → Outgrows own m r step
+  outgrows_later step (inl reads) = inl reads
+  outgrows_later step (inr has) = inr (fault_later step fault.Many has)
+
+  clashing_later : (step : Step) (c : Clash) (e : Event) → IsClashing own m q step c e → IsClashing own m r step c e
+  clashing_later step c e (reads, M, call, answer, n, le, move, blocks) =
+      let same = take-prefix n q r p le in (
+        reads,
+        M,
+        call,
+        answer,
+        n,
+        omega (arith, le, length-prefix q r p),
+        subst (λ w. step_move_on own (machine_state m w) None step ≡ Ok M) same move,
+        ap (λ w. fire_blocks m.part (machine_state m w) step) (sym same) ∙ blocks,
+      )
+
+  no_room_later : (step : Step) (e : Event) → HasNoRoom own m q step e → HasNoRoom own m r step e
+  no_room_later step e (reads, M, call, answer, n, le, many, move, (B, blocks)) =
+      let same = take-prefix n q r p le in (
+        reads,
+        M,
+        call,
+        answer,
+        n,
+        omega (arith, le, length-prefix q r p),
+        many,
+        subst (λ w. step_move_on own (machine_state m w) None step ≡ Ok M) same move,
+        (B, ap (λ w. fire_blocks m.part (machine_state m w) step) (sym same) ∙ blocks),
+      )
+
+  firing_later : (step : Step) (k : ℕ) (e : Event) → IsFiring own m q step k e → IsFiring own m r step k e
+  firing_later step k e (reads, M, call, answer, some, whole, move, (B, fires, blocks)) =
+      let counted = sym (length-take k q) ∙ ap length whole ∙ length-append (take (k - 1) q) (M ∷ []) in
+      let within : k ≤ length q = omega (arith, counted, length-take (k - 1) q, some) in
+      let first = take-prefix (k - 1) q r p (omega (arith, within)) in (
+        reads,
+        M,
+        call,
+        answer,
+        some,
+        sym (take-prefix k q r p within) ∙ whole ∙ ap (λ w. w ++ M ∷ []) first,
+        subst (λ w. step_move_on own (machine_state m w) None step ≡ Ok M) first move,
+        (
+          B,
+          subst (λ w. fire m.part (machine_state m w) M ≡ Ok B) first fires,
+          subst (λ w. fire_blocks m.part (machine_state m w) step ≡ Ok B) first blocks,
+        ),
+      )
+
+  told_later : (step : Step) (o : Outcome) (es : List Event) → IsTold own m q step o es → IsTold own m r step o es
+  told_later step (outcome.Fired k) es told = (told.0, told.1, told.2, told.3, firing_later step k told.1 told.4)
+  told_later step outcome.Full es told = (told.0, told.1, told.2, told.3, no_room_later step told.1 told.4)
+  told_later step (outcome.Clash c) es (inl told) =
+      inl (told.0, told.1, told.2, told.3, clashing_later step c told.1 told.4)
+  told_later step (outcome.Clash c) es (inr told) = inr (told.0, fault_later step (fault.Clash c) told.1)
+  told_later step outcome.Term es told = (told.0, fault_later step fault.Term told.1)
+  told_later step (outcome.Large l) es told = (told.0, fault_later step (fault.Large l) told.1)
+  told_later step outcome.Many es told = (told.0, outgrows_later step told.1)
+  told_later step outcome.GaveUp es told = told
+
+  tries_later : (step : Step) (o : Outcome) (es : List Event) → HasTries q step o es → HasTries r step o es
+  tries_later step outcome.GaveUp es has = record {
+    places = has.places;
+    reads = has.reads;
+    tries = has.tries;
+    busy = has.busy;
+    lost = omega (arith, has.lost, length-prefix q r p);
+    counted = has.counted;
+  }
+  tries_later step _ es has = has
+
+  pub are_told_later : (ss : List Step) (os : List Outcome) (es : List Event) → AreTold own m q ss os es →
+      AreTold own m r ss os es
+  are_told_later [] [] es told = told
+  are_told_later [] (o ∷ os) es told = absurd told
+  are_told_later (s ∷ ss) [] es told = absurd told
+  are_told_later (s ∷ ss) (o ∷ os) es told = (
+    told.0,
+    told.1,
+    told.2,
+    told_later s o told.0 told.3,
+    tries_later s o told.0 told.4,
+    are_told_later ss os told.1 told.5,
+  )
+
+-- one step more
+are_told_more : (own : Meaning) (m : Machine) (q : List Move) (ss : List Step) (os : List Outcome)
+    (es fs : List Event) (s : Step) (o : Outcome) →
+    AreTold own m q ss os es → IsTold own m q s o fs × HasTries q s o fs →
+    AreTold own m q (ss ++ s ∷ []) (os ++ o ∷ []) (es ++ fs)
+are_told_more own m q [] [] es fs s o told last =
+    (fs, [], ap (λ w. w ++ fs) told ∙ sym (append-nil fs), last.0, last.1, refl)
+are_told_more own m q [] (p ∷ os) es fs s o told last = absurd told
+are_told_more own m q (t ∷ ss) [] es fs s o told last = absurd told
+are_told_more own m q (t ∷ ss) (p ∷ os) es fs s o told last = (
+  told.0,
+  told.1 ++ fs,
+  ap (λ w. w ++ fs) told.2 ∙ append_assoc told.0 told.1 fs,
+  told.3,
+  told.4,
+  are_told_more own m q ss os told.1 fs s o told.5 last,
+)
+
+-- at most 1,000 tries in vain, and the last one
+few_tries : (q : List Move) (step : Step) (o : Outcome) (es : List Event) → o ≢ outcome.GaveUp →
+    stale_fires es ≤ 1000 → reads_among es ≤ 1001 → HasTries q step o es
+few_tries q step outcome.GaveUp es ended stale reads = absurd (ended refl)
+few_tries q step _ es ended stale reads = (stale, reads)
+
+-- the receipts of so many tries that ended in nothing
+record AddsIdle {A : Type 0} (places : List Place) (n : ℕ) (old new : AgentAt A) : Type 0 where
+  more : List Receipt
+  adds : Adds old new more
+  idle : All IsIdle (map (event_of old.account.id) more)
+  busy : ℕ
+  lost : length old.account.seen + 64 * busy ≤ length new.account.seen
+  counted : stale_fires (map (event_of old.account.id) more) + busy ≡ n
+  tries : AreTries n places (map (event_of old.account.id) more)
+
+-- the events of receipts that were added in turn
+added_events : {A : Type 0} (old mid : AgentAt A) (xs ys : List Receipt) → IsSameAgent old mid →
+    map (event_of old.account.id) (xs ++ ys) ≡ map (event_of old.account.id) xs ++ map (event_of mid.account.id) ys
+added_events old mid xs ys same =
+    map-append (event_of old.account.id) xs ys
+    ∙ ap (λ (i : ℕ). map (event_of old.account.id) xs ++ map (event_of i) ys) (sym same.id)
+
+-- one try more
+adds_try : {A : Type 0} (places : List Place) (n : ℕ) (old mid new : AgentAt A) → AddsIdle places n old mid →
+    IsAgain places mid new → AddsIdle places (suc n) old new
+adds_try places n old mid new first again = record {
+  more = first.more ++ again.more;
+  adds = adds_then old mid new first.more again.more first.adds again.adds;
+  idle = subst (All IsIdle) (sym events) (All-append IsIdle _ _ first.idle again.idle);
+  busy = all.0;
+  lost = all.1;
+  counted = all.2;
+  tries = subst (AreTries (suc n) places) (sym events) (tries_more places n
+      (map (event_of old.account.id) first.more) (map (event_of mid.account.id) again.more) first.tries again.tries);
+} where
+  events : map (event_of old.account.id) (first.more ++ again.more)
+      ≡ map (event_of old.account.id) first.more ++ map (event_of mid.account.id) again.more
+  events = added_events old mid first.more again.more first.adds.same
+
+  both : stale_fires (map (event_of old.account.id) (first.more ++ again.more))
+      ≡ stale_fires (map (event_of old.account.id) first.more) + stale_fires (map (event_of mid.account.id) again.more)
+  both = ap stale_fires events
+      ∙ stale_both (map (event_of old.account.id) first.more) (map (event_of mid.account.id) again.more)
+
+  by_cause : IsVain mid new again.more →
+      (busy : ℕ) × (length old.account.seen + 64 * busy ≤ length new.account.seen)
+      × (stale_fires (map (event_of old.account.id) (first.more ++ again.more)) + busy ≡ suc n)
+  by_cause (inl (ends, one)) = (
+    first.busy,
+    omega (arith, first.lost, length-prefix mid.account.seen new.account.seen again.adds.begins),
+    omega (arith, first.counted, both, one),
+  )
+  by_cause (inr (none, longer)) =
+      (suc first.busy, omega (arith, first.lost, longer), omega (arith, first.counted, both, none))
+
+  all : (busy : ℕ) × (length old.account.seen + 64 * busy ≤ length new.account.seen)
+      × (stale_fires (map (event_of old.account.id) (first.more ++ again.more)) + busy ≡ suc n)
+  all = by_cause again.cause
+
+tried_adds : {A : Type 0} (places : List Place) (n : ℕ) (old new : AgentAt A) → Tried places n old new →
+    AddsIdle places n old new
+tried_adds {A} places zero old new same = record {
+  more = [];
+  adds = subst (λ (a : AgentAt A). Adds old a []) same (adds_none old);
+  idle = All-nil IsIdle;
+  busy = 0;
+  lost = omega (arith, ap (λ (a : AgentAt A). length a.account.seen) same);
+  counted = refl;
+  tries = no_tries places;
+}
+tried_adds {A} places (suc n) old new (mid, before, again) =
+    adds_try places n old mid new (tried_adds places n old mid before) again
+
+-- the receipts that the agent has more are those of all tries of a step, and tell its outcome
+record HasEnded {A : Type 0} (meaning : A → Meaning) (own : Meaning) (old new : AgentAt A) (step : Step)
+    (o : Outcome) : Type 0 where
+  more : List Receipt
+  adds : Adds old new more
+  tries : HasTries (moves_seen new.account.seen) step o (map (event_of old.account.id) more)
+  told : (meaning old.storage.agg).part ≡ own.part → AreProper old.storage.init (moves_seen new.account.seen) →
+      IsTold own (machine_of meaning old.storage) (moves_seen new.account.seen) step o
+      (map (event_of old.account.id) more)
+
+module _ {A : Type 0} (meaning : A → Meaning) (own : Meaning) where
+  -- a step that was played ended
+  step_ended : (old new : AgentAt A) (step : Step) (o : Outcome) → IsStepPlayed meaning own old new step o →
+      HasEnded meaning own old new step o
+  step_ended old new step o (places, reads, inl (is, n, count, tried)) =
+      let all = tried_adds places n old new tried in
+      subst (HasEnded meaning own old new step) (sym is)
+      (record {
+        more = all.more;
+        adds = all.adds;
+        tries = record {
+          places = places;
+          reads = reads;
+          tries = subst (λ k. AreTries k places (map (event_of old.account.id) all.more)) count all.tries;
+          busy = all.busy;
+          lost = omega (arith, all.lost, length-map new.account.seen (λ (x : Entry). x.instrs));
+          counted = all.counted ∙ count;
+        };
+        told = λ same proper. all.idle;
+      })
+  step_ended old new step o (places, reads, inr (n, few, mid, tried, ended)) =
+      let first = tried_adds places n old mid tried in
+      let last = ended.0 in
+      let q = moves_seen new.account.seen in
+      let events = added_events old mid first.more last.more first.adds.same in
+      let early = map (event_of old.account.id) first.more in
+      let late = map (event_of mid.account.id) last.more in
+      let stale : stale_fires (map (event_of old.account.id) (first.more ++ last.more)) ≤ 1000 =
+      omega (arith, ap stale_fires events, stale_both early late, first.counted, last.fresh, few) in
+      let read : reads_among (map (event_of old.account.id) (first.more ++ last.more)) ≤ 1001 = omega (
+        arith,
+        ap reads_among events,
+        reads_both early late,
+        few_reads places n early first.tries,
+        last.once,
+        few,
+      ) in
+      record {
+        more = first.more ++ last.more;
+        adds = adds_then old mid new first.more last.more first.adds last.adds;
+        tries = few_tries q step o (map (event_of old.account.id) (first.more ++ last.more)) ended.1 stale read;
+        told = λ same proper.
+            let told = subst (λ (s : StorageView A). (meaning s.agg).part ≡ own.part → AreProper s.init q →
+            IsTold own (machine_of meaning s) q step o (map (event_of mid.account.id) last.more))
+            first.adds.same.storage
+            last.told same proper in
+            subst (IsTold own (machine_of meaning old.storage) q step o)
+            (sym (added_events old mid first.more last.more first.adds.same))
+            (idle_before own (machine_of meaning old.storage) q step o _ _ first.idle told);
+      }
+
+  pub plays_none : (old : AgentAt A) → Plays meaning own old old [] []
+  plays_none old = record {
+    same = record { storage = refl; id = refl };
+    begins = ([], append-nil old.account.seen);
+    more = [];
+    added = sym (append-nil old.account.receipts);
+    told = λ same proper. refl;
+  }
+
+  -- one step more was played
+  pub plays_more : (old mid new : AgentAt A) (ss : List Step) (os : List Outcome) (s : Step) (o : Outcome) →
+      Plays meaning own old mid ss os →
+      IsStepPlayed meaning own mid new s o → Plays meaning own old new (ss ++ s ∷ []) (os ++ o ∷ [])
+  plays_more old mid new ss os s o before played =
+      let last = step_ended mid new s o played in
+      let adds = adds_then old mid new before.more last.more
+      (record { same = before.same; begins = before.begins; added = before.added }) last.adds in
+      let q = moves_seen mid.account.seen in
+      let r = moves_seen new.account.seen in
+      let p = prefix_mapped (λ (x : Entry). x.instrs) mid.account.seen new.account.seen last.adds.begins in
+      record {
+        same = adds.same;
+        begins = adds.begins;
+        more = before.more ++ last.more;
+        added = adds.added;
+        told = λ same proper.
+            let m = machine_of meaning old.storage in
+            let first = are_told_later own m q r p ss os _
+            (before.told same (proper_prefix old.storage.init q r p proper)) in
+            let told = subst (λ (t : StorageView A). (meaning t.agg).part ≡ own.part → AreProper t.init r →
+            IsTold own (machine_of meaning t) r s o (map (event_of mid.account.id) last.more)) before.same.storage
+            last.told same proper in
+            let tries = last.tries in
+            subst (AreTold own m r (ss ++ s ∷ []) (os ++ o ∷ []))
+            (sym (added_events old mid before.more last.more before.same))
+            (are_told_more own m r ss os _ _ s o first (told, tries));
+      }

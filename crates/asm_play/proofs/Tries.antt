@@ -1,0 +1,553 @@
+-- One try of a step: what its read and its fire leave, and what its outcome tells.
+use Rattle.std.proofs.Common.{◌≡◌, ◌≢◌, inl, inr, ℕ, zero, suc, ◌+◌, ◌-◌, ◌≤◌, Bool, true, false, cond, nat_lt, List}
+use Rattle.std.proofs.Common.{[], ◌∷◌, ◌++◌, length, take, map, All, Option, Some, None, Result, Ok, Err}
+use Rattle.std.proofs.Common.{Contains, append_assoc, append-nil, length-append, arith, refl, sym, ap, subst, ◌∙◌}
+use Rattle.std.specs.List.{AllByRecursion}
+use Rattle.std.proofs.lemmas.List.{take_at, take_all, map-append}
+use Rattle.std.proofs.lemmas.List.Elements.{All-nil, All-cons, All-append}
+use Rattle.std.proofs.lemmas.Bool.{ltb-false}
+use Rattle.asm_storage.proofs.Lists.{length-prefix}
+use mathlib.Core.List.{IsPrefix}
+use Rattle.asm_element.specs.Place.{Place}
+use Rattle.asm_element.specs.declared.value.Value.{Value}
+use Rattle.asm_update.specs.Aggregator.{Meaning, AggregatorLaws}
+use Rattle.asm_update.specs.Fire.{fire}
+use Rattle.asm_update.specs.Move.{Move}
+use Rattle.asm_update.specs.State.{State, val}
+use Rattle.asm_update.specs.declared.clash.Clash.{Clash}
+use Rattle.asm_state.specs.Stands.{is_stale, after_move}
+use Rattle.asm_state.specs.Verdict.{least_stale}
+use Rattle.asm_state.specs.declared.named.Named.{Named}
+use Rattle.asm_storage.specs.Agents.{event_of, moves_seen}
+use Rattle.asm_storage.specs.Calls.{ReadingView, read_answer, receipt_at, IsAnswered}
+use Rattle.asm_storage.specs.Machine.{Machine, machine_state, firing_reply, fire_reply, reply_to}
+use Rattle.asm_storage.specs.Storage.{AgentAt, StorageView, machine_of, has_looked}
+use Rattle.asm_storage.specs.declared.call.Answer.TheVariants as answer
+use Rattle.asm_storage.specs.declared.call.Call.TheVariants as call
+use Rattle.asm_storage.specs.declared.call.Reply.{Reply}
+use Rattle.asm_storage.specs.declared.call.Reply.TheVariants as reply
+use Rattle.asm_storage.specs.declared.history.Event.{Event}
+use Rattle.asm_storage.specs.declared.receipt.Entry.{Entry}
+use Rattle.asm_storage.specs.declared.receipt.Receipt.{Receipt}
+use Rattle.asm_storage.proofs.Run.{same_value_from, fresh_each, fired_reply}
+use Rattle.asm_play.specs.AgentPlay.{AreProper}
+use Rattle.asm_script.specs.StepReads.{AreReads}
+use Rattle.asm_script.specs.Sequencing.{fired_or_stopped, fire_blocks, step_move_on, IsReadOf, StandsFor, IsStepMove}
+use Rattle.asm_play.specs.StepEvents.{IsIdle, IsFiring, IsClashing, HasNoRoom, HasFault, EndsWith, IsTold}
+use Rattle.asm_play.specs.StepEvents.{stale_fire, stale_fires, read_once, reads_among, AreTries}
+use Rattle.asm_play.specs.Trying.{value_among, read_value, name_at, names_of, HasRead, HasTried, outcome_of}
+use Rattle.asm_play.specs.Trying.{IsEndOf, Adds, IsAgain, IsTry}
+use Rattle.asm_script.specs.declared.step.Step.{Step}
+use Rattle.asm_script.specs.declared.step.StepFault.{StepFault}
+use Rattle.asm_script.specs.declared.step.StepFault.TheVariants as fault
+use Rattle.asm_play.specs.declared.outcome.Outcome.{Outcome}
+use Rattle.asm_play.specs.declared.outcome.Outcome.TheVariants as outcome
+use Rattle.asm_row.proofs.Prefixes.{IsPrefix-trans}
+use Rattle.asm_play.proofs.ProperMoves.{proper_prefix}
+use Rattle.asm_play.proofs.Properness.{moves_proper}
+use Rattle.asm_play.proofs.Counts.{stale_both, reads_both, tries_with, few_reads}
+use Rattle.asm_play.proofs.Readings.{value_mapped}
+
+pub prefix_mapped : {X Y : Type 0} (f : X → Y) (xs ys : List X) → IsPrefix xs ys → IsPrefix (map f xs) (map f ys)
+prefix_mapped f xs ys p = (map f p.0, sym (map-append f xs p.0) ∙ ap (map f) p.1)
+
+-- the first of a longer list
+pub taken_prefix : {X : Type 0} (xs ys : List X) (n : ℕ) → n ≡ length xs → IsPrefix xs ys → take n ys ≡ xs
+taken_prefix xs ys n is p = ap (take n) (sym p.1) ∙ take_at xs p.0 n (sym is)
+
+-- what is added in turn
+pub adds_then : {A : Type 0} (old mid new : AgentAt A) (xs ys : List Receipt) → Adds old mid xs → Adds mid new ys →
+    Adds old new (xs ++ ys)
+adds_then old mid new xs ys first second = record {
+  same = record { storage = second.same.storage ∙ first.same.storage; id = second.same.id ∙ first.same.id };
+  begins = IsPrefix-trans old.account.seen mid.account.seen new.account.seen first.begins second.begins;
+  added = second.added ∙ ap (λ rs. rs ++ ys) first.added ∙ append_assoc old.account.receipts xs ys;
+}
+
+pub adds_none : {A : Type 0} (old : AgentAt A) → Adds old old []
+adds_none old = record {
+  same = record { storage = refl; id = refl };
+  begins = ([], append-nil old.account.seen);
+  added = sym (append-nil old.account.receipts);
+}
+
+-- a receipt of a read is idle, and so is one of a stale fire
+idle_read : (id stood n : ℕ) (places : List Place) (vs : List Value) →
+    IsIdle (event_of id (receipt_at stood (call.Read places) (answer.Read n vs)))
+idle_read id stood n places vs = ((λ bad. cc bad), (λ k bad. cc bad))
+
+idle_stale : (id stood : ℕ) (reads : List Named) (M : Move) (l : Place) →
+    IsIdle (event_of id (receipt_at stood (call.Fire reads M) (answer.Fire (reply.Stale l))))
+idle_stale id stood reads M l = ((λ bad. cc bad), (λ k bad. cc bad))
+
+-- where no named location is stale, each keeps its value
+each_named : (test : Named → Bool) (n : ℕ) (ps : List Place) →
+    AllByRecursion (λ r. test r ≡ false) (map (name_at n) ps) → (l : Place) → Contains ps l → test (name_at n l) ≡ false
+each_named test n [] all l there = absurd (omega (arith, there.1))
+each_named test n (p ∷ ps) all l (zero, lt, is) = subst (λ k. test (name_at n k) ≡ false) is all.0
+each_named test n (p ∷ ps) all l (suc k, lt, is) = each_named test n ps all.1 l (k, omega (arith, lt), is)
+
+fresh_value : (m : Machine) (q : List Move) (r : ReadingView) →
+    least_stale m.part m.init q (names_of (Some r)) ≡ None → r.number ≤ length q →
+    (l : Place) → Contains r.places l → val (machine_state m (take r.number q)) l ≡ val (machine_state m q) l
+fresh_value m q r none le l there =
+    let test : Named → Bool = λ n. is_stale m.part m.init q n.at n.number in
+    same_value_from m m.init q l r.number
+    (each_named test r.number r.places (fresh_each test (names_of (Some r)) none) l there) le
+
+clashed_by : (m : Machine) (q : List Move) (reads : List Named) (M : Move) (c : Clash) →
+    answer.Fire (reply.Clash c) ≡ reply_to m q (call.Fire reads M) →
+    (least_stale m.part m.init q reads ≡ None) × (fire m.part (machine_state m q) M ≡ Err c)
+clashed_by m q reads M c is = by_stale (least_stale m.part m.init q reads) refl told where
+  told : reply.Clash c ≡ fire_reply m q M (least_stale m.part m.init q reads)
+  told = cc is
+
+  not_taken : (b : Bool) → reply.Clash c ≡ cond b (reply.Fired (length q + 1)) reply.Full → ⊥
+  not_taken true is = cc is
+  not_taken false is = cc is
+
+  by_answer : (o : Result State Clash) → fire m.part (machine_state m q) M ≡ o → reply.Clash c ≡ firing_reply m q o →
+      fire m.part (machine_state m q) M ≡ Err c
+  by_answer (Ok B) e is = absurd (not_taken (nat_lt (length q) m.capacity) is)
+  by_answer (Err d) e is = let same : c ≡ d = cc is in e ∙ ap Err (sym same)
+
+  by_stale : (o : Option Place) → least_stale m.part m.init q reads ≡ o → reply.Clash c ≡ fire_reply m q M o →
+      (least_stale m.part m.init q reads ≡ None) × (fire m.part (machine_state m q) M ≡ Err c)
+  by_stale (Some l) e is = absurd (cc is)
+  by_stale None e is = (e, by_answer (fire m.part (machine_state m q) M) refl is)
+
+-- what a fire that found no room tells
+record FoundNoRoom (m : Machine) (q : List Move) (reads : List Named) (M : Move) : Type 0 where
+  many : m.capacity ≤ length q
+  state : State
+  fires : fire m.part (machine_state m q) M ≡ Ok state
+  fresh : least_stale m.part m.init q reads ≡ None
+
+no_room_by : (m : Machine) (q : List Move) (reads : List Named) (M : Move) →
+    answer.Fire reply.Full ≡ reply_to m q (call.Fire reads M) → FoundNoRoom m q reads M
+no_room_by m q reads M is = by_stale (least_stale m.part m.init q reads) refl told where
+  told : reply.Full ≡ fire_reply m q M (least_stale m.part m.init q reads)
+  told = cc is
+
+  not_taken : (b : Bool) → nat_lt (length q) m.capacity ≡ b →
+      reply.Full ≡ cond b (reply.Fired (length q + 1)) reply.Full → m.capacity ≤ length q
+  not_taken true e is = absurd (cc is)
+  not_taken false e is = ltb-false (length q) m.capacity e
+
+  by_answer : (o : Result State Clash) → fire m.part (machine_state m q) M ≡ o → reply.Full ≡ firing_reply m q o →
+      least_stale m.part m.init q reads ≡ None → FoundNoRoom m q reads M
+  by_answer (Ok B) e is none = record {
+    many = not_taken (nat_lt (length q) m.capacity) refl is;
+    state = B;
+    fires = e;
+    fresh = none;
+  }
+  by_answer (Err d) e is none = absurd (cc is)
+
+  by_stale : (o : Option Place) → least_stale m.part m.init q reads ≡ o → reply.Full ≡ fire_reply m q M o →
+      FoundNoRoom m q reads M
+  by_stale (Some l) e is = absurd (cc is)
+  by_stale None e is = by_answer (fire m.part (machine_state m q) M) refl is e
+
+-- a fire that names nothing isn't stale
+not_stale : (m : Machine) (q : List Move) (M : Move) (l : Place) →
+    answer.Fire (reply.Stale l) ≡ reply_to m q (call.Fire [] M) → ⊥
+not_stale m q M l is = by_answer (fire m.part (machine_state m q) M) told where
+  told : reply.Stale l ≡ firing_reply m q (fire m.part (machine_state m q) M)
+  told = cc is
+
+  not_taken : (b : Bool) → reply.Stale l ≡ cond b (reply.Fired (length q + 1)) reply.Full → ⊥
+  not_taken true is = cc is
+  not_taken false is = cc is
+
+  by_answer : (o : Result State Clash) → reply.Stale l ≡ firing_reply m q o → ⊥
+  by_answer (Ok B) is = not_taken (nat_lt (length q) m.capacity) is
+  by_answer (Err d) is = cc is
+
+-- a try of the same locations that ended, and one that is to be made again
+pub try_ended : {A : Type 0} (meaning : A → Meaning) (own : Meaning) (old new : AgentAt A) (step : Step)
+    (ps qs : List Place) (x : Option Outcome) (o : Outcome) → x ≡ Some o → IsTry meaning own old new step ps x →
+    IsTry meaning own old new step qs (Some o)
+try_ended meaning own old new step ps qs x o is tried = subst (IsTry meaning own old new step ps) is tried
+
+pub try_again : {A : Type 0} (meaning : A → Meaning) (own : Meaning) (old new : AgentAt A) (step : Step)
+    (ps qs : List Place) (x : Option Outcome) → ps ≡ qs → x ≡ None → IsTry meaning own old new step ps x →
+    IsAgain qs old new
+try_again meaning own old new step ps qs x same is tried =
+    subst (λ rs. IsAgain rs old new) same (subst (IsTry meaning own old new step ps) is tried)
+
+-- an agent that read has a receipt more, where it read anything
+record HasRead1 {A : Type 0} (places : List Place) (old mid : AgentAt A) : Type 0 where
+  more : List Receipt
+  adds : Adds old mid more
+  idle : All IsIdle (map (event_of old.account.id) more)
+  tries : AreTries 1 places (map (event_of old.account.id) more)
+  fresh : stale_fires (map (event_of old.account.id) more) ≡ 0
+
+-- one read, of a step that reads something
+one_read : (ps : List Place) (es : List Event) → ps ≢ [] → reads_among es ≡ 1 → AreTries 1 ps es
+one_read [] es some is = absurd (some refl)
+one_read (p ∷ ps) es some is = is
+
+module _ {A : Type 0} (meaning : A → Meaning) where
+  read_adds : (old mid : AgentAt A) (places : List Place) (o : Option ReadingView) →
+      HasRead meaning old mid places o → HasRead1 places old mid
+  read_adds old mid places None read = record {
+    more = [];
+    adds = subst (λ (a : AgentAt A). Adds old a []) (sym read.1) (adds_none old);
+    idle = All-nil IsIdle;
+    tries = subst (λ (ps : List Place). AreTries 1 ps []) (sym read.0) refl;
+    fresh = refl;
+  }
+  read_adds old mid places (Some r) read =
+      let receipt = receipt_at (length mid.account.seen) (call.Read places) (read_answer r) in
+      record {
+        more = receipt ∷ [];
+        adds = record {
+          same = record {
+            storage = ap (λ (a : AgentAt A). a.storage) read.1.agent;
+            id = ap (λ (a : AgentAt A). a.account.id) read.1.agent;
+          };
+          begins = read.1.begins;
+          added = ap (λ (a : AgentAt A). a.account.receipts) read.1.agent;
+        };
+        idle = All-cons IsIdle _ [] (idle_read old.account.id (length mid.account.seen) r.number places r.values)
+            (All-nil IsIdle);
+        tries = one_read places (map (event_of old.account.id) (receipt ∷ [])) read.0 refl;
+        fresh = refl;
+      }
+
+  fire_adds : (mid new : AgentAt A) (reads : List Named) (M : Move) (stood : ℕ) (r : Reply) (seen : List Entry) →
+      new.storage ≡ mid.storage → new.account.id ≡ mid.account.id →
+      new.account.receipts ≡ mid.account.receipts ++ receipt_at stood (call.Fire reads M) (answer.Fire r) ∷ [] →
+      IsPrefix mid.account.seen seen → IsPrefix seen new.account.seen →
+      Adds mid new (receipt_at stood (call.Fire reads M) (answer.Fire r) ∷ [])
+  fire_adds mid new reads M stood r seen storage id receipts before begins = record {
+    same = record { storage = storage; id = id };
+    begins = IsPrefix-trans mid.account.seen seen new.account.seen before begins;
+    added = receipts;
+  }
+
+  module _ (own : Meaning) (old mid : AgentAt A) (laws : (a : A) → AggregatorLaws (meaning a)) (step : Step)
+      (places : List Place) (reading : Option ReadingView) (reads : AreReads step places)
+      (read : HasRead meaning old mid places reading) where
+    abbrev m : Machine
+    m = machine_of meaning old.storage
+
+    abbrev here : List Move
+    here = moves_seen mid.account.seen
+
+    -- a state of more moves in which what was read is as it was is one that was read
+    read_of : (q : List Move) → AreProper old.storage.init q →
+        ((l : Place) → Contains places l → val (machine_state m q) l ≡ val (machine_state m here) l) →
+        IsReadOf (machine_state m q) (read_value reading) step
+    read_of q proper same = record {
+      proper = moves_proper (laws old.storage.agg) old.storage.init q proper.state proper.moves;
+      same = λ l there. by_reading reading read l ((reads.named l).1 there);
+    } where
+      by_reading : (o : Option ReadingView) → HasRead meaning old mid places o → (l : Place) → Contains places l →
+          val (machine_state m q) l ≡ read_value o l
+      by_reading None none l there = absurd (omega (arith, (subst (λ (ls : List Place). Contains ls l) none.0 there).1))
+      by_reading (Some r) is l there =
+          let values : r.values ≡ map (val (machine_state m here)) places = cc is.1.reply in
+          same l there ∙ sym (value_mapped (val (machine_state m here)) places l there)
+          ∙ (λ n. value_among (sym is.1.locations n) (sym values n) l)
+
+    -- the state that was read has the fault
+    fault_here : (f : StepFault) → IsStepMove own (read_value reading) step (Err f) → AreProper old.storage.init here →
+        HasFault own m here step f
+    fault_here f move proper = (
+      length here,
+      omega arith,
+      subst (λ q. StandsFor own (machine_state m q) step (Err f)) (sym (take_all (length here) here (omega arith)))
+          (move (machine_state m here) (read_of here proper (λ l there. refl))),
+    )
+
+    -- a step that has no move ends
+    fault_told : (f : StepFault) (o : Outcome) (es : List Event) → IsEndOf f o → All IsIdle es →
+        HasFault own m here step f → IsTold own m here step o es
+    fault_told fault.Term o es is idle has = subst (λ p. IsTold own m here step p es) (sym is) (idle, has)
+    fault_told (fault.Clash c) o es is idle has = subst (λ p. IsTold own m here step p es) (sym is) (inr (idle, has))
+    fault_told (fault.Large l) o es is idle has = subst (λ p. IsTold own m here step p es) (sym is) (idle, has)
+    fault_told fault.Many o es is idle has = subst (λ p. IsTold own m here step p es) (sym is) (idle, inr has)
+    fault_told fault.Memory o es is idle has = absurd is
+
+    not_given_up : (f : StepFault) (o : Outcome) → IsEndOf f o → o ≢ outcome.GaveUp
+    not_given_up fault.Term o is bad = let no : outcome.Term ≡ outcome.GaveUp = sym is ∙ bad in cc no
+    not_given_up (fault.Clash c) o is bad = let no : outcome.Clash c ≡ outcome.GaveUp = sym is ∙ bad in cc no
+    not_given_up (fault.Large l) o is bad = let no : outcome.Large l ≡ outcome.GaveUp = sym is ∙ bad in cc no
+    not_given_up fault.Many o is bad = let no : outcome.Many ≡ outcome.GaveUp = sym is ∙ bad in cc no
+    not_given_up fault.Memory o is bad = absurd is
+
+    -- the try of a step that has no move
+    pub ended_by_fault : (f : StepFault) (o : Outcome) → IsEndOf f o →
+        IsStepMove own (read_value reading) step (Err f) →
+        IsTry meaning own old mid step places (Some o)
+    ended_by_fault f o is move =
+        let had = read_adds old mid places reading read in (
+          record {
+            more = had.more;
+            adds = had.adds;
+            fresh = had.fresh;
+            once = few_reads places 1 (map (event_of old.account.id) had.more) had.tries;
+            told = λ same proper.
+                fault_told f o (map (event_of old.account.id) had.more) is had.idle (fault_here f move proper);
+          },
+          not_given_up f o is,
+        )
+
+    module _ (new : AgentAt A) (M : Move) (move : IsStepMove own (read_value reading) step (Ok M)) where
+      abbrev reads_named : List Named
+      reads_named = names_of reading
+
+      had : HasRead1 places old mid
+      had = read_adds old mid places reading read
+
+      storage_is : mid.storage ≡ old.storage
+      storage_is = had.adds.same.storage
+
+      -- where no name is stale, what was read is as it was
+      unchanged : (q : List Move) → IsPrefix here q → least_stale m.part m.init q reads_named ≡ None →
+          (l : Place) → Contains places l → val (machine_state m q) l ≡ val (machine_state m here) l
+      unchanged q p none l there = by_reading reading read none where
+        by_reading : (o : Option ReadingView) → HasRead meaning old mid places o →
+            least_stale m.part m.init q (names_of o) ≡ None →
+            val (machine_state m q) l ≡ val (machine_state m here) l
+        by_reading None empty none = absurd
+            (omega (arith, (subst (λ (ls : List Place). Contains ls l) empty.0 there).1))
+        by_reading (Some r) is none =
+            let number : r.number ≡ length here = cc is.1.reply in
+            let value = fresh_value m q r none (omega (arith, number, length-prefix here q p)) l
+            (subst (λ (ls : List Place). Contains ls l) (sym is.1.locations) there) in
+            sym value ∙ ap (λ w. val (machine_state m w) l) (taken_prefix here q r.number number p)
+
+      -- and the move stands for the step
+      stands : (q : List Move) → AreProper old.storage.init q → IsPrefix here q →
+          least_stale m.part m.init q reads_named ≡ None → StandsFor own (machine_state m q) step (Ok M)
+      stands q proper p none = move (machine_state m q) (read_of q proper (unchanged q p none))
+
+      blocks_fire : (q : List Move) → m.part ≡ own.part → StandsFor own (machine_state m q) step (Ok M) →
+          fire_blocks m.part (machine_state m q) step ≡ fired_or_stopped (fire m.part (machine_state m q) M)
+      blocks_fire q same stands =
+          subst (λ p. fire_blocks p (machine_state m q) step ≡ fired_or_stopped (fire p (machine_state m q) M)) (sym same) stands.1
+
+      -- the events of the read, and then that of the fire
+      events_of : (r : Receipt) →
+          map (event_of old.account.id) (had.more ++ r ∷ []) ≡ map (event_of old.account.id) had.more ++ event_of
+          old.account.id r ∷ []
+      events_of r = map-append (event_of old.account.id) had.more (r ∷ [])
+
+      ends : (P : Event → Type 0) (r : Receipt) → P (event_of old.account.id r) →
+          EndsWith P (map (event_of old.account.id) (had.more ++ r ∷ []))
+      ends P r holds = (map (event_of old.account.id) had.more, event_of old.account.id r, events_of r, had.idle, holds)
+
+      all_idle : (r : Receipt) → IsIdle (event_of old.account.id r) →
+          All IsIdle (map (event_of old.account.id) (had.more ++ r ∷ []))
+      all_idle r idle = subst (All IsIdle) (sym (events_of r))
+          (All-append IsIdle (map (event_of old.account.id) had.more) (event_of old.account.id r ∷ []) had.idle
+          (All-cons IsIdle _ [] idle (All-nil IsIdle)))
+
+      -- with the receipt of a fire that wasn't stale
+      none_stale : (r : Receipt) → stale_fire r.answer ≡ 0 →
+          stale_fires (map (event_of old.account.id) (had.more ++ r ∷ [])) ≡ 0
+      none_stale r is = omega (
+        arith,
+        ap stale_fires (events_of r),
+        stale_both (map (event_of old.account.id) had.more) (event_of old.account.id r ∷ []),
+        had.fresh,
+        is,
+      )
+
+      read_at_most : (r : Receipt) → read_once r.answer ≡ 0 →
+          reads_among (map (event_of old.account.id) (had.more ++ r ∷ [])) ≤ 1
+      read_at_most r is = omega (
+        arith,
+        ap reads_among (events_of r),
+        reads_both (map (event_of old.account.id) had.more) (event_of old.account.id r ∷ []),
+        few_reads places 1 (map (event_of old.account.id) had.more) had.tries,
+        is,
+      )
+
+      replied : (r : Reply) (q : List Move) →
+          answer.Fire r ≡ reply_to (machine_of meaning mid.storage) q (call.Fire reads_named M) →
+          answer.Fire r ≡ reply_to m q (call.Fire reads_named M)
+      replied r q is = is ∙ ap (λ (s : StorageView A). reply_to (machine_of meaning s) q (call.Fire reads_named M))
+          storage_is
+
+      -- the fire was answered Fired
+      fired_told : (k : ℕ) → IsAnswered meaning mid new reads_named M (reply.Fired k) →
+          IsTry meaning own old new step places (Some (outcome.Fired k))
+      fired_told k is =
+          let agent = is.agent in
+          let seen = take (k - 1) new.account.seen in
+          let q = moves_seen seen in
+          let all = moves_seen new.account.seen in
+          let r = receipt_at (k - 1) (call.Fire reads_named M) (answer.Fire (reply.Fired k)) in
+          let entry : Entry = record { agent = mid.account.id; instrs = M } in
+          let longer : new.account.seen ≡ seen ++ entry ∷ [] = ap (λ (a : AgentAt A). a.account.seen) agent in
+          let adds = fire_adds mid new reads_named M (k - 1) (reply.Fired k) seen
+          (ap (λ (a : AgentAt A). a.storage) agent) (ap (λ (a : AgentAt A). a.account.id) agent)
+          (ap (λ (a : AgentAt A). a.account.receipts) agent) is.begins (entry ∷ [], sym longer) in
+          let moves_more : all ≡ q ++ M ∷ [] = ap moves_seen longer
+          ∙ map-append (λ (x : Entry). x.instrs) seen (entry ∷ []) in
+          let by = fired_reply m q reads_named M k (replied (reply.Fired k) q is.reply) in
+          let B = after_move m.part (machine_state m q) M in
+          let first : take (k - 1) all ≡ q = ap (take (k - 1)) moves_more
+          ∙ take_at q (M ∷ []) (k - 1) (omega (arith, by.number)) in
+          let whole : take k all ≡ take (k - 1) all ++ M ∷ [] =
+          take_all k all (omega (arith, by.number, ap length moves_more, length-append q (M ∷ []))) ∙ moves_more
+          ∙ ap (λ w. w ++ M ∷ []) (sym first) in
+          let before = prefix_mapped (λ (x : Entry). x.instrs) mid.account.seen seen is.begins in (
+            record {
+              more = had.more ++ r ∷ [];
+              adds = adds_then old mid new had.more (r ∷ []) had.adds adds;
+              fresh = none_stale r refl;
+              once = read_at_most r refl;
+              told = λ same proper.
+                  let proper_q = proper_prefix old.storage.init q all (M ∷ [], sym moves_more) proper in
+                  let stands_q = stands q proper_q before by.fresh in
+                  ends (IsFiring own m all step k) r (
+                    reads_named,
+                    M,
+                    refl,
+                    refl,
+                    omega (arith, by.number),
+                    whole,
+                    subst (λ w. step_move_on own (machine_state m w) None step ≡ Ok M) (sym first) stands_q.0,
+                    (
+                      B,
+                      subst (λ w. fire m.part (machine_state m w) M ≡ Ok B) (sym first) by.fires,
+                      subst (λ w. fire_blocks m.part (machine_state m w) step ≡ Ok B) (sym first)
+                          (blocks_fire q same stands_q ∙ ap fired_or_stopped by.fires),
+                    ),
+                  );
+            },
+            (λ bad. cc bad),
+          )
+
+      -- another answer keeps what was seen
+      answered_adds : (r : Reply) → IsPrefix mid.account.seen new.account.seen →
+          new ≡ record (has_looked mid new.account.seen new.misses) {
+            account = record (has_looked mid new.account.seen new.misses).account {
+              receipts = mid.account.receipts ++ receipt_at (length new.account.seen) (call.Fire reads_named M)
+                  (answer.Fire r) ∷ [];
+            };
+          } → Adds old new (had.more ++ receipt_at (length new.account.seen) (call.Fire reads_named M)
+          (answer.Fire r) ∷ [])
+      answered_adds r begins agent =
+          adds_then old mid new had.more _ had.adds
+          (fire_adds mid new reads_named M (length new.account.seen) r new.account.seen
+          (ap (λ (a : AgentAt A). a.storage) agent)
+          (ap (λ (a : AgentAt A). a.account.id) agent) (ap (λ (a : AgentAt A). a.account.receipts) agent) begins
+          ([], append-nil new.account.seen))
+
+      -- where a fire was stale, something was read
+      reads_some : (l : Place) → IsAnswered meaning mid new reads_named M (reply.Stale l) → places ≢ []
+      reads_some l is none =
+          by_reading reading read (replied (reply.Stale l) (moves_seen new.account.seen) is.reply) where
+            by_reading : (o : Option ReadingView) → HasRead meaning old mid places o →
+                answer.Fire (reply.Stale l) ≡ reply_to m (moves_seen new.account.seen) (call.Fire (names_of o) M) → ⊥
+            by_reading None read is = not_stale m (moves_seen new.account.seen) M l is
+            by_reading (Some r) read is = read.0 none
+
+      -- the fire was answered, or it was busy
+      pub ended_by_fire : (o : Option Reply) → HasTried meaning mid new reads_named M o →
+          IsTry meaning own old new step places (outcome_of o)
+      ended_by_fire (Some (reply.Fired k)) is = fired_told k is
+      ended_by_fire (Some (reply.Clash c)) is =
+          let all = moves_seen new.account.seen in
+          let by = clashed_by m all reads_named M c (replied (reply.Clash c) all is.reply) in
+          let before = prefix_mapped (λ (x : Entry). x.instrs) mid.account.seen new.account.seen is.begins in
+          let r = receipt_at (length new.account.seen) (call.Fire reads_named M) (answer.Fire (reply.Clash c)) in (
+            record {
+              more = had.more ++ r ∷ [];
+              adds = answered_adds (reply.Clash c) is.begins is.agent;
+              fresh = none_stale r refl;
+              once = read_at_most r refl;
+              told = λ same proper.
+                  let stands_here = stands all proper before by.0 in
+                  let whole = take_all (length all) all (omega arith) in
+                  inl (ends (IsClashing own m all step c) r (
+                    reads_named,
+                    M,
+                    refl,
+                    refl,
+                    length all,
+                    omega arith,
+                    subst (λ q. step_move_on own (machine_state m q) None step ≡ Ok M) (sym whole) stands_here.0,
+                    ap (λ q. fire_blocks m.part (machine_state m q) step) whole ∙ blocks_fire all same stands_here
+                        ∙ ap fired_or_stopped by.1,
+                  ));
+            },
+            (λ bad. cc bad),
+          )
+      ended_by_fire (Some reply.Full) is =
+          let all = moves_seen new.account.seen in
+          let by = no_room_by m all reads_named M (replied reply.Full all is.reply) in
+          let before = prefix_mapped (λ (x : Entry). x.instrs) mid.account.seen new.account.seen is.begins in
+          let r = receipt_at (length new.account.seen) (call.Fire reads_named M) (answer.Fire reply.Full) in (
+            record {
+              more = had.more ++ r ∷ [];
+              adds = answered_adds reply.Full is.begins is.agent;
+              fresh = none_stale r refl;
+              once = read_at_most r refl;
+              told = λ same proper.
+                  let stands_here = stands all proper before by.fresh in
+                  let whole = take_all (length all) all (omega arith) in
+                  ends (HasNoRoom own m all step) r (
+                    reads_named,
+                    M,
+                    refl,
+                    refl,
+                    length all,
+                    omega arith,
+                    by.many,
+                    subst (λ q. step_move_on own (machine_state m q) None step ≡ Ok M) (sym whole) stands_here.0,
+                    (
+                      by.state,
+                      ap (λ q. fire_blocks m.part (machine_state m q) step) whole ∙ blocks_fire all same stands_here
+                          ∙ ap fired_or_stopped by.fires,
+                    ),
+                  );
+            },
+            (λ bad. cc bad),
+          )
+      ended_by_fire (Some (reply.Stale l)) is =
+          let r = receipt_at (length new.account.seen) (call.Fire reads_named M) (answer.Fire (reply.Stale l)) in
+          let one : stale_fire r.answer ≡ 1 = refl in
+          record {
+            more = had.more ++ r ∷ [];
+            adds = answered_adds (reply.Stale l) is.begins is.agent;
+            idle = all_idle r (idle_stale old.account.id (length new.account.seen) reads_named M l);
+            tries = subst (AreTries 1 places) (sym (events_of r))
+                (tries_with places 1 (map (event_of old.account.id) had.more) (event_of old.account.id r ∷ [])
+                (reads_some l is) had.tries refl);
+            cause = inl (
+              (had.more, r, l, refl, refl),
+              omega (
+                arith,
+                ap stale_fires (events_of r),
+                stale_both (map (event_of old.account.id) had.more) (event_of old.account.id r ∷ []),
+                had.fresh,
+                one,
+              ),
+            );
+          }
+      ended_by_fire None is = record {
+        more = had.more ++ [];
+        adds = adds_then old mid new had.more [] had.adds (record {
+          same = record {
+            storage = ap (λ (a : AgentAt A). a.storage) is.agent;
+            id = ap (λ (a : AgentAt A). a.account.id) is.agent;
+          };
+          begins = is.begins;
+          added = ap (λ (a : AgentAt A). a.account.receipts) is.agent ∙ sym (append-nil mid.account.receipts);
+        });
+        idle = subst (λ rs. All IsIdle (map (event_of old.account.id) rs)) (sym (append-nil had.more)) had.idle;
+        tries = subst (λ rs. AreTries 1 places (map (event_of old.account.id) rs)) (sym (append-nil had.more))
+            had.tries;
+        cause = inr (
+          subst (λ rs. stale_fires (map (event_of old.account.id) rs) ≡ 0) (sym (append-nil had.more)) had.fresh,
+          omega (arith, is.longer, length-prefix old.account.seen mid.account.seen had.adds.begins),
+        );
+      }

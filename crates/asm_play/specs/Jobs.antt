@@ -1,0 +1,24 @@
+-- What a list of jobs gives.
+use Rattle.std.specs.Prelude.{List, [], ◌∷◌, Result, Ok, Err}
+use Rattle.asm_play.specs.declared.workers.WorkersError.{WorkersError}
+use Rattle.asm_play.specs.declared.workers.WorkersError.TheVariants.{NoThread, Memory}
+
+-- each job gave what stands at its place
+abbrev pub GivesEach : {J X : Type 0} → (J → X → Type 0) → List J → List X → Type 0
+GivesEach gives [] [] = Unit {0}
+GivesEach gives (j ∷ jobs) (x ∷ done) = gives j x × GivesEach gives jobs done
+GivesEach gives [] (x ∷ done) = ⊥
+GivesEach gives (j ∷ jobs) [] = ⊥
+
+-- the error that is told of two: a missing thread before an allocation failure
+abbrev pub told_first : WorkersError → WorkersError → WorkersError
+told_first NoThread _ = NoThread
+told_first Memory other = other
+
+-- the error that is told of two halves: that of one, the first to be told of two, and an allocation failure where there is
+-- none, as what both gave was to be put together
+abbrev pub error_of_both : {X Y : Type 0} → Result X WorkersError → Result Y WorkersError → WorkersError
+error_of_both (Ok x) (Ok y) = Memory
+error_of_both (Ok x) (Err g) = g
+error_of_both (Err f) (Ok y) = f
+error_of_both (Err f) (Err g) = told_first f g

@@ -1,0 +1,7 @@
+pub mod Standard
+pub mod StepEvents
+pub mod AgentPlay
+pub mod Trying
+pub mod Jobs
+pub mod PlayedAgents
+pub mod Play

@@ -1,0 +1,71 @@
+//! What playing a script leaves.
+ghost use Rattle.std.specs.Prelude.{◌≡◌};
+ghost use Rattle.asm_play.specs.declared.outcome.RunError.TheVariants as run_error;
+
+use asm_element::{Items, Location};
+use asm_storage::History;
+use asm_update::Clash;
+use std::alloc::{AllocError, AllocFailed};
+use thiserror::Error;
+
+/// What became of a step.
+#[derive(Debug, Drop)]
+pub enum Outcome {
+    /// It fired as the move with this number.
+    Fired(u32),
+    /// Its updates clash at this location.
+    Clash(Clash),
+    /// As many moves were fired as the capacity.
+    Full,
+    /// A term of it has no value.
+    Term,
+    /// A composed amount at this location, or the sum of the composed increments there, is too large.
+    Large(Location),
+    /// Its blocks compose to more than 4,096 instructions.
+    Many,
+    /// It was tried 1,001 times, and each time a location that it had read was written, or its offers were
+    /// lost to other agents.
+    GaveUp,
+}
+
+/// What playing a script leaves: its history, and the outcomes of each agent's steps.
+#[derive(Debug, Drop)]
+pub struct Played {
+    /// The answered calls of the agents in one order.
+    pub history: History,
+    /// For each agent the outcomes of its steps, in order.
+    pub outcomes: Items<Items<Outcome>>,
+}
+
+/// Why a script was not played to its end.
+#[derive(Clone, Copy, Debug, PartialEq, Eq, Error)]
+pub enum RunError {
+    /// The capacity is not in the range from 1 to 1,048,576.
+    #[error("the capacity is not in 1 to 1,048,576")]
+    BadCapacity,
+    /// A thread for an agent couldn't be started.
+    #[error("no thread")]
+    NoThread,
+    /// The move with this number has no receipt.
+    #[error("missing move {0}")]
+    Missing(u32),
+    /// The memory that the call asked for was refused.
+    #[error("out of memory")]
+    Memory,
+}
+
+impl From<AllocError> for RunError {
+    ghost from_gives = { λ _ e. e ≡ run_error.Memory };
+
+    fn from(_refused: AllocError) -> RunError {
+        RunError::Memory
+    }
+}
+
+impl<T: Drop> From<AllocFailed<T>> for RunError {
+    ghost from_gives = { λ _ e. e ≡ run_error.Memory };
+
+    fn from(_refused: AllocFailed<T>) -> RunError {
+        RunError::Memory
+    }
+}

@@ -1,0 +1,284 @@
+//! Playing a script: its agents on one storage, each on a thread of its own.
+ghost use Rattle.std.specs.Prelude.{◌≡◌, ◌≢◌, ◌↔◌, ◌≤◌, ◌<◌, ◌⊎◌, List, [], All, IfOk, IfErr, IsErrOf, get_or, length};
+ghost use Rattle.std.specs.Prelude.{map, vec_len};
+ghost use Rattle.std.specs.List.{range_with_len};
+ghost use Rattle.asm_storage.specs.Storage.{accounts, at_start};
+ghost use Rattle.asm_play.specs.Play.{IsNoCapacity, IsPlayOf};
+ghost use Rattle.asm_play.specs.AgentPlay.{Plays};
+ghost use Rattle.asm_play.specs.Standard.{standard_meaning};
+ghost use Rattle.asm_play.specs.PlayedAgents.{steps_at, workers_error_told, close_error_told, ArePlayed, IsNotClosed};
+ghost use Rattle.asm_play.specs.Jobs.{GivesEach};
+ghost use Rattle.asm_play.specs.declared.workers.WorkersError.TheVariants as workers_error;
+
+use crate::aggregator::{Standard, chosen};
+use crate::gate::{Gate, Passage, Through};
+use crate::outcome::{Outcome, Played, RunError};
+use crate::player::{PlayedAgent, Player};
+use crate::proper::proper_history;
+use crate::workers;
+use crate::workers::{Task, WorkersError};
+use asm_element::Items;
+use asm_script::{Script, Step};
+use asm_storage::{Agent, CloseError, Storage};
+use asm_update::Aggregator;
+use std::alloc::{AllocError, Global};
+use std::marker::Sync;
+use std::sync::Wait;
+use std::thread::Threads;
+
+/// The greatest capacity.
+const CAPACITY_LIMIT: u32 = 1_048_576;
+
+impl From<WorkersError> for RunError {
+    ghost from_gives = { λ w e. e ≡ workers_error_told w };
+
+    fn from(error: WorkersError) -> RunError {
+        match error {
+            WorkersError::NoThread => RunError::NoThread,
+            WorkersError::Memory => RunError::Memory,
+        }
+    }
+}
+
+impl From<CloseError> for RunError {
+    ghost from_gives = { λ e r. r ≡ close_error_told e };
+
+    fn from(error: CloseError) -> RunError {
+        match error {
+            CloseError::Missing(number) => RunError::Missing(number),
+            CloseError::Memory => RunError::Memory,
+        }
+    }
+}
+
+// The steps of agents, by their numbers.
+trait Scripted {
+    ghost use Rattle.asm_script.specs.declared.step.Step.{Step};
+
+    ghost steps: { Self → List (List Step) };
+
+    fn of(&self, id: usize) -> &[Step]
+        ensures { result.now ≡ get_or (steps self.now) id [] };
+}
+
+// The steps as they are written in a script.
+struct WrittenSteps<'p>(&'p [Items<Step>]);
+
+impl<'p> Scripted for WrittenSteps<'p> {
+    ghost steps = { λ w. w.0.now };
+
+    fn of(&self, id: usize) -> &[Step] {
+        match self.0.get(id) {
+            Some(steps) => steps.as_slice(),
+            None => &[],
+        }
+    }
+}
+
+// Plays each agent with the steps that stand at its number.
+struct Playing<'a, P, S> {
+    player: Player<'a, Standard, P>,
+    scripted: S,
+}
+
+impl<'a, 's, P: Passage + Sync, S: Scripted + Sync> Task<
+    Agent<'s, Standard>,
+    PlayedAgent<'s, Standard>,
+> for Playing<'a, P, S> {
+    ghost use Rattle.asm_play.specs.AgentPlay.{Plays};
+    ghost use Rattle.asm_play.specs.PlayedAgents.{steps_at};
+
+    ghost gives = { λ p a t. Plays (⟦<Standard as Aggregator>⟧.meaning)
+        (⟦<Standard as Aggregator>⟧.meaning p.player.aggregator.now) a t.agent
+        (steps_at (S.steps p.scripted) a) t.outcomes.items };
+
+    fn run<R: Wait>(
+        &self,
+        rt: &R,
+        agent: Agent<'s, Standard>,
+    ) -> Result<PlayedAgent<'s, Standard>, AllocError> {
+        let steps = self.scripted.of(agent.id() as usize);
+        self.player.play(rt, agent, steps)
+    }
+}
+
+// Plays each agent on a thread of its own.
+fn played_apart<'s, 'a, R: Threads + Wait + Sync, P: Passage + Sync, S: Scripted + Sync>(
+    rt: &R,
+    alloc: Global,
+    playing: &Playing<'a, P, S>,
+    agents: Vec<Agent<'s, Standard>>,
+) -> Result<Vec<PlayedAgent<'s, Standard>>, WorkersError>
+    ensures played { IfOk result (λ played. GivesEach (λ a t. Plays (⟦<Standard as Aggregator>⟧.meaning)
+        (⟦<Standard as Aggregator>⟧.meaning playing.now.player.aggregator.now) a t.agent
+        (steps_at (S.steps playing.now.scripted) a) t.outcomes.items) agents.entry.items played.items) }
+    ensures threads { IsErrOf result workers_error.NoThread → 2 ≤ vec_len agents.entry }
+{
+    workers::each(rt, alloc, playing, agents)
+}
+
+// Plays each agent, on a thread of its own, with the steps that are written at its number.
+fn played_as_written<'s, 'a, 'p, R: Threads + Wait + Sync, P: Passage + Sync>(
+    rt: &R,
+    alloc: Global,
+    playing: &Playing<'a, P, WrittenSteps<'p>>,
+    agents: Vec<Agent<'s, Standard>>,
+) -> Result<Vec<PlayedAgent<'s, Standard>>, WorkersError>
+    ensures played { IfOk result (λ played. GivesEach (λ a t. Plays (⟦<Standard as Aggregator>⟧.meaning)
+        (⟦<Standard as Aggregator>⟧.meaning playing.now.player.aggregator.now) a t.agent
+        (steps_at playing.now.scripted.0.now a) t.outcomes.items) agents.entry.items played.items) }
+    ensures threads { IsErrOf result workers_error.NoThread → 2 ≤ vec_len agents.entry }
+{
+    played_apart(rt, alloc, playing, agents)
+}
+
+// The storage that the script opens. The capacity is looked at before any memory is asked for.
+fn opened(alloc: Global, script: &Script, capacity: u32) -> Result<Storage<Standard>, RunError>
+    ensures meaning { IfOk result (λ s. ⟦<Standard as Aggregator>⟧.meaning s.agg ≡ standard_meaning) }
+    ensures init { IfOk result (λ s. s.init ≡ script.now.init) }
+    ensures capacity { IfOk result (λ s. length s.row ≡ capacity) }
+    ensures bad { IsErrOf result RunError.BadCapacity ↔ IsNoCapacity capacity }
+    ensures error { IfErr result (λ e. (e ≡ RunError.BadCapacity) ⊎ (e ≡ RunError.Memory)) }
+{
+    if capacity == 0 || CAPACITY_LIMIT < capacity {
+        return Err(RunError::BadCapacity);
+    }
+    let init = script.init().copy(alloc)?;
+    match Storage::new(alloc, chosen(), init, capacity) {
+        Ok(storage) => Ok(storage),
+        Err(_) => Err(RunError::Memory),
+    }
+}
+
+// So many agents of the storage, which may be none.
+fn agents_of<'s>(
+    alloc: Global,
+    storage: &'s Storage<Standard>,
+    count: usize,
+) -> Result<Vec<Agent<'s, Standard>>, AllocError>
+    requires { count ≤ 256 }
+    ensures { IfOk result (λ agents. agents.items ≡ map (at_start storage.now) (range_with_len 0 count)) }
+{
+    if count == 0 {
+        return Ok(Vec::new(alloc));
+    }
+    match storage.agents(alloc, count as u32) {
+        Ok(agents) => Ok(agents),
+        Err(_) => Err(AllocError),
+    }
+}
+
+// The agents that played, and a list of the outcomes of each.
+#[derive(Drop)]
+struct Ended<'s> {
+    agents: Vec<Agent<'s, Standard>>,
+    outcomes: Vec<Items<Outcome>>,
+}
+
+fn told_apart<'s>(
+    alloc: Global,
+    played_agents: Vec<PlayedAgent<'s, Standard>>,
+) -> Result<Ended<'s>, AllocError>
+    ensures agents { IfOk result (λ e. e.agents.items ≡ map (λ t. t.agent) played_agents.entry.items) }
+    ensures outcomes { IfOk result (λ e. e.outcomes.items ≡ map (λ t. t.outcomes.items) played_agents.entry.items) }
+{
+    let mut agents = Vec::new(alloc);
+    let mut outcomes = Vec::new(alloc);
+    for played in played_agents {
+        let PlayedAgent {
+            agent,
+            outcomes: told,
+        } = played;
+        agents.push(agent)?;
+        outcomes.push(Items::new(told))?;
+    }
+    Ok(Ended { agents, outcomes })
+}
+
+// What is left when the agents have played: their closed history, and the outcomes.
+fn closed<'s>(
+    alloc: Global,
+    storage: &Storage<Standard>,
+    script: &Script,
+    ended: Ended<'s>,
+) -> Result<Played, RunError>
+    requires meaning { ⟦<Standard as Aggregator>⟧.meaning storage.now.agg ≡ standard_meaning }
+    requires init { storage.now.init ≡ script.now.init }
+    requires agents { ArePlayed (⟦<Standard as Aggregator>⟧.meaning) standard_meaning storage.now 0
+        script.now.agents ended.agents.items ended.outcomes.items }
+    ensures played { IfOk result (IsPlayOf script.now (length storage.now.row)) }
+    ensures later { IfErr result (λ e. e ≢ RunError.BadCapacity) }
+    ensures missing { IfErr result (IsNotClosed (accounts ended.entry.agents.items)) }
+{
+    let Ended { agents, outcomes } = ended;
+    match storage.close(alloc, agents.as_slice()) {
+        Ok(history) => {
+            proper_history(&history);
+            Ok(Played {
+                history,
+                outcomes: Items::new(outcomes),
+            })
+        }
+        Err(error) => Err(RunError::from(error)),
+    }
+}
+
+// Plays the script on its storage.
+fn play_on<R: Threads + Wait + Sync, G: Gate>(
+    rt: &R,
+    alloc: Global,
+    storage: &Storage<Standard>,
+    script: &Script,
+    gate: &G,
+) -> Result<Played, RunError>
+    requires meaning { ⟦<Standard as Aggregator>⟧.meaning storage.now.agg ≡ standard_meaning }
+    requires init { storage.now.init ≡ script.now.init }
+    ensures played { IfOk result (IsPlayOf script.now (length storage.now.row)) }
+    ensures later { IfErr result (λ e. e ≢ RunError.BadCapacity) }
+    ensures threads { IsErrOf result RunError.NoThread → 2 ≤ length script.now.agents }
+{
+    let scripted = script.agents();
+    let agents = agents_of(alloc, storage, scripted.len())?;
+    let player = Player {
+        alloc,
+        aggregator: storage.aggregator(),
+        passage: Through(gate),
+    };
+    let playing = Playing {
+        player,
+        scripted: WrittenSteps(scripted),
+    };
+    let played = played_as_written(rt, alloc, &playing, agents);
+    let Playing {
+        player: Player {
+            alloc: _,
+            aggregator: _,
+            passage: Through(_),
+        },
+        scripted: WrittenSteps(_),
+    } = playing;
+    let ended = told_apart(alloc, played?)?;
+    closed(alloc, storage, script, ended)
+}
+
+/// Plays the script on a storage for at most `capacity` moves, each agent on a thread of its own, behind the gate.
+///
+/// The history is closed when all agents have ended. `RunError::BadCapacity` comes before anything else, and
+/// exactly for a capacity outside 1 to 1,048,576; `NoThread` where a thread for an agent couldn't be started,
+/// after the agents that were started have ended, and before `Memory`, which comes only where memory was
+/// refused; `Missing` where the agents' receipts don't close.
+pub fn run_script<R: Threads + Wait + Sync, G: Gate>(
+    rt: &R,
+    alloc: Global,
+    script: &Script,
+    capacity: u32,
+    gate: &G,
+) -> Result<Played, RunError>
+    ensures capacity { IsErrOf result RunError.BadCapacity ↔ IsNoCapacity capacity }
+    ensures played { IfOk result (IsPlayOf script.now capacity) }
+    ensures agents { IfOk result (λ p. All (λ e. e.agent < length script.now.agents) p.history.events) }
+    ensures threads { IsErrOf result RunError.NoThread → 2 ≤ length script.now.agents }
+{
+    let storage = opened(alloc, script, capacity)?;
+    play_on(rt, alloc, &storage, script, gate)
+}

@@ -1,0 +1,209 @@
+//! Playing the steps of one agent.
+ghost use Rattle.std.specs.Prelude.{◌≡◌, ◌≤◌, length, IfOk};
+ghost use Rattle.std.specs.Option.{option_copied};
+ghost use Rattle.asm_update.specs.Aggregator.{AggregatorLaws};
+ghost use Rattle.asm_play.specs.AgentPlay.{Plays};
+ghost use Rattle.asm_script.specs.StepReads.{AreReads};
+ghost use Rattle.asm_play.specs.Trying.{names_of, outcome_of, HasRead, HasTried, IsEndOf, IsTry, IsStepPlayed};
+
+use crate::gate::Passage;
+use crate::outcome::Outcome;
+use crate::read_values::ReadValues;
+use asm_element::Location;
+use asm_script::{READS_LIMIT, Step, StepFault, step_move};
+use asm_state::Named;
+use asm_storage::{Agent, FireError, ReadError, Reading, Reply};
+use asm_update::{Aggregator, Instructions};
+use std::alloc::{AllocError, Global};
+use std::sync::Wait;
+
+/// The most tries of a step.
+const TRIES: u32 = 1001;
+
+/// An agent after its steps were played, with the outcome of each.
+#[derive(Drop)]
+pub struct PlayedAgent<'s, A: Aggregator + Sync + Drop> {
+    /// The agent.
+    pub agent: Agent<'s, A>,
+    /// The outcomes of its steps, in order.
+    pub outcomes: Vec<Outcome>,
+}
+
+/// Plays the steps of one agent behind a passage.
+pub struct Player<'a, A, P> {
+    /// The allocator.
+    pub alloc: Global,
+    /// The aggregator that composes the blocks of a step. It has to mean what the storage's means.
+    pub aggregator: &'a A,
+    /// What stands round each call of the agent.
+    pub passage: P,
+}
+
+// Does nothing; its contract tells the laws that aggregators keep.
+fn keeps_laws<A: Aggregator>(aggregator: &A)
+    ensures { (a : A) → AggregatorLaws (A.meaning a) }
+{
+    let _ = aggregator;
+}
+
+// Each location that was read, with the number at which it was read.
+fn names(alloc: Global, reading: &Option<Reading>) -> Result<Vec<Named>, AllocError>
+    ensures { IfOk result (λ names. names.items ≡ names_of reading.now) }
+{
+    let mut names = Vec::new(alloc);
+    let Some(reading) = reading else {
+        return Ok(names);
+    };
+    for i in 0..reading.len() {
+        names.push(reading.named(alloc, i)?)?;
+    }
+    Ok(names)
+}
+
+// The outcome that the reply to a step's fire means; `None` where the step is to be tried again.
+fn outcome(reply: Option<Reply>) -> Option<Outcome>
+    ensures { result ≡ outcome_of reply }
+{
+    match reply? {
+        Reply::Fired(number) => Some(Outcome::Fired(number)),
+        Reply::Clash(clash) => Some(Outcome::Clash(clash)),
+        Reply::Full => Some(Outcome::Full),
+        Reply::Stale(_) => None,
+    }
+}
+
+// The outcome of a step that has no move.
+fn stopped(fault: StepFault) -> Result<Outcome, AllocError>
+    ensures { IfOk result (IsEndOf fault) }
+{
+    match fault {
+        StepFault::Term => Ok(Outcome::Term),
+        StepFault::Clash(clash) => Ok(Outcome::Clash(clash)),
+        StepFault::Large(at) => Ok(Outcome::Large(at)),
+        StepFault::Many => Ok(Outcome::Many),
+        StepFault::Memory => Err(AllocError),
+    }
+}
+
+impl<'a, A: Aggregator + Sync + Drop, P: Passage> Player<'a, A, P> {
+    // One read of the locations, if there are any.
+    fn read<'s, R: Wait>(
+        &self,
+        rt: &R,
+        agent: &mut Agent<'s, A>,
+        calls: &mut u64,
+        places: &[Location],
+    ) -> Result<Option<Reading>, AllocError>
+        requires { length places.now ≤ 256 }
+        ensures { IfOk result (HasRead A.meaning agent.old agent.new places.now) }
+    {
+        if places.is_empty() {
+            return Ok(None);
+        }
+        self.passage.enter(rt, agent.id(), *calls);
+        let answer = agent.read(self.alloc, places);
+        self.passage.leave(rt, agent.id(), *calls);
+        *calls = calls.saturating_add(1);
+        match answer {
+            Ok(reading) => Ok(Some(reading)),
+            Err(ReadError::ManyLocations) => unreachable!(),
+            Err(ReadError::Memory) => Err(AllocError),
+        }
+    }
+
+    // One fire of the move; `None` where its offers were lost.
+    fn fire<'s, R: Wait>(
+        &self,
+        rt: &R,
+        agent: &mut Agent<'s, A>,
+        calls: &mut u64,
+        reads: &[Named],
+        instrs: &Instructions,
+    ) -> Result<Option<Reply>, AllocError>
+        requires { length reads.now ≤ 256 }
+        ensures { IfOk result (HasTried A.meaning agent.old agent.new reads.now instrs.now) }
+    {
+        self.passage.enter(rt, agent.id(), *calls);
+        let passage = &self.passage;
+        let answer = agent.try_fire_with(self.alloc, reads, instrs, &mut || passage.meddle());
+        self.passage.leave(rt, agent.id(), *calls);
+        *calls = calls.saturating_add(1);
+        match answer {
+            Ok(reply) => Ok(Some(reply)),
+            Err(FireError::Busy { .. }) => Ok(None),
+            Err(FireError::ManyReads) => unreachable!(),
+            Err(FireError::Memory) => Err(AllocError),
+        }
+    }
+
+    // One try of the step; `None` where it is to be tried again.
+    fn one_try<'s, R: Wait>(
+        &self,
+        rt: &R,
+        agent: &mut Agent<'s, A>,
+        calls: &mut u64,
+        step: &Step,
+        places: &[Location],
+    ) -> Result<Option<Outcome>, AllocError>
+        requires few { length places.now ≤ 256 }
+        requires reads { AreReads step.now places.now }
+        ensures { IfOk result (
+            IsTry A.meaning (A.meaning self.now.aggregator.now) agent.old agent.new step.now places.now) }
+    {
+        keeps_laws(self.aggregator);
+        let reading = self.read(rt, agent, calls, places)?;
+        let values = ReadValues {
+            reading: reading.as_ref(),
+        };
+        let instrs = match step_move(self.alloc, self.aggregator, step, &values) {
+            Ok(instrs) => instrs,
+            Err(fault) => return Ok(Some(stopped(fault)?)),
+        };
+        let reads = names(self.alloc, &reading)?;
+        let reply = self.fire(rt, agent, calls, reads.as_slice(), &instrs)?;
+        Ok(outcome(reply))
+    }
+
+    // Tries the step until it ends, at most 1,001 times.
+    fn play_step<'s, R: Wait>(
+        &self,
+        rt: &R,
+        agent: &mut Agent<'s, A>,
+        calls: &mut u64,
+        step: &Step,
+    ) -> Result<Outcome, AllocError>
+        ensures { IfOk result (
+            IsStepPlayed A.meaning (A.meaning self.now.aggregator.now) agent.old agent.new step.now) }
+    {
+        let places = step.reads();
+        if places.len() > READS_LIMIT {
+            return Ok(Outcome::Many);
+        }
+        for tried in 0..TRIES {
+            match self.one_try(rt, agent, calls, step, places)? {
+                Some(outcome) => return Ok(outcome),
+                None => {}
+            }
+        }
+        Ok(Outcome::GaveUp)
+    }
+
+    /// Plays each of the steps, in order. `AllocError` comes only where memory was refused; the agent is then dropped.
+    pub fn play<'s, R: Wait>(
+        &self,
+        rt: &R,
+        agent: Agent<'s, A>,
+        steps: &[Step],
+    ) -> Result<PlayedAgent<'s, A>, AllocError>
+        ensures { IfOk result (λ t. Plays A.meaning (A.meaning self.now.aggregator.now)
+            agent.entry t.agent steps.now t.outcomes.items) }
+    {
+        let mut agent = agent;
+        let mut outcomes = Vec::new(self.alloc);
+        let mut calls = 0;
+        for step in steps {
+            outcomes.push(self.play_step(rt, &mut agent, &mut calls, step)?)?;
+        }
+        Ok(PlayedAgent { agent, outcomes })
+    }
+}

@@ -1,0 +1,183 @@
+//! Jobs, each done on a thread of its own.
+ghost use Rattle.std.specs.Prelude.{◌≡◌, ◌≤◌, ◌<◌, ◌++◌, IfOk, IfErr, IsErrOf, IsOkAnd, vec_len};
+ghost use Rattle.std.specs.Thread.{IsSync};
+ghost use denote.Param.Send.{IsSend};
+ghost use Rattle.asm_play.specs.Jobs.{GivesEach, told_first, error_of_both};
+ghost use Rattle.asm_play.specs.declared.workers.WorkersError.TheVariants as errors;
+
+use std::alloc::{AllocError, AllocFailed, Global};
+use std::marker::{PhantomData, Send, Sync};
+use std::snapshot::Snapshot;
+use std::sync::Wait;
+use std::thread;
+use std::thread::{Promise, SpawnError, Threads};
+
+/// What is done with a job.
+pub trait Task<J, X>: Sync {
+    /// What a job may give.
+    ghost gives: { Self → J → X → Type 0 };
+
+    /// Does the job. `AllocError` comes only where memory was refused.
+    fn run<R: Wait>(&self, rt: &R, job: J) -> Result<X, AllocError>
+        ensures { IfOk result (λ x. gives self.now job x) };
+}
+
+/// Why jobs were not done.
+#[derive(Clone, Copy, Debug, PartialEq, Eq)]
+pub enum WorkersError {
+    /// A thread couldn't be started.
+    NoThread,
+    /// The memory that was asked for was refused.
+    Memory,
+}
+
+impl From<AllocError> for WorkersError {
+    ghost from_gives = { λ _ e. e ≡ errors.Memory };
+
+    fn from(_refused: AllocError) -> WorkersError {
+        WorkersError::Memory
+    }
+}
+
+impl<T: Drop> From<AllocFailed<T>> for WorkersError {
+    ghost from_gives = { λ _ e. e ≡ errors.Memory };
+
+    fn from(_refused: AllocFailed<T>) -> WorkersError {
+        WorkersError::Memory
+    }
+}
+
+impl<F: Drop> From<SpawnError<F>> for WorkersError {
+    ghost from_gives = { λ _ e. e ≡ errors.NoThread };
+
+    fn from(_refused: SpawnError<F>) -> WorkersError {
+        WorkersError::NoThread
+    }
+}
+
+impl WorkersError {
+    // Which of two errors is returned: a missing thread goes before an allocation failure.
+    fn first(self, other: WorkersError) -> WorkersError
+        ensures { result ≡ told_first self other }
+    {
+        match self {
+            WorkersError::NoThread => self,
+            WorkersError::Memory => other,
+        }
+    }
+}
+
+// A worker's promise: it hands back what the task gives for each of its jobs.
+struct GivesEachOf<J, X, T: Task<J, X>> {
+    task: Snapshot<T>,
+    jobs: Snapshot<Vec<J>>,
+    done: PhantomData<X>,
+}
+
+impl<J, X, T: Task<J, X>> Drop for GivesEachOf<J, X, T> {
+    fn drop(self) {
+        let GivesEachOf {
+            task: _,
+            jobs: _,
+            done: _,
+        } = self;
+    }
+}
+
+impl<J, X, T: Task<J, X>> Promise<Result<Vec<X>, WorkersError>> for GivesEachOf<J, X, T> {
+    ghost kept_by = { λ p r. IfOk r (λ done. GivesEach (T.gives p.task.value) p.jobs.value.items done.items) };
+}
+
+/// Does each job on a thread of its own, the last on this one. The results stand in the order of the jobs.
+///
+/// The jobs are halved until they stand alone, so a worker starts the workers of its half. It returns when
+/// all of them have ended. The error is `NoThread` where a thread couldn't be started, and otherwise `Memory` where
+/// memory was refused. Fewer than two jobs start no thread.
+#[cycle(halves)]
+pub fn each<R: Threads + Wait + Sync, J: Send + Drop, X: Send + Drop, T: Task<J, X>>(
+    rt: &R,
+    alloc: Global,
+    task: &T,
+    mut jobs: Vec<J>,
+) -> Result<Vec<X>, WorkersError>
+    ensures done { IfOk result (λ done. GivesEach (T.gives task.now) jobs.items done.items) }
+    ensures threads { IsErrOf result errors.NoThread → 2 ≤ vec_len jobs }
+{
+    if jobs.len() < 2 {
+        return at_most_one(rt, alloc, task, jobs);
+    }
+    let second = jobs.split_off(jobs.len() / 2)?;
+    both(rt, alloc, task, jobs, second)
+}
+
+fn at_most_one<R: Wait, J: Drop, X: Drop, T: Task<J, X>>(
+    rt: &R,
+    alloc: Global,
+    task: &T,
+    mut jobs: Vec<J>,
+) -> Result<Vec<X>, WorkersError>
+    requires { vec_len jobs < 2 }
+    ensures done { IfOk result (λ done. GivesEach (T.gives task.now) jobs.items done.items) }
+    ensures error { IfErr result (λ e. e ≡ errors.Memory) }
+{
+    let mut done = Vec::new(alloc);
+    let Some(job) = jobs.pop() else {
+        return Ok(done);
+    };
+    done.push(task.run(rt, job)?)?;
+    Ok(done)
+}
+
+// A worker does the first half while this thread does the second.
+#[cycle(halves)]
+fn both<R: Threads + Wait + Sync, J: Send + Drop, X: Send + Drop, T: Task<J, X>>(
+    rt: &R,
+    alloc: Global,
+    task: &T,
+    first: Vec<J>,
+    second: Vec<J>,
+) -> Result<Vec<X>, WorkersError>
+    ensures { IfOk result (λ done. GivesEach (T.gives task.now) (first.items ++ second.items) done.items) }
+{
+    thread::scope(
+        thread::scope_env(),
+        rt,
+        move |scope| -> Result<Vec<X>, WorkersError>
+            requires { IsSync R.row × IsSync T.row × IsSend J.row × IsSend X.row }
+            ensures { IfOk result (λ done. GivesEach (T.gives task.entry.now) (first.items ++ second.items)
+                done.items) }
+        {
+            let promise = GivesEachOf {
+                task: Snapshot::of(task),
+                jobs: Snapshot::of(&first),
+                done: PhantomData,
+            };
+            let work = move || -> Result<Vec<X>, WorkersError>
+                requires { IsSync R.row × IsSync T.row × IsSend J.row × IsSend X.row }
+                ensures { IfOk result (λ done. GivesEach (T.gives task.entry.now) first.items done.items) }
+            { each(rt, alloc, task, first) };
+            let worker = scope.spawn_with(promise, work)?;
+            let ours = each(rt, alloc, task, second);
+            joined(worker.join(rt), ours)
+        },
+    )
+}
+
+// What both halves gave, in order.
+fn joined<X: Drop>(
+    first: Result<Vec<X>, WorkersError>,
+    second: Result<Vec<X>, WorkersError>,
+) -> Result<Vec<X>, WorkersError>
+    ensures done { IfOk result (λ done. IsOkAnd first (λ a. IsOkAnd second (λ b. done.items ≡ a.items ++ b.items))) }
+    ensures error { IfErr result (λ e. e ≡ error_of_both first second) }
+{
+    match (first, second) {
+        (Ok(mut done), Ok(mut more)) => {
+            done.append(&mut more)?;
+            Ok(done)
+        }
+        (Ok(_), Err(error)) => Err(error),
+        (Err(error), Ok(_)) => Err(error),
+        (Err(error), Err(other)) => Err(error.first(other)),
+    }
+}

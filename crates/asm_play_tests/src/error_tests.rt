@@ -1,0 +1,37 @@
+//! The errors of runs.
+use asm_play::RunError;
+use std::test::Fail;
+
+#[test]
+fn errors_have_their_texts(rt: HostRuntime) -> Result<(), Fail> {
+    for (error, want) in [
+        (
+            RunError::BadCapacity,
+            "the capacity is not in 1 to 1,048,576",
+        ),
+        (RunError::NoThread, "no thread"),
+        (RunError::Missing(3), "missing move 3"),
+        (RunError::Memory, "out of memory"),
+    ] {
+        assert!(rt; error.to_string(rt.alloc())?.as_str() == want, "{want}");
+    }
+    Ok(())
+}
+
+static ERRORS: [RunError; 5] = [
+    RunError::BadCapacity,
+    RunError::NoThread,
+    RunError::Missing(1),
+    RunError::Missing(2),
+    RunError::Memory,
+];
+
+/// Each is equal to itself alone.
+#[test]
+fn errors_that_differ(rt: HostRuntime) {
+    for (i, a) in ERRORS.iter().enumerate() {
+        for (j, b) in ERRORS.iter().enumerate() {
+            assert!(rt; (a == b) == (i == j));
+        }
+    }
+}

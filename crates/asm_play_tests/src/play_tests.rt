@@ -1,0 +1,328 @@
+//! Scripts that agents play at once.
+use asm_aggregate::standard;
+use asm_element::{Element, Location, Value};
+use asm_journal::{Legality, check, from_text, replay, to_text};
+use asm_play::{Gate, Open, Outcome, Played, RunError, run_script};
+use asm_script::{Script, parse_script};
+use std::alloc::Global;
+use std::sync::Wait;
+use std::sync::atomic::{AtomicU64, Ordering};
+use std::test::Fail;
+use std::thread::{Threads, yield_now};
+
+const ADDITION: &str = r#"[[["bagadd",["b"],1,1]]]"#;
+
+const SUM: &str = r#"[[["put",["n"],{"sum":[{"val":["n"]},1]}]]]"#;
+
+const RESET: &str = r#"[[["put",["n"],0]]]"#;
+
+/// Appends an agent with the step so many times.
+fn push_agent(text: &mut String, step: &str, count: usize) -> Result<(), Fail> {
+    text.push_str("[")?;
+    for index in 0..count {
+        if index > 0 {
+            text.push_str(",")?;
+        }
+        text.push_str(step)?;
+    }
+    text.push_str("]")?;
+    Ok(())
+}
+
+/// The script of these agents, each with a step that it has so many times.
+pub(crate) fn script_of(
+    alloc: Global,
+    init: &str,
+    agents: &[(&str, usize)],
+) -> Result<Script, Fail> {
+    let mut text = String::from_str(alloc, r#"{"init":["#)?;
+    text.push_str(init)?;
+    text.push_str(r#"],"agents":["#)?;
+    for (index, agent) in agents.iter().enumerate() {
+        if index > 0 {
+            text.push_str(",")?;
+        }
+        let (step, count) = *agent;
+        push_agent(&mut text, step, count)?;
+    }
+    text.push_str("]}")?;
+    Ok(parse_script(alloc, text.as_bytes())?)
+}
+
+/// What a run of this script behind the gate leaves.
+pub(crate) fn play_behind<R: Threads + Wait + Sync, G: Gate>(
+    rt: &R,
+    alloc: Global,
+    init: &str,
+    agents: &[(&str, usize)],
+    gate: &G,
+) -> Result<Played, Fail> {
+    let script = script_of(alloc, init, agents)?;
+    Ok(run_script(rt, alloc, &script, 4096, gate)?)
+}
+
+/// How often 1 stands in the bag of this name after all moves.
+fn number_of_ones(alloc: Global, played: &Played, name: &str) -> Result<u32, Fail> {
+    let at = Location::new(String::from_str(alloc, name)?, Vec::new(alloc))?;
+    let state = replay(alloc, &standard(), &played.history)?;
+    Ok(match state.get(&at) {
+        Some(Value::Bag(bag)) => bag.count(&Element::Num(1)),
+        _ => 0,
+    })
+}
+
+/// Whether the location of this name has the number after all moves.
+pub(crate) fn has_number(
+    alloc: Global,
+    played: &Played,
+    name: &str,
+    number: i64,
+) -> Result<bool, Fail> {
+    let at = Location::new(String::from_str(alloc, name)?, Vec::new(alloc))?;
+    let state = replay(alloc, &standard(), &played.history)?;
+    Ok(match state.get(&at) {
+        Some(Value::Plain(Element::Num(n))) => *n == number,
+        _ => false,
+    })
+}
+
+#[test]
+fn a_capacity_of_0_is_refused(rt: HostRuntime) -> Result<(), Fail> {
+    let alloc = rt.alloc();
+    let script = script_of(alloc, "", &[])?;
+    match run_script(&rt, alloc, &script, 0, &Open) {
+        Err(error) => assert!(rt; error == RunError::BadCapacity),
+        Ok(_) => assert!(rt; false),
+    }
+    Ok(())
+}
+
+#[test]
+fn a_script_may_have_no_agents(rt: HostRuntime) -> Result<(), Fail> {
+    let played = play_behind(&rt, rt.alloc(), "", &[], &Open)?;
+    assert_eq!(rt; played.history.agents, 0);
+    assert_eq!(rt; played.history.moves(), 0);
+    Ok(())
+}
+
+#[test]
+fn four_agents_add_to_one_bag(rt: HostRuntime) -> Result<(), Fail> {
+    let alloc = rt.alloc();
+    let agents = [
+        (ADDITION, 50usize),
+        (ADDITION, 50),
+        (ADDITION, 50),
+        (ADDITION, 50),
+    ];
+    let played = play_behind(&rt, alloc, r#"[["b"],{"bag":[]}]"#, &agents, &Open)?;
+    assert_eq!(rt; number_of_ones(alloc, &played, "b")?, 200);
+    Ok(())
+}
+
+#[test]
+fn four_agents_count_to_100(rt: HostRuntime) -> Result<(), Fail> {
+    let alloc = rt.alloc();
+    let agents = [(SUM, 25usize), (SUM, 25), (SUM, 25), (SUM, 25)];
+    let played = play_behind(&rt, alloc, r#"[["n"],0]"#, &agents, &Open)?;
+    assert!(rt; has_number(alloc, &played, "n", 100)?);
+    Ok(())
+}
+
+/// How often an agent looks for another, at most. Between two looks it lets other threads run, so that it finds the
+/// other on a busy machine too.
+const LOOKS: u64 = 50_000_000;
+
+/// At its first call each of two agents looks for the other.
+#[derive(Drop)]
+struct Meeting {
+    first: AtomicU64,
+    second: AtomicU64,
+    missed: AtomicU64,
+}
+
+impl Gate for Meeting {
+    fn before<R: Wait>(&self, _rt: &R, agent: u32, call: u64) {
+        if call > 0 {
+            return;
+        }
+        let (mine, other) = match agent {
+            0 => (&self.first, &self.second),
+            _ => (&self.second, &self.first),
+        };
+        mine.store(1, Ordering::SeqCst);
+        for _ in 0..LOOKS {
+            if other.load(Ordering::SeqCst) == 1 {
+                return;
+            }
+            yield_now();
+        }
+        self.missed.store(1, Ordering::SeqCst);
+    }
+
+    fn after<R: Wait>(&self, _rt: &R, _agent: u32, _call: u64) {}
+}
+
+#[test]
+fn agents_play_at_once(rt: HostRuntime) -> Result<(), Fail> {
+    let gate = Meeting {
+        first: AtomicU64::new(0),
+        second: AtomicU64::new(0),
+        missed: AtomicU64::new(0),
+    };
+    let agents = [(RESET, 1usize), (RESET, 1)];
+    let played = play_behind(&rt, rt.alloc(), r#"[["n"],0]"#, &agents, &gate)?;
+    assert_eq!(rt; gate.missed.load(Ordering::SeqCst), 0);
+    assert_eq!(rt; played.history.moves(), 2);
+    Ok(())
+}
+
+/// Between the calls of each try of agent 0 stands a call of agent 1. Where an agent ended with an error, the other
+/// looks for it in vain, and from then on for none.
+#[derive(Drop)]
+struct Overtaking {
+    tried: AtomicU64,
+    written: AtomicU64,
+    missed: AtomicU64,
+}
+
+impl Overtaking {
+    fn is_held(&self, agent: u32, call: u64) -> bool {
+        if self.missed.load(Ordering::SeqCst) == 1 {
+            return false;
+        }
+        match agent {
+            0 => call % 2 == 1 && self.written.load(Ordering::SeqCst) <= call / 2,
+            _ => self.tried.load(Ordering::SeqCst) <= call.saturating_mul(2),
+        }
+    }
+}
+
+impl Gate for Overtaking {
+    fn before<R: Wait>(&self, _rt: &R, agent: u32, call: u64) {
+        for _ in 0..LOOKS {
+            if !self.is_held(agent, call) {
+                return;
+            }
+            yield_now();
+        }
+        self.missed.store(1, Ordering::SeqCst);
+    }
+
+    fn after<R: Wait>(&self, _rt: &R, agent: u32, call: u64) {
+        let answered = call.saturating_add(1);
+        match agent {
+            0 => self.tried.store(answered, Ordering::SeqCst),
+            _ => self.written.store(answered, Ordering::SeqCst),
+        }
+    }
+}
+
+/// What the two agents leave, of which the second writes before each fire of the first.
+fn overtaken<R: Threads + Wait + Sync>(rt: &R, alloc: Global) -> Result<Played, Fail> {
+    let gate = Overtaking {
+        tried: AtomicU64::new(0),
+        written: AtomicU64::new(0),
+        missed: AtomicU64::new(0),
+    };
+    play_behind(
+        rt,
+        alloc,
+        r#"[["n"],0]"#,
+        &[(SUM, 1usize), (RESET, 1001)],
+        &gate,
+    )
+}
+
+/// Whether the only step of the first agent was given up.
+fn gave_up(played: &Played) -> bool {
+    match played.outcomes.as_slice().first() {
+        Some(outcomes) => matches!(outcomes.as_slice(), [Outcome::GaveUp]),
+        None => false,
+    }
+}
+
+#[test]
+fn an_agent_gives_up_after_1001_tries(rt: HostRuntime) -> Result<(), Fail> {
+    let played = overtaken(&rt, rt.alloc())?;
+    assert_eq!(rt; played.history.moves(), 1001);
+    assert!(rt; has_number(rt.alloc(), &played, "n", 0)?);
+    assert!(rt; gave_up(&played));
+    Ok(())
+}
+
+/// Appends the step that an agent has at a place of its list: an addition, a removal, a sum and a put of what is read,
+/// by turns.
+fn push_mixed(text: &mut String, agent: usize, step: usize) -> Result<(), Fail> {
+    match step % 4 {
+        0 => write!(text, r#"[[["add",["s"],{}]]]"#, step)?,
+        1 => write!(text, r#"[[["remove",["s"],{}]]]"#, agent)?,
+        2 => text.push_str(SUM)?,
+        _ => write!(
+            text,
+            r#"[[["put",["m",{}],{}]]]"#,
+            agent, r#"{"val":["n"]}"#
+        )?,
+    }
+    Ok(())
+}
+
+/// Appends an agent with 50 steps.
+fn push_mixed_agent(text: &mut String, agent: usize) -> Result<(), Fail> {
+    text.push_str("[")?;
+    for step in 0..50usize {
+        text.push_str(if step > 0 { "," } else { "" })?;
+        push_mixed(text, agent, step)?;
+    }
+    text.push_str("]")?;
+    Ok(())
+}
+
+/// The script of 16 such agents.
+fn mixed_script(alloc: Global) -> Result<Script, Fail> {
+    let mut text = String::from_str(
+        alloc,
+        r#"{"init":[[["s"],{"set":[]}],[["n"],0]],"agents":["#,
+    )?;
+    for agent in 0..16usize {
+        text.push_str(if agent > 0 { "," } else { "" })?;
+        push_mixed_agent(&mut text, agent)?;
+    }
+    text.push_str("]}")?;
+    Ok(parse_script(alloc, text.as_bytes())?)
+}
+
+/// The journal of a run of the script.
+pub(crate) fn journal_of<R: Threads + Wait + Sync>(
+    rt: &R,
+    alloc: Global,
+    script: &Script,
+) -> Result<String, Fail> {
+    let played = run_script(rt, alloc, script, 4096, &Open)?;
+    if played.history.fits() {
+        Ok(to_text(alloc, &played.history)?)
+    } else {
+        Err(Fail::new("too long a history"))
+    }
+}
+
+/// The numbers of calls and of moves of a legal journal.
+fn legal_calls(alloc: Global, journal: &str) -> Result<(u64, u32), Fail> {
+    let history = from_text(alloc, journal.as_bytes())?;
+    match check(alloc, &standard(), &history)? {
+        Legality::Legal { calls, moves } => Ok((calls, moves)),
+        Legality::Illegal { .. } => Err(Fail::new("an illegal journal")),
+    }
+}
+
+#[test]
+fn mixed_steps_of_16_agents_leave_legal_journals(rt: HostRuntime) -> Result<(), Fail> {
+    let alloc = rt.alloc();
+    let script = mixed_script(alloc)?;
+    for _ in 0..4 {
+        let journal = journal_of(&rt, alloc, &script)?;
+        let (calls, moves) = legal_calls(alloc, journal.as_str())?;
+        assert!(rt; calls >= 1000);
+        assert_eq!(rt; moves, 800);
+    }
+    Ok(())
+}

@@ -1,0 +1,138 @@
+-- Blocks in sequence: the state that they leave, and what the one move of a step owes to it.
+use Rattle.std.specs.Prelude.{◌≡◌, ◌≤◌, ◌<◌, [], ◌∷◌, length, nat_lt, if◌then◌else◌, Option, Some, None}
+use Rattle.std.specs.Prelude.{Result, Ok, Err, unwrap_or, Contains}
+use Rattle.asm_element.specs.Place.{Place}
+use Rattle.asm_update.specs.Aggregator.{Meaning, NoJoin, Refused, TooLarge}
+use Rattle.asm_update.specs.Fire.{Part, Old, fire, IsUpdateSet, IsLeastClash}
+use Rattle.asm_update.specs.Move.{Move}
+use Rattle.asm_update.specs.State.{State, Updates, IsProper, val}
+use Rattle.asm_aggregate.specs.Compose.{composition, IsSequence, NeverFires}
+use Rattle.asm_update.specs.declared.clash.Clash.{Clash}
+use Rattle.asm_script.specs.Blocks.{move_in}
+use Rattle.asm_script.specs.StepReads.{named}
+use Rattle.asm_script.specs.declared.block.Block.{Block}
+use Rattle.asm_script.specs.declared.step.Step.{Step}
+use Rattle.asm_script.specs.declared.step.StepFault.{StepFault}
+use Rattle.asm_script.specs.declared.step.StepFault.TheVariants.{Term, Clash as Clashing, Large, Many, Memory}
+
+-- why blocks in sequence leave no state
+pub data Stop : Type 0 where
+  FaultyTerm : Stop
+  Clashes : Clash → Stop
+
+-- what firing leaves, or why it stops
+abbrev pub fired_or_stopped : Result State Clash → Result State Stop
+fired_or_stopped (Ok A) = Ok A
+fired_or_stopped (Err clash) = Err (Clashes clash)
+
+-- what firing the move leaves, if there is one; where a term was faulty there is none
+abbrev pub fire_move : Part → State → Option Move → Result State Stop
+fire_move part A (Some M) = fired_or_stopped (fire part A M)
+fire_move part A None = Err FaultyTerm
+
+-- the state that a block leaves; its terms have their values in the state before it
+abbrev pub fire_block : Part → State → Block → Result State Stop
+fire_block part A b = fire_move part A (move_in (val A) b)
+
+-- what comes after a state, if there is one
+abbrev pub on_state : (State → Result State Stop) → Result State Stop → Result State Stop
+on_state next (Ok A) = next A
+on_state next (Err stop) = Err stop
+
+-- the state that the blocks of a step leave, fired in turn (sequential composition in Börger and Stärk)
+abbrev pub fire_blocks : Part → State → Step → Result State Stop
+fire_blocks part A [] = Ok A
+fire_blocks part A (b ∷ bs) = on_state (λ B. fire_blocks part B bs) (fire_block part A b)
+
+-- a state that a program can hold, and that has what is looked up at each location that the step names
+pub record IsReadOf (A : State) (old : Old) (step : Step) : Type 0 where
+  pub proper : IsProper A
+  pub same : (l : Place) → Contains (named step) l → val A l ≡ old l
+
+-- some clash stops the blocks
+abbrev pub IsStopped : Result State Stop → Type 0
+IsStopped r = (clash : Clash) × (r ≡ Err (Clashes clash))
+
+-- the fault of a step that is refused at a location
+abbrev pub refused_at : Place → NoJoin → StepFault
+refused_at l (Refused cause) = Clashing (record { at = l; cause = cause })
+refused_at l TooLarge = Large l
+
+-- what was composed, if it has at most 4,096 instructions, or the fault
+abbrev pub fitting : Result Move (Place × NoJoin) → Result Move StepFault
+fitting (Ok C) = if nat_lt 4096 (length C) then Err Many else Ok C
+fitting (Err (l, refusal)) = Err (refused_at l refusal)
+
+-- what the earlier moves, if there are any, and then the next one compose to, or the fault
+abbrev pub composed_on : Meaning → Option Move → Move → Result Move StepFault
+composed_on a None N = Ok N
+composed_on a (Some M) N = fitting (composition a M N)
+
+-- what comes after a block's move, if there is one; where a term was faulty there is none
+abbrev pub on_move : (Move → Result Move StepFault) → Option Move → Result Move StepFault
+on_move next (Some M) = next M
+on_move next None = Err Term
+
+-- what comes after the state that is left, if there is one
+abbrev pub on_fired : (State → Result Move StepFault) → Result State Clash → Result Move StepFault
+on_fired next (Ok B) = next B
+on_fired next (Err clash) = Err (Clashing clash)
+
+-- what comes after moves that compose
+abbrev pub on_composed : (Move → Result Move StepFault) → Result Move StepFault → Result Move StepFault
+on_composed next (Ok C) = next C
+on_composed next (Err fault) = Err fault
+
+-- The one move of a step on a state, or why there is none; before it come moves that compose to this one. Each block's
+-- terms have their values in the state that the blocks before it leave. The last block isn't fired.
+abbrev pub step_move_on : Meaning → State → Option Move → Step → Result Move StepFault
+step_move_on a A before [] = Ok (unwrap_or before [])
+step_move_on a A before (b ∷ []) = on_move (composed_on a before) (move_in (val A) b)
+step_move_on a A before (b ∷ c ∷ bs) =
+    on_move (λ M. on_fired (λ B. on_composed (λ C. step_move_on a B (Some C) (c ∷ bs)) (composed_on a before M))
+    (fire a.part A M)) (move_in (val A) b)
+
+-- What a step's move owes to a state that was read: it is the one there. Firing it leaves what the blocks leave, and
+-- its clash is theirs. Where a term is faulty, the blocks stop there. Where blocks clash, or an amount or a sum is too
+-- large, a clash stops them in turn.
+abbrev pub StandsFor : Meaning → State → Step → Result Move StepFault → Type 0
+StandsFor a A step (Ok M) =
+    (step_move_on a A None step ≡ Ok M) × (fire_blocks a.part A step ≡ fired_or_stopped (fire a.part A M))
+StandsFor a A step (Err Term) = (step_move_on a A None step ≡ Err Term) × (fire_blocks a.part A step ≡ Err FaultyTerm)
+StandsFor a A step (Err (Clashing clash)) =
+    (step_move_on a A None step ≡ Err (Clashing clash)) × IsStopped (fire_blocks a.part A step)
+StandsFor a A step (Err (Large l)) =
+    (step_move_on a A None step ≡ Err (Large l)) × IsStopped (fire_blocks a.part A step)
+StandsFor a A step (Err Many) = step_move_on a A None step ≡ Err Many
+StandsFor a A step (Err Memory) = Unit {0}
+
+-- the answer stands for the step on each state that was read
+abbrev pub IsStepMove : Meaning → Old → Step → Result Move StepFault → Type 0
+IsStepMove a old step answer = (A : State) → IsReadOf A old step → StandsFor a A step answer
+
+-- the answer is the block's move, or a term of the block is faulty
+abbrev pub IsNext : Option Move → Result Move StepFault → Type 0
+IsNext there (Ok M) = there ≡ Some M
+IsNext there (Err Term) = there ≡ None
+IsNext there (Err Memory) = Unit {0}
+IsNext there (Err _) = ⊥
+
+-- the answer is the move's update set, or its clash
+abbrev pub IsFrame : Part → Old → Move → Result Updates StepFault → Type 0
+IsFrame part old M (Ok U) = IsUpdateSet part old M U
+IsFrame part old M (Err (Clashing clash)) = IsLeastClash part old M clash
+IsFrame part old M (Err Memory) = Unit {0}
+IsFrame part old M (Err _) = ⊥
+
+-- the answer is what the earlier move, if there is one, and the next one compose to, and does what they do in turn; or
+-- why they don't compose, and where they are refused no state lets both fire
+abbrev pub Extends : Meaning → Option Move → Move → Result Move StepFault → Type 0
+Extends a None N (Ok C) = C ≡ N
+Extends a None N (Err fault) = ⊥
+Extends a (Some M) N (Ok C) = IsSequence a.part M N C × (composition a M N ≡ Ok C) × (length C ≤ 4096)
+Extends a (Some M) N (Err Term) = ⊥
+Extends a (Some M) N (Err (Clashing clash)) =
+    NeverFires a.part M N × (composition a M N ≡ Err (clash.at, Refused clash.cause))
+Extends a (Some M) N (Err (Large l)) = NeverFires a.part M N × (composition a M N ≡ Err (l, TooLarge))
+Extends a (Some M) N (Err Many) = (C : Move) × (composition a M N ≡ Ok C) × (4096 < length C)
+Extends a (Some M) N (Err Memory) = Unit {0}

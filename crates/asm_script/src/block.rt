@@ -1,0 +1,204 @@
+//! Blocks: instructions with terms.
+ghost use Rattle.std.specs.Prelude.{◌≡◌, ◌↔◌, ◌<◌, ◌≤◌, length, vec_len, IfOk, IfSome, IsNone};
+ghost use Rattle.std.specs.List.{list_all};
+ghost use Rattle.asm_script.specs.Terms.{term_value, given_element, IsEvaluated};
+ghost use Rattle.asm_script.specs.Ready.{is_ready, written_form, is_ready_form};
+ghost use Rattle.asm_script.specs.Blocks.{action_in, instruction_in, move_in, IsReady};
+
+use crate::ready::{are_ready, ready_instructions};
+use crate::term::{Term, TermFault, evaluate};
+use asm_element::{Element, Location, Value};
+use asm_update::{
+    Action, Amount, INSTRUCTIONS_LIMIT, Instruction, Instructions, InstructionsError, Lookup,
+};
+use std::alloc::{AllocError, Global};
+use std::marker::Model;
+
+/// What an instruction of a script does at its location.
+#[derive(Debug, Drop)]
+pub enum TermAction {
+    /// Writes the term's value; undef leaves nothing there.
+    Put(Term),
+    /// Adds the element that the term stands for to a set.
+    Add(Term),
+    /// Removes the element that the term stands for from a set.
+    Remove(Term),
+    /// Raises the count of the element that the term stands for in a bag by the amount.
+    BagAdd(Term, Amount),
+    /// Lowers the count of the element that the term stands for in a bag by the amount.
+    BagRemove(Term, Amount),
+    /// Raises the number of a counter by this one, which may be 0 or below.
+    Increment(i64),
+}
+
+/// An instruction of a script: what is done at a location, with a term in place of the value or the
+/// element. Locations, amounts and the numbers of increments are written out.
+#[derive(Debug, Drop)]
+pub struct TermInstruction {
+    /// The location that is written.
+    pub at: Location,
+    /// What is done there.
+    pub action: TermAction,
+}
+
+/// How a block is kept.
+#[derive(Debug, Drop)]
+pub(crate) enum Form {
+    /// Instructions with terms.
+    Terms(Vec<TermInstruction>),
+    /// The instructions that the block gives in each state, where all its terms are written out.
+    Ready(Instructions),
+}
+
+/// The instructions of one block, at most 4,096. Contracts see it as their list.
+#[derive(Debug, Drop)]
+pub struct Block {
+    form: Form,
+}
+
+impl Model for Block {
+    ghost use Rattle.std.specs.Prelude.{List, length, ◌≤◌};
+    ghost use Rattle.std.specs.Coded.{coded_list};
+    ghost use Rattle.asm_script.specs.declared.block.TermInstruction.{TermInstruction};
+    ghost use Rattle.asm_script.specs.contracts.block.TermInstruction.{the_row as instruction_row};
+    ghost use Rattle.asm_script.specs.Ready.{written_form};
+
+    ghost Value = { List TermInstruction };
+
+    ghost coded = { coded_list instruction_row.coded };
+
+    ghost view = { λ b. written_form b.form };
+
+    ghost invariant = { λ b. length (written_form b.form) ≤ 4096 };
+}
+
+/// The form in which these instructions are kept: ready where all their terms are written out.
+fn form_of(alloc: Global, instructions: Vec<TermInstruction>) -> Result<Form, AllocError>
+    requires { vec_len instructions ≤ 4096 }
+    ensures written { IfOk result (λ form. written_form form ≡ instructions.items) }
+    ensures ready { IfOk result
+        (λ form. is_ready_form form ≡ list_all is_ready instructions.items) }
+{
+    if !are_ready(instructions.as_slice()) {
+        return Ok(Form::Terms(instructions));
+    }
+    let made = ready_instructions(alloc, instructions)?;
+    match Instructions::from_vec(alloc, made) {
+        Ok(instructions) => Ok(Form::Ready(instructions)),
+        Err(InstructionsError::ManyInstructions) => unreachable!(),
+        Err(InstructionsError::Memory) => Err(AllocError),
+    }
+}
+
+impl Block {
+    /// The block of these instructions; None where there are more than 4,096. It takes no memory.
+    pub fn new(instructions: Vec<TermInstruction>) -> Option<Block>
+        ensures block { IfSome result (λ b. b ≡ instructions.items) }
+        ensures many { IsNone result ↔ (4096 < vec_len instructions) }
+    {
+        if instructions.len() > INSTRUCTIONS_LIMIT {
+            return None;
+        }
+        let form = Form::Terms(instructions);
+        Some(Block { form })
+    }
+
+    /// The same block, kept as its instructions where all its terms are written out, so that
+    /// evaluation shares them. `AllocError` comes only where memory was refused.
+    pub(crate) fn prepared(self, alloc: Global) -> Result<Block, AllocError>
+        ensures { IfOk result (λ b. b ≡ self) }
+    {
+        let Block { form } = self;
+        let form = match form {
+            Form::Terms(instructions) => form_of(alloc, instructions)?,
+            Form::Ready(instructions) => Form::Ready(instructions),
+        };
+        Ok(Block { form })
+    }
+
+    /// How the block is kept.
+    pub(crate) fn form(&self) -> &Form
+        ensures form { written_form result.now ≡ self.now }
+        ensures ready { IsReady result.now self.now }
+        ensures few { length self.now ≤ 4096 }
+    {
+        &self.form
+    }
+}
+
+/// The element that a term stands for.
+fn element<L: Lookup>(alloc: Global, term: &Term, lookup: &L) -> Result<Element, TermFault>
+    ensures { IsEvaluated (given_element (term_value (L.value_at lookup.now) term.now)) result }
+{
+    match evaluate(alloc, term, lookup)? {
+        Value::Plain(element) => Ok(element),
+        _ => Err(TermFault::Faulty),
+    }
+}
+
+/// The action with the term's value in its place.
+fn action<L: Lookup>(alloc: Global, action: &TermAction, lookup: &L) -> Result<Action, TermFault>
+    ensures { IsEvaluated (action_in (L.value_at lookup.now) action.now) result }
+{
+    Ok(match action {
+        TermAction::Put(term) => Action::Regular(evaluate(alloc, term, lookup)?),
+        TermAction::Add(term) => Action::SetAdd(element(alloc, term, lookup)?),
+        TermAction::Remove(term) => Action::SetRemove(element(alloc, term, lookup)?),
+        TermAction::BagAdd(term, amount) => Action::BagAdd(element(alloc, term, lookup)?, *amount),
+        TermAction::BagRemove(term, amount) => {
+            Action::BagRemove(element(alloc, term, lookup)?, *amount)
+        }
+        TermAction::Increment(n) => Action::Increment(*n),
+    })
+}
+
+/// The instruction with the term's value in its place.
+fn instruction<L: Lookup>(
+    alloc: Global,
+    instruction: &TermInstruction,
+    lookup: &L,
+) -> Result<Instruction, TermFault>
+    ensures { IsEvaluated (instruction_in (L.value_at lookup.now) instruction.now) result }
+{
+    let action = action(alloc, &instruction.action, lookup)?;
+    let at = instruction.at.copy(alloc)?;
+    Ok(Instruction { at, action })
+}
+
+/// The instructions with their terms evaluated, in their order.
+fn evaluated<L: Lookup>(
+    alloc: Global,
+    instructions: &[TermInstruction],
+    lookup: &L,
+) -> Result<Instructions, TermFault>
+    requires { length instructions.now ≤ 4096 }
+    ensures { IsEvaluated (move_in (L.value_at lookup.now) instructions.now) result }
+{
+    let mut done = Vec::with_capacity(alloc, instructions.len())?;
+    for written in instructions {
+        done.push(instruction(alloc, written, lookup)?)?;
+    }
+    match Instructions::from_vec(alloc, done) {
+        Ok(instructions) => Ok(instructions),
+        Err(InstructionsError::ManyInstructions) => unreachable!(),
+        Err(InstructionsError::Memory) => Err(TermFault::Memory),
+    }
+}
+
+/// The block's instructions with their terms evaluated by the look-up. A prepared block without terms to
+/// evaluate shares its instructions with the answer.
+///
+/// `TermFault::Faulty` comes exactly where some term is faulty, or the element of a partial update
+/// is a set or a bag. `Memory` comes only where memory was refused.
+pub fn block_move<L: Lookup>(
+    alloc: Global,
+    block: &Block,
+    lookup: &L,
+) -> Result<Instructions, TermFault>
+    ensures { IsEvaluated (move_in (L.value_at lookup.now) block.now) result }
+{
+    match block.form() {
+        Form::Terms(instructions) => evaluated(alloc, instructions.as_slice(), lookup),
+        Form::Ready(instructions) => Ok(instructions.copy(alloc)?),
+    }
+}

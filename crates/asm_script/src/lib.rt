@@ -1,0 +1,15 @@
+//! Scripts, which say what the agents of a machine do: how they are read from texts, what each step reads, and the one
+//! move that a step makes.
+#![tactic(auto)]
+
+mod block;
+mod parsing;
+mod ready;
+mod script;
+mod step;
+mod term;
+mod term_form;
+
+pub use parsing::parse_script;
+pub use script::{READS_LIMIT, Script, ScriptCause, ScriptError};
+pub use step::{Step, StepFault, step_move};

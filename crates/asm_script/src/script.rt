@@ -1,0 +1,115 @@
+//! Scripts, which say what the agents of a machine do, and why a text is not a script.
+ghost use Rattle.std.specs.Prelude.{◌≡◌, ◌↔◌, ◌<◌, ◌≤◌, length, IfSome, IsNone};
+ghost use Rattle.asm_script.specs.declared.script.ScriptError.TheVariants as script_error;
+
+use crate::step::Step;
+use asm_element::Items;
+use asm_update::PlainState;
+use std::alloc::{AllocError, AllocFailed};
+use std::marker::Model;
+use thiserror::Error;
+
+/// The most agents of a script.
+pub const AGENTS_LIMIT: usize = 256;
+
+/// The most blocks of a step.
+pub const BLOCKS_LIMIT: usize = 65;
+
+/// The most locations that a step reads.
+pub const READS_LIMIT: usize = 256;
+
+/// Why a text is not a script: the first of these causes, in this order. The last three are looked for agent by
+/// agent and step by step.
+#[derive(Clone, Copy, Debug, PartialEq, Eq)]
+pub enum ScriptCause {
+    /// The text is not JSON.
+    NotJson,
+    /// The value has another shape than a script.
+    Shape,
+    /// More than 256 agents.
+    Agents,
+    /// A step without a block, or with more than 65.
+    Blocks,
+    /// A block of more than 4,096 instructions.
+    Instructions,
+    /// A step that reads more than 256 locations.
+    Reads,
+}
+
+/// Why there is no script.
+#[derive(Clone, Copy, Debug, PartialEq, Eq, Error)]
+pub enum ScriptError {
+    /// The text is not a script.
+    #[error("bad script: {0:?}")]
+    BadScript(ScriptCause),
+    /// The memory that the call asked for was refused.
+    #[error("out of memory")]
+    Memory,
+}
+
+impl From<AllocError> for ScriptError {
+    ghost from_gives = { λ _ e. e ≡ script_error.Memory };
+
+    fn from(_refused: AllocError) -> ScriptError {
+        ScriptError::Memory
+    }
+}
+
+impl<T: Drop> From<AllocFailed<T>> for ScriptError {
+    ghost from_gives = { λ _ e. e ≡ script_error.Memory };
+
+    fn from(_refused: AllocFailed<T>) -> ScriptError {
+        ScriptError::Memory
+    }
+}
+
+/// An opening state, and the steps of at most 256 agents. Contracts see both.
+#[derive(Debug, Drop)]
+pub struct Script {
+    init: PlainState,
+    agents: Items<Items<Step>>,
+}
+
+impl Model for Script {
+    ghost use Rattle.std.specs.Prelude.{length, ◌≤◌};
+    ghost use Rattle.std.specs.Coded.{coded_list};
+    ghost use Rattle.asm_update.specs.contracts.plain_state.PlainState.{the_row as state_row};
+    ghost use Rattle.asm_script.specs.contracts.block.TermInstruction.{the_row as instruction_row};
+    ghost use Rattle.asm_script.specs.Plan.{Plan, plan_code};
+
+    ghost Value = { Plan };
+
+    ghost coded = { plan_code state_row.coded instruction_row.coded };
+
+    ghost view = { λ s. record { init = s.init; agents = s.agents } };
+
+    ghost invariant = { λ s. length s.agents ≤ 256 };
+}
+
+impl Script {
+    /// The script with this opening state and these agents' steps; `None` where there are more than 256 agents.
+    pub(crate) fn of(init: PlainState, agents: Items<Items<Step>>) -> Option<Script>
+        ensures script { IfSome result (λ s. s ≡ record { init = init; agents = agents }) }
+        ensures many { IsNone result ↔ (256 < length agents) }
+    {
+        if agents.as_slice().len() > AGENTS_LIMIT {
+            return None;
+        }
+        Some(Script { init, agents })
+    }
+
+    /// The opening state.
+    pub fn init(&self) -> &PlainState
+        ensures { result.now ≡ self.now.init }
+    {
+        &self.init
+    }
+
+    /// The steps of each agent, which stand at the agent's number.
+    pub fn agents(&self) -> &[Items<Step>]
+        ensures agents { result.now ≡ self.now.agents }
+        ensures few { length self.now.agents ≤ 256 }
+    {
+        self.agents.as_slice()
+    }
+}
