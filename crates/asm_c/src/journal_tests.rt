@@ -1,10 +1,9 @@
 //! Agents that are given back, journals that are closed, checked and replayed, and the texts of codes.
 use crate::codes::{asm_error_text, asm_version};
-use crate::give_and_close::{asm_close, asm_give, asm_journal, code_of_unclosed};
+use crate::give_and_close::{asm_close, asm_give, asm_journal};
 use crate::journals::{asm_check, asm_replay};
-use crate::slot::Slot;
-use crate::store_close::Unclosed;
 use crate::test_slots::{agent, close, fire, give, read, store, two};
+use asm_slots::Slot;
 use std::alloc::Global;
 use std::test::Fail;
 
@@ -55,15 +54,6 @@ fn gives_and_closes(rt: HostRuntime) {
     let alloc = rt.alloc();
     assert!(rt; given(alloc) == ([0, 12, 5, 0], [(13, 1), (0, 0)], [false, false, true]));
     assert!(rt; codes_of_none(alloc) == ([5, 5, 5], [5, 5], true));
-}
-
-// No test makes so many calls.
-#[test]
-fn a_close_of_too_many_calls_has_its_code(rt: HostRuntime) {
-    let mut number = 0;
-    assert!(rt; code_of_unclosed(Unclosed::Large, &mut number) == 20 && number == 0);
-    assert!(rt; code_of_unclosed(Unclosed::Memory, &mut number) == 3 && number == 0);
-    assert!(rt; code_of_unclosed(Unclosed::Missing(7), &mut number) == 13 && number == 7);
 }
 
 const JOURNAL: &[u8] =

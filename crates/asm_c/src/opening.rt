@@ -1,199 +1,56 @@
 //! Opening storages, making agents, and letting go of what slots hold.
-ghost use Rattle.std.specs.Prelude.{◌≡◌, ◌≢◌, ◌≤◌, ◌<◌, ◌↔◌, ◌⊎◌, ◌∷◌, [], pos, true, length, IfOk, IfErr, Some, None};
-ghost use Rattle.std.specs.Bool.{OnTrue, OnFalse};
-ghost use Rattle.asm_storage.specs.Storage.{at_start};
-ghost use Rattle.asm_c.specs.Calls.{IsOpened};
-ghost use Rattle.asm_c.specs.Codes.{IsOneOf};
-ghost use Rattle.asm_c.specs.Slots.{AreEmpty, AreNew, Holds, HoldsNew, HoldsNoStore, HoldsStore};
+ghost use Rattle.std.specs.Prelude.{◌≡◌, ◌≢◌, ◌≤◌, ◌<◌, ◌↔◌, ◌⊎◌, ◌∷◌, [], pos, length, None};
+ghost use Rattle.asm_slots.specs.Calls.{IsOpened};
+ghost use Rattle.asm_slots.specs.Codes.{IsOneOf};
+ghost use Rattle.asm_slots.specs.Slots.{AreEmpty, AreNew, HoldsNew, HoldsNoStore, HoldsStore, content_of};
 
-use crate::codes::{DONE, EMPTY, MEMORY, RANGE, TAKEN};
-use crate::content::Content;
-use crate::owned_agent::OwnedAgent;
-use crate::parsing::{code_of_text_error, state_of};
-use crate::shared::Shared;
-use crate::slot::Slot;
-use crate::store::Store;
-use crate::take_and_put::{put_store, take_store};
-use asm_aggregate::standard;
-use asm_storage::{Storage, StorageError};
-use std::alloc::{AllocError, Global};
-use std::sync::Arc;
-use std::sync::atomic::AtomicU64;
+use asm_slots::Slot;
+use std::alloc::Global;
 
-// A storage of which no move was fired.
-fn opened(alloc: Global, init: &[u8], capacity: u32) -> Result<Box<Content>, i32>
-    ensures ok { IfOk result (λ b. HoldsStore (Some b.value) (IsOpened init.now capacity)) }
-    ensures err { IfErr result (IsOneOf (3 ∷ 6 ∷ 16 ∷ 17 ∷ [])) }
-    ensures range { IfErr result (λ code. code ≡ pos 6 → (capacity ≡ 0) ⊎ (1048576 < capacity)) }
-{
-    let init = match state_of(alloc, init) {
-        Ok(init) => init,
-        Err(error) => return Err(code_of_text_error(error)),
-    };
-    let storage = match Storage::new(alloc, standard(), init, capacity) {
-        Ok(storage) => storage,
-        Err(StorageError::BadCapacity) => return Err(RANGE),
-        Err(StorageError::Memory) => return Err(MEMORY),
-    };
-    let count = AtomicU64::new(0);
-    let Ok(shared) = Arc::new(alloc, Shared { storage, count }) else {
-        return Err(MEMORY);
-    };
-    let store = Store {
-        shared,
-        parts: Vec::new(alloc),
-        journal: None,
-    };
-    let Ok(made) = Box::new(alloc, Content::Store(store)) else {
-        return Err(MEMORY);
-    };
-    Ok(made)
-}
-
-/// Opens a storage with the state `[PAIR, ..]`, for at most `capacity` moves, in an empty slot.
-///
-/// 11: the slot is full. 6: the capacity isn't 1 to 1,048,576. 16 and 17: not JSON, or not that of a state.
-/// 3: out of memory. After each of these the slot is as it was.
 #[unsafe(no_mangle)]
 pub extern "C" fn asm_open(alloc: Global, init: &[u8], capacity: u32, store: &mut Slot) -> i32
     ensures codes { IsOneOf (0 ∷ 3 ∷ 6 ∷ 11 ∷ 16 ∷ 17 ∷ []) result }
-    ensures opened { result ≡ pos 0 → HoldsStore store.new.handle.value (IsOpened init.now capacity) }
-    ensures empty { result ≡ pos 0 → store.old.handle.value ≡ None }
-    ensures refused { result ≢ pos 0 → store.new.handle.value ≡ store.old.handle.value }
+    ensures opened { result ≡ pos 0 → HoldsStore (content_of store.new) (IsOpened init.now capacity) }
+    ensures empty { result ≡ pos 0 → content_of store.old ≡ None }
+    ensures refused { result ≢ pos 0 → content_of store.new ≡ content_of store.old }
     ensures range { result ≡ pos 6 → (capacity ≡ 0) ⊎ (1048576 < capacity) }
-    ensures taken { (result ≡ pos 11) ↔ (store.old.handle.value ≢ None) }
+    ensures taken { (result ≡ pos 11) ↔ (content_of store.old ≢ None) }
 {
-    if store.is_full() {
-        return TAKEN;
-    }
-    match opened(alloc, init, capacity) {
-        Ok(made) => {
-            *store = Slot::holding(made);
-            DONE
-        }
-        Err(code) => code,
-    }
+    asm_slots::open(alloc, init, capacity, store)
 }
 
-fn agent_of(alloc: Global, store: &Store, id: u32) -> Result<Box<Content>, AllocError>
-    requires { id < 256 }
-    ensures { IfOk result (λ b. Holds (Some b.value) (λ a. a ≡ at_start store.now.storage id)) }
-{
-    let agent = OwnedAgent::at_start(alloc, &store.shared, id)?;
-    Ok(Box::new(alloc, Content::Agent(agent))?)
-}
-
-/// Makes an agent of the storage with the number `id`, in an empty slot.
-///
-/// 6: the number isn't below 256. 11: the slot for the agent is full. 5: the other one has no storage.
-/// 3: out of memory. After each of these both slots are as they were. Agents whose calls are closed
-/// together need different numbers.
 #[unsafe(no_mangle)]
 pub extern "C" fn asm_agent(alloc: Global, store: &mut Slot, id: u32, agent: &mut Slot) -> i32
     ensures codes { IsOneOf (0 ∷ 3 ∷ 5 ∷ 6 ∷ 11 ∷ []) result }
-    ensures store { store.new.handle.value ≡ store.old.handle.value }
-    ensures made { result ≡ pos 0 → HoldsNew store.old.handle.value agent.new.handle.value id }
-    ensures refused { result ≢ pos 0 → agent.new.handle.value ≡ agent.old.handle.value }
+    ensures store { content_of store.new ≡ content_of store.old }
+    ensures made { result ≡ pos 0 → HoldsNew (content_of store.old) (content_of agent.new) id }
+    ensures refused { result ≢ pos 0 → content_of agent.new ≡ content_of agent.old }
     ensures range { (result ≡ pos 6) ↔ (256 ≤ id) }
-    ensures taken { result ≡ pos 11 → agent.old.handle.value ≢ None }
-    ensures free { result ≡ pos 0 → agent.old.handle.value ≡ None }
-    ensures empty { result ≡ pos 5 → HoldsNoStore store.old.handle.value }
+    ensures taken { result ≡ pos 11 → content_of agent.old ≢ None }
+    ensures free { result ≡ pos 0 → content_of agent.old ≡ None }
+    ensures empty { result ≡ pos 5 → HoldsNoStore (content_of store.old) }
 {
-    if id >= 256 {
-        return RANGE;
-    }
-    if agent.is_full() {
-        return TAKEN;
-    }
-    let Some((shell, kept)) = take_store(alloc, store) else {
-        return EMPTY;
-    };
-    let made = agent_of(alloc, &kept, id);
-    put_store(store, shell, kept);
-    match made {
-        Ok(made) => {
-            *agent = Slot::holding(made);
-            DONE
-        }
-        Err(_) => MEMORY,
-    }
+    asm_slots::make_agent(alloc, store, id, agent)
 }
 
-// Whether one of the slots holds something.
-fn is_any_full(slots: &[Slot]) -> bool
-    ensures no { OnFalse result (AreEmpty slots.now) }
-    ensures yes { OnTrue result (¬ AreEmpty slots.now) }
-{
-    for slot in slots {
-        if slot.is_full() {
-            return true;
-        }
-    }
-    false
-}
-
-// Makes an agent in each of the slots, with the numbers from 0 up; false where there was no memory.
-fn fill(alloc: Global, store: &Store, agents: &mut [Slot]) -> bool
-    requires { length agents.old ≤ 256 }
-    ensures made { OnTrue result (AreNew store.now.storage agents.new) }
-    ensures len { length agents.new ≡ length agents.old }
-{
-    for id in 0..agents.len() {
-        let Ok(made) = agent_of(alloc, store, id as u32) else {
-            return false;
-        };
-        agents[id] = Slot::holding(made);
-    }
-    true
-}
-
-// Releases what the slots hold.
-fn clear(alloc: Global, slots: &mut [Slot])
-    ensures { AreEmpty slots.new }
-{
-    for at in 0..slots.len() {
-        slots[at] = Slot::empty(alloc);
-    }
-}
-
-/// Makes an agent of the storage in each of the empty slots, at most 256, with the numbers from 0 up.
-///
-/// 6: more than 256 slots. 11: one of them is full. 5: the other slot has no storage. 3: out of memory.
-/// After each of these the storage's slot is as it was, and every agent slot still holds what it held.
 #[unsafe(no_mangle)]
 pub extern "C" fn asm_agents(alloc: Global, store: &mut Slot, agents: &mut [Slot]) -> i32
     ensures codes { IsOneOf (0 ∷ 3 ∷ 5 ∷ 6 ∷ 11 ∷ []) result }
-    ensures store { store.new.handle.value ≡ store.old.handle.value }
-    ensures made { result ≡ pos 0 → HoldsStore store.old.handle.value (λ s. AreNew s.storage agents.new) }
+    ensures store { content_of store.new ≡ content_of store.old }
+    ensures made { result ≡ pos 0 → HoldsStore (content_of store.old) (λ s. AreNew s.storage agents.new) }
     ensures range { (result ≡ pos 6) ↔ (256 < length agents.old) }
     ensures taken { result ≡ pos 11 → ¬ AreEmpty agents.old }
     ensures free { result ≡ pos 0 → AreEmpty agents.old }
     ensures none { result ≡ pos 3 → AreEmpty agents.new }
     ensures kept { IsOneOf (5 ∷ 6 ∷ 11 ∷ []) result → agents.new ≡ agents.old }
-    ensures empty { result ≡ pos 5 → HoldsNoStore store.old.handle.value }
+    ensures empty { result ≡ pos 5 → HoldsNoStore (content_of store.old) }
 {
-    if agents.len() > 256 {
-        return RANGE;
-    }
-    if is_any_full(agents) {
-        return TAKEN;
-    }
-    let Some((shell, kept)) = take_store(alloc, store) else {
-        return EMPTY;
-    };
-    let is_made = fill(alloc, &kept, agents);
-    put_store(store, shell, kept);
-    if is_made {
-        return DONE;
-    }
-    clear(alloc, agents);
-    MEMORY
+    asm_slots::make_agents(alloc, store, agents)
 }
 
-/// Releases what the slot holds, if anything. A storage ends with the last slot that has a share of it.
 #[unsafe(no_mangle)]
 pub extern "C" fn asm_free(alloc: Global, slot: &mut Slot)
-    ensures { slot.new.handle.value ≡ None }
+    ensures { content_of slot.new ≡ None }
 {
-    *slot = Slot::empty(alloc);
+    asm_slots::release(alloc, slot)
 }

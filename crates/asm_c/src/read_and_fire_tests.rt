@@ -1,11 +1,12 @@
 //! Reads, fires, answers, and what agents count.
 ghost use Rattle.std.specs.Prelude.{◌≡◌};
+ghost use Rattle.asm_slots.specs.Slots.{content_of};
 
 use crate::counts_and_learning::{asm_learn, asm_misses, asm_seen, asm_won};
 use crate::opening::asm_free;
-use crate::read_and_fire::{Numbers, asm_answer, asm_read, asm_try_fire};
-use crate::slot::Slot;
+use crate::read_and_fire::{asm_answer, asm_read, asm_try_fire};
 use crate::test_slots::{agent, answers, fire, store, two};
+use asm_slots::{Numbers, Slot};
 use std::alloc::Global;
 use std::test::Fail;
 
@@ -147,7 +148,7 @@ fn at_most_256_locations(rt: HostRuntime) -> Result<(), Fail> {
 
 // How many moves the agent has seen, how many it fired, and how many of its looks found none.
 fn counts(alloc: Global, agent: &mut Slot) -> (u32, u32, u64)
-    ensures { agent.new.handle.value ≡ agent.old.handle.value }
+    ensures { content_of agent.new ≡ content_of agent.old }
 {
     let seen = asm_seen(alloc, agent);
     let won = asm_won(alloc, agent);

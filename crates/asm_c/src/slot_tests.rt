@@ -1,15 +1,13 @@
 //! Slots that are filled, refused and released.
 use crate::opening::{asm_agent, asm_agents, asm_free, asm_open};
 use crate::read_and_fire::asm_read;
-use crate::shared::{Shared, are_one};
-use crate::slot::Slot;
 use crate::test_slots::{agent, store};
 use asm_aggregate::standard;
+use asm_slots::{Shared, Slot, are_one};
 use asm_storage::Storage;
 use asm_update::PlainState;
 use std::alloc::Global;
 use std::sync::Arc;
-use std::sync::atomic::AtomicU64;
 use std::test::Fail;
 
 // The codes of opening a slot, and whether it is full after the refusals.
@@ -120,8 +118,7 @@ fn lets_go(rt: HostRuntime) {
 
 fn shared(alloc: Global) -> Result<Arc<Shared>, Fail> {
     let storage = Storage::new(alloc, standard(), PlainState::new(alloc), 8)?;
-    let count = AtomicU64::new(0);
-    Ok(Arc::new(alloc, Shared { storage, count })?)
+    Ok(Arc::new(alloc, Shared::new(storage))?)
 }
 
 #[test]

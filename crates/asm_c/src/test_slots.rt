@@ -1,13 +1,13 @@
 //! Slots for tests, and calls on them that say what stays of one storage. A branch on a code tells the proofs
 //! which clause of the call holds.
 ghost use Rattle.std.specs.Prelude.{◌≡◌, Option};
-ghost use Rattle.asm_c.specs.Slots.{AreOfOneStorage, IsOfStore};
-ghost use Rattle.asm_c.specs.declared.content.Content.{Content};
+ghost use Rattle.asm_slots.specs.Slots.{AreOfOneStorage, IsOfStore, content_of};
+ghost use Rattle.asm_slots.specs.declared.content.Content.{Content};
 
 use crate::give_and_close::{asm_close, asm_give};
 use crate::opening::{asm_agent, asm_open};
-use crate::read_and_fire::{Numbers, asm_answer, asm_read, asm_try_fire};
-use crate::slot::Slot;
+use crate::read_and_fire::{asm_answer, asm_read, asm_try_fire};
+use asm_slots::{Numbers, Slot};
 use std::alloc::Global;
 
 const INIT: &[u8] = b"[[[\"x\"],7],[[\"s\"],{\"set\":[\"two\",1]}]]";
@@ -21,8 +21,8 @@ pub(crate) fn store(alloc: Global) -> Slot {
 
 /// An agent of it.
 pub(crate) fn agent(alloc: Global, store: &mut Slot, id: u32) -> Slot
-    ensures store { store.new.handle.value ≡ store.old.handle.value }
-    ensures of { IsOfStore result.handle.value store.new.handle.value }
+    ensures store { content_of store.new ≡ content_of store.old }
+    ensures of { IsOfStore (content_of result) (content_of store.new) }
 {
     let mut slot = Slot::empty(alloc);
     if asm_agent(alloc, store, id, &mut slot) == 0 {
@@ -33,7 +33,7 @@ pub(crate) fn agent(alloc: Global, store: &mut Slot, id: u32) -> Slot
 
 /// Two agents of one storage.
 pub(crate) fn two(alloc: Global) -> (Slot, Slot)
-    ensures { AreOfOneStorage result.1.handle.value result.0.handle.value }
+    ensures { AreOfOneStorage (content_of result.1) (content_of result.0) }
 {
     let mut store = store(alloc);
     let mut first = Slot::empty(alloc);
@@ -47,7 +47,7 @@ pub(crate) fn two(alloc: Global) -> (Slot, Slot)
 
 /// The code of a read.
 pub(crate) fn read(alloc: Global, agent: &mut Slot, locations: &[u8]) -> i32
-    ensures of { (s : Option Content) → IsOfStore agent.old.handle.value s → IsOfStore agent.new.handle.value s }
+    ensures of { (s : Option Content) → IsOfStore (content_of agent.old) s → IsOfStore (content_of agent.new) s }
 {
     let code = asm_read(alloc, agent, locations);
     if code == 5 {
@@ -58,9 +58,9 @@ pub(crate) fn read(alloc: Global, agent: &mut Slot, locations: &[u8]) -> i32
 
 /// The code and the number of a fire.
 pub(crate) fn fire(alloc: Global, agent: &mut Slot, call: &[u8]) -> (i32, u32)
-    ensures of { (s : Option Content) → IsOfStore agent.old.handle.value s → IsOfStore agent.new.handle.value s }
-    ensures one { (a : Option Content) → AreOfOneStorage a agent.old.handle.value →
-        AreOfOneStorage a agent.new.handle.value }
+    ensures of { (s : Option Content) → IsOfStore (content_of agent.old) s → IsOfStore (content_of agent.new) s }
+    ensures one { (a : Option Content) → AreOfOneStorage a (content_of agent.old) →
+        AreOfOneStorage a (content_of agent.new) }
 {
     let mut numbers = Numbers {
         fired: 9,
@@ -76,7 +76,7 @@ pub(crate) fn fire(alloc: Global, agent: &mut Slot, call: &[u8]) -> (i32, u32)
 
 /// Whether this is the agent's last answer, in a buffer that has just the room; one less is too little.
 pub(crate) fn answers(alloc: Global, agent: &mut Slot, wanted: &[u8]) -> bool
-    ensures { agent.new.handle.value ≡ agent.old.handle.value }
+    ensures { content_of agent.new ≡ content_of agent.old }
 {
     let mut out = [0u8; 64];
     let mut written = 0;
@@ -94,8 +94,8 @@ pub(crate) fn answers(alloc: Global, agent: &mut Slot, wanted: &[u8]) -> bool
 
 /// The code of a give.
 pub(crate) fn give(alloc: Global, store: &mut Slot, agent: &mut Slot) -> i32
-    requires { IsOfStore agent.old.handle.value store.old.handle.value }
-    ensures of { (a : Option Content) → IsOfStore a store.old.handle.value → IsOfStore a store.new.handle.value }
+    requires { IsOfStore (content_of agent.old) (content_of store.old) }
+    ensures of { (a : Option Content) → IsOfStore a (content_of store.old) → IsOfStore a (content_of store.new) }
 {
     let code = asm_give(alloc, store, agent);
     if code == 0 {
@@ -106,7 +106,7 @@ pub(crate) fn give(alloc: Global, store: &mut Slot, agent: &mut Slot) -> i32
 
 /// The code and the number of a close.
 pub(crate) fn close(alloc: Global, store: &mut Slot) -> (i32, u32)
-    ensures of { (a : Option Content) → IsOfStore a store.old.handle.value → IsOfStore a store.new.handle.value }
+    ensures of { (a : Option Content) → IsOfStore a (content_of store.old) → IsOfStore a (content_of store.new) }
 {
     let mut number = 9;
     let code = asm_close(alloc, store, &mut number);

@@ -1,10 +1,7 @@
-use Rattle.std.proofs.Common.{◌≡◌, List, ℕ, subst, sym, ◌∙◌}
-use Rattle.std.specs.Prelude.{slice_range}
-use Rattle.asm_c.specs.Journals.{IsReplayed}
-use Rattle.asm_c.proofs.CodeZero.{at_zero}
+use Rattle.std.proofs.Common.{◌∙◌, sym, w32}
+use Rattle.std.proofs.Math.Facts.{to_z-of_z}
 use Rattle.asm_c.proofs.journals.asm_replay.Goals as goal
 
-pub returns-in-Ok-clause-told : goal.returns-in-Ok-clause-told
-returns-in-Ok-clause-told c =
-    at_zero c.copied.result (IsReplayed c.args.journal.now (slice_range c.copied.new.out 0 c.copied.new.written)) c.copied.ensures.codes
-    (λ done. subst (λ (text : List ℕ). IsReplayed c.args.journal.now text) (sym (c.copied.ensures.bytes done ∙ c.as_bytes.ensures.value)) c.in-Ok.ensures.ok)
+pub returns-clause-told : goal.returns-clause-told
+returns-clause-told c done =
+    c.replay_journal.ensures.told (sym (to_z-of_z {w = w32} (record { sfits = c.replay_journal.type_inv })) ∙ done)

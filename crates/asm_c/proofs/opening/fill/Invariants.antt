@@ -1,9 +1,0 @@
-use Rattle.std.proofs.Common.{◌≡◌, ◌<◌, ℕ, length, slice_index_or}
-use Rattle.asm_storage.specs.Storage.{at_start}
-use Rattle.asm_c.specs.Slots.{Holds}
-use Rattle.asm_c.specs.declared.slot.Slot.{Slot}
-use Rattle.asm_c.proofs.opening.fill.Given as goal
-
-abbrev pub invariant-loop-id : goal.invariant-loop-id
-invariant-loop-id l = (length l.agents ≡ length l.fn.agents)
-    × ((k : ℕ) (d : Slot) → k < l.id → Holds (slice_index_or l.agents k d).handle.value (λ a. a ≡ at_start l.store.storage k))

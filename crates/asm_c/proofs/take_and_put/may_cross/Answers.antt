@@ -1,5 +1,0 @@
-use Rattle.asm_c.proofs.Crossing.{content_is_sent}
-use Rattle.asm_c.proofs.take_and_put.may_cross.Goals as goal
-
-pub returns : goal.returns
-returns c = content_is_sent

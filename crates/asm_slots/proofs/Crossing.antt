@@ -1,0 +1,60 @@
+-- What lies in a slot may go to another thread.
+use denote.Param.Send.{IsSend, IsSync, sendable}
+use denote.Param.SendFields.{as_row_send, declared_send, declared_sync}
+use denote.Struct.Field.{row_field}
+use Rattle.core.proofs.atomic.Sent.{Atomic-sync}
+use Rattle.core.specs.contracts.atomic.AtomicU64 as Atomic
+use Rattle.std.proofs.Crossing.{Arc-send, Vec-send}
+use Rattle.asm_update.proofs.Crossing.{instructions_is_sent, state_is_sent, state_is_shared}
+use Rattle.asm_row.proofs.row.Row.TheSendSync as row
+use Rattle.asm_row.specs.contracts.row.Row as Row
+use Rattle.asm_storage.proofs.Crossing.{part_is_sent}
+use Rattle.asm_storage.proofs.Standard.{standard, standard_ghosts, standard_storage_is_shared}
+use Rattle.asm_storage.specs.contracts.receipt.Entry as Entry
+use Rattle.asm_storage.specs.contracts.storage.Storage as Storage
+use Rattle.asm_storage.specs.contracts.storage.Storage.TheInside as InsideStorage
+use Rattle.asm_slots.specs.contracts.content.Content as Content
+use Rattle.asm_slots.specs.contracts.owned_agent.OwnedAgent as OwnedAgent
+use Rattle.asm_slots.specs.contracts.owned_agent.OwnedAgent.TheInside as InsideAgent
+use Rattle.asm_slots.specs.contracts.shared.Shared as Shared
+use Rattle.asm_slots.specs.contracts.store.Store as Store
+use Rattle.asm_slots.specs.contracts.store.Store.TheInside as InsideStore
+
+entry_is_sent : IsSend Entry.the_row
+entry_is_sent = search (sendable, instructions_is_sent) depth 20
+
+standard_is_sent : IsSend standard
+standard_is_sent = search sendable depth 30
+
+row_is_sent : IsSend (Row.the_row Entry.the_row)
+row_is_sent = search (sendable, row.the_send, entry_is_sent) depth 20
+
+inside_storage_is_sent : IsSend (InsideStorage.the_row standard standard_ghosts)
+inside_storage_is_sent =
+    declared_send (InsideStorage.the_type standard standard_ghosts) (row_is_sent, (as_row_send (row_field standard) standard_is_sent, (search (sendable, Arc-send, state_is_sent, state_is_shared) depth 20, tt)))
+
+storage_is_sent : IsSend (Storage.the_row standard standard_ghosts)
+storage_is_sent = search (sendable, inside_storage_is_sent) depth 20
+
+shared_is_sent : IsSend Shared.the_row
+shared_is_sent = search (sendable, storage_is_sent) depth 20
+
+shared_is_shared : IsSync Shared.the_row
+shared_is_shared =
+    let count : IsSync Atomic.the_row = search (sendable, Atomic-sync) depth 20 in
+    declared_sync Shared.the_type (standard_storage_is_shared, (count, tt))
+
+inside_agent_is_sent : IsSend InsideAgent.the_row
+inside_agent_is_sent = declared_send InsideAgent.the_type (Arc-send Shared.the_row shared_is_sent shared_is_shared, (part_is_sent, tt))
+
+agent_is_sent : IsSend OwnedAgent.the_row
+agent_is_sent = search (sendable, inside_agent_is_sent) depth 20
+
+inside_store_is_sent : IsSend InsideStore.the_row
+inside_store_is_sent = search (sendable, Arc-send, Vec-send, shared_is_sent, shared_is_shared, part_is_sent) depth 20
+
+store_is_sent : IsSend Store.the_row
+store_is_sent = search (sendable, inside_store_is_sent) depth 20
+
+pub content_is_sent : IsSend Content.the_row
+content_is_sent = search (sendable, agent_is_sent, store_is_sent) depth 20

@@ -1,0 +1,52 @@
+-- Parts and agents, one more at a time.
+use Rattle.std.proofs.Common.{◌≡◌, ◌<◌, ◌≤◌, ◌+◌, ℕ, zero, suc, List, [], ◌∷◌, ◌++◌, All, length, map, sym, ap, ◌∙◌, subst, append_assoc, refl, arith}
+use Rattle.std.proofs.lemmas.List.{map-append}
+use Rattle.std.proofs.lemmas.List.Elements.{All-append}
+use Rattle.std.specs.List.Sorted.{IsStrictlyIncreasing}
+use Rattle.asm_storage.specs.declared.part.AgentPart.{AgentPart}
+use Rattle.asm_storage.specs.Agents.{ids}
+use Rattle.asm_storage.specs.Part.{agent_of}
+use Rattle.asm_storage.specs.Storage.{AgentAt, StorageView, accounts}
+use Rattle.asm_slots.specs.Standard.{Standard, meaning}
+
+pub all_one : {X : Type 0} (P : X → Type 0) (x : X) → P x → All P (x ∷ [])
+all_one P x p zero d lt = p
+all_one P x p (suc k) d lt = absurd (omega (arith, lt))
+
+pub all_first : {X : Type 0} (P : X → Type 0) (x : X) (xs : List X) → All P (x ∷ xs) → P x
+all_first P x xs each = each 0 x (omega arith)
+
+pub all_left : {X : Type 0} (P : X → Type 0) (x : X) (xs : List X) → All P (x ∷ xs) → All P xs
+all_left P x xs each k d lt = each (suc k) d (omega (arith, lt))
+
+pub all_more : {X : Type 0} (P : X → Type 0) (done new : List X) (x : X) → new ≡ done ++ x ∷ [] → All P done → P x → All P new
+all_more P done new x added each p = subst (All P) (sym added) (All-append P done (x ∷ []) each (all_one P x p))
+
+-- one more is made from what is left
+pub more_made : {X Y : Type 0} (f : X → Y) (made new : List Y) (y : Y) (x : X) (left rest : List X) (all : List Y) →
+    made ++ map f left ≡ all → left ≡ x ∷ rest → new ≡ made ++ y ∷ [] → y ≡ f x → new ++ map f rest ≡ all
+more_made f made new y x left rest all whole step added is =
+    ap (λ l. l ++ map f rest) (added ∙ ap (λ z. made ++ z ∷ []) is) ∙ append_assoc made (f x ∷ []) (map f rest)
+    ∙ ap (λ l. made ++ map f l) (sym step) ∙ whole
+
+-- one more is taken apart
+pub more_apart : {X Y : Type 0} (f : X → Y) (made new : List X) (x : X) (y : Y) (left rest all : List Y) →
+    map f made ++ left ≡ all → left ≡ y ∷ rest → new ≡ made ++ x ∷ [] → f x ≡ y → map f new ++ rest ≡ all
+more_apart f made new x y left rest all whole step added is =
+    ap (λ l. map f l ++ rest) added ∙ ap (λ l. l ++ rest) (map-append f made (x ∷ [])) ∙ append_assoc (map f made) (f x ∷ []) rest
+    ∙ ap (λ z. map f made ++ z ∷ rest) is ∙ ap (λ l. map f made ++ l) (sym step) ∙ whole
+
+-- the numbers of agents are those of their parts
+pub ids_of : (s : StorageView Standard) (parts : List AgentPart) → ids (accounts (map (agent_of s) parts)) ≡ map (λ p. p.id) parts
+ids_of s [] = refl
+ids_of s (p ∷ parts) = ap (λ l. p.id ∷ l) (ids_of s parts)
+
+-- parts of one list are agents of one list
+pub agents_among : (s : StorageView Standard) (parts before after : List AgentPart) (p : AgentPart) → parts ≡ before ++ p ∷ after →
+    map (agent_of s) parts ≡ map (agent_of s) before ++ agent_of s p ∷ map (agent_of s) after
+agents_among s parts before after p is = ap (map (agent_of s)) is ∙ map-append (agent_of s) before (p ∷ after)
+
+-- parts of the same agents have the same numbers
+pub rises_again : (s t : StorageView Standard) (new old : List AgentPart) → map (agent_of s) new ≡ map (agent_of t) old → IsStrictlyIncreasing (map (λ p. p.id) old) → IsStrictlyIncreasing (map (λ p. p.id) new)
+rises_again s t new old same rises =
+    subst IsStrictlyIncreasing (sym (sym (ids_of s new) ∙ ap (λ (l : List (AgentAt Standard)). ids (accounts l)) same ∙ ids_of t old)) rises

@@ -1,0 +1,44 @@
+-- `empty`: a walk by hand.
+use Rattle.std.proofs.Common.{◌≡◌, List, [], ◌∷◌, ◌++◌, refl, sym, subst}
+use mir.Val.{Val}
+use base.Logic.{SProp, ent, emp, id⊢}
+use base.Fml.{ftrue}
+use prog.Wp.{WpFn}
+use types.Kit.{‵, raw, ◌⊛◌, ◌$◌, ◌∵◌, !, qed, by, move, keep, drop, split, fsplit, fjoin, suffices, use0}
+use types.Run.{lit, no_more, and_then, returns, enter}
+use types.ByLocal.{alloc_all, pass_all, free_all, look_at, get, sets}
+use types.Part.{agg}
+use contract.Monad.{fact, fact_i}
+use contract.Running.{tables}
+use denote.Exit.{yes}
+use denote.RattleType.{owns}
+use denote.Signature.{types_at, plain}
+use denote.RawPtr.{block_ptr, null_ptr}
+use denote.Steps.{nothing}
+use denote.Triple.Entry.{alive}
+use denote.Triple.Walked.{Stays, stay_dropped, walk_of}
+use Rattle.core.proofs.alloc.Calls.{Goes-blank, handle_tells}
+use Rattle.std.proofs.raw_atomic.Walks.{proved_at, leaves}
+use Rattle.std.specs.Prelude.{Option, None}
+use Rattle.asm_slots.proofs.RawBoxValues.{both}
+use Rattle.asm_slots.proofs.HandleValues.{R, Z, heap_al, handle_good, handle_in}
+use Rattle.asm_slots.specs.contracts.handle.Handle.empty.{ended, clauses}
+use Rattle.asm_slots.specs.contracts.handle.Handle.empty.Key.{name as #self}
+use Rattle.asm_slots.proofs.handle.Handle.empty.Statement.{statement}
+use Rattle.asm_slots.proofs.handle.Handle.empty.Code as code
+
+pub empty_spec : {M : Type 1} → statement M
+empty_spec 𝓤 𝓛 𝓜 𝓡 wired =
+    let 𝓣 = tables 𝓤 𝓛.H 𝓜 𝓡 𝓡.env in let c = clauses 𝓛 𝓜.mem 𝓡.returns in let fn = code.function in
+    let hs : Stays ended.signature.params ended.kept = (stay_dropped (plain (λ _. Z)) yes, tt) in
+    proved_at 𝓛 ended hs c 𝓜 𝓡 (Goes-blank 𝓛 0 (plain (λ _. Z)) yes (λ κs x f. tt), tt) #self fn (code.unfolded 𝓤 𝓛.H 𝓜 𝓡 wired) (λ z are.
+    let a = z.0.3.0 in let Post : Val → SProp 𝓤 = (walk_of 𝓛 ended hs c).post z in let Run : List Val → SProp 𝓤 = λ ws. WpFn 𝓤 𝓛.H 𝓣.C 𝓣.Λ fn ws Post in
+    let x : Option R.Denot = None in let Said : Type 0 = x ≡ None in
+    qed 𝓛 ((raw (alive 𝓛 ended.signature z.0.0 z.0.1) ⊛ ‵ (owns (types_at ended.signature.params z.0.0) z.0.3 z.0.4)) ∷ ‵ ftrue ∷ []) ∵ move ! (1 ∷ []) $ drop ! $ split ! $ move ! (1 ∷ []) $ fsplit ! $
+    handle_tells heap_al ! a z.0.4.0 (λ h eh fits.
+    suffices ! (Run (h ∷ [])) (subst (λ (us : List Val). ent 𝓤 (Run (h ∷ [])) (Run us)) (sym (λ i. eh i ++ [])) (id⊢ 𝓤 (Run (h ∷ [])))) $
+    enter ! 𝓣.C 𝓣.Λ fn (h ∷ []) Post $ alloc_all ! (λ l. pass_all ! refl (fits, tt) $
+    sets ! (agg ! (and_then ! (lit ! tt) (and_then ! (get ! refl) (no_more !)))) refl (handle_good null_ptr h fits) $
+    nothing ! $ handle_in ! null_ptr h a x $
+    returns ! (look_at ! 0 refl) $ free_all ! refl $ use0 𝓛 (raw (fact 𝓤 Said)) (fact_i 𝓤 Said (emp 𝓤) refl) $ nothing ! $ nothing ! $ fjoin ! $
+    keep ! (4 ∷ 0 ∷ 2 ∷ 1 ∷ []) $ by ! (leaves 𝓛 ended hs c z (both (denote.RawPtr.ptr_val null_ptr) h) (record { at = null_ptr; alloc = a; value = x }) (_, tt) (tt, tt)))))

@@ -1,0 +1,43 @@
+use Rattle.std.proofs.Common.{◌≡◌, List, All, map, subst, sym, ap, ◌∙◌}
+use Rattle.std.proofs.lemmas.List.Elements.{All-map}
+use Rattle.asm_storage.specs.Part.{agent_of, IsPartOf}
+use Rattle.std.specs.List.Sorted.{IsStrictlyIncreasing}
+use Rattle.asm_storage.specs.Agents.{ids}
+use Rattle.asm_storage.specs.Storage.{AgentAt, StorageView, IsOf, accounts}
+use Rattle.asm_slots.specs.Standard.{Standard, meaning}
+use Rattle.asm_slots.specs.declared.shared.Shared.{Shared}
+use Rattle.asm_slots.proofs.PartsAndAgents.{ids_of, rises_again}
+use Rattle.asm_slots.proofs.store.Store.close.Goals as goal
+
+pub journal_of-text-requires-clause-of_this : goal.journal_of-text-requires-clause-of_this
+journal_of-text-requires-clause-of_this c =
+    let of = IsOf c.deref-2.result.now.storage in
+    subst (All of) (sym (c.as_slice.ensures.value ∙ c.agents_of-agents.ensures))
+    (All-map of (agent_of c.deref.result.now.storage) c.self.inside.parts.items (λ k d lt. ap (λ (s : Shared). s.storage) (c.deref.ensures ∙ sym c.deref-2.ensures)))
+
+pub parts_of-parts-requires-clause-storage : goal.parts_of-parts-requires-clause-storage
+parts_of-parts-requires-clause-storage c =
+    let of = IsOf c.deref-3.result.now.storage in
+    subst (All of) (sym c.agents_of-agents.ensures)
+    (All-map of (agent_of c.deref.result.now.storage) c.self.inside.parts.items (λ k d lt. ap (λ (s : Shared). s.storage) (c.deref.ensures ∙ sym c.deref-3.ensures)))
+
+pub journal_of-text-requires-clause-ascending : goal.journal_of-text-requires-clause-ascending
+journal_of-text-requires-clause-ascending c =
+    let s = c.deref.result.now.storage in
+    let parts = c.self.inside.parts.items in
+    subst (λ (l : List (AgentAt Standard)). IsStrictlyIncreasing (ids (accounts l))) (sym (c.as_slice.ensures.value ∙ c.agents_of-agents.ensures))
+    (subst IsStrictlyIncreasing (sym (ids_of s parts)) c.self.invariant.1)
+
+pub invariant_of-store-in-Ok : goal.invariant_of-store-in-Ok
+invariant_of-store-in-Ok c =
+    let new = c.parts_of-parts.result.items in (
+      subst (λ (x : StorageView Standard). All (IsPartOf meaning x) new) (ap (λ (s : Shared). s.storage) c.deref-3.ensures) c.parts_of-parts.ensures.parts,
+      rises_again c.deref-3.result.now.storage c.deref.result.now.storage new c.self.inside.parts.items (c.parts_of-parts.ensures.agents ∙ c.agents_of-agents.ensures) c.self.invariant.1,
+    )
+
+pub invariant_of-store-in-Err : goal.invariant_of-store-in-Err
+invariant_of-store-in-Err c =
+    let new = c.parts_of-parts.result.items in (
+      subst (λ (x : StorageView Standard). All (IsPartOf meaning x) new) (ap (λ (s : Shared). s.storage) c.deref-3.ensures) c.parts_of-parts.ensures.parts,
+      rises_again c.deref-3.result.now.storage c.deref.result.now.storage new c.self.inside.parts.items (c.parts_of-parts.ensures.agents ∙ c.agents_of-agents.ensures) c.self.invariant.1,
+    )

@@ -1,0 +1,117 @@
+-- What the calls do with the agents and the storages in slots.
+use Rattle.std.specs.Prelude.{◌≡◌, ◌≢◌, ◌⊎◌, ◌<◌, ℕ, ℤ, pos, List, [], ◌∷◌, ◌++◌, length, Option, None, Some}
+use Rattle.serde_json.specs.Written.{compact_text}
+use mathlib.Core.List.{IsPrefix}
+use Rattle.asm_element.specs.Place as element
+use Rattle.asm_update.specs.Move.{Move}
+use Rattle.asm_state.specs.declared.named.Named.{Named}
+use Rattle.asm_storage.specs.declared.call.Reply.{Reply}
+use Rattle.asm_storage.specs.declared.call.Reply.TheVariants as reply
+use Rattle.asm_storage.specs.declared.error.FireError.TheVariants.{Busy}
+use Rattle.asm_storage.specs.declared.receipt.Receipt.{Receipt}
+use Rattle.asm_storage.specs.declared.receipt.Entry.{Entry}
+use Rattle.asm_storage.specs.Storage.{AgentAt, has_looked, has_seen}
+use Rattle.asm_storage.specs.Calls.{ReadingView, IsRead, IsAnswered, IsBusy}
+use Rattle.asm_journal.specs.Event.{answer_json_of}
+use Rattle.asm_slots.specs.Standard.{Standard, meaning}
+use Rattle.asm_slots.specs.Bytes.{ReadAsLocations, ReadAsFire, ReadAsState}
+use Rattle.asm_slots.specs.Closed.{IsJournalOf}
+use Rattle.asm_slots.specs.Slots.{Holds, HoldsStore, Goes}
+use Rattle.asm_slots.specs.Store.{StoreView, IsPutIn}
+use Rattle.asm_slots.specs.declared.content.Content.{Content}
+use Rattle.asm_slots.specs.declared.content.Content.TheVariants as content
+
+-- a storage with this opening state and this capacity, to which no agent was given back
+abbrev pub IsOpened : List ℕ → ℕ → StoreView → Type 0
+IsOpened bytes capacity s =
+    ReadAsState bytes s.storage.init × (length s.storage.row ≡ capacity) × (s.agents ≡ []) × (s.journal ≡ None)
+
+-- the bytes are JSON of locations, and these were read
+abbrev pub HasRead : List ℕ → AgentAt Standard → AgentAt Standard → Type 0
+HasRead bytes old new =
+    (locations : List element.Place) × (r : ReadingView) × ReadAsLocations bytes locations × IsRead meaning old new locations r
+
+-- the code of a reply
+abbrev pub code_of : Reply → ℤ
+code_of (reply.Fired k) = pos 0
+code_of (reply.Stale l) = pos 1
+code_of (reply.Clash c) = pos 2
+code_of reply.Full = pos 4
+
+-- the number of the move that was fired, or 0
+abbrev pub number_of : Reply → ℕ
+number_of (reply.Fired k) = k
+number_of _ = 0
+
+-- one of the codes of replies
+abbrev pub IsReplyCode : ℤ → Type 0
+IsReplyCode code = (code ≡ pos 0) ⊎ (code ≡ pos 1) ⊎ (code ≡ pos 2) ⊎ (code ≡ pos 4)
+
+-- the bytes are JSON of a fire, and it was answered with a reply of this code and this number
+abbrev pub HasFired : List ℕ → ℤ → ℕ → AgentAt Standard → AgentAt Standard → Type 0
+HasFired bytes code number old new =
+    (reads : List Named) × (M : Move) × (r : Reply) × ReadAsFire bytes reads M × (code_of r ≡ code)
+    × (number_of r ≡ number) × IsAnswered meaning old new reads M r
+
+-- so many moves had been seen at the start of a busy call, and so many at its end
+abbrev pub WasBusy : ℕ → ℕ → AgentAt Standard → AgentAt Standard → Type 0
+WasBusy from to old new = IsBusy old new (Busy from to)
+
+-- it has looked on, and nothing else
+abbrev pub HasLooked : AgentAt Standard → AgentAt Standard → Type 0
+HasLooked old new = new ≡ has_looked old new.account.seen new.misses
+
+-- the text of the answer to the last of these calls
+abbrev pub IsLastAnswer : List Receipt → List ℕ → Type 0
+IsLastAnswer receipts text = (rs : List Receipt) × (r : Receipt) × (receipts ≡ rs ++ r ∷ [])
+    × (text ≡ compact_text (answer_json_of r.answer))
+
+-- the text of the answer to the last call, where there was one
+abbrev pub TellsLast : AgentAt Standard → Option (List ℕ) → Type 0
+TellsLast a None = a.account.receipts ≡ []
+TellsLast a (Some s) = IsLastAnswer a.account.receipts s
+
+-- it has learnt what was seen there
+abbrev pub HasLearnt : List Entry → AgentAt Standard → AgentAt Standard → Type 0
+HasLearnt theirs old new =
+    (new ≡ has_seen old new.account.seen) × IsPrefix old.account.seen new.account.seen
+    × IsPrefix theirs new.account.seen
+
+-- the agent has learnt what the other has seen
+abbrev pub Learns : Option Content → Option Content → Option Content → Type 0
+Learns (Some (content.Agent other)) old new = Goes old new (HasLearnt other.account.seen)
+Learns _ old new = ⊥
+
+-- the storage with this agent among those that were given back, and no journal
+abbrev pub HasTaken : AgentAt Standard → StoreView → StoreView → Type 0
+HasTaken a old new = (new ≡ record old { agents = new.agents; journal = None }) × IsPutIn a old.agents new.agents
+
+-- the agent was given to the storage
+abbrev pub Gives : Option Content → Option Content → Option Content → Type 0
+Gives (Some (content.Store s)) (Some (content.Agent a)) new = HoldsStore new (HasTaken a s)
+Gives _ _ new = ⊥
+
+-- an agent with this number was given to the storage
+abbrev pub HasNumber : StoreView → ℕ → Type 0
+HasNumber s id =
+    (before after : List (AgentAt Standard)) × (b : AgentAt Standard) × (s.agents ≡ before ++ b ∷ after)
+    × (b.account.id ≡ id)
+
+-- an agent with the number of this one was given to the storage
+abbrev pub IsThere : Option Content → Option Content → Type 0
+IsThere (Some (content.Store s)) (Some (content.Agent a)) = HasNumber s a.account.id
+IsThere _ _ = ⊥
+
+-- the storage keeps this journal of the agents that were given to it
+abbrev pub KeepsJournal : StoreView → Option (List ℕ) → Type 0
+KeepsJournal s None = ⊥
+KeepsJournal s (Some text) = IsJournalOf s.storage s.agents text
+
+-- the storage keeps the journal of the agents that were given to it, and all else as before
+abbrev pub HasClosed : StoreView → StoreView → Type 0
+HasClosed old new = (new ≡ record old { journal = new.journal }) × KeepsJournal old new.journal
+
+-- the storage was closed
+abbrev pub Closes : Option Content → Option Content → Type 0
+Closes (Some (content.Store s)) new = HoldsStore new (HasClosed s)
+Closes _ new = ⊥

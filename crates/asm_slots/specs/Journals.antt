@@ -1,0 +1,40 @@
+-- What is told of the bytes of a journal.
+use Rattle.std.specs.Prelude.{◌≡◌, ℕ, ℤ, pos, List}
+use Rattle.serde_json.specs.Written.{compact_text}
+use Rattle.asm_update.specs.Fire.{state_of}
+use Rattle.asm_storage.specs.declared.history.History.{History}
+use Rattle.asm_storage.specs.History.{fired_moves}
+use Rattle.asm_journal.specs.declared.checking.Legality.{Legality}
+use Rattle.asm_journal.specs.declared.fault.JournalError.{JournalError}
+use Rattle.asm_journal.specs.declared.fault.JournalError.TheVariants.{NotJson, Shape, Version, Cut, Memory}
+use Rattle.asm_journal.specs.Check.{machine_of, IsLegality}
+use Rattle.asm_journal.specs.Fault.{IsRefused}
+use Rattle.asm_journal.specs.Reading.{ReadsAs}
+use Rattle.asm_journal.specs.Text.{state_json_of}
+use Rattle.asm_slots.specs.Standard.{part}
+
+-- the bytes are a journal, and this is what its check tells
+pub record IsChecked (bytes : List ℕ) (l : Legality) : Type 0 where
+  pub history : History
+  pub reads : ReadsAs bytes history
+  pub told : IsLegality (machine_of part history) history.events l
+
+-- the bytes are a journal, and this is the text of the state that its moves leave
+pub record IsReplayed (bytes text : List ℕ) : Type 0 where
+  pub history : History
+  pub reads : ReadsAs bytes history
+  pub left : text ≡ compact_text (state_json_of (state_of part history.init (fired_moves history.events)))
+
+-- this code tells the error, with this number of its line
+abbrev pub TellsError : JournalError → ℤ → ℕ → Type 0
+TellsError (NotJson n) code line = (code ≡ pos 16) × (line ≡ n)
+TellsError (Shape n) code line = (code ≡ pos 17) × (line ≡ n)
+TellsError Version code line = code ≡ pos 18
+TellsError Cut code line = code ≡ pos 19
+TellsError Memory code line = code ≡ pos 3
+
+-- the bytes are no journal, and this code tells their first fault, with this number of its line
+pub record IsRefusal (bytes : List ℕ) (code : ℤ) (line : ℕ) : Type 0 where
+  pub error : JournalError
+  pub refused : IsRefused bytes error
+  pub told : TellsError error code line

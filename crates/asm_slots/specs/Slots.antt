@@ -1,0 +1,66 @@
+-- What slots hold.
+use Rattle.std.specs.Prelude.{◌≡◌, ◌<◌, slice_index_or, ℕ, List, length, Option, None, Some}
+use Rattle.asm_storage.specs.Storage.{AgentAt, StorageView, at_start}
+use Rattle.asm_slots.specs.Standard.{Standard}
+use Rattle.asm_slots.specs.Store.{StoreView}
+use Rattle.asm_slots.specs.declared.slot.Slot.{Slot}
+use Rattle.asm_slots.specs.declared.content.Content.{Content}
+use Rattle.asm_slots.specs.declared.content.Content.TheVariants as content
+
+-- what a slot holds
+abbrev pub content_of : Slot → Option Content
+content_of slot = slot.handle.value
+
+-- the slot holds an agent, and it is so
+abbrev pub Holds : Option Content → (AgentAt Standard → Type 0) → Type 0
+Holds (Some (content.Agent a)) P = P a
+Holds _ P = ⊥
+
+-- where the slot holds an agent, it is so
+abbrev pub IfHolds : Option Content → (AgentAt Standard → Type 0) → Type 0
+IfHolds (Some (content.Agent a)) P = P a
+IfHolds _ P = Unit {0}
+
+-- the slot holds no agent
+abbrev pub HoldsNoAgent : Option Content → Type 0
+HoldsNoAgent (Some (content.Agent a)) = ⊥
+HoldsNoAgent _ = Unit {0}
+
+-- the slot holds an agent before and after, and these two are so
+abbrev pub Goes : Option Content → Option Content → (AgentAt Standard → AgentAt Standard → Type 0) → Type 0
+Goes (Some (content.Agent a)) new P = Holds new (P a)
+Goes _ new P = ⊥
+
+-- the slot holds a storage, and it is so
+abbrev pub HoldsStore : Option Content → (StoreView → Type 0) → Type 0
+HoldsStore (Some (content.Store s)) P = P s
+HoldsStore _ P = ⊥
+
+-- the slot holds no storage
+abbrev pub HoldsNoStore : Option Content → Type 0
+HoldsNoStore (Some (content.Store s)) = ⊥
+HoldsNoStore _ = Unit {0}
+
+-- two agents are of one storage, where there are two
+abbrev pub AreOfOneStorage : Option Content → Option Content → Type 0
+AreOfOneStorage (Some (content.Agent a)) (Some (content.Agent b)) = a.storage ≡ b.storage
+AreOfOneStorage _ _ = Unit {0}
+
+-- the agent of the slot is of the storage of the other, where there are both
+abbrev pub IsOfStore : Option Content → Option Content → Type 0
+IsOfStore (Some (content.Agent a)) (Some (content.Store s)) = a.storage ≡ s.storage
+IsOfStore _ _ = Unit {0}
+
+-- the slot holds an agent of the storage with this number, which has made no call
+abbrev pub HoldsNew : Option Content → Option Content → ℕ → Type 0
+HoldsNew (Some (content.Store s)) new id = Holds new (λ a. a ≡ at_start s.storage id)
+HoldsNew _ new id = ⊥
+
+-- each slot holds an agent of the storage with its index as its number, which has made no call
+abbrev pub AreNew : StorageView Standard → List Slot → Type 0
+AreNew s slots = (k : ℕ) (d : Slot) → k < length slots →
+    Holds (content_of (slice_index_or slots k d)) (λ a. a ≡ at_start s k)
+
+-- no slot holds anything
+abbrev pub AreEmpty : List Slot → Type 0
+AreEmpty slots = (k : ℕ) (d : Slot) → k < length slots → content_of (slice_index_or slots k d) ≡ None

@@ -1,0 +1,101 @@
+//! The codes that calls answer, and their texts.
+ghost use Rattle.std.specs.Prelude.{◌≡◌, ◌≢◌, ◌⊎◌, ◌<◌, pos, length, slice_range};
+ghost use Rattle.asm_slots.specs.Codes.{text_of_code};
+
+pub(crate) const DONE: i32 = 0;
+
+pub(crate) const STALE: i32 = 1;
+
+pub(crate) const CLASH: i32 = 2;
+
+pub(crate) const MEMORY: i32 = 3;
+
+pub(crate) const FULL: i32 = 4;
+
+pub(crate) const EMPTY: i32 = 5;
+
+pub(crate) const RANGE: i32 = 6;
+
+pub(crate) const SMALL: i32 = 7;
+
+pub(crate) const BUSY: i32 = 8;
+
+pub(crate) const MANY: i32 = 9;
+
+pub(crate) const NONE: i32 = 10;
+
+pub(crate) const TAKEN: i32 = 11;
+
+pub(crate) const NUMBER: i32 = 12;
+
+pub(crate) const MISSING: i32 = 13;
+
+pub(crate) const OTHER: i32 = 14;
+
+pub(crate) const ILLEGAL: i32 = 15;
+
+pub(crate) const NOT_JSON: i32 = 16;
+
+pub(crate) const SHAPE: i32 = 17;
+
+pub(crate) const VERSION: i32 = 18;
+
+pub(crate) const CUT: i32 = 19;
+
+pub(crate) const LARGE: i32 = 20;
+
+/// Copies the bytes to the start of the buffer, where they fit.
+pub(crate) fn copied(bytes: &[u8], out: &mut [u8], written: &mut usize) -> i32
+    ensures written { written.new ≡ length bytes.now }
+    ensures codes { (result ≡ pos 0) ⊎ (result ≡ pos 7) }
+    ensures bytes { result ≡ pos 0 → slice_range out.new 0 written.new ≡ bytes.now }
+    ensures small { result ≡ pos 7 → out.new ≡ out.old }
+    ensures room { result ≡ pos 7 → length out.old < length bytes.now }
+{
+    *written = bytes.len();
+    if out.len() < bytes.len() {
+        return SMALL;
+    }
+    out[..bytes.len()].copy_from_slice(bytes);
+    DONE
+}
+
+fn text_of_code(code: i32) -> &'static str
+    ensures { result.now ≡ text_of_code code }
+{
+    match code {
+        DONE => "done",
+        STALE => "a location that was named was written since it was read",
+        CLASH => "the updates of the move clash",
+        MEMORY => "out of memory",
+        FULL => "as many moves were fired as the capacity",
+        EMPTY => "a slot holds nothing of this kind, or is passed twice",
+        RANGE => "the capacity, the agent's number or the count of slots is out of range",
+        SMALL => "the buffer is too small",
+        BUSY => "64 offers were lost",
+        MANY => "more than 256 locations",
+        NONE => "there is no answer or no journal yet",
+        TAKEN => "the slot that was to be filled is full",
+        NUMBER => "an agent with this number was given back before",
+        MISSING => "a move has no receipt among the agents that were given back",
+        OTHER => "the two slots are of two storages",
+        ILLEGAL => "the journal is not legal",
+        NOT_JSON => "not JSON",
+        SHAPE => "JSON of another shape",
+        VERSION => "a journal of another version",
+        CUT => "the journal is cut off",
+        LARGE => "more calls than a journal holds",
+        _ => "no code of this library",
+    }
+}
+
+/// Writes what the code means, in a line of English. Answers 0, or 7 with the room that it needs.
+pub fn write_error_text(code: i32, out: &mut [u8], written: &mut usize) -> i32
+    ensures codes { (result ≡ pos 0) ⊎ (result ≡ pos 7) }
+    ensures written { written.new ≡ length (text_of_code code) }
+    ensures told { result ≡ pos 0 → slice_range out.new 0 written.new ≡ text_of_code code }
+    ensures unwritten { result ≢ pos 0 → out.new ≡ out.old }
+    ensures small { result ≡ pos 7 → length out.old < written.new }
+{
+    copied(text_of_code(code).as_bytes(), out, written)
+}

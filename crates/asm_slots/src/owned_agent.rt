@@ -1,0 +1,201 @@
+//! An agent that owns a share of its storage and borrows nothing, and its calls.
+ghost use Rattle.std.specs.Prelude.{◌≡◌, ◌↔◌, ◌<◌, length, IfOk, OnErr, IfErr, IsErrOf, option_map, string_bytes};
+ghost use Rattle.std_alloc.specs.Arc.{arc_value};
+ghost use Rattle.asm_storage.specs.declared.error.FireError.TheVariants.{ManyReads};
+ghost use Rattle.asm_storage.specs.declared.error.ReadError.TheVariants.{ManyLocations};
+ghost use Rattle.asm_storage.specs.Storage.{at_start, IsSameAgent};
+ghost use Rattle.asm_storage.specs.Calls.{IsAnswered, IsBusy, IsRead};
+ghost use Rattle.asm_slots.specs.Standard.{meaning};
+ghost use Rattle.asm_slots.specs.Calls.{HasLearnt, HasLooked, TellsLast};
+
+use crate::shared::{Shared, Standard};
+use asm_element::Location;
+use asm_journal::answer_text;
+use asm_state::Named;
+use asm_storage::{Agent, AgentPart, FireError, Mark, ReadError, Reading, Reply};
+use asm_update::Instructions;
+use std::alloc::{AllocError, Global};
+use std::marker::Model;
+use std::sync::Arc;
+
+/// A share of the storage, and the part of an agent of it.
+#[derive(Drop)]
+pub struct OwnedAgent {
+    pub(crate) shared: Arc<Shared>,
+    pub(crate) part: AgentPart,
+}
+
+impl Model for OwnedAgent {
+    ghost use Rattle.std_alloc.specs.Arc.{arc_value};
+    ghost use Rattle.asm_aggregate.specs.contracts.pair.Pair.{the_row as pair_row};
+    ghost use Rattle.asm_aggregate.specs.contracts.set_agg.SetAgg.{the_row as set_row};
+    ghost use Rattle.asm_aggregate.specs.contracts.bag_agg.BagAgg.{the_row as bag_row};
+    ghost use Rattle.asm_aggregate.specs.contracts.count_agg.CountAgg.{the_row as count_row};
+    ghost use Rattle.asm_update.specs.contracts.plain_state.PlainState.{the_row as state_row};
+    ghost use Rattle.asm_storage.specs.contracts.receipt.Entry.{the_row as entry_row};
+    ghost use Rattle.asm_storage.specs.contracts.receipt.Receipt.{the_row as receipt_row};
+    ghost use Rattle.asm_storage.specs.Agents.{account_code};
+    ghost use Rattle.asm_storage.specs.Part.{agent_of, IsPartOf};
+    ghost use Rattle.asm_storage.specs.Storage.{AgentAt, storage_code, agent_code};
+    ghost use Rattle.asm_slots.specs.Standard.{Standard, meaning};
+
+    ghost Value = { AgentAt Standard };
+
+    ghost coded = { agent_code
+        (storage_code (pair_row (pair_row set_row bag_row) count_row).coded state_row.coded)
+        (account_code entry_row.coded receipt_row.coded) };
+
+    ghost view = { λ p. agent_of (arc_value p.shared).storage p.part };
+
+    ghost invariant = { λ p. IsPartOf meaning (arc_value p.shared).storage p.part };
+}
+
+impl OwnedAgent {
+    /// An agent of the storage with this number, which has made no call.
+    pub(crate) fn at_start(
+        alloc: Global,
+        shared: &Arc<Shared>,
+        id: u32,
+    ) -> Result<OwnedAgent, AllocError>
+        requires { id < 256 }
+        ensures { IfOk result (λ p. p ≡ at_start (arc_value shared.now).storage id) }
+    {
+        let shared = Arc::try_clone(shared)?;
+        let agent = shared.storage.agent_at(alloc, id)?;
+        let part = agent.into_part();
+        Ok(OwnedAgent { shared, part })
+    }
+
+    /// Reads the locations.
+    pub(crate) fn read(
+        self,
+        alloc: Global,
+        locations: &[Location],
+    ) -> (OwnedAgent, Result<Reading, ReadError>)
+        ensures same { IsSameAgent self result.0 }
+        ensures answered { IfOk result.1 (IsRead meaning self result.0 locations.now) }
+        ensures refused { OnErr result.1 (HasLooked self result.0) }
+        ensures many { IsErrOf result.1 ManyLocations ↔ (256 < length locations.now) }
+    {
+        let OwnedAgent { shared, part } = self;
+        let mut agent = Agent::of(&shared.storage, part);
+        let answer = agent.read(alloc, locations);
+        let part = agent.into_part();
+        (OwnedAgent { shared, part }, answer)
+    }
+
+    /// Fires the move.
+    pub(crate) fn fire(
+        self,
+        alloc: Global,
+        reads: &[Named],
+        instrs: &Instructions,
+    ) -> (OwnedAgent, Result<Reply, FireError>)
+        ensures same { IsSameAgent self result.0 }
+        ensures answered { IfOk result.1
+            (IsAnswered meaning self result.0 reads.now instrs.now) }
+        ensures refused { OnErr result.1 (HasLooked self result.0) }
+        ensures busy { IfErr result.1 (IsBusy self result.0) }
+        ensures many { IsErrOf result.1 ManyReads ↔ (256 < length reads.now) }
+    {
+        let OwnedAgent { shared, part } = self;
+        let mut agent = Agent::of(&shared.storage, part);
+        let answer = agent.try_fire(alloc, reads, instrs);
+        let part = agent.into_part();
+        (OwnedAgent { shared, part }, answer)
+    }
+
+    /// Its number.
+    pub(crate) fn id(self) -> (OwnedAgent, u32)
+        ensures same { result.0 ≡ self }
+        ensures id { result.1 ≡ self.account.id }
+        ensures few { result.1 < 256 }
+    {
+        let OwnedAgent { shared, part } = self;
+        let agent = Agent::of(&shared.storage, part);
+        let id = agent.id();
+        let part = agent.into_part();
+        (OwnedAgent { shared, part }, id)
+    }
+
+    /// How many moves it has seen.
+    pub(crate) fn seen(self) -> (OwnedAgent, u32)
+        ensures same { result.0 ≡ self }
+        ensures seen { result.1 ≡ length self.account.seen }
+    {
+        let OwnedAgent { shared, part } = self;
+        let agent = Agent::of(&shared.storage, part);
+        let seen = agent.seen();
+        let part = agent.into_part();
+        (OwnedAgent { shared, part }, seen)
+    }
+
+    /// How many of its offers won.
+    pub(crate) fn won(self) -> (OwnedAgent, u32)
+        ensures same { result.0 ≡ self }
+        ensures won { result.1 ≡ self.account.won }
+    {
+        let OwnedAgent { shared, part } = self;
+        let agent = Agent::of(&shared.storage, part);
+        let won = agent.won();
+        let part = agent.into_part();
+        (OwnedAgent { shared, part }, won)
+    }
+
+    /// How many of its looks found an empty cell.
+    pub(crate) fn misses(self) -> (OwnedAgent, u64)
+        ensures same { result.0 ≡ self }
+        ensures misses { result.1 ≡ self.misses }
+    {
+        let OwnedAgent { shared, part } = self;
+        let agent = Agent::of(&shared.storage, part);
+        let misses = agent.misses();
+        let part = agent.into_part();
+        (OwnedAgent { shared, part }, misses)
+    }
+
+    /// A mark of what it has seen.
+    pub(crate) fn mark(self, alloc: Global) -> (OwnedAgent, Mark)
+        ensures same { result.0 ≡ self }
+        ensures mark { result.1 ≡ record { row = self.storage.row; seen = self.account.seen } }
+    {
+        let OwnedAgent { shared, part } = self;
+        let agent = Agent::of(&shared.storage, part);
+        let mark = agent.mark(alloc).unwrap();
+        let part = agent.into_part();
+        (OwnedAgent { shared, part }, mark)
+    }
+
+    /// Takes in what the mark holds.
+    pub(crate) fn learn(self, alloc: Global, mark: &Mark) -> OwnedAgent
+        requires { mark.now.row ≡ self.storage.row }
+        ensures { HasLearnt mark.now.seen self result }
+    {
+        let OwnedAgent { shared, part } = self;
+        let mut agent = Agent::of(&shared.storage, part);
+        agent.learn(alloc, mark).unwrap();
+        let part = agent.into_part();
+        OwnedAgent { shared, part }
+    }
+
+    /// The text of the answer to its last answered call.
+    pub(crate) fn answer(self, alloc: Global) -> (OwnedAgent, Result<Option<String>, AllocError>)
+        ensures same { result.0 ≡ self }
+        ensures told { IfOk result.1 (λ o. TellsLast self (option_map string_bytes o)) }
+    {
+        let OwnedAgent { shared, part } = self;
+        let agent = Agent::of(&shared.storage, part);
+        let answer = last_answer(alloc, &agent);
+        let part = agent.into_part();
+        (OwnedAgent { shared, part }, answer)
+    }
+}
+
+fn last_answer(alloc: Global, agent: &Agent<'_, Standard>) -> Result<Option<String>, AllocError>
+    ensures { IfOk result (λ o. TellsLast agent.now (option_map string_bytes o)) }
+{
+    match agent.receipts().last() {
+        Some(receipt) => Ok(Some(answer_text(alloc, &receipt.answer)?)),
+        None => Ok(None),
+    }
+}

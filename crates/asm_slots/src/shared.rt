@@ -1,0 +1,48 @@
+//! What the slots of one storage share.
+ghost use Rattle.std.specs.Prelude.{◌≡◌};
+
+use asm_aggregate::{BagAgg, CountAgg, Pair, SetAgg};
+use asm_storage::Storage;
+use std::sync::Arc;
+use std::sync::atomic::{AtomicU64, Ordering};
+
+/// Sets, bags and counters, each by its own aggregator.
+pub type Standard = Pair<Pair<SetAgg, BagAgg>, CountAgg>;
+
+/// A storage, and a count that tells it from others.
+#[derive(Drop)]
+pub struct Shared {
+    pub(crate) storage: Storage<Standard>,
+    pub(crate) count: AtomicU64,
+}
+
+impl Shared {
+    pub fn new(storage: Storage<Standard>) -> Shared
+        ensures { result.storage ≡ storage }
+    {
+        Shared {
+            storage,
+            count: AtomicU64::new(0),
+        }
+    }
+}
+
+// Whether the count of the second goes up where that of the first does.
+fn goes_along(first: &Shared, second: &Shared) -> bool {
+    let before = second.count.load(Ordering::SeqCst);
+    first.count.fetch_add(1, Ordering::SeqCst);
+    second.count.load(Ordering::SeqCst) != before
+}
+
+/// Whether two shares are of one storage: whether the count of each goes up where that of the other does.
+///
+/// A count never goes down, so shares of one storage are always told so. Those of two are told apart unless
+/// other calls count in both of them, between two steps of each of eight tries.
+pub fn are_one(first: &Arc<Shared>, second: &Arc<Shared>) -> bool {
+    for _ in 0..4 {
+        if !goes_along(first, second) || !goes_along(second, first) {
+            return false;
+        }
+    }
+    true
+}

@@ -1,0 +1,48 @@
+//! A share of a storage, with the agents that were given back to it, and their journal.
+use crate::shared::Shared;
+use asm_storage::AgentPart;
+use std::marker::Model;
+use std::sync::Arc;
+
+/// The agents' numbers ascend.
+#[derive(Drop)]
+pub struct Store {
+    pub(crate) shared: Arc<Shared>,
+    pub(crate) parts: Vec<AgentPart>,
+    pub(crate) journal: Option<String>,
+}
+
+impl Model for Store {
+    ghost use Rattle.std.specs.Prelude.{All, map, option_map, string_bytes};
+    ghost use Rattle.std.specs.List.Sorted.{IsStrictlyIncreasing};
+    ghost use Rattle.std_alloc.specs.Arc.{arc_value};
+    ghost use Rattle.asm_aggregate.specs.contracts.pair.Pair.{the_row as pair_row};
+    ghost use Rattle.asm_aggregate.specs.contracts.set_agg.SetAgg.{the_row as set_row};
+    ghost use Rattle.asm_aggregate.specs.contracts.bag_agg.BagAgg.{the_row as bag_row};
+    ghost use Rattle.asm_aggregate.specs.contracts.count_agg.CountAgg.{the_row as count_row};
+    ghost use Rattle.asm_update.specs.contracts.plain_state.PlainState.{the_row as state_row};
+    ghost use Rattle.asm_storage.specs.contracts.receipt.Entry.{the_row as entry_row};
+    ghost use Rattle.asm_storage.specs.contracts.receipt.Receipt.{the_row as receipt_row};
+    ghost use Rattle.asm_storage.specs.Agents.{account_code};
+    ghost use Rattle.asm_storage.specs.Part.{agent_of, IsPartOf};
+    ghost use Rattle.asm_storage.specs.Storage.{storage_code, agent_code};
+    ghost use Rattle.asm_slots.specs.Standard.{meaning};
+    ghost use Rattle.asm_slots.specs.Store.{StoreView, store_code};
+
+    ghost Value = { StoreView };
+
+    ghost coded = { store_code
+        (storage_code (pair_row (pair_row set_row bag_row) count_row).coded state_row.coded)
+        (agent_code
+        (storage_code (pair_row (pair_row set_row bag_row) count_row).coded state_row.coded)
+        (account_code entry_row.coded receipt_row.coded)) };
+
+    ghost view = { λ s. record {
+      storage = (arc_value s.shared).storage;
+      agents = map (agent_of (arc_value s.shared).storage) s.parts.items;
+      journal = option_map string_bytes s.journal;
+    } };
+
+    ghost invariant = { λ s. All (IsPartOf meaning (arc_value s.shared).storage) s.parts.items
+        × IsStrictlyIncreasing (map (λ p. p.id) s.parts.items) };
+}

@@ -1,0 +1,145 @@
+//! Closing the agents that were given back into one journal.
+ghost use Rattle.std.specs.Prelude.{◌≡◌, ◌++◌, ◌∷◌, ◌≤◌, [], List, All, length, map, string_bytes, vec_capacity};
+ghost use Rattle.std.specs.Prelude.{IfErr, IfOk, OnOk, OnErr};
+ghost use Rattle.std.specs.List.Sorted.{IsStrictlyIncreasing};
+ghost use Rattle.asm_storage.specs.Agents.{ids, AgentView};
+ghost use Rattle.asm_storage.specs.Part.{agent_of, IsPartOf};
+ghost use Rattle.asm_storage.specs.Storage.{IsOf, accounts};
+ghost use Rattle.asm_journal.specs.Text.{text_of};
+ghost use Rattle.asm_slots.specs.Calls.{HasClosed};
+ghost use Rattle.asm_slots.specs.Closed.{IsJournalOf};
+ghost use Rattle.asm_slots.specs.Standard.{meaning};
+ghost use Rattle.asm_slots.specs.Unclosed.{IsUnclosed};
+
+use crate::shared::Standard;
+use crate::store::Store;
+use asm_journal::to_text;
+use asm_storage::{Agent, AgentPart, CloseError, History, Storage};
+use std::alloc::{AllocError, Global};
+
+// The agents of which these are the parts, in room that was made for them.
+fn agents_of<'s>(
+    storage: &'s Storage<Standard>,
+    parts: Vec<AgentPart>,
+    mut agents: Vec<Agent<'s, Standard>>,
+) -> Vec<Agent<'s, Standard>>
+    requires parts { All (IsPartOf meaning storage.now) parts.items }
+    requires empty { agents.items ≡ [] }
+    requires room { length parts.items ≤ vec_capacity agents }
+    ensures { result.items ≡ map (agent_of storage.now) parts.items }
+{
+    for part in parts {
+        agents.push(Agent::of(storage, part)).unwrap();
+    }
+    agents
+}
+
+// Their parts again, in room that was made for them.
+fn parts_of(
+    storage: &Storage<Standard>,
+    agents: Vec<Agent<'_, Standard>>,
+    mut parts: Vec<AgentPart>,
+) -> Vec<AgentPart>
+    requires storage { All (IsOf storage.now) agents.items }
+    requires empty { parts.items ≡ [] }
+    requires room { length agents.items ≤ vec_capacity parts }
+    ensures parts { All (IsPartOf meaning storage.now) result.items }
+    ensures agents { map (agent_of storage.now) result.items ≡ agents.entry.items }
+{
+    let _ = storage;
+    for agent in agents {
+        parts.push(agent.into_part()).unwrap();
+    }
+    parts
+}
+
+/// Why a storage wasn't closed.
+#[derive(Drop)]
+pub(crate) enum Unclosed {
+    Missing(u32),
+    Large,
+    Memory,
+}
+
+// The text of the history as a journal.
+fn text_of(alloc: Global, history: &History) -> Result<String, Unclosed>
+    ensures ok { IfOk result (λ text. string_bytes text ≡ text_of history.now) }
+    ensures err { (agents : List AgentView) → IfErr result (IsUnclosed agents) }
+{
+    if !history.fits() {
+        return Err(Unclosed::Large);
+    }
+    match to_text(alloc, history) {
+        Ok(text) => Ok(text),
+        Err(AllocError) => Err(Unclosed::Memory),
+    }
+}
+
+// The text of the journal of the agents' history.
+fn journal_of(
+    alloc: Global,
+    storage: &Storage<Standard>,
+    agents: &[Agent<'_, Standard>],
+) -> Result<String, Unclosed>
+    requires of_this { All (IsOf storage.now) agents.now }
+    requires ascending { IsStrictlyIncreasing (ids (accounts agents.now)) }
+    ensures ok { IfOk result (λ text. IsJournalOf storage.now agents.now (string_bytes text)) }
+    ensures err { IfErr result (IsUnclosed (accounts agents.now)) }
+{
+    match storage.close(alloc, agents) {
+        Ok(history) => match text_of(alloc, &history) {
+            Ok(text) => Ok(text),
+            Err(error) => Err(error),
+        },
+        Err(CloseError::Missing(number)) => Err(Unclosed::Missing(number)),
+        Err(CloseError::Memory) => Err(Unclosed::Memory),
+    }
+}
+
+impl Store {
+    /// Closes the agents that were given back, and keeps the text of their journal.
+    pub(crate) fn close(self, alloc: Global) -> (Store, Result<(), Unclosed>)
+        ensures closed { OnOk result.1 (HasClosed self result.0) }
+        ensures unchanged { OnErr result.1 (result.0 ≡ self) }
+        ensures err { IfErr result.1 (IsUnclosed (accounts self.agents)) }
+    {
+        let Store {
+            shared,
+            parts,
+            journal,
+        } = self;
+        let count = parts.len();
+        let (Ok(agents), Ok(room)) = (
+            Vec::with_capacity(alloc, count),
+            Vec::with_capacity(alloc, count),
+        ) else {
+            let store = Store {
+                shared,
+                parts,
+                journal,
+            };
+            return (store, Err(Unclosed::Memory));
+        };
+        let agents = agents_of(&shared.storage, parts, agents);
+        let text = journal_of(alloc, &shared.storage, agents.as_slice());
+        let parts = parts_of(&shared.storage, agents, room);
+        match text {
+            Ok(text) => {
+                let store = Store {
+                    shared,
+                    parts,
+                    journal: Some(text),
+                };
+                (store, Ok(()))
+            }
+            Err(error) => {
+                let store = Store {
+                    shared,
+                    parts,
+                    journal,
+                };
+                (store, Err(error))
+            }
+        }
+    }
+}

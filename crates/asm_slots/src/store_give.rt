@@ -1,0 +1,96 @@
+//! Giving an agent back to its storage.
+ghost use Rattle.std.specs.Prelude.{◌≡◌, ◌<◌, ◌≤◌, All, IfNone, IfSome, IfErr, OnOk, Some};
+ghost use Rattle.std.specs.Prelude.{length, map, slice_get, take};
+ghost use Rattle.std.specs.List.Sorted.{IsStrictlyIncreasing};
+ghost use Rattle.asm_storage.specs.Part.{agent_of, IsPartOf};
+ghost use Rattle.asm_storage.specs.declared.part.AgentPart.{AgentPart};
+ghost use Rattle.asm_slots.specs.Calls.{HasTaken};
+ghost use Rattle.asm_slots.specs.InsertPoint.{IsInsertPoint, IsAmong};
+ghost use Rattle.asm_slots.specs.GiveError.{IsGiveError};
+ghost use Rattle.asm_slots.specs.Standard.{meaning};
+
+use crate::owned_agent::OwnedAgent;
+use crate::store::Store;
+use asm_storage::AgentPart;
+
+/// Why an agent wasn't taken.
+#[derive(Drop)]
+pub(crate) enum GiveError {
+    Number,
+    Memory,
+}
+
+// How many of the parts, whose numbers ascend, have a number below this one.
+fn below(parts: &[AgentPart], id: u32) -> usize
+    ensures within { result ≤ length parts.now }
+    ensures before { All (λ p. p.id < id) (take result parts.now) }
+    ensures next { (p : AgentPart) → slice_get parts.now result ≡ Some p → id ≤ p.id }
+{
+    for (at, part) in parts.iter().enumerate() {
+        if id <= part.id() {
+            return at;
+        }
+    }
+    parts.len()
+}
+
+// Where an agent with this number goes among the parts; `None` where one of them has the number.
+fn insert_point(parts: &[AgentPart], id: u32) -> Option<usize>
+    requires { IsStrictlyIncreasing (map (λ p. p.id) parts.now) }
+    ensures some { IfSome result (IsInsertPoint parts.now id) }
+    ensures none { IfNone result (IsAmong parts.now id) }
+{
+    let at = below(parts, id);
+    if at < parts.len() && parts[at].id() == id {
+        return None;
+    }
+    Some(at)
+}
+
+// The agent's part, without its share of the storage.
+fn part_of(agent: OwnedAgent) -> AgentPart
+    ensures agent { agent_of agent.storage result ≡ agent }
+    ensures part { IsPartOf meaning agent.storage result }
+{
+    let OwnedAgent { shared: _, part } = agent;
+    part
+}
+
+impl Store {
+    /// Takes the agent among those that were given back. It comes back where it is refused.
+    pub(crate) fn give(self, agent: OwnedAgent) -> (Store, Result<(), (GiveError, OwnedAgent)>)
+        requires { agent.storage ≡ self.storage }
+        ensures given { OnOk result.1 (HasTaken agent self result.0) }
+        ensures refused { IfErr result.1 (λ p. (result.0 ≡ self) × (p.1 ≡ agent) × IsGiveError self agent p.0) }
+    {
+        let (agent, id) = agent.id();
+        let Store {
+            shared,
+            mut parts,
+            journal,
+        } = self;
+        let Some(at) = insert_point(&parts, id) else {
+            let store = Store {
+                shared,
+                parts,
+                journal,
+            };
+            return (store, Err((GiveError::Number, agent)));
+        };
+        if parts.reserve(1).is_err() {
+            let store = Store {
+                shared,
+                parts,
+                journal,
+            };
+            return (store, Err((GiveError::Memory, agent)));
+        }
+        parts.insert(at, part_of(agent)).unwrap();
+        let store = Store {
+            shared,
+            parts,
+            journal: None,
+        };
+        (store, Ok(()))
+    }
+}
