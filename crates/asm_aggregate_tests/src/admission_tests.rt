@@ -1,10 +1,11 @@
 //! What `admit` and `change` answer beside `aggregate` and `result`, and how a group changes a state.
+use crate::resultless::Resultless;
 use crate::shorthand::Act::{Add, BagAdd, BagRemove, Inc, Remove};
 use crate::shorthand::Old::{self, Bag, Num, Set, Undef};
 use crate::shorthand::{location, move_of, state_with, value_of};
-use crate::tests::{Row, group_in, is_clash, is_value, judge_all};
+use crate::tests::{Row, admits_and_changes, group_in, is_clash, is_value, judge_all};
 use asm_aggregate::{admit, standard};
-use asm_element::{Location, Value};
+use asm_element::Value;
 use asm_update::{AggError, Aggregator, Cause, Group, Instructions, PlainState, ResultError};
 use std::alloc::{AllocError, Global};
 use std::test::Fail;
@@ -79,17 +80,18 @@ pub(crate) fn changes<A: Aggregator>(
     is_told(answer, is_new, is_old, row.3)
 }
 
-/// What a change at the location by the group leaves of the state, with its answer.
-fn state_changed_by<A: Aggregator>(
+/// What a change at x by the row's group answers; None where the row has no group.
+fn change_of_x<A: Aggregator>(
     alloc: Global,
     aggregator: &A,
-    old: PlainState,
-    at: Location,
-    group: Group,
-) -> (PlainState, Result<(), ResultError>) {
-    let mut state = old;
-    let answer = state.change(alloc, aggregator, &at, &group);
-    (state, answer)
+    state: &mut PlainState,
+    row: Row,
+) -> Result<Option<Result<(), ResultError>>, Fail> {
+    let at = location(alloc, "x")?;
+    Ok(match group_in(alloc, row)? {
+        Some(group) => Some(state.change(alloc, aggregator, &at, &group)),
+        None => None,
+    })
 }
 
 /// Whether the state has the wanted value at x, and nothing else.
@@ -107,14 +109,12 @@ pub(crate) fn changes_a_state<A: Aggregator>(
     aggregator: &A,
     row: Row,
 ) -> Result<bool, Fail> {
-    let at = location(alloc, "x")?;
-    let old = state_with(alloc, row.0)?;
-    let Some(group) = group_in(alloc, row)? else {
+    let mut state = state_with(alloc, row.0)?;
+    let Some(answer) = change_of_x(alloc, aggregator, &mut state, row)? else {
         return Ok(false);
     };
-    let (left, answer) = state_changed_by(alloc, aggregator, old, at, group);
-    let is_new = is_state(alloc, &left, row.3)?;
-    let is_old = is_state(alloc, &left, Ok(row.0))?;
+    let is_new = is_state(alloc, &state, row.3)?;
+    let is_old = is_state(alloc, &state, Ok(row.0))?;
     is_told(answer, is_new, is_old, row.3)
 }
 
@@ -194,6 +194,27 @@ static BESIDE_A_VALUE: [Row; 5] = [
 #[test]
 fn values_are_changed_in_place(rt: HostRuntime) -> Result<(), Fail> {
     judge_all(&rt, rt.alloc(), &standard(), &GROWN)
+}
+
+/// Whether the aggregator admits the rows and changes values to what they tell.
+fn admits_and_changes_all<A: Aggregator>(
+    alloc: Global,
+    aggregator: &A,
+    rows: &[Row],
+) -> Result<bool, Fail> {
+    for row in rows {
+        if !admits_and_changes(alloc, aggregator, *row)? {
+            return Ok(false);
+        }
+    }
+    Ok(true)
+}
+
+#[test]
+fn an_admission_and_a_change_ask_for_no_result(rt: HostRuntime) -> Result<(), Fail> {
+    let aggregator = Resultless::over(standard());
+    assert!(rt; admits_and_changes_all(rt.alloc(), &aggregator, &GROWN)?);
+    Ok(())
 }
 
 #[test]

@@ -141,27 +141,47 @@ fn cause_of(answer: Result<(), ResultError>) -> Result<Option<Cause>, AllocError
 /// The result on the old value, or that value and the cause.
 fn result_of(
     alloc: Global,
-    old: Value,
+    old: &Value,
     group: &Group,
 ) -> Result<(Value, Option<Cause>), AllocError> {
-    match BagAgg.result(alloc, Some(&old), group) {
+    match BagAgg.result(alloc, Some(old), group) {
         Ok(value) => Ok((value, None)),
-        Err(ResultError::Cause(cause)) => Ok((old, Some(cause))),
+        Err(ResultError::Cause(cause)) => Ok((old.copy(alloc)?, Some(cause))),
         Err(ResultError::Memory) => Err(AllocError),
+    }
+}
+
+/// What a change leaves of the old value, and the cause that it answers.
+fn change_of(
+    alloc: Global,
+    old: &Value,
+    group: &Group,
+) -> Result<(Value, Option<Cause>), AllocError> {
+    let mut value = old.copy(alloc)?;
+    let cause = cause_of(BagAgg.change(alloc, &mut value, group))?;
+    Ok((value, cause))
+}
+
+/// What `result` and `change` tell together; None where they don't agree.
+fn changed_of(
+    alloc: Global,
+    old: &Value,
+    group: &Group,
+) -> Result<Option<Option<Cause>>, AllocError> {
+    let (changed, answered) = change_of(alloc, old, group)?;
+    let (value, cause) = result_of(alloc, old, group)?;
+    if value == changed && answered == cause {
+        Ok(Some(cause))
+    } else {
+        Ok(None)
     }
 }
 
 /// What `result`, `admit` and `change` tell together; None where they don't agree.
 fn told_of(alloc: Global, old: Value, group: Group) -> Result<Option<Option<Cause>>, AllocError> {
-    let mut changed = old.copy(alloc)?;
     let admitted = cause_of(BagAgg.admit(alloc, Some(&old), &group))?;
-    let answered = cause_of(BagAgg.change(alloc, &mut changed, &group))?;
-    let (value, cause) = result_of(alloc, old, &group)?;
-    if value == changed && admitted == cause && answered == cause {
-        Ok(Some(cause))
-    } else {
-        Ok(None)
-    }
+    let told = changed_of(alloc, &old, &group)?;
+    Ok(if told == Some(admitted) { told } else { None })
 }
 
 fn told_by(alloc: Global, old: Old, seed: u32) -> Result<Option<Option<Cause>>, Fail> {

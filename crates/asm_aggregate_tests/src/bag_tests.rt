@@ -1,7 +1,7 @@
 use crate::compose_tests::compose_of;
 use crate::shorthand::Act::{BagAdd, BagRemove};
 use crate::shorthand::Old::{Bag, Counts};
-use crate::shorthand::{do_at, location, value_of};
+use crate::shorthand::{do_at, set_at, write_at};
 use crate::tests::{Row, judge_all};
 use asm_aggregate::standard;
 use asm_update::{Instructions, PlainState, UpdateSet};
@@ -50,34 +50,20 @@ pub(crate) fn additions_by_turns(alloc: Global, count: u32) -> Result<Instructio
     Ok(list)
 }
 
-fn set_bag(alloc: Global, state: &mut PlainState, name: &str) -> Result<(), Fail> {
-    let at = location(alloc, name)?;
-    let empty = value_of(alloc, Bag(0, 0))?;
-    state.set(at, empty)?;
-    Ok(())
-}
-
 /// A state in which b and c are empty bags.
 pub(crate) fn two_empty_bags(alloc: Global) -> Result<PlainState, Fail> {
     let mut state = PlainState::new(alloc);
     for name in ["b", "c"] {
-        set_bag(alloc, &mut state, name)?;
+        set_at(alloc, &mut state, name, Bag(0, 0))?;
     }
     Ok(state)
-}
-
-fn put_count(alloc: Global, updates: &mut UpdateSet, name: &str, count: u32) -> Result<(), Fail> {
-    let at = location(alloc, name)?;
-    let bag = value_of(alloc, Bag(count, 0))?;
-    updates.put(at, bag)?;
-    Ok(())
 }
 
 /// Updates by which b and c are bags with this count of e.
 pub(crate) fn counts_at_both(alloc: Global, count: u32) -> Result<UpdateSet, Fail> {
     let mut updates = UpdateSet::new(alloc);
     for name in ["b", "c"] {
-        put_count(alloc, &mut updates, name, count)?;
+        write_at(alloc, &mut updates, name, Bag(count, 0))?;
     }
     Ok(updates)
 }

@@ -35,7 +35,8 @@ pub(crate) struct Row(
     pub(crate) Result<&'static [Line], NoComposition>,
 );
 
-fn steps(alloc: Global, lines: &[Line]) -> Result<Instructions, Fail> {
+/// The move of these lines.
+pub(crate) fn steps(alloc: Global, lines: &[Line]) -> Result<Instructions, Fail> {
     let mut list = Instructions::new(alloc);
     for line in lines {
         match *line {
@@ -107,7 +108,8 @@ pub(crate) fn compose_all<R: Abort, A: Aggregator>(
     Ok(())
 }
 
-static PUTS: [Row; 5] = [
+static PUTS: [Row; 6] = [
+    Row(&[], &[], Ok(&[])),
     Row(
         &[Put("x", Num(1))],
         &[Put("x", Num(2))],

@@ -18,6 +18,14 @@ fn books(alloc: Global, numbers: &[i64]) -> Result<Value, AllocError> {
     Ok(Value::Set(set))
 }
 
+/// A state where these books are on the shelf.
+fn shelf_with(alloc: Global, numbers: &[i64]) -> Result<PlainState, Fail> {
+    let at = shelf(alloc)?;
+    let mut state = PlainState::new(alloc);
+    state.set(at, books(alloc, numbers)?)?;
+    Ok(state)
+}
+
 /// Fires a move, or tells where it clashes; then nothing is written. `AllocError` comes only where memory was refused.
 fn fire(
     alloc: Global,
@@ -35,32 +43,49 @@ fn fire(
     Ok(None)
 }
 
+/// Appends to the move what it does with a book, beside the other books on the shelf.
+fn push(alloc: Global, step: &mut Instructions, action: Action) -> Result<(), Fail> {
+    let at = shelf(alloc)?;
+    step.push(Instruction { at, action })?;
+    Ok(())
+}
+
+/// Whether the move fires and leaves these books.
+fn leaves(
+    alloc: Global,
+    state: &mut PlainState,
+    step: &Instructions,
+    numbers: &[i64],
+) -> Result<bool, Fail> {
+    let fires = fire(alloc, state, step)?.is_none();
+    Ok(fires && *state == shelf_with(alloc, numbers)?)
+}
+
+/// The cause for which the move clashes at the shelf, if it does.
+fn clash_of(
+    alloc: Global,
+    state: &mut PlainState,
+    step: &Instructions,
+) -> Result<Option<Cause>, AllocError> {
+    match fire(alloc, state, step)? {
+        Some(clash) => Ok(if clash.at.name() == "shelf" {
+            Some(clash.cause)
+        } else {
+            None
+        }),
+        None => Ok(None),
+    }
+}
+
 #[test]
 fn books_on_a_shelf(rt: HostRuntime) -> Result<(), Fail> {
     let alloc = rt.alloc();
-    let mut state = PlainState::new(alloc);
-    state.set(shelf(alloc)?, books(alloc, &[7])?)?;
+    let mut state = shelf_with(alloc, &[7])?;
     let mut step = Instructions::new(alloc);
-    let action = Action::SetAdd(Element::Num(9));
-    step.push(Instruction {
-        at: shelf(alloc)?,
-        action,
-    })?;
-    assert_eq!(rt; fire(alloc, &mut state, &step)?, None);
-
-    let action = Action::SetRemove(Element::Num(9));
-    step.push(Instruction {
-        at: shelf(alloc)?,
-        action,
-    })?;
-    let clash = Clash {
-        at: shelf(alloc)?,
-        cause: Cause::Both,
-    };
-    assert_eq!(rt; fire(alloc, &mut state, &step)?, Some(clash));
-
-    let mut both = PlainState::new(alloc);
-    both.set(shelf(alloc)?, books(alloc, &[7, 9])?)?;
-    assert_eq!(rt; state, both);
+    push(alloc, &mut step, Action::SetAdd(Element::Num(9)))?;
+    assert!(rt; leaves(alloc, &mut state, &step, &[7, 9])?);
+    push(alloc, &mut step, Action::SetRemove(Element::Num(9)))?;
+    assert!(rt; clash_of(alloc, &mut state, &step)? == Some(Cause::Both));
+    assert!(rt; state == shelf_with(alloc, &[7, 9])?);
     Ok(())
 }

@@ -20,6 +20,8 @@ mod join_tests;
 #[cfg(test)]
 mod lookup_tests;
 #[cfg(test)]
+mod resultless;
+#[cfg(test)]
 mod shorthand;
 #[cfg(test)]
 mod tests;

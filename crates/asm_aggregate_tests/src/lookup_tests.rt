@@ -1,10 +1,11 @@
 ghost use Rattle.asm_update.specs.State.{val};
 
 use crate::bag_tests::{additions_by_turns, counts_at_both, two_empty_bags};
-use crate::shorthand::Act::BagAdd;
-use crate::shorthand::Old::Num;
-use crate::shorthand::{do_at, put_at};
-use asm_aggregate::{ComposeError, admit, aggregate, compose, standard};
+use crate::compose_tests::Line::{self, Do, Put};
+use crate::compose_tests::{compose_of, steps};
+use crate::shorthand::Act::{Add, BagAdd, BagRemove};
+use crate::shorthand::Old::{Bag, Num, Set, Undef};
+use asm_aggregate::{ComposeError, admit, aggregate, standard};
 use asm_element::{Element, Location, Value};
 use asm_update::{Action, AggError, Instruction, Instructions, Lookup, PlainState, UpdateSet};
 use std::alloc::{AllocError, Global};
@@ -33,11 +34,11 @@ impl Lookup for Noting {
     }
 }
 
-/// The location x with this number.
-fn numbered(alloc: Global, n: i64) -> Result<Location, Fail> {
-    let mut args = Vec::new(alloc);
-    args.push(Element::Num(n))?;
-    Ok(Location::new(String::from_str(alloc, "x")?, args)?)
+/// The location of this name with a number.
+fn numbered(alloc: Global, name: &str, n: i64) -> Result<Location, Fail> {
+    let name = String::from_str(alloc, name)?;
+    let args = vec![in alloc; Element::Num(n)]?;
+    Ok(Location::new(name, args)?)
 }
 
 /// A look-up in which b and c are empty bags, and which was asked for nothing.
@@ -47,35 +48,117 @@ fn noting_two_bags(alloc: Global) -> Result<Noting, Fail> {
     Ok(Noting { state, asked })
 }
 
-/// What the move gives on the look-up, and what that was asked for.
+/// What the look-up is asked for until the move is aggregated, and whether it has an update set.
 fn aggregate_on(
     alloc: Global,
     lookup: Noting,
-    list: Instructions,
-) -> Result<(u64, UpdateSet), AggError> {
-    match aggregate(alloc, &standard(), &lookup, &list) {
-        Ok(updates) => Ok((lookup.asked.get(), updates)),
-        Err(error) => Err(error),
+    list: &Instructions,
+) -> Result<(u64, bool), AllocError> {
+    let has_updates = match aggregate(alloc, &standard(), &lookup, list) {
+        Ok(_updates) => true,
+        Err(AggError::Clash(_clash)) => false,
+        Err(AggError::Memory) => return Err(AllocError),
+    };
+    Ok((lookup.asked.get(), has_updates))
+}
+
+/// What the look-up is asked for until the move is admitted or not, and which of the two it is.
+fn admit_on(alloc: Global, lookup: Noting, list: &Instructions) -> Result<(u64, bool), AllocError> {
+    let is_admitted = match admit(alloc, &standard(), &lookup, list) {
+        Ok(()) => true,
+        Err(AggError::Clash(_clash)) => false,
+        Err(AggError::Memory) => return Err(AllocError),
+    };
+    Ok((lookup.asked.get(), is_admitted))
+}
+
+/// Whether an aggregation and an admission of the move each ask for this, and find that it fires or clashes.
+fn asks(alloc: Global, list: &Instructions, asked: u64, fires: bool) -> Result<bool, Fail> {
+    let aggregated = aggregate_on(alloc, noting_two_bags(alloc)?, list)?;
+    let admitted = admit_on(alloc, noting_two_bags(alloc)?, list)?;
+    Ok(aggregated == (asked, fires) && admitted == (asked, fires))
+}
+
+/// A move, what the look-up is asked for where b and c are empty bags, and whether the move fires there.
+#[derive(Clone, Copy)]
+struct Row(&'static [Line], u64, bool);
+
+static ASKED: [Row; 12] = [
+    Row(&[], 0, true),
+    Row(&[Put("b", Num(1))], 0, true),
+    Row(&[Put("b", Undef)], 0, true),
+    Row(
+        &[Put("b", Undef), Put("b", Undef), Put("a", Undef)],
+        0,
+        true,
+    ),
+    Row(&[Put("b", Undef), Do("c", BagAdd("e", 1))], 2, true),
+    Row(
+        &[Do("c", BagAdd("e", 1)), Do("b", BagAdd("e", 1))],
+        12,
+        true,
+    ),
+    Row(&[Put("b", Set(&[1, 2])), Do("b", Add(1))], 1, true),
+    Row(
+        &[Do("b", Add(1)), Put("b", Set(&[1])), Do("b", Add(1))],
+        1,
+        true,
+    ),
+    Row(&[Put("b", Bag(1, 0)), Do("b", BagAdd("e", 1))], 1, false),
+    Row(
+        &[
+            Do("c", BagAdd("e", 1)),
+            Put("b", Num(0)),
+            Put("b", Num(1)),
+            Do("b", BagAdd("e", 1)),
+        ],
+        0,
+        false,
+    ),
+    Row(
+        &[Do("c", BagAdd("e", 1)), Do("b", BagRemove("e", 1))],
+        1,
+        false,
+    ),
+    Row(
+        &[Do("d", Add(1)), Do("c", Add(1)), Do("b", BagAdd("e", 1))],
+        12,
+        false,
+    ),
+];
+
+fn asks_as_told(alloc: Global, row: Row) -> Result<bool, Fail> {
+    let list = steps(alloc, row.0)?;
+    asks(alloc, &list, row.1, row.2)
+}
+
+#[test]
+fn partial_updates_up_to_a_clash_are_looked_up(rt: HostRuntime) -> Result<(), Fail> {
+    for (k, row) in ASKED.iter().enumerate() {
+        assert!(rt; asks_as_told(rt.alloc(), *row)?, "at row {k}");
     }
+    Ok(())
+}
+
+/// What the move gives where b and c are empty bags.
+fn updates_of(alloc: Global, list: &Instructions) -> Result<UpdateSet, Fail> {
+    let state = two_empty_bags(alloc)?;
+    Ok(aggregate(alloc, &standard(), &state, list)?)
 }
 
 #[test]
 fn each_location_is_looked_up_once_in_ascending_order(rt: HostRuntime) -> Result<(), Fail> {
-    let alloc = rt.alloc();
-    let lookup = noting_two_bags(alloc)?;
-    let list = additions_by_turns(alloc, 4096)?;
-    let (asked, updates) = aggregate_on(alloc, lookup, list)?;
-    assert_eq!(rt; asked, 12);
-    let wanted = counts_at_both(alloc, 2048)?;
-    assert!(rt; updates == wanted);
+    let list = additions_by_turns(rt.alloc(), 4096)?;
+    assert!(rt; asks(rt.alloc(), &list, 12, true)?);
+    assert!(rt; updates_of(rt.alloc(), &list)? == counts_at_both(rt.alloc(), 2048)?);
     Ok(())
 }
 
-/// Puts at 4,096 locations, the greatest first.
-fn puts_downwards(alloc: Global) -> Result<Instructions, Fail> {
+/// Puts at so many locations of this name, the greatest first.
+fn puts_downwards(alloc: Global, name: &str, count: i64) -> Result<Instructions, Fail> {
     let mut list = Instructions::new(alloc);
-    for n in 0i64..4096 {
-        let at = numbered(alloc, 4096i64.saturating_sub(n))?;
+    for n in (0..count).rev() {
+        let at = numbered(alloc, name, n)?;
         let action = Action::Regular(Value::Plain(Element::Num(n)));
         list.push(Instruction { at, action })?;
     }
@@ -95,101 +178,54 @@ fn ascends(updates: &UpdateSet) -> bool {
     true
 }
 
+fn is_of_4096_that_ascend(updates: &UpdateSet) -> bool {
+    updates.len() == 4096 && ascends(updates)
+}
+
 #[test]
 fn puts_are_not_looked_up(rt: HostRuntime) -> Result<(), Fail> {
-    let alloc = rt.alloc();
-    let lookup = noting_two_bags(alloc)?;
-    let list = puts_downwards(alloc)?;
-    let (asked, updates) = aggregate_on(alloc, lookup, list)?;
-    assert_eq!(rt; asked, 0);
-    assert_eq!(rt; updates.len(), 4096);
-    assert!(rt; ascends(&updates));
+    let list = puts_downwards(rt.alloc(), "x", 4096)?;
+    assert!(rt; asks(rt.alloc(), &list, 0, true)?);
+    assert!(rt; is_of_4096_that_ascend(&updates_of(rt.alloc(), &list)?));
     Ok(())
 }
 
-/// Whether the move has an update set, and what the look-up was asked for to tell it.
-fn admit_on(alloc: Global, lookup: Noting, list: Instructions) -> Result<(u64, bool), AllocError> {
-    let admitted = match admit(alloc, &standard(), &lookup, &list) {
-        Ok(()) => true,
-        Err(AggError::Clash(_clash)) => false,
-        Err(AggError::Memory) => return Err(AllocError),
-    };
-    Ok((lookup.asked.get(), admitted))
-}
-
-#[test]
-fn an_admission_looks_up_what_an_aggregation_does(rt: HostRuntime) -> Result<(), Fail> {
-    let alloc = rt.alloc();
-    let lookup = noting_two_bags(alloc)?;
-    let (asked, admitted) = admit_on(alloc, lookup, additions_by_turns(alloc, 4096)?)?;
-    assert_eq!(rt; asked, 12);
-    assert!(rt; admitted);
-    let lookup = noting_two_bags(alloc)?;
-    let (asked, admitted) = admit_on(alloc, lookup, puts_downwards(alloc)?)?;
-    assert_eq!(rt; asked, 0);
-    assert!(rt; admitted);
-    Ok(())
-}
-
-/// An addition at c, then two values at b.
-fn a_clash_below_an_addition(alloc: Global) -> Result<Instructions, Fail> {
-    let mut list = Instructions::new(alloc);
-    do_at(alloc, &mut list, "c", BagAdd("e", 1))?;
-    put_at(alloc, &mut list, "b", Num(0))?;
-    put_at(alloc, &mut list, "b", Num(1))?;
-    Ok(list)
-}
-
-/// What the look-up was asked for until the move was found to clash, and no number where it doesn't.
-fn asked_before_clash(
-    alloc: Global,
-    lookup: Noting,
-    list: Instructions,
-) -> Result<Option<u64>, AllocError> {
-    match aggregate(alloc, &standard(), &lookup, &list) {
-        Ok(_updates) => Ok(None),
-        Err(AggError::Clash(_clash)) => Ok(Some(lookup.asked.get())),
-        Err(AggError::Memory) => Err(AllocError),
+/// How many instructions it has; None where they are too many.
+fn length_of(answer: Result<Instructions, ComposeError>) -> Result<Option<usize>, Fail> {
+    match answer {
+        Ok(list) => Ok(Some(list.len())),
+        Err(ComposeError::ManyInstructions) => Ok(None),
+        Err(error) => Err(Fail::from(error)),
     }
 }
 
-#[test]
-fn nothing_is_looked_up_above_a_clash(rt: HostRuntime) -> Result<(), Fail> {
-    let alloc = rt.alloc();
-    let lookup = noting_two_bags(alloc)?;
-    let (asked, admitted) = admit_on(alloc, lookup, a_clash_below_an_addition(alloc)?)?;
-    assert_eq!(rt; asked, 0);
-    assert!(rt; !admitted);
-    let lookup = noting_two_bags(alloc)?;
-    let asked = asked_before_clash(alloc, lookup, a_clash_below_an_addition(alloc)?)?;
-    assert_eq!(rt; asked, Some(0));
-    Ok(())
-}
+/// So many puts at the first name, then so many at the second, and how many they compose to; None where they are
+/// too many for one move.
+#[derive(Clone, Copy)]
+struct Lengths((&'static str, i64), (&'static str, i64), Option<usize>);
 
-/// Whether the two are too many for one move. `AllocError` comes only where memory was refused.
-fn are_many(
-    alloc: Global,
-    first: &Instructions,
-    second: &Instructions,
-) -> Result<bool, AllocError> {
-    match compose(alloc, &standard(), first, second) {
-        Ok(_move) => Ok(false),
-        Err(ComposeError::ManyInstructions) => Ok(true),
-        Err(ComposeError::Memory) => Err(AllocError),
-        Err(ComposeError::Clash(_clash)) => Ok(false),
-        Err(ComposeError::Large(_at)) => Ok(false),
-    }
+static LENGTHS: [Lengths; 8] = [
+    Lengths(("x", 0), ("x", 0), Some(0)),
+    Lengths(("x", 4096), ("x", 0), Some(4096)),
+    Lengths(("x", 0), ("x", 4096), Some(4096)),
+    Lengths(("x", 4096), ("x", 4096), Some(4096)),
+    Lengths(("x", 2048), ("y", 2048), Some(4096)),
+    Lengths(("x", 4096), ("y", 1), None),
+    Lengths(("x", 1), ("y", 4096), None),
+    Lengths(("x", 4096), ("y", 4096), None),
+];
+
+/// How many instructions the row's moves compose to.
+fn composed_length(alloc: Global, row: Lengths) -> Result<Option<usize>, Fail> {
+    let first = puts_downwards(alloc, row.0.0, row.0.1)?;
+    let second = puts_downwards(alloc, row.1.0, row.1.1)?;
+    length_of(compose_of(alloc, &standard(), first, second))
 }
 
 #[test]
 fn a_composition_has_4096_instructions_at_most(rt: HostRuntime) -> Result<(), Fail> {
-    let alloc = rt.alloc();
-    let many = puts_downwards(alloc)?;
-    let mut one = Instructions::new(alloc);
-    assert_eq!(rt; compose(alloc, &standard(), &many, &one)?.len(), 4096);
-    let at = numbered(alloc, 0)?;
-    let action = Action::SetAdd(Element::Num(1));
-    one.push(Instruction { at, action })?;
-    assert!(rt; are_many(alloc, &many, &one)?);
+    for (k, row) in LENGTHS.iter().enumerate() {
+        assert!(rt; composed_length(rt.alloc(), *row)? == row.2, "at row {k}");
+    }
     Ok(())
 }

@@ -143,18 +143,40 @@ pub(crate) fn move_of(alloc: Global, puts: &[Old], partials: &[Act]) -> Result<I
     Ok(list)
 }
 
-pub(crate) fn state_with(alloc: Global, old: Old) -> Result<PlainState, Fail> {
-    let at = location(alloc, "x")?;
-    let value = value_of(alloc, old)?;
-    let mut state = PlainState::new(alloc);
+/// Gives the location of this name the value.
+pub(crate) fn set_at(
+    alloc: Global,
+    state: &mut PlainState,
+    name: &str,
+    value: Old,
+) -> Result<(), Fail> {
+    let at = location(alloc, name)?;
+    let value = value_of(alloc, value)?;
     state.set(at, value)?;
+    Ok(())
+}
+
+pub(crate) fn state_with(alloc: Global, old: Old) -> Result<PlainState, Fail> {
+    let mut state = PlainState::new(alloc);
+    set_at(alloc, &mut state, "x", old)?;
     Ok(state)
 }
 
-pub(crate) fn updates_of(alloc: Global, value: Old) -> Result<UpdateSet, Fail> {
-    let at = location(alloc, "x")?;
+/// Puts the value at the location of this name.
+pub(crate) fn write_at(
+    alloc: Global,
+    updates: &mut UpdateSet,
+    name: &str,
+    value: Old,
+) -> Result<(), Fail> {
+    let at = location(alloc, name)?;
     let value = value_of(alloc, value)?;
-    let mut updates = UpdateSet::new(alloc);
     updates.put(at, value)?;
+    Ok(())
+}
+
+pub(crate) fn updates_of(alloc: Global, value: Old) -> Result<UpdateSet, Fail> {
+    let mut updates = UpdateSet::new(alloc);
+    write_at(alloc, &mut updates, "x", value)?;
     Ok(updates)
 }

@@ -144,20 +144,33 @@ fn results<A: Aggregator>(alloc: Global, aggregator: &A, row: Row) -> Result<boo
     }
 }
 
-/// Whether the aggregator makes of the row what it tells, by `aggregate` and `admit` and, for a group with partial
-/// updates and at most one put, by `result` and by `change` of a value and of a state.
-fn judges<A: Aggregator>(alloc: Global, aggregator: &A, row: Row) -> Result<bool, Fail> {
-    let is_group = row.1.len() <= 1 && !row.2.is_empty();
-    let is_told = aggregates(alloc, aggregator, row)? && admits(alloc, aggregator, row)?;
-    if !is_group {
-        return Ok(is_told);
+/// Whether the row is for a group: with partial updates and at most one put.
+fn is_of_group(row: Row) -> bool {
+    row.1.len() <= 1 && !row.2.is_empty()
+}
+
+/// Whether the aggregator makes of the row what it tells, by `admit` and, for a group, by `change` of a value and of
+/// a state.
+pub(crate) fn admits_and_changes<A: Aggregator>(
+    alloc: Global,
+    aggregator: &A,
+    row: Row,
+) -> Result<bool, Fail> {
+    let is_admitted = admits(alloc, aggregator, row)?;
+    if !is_of_group(row) {
+        return Ok(is_admitted);
     }
-    Ok(
-        is_told
-            && results(alloc, aggregator, row)?
-            && changes(alloc, aggregator, row)?
-            && changes_a_state(alloc, aggregator, row)?,
-    )
+    let is_changed = changes(alloc, aggregator, row)?;
+    let is_state_changed = changes_a_state(alloc, aggregator, row)?;
+    Ok(is_admitted && is_changed && is_state_changed)
+}
+
+/// Whether the aggregator makes of the row what it tells, by `aggregate` and, for a group, by `result`, and by `admit`
+/// and `change` too.
+fn judges<A: Aggregator>(alloc: Global, aggregator: &A, row: Row) -> Result<bool, Fail> {
+    let is_told = aggregates(alloc, aggregator, row)?;
+    let is_result = !is_of_group(row) || results(alloc, aggregator, row)?;
+    Ok(is_told && is_result && admits_and_changes(alloc, aggregator, row)?)
 }
 
 pub(crate) fn judge_all<R: Abort, A: Aggregator>(
@@ -172,7 +185,8 @@ pub(crate) fn judge_all<R: Abort, A: Aggregator>(
     Ok(())
 }
 
-static REGULAR: [Row; 5] = [
+static REGULAR: [Row; 6] = [
+    Row(Num(7), &[Undef], &[], Ok(Undef)),
     Row(Undef, &[Num(1), Num(1)], &[], Ok(Num(1))),
     Row(Undef, &[Num(1), Num(2)], &[Add(3)], Err(Cause::Two)),
     Row(Num(7), &[Set(&[1, 2])], &[Add(1)], Ok(Set(&[1, 2]))),

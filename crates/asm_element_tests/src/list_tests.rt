@@ -1,5 +1,5 @@
-use crate::tests::are_told_apart;
-use asm_element::{ElemList, ElemText, Element, ListError};
+use crate::tests::{are_told_apart, number_elements, text};
+use asm_element::{ElemList, Element, ListError};
 use std::alloc::{AllocError, Global};
 use std::test::Fail;
 
@@ -7,17 +7,9 @@ fn list(items: Vec<Element>) -> Result<Element, ListError> {
     Ok(Element::List(ElemList::new(items)?))
 }
 
-fn text(alloc: Global, text: &str) -> Result<Element, AllocError> {
-    Ok(Element::Text(ElemText::new(String::from_str(alloc, text)?)))
-}
-
 /// The list of these numbers.
-fn numbers(alloc: Global, numbers: &[i64]) -> Result<Element, Fail> {
-    let mut items = Vec::new(alloc);
-    for number in numbers {
-        items.push(Element::Num(*number))?;
-    }
-    Ok(list(items)?)
+fn numbers(alloc: Global, items: &[i64]) -> Result<Element, Fail> {
+    Ok(list(number_elements(alloc, items)?)?)
 }
 
 /// So many undefs.
@@ -109,14 +101,19 @@ static ASCENDING: [&[i64]; 8] = [
     &[0, 0, 0],
 ];
 
+/// A text, and then lists that ascend.
+fn ascending(alloc: Global) -> Result<Vec<Element>, Fail> {
+    let mut elements = vec![in alloc; text(alloc, "z")?]?;
+    for items in ASCENDING {
+        let list = numbers(alloc, items)?;
+        elements.push(list)?;
+    }
+    Ok(elements)
+}
+
 #[test]
 fn lists_ascend_by_length_and_then_by_their_items(rt: HostRuntime) -> Result<(), Fail> {
-    let alloc = rt.alloc();
-    let mut elements = Vec::new(alloc);
-    elements.push(text(alloc, "z")?)?;
-    for items in ASCENDING {
-        elements.push(numbers(alloc, items)?)?;
-    }
+    let elements = ascending(rt.alloc())?;
     assert!(rt; elements.len() == 9 && ascend(&elements));
     Ok(())
 }
@@ -144,6 +141,7 @@ fn copies_of_lists_are_equal(rt: HostRuntime) -> Result<(), Fail> {
     let alloc = rt.alloc();
     assert!(rt; is_copied(alloc, &numbers(alloc, &[3, 1, 2])?)?);
     assert!(rt; is_copied(alloc, &nested(alloc, 8)?)?);
+    assert!(rt; is_copied(alloc, &list(undefs(alloc, 4096)?)?)?);
     let list = around(alloc, 7)??;
     assert!(rt; list.clone()? == list);
     Ok(())
@@ -154,13 +152,14 @@ fn errors_are_equal_by_their_reason(rt: HostRuntime) {
     assert!(rt; are_told_apart(&[ListError::ManyItems, ListError::TooDeep]));
 }
 
+fn has_text(alloc: Global, error: ListError, text: &str) -> Result<bool, AllocError> {
+    Ok(error.to_string(alloc)?.as_str() == text)
+}
+
 #[test]
 fn errors_have_their_texts(rt: HostRuntime) -> Result<(), Fail> {
-    for (error, want) in [
-        (ListError::ManyItems, "more than 4,096 items"),
-        (ListError::TooDeep, "lists nest more than 8 deep"),
-    ] {
-        assert!(rt; error.to_string(rt.alloc())?.as_str() == want, "{want}");
-    }
+    let deep = "lists nest more than 8 deep";
+    assert!(rt; has_text(rt.alloc(), ListError::ManyItems, "more than 4,096 items")?);
+    assert!(rt; has_text(rt.alloc(), ListError::TooDeep, deep)?);
     Ok(())
 }

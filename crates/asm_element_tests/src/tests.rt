@@ -14,7 +14,7 @@ enum Item {
     Text(&'static str),
 }
 
-fn text(alloc: Global, text: &str) -> Result<Element, AllocError> {
+pub(crate) fn text(alloc: Global, text: &str) -> Result<Element, AllocError> {
     Ok(Element::Text(ElemText::new(String::from_str(alloc, text)?)))
 }
 
@@ -30,12 +30,14 @@ fn element(alloc: Global, item: Item) -> Result<Element, AllocError> {
 fn elements(alloc: Global, items: &[Item]) -> Result<Vec<Element>, AllocError> {
     let mut elements = Vec::new(alloc);
     for item in items {
-        elements.push(element(alloc, *item)?)?;
+        let element = element(alloc, *item)?;
+        elements.push(element)?;
     }
     Ok(elements)
 }
 
-fn numbers(alloc: Global, numbers: &[i64]) -> Result<Vec<Element>, AllocError> {
+/// These numbers as elements.
+pub(crate) fn number_elements(alloc: Global, numbers: &[i64]) -> Result<Vec<Element>, AllocError> {
     let mut elements = Vec::new(alloc);
     for number in numbers {
         elements.push(Element::Num(*number))?;
@@ -44,14 +46,16 @@ fn numbers(alloc: Global, numbers: &[i64]) -> Result<Vec<Element>, AllocError> {
 }
 
 fn location(alloc: Global, name: &str, args: &[i64]) -> Result<Location, Fail> {
-    let args = numbers(alloc, args)?;
-    Ok(Location::new(String::from_str(alloc, name)?, args)?)
+    let name = String::from_str(alloc, name)?;
+    let args = number_elements(alloc, args)?;
+    Ok(Location::new(name, args)?)
 }
 
 /// Why the name and the arguments are no location.
 fn refusal(alloc: Global, name: &str, args: &[i64]) -> Result<Option<LocationError>, AllocError> {
-    let args = numbers(alloc, args)?;
-    Ok(Location::new(String::from_str(alloc, name)?, args).err())
+    let name = String::from_str(alloc, name)?;
+    let args = number_elements(alloc, args)?;
+    Ok(Location::new(name, args).err())
 }
 
 /// Whether each comes before those that stand after it, is equal to itself, and comes after those before it.
@@ -87,12 +91,18 @@ fn elements_ascend_by_kind_then_by_value(rt: HostRuntime) -> Result<(), Fail> {
 
 static PLACES: [(&str, &[i64]); 4] = [("a", &[]), ("a", &[9]), ("a", &[0, 0]), ("b", &[])];
 
+fn locations(alloc: Global) -> Result<Vec<Location>, Fail> {
+    let mut locations = Vec::new(alloc);
+    for (name, args) in PLACES {
+        let at = location(alloc, name, args)?;
+        locations.push(at)?;
+    }
+    Ok(locations)
+}
+
 #[test]
 fn locations_ascend_by_name_then_by_number_of_arguments(rt: HostRuntime) -> Result<(), Fail> {
-    let mut locations = Vec::new(rt.alloc());
-    for (name, args) in PLACES {
-        locations.push(location(rt.alloc(), name, args)?)?;
-    }
+    let locations = locations(rt.alloc())?;
     assert!(rt; locations.len() == 4 && ascend(&locations));
     Ok(())
 }
@@ -156,92 +166,172 @@ fn is_shown(alloc: Global, name: &str, args: &[i64], text: &str) -> Result<bool,
 fn a_location_is_shown_with_its_arguments(rt: HostRuntime) -> Result<(), Fail> {
     assert!(rt; is_shown(rt.alloc(), "counter", &[], "counter")?);
     assert!(rt; is_shown(rt.alloc(), "at", &[1, -2], "at[Num(1), Num(-2)]")?);
+    let want = "at[Num(1), Num(-2), Num(3)]";
+    assert!(rt; is_shown(rt.alloc(), "at", &[1, -2, 3], want)?);
     Ok(())
 }
 
-fn set_of(alloc: Global, items: &[i64]) -> Result<Value, AllocError> {
+/// The set of 0, 1 and so on, below the limit.
+fn set_below(alloc: Global, limit: i64) -> Result<ElemSet, AllocError> {
     let mut set = ElemSet::new(alloc);
-    for item in items {
-        set.insert(Element::Num(*item))?;
+    for n in 0..limit {
+        set.insert(Element::Num(n))?;
     }
-    Ok(Value::Set(set))
+    Ok(set)
 }
 
-fn bag_of_one(alloc: Global) -> Result<Value, AllocError> {
-    let one = Element::Num(1);
+fn put(bag: &mut ElemBag, n: i64, count: u32) -> Result<(), AllocError> {
+    let element = Element::Num(n);
+    if count > 0 && bag.count(&element) == 0 {
+        bag.put(element, count)?;
+    }
+    Ok(())
+}
+
+/// The bag of 0, 1 and so on, below the limit, each once more than the one before.
+fn bag_below(alloc: Global, limit: u32) -> Result<ElemBag, AllocError> {
     let mut bag = ElemBag::new(alloc);
-    if bag.count(&one) == 0 {
-        bag.put(one, 1)?;
+    for n in 0..limit {
+        put(&mut bag, i64::from(n), n.saturating_add(1))?;
     }
-    Ok(Value::Bag(bag))
+    Ok(bag)
 }
 
-fn is_copied(alloc: Global, value: &Value) -> Result<bool, AllocError> {
-    Ok(value.copy(alloc)? == *value)
+fn contains(set: &ElemSet, n: i64) -> bool {
+    set.contains(&Element::Num(n))
+}
+
+fn has_count(bag: &ElemBag, n: i64, count: u32) -> bool {
+    bag.count(&Element::Num(n)) == count
+}
+
+fn is_copied(alloc: Global, value: Value) -> Result<bool, AllocError> {
+    Ok(value.copy(alloc)? == value)
+}
+
+fn is_location_copied(alloc: Global, at: Location) -> Result<bool, AllocError> {
+    Ok(at.copy(alloc)? == at)
 }
 
 #[test]
 fn copies_are_equal(rt: HostRuntime) -> Result<(), Fail> {
     let alloc = rt.alloc();
-    let place = location(alloc, "a", &[9])?;
-    assert!(rt; place.copy(alloc)? == place);
-    assert!(rt; is_copied(alloc, &Value::Plain(text(alloc, "a")?))?);
-    assert!(rt; is_copied(alloc, &set_of(alloc, &[1, 2])?)?);
-    assert!(rt; is_copied(alloc, &bag_of_one(alloc)?)?);
+    for args in [&[9][..], &[], &[1, 2, 3, 4, 5, 6, 7, 8]] {
+        assert!(rt; is_location_copied(alloc, location(alloc, "a", args)?)?);
+    }
+    for item in ASCENDING {
+        assert!(rt; is_copied(alloc, Value::Plain(element(alloc, item)?))?);
+    }
+    for limit in [2, 4097] {
+        assert!(rt; is_copied(alloc, Value::Set(set_below(alloc, i64::from(limit))?))?);
+        assert!(rt; is_copied(alloc, Value::Bag(bag_below(alloc, limit)?))?);
+    }
     Ok(())
+}
+
+#[test]
+fn a_set_has_each_of_4097_elements(rt: HostRuntime) -> Result<(), Fail> {
+    let set = set_below(rt.alloc(), 4097)?;
+    assert!(rt; set.len() == 4097 && set.iter().count() == 4097);
+    assert!(rt; contains(&set, 0) && contains(&set, 4096) && !contains(&set, 4097));
+    Ok(())
+}
+
+#[test]
+fn a_bag_has_each_of_4097_elements(rt: HostRuntime) -> Result<(), Fail> {
+    let bag = bag_below(rt.alloc(), 4097)?;
+    assert!(rt; bag.iter().count() == 4097);
+    assert!(rt; has_count(&bag, 0, 1) && has_count(&bag, 4096, 4097) && has_count(&bag, 4097, 0));
+    Ok(())
+}
+
+/// Whether the set, which is empty, has 1 once when it was inserted twice, and no more once it was removed.
+fn has_1_once(mut set: ElemSet) -> Result<bool, AllocError> {
+    let was_empty = set.is_empty();
+    let is_new = set.insert(Element::Num(1))?;
+    let is_new_again = set.insert(Element::Num(1))?;
+    let is_in = contains(&set, 1) && set.len() == 1 && !set.is_empty();
+    let was_in = set.remove(&Element::Num(1));
+    let was_in_again = set.remove(&Element::Num(1));
+    let is_out = !was_in_again && set.iter().count() == 0;
+    Ok(was_empty && is_new && !is_new_again && is_in && was_in && is_out)
 }
 
 #[test]
 fn a_set_has_an_element_once(rt: HostRuntime) -> Result<(), Fail> {
-    let alloc = rt.alloc();
-    let one = Element::Num(1);
-    let mut set = ElemSet::new(alloc);
-    assert!(rt; set.is_empty());
-    assert!(rt; set.insert(Element::Num(1))?);
-    assert!(rt; !set.insert(Element::Num(1))?);
-    assert!(rt; set.contains(&one));
-    assert!(rt; set.len() == 1 && !set.is_empty());
-    assert!(rt; set.remove(&one));
-    assert!(rt; !set.remove(&one));
-    assert_eq!(rt; set.iter().count(), 0);
+    assert!(rt; has_1_once(ElemSet::new(rt.alloc()))?);
     Ok(())
+}
+
+/// Whether the bag, which is empty, has two of an element that were put in, and nothing once they were taken.
+fn has_2_until_taken(mut bag: ElemBag, element: &Element) -> Result<bool, AllocError> {
+    if bag.count(element) != 0 {
+        return Ok(false);
+    }
+    bag.put(element.clone()?, 2)?;
+    let is_in = bag.count(element) == 2 && bag.iter().count() == 1;
+    if !is_in {
+        return Ok(false);
+    }
+    bag.take(element, 2);
+    Ok(bag.count(element) == 0 && bag.iter().count() == 0)
 }
 
 #[test]
 fn a_bag_holds_no_count_of_zero(rt: HostRuntime) -> Result<(), Fail> {
-    let alloc = rt.alloc();
-    let e = text(alloc, "e")?;
-    let mut bag = ElemBag::new(alloc);
-    assert_eq!(rt; bag.count(&e), 0);
-    bag.put(e.copy(alloc)?, 2)?;
-    assert_eq!(rt; bag.count(&e), 2);
-    assert_eq!(rt; bag.iter().count(), 1);
-    bag.take(&e, 2);
-    assert_eq!(rt; bag.count(&e), 0);
-    assert_eq!(rt; bag.iter().count(), 0);
+    let element = text(rt.alloc(), "e")?;
+    assert!(rt; has_2_until_taken(ElemBag::new(rt.alloc()), &element)?);
     Ok(())
+}
+
+fn items(alloc: Global, numbers: &[i64]) -> Result<Items<Element>, AllocError> {
+    Ok(Items::new(number_elements(alloc, numbers)?))
+}
+
+fn are_equal(alloc: Global, one: &[i64], other: &[i64]) -> Result<bool, AllocError> {
+    let one = items(alloc, one)?;
+    let other = items(alloc, other)?;
+    Ok(one == other)
 }
 
 #[test]
 fn lists_of_equal_items_are_equal(rt: HostRuntime) -> Result<(), Fail> {
     let alloc = rt.alloc();
-    let list = Items::new(numbers(alloc, &[1, 2])?);
-    assert_eq!(rt; list.as_slice().len(), 2);
-    assert_eq!(rt; list, Items::new(numbers(alloc, &[1, 2])?));
-    assert_ne!(rt; list, Items::new(numbers(alloc, &[2, 1])?));
+    assert!(rt; are_equal(alloc, &[1, 2], &[1, 2])? && are_equal(alloc, &[], &[])?);
+    assert!(rt; !are_equal(alloc, &[1, 2], &[2, 1])? && !are_equal(alloc, &[1], &[1, 2])?);
     Ok(())
+}
+
+fn is_number(element: &Element, number: i64) -> bool {
+    match element {
+        Element::Num(n) => *n == number,
+        _ => false,
+    }
+}
+
+fn has_items(list: &Items<Element>, numbers: &[i64]) -> bool {
+    for (k, element) in list.as_slice().iter().enumerate() {
+        if k >= numbers.len() || !is_number(element, numbers[k]) {
+            return false;
+        }
+    }
+    list.as_slice().len() == numbers.len()
+}
+
+/// Whether a clone has these numbers when the list is gone.
+fn outlives(list: Items<Element>, numbers: &[i64]) -> Result<bool, AllocError> {
+    let copy = list.clone()?;
+    drop(list);
+    Ok(has_items(&copy, numbers))
 }
 
 #[test]
 fn clones_of_a_list_have_its_items(rt: HostRuntime) -> Result<(), Fail> {
     let alloc = rt.alloc();
-    for list in [
-        Items::new(numbers(alloc, &[1, 2, 3])?),
-        Items::shared(alloc, numbers(alloc, &[1, 2, 3])?)?,
-    ] {
-        let copy = list.clone()?;
-        drop(list);
-        assert_eq!(rt; copy, Items::new(numbers(alloc, &[1, 2, 3])?));
+    for numbers in [&[1, 2, 3][..], &[]] {
+        assert!(rt; outlives(items(alloc, numbers)?, numbers)?);
+        let elements = number_elements(alloc, numbers)?;
+        assert!(rt; outlives(Items::shared(alloc, elements)?, numbers)?);
     }
     Ok(())
 }
@@ -292,13 +382,13 @@ fn errors_are_equal_by_their_reason(rt: HostRuntime) {
     assert!(rt; are_told_apart(&[LocationError::BadName, LocationError::ManyArgs]));
 }
 
+fn has_text(alloc: Global, error: LocationError, text: &str) -> Result<bool, AllocError> {
+    Ok(error.to_string(alloc)?.as_str() == text)
+}
+
 #[test]
 fn errors_have_their_texts(rt: HostRuntime) -> Result<(), Fail> {
-    for (error, want) in [
-        (LocationError::BadName, "not a name"),
-        (LocationError::ManyArgs, "more than 8 arguments"),
-    ] {
-        assert!(rt; error.to_string(rt.alloc())?.as_str() == want, "{want}");
-    }
+    assert!(rt; has_text(rt.alloc(), LocationError::BadName, "not a name")?);
+    assert!(rt; has_text(rt.alloc(), LocationError::ManyArgs, "more than 8 arguments")?);
     Ok(())
 }

@@ -1,7 +1,8 @@
 //! Entries are dropped once: those that lost at once, or when they are offered no more, and those that stand with the row.
 ghost use Rattle.std.specs.Prelude.{◌≡◌};
 
-use asm_row::{Offer, Progress, Row};
+use crate::seats::offered;
+use asm_row::{Offer, Progress, Row, Seat};
 use std::alloc::{AllocError, Global};
 use std::sync::atomic::AtomicU32;
 use std::sync::atomic::Ordering::SeqCst;
@@ -17,6 +18,20 @@ impl Drop for Counted<'_> {
     }
 }
 
+// Whether the seat wins the first cell that it hasn't seen.
+fn wins_by<'c>(
+    alloc: Global,
+    seat: &mut Seat<'_, Counted<'c>>,
+    drops: &'c AtomicU32,
+) -> Result<bool, AllocError> {
+    let entry = Box::new(alloc, Counted(drops))?;
+    Ok(match offered(seat, entry) {
+        Some(Offer::Won) => true,
+        Some(Offer::Lost(_standing)) => false,
+        None => false,
+    })
+}
+
 // Whether an offer for the first cell, from a seat of its own, wins.
 fn wins<'c>(
     alloc: Global,
@@ -24,14 +39,21 @@ fn wins<'c>(
     drops: &'c AtomicU32,
 ) -> Result<bool, AllocError> {
     let mut seat = row.seat(alloc)?;
-    if seat.is_full() {
-        return Ok(false);
-    }
-    let entry = Box::new(alloc, Counted(drops))?;
-    Ok(match seat.offer(entry) {
-        Offer::Won => true,
-        Offer::Lost(_standing) => false,
-    })
+    wins_by(alloc, &mut seat, drops)
+}
+
+// Whether the seat, which missed while the first cell was empty, loses it, and its entry is dropped at once.
+fn misses_and_loses<'c>(
+    alloc: Global,
+    row: &Row<Counted<'c>>,
+    seat: &mut Seat<'_, Counted<'c>>,
+    won: &'c AtomicU32,
+    lost: &'c AtomicU32,
+) -> Result<bool, AllocError> {
+    let misses = seat.next().is_none();
+    let wins = wins(alloc, row, won)?;
+    let loses = !wins_by(alloc, seat, lost)?;
+    Ok(misses && wins && loses && is_dropped(won, 0) && is_dropped(lost, 1))
 }
 
 fn is_dropped(drops: &AtomicU32, times: u32) -> bool {
@@ -45,10 +67,13 @@ fn losers_are_dropped<'c>(
     won: &'c AtomicU32,
     lost: &'c AtomicU32,
 ) -> Result<bool, AllocError> {
-    let first = wins(alloc, row, won)? && is_dropped(won, 0);
-    let second = !wins(alloc, row, lost)? && is_dropped(lost, 1);
-    let third = !wins(alloc, row, lost)? && is_dropped(lost, 2);
-    Ok(first && second && third && is_dropped(won, 0))
+    let first = wins(alloc, row, won)?;
+    let stands = is_dropped(won, 0);
+    let second = wins(alloc, row, lost)?;
+    let is_gone = is_dropped(lost, 1);
+    let third = wins(alloc, row, lost)?;
+    let are_gone = is_gone && is_dropped(lost, 2);
+    Ok(first && !second && !third && stands && are_gone && is_dropped(won, 0))
 }
 
 #[test]
@@ -60,6 +85,16 @@ fn each_entry_is_dropped_once(rt: HostRuntime) -> Result<(), Fail> {
     drop(row);
     assert!(rt; is_dropped(&won, 1));
     assert!(rt; is_dropped(&lost, 2));
+    Ok(())
+}
+
+#[test]
+fn an_entry_that_is_lost_after_a_miss_is_dropped(rt: HostRuntime) -> Result<(), Fail> {
+    let alloc = rt.alloc();
+    let (won, lost) = (AtomicU32::new(0), AtomicU32::new(0));
+    let row = Row::new(alloc, 2)?;
+    let mut seat = row.seat(alloc)?;
+    assert!(rt; misses_and_loses(alloc, &row, &mut seat, &won, &lost)?);
     Ok(())
 }
 

@@ -4,6 +4,17 @@ ghost use Rattle.std.specs.Prelude.{◌≡◌};
 use asm_row::{Offer, Seat};
 use std::alloc::{AllocError, Global};
 
+/// What becomes of an offer of the entry; None where the seat is full.
+pub(crate) fn offered<'r, T: Drop>(seat: &mut Seat<'r, T>, entry: Box<T>) -> Option<Offer<'r, T>>
+    ensures { seat.new.row ≡ seat.old.row }
+{
+    if seat.is_full() {
+        None
+    } else {
+        Some(seat.offer(entry))
+    }
+}
+
 /// Whether the offer wins, where no entry is said to stand in the cell, or is lost to that entry.
 pub(crate) fn offers(
     alloc: Global,
@@ -13,13 +24,11 @@ pub(crate) fn offers(
 ) -> Result<bool, AllocError>
     ensures { seat.new.row ≡ seat.old.row }
 {
-    if seat.is_full() {
-        return Ok(false);
-    }
     let entry = Box::new(alloc, entry)?;
-    Ok(match seat.offer(entry) {
-        Offer::Won => standing.is_none(),
-        Offer::Lost(other) => standing == Some(*other),
+    Ok(match offered(seat, entry) {
+        Some(Offer::Won) => standing.is_none(),
+        Some(Offer::Lost(other)) => standing == Some(*other),
+        None => false,
     })
 }
 

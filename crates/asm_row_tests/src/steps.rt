@@ -47,42 +47,47 @@ fn takes(alloc: Global, seat: &mut Seat<'_, char>, step: Step) -> Result<bool, A
     }
 }
 
-#[derive(Drop)]
-struct Three<'r> {
-    a: Seat<'r, char>,
-    b: Seat<'r, char>,
-    c: Seat<'r, char>,
-}
-
-fn three_at(alloc: Global, row: &Row<char>) -> Result<Three<'_>, AllocError> {
-    Ok(Three {
-        a: row.seat(alloc)?,
-        b: row.seat(alloc)?,
-        c: row.seat(alloc)?,
-    })
-}
-
-impl Three<'_> {
-    fn take(&mut self, alloc: Global, who: Who, step: Step) -> Result<bool, AllocError> {
-        match who {
-            Who::A => takes(alloc, &mut self.a, step),
-            Who::B => takes(alloc, &mut self.b, step),
-            Who::C => takes(alloc, &mut self.c, step),
-        }
+fn three_at(alloc: Global, row: &Row<char>) -> Result<Vec<Seat<'_, char>>, AllocError> {
+    let mut seats = Vec::new(alloc);
+    for _ in 0..3 {
+        seats.push(row.seat(alloc)?)?;
     }
+    Ok(seats)
+}
 
-    fn play(&mut self, rt: &impl Abort, alloc: Global, case: Case) -> Result<(), AllocError> {
-        for (k, (who, step)) in case.steps.iter().enumerate() {
-            assert!(rt; self.take(alloc, *who, *step)?, "at step {k}");
-        }
-        Ok(())
+fn take(
+    alloc: Global,
+    seats: &mut Vec<Seat<'_, char>>,
+    who: Who,
+    step: Step,
+) -> Result<bool, AllocError> {
+    let k = match who {
+        Who::A => 0,
+        Who::B => 1,
+        Who::C => 2,
+    };
+    match seats.get_mut(k) {
+        Some(seat) => takes(alloc, seat, step),
+        None => Ok(false),
     }
 }
 
-fn check(rt: &impl Abort, alloc: Global, case: Case) -> Result<(), Fail> {
+fn play<R: Abort>(
+    rt: &R,
+    alloc: Global,
+    seats: &mut Vec<Seat<'_, char>>,
+    steps: &[(Who, Step)],
+) -> Result<(), AllocError> {
+    for (k, (who, step)) in steps.iter().enumerate() {
+        assert!(rt; take(alloc, seats, *who, *step)?, "at step {k}");
+    }
+    Ok(())
+}
+
+fn check<R: Abort>(rt: &R, alloc: Global, case: Case) -> Result<(), Fail> {
     let row = Row::new(alloc, case.capacity)?;
-    let mut three = three_at(alloc, &row)?;
-    three.play(rt, alloc, case)?;
+    let mut seats = three_at(alloc, &row)?;
+    play(rt, alloc, &mut seats, case.steps)?;
     Ok(())
 }
 
@@ -159,6 +164,71 @@ static LOOKS: [Case; 2] = [
 #[test]
 fn only_a_look_at_an_empty_cell_is_a_miss(rt: HostRuntime) -> Result<(), Fail> {
     for case in LOOKS {
+        check(&rt, rt.alloc(), case)?;
+    }
+    Ok(())
+}
+
+static LATE: [Case; 4] = [
+    Case {
+        capacity: 3,
+        steps: &[
+            (Who::B, Step::Looks(None)),
+            (Who::A, Step::Wins('p')),
+            (Who::B, Step::Loses('q', 'p')),
+            (Who::B, Step::Shows(0, 1, &['p'])),
+            (Who::A, Step::Looks(None)),
+            (Who::B, Step::Looks(None)),
+            (Who::C, Step::Looks(Some('p'))),
+            (Who::C, Step::Looks(None)),
+            (Who::B, Step::Shows(0, 2, &['p'])),
+        ],
+    },
+    Case {
+        capacity: 3,
+        steps: &[
+            (Who::A, Step::Wins('p')),
+            (Who::B, Step::Looks(Some('p'))),
+            (Who::B, Step::Looks(None)),
+            (Who::A, Step::Wins('q')),
+            (Who::B, Step::Loses('r', 'q')),
+            (Who::B, Step::Shows(0, 1, &['p', 'q'])),
+            (Who::A, Step::Looks(None)),
+            (Who::B, Step::Looks(None)),
+            (Who::B, Step::Wins('s')),
+            (Who::A, Step::Loses('t', 's')),
+            (Who::A, Step::IsFull(true)),
+        ],
+    },
+    Case {
+        capacity: 2,
+        steps: &[
+            (Who::A, Step::Looks(None)),
+            (Who::A, Step::Looks(None)),
+            (Who::A, Step::Wins('p')),
+            (Who::A, Step::Shows(1, 2, &['p'])),
+            (Who::B, Step::Looks(Some('p'))),
+            (Who::B, Step::Looks(None)),
+        ],
+    },
+    Case {
+        capacity: 2,
+        steps: &[
+            (Who::B, Step::Looks(None)),
+            (Who::A, Step::Wins('p')),
+            (Who::B, Step::Looks(Some('p'))),
+            (Who::B, Step::Looks(None)),
+            (Who::C, Step::Loses('r', 'p')),
+            (Who::C, Step::Wins('q')),
+            (Who::B, Step::Looks(Some('q'))),
+            (Who::B, Step::Shows(0, 2, &['p', 'q'])),
+        ],
+    },
+];
+
+#[test]
+fn a_seat_that_missed_wins_loses_and_finds(rt: HostRuntime) -> Result<(), Fail> {
+    for case in LATE {
         check(&rt, rt.alloc(), case)?;
     }
     Ok(())

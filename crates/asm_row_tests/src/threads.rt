@@ -131,22 +131,61 @@ fn agree_by_seats(seats: &[Seat<'_, u32>], learner: &Seat<'_, u32>) -> bool {
     learner.won() == 0
 }
 
-// Whether a seat that learns the marks of both, and one that learns from both, agree with each at every place.
-fn learners_agree(
+// Whether a seat that learns the marks of both agrees with each at every place.
+fn learner_of_marks_agrees(
     alloc: Global,
     row: &Row<u32>,
-    one: Seat<'_, u32>,
-    two: Seat<'_, u32>,
+    one: &Seat<'_, u32>,
+    two: &Seat<'_, u32>,
+) -> Result<bool, AllocError>
+    requires one { one.now.row ≡ row.now }
+    requires two { two.now.row ≡ row.now }
+{
+    let learner = learner_of_marks(alloc, row, one, two)?;
+    Ok(agree_by_marks(one, two, &learner))
+}
+
+// Whether a seat that learns from each agrees with each at every place.
+fn learner_of_seats_agrees(
+    alloc: Global,
+    row: &Row<u32>,
+    seats: &[Seat<'_, u32>],
+) -> Result<bool, AllocError>
+    requires { All (λ seat. seat.row ≡ row.now) seats.now }
+{
+    let learner = learner_of_seats(alloc, row, seats)?;
+    Ok(agree_by_seats(seats, &learner))
+}
+
+fn both<'r>(
+    alloc: Global,
+    row: &'r Row<u32>,
+    one: Seat<'r, u32>,
+    two: Seat<'r, u32>,
+) -> Result<Vec<Seat<'r, u32>>, AllocError>
+    requires one { one.row ≡ row.now }
+    requires two { two.row ≡ row.now }
+    ensures { IfOk result (λ seats. All (λ seat. seat.row ≡ row.now) seats.items) }
+{
+    let mut seats = Vec::with_capacity(alloc, 2)?;
+    seats.push_reserved(one);
+    seats.push_reserved(two);
+    Ok(seats)
+}
+
+// Whether a seat that learns the marks of both, and one that learns from both, agree with each at every place.
+fn learners_agree<'r>(
+    alloc: Global,
+    row: &'r Row<u32>,
+    one: Seat<'r, u32>,
+    two: Seat<'r, u32>,
 ) -> Result<bool, AllocError>
     requires one { one.row ≡ row.now }
     requires two { two.row ≡ row.now }
 {
-    let learner = learner_of_marks(alloc, row, &one, &two)?;
-    let by_marks = agree_by_marks(&one, &two, &learner);
-    let seats = [one, two];
-    let learner = learner_of_seats(alloc, row, &seats)?;
-    let by_seats = agree_by_seats(&seats, &learner);
-    Ok(by_marks && by_seats)
+    let by_marks = learner_of_marks_agrees(alloc, row, &one, &two)?;
+    let seats = both(alloc, row, one, two)?;
+    Ok(by_marks && learner_of_seats_agrees(alloc, row, &seats)?)
 }
 
 #[test]
@@ -158,6 +197,26 @@ fn seats_of_two_threads_agree(rt: HostRuntime) -> Result<(), Fail> {
     assert!(rt; wins.load(SeqCst) == 100);
     assert!(rt; one.won().checked_add(two.won()) == Some(100));
     assert!(rt; learners_agree(alloc, &row, one, two)?);
+    Ok(())
+}
+
+// Whether the looks of the seat find 0, 1 and so on, so many, and then nothing, in a row that is full.
+fn walks(mut seat: Seat<'_, u32>, count: u32) -> bool {
+    for k in 0..count {
+        if seat.next().copied() != Some(k) {
+            return false;
+        }
+    }
+    seat.is_full() && seat.next().is_none() && seat.misses() == 0
+}
+
+#[test]
+fn a_second_seat_walks_65537_entries(rt: HostRuntime) -> Result<(), Fail> {
+    let alloc = rt.alloc();
+    let row = Row::new(alloc, 65_537)?;
+    let wins = AtomicU32::new(0);
+    assert!(rt; fill(alloc, &row, 0, &wins)?.won() == 65_537);
+    assert!(rt; walks(row.seat(alloc)?, 65_537));
     Ok(())
 }
 

@@ -1,8 +1,9 @@
 //! Moves that change one location in place leave what they leave beside a move of another location.
+use crate::resultless::Resultless;
 use asm_aggregate::standard;
 use asm_element::{ElemBag, ElemSet, Element, Location, Value};
 use asm_state::{Named, Objection, State, Verdict};
-use asm_update::{Action, Amount, Instruction, Instructions, Lookup, PlainState};
+use asm_update::{Action, Aggregator, Amount, Instruction, Instructions, Lookup, PlainState};
 use std::alloc::{AllocError, Global};
 use std::test::Fail;
 
@@ -49,51 +50,91 @@ fn move_of(alloc: Global, name: &str, acts: &[Act]) -> Result<Instructions, Fail
     Ok(list)
 }
 
+fn put_at_z() -> Action {
+    Action::Regular(Value::Plain(Element::Num(1)))
+}
+
 /// The move with a put at z before it.
 fn beside(alloc: Global, name: &str, acts: &[Act]) -> Result<Instructions, Fail> {
     let mut list = Instructions::new(alloc);
-    push(
-        alloc,
-        &mut list,
-        "z",
-        Action::Regular(Value::Plain(Element::Num(1))),
-    )?;
+    push(alloc, &mut list, "z", put_at_z())?;
     for act in acts {
         push(alloc, &mut list, name, action(*act).ok_or(Zero)?)?;
     }
     Ok(list)
 }
 
-fn put(alloc: Global, init: &mut PlainState, name: &str, value: Value) -> Result<(), Fail> {
+fn set_of_1(alloc: Global) -> Result<Value, AllocError> {
+    let mut set = ElemSet::new(alloc);
+    set.insert(Element::Num(1))?;
+    Ok(Value::Set(set))
+}
+
+fn bag_of_two(alloc: Global) -> Result<Value, AllocError> {
+    let one = Element::Num(1);
+    let mut bag = ElemBag::new(alloc);
+    if bag.count(&one) == 0 {
+        bag.put(one, 2)?;
+    }
+    Ok(Value::Bag(bag))
+}
+
+/// The value at first of s, which is the set of 1, of b, a bag of two 1s, and of n, the number 5.
+fn first_value(alloc: Global, name: &str) -> Result<Value, AllocError> {
+    match name {
+        "s" => set_of_1(alloc),
+        "b" => bag_of_two(alloc),
+        _ => Ok(Value::Plain(Element::Num(5))),
+    }
+}
+
+fn open_at(alloc: Global, init: &mut PlainState, name: &str) -> Result<(), Fail> {
     let at = location(alloc, name)?;
+    let value = first_value(alloc, name)?;
     init.set(at, value)?;
     Ok(())
 }
 
-/// A state where s is the set of 1, b a bag of two 1s, and n the number 5.
+/// A state that opened with s, b and n.
 fn opened(alloc: Global) -> Result<State, Fail> {
-    let mut set = ElemSet::new(alloc);
-    set.insert(Element::Num(1))?;
-    let mut bag = ElemBag::new(alloc);
-    if bag.count(&Element::Num(1)) == 0 {
-        bag.put(Element::Num(1), 2)?;
-    }
     let mut init = PlainState::new(alloc);
-    put(alloc, &mut init, "s", Value::Set(set))?;
-    put(alloc, &mut init, "b", Value::Bag(bag))?;
-    put(alloc, &mut init, "n", Value::Plain(Element::Num(5)))?;
+    for name in ["s", "b", "n"] {
+        open_at(alloc, &mut init, name)?;
+    }
     Ok(State::new(alloc, init)?)
 }
 
+/// Whether the state has followed the move; else it has followed too many.
+fn follow_by<A: Aggregator>(
+    alloc: Global,
+    aggregator: &A,
+    state: &mut State,
+    instructions: &Instructions,
+) -> Result<bool, AllocError> {
+    if state.number() == 4_294_967_295 {
+        return Ok(false);
+    }
+    state.follow(alloc, aggregator, instructions)?;
+    Ok(true)
+}
+
 /// The opened state after the move twice; the error is that memory was refused.
-fn followed_twice(alloc: Global, instructions: Instructions) -> Result<State, Fail> {
+fn followed_twice(alloc: Global, instructions: &Instructions) -> Result<State, Fail> {
     let mut state = opened(alloc)?;
     for _turn in 0..2 {
-        if state.number() < 4_294_967_295 {
-            state.follow(alloc, &standard(), &instructions)?;
-        }
+        follow_by(alloc, &standard(), &mut state, instructions)?;
     }
     Ok(state)
+}
+
+fn after_two(alloc: Global, name: &str, acts: &[Act]) -> Result<State, Fail> {
+    let instructions = move_of(alloc, name, acts)?;
+    followed_twice(alloc, &instructions)
+}
+
+fn after_two_beside(alloc: Global, name: &str, acts: &[Act]) -> Result<State, Fail> {
+    let instructions = beside(alloc, name, acts)?;
+    followed_twice(alloc, &instructions)
 }
 
 fn are_alike_at(alloc: Global, one: &State, other: &State, name: &str) -> Result<bool, Fail> {
@@ -101,9 +142,9 @@ fn are_alike_at(alloc: Global, one: &State, other: &State, name: &str) -> Result
     Ok(one.get(&at) == other.get(&at) && one.written_at(&at) == other.written_at(&at))
 }
 
-fn are_alike(alloc: Global, one: &State, other: State) -> Result<bool, Fail> {
+fn are_alike(alloc: Global, one: &State, other: &State) -> Result<bool, Fail> {
     for name in ["s", "b", "n", "q"] {
-        if !are_alike_at(alloc, one, &other, name)? {
+        if !are_alike_at(alloc, one, other, name)? {
             return Ok(false);
         }
     }
@@ -111,9 +152,9 @@ fn are_alike(alloc: Global, one: &State, other: State) -> Result<bool, Fail> {
 }
 
 fn follows_alike(alloc: Global, name: &str, acts: &[Act]) -> Result<bool, Fail> {
-    let one = followed_twice(alloc, move_of(alloc, name, acts)?)?;
-    let other = followed_twice(alloc, beside(alloc, name, acts)?)?;
-    Ok(one.number() == 2 && are_alike(alloc, &one, other)?)
+    let one = after_two(alloc, name, acts)?;
+    let other = after_two_beside(alloc, name, acts)?;
+    Ok(one.number() == 2 && are_alike(alloc, &one, &other)?)
 }
 
 static ROWS: [(&str, &[Act]); 16] = [
@@ -143,6 +184,11 @@ fn a_change_in_place_leaves_what_firing_leaves(rt: HostRuntime) -> Result<(), Fa
     Ok(())
 }
 
+fn is_copied(alloc: Global, state: &State) -> Result<bool, Fail> {
+    let copy = state.copy(alloc)?;
+    are_alike(alloc, state, &copy)
+}
+
 /// Whether a copy is like the state once it has followed the move as well.
 fn is_copied_after(
     alloc: Global,
@@ -151,11 +197,7 @@ fn is_copied_after(
     acts: &[Act],
 ) -> Result<bool, Fail> {
     let instructions = move_of(alloc, name, acts)?;
-    if state.number() == 4_294_967_295 {
-        return Ok(false);
-    }
-    state.follow(alloc, &standard(), &instructions)?;
-    are_alike(alloc, state, state.copy(alloc)?)
+    Ok(follow_by(alloc, &standard(), state, &instructions)? && is_copied(alloc, state)?)
 }
 
 #[test]
@@ -185,19 +227,76 @@ fn is_whole(alloc: Global, state: &State, answer: Result<(), AllocError>) -> Res
     }
 }
 
+/// Whether a follow changes s and counts the move, or does neither.
+fn follows_whole(
+    alloc: Global,
+    state: &mut State,
+    instructions: &Instructions,
+) -> Result<bool, Fail> {
+    if state.number() == 4_294_967_295 {
+        return Ok(false);
+    }
+    let answer = state.follow(alloc, &standard(), instructions);
+    is_whole(alloc, state, answer)
+}
+
 #[test]
 fn a_change_in_place_is_whole_or_none(rt: HostRuntime) -> Result<(), Fail> {
-    let alloc = rt.alloc();
-    let instructions = move_of(alloc, "s", &[Add(2), Add(3)])?;
-    let mut state = opened(alloc)?;
-    assert!(rt; state.number() < 4_294_967_295);
-    let answer = state.follow(alloc, &standard(), &instructions);
-    assert!(rt; is_whole(alloc, &state, answer)?);
+    let instructions = move_of(rt.alloc(), "s", &[Add(2), Add(3)])?;
+    let mut state = opened(rt.alloc())?;
+    assert!(rt; follows_whole(rt.alloc(), &mut state, &instructions)?);
+    Ok(())
+}
+
+/// A move that puts what stands at s, b and n.
+fn puts_of_first(alloc: Global) -> Result<Instructions, Fail> {
+    let mut list = Instructions::new(alloc);
+    for name in ["s", "b", "n"] {
+        let value = first_value(alloc, name)?;
+        push(alloc, &mut list, name, Action::Regular(value))?;
+    }
+    Ok(list)
+}
+
+/// A state where a move wrote s, b and n, and a second one by this aggregator changed one location.
+fn changed_by<A: Aggregator>(
+    alloc: Global,
+    aggregator: &A,
+    instructions: &Instructions,
+) -> Result<State, Fail> {
+    let mut state = followed_twice(alloc, &puts_of_first(alloc)?)?;
+    follow_by(alloc, aggregator, &mut state, instructions)?;
+    Ok(state)
+}
+
+/// Whether a change of a written value by the aggregator leaves what one by the standard aggregator leaves.
+fn changes_as_by_standard<A: Aggregator>(
+    alloc: Global,
+    aggregator: &A,
+    name: &str,
+    acts: &[Act],
+) -> Result<bool, Fail> {
+    let instructions = move_of(alloc, name, acts)?;
+    let one = changed_by(alloc, aggregator, &instructions)?;
+    let other = changed_by(alloc, &standard(), &instructions)?;
+    Ok(one.number() == 3 && are_alike(alloc, &one, &other)?)
+}
+
+#[test]
+fn a_change_of_a_written_value_asks_for_no_result(rt: HostRuntime) -> Result<(), Fail> {
+    let aggregator = Resultless::over(standard());
+    for (k, (name, acts)) in ROWS.iter().enumerate() {
+        let is_written = *name != "q";
+        assert!(rt;
+            !is_written || changes_as_by_standard(rt.alloc(), &aggregator, name, acts)?,
+            "at row {k}"
+        );
+    }
     Ok(())
 }
 
 /// Whether what stands against a move is what `judge` tells.
-fn is_told_alike(verdict: Verdict, objection: Option<Objection>) -> bool {
+fn is_told_alike(verdict: &Verdict, objection: &Option<Objection>) -> bool {
     match (verdict, objection) {
         (Verdict::Stale(at), Some(Objection::Stale(told))) => at == told,
         (Verdict::Clash(clash), Some(Objection::Clash(told))) => clash == told,
@@ -206,14 +305,55 @@ fn is_told_alike(verdict: Verdict, objection: Option<Objection>) -> bool {
     }
 }
 
-fn objects_alike(alloc: Global, state: &State, name: &str, acts: &[Act]) -> Result<bool, Fail> {
-    let instructions = beside(alloc, name, acts)?;
+/// Whether the aggregator's objection to the move is what `judge` tells by the other.
+fn objects_to<A: Aggregator>(
+    alloc: Global,
+    aggregator: &A,
+    state: &State,
+    named: &[Named],
+    instructions: &Instructions,
+) -> Result<bool, AllocError> {
+    let verdict = state.judge(alloc, &standard(), named, instructions)?;
+    let objection = state.objection(alloc, aggregator, named, instructions)?;
+    Ok(is_told_alike(&verdict, &objection))
+}
+
+/// The same, where s was read at this number.
+fn objects_at<A: Aggregator>(
+    alloc: Global,
+    aggregator: &A,
+    state: &State,
+    number: u32,
+    instructions: &Instructions,
+) -> Result<bool, Fail> {
+    let at = location(alloc, "s")?;
+    let named = vec![in alloc; Named { at, number }]?;
+    Ok(objects_to(alloc, aggregator, state, &named, instructions)?)
+}
+
+fn objects_alike<A: Aggregator>(
+    alloc: Global,
+    aggregator: &A,
+    state: &State,
+    row: (&str, &[Act]),
+) -> Result<bool, Fail> {
+    let instructions = beside(alloc, row.0, row.1)?;
     for number in 0..3u32 {
-        let at = location(alloc, "s")?;
-        let named = vec![in alloc; Named { at, number }]?;
-        let verdict = state.judge(alloc, &standard(), named.as_slice(), &instructions)?;
-        let objection = state.objection(alloc, &standard(), named.as_slice(), &instructions)?;
-        if !is_told_alike(verdict, objection) {
+        if !objects_at(alloc, aggregator, state, number, &instructions)? {
+            return Ok(false);
+        }
+    }
+    Ok(true)
+}
+
+/// Whether the aggregator objects to each row's move, beside a put at z, as verdicts tell.
+fn objects_to_all<A: Aggregator>(
+    alloc: Global,
+    aggregator: &A,
+    state: &State,
+) -> Result<bool, Fail> {
+    for row in ROWS {
+        if !objects_alike(alloc, aggregator, state, row)? {
             return Ok(false);
         }
     }
@@ -221,11 +361,9 @@ fn objects_alike(alloc: Global, state: &State, name: &str, acts: &[Act]) -> Resu
 }
 
 #[test]
-fn objections_are_those_of_verdicts(rt: HostRuntime) -> Result<(), Fail> {
-    let alloc = rt.alloc();
-    let state = followed_twice(alloc, move_of(alloc, "s", &[Add(7)])?)?;
-    for (k, (name, acts)) in ROWS.iter().enumerate() {
-        assert!(rt; objects_alike(alloc, &state, name, acts)?, "at row {k}");
-    }
+fn objections_are_those_of_verdicts_and_ask_for_no_result(rt: HostRuntime) -> Result<(), Fail> {
+    let state = after_two(rt.alloc(), "s", &[Add(7)])?;
+    assert!(rt; objects_to_all(rt.alloc(), &standard(), &state)?);
+    assert!(rt; objects_to_all(rt.alloc(), &Resultless::over(standard()), &state)?);
     Ok(())
 }

@@ -37,14 +37,15 @@ fn move_of(alloc: Global, puts: &[Put]) -> Result<Instructions, Fail> {
 
 /// A state at number 0 where x is 7.
 fn opened(alloc: Global) -> Result<State, Fail> {
+    let at = location(alloc, "x")?;
     let mut init = PlainState::new(alloc);
-    init.set(location(alloc, "x")?, Value::Plain(Element::Num(7)))?;
+    init.set(at, Value::Plain(Element::Num(7)))?;
     Ok(State::new(alloc, init)?)
 }
 
 fn follow<R: Abort>(rt: &R, alloc: Global, state: &mut State, puts: &[Put]) -> Result<(), Fail> {
-    let instructions = move_of(alloc, puts)?;
     assert!(rt; state.number() < 4_294_967_295);
+    let instructions = move_of(alloc, puts)?;
     state.follow(alloc, &standard(), &instructions)?;
     Ok(())
 }
@@ -97,6 +98,16 @@ fn named_of(alloc: Global, reads: &[(&'static str, u32)]) -> Result<Vec<Named>, 
     Ok(named)
 }
 
+fn verdict_on(
+    alloc: Global,
+    state: &State,
+    named: &[Named],
+    puts: &[Put],
+) -> Result<Verdict, Fail> {
+    let instructions = move_of(alloc, puts)?;
+    Ok(state.judge(alloc, &standard(), named, &instructions)?)
+}
+
 fn judges(
     alloc: Global,
     state: &State,
@@ -105,8 +116,7 @@ fn judges(
     want: Want,
 ) -> Result<bool, Fail> {
     let named = named_of(alloc, reads)?;
-    let instructions = move_of(alloc, puts)?;
-    let verdict = state.judge(alloc, &standard(), named.as_slice(), &instructions)?;
+    let verdict = verdict_on(alloc, state, &named, puts)?;
     Ok(is_wanted(&verdict, want))
 }
 
@@ -192,20 +202,25 @@ fn is_copied(alloc: Global, state: &State) -> Result<bool, Fail> {
     Ok(is_x && is_y && copy.number() == state.number())
 }
 
+fn is_named_copied(alloc: Global, name: &str, number: u32) -> Result<bool, Fail> {
+    let at = location(alloc, name)?;
+    let named = Named { at, number };
+    Ok(named.copy(alloc)? == named)
+}
+
 #[test]
 fn copies_are_equal(rt: HostRuntime) -> Result<(), Fail> {
     let (rt, alloc) = (&rt, rt.alloc());
-    let at = location(alloc, "x")?;
-    let named = Named { at, number: 3 };
-    assert!(rt; named.copy(alloc)? == named);
-    let state = played(rt, alloc)?;
-    assert!(rt; is_copied(alloc, &state)?);
+    assert!(rt; is_named_copied(alloc, "x", 3)?);
+    assert!(rt; is_copied(alloc, &opened(alloc)?)?);
+    assert!(rt; is_copied(alloc, &played(rt, alloc)?)?);
     Ok(())
 }
 
 fn location_at(alloc: Global, number: i64) -> Result<Location, Fail> {
+    let name = String::from_str(alloc, "n")?;
     let args = vec![in alloc; Element::Num(number)]?;
-    Ok(Location::new(String::from_str(alloc, "n")?, args)?)
+    Ok(Location::new(name, args)?)
 }
 
 /// A state where n(1), n(3) and so on hold their argument, below the limit.
@@ -213,7 +228,8 @@ fn half_held(alloc: Global, limit: i64) -> Result<State, Fail> {
     let mut init = PlainState::new(alloc);
     for n in 0..limit {
         if n % 2 == 1 {
-            init.set(location_at(alloc, n)?, Value::Plain(Element::Num(n)))?;
+            let at = location_at(alloc, n)?;
+            init.set(at, Value::Plain(Element::Num(n)))?;
         }
     }
     Ok(State::new(alloc, init)?)
@@ -253,19 +269,30 @@ fn is_copied_whole(alloc: Global, state: &State, limit: i64) -> Result<bool, Fai
     is_all_or_nothing(alloc, &copy, limit, true)
 }
 
-/// After a follow of puts at as many locations, half of which are held: it wrote each, or, where memory was refused,
-/// the number, the values and the writers are as before, and a second follow, which has memory, writes each.
+/// Whether a follow of puts at as many locations, half of which are held, wrote each, or, where memory was refused,
+/// left the number, the values and the writers as before, and a second follow, which has memory, writes each.
+fn is_written_whole(
+    alloc: Global,
+    state: &mut State,
+    puts: &Instructions,
+    limit: i64,
+) -> Result<bool, Fail> {
+    if state.number() != 0 {
+        return Ok(false);
+    }
+    let fired = state.follow(alloc, &standard(), puts).is_ok();
+    let is_whole = is_all_or_nothing(alloc, state, limit, fired)?;
+    if !fired && state.number() < 4_294_967_295 {
+        state.follow(alloc, &standard(), puts)?;
+    }
+    let is_written = is_all_or_nothing(alloc, state, limit, true)?;
+    Ok(is_whole && is_written && is_copied_whole(alloc, state, limit)?)
+}
+
 fn follow_writes_all_or_nothing<R: Abort>(rt: &R, alloc: Global, limit: i64) -> Result<(), Fail> {
     let puts = many_puts(alloc, limit)?;
     let mut state = half_held(alloc, limit)?;
-    assert!(rt; state.number() == 0);
-    let fired = state.follow(alloc, &standard(), &puts).is_ok();
-    assert!(rt; is_all_or_nothing(alloc, &state, limit, fired)?);
-    if !fired && state.number() < 4_294_967_295 {
-        state.follow(alloc, &standard(), &puts)?;
-    }
-    assert!(rt; is_all_or_nothing(alloc, &state, limit, true)?);
-    assert!(rt; is_copied_whole(alloc, &state, limit)?);
+    assert!(rt; is_written_whole(alloc, &mut state, &puts, limit)?);
     Ok(())
 }
 
@@ -281,9 +308,9 @@ fn a_follow_of_4096_updates_writes_all_or_nothing(rt: HostRuntime) -> Result<(),
 
 /// A state where a move wrote n(0), n(1) and so on, 256 locations.
 fn written_at_256<R: Abort>(rt: &R, alloc: Global) -> Result<State, Fail> {
-    let puts = many_puts(alloc, 256)?;
     let mut state = half_held(alloc, 256)?;
     assert!(rt; state.number() == 0);
+    let puts = many_puts(alloc, 256)?;
     state.follow(alloc, &standard(), &puts)?;
     Ok(state)
 }
@@ -302,8 +329,7 @@ fn reads_stale_from(alloc: Global, first: i64) -> Result<Vec<Named>, Fail> {
 /// What becomes of a move that writes undef at y, and names those reads.
 fn verdict_from(alloc: Global, state: &State, first: i64) -> Result<Verdict, Fail> {
     let named = reads_stale_from(alloc, first)?;
-    let instructions = move_of(alloc, &[Put("y", None)])?;
-    Ok(state.judge(alloc, &standard(), named.as_slice(), &instructions)?)
+    verdict_on(alloc, state, &named, &[Put("y", None)])
 }
 
 fn is_stale_from(alloc: Global, state: &State, first: i64) -> Result<bool, Fail> {

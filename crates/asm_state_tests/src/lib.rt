@@ -9,3 +9,5 @@ mod in_place;
 mod judging;
 #[cfg(test)]
 mod opening;
+#[cfg(test)]
+mod resultless;

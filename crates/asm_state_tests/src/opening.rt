@@ -7,7 +7,7 @@ use std::alloc::{AllocError, Global};
 use std::sync::Arc;
 use std::test::Fail;
 
-/// What a move of one instruction does at x.
+/// What an instruction does at x.
 #[derive(Clone, Copy)]
 enum Act {
     Put(i64),
@@ -45,19 +45,25 @@ fn action(act: Act) -> Action {
     }
 }
 
-fn move_of(alloc: Global, act: Act) -> Result<Instructions, Fail> {
-    let mut list = Instructions::new(alloc);
+fn push(alloc: Global, list: &mut Instructions, act: Act) -> Result<(), Fail> {
     let at = location(alloc)?;
-    list.push(Instruction {
-        at,
-        action: action(act),
-    })?;
+    let action = action(act);
+    list.push(Instruction { at, action })?;
+    Ok(())
+}
+
+fn move_of(alloc: Global, acts: &[Act]) -> Result<Instructions, Fail> {
+    let mut list = Instructions::new(alloc);
+    for act in acts {
+        push(alloc, &mut list, *act)?;
+    }
     Ok(list)
 }
 
 fn of_value(alloc: Global, value: Value) -> Result<PlainState, Fail> {
+    let at = location(alloc)?;
     let mut init = PlainState::new(alloc);
-    init.set(location(alloc)?, value)?;
+    init.set(at, value)?;
     Ok(init)
 }
 
@@ -91,55 +97,78 @@ fn holds(alloc: Global, state: &State, held: Held, writer: u32) -> Result<bool, 
     Ok(is_held(state.get(&at), held) && state.written_at(&at) == writer)
 }
 
+/// Whether the state holds what it should once it has followed the move so many times.
+fn follows_times(
+    alloc: Global,
+    state: &mut State,
+    instructions: &Instructions,
+    times: u32,
+) -> Result<bool, AllocError> {
+    for _ in 0..times {
+        if state.number() == 4_294_967_295 {
+            return Ok(false);
+        }
+        state.follow(alloc, &standard(), instructions)?;
+    }
+    Ok(true)
+}
+
 /// Whether the state holds what it should once it has followed the move.
 fn follows(
     alloc: Global,
     state: &mut State,
-    act: Act,
+    acts: &[Act],
     held: Held,
     writer: u32,
 ) -> Result<bool, Fail> {
-    let instructions = move_of(alloc, act)?;
-    if state.number() == 4_294_967_295 {
-        return Ok(false);
-    }
-    state.follow(alloc, &standard(), &instructions)?;
-    Ok(holds(alloc, state, held, writer)?)
+    let instructions = move_of(alloc, acts)?;
+    Ok(follows_times(alloc, state, &instructions, 1)? && holds(alloc, state, held, writer)?)
 }
 
 /// Whether x holds a set at first; then each move, with what x holds after it, and since which move.
-struct Row(bool, &'static [(Act, Held, u32)]);
+struct Row(bool, &'static [(&'static [Act], Held, u32)]);
 
-static ROWS: [Row; 5] = [
+static ROWS: [Row; 7] = [
     Row(
         false,
         &[
-            (Put(5), Num(5), 1),
-            (Undef, Nothing, 2),
-            (Put(7), Num(7), 3),
+            (&[Put(5)], Num(5), 1),
+            (&[Undef], Nothing, 2),
+            (&[Put(7)], Num(7), 3),
         ],
     ),
     Row(
         false,
         &[
-            (Undef, Nothing, 1),
-            (Undef, Nothing, 2),
-            (Inc(1), Nothing, 2),
-            (Add(1), Nothing, 2),
-            (Put(3), Num(3), 5),
+            (&[Undef], Nothing, 1),
+            (&[Undef], Nothing, 2),
+            (&[Inc(1)], Nothing, 2),
+            (&[Add(1)], Nothing, 2),
+            (&[Put(3)], Num(3), 5),
         ],
     ),
-    Row(false, &[(Inc(2), Num(9), 1), (Inc(2), Num(11), 2)]),
-    Row(false, &[(Add(1), Num(7), 0), (Put(1), Num(1), 2)]),
+    Row(false, &[(&[Inc(2)], Num(9), 1), (&[Inc(2)], Num(11), 2)]),
+    Row(false, &[(&[Add(1)], Num(7), 0), (&[Put(1)], Num(1), 2)]),
     Row(
         true,
         &[
-            (Add(2), Members(2), 1),
-            (Add(3), Members(3), 2),
-            (Undef, Nothing, 3),
-            (Add(4), Nothing, 3),
+            (&[Add(2)], Members(2), 1),
+            (&[Add(3)], Members(3), 2),
+            (&[Undef], Nothing, 3),
+            (&[Add(4)], Nothing, 3),
         ],
     ),
+    Row(
+        false,
+        &[
+            (&[], Num(7), 0),
+            (&[], Num(7), 0),
+            (&[Put(5)], Num(5), 3),
+            (&[], Num(5), 3),
+            (&[Inc(1)], Num(6), 5),
+        ],
+    ),
+    Row(true, &[(&[], Members(1), 0), (&[Add(2)], Members(2), 2)]),
 ];
 
 fn first_held(is_set: bool) -> Held {
@@ -156,17 +185,61 @@ fn right_moves(alloc: Global, state: &mut State, row: &Row) -> Result<usize, Fai
     Ok(row.1.len())
 }
 
-fn plays_out(alloc: Global, mut state: State, row: &Row) -> Result<bool, Fail> {
-    let is_open = holds(alloc, &state, first_held(row.0), 0)?;
-    Ok(is_open && right_moves(alloc, &mut state, row)? == row.1.len())
+fn plays_out(alloc: Global, state: &mut State, row: &Row) -> Result<bool, Fail> {
+    let is_open = holds(alloc, state, first_held(row.0), 0)?;
+    Ok(is_open && right_moves(alloc, state, row)? == row.1.len())
+}
+
+fn fresh(alloc: Global, is_set: bool) -> Result<State, Fail> {
+    let init = opening(alloc, is_set)?;
+    Ok(State::new(alloc, init)?)
 }
 
 #[test]
 fn what_moves_wrote_hides_what_a_state_opened_with(rt: HostRuntime) -> Result<(), Fail> {
-    let alloc = rt.alloc();
     for (k, row) in ROWS.iter().enumerate() {
-        let state = State::new(alloc, opening(alloc, row.0)?)?;
-        assert!(rt; plays_out(alloc, state, row)?, "at row {k}");
+        let mut state = fresh(rt.alloc(), row.0)?;
+        assert!(rt; plays_out(rt.alloc(), &mut state, row)?, "at row {k}");
+    }
+    Ok(())
+}
+
+/// A copy of a state that has followed no move.
+fn copy_of_fresh(alloc: Global, is_set: bool) -> Result<State, Fail> {
+    let state = fresh(alloc, is_set)?;
+    Ok(state.copy(alloc)?)
+}
+
+#[test]
+fn a_copy_of_a_fresh_state_follows_as_it_would(rt: HostRuntime) -> Result<(), Fail> {
+    for (k, row) in ROWS.iter().enumerate() {
+        let mut state = copy_of_fresh(rt.alloc(), row.0)?;
+        assert!(rt; plays_out(rt.alloc(), &mut state, row)?, "at row {k}");
+    }
+    Ok(())
+}
+
+/// What is done in each of 65,537 moves, what x holds in the end, and since which move.
+struct Many(&'static [Act], Held, u32);
+
+static MANY: [Many; 3] = [
+    Many(&[Inc(1)], Num(65_544), 65_537),
+    Many(&[Put(5)], Num(5), 65_537),
+    Many(&[], Num(7), 0),
+];
+
+fn follows_many(alloc: Global, state: &mut State, many: &Many) -> Result<bool, Fail> {
+    let instructions = move_of(alloc, many.0)?;
+    let is_followed = follows_times(alloc, state, &instructions, 65_537)?;
+    let is_held = holds(alloc, state, many.1, many.2)?;
+    Ok(is_followed && is_held && state.number() == 65_537)
+}
+
+#[test]
+fn a_state_follows_65537_moves(rt: HostRuntime) -> Result<(), Fail> {
+    for (k, many) in MANY.iter().enumerate() {
+        let mut state = fresh(rt.alloc(), false)?;
+        assert!(rt; follows_many(rt.alloc(), &mut state, many)?, "at row {k}");
     }
     Ok(())
 }
@@ -179,9 +252,9 @@ fn two_over(alloc: Global, init: PlainState) -> Result<(State, State), AllocErro
 }
 
 /// Whether each row comes out right on the first, while the second stays as it opened, and then on the second.
-fn are_apart(alloc: Global, mut one: State, two: State, row: &Row) -> Result<bool, Fail> {
-    let is_right = right_moves(alloc, &mut one, row)? == row.1.len();
-    let stays = holds(alloc, &two, first_held(row.0), 0)? && two.number() == 0;
+fn are_apart(alloc: Global, one: &mut State, two: &mut State, row: &Row) -> Result<bool, Fail> {
+    let is_right = right_moves(alloc, one, row)? == row.1.len();
+    let stays = holds(alloc, two, first_held(row.0), 0)? && two.number() == 0;
     Ok(is_right && stays && plays_out(alloc, two, row)?)
 }
 
@@ -189,26 +262,26 @@ fn are_apart(alloc: Global, mut one: State, two: State, row: &Row) -> Result<boo
 fn states_that_share_follow_apart(rt: HostRuntime) -> Result<(), Fail> {
     let alloc = rt.alloc();
     for (k, row) in ROWS.iter().enumerate() {
-        let (one, two) = two_over(alloc, opening(alloc, row.0)?)?;
-        assert!(rt; are_apart(alloc, one, two, row)?, "at row {k}");
+        let (mut one, mut two) = two_over(alloc, opening(alloc, row.0)?)?;
+        assert!(rt; are_apart(alloc, &mut one, &mut two, row)?, "at row {k}");
     }
     Ok(())
 }
 
 /// Whether a copy stays as it was while the state follows on, and then follows on as well.
-fn stays_apart(alloc: Global, mut state: State) -> Result<bool, Fail> {
-    let mut copy = state.copy(alloc)?;
-    let moves_on = follows(alloc, &mut state, Put(5), Num(5), 2)?;
-    let stays = holds(alloc, &copy, Nothing, 1)? && copy.number() == 1;
-    let follows_on = follows(alloc, &mut copy, Put(8), Num(8), 2)?;
-    Ok(moves_on && stays && follows_on && holds(alloc, &state, Num(5), 2)?)
+fn stays_apart(alloc: Global, state: &mut State, copy: &mut State) -> Result<bool, Fail> {
+    let moves_on = follows(alloc, state, &[Put(5)], Num(5), 2)?;
+    let stays = holds(alloc, copy, Nothing, 1)? && copy.number() == 1;
+    let follows_on = follows(alloc, copy, &[Put(8)], Num(8), 2)?;
+    Ok(moves_on && stays && follows_on && holds(alloc, state, Num(5), 2)?)
 }
 
 #[test]
 fn a_copy_does_not_follow_its_original(rt: HostRuntime) -> Result<(), Fail> {
     let alloc = rt.alloc();
-    let mut state = State::new(alloc, opening(alloc, false)?)?;
-    assert!(rt; follows(alloc, &mut state, Undef, Nothing, 1)?);
-    assert!(rt; stays_apart(alloc, state)?);
+    let mut state = fresh(alloc, false)?;
+    assert!(rt; follows(alloc, &mut state, &[Undef], Nothing, 1)?);
+    let mut copy = state.copy(alloc)?;
+    assert!(rt; stays_apart(alloc, &mut state, &mut copy)?);
     Ok(())
 }

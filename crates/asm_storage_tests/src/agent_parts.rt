@@ -1,8 +1,10 @@
 //! Agents that are made one by one, and their parts.
 ghost use Rattle.std.specs.Prelude.{◌<◌};
 
+use crate::asked::{Put, move_of};
 use crate::closings::holds;
-use crate::two_agents::{Put, Standard, counts, move_of, storage_of};
+use crate::performing::{Standard, counts};
+use crate::two_agents::storage_of;
 use asm_storage::{Agent, Reply, Storage};
 use asm_update::Instructions;
 use std::alloc::{AllocError, Global};
@@ -13,16 +15,16 @@ fn is_new(agent: &Agent<'_, Standard>, id: u32) -> bool {
     agent.id() == id && counts(agent, 0, 0, 0) && agent.receipts().is_empty()
 }
 
-/// Whether the agent fires, with this number of moves then. `AllocError` comes only where memory was refused.
-fn fires_as(
+/// Whether the agent's fire is its one call, and the move with this number.
+fn has_fired(
     alloc: Global,
-    mut agent: Agent<'_, Standard>,
+    agent: &mut Agent<'_, Standard>,
     instrs: &Instructions,
     number: u32,
-) -> Result<bool, AllocError> {
+) -> bool {
     match agent.try_fire(alloc, &[], instrs) {
-        Ok(reply) => Ok(reply == Reply::Fired(number) && counts(&agent, number, 1, 1)),
-        Err(_) => Err(AllocError),
+        Ok(reply) => reply == Reply::Fired(number) && counts(agent, number, 1, 1),
+        Err(_) => false,
     }
 }
 
@@ -40,9 +42,9 @@ fn is_made(
     let agent = storage.agent_at(alloc, id)?;
     let is_new = is_new(&agent, id);
     let part = agent.into_part();
-    let is_same = is_new && part.id() == id;
-    let has_fired = fires_as(alloc, Agent::of(storage, part), instrs, number)?;
-    Ok(is_same && has_fired)
+    let is_same = part.id() == id;
+    let mut agent = Agent::of(storage, part);
+    Ok(has_fired(alloc, &mut agent, instrs, number) && is_new && is_same)
 }
 
 /// Whether that is so, and the row then holds as many moves as the `number` says.
@@ -55,7 +57,7 @@ fn is_held(
 ) -> Result<bool, AllocError>
     requires { id < 256 }
 {
-    Ok(is_made(alloc, storage, instrs, id, number)? && holds(alloc, storage, number)?)
+    Ok(is_made(alloc, storage, instrs, id, number)? && holds(alloc, storage, number))
 }
 
 /// Whether agents with the least and the greatest number, and two with one number, are made and fire one move each.
@@ -77,7 +79,7 @@ fn an_agent_has_the_number_that_it_is_made_with(rt: HostRuntime) -> Result<(), F
     let alloc = rt.alloc();
     let storage = storage_of(alloc, None, 8)?;
     let instrs = move_of(alloc, &[Put("x", 1)])?;
-    assert!(rt; holds(alloc, &storage, 0)?);
+    assert!(rt; holds(alloc, &storage, 0));
     assert!(rt; are_made(alloc, &storage, &instrs)?);
     Ok(())
 }

@@ -1,7 +1,8 @@
+use crate::asked::{Act, At, Put, Want};
 use crate::closings::Closing;
-use crate::two_agents::{Act, AgentStep, At, Case, Put, Want, Who, check_all};
+use crate::two_agents::{Case, Step, Who, check_all};
 use Act::{Fire, Read};
-use AgentStep::{Ask, Count, Learn, Receipts};
+use Step::{Ask, Count, Learn, LearnFromBefore, Receipts, Row};
 use Who::{A, B};
 use asm_update::Cause;
 use std::test::Fail;
@@ -126,7 +127,7 @@ fn receipts_close_into_one_history(rt: HostRuntime) -> Result<(), Fail> {
     check_all(&rt, rt.alloc(), &CLOSING)
 }
 
-static MARKS: [Case; 3] = [
+static MARKS: [Case; 5] = [
     Case {
         x: Some(7),
         capacity: 8,
@@ -172,9 +173,45 @@ static MARKS: [Case; 3] = [
         alone: Closing::Missing(1),
         both: Closing::Events(1, &[1, 0]),
     },
+    // A mark tells no move that was fired after it was taken.
+    Case {
+        x: Some(7),
+        capacity: 8,
+        steps: &[
+            LearnFromBefore(Fire(&[Put("x", 5)], &[]), Want::Fired(1), 0),
+            Count(A, 0, 0, 0),
+            Receipts(A, 0),
+            Row(1),
+            LearnFromBefore(Fire(&[Put("x", 6)], &[]), Want::Fired(2), 1),
+            Count(A, 1, 0, 0),
+            LearnFromBefore(Read(&["x"]), Want::Read(2, &[Some(6)]), 2),
+            LearnFromBefore(Fire(&[Put("y", 1)], &[]), Want::Fired(3), 2),
+            Count(A, 2, 0, 0),
+            Row(3),
+            Ask(A, Read(&["x", "y"]), Want::Read(3, &[Some(6), Some(1)])),
+            Count(A, 3, 0, 1),
+        ],
+        alone: Closing::Missing(1),
+        both: Closing::Events(3, &[1, 1, 1, 1, 0]),
+    },
+    // A mark of fewer moves takes none away from who learns it.
+    Case {
+        x: None,
+        capacity: 8,
+        steps: &[
+            Ask(B, Fire(&[Put("x", 5)], &[]), Want::Fired(1)),
+            Ask(B, Fire(&[Put("x", 6)], &[]), Want::Fired(2)),
+            Ask(A, Fire(&[Put("y", 1)], &[]), Want::Fired(3)),
+            LearnFromBefore(Read(&["y"]), Want::Read(3, &[Some(1)]), 3),
+            Count(A, 3, 1, 1),
+            Row(3),
+        ],
+        alone: Closing::Missing(1),
+        both: Closing::Events(3, &[1, 1, 0, 1]),
+    },
 ];
 
 #[test]
-fn a_mark_and_a_look_tell_the_same_moves(rt: HostRuntime) -> Result<(), Fail> {
+fn a_mark_tells_the_moves_that_a_look_finds_and_no_later_one(rt: HostRuntime) -> Result<(), Fail> {
     check_all(&rt, rt.alloc(), &MARKS)
 }

@@ -1,48 +1,84 @@
-//! Values that differ in one part alone are not equal.
-
-use crate::two_agents::{At, Put, location, move_of, named_of, places_of};
-use asm_element::{Element, Items, Value};
-use asm_storage::{Answer, Call, CloseError, Entry, Event, FireError, History, Receipt, Reply};
+//! Values that differ in one part alone are told apart.
+use crate::asked::{At, Put, location, move_of, named_of, number, places_of};
+use crate::telling::are_apart;
+use asm_element::{Items, Location, Value};
+use asm_storage::{Answer, Call, Entry, Event, History, Receipt, Reply};
 use asm_update::{Cause, Clash, Instructions, PlainState};
-use std::alloc::Global;
+use std::alloc::{AllocError, Global};
 use std::test::Fail;
 
-/// What was compared, and whether the values that are the same are equal and the others aren't.
-type Told = (&'static str, bool);
-
-fn are_told<T: PartialEq + Drop>(first: T, same: T, other: T) -> bool {
-    first == same && first != other
+fn reading(alloc: Global, name: &'static str) -> Result<Call, AllocError> {
+    Ok(Call::Read(Items::new(places_of(alloc, &[name])?)))
 }
 
-fn no_read(alloc: Global) -> Call {
-    Call::Read(Items::new(Vec::new(alloc)))
+fn firing(alloc: Global, reads: &[At], instrs: Instructions) -> Result<Call, AllocError> {
+    let reads = Items::new(named_of(alloc, reads)?);
+    Ok(Call::Fire { reads, instrs })
 }
 
-fn fire(instrs: Instructions, alloc: Global) -> Call {
-    Call::Fire {
-        reads: Items::new(Vec::new(alloc)),
-        instrs,
+fn putting(alloc: Global, reads: &[At], n: i64) -> Result<Call, AllocError> {
+    firing(alloc, reads, move_of(alloc, &[Put("x", n)])?)
+}
+
+/// Reads of different locations, and fires of different moves and named reads.
+fn call(alloc: Global, kind: u32) -> Result<Call, AllocError> {
+    match kind {
+        0 => Ok(Call::Read(Items::new(Vec::new(alloc)))),
+        1 => reading(alloc, "x"),
+        2 => reading(alloc, "y"),
+        3 => firing(alloc, &[], Instructions::new(alloc)),
+        4 => putting(alloc, &[], 1),
+        5 => putting(alloc, &[], 2),
+        6 => putting(alloc, &[At("x", 1)], 1),
+        7 => putting(alloc, &[At("x", 2)], 1),
+        _ => putting(alloc, &[At("y", 1)], 1),
     }
 }
 
-fn no_fire(alloc: Global) -> Call {
-    fire(Instructions::new(alloc), alloc)
+fn stale(at: Location) -> Reply {
+    Reply::Stale(at)
 }
 
-fn full() -> Answer {
-    Answer::Fire(Reply::Full)
+fn clash(at: Location, cause: Cause) -> Reply {
+    Reply::Clash(Clash { at, cause })
 }
 
-fn fired(number: u32) -> Answer {
-    Answer::Fire(Reply::Fired(number))
+fn reply(alloc: Global, kind: u32) -> Result<Reply, AllocError> {
+    match kind {
+        0 => Ok(Reply::Full),
+        1 => Ok(Reply::Fired(0)),
+        2 => Ok(Reply::Fired(1)),
+        3 => Ok(stale(location(alloc, "x")?)),
+        4 => Ok(stale(location(alloc, "y")?)),
+        5 => Ok(clash(location(alloc, "x")?, Cause::Two)),
+        6 => Ok(clash(location(alloc, "x")?, Cause::Kind)),
+        _ => Ok(clash(location(alloc, "y")?, Cause::Two)),
+    }
 }
 
-fn read_at(alloc: Global, number: u32) -> Answer {
-    let values = Items::new(Vec::new(alloc));
+fn read_at(number: u32, values: Vec<Value>) -> Answer {
+    let values = Items::new(values);
     Answer::Read { number, values }
 }
 
-fn receipt(call: Call, answer: Answer, stood: u32) -> Receipt {
+fn one_value(alloc: Global, n: i64) -> Result<Vec<Value>, AllocError> {
+    let mut values = Vec::new(alloc);
+    values.push(number(n))?;
+    Ok(values)
+}
+
+/// Answers to reads of different numbers and values, and to fires.
+fn answer(alloc: Global, kind: u32) -> Result<Answer, AllocError> {
+    match kind {
+        0 => Ok(read_at(0, Vec::new(alloc))),
+        1 => Ok(read_at(1, Vec::new(alloc))),
+        2 => Ok(read_at(0, one_value(alloc, 1)?)),
+        3 => Ok(read_at(0, one_value(alloc, 2)?)),
+        _ => Ok(Answer::Fire(reply(alloc, kind.saturating_sub(4))?)),
+    }
+}
+
+fn receipt_with(call: Call, answer: Answer, stood: u32) -> Receipt {
     Receipt {
         call,
         answer,
@@ -50,22 +86,17 @@ fn receipt(call: Call, answer: Answer, stood: u32) -> Receipt {
     }
 }
 
-fn receipts(alloc: Global) -> [Told; 3] {
-    let plain = |stood| receipt(no_fire(alloc), full(), stood);
-    [
-        ("stood of a receipt", are_told(plain(0), plain(0), plain(1))),
-        (
-            "answer of a receipt",
-            are_told(plain(0), plain(0), receipt(no_fire(alloc), fired(1), 0)),
-        ),
-        (
-            "call of a receipt",
-            are_told(plain(0), plain(0), receipt(no_read(alloc), full(), 0)),
-        ),
-    ]
+/// Receipts whose call, answer or number is another.
+fn receipt(alloc: Global, kind: u32) -> Result<Receipt, AllocError> {
+    let call = call(alloc, u32::from(kind == 1))?;
+    Ok(receipt_with(
+        call,
+        answer(alloc, u32::from(kind == 2))?,
+        u32::from(kind == 3),
+    ))
 }
 
-fn event(agent: u32, call: Call, answer: Answer) -> Event {
+fn event_with(call: Call, answer: Answer, agent: u32) -> Event {
     Event {
         agent,
         call,
@@ -73,236 +104,74 @@ fn event(agent: u32, call: Call, answer: Answer) -> Event {
     }
 }
 
-fn events(alloc: Global) -> [Told; 3] {
-    let plain = |agent| event(agent, no_fire(alloc), full());
-    [
-        ("agent of an event", are_told(plain(0), plain(0), plain(1))),
-        (
-            "answer of an event",
-            are_told(plain(0), plain(0), event(0, no_fire(alloc), fired(1))),
-        ),
-        (
-            "call of an event",
-            are_told(plain(0), plain(0), event(0, no_read(alloc), full())),
-        ),
-    ]
+/// Events whose call, answer or agent is another.
+fn event(alloc: Global, kind: u32) -> Result<Event, AllocError> {
+    let call = call(alloc, u32::from(kind == 1))?;
+    Ok(event_with(
+        call,
+        answer(alloc, u32::from(kind == 2))?,
+        u32::from(kind == 3),
+    ))
 }
 
-fn answers(alloc: Global) -> [Told; 3] {
-    [
-        (
-            "number of a read",
-            are_told(read_at(alloc, 0), read_at(alloc, 0), read_at(alloc, 1)),
-        ),
-        (
-            "number of a fired move",
-            are_told(fired(1), fired(1), fired(2)),
-        ),
-        (
-            "kind of a reply",
-            are_told(Reply::Full, Reply::Full, Reply::Fired(0)),
-        ),
-    ]
+/// Entries whose agent or move is another.
+fn entry(alloc: Global, kind: u32) -> Result<Entry, AllocError> {
+    let agent = u32::from(kind == 1);
+    let instrs = move_of(alloc, &[Put("x", i64::from(kind == 2))])?;
+    Ok(Entry { agent, instrs })
 }
 
-fn busy(from: u32, to: u32) -> FireError {
-    FireError::Busy { from, to }
+/// An opening state with this number at x, or with nothing for 0.
+fn opening(alloc: Global, n: i64) -> Result<PlainState, AllocError> {
+    let mut init = PlainState::new(alloc);
+    if n != 0 {
+        init.set(location(alloc, "x")?, number(n))?;
+    }
+    Ok(init)
 }
 
-fn errors() -> [Told; 3] {
-    [
-        (
-            "start of a busy fire",
-            are_told(busy(0, 64), busy(0, 64), busy(1, 64)),
-        ),
-        (
-            "end of a busy fire",
-            are_told(busy(0, 64), busy(0, 64), busy(0, 65)),
-        ),
-        (
-            "missing move",
-            are_told(
-                CloseError::Missing(1),
-                CloseError::Missing(1),
-                CloseError::Missing(2),
-            ),
-        ),
-    ]
+fn one_event(alloc: Global, kind: u32) -> Result<Vec<Event>, AllocError> {
+    let mut events = Vec::new(alloc);
+    events.push(event(alloc, kind)?)?;
+    Ok(events)
 }
 
-fn history(alloc: Global, capacity: u32, agents: u32) -> History {
-    History {
-        init: PlainState::new(alloc),
-        capacity,
-        agents,
-        events: Items::new(Vec::new(alloc)),
+/// No event, or one, or one of another agent.
+fn events(alloc: Global, kind: u32) -> Result<Vec<Event>, AllocError> {
+    match kind {
+        5 => one_event(alloc, 0),
+        6 => one_event(alloc, 3),
+        _ => Ok(Vec::new(alloc)),
     }
 }
 
-fn entry(alloc: Global, agent: u32) -> Entry {
-    let instrs = Instructions::new(alloc);
-    Entry { agent, instrs }
+fn history_with(init: PlainState, events: Vec<Event>, kind: u32) -> History {
+    History {
+        init,
+        capacity: if kind == 1 { 9 } else { 8 },
+        agents: if kind == 2 { 3 } else { 2 },
+        events: Items::new(events),
+    }
 }
 
-fn histories(alloc: Global) -> [Told; 3] {
-    let plain = || history(alloc, 8, 2);
-    [
-        (
-            "capacity of a history",
-            are_told(plain(), plain(), history(alloc, 9, 2)),
-        ),
-        (
-            "agents of a history",
-            are_told(plain(), plain(), history(alloc, 8, 3)),
-        ),
-        (
-            "agent of an entry",
-            are_told(entry(alloc, 0), entry(alloc, 0), entry(alloc, 1)),
-        ),
-    ]
-}
-
-fn stale(alloc: Global, name: &str) -> Result<Reply, Fail> {
-    Ok(Reply::Stale(location(alloc, name)?))
-}
-
-fn clash(alloc: Global, name: &str, cause: Cause) -> Result<Reply, Fail> {
-    let at = location(alloc, name)?;
-    Ok(Reply::Clash(Clash { at, cause }))
-}
-
-fn putting(alloc: Global, number: i64) -> Result<Call, Fail> {
-    Ok(fire(move_of(alloc, &[Put("x", number)])?, alloc))
-}
-
-fn locations_are_told(alloc: Global) -> Result<bool, Fail> {
-    let (first, same) = (stale(alloc, "x")?, stale(alloc, "x")?);
-    Ok(are_told(first, same, stale(alloc, "y")?))
-}
-
-fn clashes_are_told(alloc: Global, name: &str, cause: Cause) -> Result<bool, Fail> {
-    let first = clash(alloc, "x", Cause::Two)?;
-    let same = clash(alloc, "x", Cause::Two)?;
-    Ok(are_told(first, same, clash(alloc, name, cause)?))
-}
-
-fn moves_are_told(alloc: Global) -> Result<bool, Fail> {
-    let (first, same) = (putting(alloc, 1)?, putting(alloc, 1)?);
-    Ok(are_told(first, same, putting(alloc, 2)?))
+/// Histories whose capacity, agents, opening state or events are others.
+fn history(alloc: Global, kind: u32) -> Result<History, AllocError> {
+    let init = opening(
+        alloc,
+        i64::from(kind == 3 || kind == 4) + i64::from(kind == 4),
+    )?;
+    Ok(history_with(init, events(alloc, kind)?, kind))
 }
 
 #[test]
 fn one_part_that_differs_tells_values_apart(rt: HostRuntime) -> Result<(), Fail> {
     let alloc = rt.alloc();
-    for tolds in [
-        receipts(alloc),
-        events(alloc),
-        answers(alloc),
-        errors(),
-        histories(alloc),
-    ] {
-        for (what, is_told) in tolds {
-            assert!(rt; is_told, "{what}");
-        }
-    }
-    assert!(rt; locations_are_told(alloc)?, "location of a stale read");
-    assert!(rt;
-        clashes_are_told(alloc, "y", Cause::Two)?,
-        "location of a clash"
-    );
-    assert!(rt;
-        clashes_are_told(alloc, "x", Cause::Kind)?,
-        "cause of a clash"
-    );
-    assert!(rt; moves_are_told(alloc)?, "instructions of a fire");
-    Ok(())
-}
-
-fn value(number: i64) -> Value {
-    Value::Plain(Element::Num(number))
-}
-
-fn reading(alloc: Global, name: &'static str) -> Result<Call, Fail> {
-    Ok(Call::Read(Items::new(places_of(alloc, &[name])?)))
-}
-
-fn places_are_told(alloc: Global) -> Result<bool, Fail> {
-    let (first, same) = (reading(alloc, "x")?, reading(alloc, "x")?);
-    Ok(are_told(first, same, reading(alloc, "y")?))
-}
-
-fn naming(alloc: Global, number: u32) -> Result<Call, Fail> {
-    let reads = Items::new(named_of(alloc, &[At("x", number)])?);
-    let instrs = Instructions::new(alloc);
-    Ok(Call::Fire { reads, instrs })
-}
-
-fn named_reads_are_told(alloc: Global) -> Result<bool, Fail> {
-    let (first, same) = (naming(alloc, 1)?, naming(alloc, 1)?);
-    Ok(are_told(first, same, naming(alloc, 2)?))
-}
-
-fn told_value(alloc: Global, number: i64) -> Result<Answer, Fail> {
-    let values = Items::new(vec![in alloc; value(number)]?);
-    Ok(Answer::Read { number: 0, values })
-}
-
-fn values_are_told(alloc: Global) -> Result<bool, Fail> {
-    let (first, same) = (told_value(alloc, 1)?, told_value(alloc, 1)?);
-    Ok(are_told(first, same, told_value(alloc, 2)?))
-}
-
-fn putting_entry(alloc: Global, number: i64) -> Result<Entry, Fail> {
-    let instrs = move_of(alloc, &[Put("x", number)])?;
-    Ok(Entry { agent: 0, instrs })
-}
-
-fn entries_are_told(alloc: Global) -> Result<bool, Fail> {
-    let (first, same) = (putting_entry(alloc, 1)?, putting_entry(alloc, 1)?);
-    Ok(are_told(first, same, putting_entry(alloc, 2)?))
-}
-
-fn opened_with(alloc: Global, number: i64) -> Result<History, Fail> {
-    let mut init = PlainState::new(alloc);
-    init.set(location(alloc, "x")?, value(number))?;
-    let events = Items::new(Vec::new(alloc));
-    Ok(History {
-        init,
-        capacity: 8,
-        agents: 2,
-        events,
-    })
-}
-
-fn openings_are_told(alloc: Global) -> Result<bool, Fail> {
-    let (first, same) = (opened_with(alloc, 1)?, opened_with(alloc, 1)?);
-    Ok(are_told(first, same, opened_with(alloc, 2)?))
-}
-
-fn of_one_event(alloc: Global, agent: u32) -> Result<History, Fail> {
-    let event = event(agent, no_fire(alloc), full());
-    let events = Items::new(vec![in alloc; event]?);
-    Ok(History {
-        init: PlainState::new(alloc),
-        capacity: 8,
-        agents: 2,
-        events,
-    })
-}
-
-fn listed_events_are_told(alloc: Global) -> Result<bool, Fail> {
-    let (first, same) = (of_one_event(alloc, 0)?, of_one_event(alloc, 0)?);
-    Ok(are_told(first, same, of_one_event(alloc, 1)?))
-}
-
-#[test]
-fn one_item_that_differs_tells_values_apart(rt: HostRuntime) -> Result<(), Fail> {
-    let alloc = rt.alloc();
-    assert!(rt; places_are_told(alloc)?, "locations of a read");
-    assert!(rt; named_reads_are_told(alloc)?, "named reads of a fire");
-    assert!(rt; values_are_told(alloc)?, "values that were read");
-    assert!(rt; entries_are_told(alloc)?, "instructions of an entry");
-    assert!(rt; openings_are_told(alloc)?, "opening state of a history");
-    assert!(rt; listed_events_are_told(alloc)?, "events of a history");
+    assert!(rt; are_apart(alloc, 9, call)?, "calls");
+    assert!(rt; are_apart(alloc, 8, reply)?, "replies");
+    assert!(rt; are_apart(alloc, 12, answer)?, "answers");
+    assert!(rt; are_apart(alloc, 4, receipt)?, "receipts");
+    assert!(rt; are_apart(alloc, 4, event)?, "events");
+    assert!(rt; are_apart(alloc, 3, entry)?, "entries");
+    assert!(rt; are_apart(alloc, 7, history)?, "histories");
     Ok(())
 }

@@ -2,13 +2,14 @@
 ghost use Rattle.std.specs.Prelude.{◌≡◌, IfOk};
 ghost use Rattle.asm_storage.specs.Storage.{IsSameAgent};
 
+use crate::asked::{location, move_at, places_of};
 use crate::closings::Closing;
-use crate::two_agents::{Standard, Two, location, places_of, storage_of};
-use crate::workers::{first_fires, puts, second_fires, two_with};
-use asm_aggregate::standard;
-use asm_element::{ElemBag, Element, Location, Value};
-use asm_storage::{Agent, Answer, ReadError, Reading, Receipt, Reply, Storage};
-use asm_update::{Action, Amount, Instruction, Instructions, PlainState};
+use crate::performing::Standard;
+use crate::two_agents::{Two, storage_of, storage_with};
+use crate::workers::{fires_as, puts, two_with};
+use asm_element::{ElemBag, Element, Value};
+use asm_storage::{Agent, Answer, Reading, Receipt, Reply, Storage};
+use asm_update::{Action, Amount, Instructions, PlainState};
 use std::alloc::{AllocError, Global};
 use std::test::Fail;
 use std::thread;
@@ -25,10 +26,10 @@ fn both_fire<'s, R: Threads>(
         rt,
         move || -> Result<Agent<'_, Standard>, AllocError>
             ensures { IfOk result (λ a. (a.storage ≡ storage.entry.now) × (a.account.id ≡ 0)) }
-        { first_fires(alloc, storage, moves) },
+        { fires_as(alloc, storage, 0, moves) },
         move || -> Result<Agent<'_, Standard>, AllocError>
             ensures { IfOk result (λ a. (a.storage ≡ storage.entry.now) × (a.account.id ≡ 1)) }
-        { second_fires(alloc, storage, moves) },
+        { fires_as(alloc, storage, 1, moves) },
     );
     Ok(two_with(storage, a?, b?))
 }
@@ -39,30 +40,21 @@ fn wins(two: &Two<'_>) -> (u32, u32) {
 }
 
 /// An opening state where b is an empty bag.
-fn opened_with_bag(alloc: Global) -> Result<PlainState, Fail> {
+fn opened_with_bag(alloc: Global) -> Result<PlainState, AllocError> {
     let mut init = PlainState::new(alloc);
     init.set(location(alloc, "b")?, Value::Bag(ElemBag::new(alloc)))?;
     Ok(init)
 }
 
-/// A storage where b is an empty bag.
-fn with_bag(alloc: Global) -> Result<Storage<Standard>, Fail> {
-    let init = opened_with_bag(alloc)?;
-    Ok(Storage::new(alloc, standard(), init, 200)?)
-}
-
 /// A move that adds one 5 to the bag b.
-fn addition(alloc: Global) -> Result<Instructions, Fail> {
-    let mut instrs = Instructions::new(alloc);
-    let at = location(alloc, "b")?;
-    if let Some(one) = Amount::new(1) {
-        let action = Action::BagAdd(Element::Num(5), one);
-        instrs.push(Instruction { at, action })?;
+fn addition(alloc: Global) -> Result<Instructions, AllocError> {
+    match Amount::new(1) {
+        Some(one) => move_at(alloc, "b", Action::BagAdd(Element::Num(5), one)),
+        None => Err(AllocError),
     }
-    Ok(instrs)
 }
 
-fn additions(alloc: Global) -> Result<Vec<Instructions>, Fail> {
+fn additions(alloc: Global) -> Result<Vec<Instructions>, AllocError> {
     let mut moves = Vec::new(alloc);
     for _ in 0..100 {
         let instrs = addition(alloc)?;
@@ -86,24 +78,26 @@ fn is_bag_of(reading: &Reading, number: u32) -> bool {
     }
 }
 
+/// Whether the agent reads that many 5 in the bag, after as many moves.
 fn reads_bag(
     alloc: Global,
     agent: &mut Agent<'_, Standard>,
-    places: &[Location],
     number: u32,
-) -> Result<bool, ReadError>
+) -> Result<bool, AllocError>
     ensures { IsSameAgent agent.old agent.new }
 {
-    let reading = agent.read(alloc, places)?;
-    Ok(is_bag_of(&reading, number))
+    let places = places_of(alloc, &["b"])?;
+    match agent.read(alloc, &places) {
+        Ok(reading) => Ok(is_bag_of(&reading, number)),
+        Err(_) => Err(AllocError),
+    }
 }
 
 /// Whether the two agents have fired 100 additions each.
-fn is_added(alloc: Global, mut two: Two<'_>) -> Result<bool, Fail> {
-    let places = places_of(alloc, &["b"])?;
-    let is_read = reads_bag(alloc, &mut two.a, &places, 200)?;
+fn is_added(alloc: Global, mut two: Two<'_>) -> Result<bool, AllocError> {
+    let is_read = reads_bag(alloc, &mut two.a, 200)?;
     let is_won = wins(&two) == (100, 100);
-    Ok(is_read && is_won && two.closes_in_the_end(alloc, Closing::Counted(200, 201))?)
+    Ok(is_read && is_won && two.closes_both(alloc, Closing::Counted(200, 201)))
 }
 
 /// Whether two agents on threads of their own fire 100 additions each.
@@ -111,7 +105,7 @@ fn adds_by_two<R: Threads>(
     rt: &R,
     alloc: Global,
     storage: &Storage<Standard>,
-) -> Result<bool, Fail> {
+) -> Result<bool, AllocError> {
     let moves = additions(alloc)?;
     is_added(alloc, both_fire(rt, alloc, storage, &moves)?)
 }
@@ -119,7 +113,7 @@ fn adds_by_two<R: Threads>(
 #[test]
 fn additions_of_two_threads_are_all_fired(rt: HostRuntime) -> Result<(), Fail> {
     let alloc = rt.alloc();
-    let storage = with_bag(alloc)?;
+    let storage = storage_with(alloc, opened_with_bag(alloc)?, 200)?;
     assert!(&rt; adds_by_two(&rt, alloc, &storage)?);
     Ok(())
 }
@@ -146,19 +140,27 @@ fn is_answered_once(agent: &Agent<'_, Standard>) -> bool {
 }
 
 /// Whether one of the two agents has fired, and the other found the storage full.
-fn is_one_fired(alloc: Global, two: Two<'_>) -> Result<bool, AllocError> {
-    let is_answered = is_answered_once(&two.a) && is_answered_once(&two.b);
-    let is_one = matches!(wins(&two), (0, 1) | (1, 0));
-    let closes = two.closes_in_the_end(alloc, Closing::Counted(1, 2))?;
-    Ok(is_answered && is_one && closes)
+fn is_one_fired(alloc: Global, two: Two<'_>) -> bool {
+    is_answered_once(&two.a)
+        && is_answered_once(&two.b)
+        && matches!(wins(&two), (0, 1) | (1, 0))
+        && two.closes_both(alloc, Closing::Counted(1, 2))
+}
+
+/// Whether that is so of two agents that fire one move each, on threads of their own.
+fn fires_last<R: Threads>(
+    rt: &R,
+    alloc: Global,
+    storage: &Storage<Standard>,
+) -> Result<bool, AllocError> {
+    let moves = puts(alloc, 1)?;
+    Ok(is_one_fired(alloc, both_fire(rt, alloc, storage, &moves)?))
 }
 
 #[test]
 fn last_place_is_fired_by_one_of_two_threads(rt: HostRuntime) -> Result<(), Fail> {
     let alloc = rt.alloc();
     let storage = storage_of(alloc, None, 1)?;
-    let moves = puts(alloc, 1)?;
-    let two = both_fire(&rt, alloc, &storage, &moves)?;
-    assert!(&rt; is_one_fired(alloc, two)?);
+    assert!(&rt; fires_last(&rt, alloc, &storage)?);
     Ok(())
 }

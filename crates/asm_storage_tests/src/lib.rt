@@ -6,9 +6,15 @@ mod agent_parts;
 #[cfg(test)]
 mod answers_and_marks;
 #[cfg(test)]
+mod asked;
+#[cfg(test)]
 mod closings;
 #[cfg(test)]
+mod contests;
+#[cfg(test)]
 mod equality;
+#[cfg(test)]
+mod errors;
 #[cfg(test)]
 mod fires_on_threads;
 #[cfg(test)]
@@ -24,15 +30,19 @@ mod named_readings;
 #[cfg(test)]
 mod opening_state;
 #[cfg(test)]
+mod performing;
+#[cfg(test)]
 mod plain_histories;
 #[cfg(test)]
 mod plain_moves;
 #[cfg(test)]
 mod reads_on_threads;
 #[cfg(test)]
-mod rival_fires;
+mod telling;
 #[cfg(test)]
 mod two_agents;
+#[cfg(test)]
+mod wide_moves;
 #[cfg(test)]
 mod workers;
 #[cfg(test)]

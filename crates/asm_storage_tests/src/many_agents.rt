@@ -5,7 +5,10 @@ ghost use Rattle.std.specs.List.Sorted.{IsStrictlyIncreasing};
 ghost use Rattle.asm_storage.specs.Agents.{ids};
 ghost use Rattle.asm_storage.specs.Storage.{accounts, at_start, IsOf, IsSameAgent};
 
-use crate::two_agents::{Put, Standard, move_of, storage_of};
+use crate::asked::{Put, move_of};
+use crate::closings::holds;
+use crate::performing::Standard;
+use crate::two_agents::storage_of;
 use asm_storage::{Agent, Answer, CloseError, Event, History, Reply, Storage};
 use asm_update::Instructions;
 use std::alloc::{AllocError, Global};
@@ -97,7 +100,8 @@ fn closes_right(
     requires storages { map (λ a. a.storage) agents.items ≡ map (λ _. storage.now) (range_with_len 0 256) }
     requires ids { map (λ a. a.account.id) agents.items ≡ range_with_len 0 256 }
 {
-    is_right(storage.close(alloc, &agents))
+    let is_closed = is_right(storage.close(alloc, &agents))?;
+    Ok(is_closed && holds(alloc, storage, 2))
 }
 
 fn closes_after_calls(
@@ -112,10 +116,12 @@ fn closes_after_calls(
     closes_right(alloc, storage, called)
 }
 
-fn closes_all(alloc: Global, storage: &Storage<Standard>) -> Result<bool, Fail> {
+fn closes_all(alloc: Global, storage: &Storage<Standard>) -> Result<bool, AllocError> {
     let instrs = move_of(alloc, &[Put("x", 1)])?;
-    let agents = storage.agents(alloc, 256)?;
-    Ok(closes_after_calls(alloc, storage, agents, &instrs)?)
+    match storage.agents(alloc, 256) {
+        Ok(agents) => closes_after_calls(alloc, storage, agents, &instrs),
+        Err(_) => Err(AllocError),
+    }
 }
 
 #[test]

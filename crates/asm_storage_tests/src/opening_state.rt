@@ -1,8 +1,9 @@
 //! Agents share the opening state, and none of their moves changes it for another.
+use crate::asked::{Act, At, Put, Want};
 use crate::closings::Closing;
-use crate::two_agents::{Act, AgentStep, At, Case, Put, Want, Who, check_all};
+use crate::two_agents::{Case, Step, Who, check_all};
 use Act::{Clear, Fire, Read};
-use AgentStep::Ask;
+use Step::Ask;
 use Who::{A, B};
 use std::test::Fail;
 

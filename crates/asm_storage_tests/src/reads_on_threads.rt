@@ -2,11 +2,13 @@
 ghost use Rattle.std.specs.Prelude.{◌≡◌, All, IfOk};
 ghost use Rattle.asm_storage.specs.Storage.{IsSameAgent};
 
+use crate::asked::places_of;
 use crate::closings::Closing;
-use crate::two_agents::{Standard, Two, places_of, storage_of};
+use crate::performing::Standard;
+use crate::two_agents::{Two, storage_of};
 use crate::workers::{first_marks, is_put, puts, second_reads, two_with};
 use asm_element::Location;
-use asm_storage::{Agent, Answer, Mark, ReadError, Receipt, Storage};
+use asm_storage::{Agent, Answer, Mark, Receipt, Storage};
 use asm_update::Instructions;
 use std::alloc::{AllocError, Global};
 use std::test::Fail;
@@ -60,11 +62,13 @@ fn reads_at_least(
     agent: &mut Agent<'_, Standard>,
     places: &[Location],
     moves: u32,
-) -> Result<bool, ReadError>
+) -> Result<bool, AllocError>
     ensures { IsSameAgent agent.old agent.new }
 {
-    let reading = agent.read(alloc, places)?;
-    Ok(moves <= reading.number())
+    match agent.read(alloc, places) {
+        Ok(reading) => Ok(moves <= reading.number()),
+        Err(_) => Err(AllocError),
+    }
 }
 
 /// Whether a read that has learnt the mark tells at least as many moves as the mark holds.
@@ -73,7 +77,7 @@ fn reads_mark(
     agent: &mut Agent<'_, Standard>,
     mark: &Mark,
     places: &[Location],
-) -> Result<bool, ReadError>
+) -> Result<bool, AllocError>
     requires { mark.now.row ≡ agent.old.storage.row }
     ensures { IsSameAgent agent.old agent.new }
 {
@@ -87,7 +91,7 @@ fn reads_each_mark(
     agent: &mut Agent<'_, Standard>,
     marks: &[Mark],
     places: &[Location],
-) -> Result<bool, ReadError>
+) -> Result<bool, AllocError>
     requires { All (λ m. m.row ≡ agent.old.storage.row) marks.now }
     ensures { IsSameAgent agent.old agent.new }
 {
@@ -107,13 +111,13 @@ fn is_never_falling(
     mut two: Two<'_>,
     marks: &[Mark],
     places: &[Location],
-) -> Result<bool, Fail>
+) -> Result<bool, AllocError>
     requires { All (λ m. m.row ≡ two.b.storage.row) marks.now }
 {
     let is_read = marks.len() == 100 && reads_each_mark(alloc, &mut two.b, marks, places)?;
     let receipts = two.b.receipts();
     let never_falls = receipts.len() == 200 && never_fall(receipts);
-    Ok(is_read && never_falls && two.closes_in_the_end(alloc, Closing::Counted(100, 300))?)
+    Ok(is_read && never_falls && two.closes_both(alloc, Closing::Counted(100, 300)))
 }
 
 /// Whether the reads of one agent never fall beside the other one, which fires the moves.
@@ -123,7 +127,7 @@ fn reads_beside<R: Threads>(
     storage: &Storage<Standard>,
     moves: &[Instructions],
     places: &[Location],
-) -> Result<bool, Fail> {
+) -> Result<bool, AllocError> {
     let (two, marks) = mark_and_read(rt, alloc, storage, moves, places)?;
     is_never_falling(alloc, two, &marks, places)
 }
@@ -133,7 +137,7 @@ fn reads_beside_moves<R: Threads>(
     alloc: Global,
     storage: &Storage<Standard>,
     moves: &[Instructions],
-) -> Result<bool, Fail> {
+) -> Result<bool, AllocError> {
     let places = places_of(alloc, &["x"])?;
     reads_beside(rt, alloc, storage, moves, &places)
 }
@@ -142,7 +146,7 @@ fn reads_beside_puts<R: Threads>(
     rt: &R,
     alloc: Global,
     storage: &Storage<Standard>,
-) -> Result<bool, Fail> {
+) -> Result<bool, AllocError> {
     let moves = puts(alloc, 100)?;
     reads_beside_moves(rt, alloc, storage, &moves)
 }

@@ -1,13 +1,14 @@
 //! What an agent does on a thread of its own. Where memory is refused, it ends with `AllocError`.
-ghost use Rattle.std.specs.Prelude.{◌≡◌, All, IfOk};
+ghost use Rattle.std.specs.Prelude.{◌≡◌, ◌<◌, All, IfOk};
 ghost use Rattle.asm_storage.specs.Storage.{IsSameAgent};
 
-use crate::two_agents::{Put, Standard, Two, move_of};
-use asm_element::{Element, Location, Value};
+use crate::asked::{Put, is_number, move_of};
+use crate::performing::Standard;
+use crate::two_agents::Two;
+use asm_element::{Location, Value};
 use asm_storage::{Agent, FireError, Mark, ReadError, Storage};
 use asm_update::Instructions;
 use std::alloc::{AllocError, Global};
-use std::test::Fail;
 
 /// Whether the fire was answered.
 fn is_answered(
@@ -109,64 +110,17 @@ fn reads_often(
     Ok(())
 }
 
-/// An agent with the number 0.
-pub(crate) fn first_agent(
-    alloc: Global,
-    storage: &Storage<Standard>,
-) -> Result<Agent<'_, Standard>, AllocError>
-    ensures { IfOk result (λ a. (a.storage ≡ storage.now) × (a.account.id ≡ 0)) }
-{
-    match storage.agents(alloc, 1) {
-        Ok(mut agents) => agents.pop().ok_or(AllocError),
-        Err(_) => Err(AllocError),
-    }
-}
-
-/// An agent with the number 1.
-pub(crate) fn second_agent(
-    alloc: Global,
-    storage: &Storage<Standard>,
-) -> Result<Agent<'_, Standard>, AllocError>
-    ensures { IfOk result (λ a. (a.storage ≡ storage.now) × (a.account.id ≡ 1)) }
-{
-    match storage.agents(alloc, 2) {
-        Ok(mut agents) => agents.pop().ok_or(AllocError),
-        Err(_) => Err(AllocError),
-    }
-}
-
-/// An agent with the number 2.
-pub(crate) fn third_agent(
-    alloc: Global,
-    storage: &Storage<Standard>,
-) -> Result<Agent<'_, Standard>, AllocError>
-    ensures { IfOk result (λ a. (a.storage ≡ storage.now) × (a.account.id ≡ 2)) }
-{
-    storage.agent_at(alloc, 2)
-}
-
-/// The agent with the number 0, when it has fired each of the moves.
-pub(crate) fn first_fires<'s>(
+/// The agent with this number, when it has fired each of the moves.
+pub(crate) fn fires_as<'s>(
     alloc: Global,
     storage: &'s Storage<Standard>,
+    id: u32,
     moves: &[Instructions],
 ) -> Result<Agent<'s, Standard>, AllocError>
-    ensures { IfOk result (λ a. (a.storage ≡ storage.now) × (a.account.id ≡ 0)) }
+    requires { id < 256 }
+    ensures { IfOk result (λ a. (a.storage ≡ storage.now) × (a.account.id ≡ id)) }
 {
-    let mut agent = first_agent(alloc, storage)?;
-    fires_each(alloc, &mut agent, moves)?;
-    Ok(agent)
-}
-
-/// The agent with the number 1, when it has fired each of the moves.
-pub(crate) fn second_fires<'s>(
-    alloc: Global,
-    storage: &'s Storage<Standard>,
-    moves: &[Instructions],
-) -> Result<Agent<'s, Standard>, AllocError>
-    ensures { IfOk result (λ a. (a.storage ≡ storage.now) × (a.account.id ≡ 1)) }
-{
-    let mut agent = second_agent(alloc, storage)?;
+    let mut agent = storage.agent_at(alloc, id)?;
     fires_each(alloc, &mut agent, moves)?;
     Ok(agent)
 }
@@ -180,7 +134,7 @@ pub(crate) fn first_marks<'s>(
     ensures agent { IfOk result (λ r. (r.0.storage ≡ storage.now) × (r.0.account.id ≡ 0)) }
     ensures marks { IfOk result (λ r. All (λ m. m.row ≡ storage.now.row) r.1.items) }
 {
-    let mut agent = first_agent(alloc, storage)?;
+    let mut agent = storage.agent_at(alloc, 0)?;
     let marks = marks_each(alloc, &mut agent, moves)?;
     Ok((agent, marks))
 }
@@ -193,7 +147,7 @@ pub(crate) fn second_reads<'s>(
 ) -> Result<Agent<'s, Standard>, AllocError>
     ensures { IfOk result (λ a. (a.storage ≡ storage.now) × (a.account.id ≡ 1)) }
 {
-    let mut agent = second_agent(alloc, storage)?;
+    let mut agent = storage.agent_at(alloc, 1)?;
     reads_often(alloc, &mut agent, places, 100)?;
     Ok(agent)
 }
@@ -211,7 +165,7 @@ pub(crate) fn two_with<'s>(
 }
 
 /// The moves that put 1, 2 and so on at x.
-pub(crate) fn puts(alloc: Global, times: i64) -> Result<Vec<Instructions>, Fail> {
+pub(crate) fn puts(alloc: Global, times: i64) -> Result<Vec<Instructions>, AllocError> {
     let mut moves = Vec::new(alloc);
     for k in 0..times {
         let instrs = move_of(alloc, &[Put("x", k.saturating_add(1))])?;
@@ -223,8 +177,7 @@ pub(crate) fn puts(alloc: Global, times: i64) -> Result<Vec<Instructions>, Fail>
 /// Whether x has this number, or nothing at 0.
 pub(crate) fn is_put(value: Option<&Value>, number: i64) -> bool {
     match value {
-        Some(Value::Plain(Element::Num(n))) => *n == number,
-        Some(Value::Plain(Element::Undef)) => number == 0,
-        _ => false,
+        Some(value) => is_number(value, number) || (number == 0 && value.is_undef()),
+        None => false,
     }
 }

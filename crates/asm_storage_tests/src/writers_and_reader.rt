@@ -2,8 +2,11 @@
 ghost use Rattle.std.specs.Prelude.{◌≡◌, IfOk};
 ghost use Rattle.asm_storage.specs.Storage.{IsSameAgent};
 
-use crate::two_agents::{Standard, places_of, storage_of};
-use crate::workers::{fires, first_fires, is_put, puts, read_once, second_agent, third_agent};
+use crate::asked::places_of;
+use crate::closings::holds;
+use crate::performing::Standard;
+use crate::two_agents::storage_of;
+use crate::workers::{fires, fires_as, is_put, puts, read_once};
 use asm_element::{Element, Location, Value};
 use asm_storage::{Agent, Answer, Call, CloseError, Event, History, Reply, Storage};
 use asm_update::{Action, Instructions};
@@ -40,8 +43,8 @@ fn fire_and_read<'s>(
     ensures writer { IfOk result (λ r. (r.0.storage ≡ storage.now) × (r.0.account.id ≡ 1)) }
     ensures reader { IfOk result (λ r. (r.1.storage ≡ storage.now) × (r.1.account.id ≡ 2)) }
 {
-    let mut writer = second_agent(alloc, storage)?;
-    let mut reader = third_agent(alloc, storage)?;
+    let mut writer = storage.agent_at(alloc, 1)?;
+    let mut reader = storage.agent_at(alloc, 2)?;
     fires_and_reads(alloc, &mut writer, &mut reader, moves, places)?;
     Ok((writer, reader))
 }
@@ -104,7 +107,8 @@ fn closes_right(
 {
     let (second, third) = others;
     let agents = [first, second, third];
-    is_right(storage.close(alloc, &agents))
+    let is_closed = is_right(storage.close(alloc, &agents))?;
+    Ok(is_closed && holds(alloc, storage, 200))
 }
 
 /// Whether that is so where the first agent fires the moves on a thread of its own, beside the second, which fires
@@ -120,7 +124,7 @@ fn write_beside_reads<R: Threads>(
         rt,
         move || -> Result<Agent<'_, Standard>, AllocError>
             ensures { IfOk result (λ a. (a.storage ≡ storage.entry.now) × (a.account.id ≡ 0)) }
-        { first_fires(alloc, storage, moves) },
+        { fires_as(alloc, storage, 0, moves) },
         move || -> Result<(Agent<'_, Standard>, Agent<'_, Standard>), AllocError>
             ensures writer { IfOk result (λ r. (r.0.storage ≡ storage.entry.now) × (r.0.account.id ≡ 1)) }
             ensures reader { IfOk result (λ r. (r.1.storage ≡ storage.entry.now) × (r.1.account.id ≡ 2)) }

@@ -4,7 +4,12 @@ use asm_update::{
     AggError, Amount, Cause, Clash, Family, InstructionsError, JoinError, ResultError,
 };
 use std::alloc::Global;
+use std::fmt::Display;
 use std::test::Fail;
+
+fn has_text<T: Display>(alloc: Global, shown: &T, text: &str) -> Result<bool, Fail> {
+    Ok(shown.to_string(alloc)?.as_str() == text)
+}
 
 static CAUSES: [(Cause, &str); 7] = [
     (Cause::Two, "two different regular values"),
@@ -25,7 +30,7 @@ static CAUSES: [(Cause, &str); 7] = [
 #[test]
 fn each_cause_is_told_in_words(rt: HostRuntime) -> Result<(), Fail> {
     for (cause, want) in CAUSES {
-        assert!(rt; cause.to_string(rt.alloc())?.as_str() == want, "{want}");
+        assert!(rt; has_text(rt.alloc(), &cause, want)?, "{want}");
     }
     Ok(())
 }
@@ -91,47 +96,63 @@ static CLASHES: [(&str, Cause); 4] = [
     ("y", Cause::Kind),
 ];
 
+fn clashes(alloc: Global) -> Result<Vec<Clash>, Fail> {
+    let mut clashes = Vec::new(alloc);
+    for (name, cause) in CLASHES {
+        let clash = clash_at(alloc, name, cause)?;
+        clashes.push(clash)?;
+    }
+    Ok(clashes)
+}
+
 #[test]
 fn clashes_are_equal_by_location_and_cause(rt: HostRuntime) -> Result<(), Fail> {
-    let mut clashes = Vec::new(rt.alloc());
-    for (name, cause) in CLASHES {
-        clashes.push(clash_at(rt.alloc(), name, cause)?)?;
-    }
+    let clashes = clashes(rt.alloc())?;
     assert!(rt; clashes.len() == 4 && are_told_apart(&clashes));
     Ok(())
 }
 
+/// An error for each clash, and refused memory.
+fn errors_of_moves(alloc: Global) -> Result<Vec<AggError>, Fail> {
+    let mut errors = vec![in alloc; AggError::Memory]?;
+    for clash in clashes(alloc)? {
+        errors.push(AggError::Clash(clash))?;
+    }
+    Ok(errors)
+}
+
 #[test]
 fn errors_of_moves_are_equal_by_their_clash(rt: HostRuntime) -> Result<(), Fail> {
-    let mut errors = Vec::new(rt.alloc());
-    for (name, cause) in CLASHES {
-        errors.push(AggError::Clash(clash_at(rt.alloc(), name, cause)?))?;
-    }
-    errors.push(AggError::Memory)?;
+    let errors = errors_of_moves(rt.alloc())?;
     assert!(rt; errors.len() == 5 && are_told_apart(&errors));
     Ok(())
 }
 
+fn has_clash_text(alloc: Global, name: &str, cause: Cause, text: &str) -> Result<bool, Fail> {
+    has_text(alloc, &AggError::Clash(clash_at(alloc, name, cause)?), text)
+}
+
+static TEXTS_OF_JOINS: [(JoinError, &str); 3] = [
+    (
+        JoinError::Cause(Cause::Both),
+        "the updates of a location have no result: an element both added and removed",
+    ),
+    (JoinError::Large, "a joined amount or sum is too large"),
+    (JoinError::Memory, "out of memory"),
+];
+
 #[test]
 fn errors_have_their_texts(rt: HostRuntime) -> Result<(), Fail> {
     let alloc = rt.alloc();
-    let full = InstructionsError::ManyInstructions.to_string(alloc)?;
-    assert!(rt; full.as_str() == "more than 4,096 instructions");
-    let clash = AggError::Clash(clash_at(alloc, "x", Cause::Two)?).to_string(alloc)?;
-    assert!(rt; clash.as_str() == "the updates clash at x: two different regular values");
-    let result = ResultError::Cause(Cause::Kind).to_string(alloc)?;
-    let want =
+    let full = "more than 4,096 instructions";
+    assert!(rt; has_text(alloc, &InstructionsError::ManyInstructions, full)?);
+    let clash = "the updates clash at x: two different regular values";
+    assert!(rt; has_clash_text(alloc, "x", Cause::Two, clash)?);
+    let result =
         "the updates of a location have no result: partial updates of a value that isn't of their kind";
-    assert!(rt; result.as_str() == want);
-    for (error, want) in [
-        (
-            JoinError::Cause(Cause::Both),
-            "the updates of a location have no result: an element both added and removed",
-        ),
-        (JoinError::Large, "a joined amount or sum is too large"),
-        (JoinError::Memory, "out of memory"),
-    ] {
-        assert!(rt; error.to_string(alloc)?.as_str() == want, "{want}");
+    assert!(rt; has_text(alloc, &ResultError::Cause(Cause::Kind), result)?);
+    for (error, want) in TEXTS_OF_JOINS {
+        assert!(rt; has_text(alloc, &error, want)?, "{want}");
     }
     Ok(())
 }
@@ -140,8 +161,8 @@ fn errors_have_their_texts(rt: HostRuntime) -> Result<(), Fail> {
 fn refused_memory_has_one_text(rt: HostRuntime) -> Result<(), Fail> {
     let alloc = rt.alloc();
     let want = "out of memory";
-    assert!(rt; InstructionsError::Memory.to_string(alloc)?.as_str() == want);
-    assert!(rt; AggError::Memory.to_string(alloc)?.as_str() == want);
-    assert!(rt; ResultError::Memory.to_string(alloc)?.as_str() == want);
+    assert!(rt; has_text(alloc, &InstructionsError::Memory, want)?);
+    assert!(rt; has_text(alloc, &AggError::Memory, want)?);
+    assert!(rt; has_text(alloc, &ResultError::Memory, want)?);
     Ok(())
 }

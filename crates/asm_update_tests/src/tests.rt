@@ -3,8 +3,8 @@ ghost use Rattle.asm_update.specs.Move.{all_regular};
 
 use asm_element::{Element, Location, Value};
 use asm_update::{
-    Action, AggError, Amount, Cause, Clash, Family, Group, INSTRUCTIONS_LIMIT, Instruction,
-    Instructions, InstructionsError, Lookup, PlainState, UpdateSet, consistent, fire_plain,
+    Action, AggError, Amount, Cause, Clash, Family, INSTRUCTIONS_LIMIT, Instruction, Instructions,
+    InstructionsError, Lookup, PlainState, consistent, fire_plain,
 };
 use std::alloc::{AllocError, Global};
 use std::test::Fail;
@@ -30,7 +30,7 @@ pub(crate) fn location(alloc: Global, name: &str, args: &[i64]) -> Result<Locati
     Ok(Location::new(String::from_str(alloc, name)?, elements)?)
 }
 
-fn value(number: Option<i64>) -> Value {
+pub(crate) fn value(number: Option<i64>) -> Value {
     match number {
         Some(n) => Value::Plain(Element::Num(n)),
         None => Value::Plain(Element::Undef),
@@ -62,7 +62,7 @@ fn list_of(alloc: Global, updates: &[(&'static str, Update)]) -> Result<Instruct
     Ok(list)
 }
 
-fn set(
+pub(crate) fn set(
     alloc: Global,
     state: &mut PlainState,
     name: &str,
@@ -126,10 +126,9 @@ fn clashes_at(
 fn only_clashes_at(alloc: Global, list: &Instructions, name: &str) -> Result<bool, Fail>
     requires { IsTrue (all_regular list.now) }
 {
-    let before = state_with(alloc, "x", 7)?;
     let mut state = state_with(alloc, "x", 7)?;
     let clashes = clashes_at(alloc, &mut state, list, name)?;
-    Ok(clashes && state == before)
+    Ok(clashes && state == state_with(alloc, "x", 7)?)
 }
 
 fn is_inconsistent_at(list: &Instructions, name: &str) -> bool {
@@ -154,20 +153,18 @@ fn two_clashes_answer_the_least_location(rt: HostRuntime) -> Result<(), Fail> {
     Ok(())
 }
 
-fn is_undef<L: Lookup>(alloc: Global, lookup: &L, name: &str) -> Result<bool, Fail> {
+pub(crate) fn is_undef<L: Lookup>(alloc: Global, lookup: &L, name: &str) -> Result<bool, Fail> {
     let at = location(alloc, name, &[])?;
     Ok(lookup.get(&at).is_none())
 }
 
-/// Whether firing on x = 1 leaves y = 2 alone.
-fn fires_to_y(alloc: Global, list: &Instructions) -> Result<bool, Fail>
+/// Whether firing on x = 1 leaves this number at that name alone.
+fn fires_to(alloc: Global, list: &Instructions, name: &str, number: i64) -> Result<bool, Fail>
     requires { IsTrue (all_regular list.now) }
 {
-    let after = state_with(alloc, "y", 2)?;
     let mut state = state_with(alloc, "x", 1)?;
     fire_plain(alloc, &mut state, list)?;
-    let is_out = is_undef(alloc, &state, "x")?;
-    Ok(is_out && state == after && state.len() == 1)
+    Ok(state.len() == 1 && state == state_with(alloc, name, number)?)
 }
 
 #[test]
@@ -175,7 +172,14 @@ fn firing_writes_values_and_takes_undef_out(rt: HostRuntime) -> Result<(), Fail>
     let puts = [("x", Update::Put(None)), ("y", Update::Put(Some(2)))];
     let list = list_of(rt.alloc(), &puts)?;
     assert!(rt; list.all_regular());
-    assert!(rt; fires_to_y(rt.alloc(), &list)?);
+    assert!(rt; fires_to(rt.alloc(), &list, "y", 2)?);
+    Ok(())
+}
+
+#[test]
+fn firing_nothing_changes_nothing(rt: HostRuntime) -> Result<(), Fail> {
+    let list = Instructions::new(rt.alloc());
+    assert!(rt; list.all_regular() && fires_to(rt.alloc(), &list, "x", 1)?);
     Ok(())
 }
 
@@ -190,7 +194,6 @@ fn equal_values_and_partial_updates_are_consistent(rt: HostRuntime) -> Result<()
     let list = list_of(rt.alloc(), &updates)?;
     assert!(rt; consistent(&list).is_none() && !list.all_regular());
     assert!(rt; list.len() == 4 && list.get(2).action == Action::SetAdd(Element::Num(2)));
-    assert!(rt; Instructions::new(rt.alloc()).all_regular());
     Ok(())
 }
 
@@ -232,40 +235,6 @@ fn instructions_are_walked_in_their_order(rt: HostRuntime) -> Result<(), Fail> {
     Ok(())
 }
 
-#[test]
-fn a_list_becomes_the_instructions_of_a_move(rt: HostRuntime) -> Result<(), Fail> {
-    let alloc = rt.alloc();
-    for (length, fits) in [(0, true), (1, true), (4096, true), (4097, false)] {
-        let mut items = Vec::new(alloc);
-        for n in 0..length {
-            let at = location(alloc, "x", &[])?;
-            let action = Action::Regular(value(Some(n)));
-            items.push(Instruction { at, action })?;
-        }
-        match Instructions::from_vec(alloc, items) {
-            Ok(list) => assert!(rt; fits && list.len() as i64 == length && counts_up(&list)),
-            Err(error) => assert!(rt; !fits && error == InstructionsError::ManyInstructions),
-        }
-    }
-    Ok(())
-}
-
-#[test]
-fn copies_are_equal(rt: HostRuntime) -> Result<(), Fail> {
-    let updates = [
-        ("x", Update::Put(Some(1))),
-        ("s", Update::SetAdd(1)),
-        ("s", Update::SetRemove(2)),
-        ("b", Update::BagAdd(1, 2)),
-        ("b", Update::BagRemove(2, 2)),
-    ];
-    let list = list_of(rt.alloc(), &updates)?;
-    assert!(rt; list.copy(rt.alloc())? == list);
-    let state = state_with(rt.alloc(), "x", 1)?;
-    assert!(rt; state.copy(rt.alloc())? == state);
-    Ok(())
-}
-
 /// Whether the list puts 0, 1 and so on.
 fn counts_up(list: &Instructions) -> bool {
     for i in 0..list.len() {
@@ -277,84 +246,89 @@ fn counts_up(list: &Instructions) -> bool {
     true
 }
 
+/// Puts of 0, 1 and so on, so many.
+fn puts(alloc: Global, count: usize) -> Result<Vec<Instruction>, Fail> {
+    let mut items = Vec::new(alloc);
+    for i in 0..count {
+        let at = location(alloc, "x", &[])?;
+        let action = Action::Regular(value(i64::try_from(i).ok()));
+        items.push(Instruction { at, action })?;
+    }
+    Ok(items)
+}
+
+/// Whether it is a move of so many puts, where they fit into one, or the refusal. `AllocError` comes only where
+/// memory was refused.
+fn is_move_of(
+    answer: Result<Instructions, InstructionsError>,
+    count: usize,
+    fits: bool,
+) -> Result<bool, AllocError> {
+    match answer {
+        Ok(list) => Ok(fits && list.len() == count && counts_up(&list)),
+        Err(InstructionsError::ManyInstructions) => Ok(!fits),
+        Err(InstructionsError::Memory) => Err(AllocError),
+    }
+}
+
+#[test]
+fn a_list_becomes_the_instructions_of_a_move(rt: HostRuntime) -> Result<(), Fail> {
+    let alloc = rt.alloc();
+    for (count, fits) in [(0, true), (1, true), (4096, true), (4097, false)] {
+        let answer = Instructions::from_vec(alloc, puts(alloc, count)?);
+        assert!(rt; is_move_of(answer, count, fits)?, "{count}");
+    }
+    Ok(())
+}
+
+fn is_copied(alloc: Global, list: Instructions) -> Result<bool, AllocError> {
+    Ok(list.copy(alloc)? == list)
+}
+
+#[test]
+fn copies_are_equal(rt: HostRuntime) -> Result<(), Fail> {
+    let alloc = rt.alloc();
+    let updates = [
+        ("x", Update::Put(Some(1))),
+        ("s", Update::SetAdd(1)),
+        ("s", Update::SetRemove(2)),
+        ("b", Update::BagAdd(1, 2)),
+        ("b", Update::BagRemove(2, 2)),
+    ];
+    assert!(rt; is_copied(alloc, list_of(alloc, &updates)?)?);
+    Ok(())
+}
+
+/// Copies of the list before each of so many puts of 0, 1 and so on.
+fn copies_before_each(
+    alloc: Global,
+    list: &mut Instructions,
+    count: i64,
+) -> Result<Vec<Instructions>, Fail> {
+    let mut copies = Vec::new(alloc);
+    for n in 0..count {
+        let copy = list.copy(alloc)?;
+        copies.push(copy)?;
+        push(alloc, list, "x", Update::Put(Some(n)))?;
+    }
+    Ok(copies)
+}
+
+/// Whether the first is empty, the second has one put more, and so on.
+fn each_is_longer(copies: &[Instructions]) -> bool {
+    for (n, copy) in copies.iter().enumerate() {
+        if copy.len() != n || !counts_up(copy) {
+            return false;
+        }
+    }
+    true
+}
+
 #[test]
 fn a_list_that_grows_leaves_its_copies_as_they_were(rt: HostRuntime) -> Result<(), Fail> {
-    let alloc = rt.alloc();
-    let mut list = Instructions::new(alloc);
-    let mut copies = Vec::new(alloc);
-    for n in 0..6 {
-        copies.push(list.copy(alloc)?)?;
-        push(alloc, &mut list, "x", Update::Put(Some(n)))?;
-    }
-    for (n, copy) in copies.iter().enumerate() {
-        assert!(rt; copy.len() == n && counts_up(copy));
-    }
+    let mut list = Instructions::new(rt.alloc());
+    let copies = copies_before_each(rt.alloc(), &mut list, 6)?;
+    assert!(rt; copies.len() == 6 && each_is_longer(&copies));
     assert!(rt; list.len() == 6 && counts_up(&list));
-    Ok(())
-}
-
-/// Whether the look-up gives this value.
-fn gives<L: Lookup>(lookup: &L, at: &Location, value: &Value) -> bool {
-    match lookup.get(at) {
-        Some(found) => *found == *value,
-        None => false,
-    }
-}
-
-#[test]
-fn a_state_is_looked_up_and_walked_in_order(rt: HostRuntime) -> Result<(), Fail> {
-    let alloc = rt.alloc();
-    let mut state = PlainState::new(alloc);
-    assert!(rt; state.is_empty());
-    set(alloc, &mut state, "b", &[], 4)?;
-    set(alloc, &mut state, "a", &[0, 0], 3)?;
-    set(alloc, &mut state, "a", &[9], 2)?;
-    set(alloc, &mut state, "a", &[], 1)?;
-    assert!(rt; state.len() == 4 && !state.is_empty() && is_undef(alloc, &state, "c")?);
-    for ((at, found), n) in state.iter().zip(1..5) {
-        assert!(rt; *found == value(Some(n)) && gives(&state, at, found));
-    }
-    Ok(())
-}
-
-fn set_of(alloc: Global, puts: &[(&'static str, Option<i64>)]) -> Result<UpdateSet, Fail> {
-    let mut updates = UpdateSet::new(alloc);
-    for (name, number) in puts {
-        updates.put(location(alloc, name, &[])?, value(*number))?;
-    }
-    Ok(updates)
-}
-
-/// Whether the update set gives this number there first of all, and nothing at z.
-fn begins_with(alloc: Global, updates: &UpdateSet, name: &str, n: i64) -> Result<bool, Fail> {
-    let at = location(alloc, name, &[])?;
-    let other = location(alloc, "z", &[])?;
-    let value = value(Some(n));
-    let is_first = updates.iter().next() == Some((&at, &value));
-    Ok(is_first && updates.get(&at) == Some(&value) && updates.get(&other).is_none())
-}
-
-#[test]
-fn an_update_set_keeps_the_last_value(rt: HostRuntime) -> Result<(), Fail> {
-    let alloc = rt.alloc();
-    let updates = set_of(alloc, &[("y", None), ("x", Some(1)), ("x", Some(2))])?;
-    assert!(rt; updates.len() == 2 && begins_with(alloc, &updates, "x", 2)?);
-    assert!(rt; !updates.is_empty() && UpdateSet::new(alloc).is_empty());
-    let shorter = set_of(alloc, &[("x", Some(2))])?;
-    assert!(rt; updates != shorter);
-    let same = set_of(alloc, &[("x", Some(2)), ("y", None)])?;
-    assert!(rt; updates == same);
-    Ok(())
-}
-
-#[test]
-fn a_group_has_what_it_was_made_of(rt: HostRuntime) -> Result<(), Fail> {
-    let alloc = rt.alloc();
-    let mut partials = Vec::new(alloc);
-    partials.push(Action::SetAdd(Element::Num(1)))?;
-    let group = Group::new(Some(Value::Plain(Element::Num(2))), partials);
-    assert_eq!(rt; group.regular(), Some(&Value::Plain(Element::Num(2))));
-    assert_eq!(rt; group.partials().len(), 1);
-    assert_eq!(rt; group.partials()[0], Action::SetAdd(Element::Num(1)));
     Ok(())
 }

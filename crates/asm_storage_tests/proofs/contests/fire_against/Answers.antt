@@ -1,8 +1,8 @@
 use Rattle.std.proofs.Common.{rules, ◌≡◌, ◌∙◌, ℕ, zero, suc, refl, sym, subst}
 use Rattle.asm_storage.specs.Storage.{IsSameAgent}
 use Rattle.asm_storage.specs.Calls.{Ran}
-use Rattle.asm_storage_tests.specs.contracts.rival_fires.fn.fire_against.try_fire_with as closure
-use Rattle.asm_storage_tests.proofs.rival_fires.fire_against.Goals as goal
+use Rattle.asm_storage_tests.specs.contracts.contests.fn.fire_against.try_fire_with as closure
+use Rattle.asm_storage_tests.proofs.contests.fire_against.Goals as goal
 
 -- what each call keeps, all calls keep, and the name that none of them changes
 ran_keeps : {F X : Type 0} (step : F → F → Type 0) (P : F → Type 0) (name : F → X)
@@ -14,10 +14,10 @@ ran_keeps step P name keeps f (suc n) g ran p =
     let rest = ran_keeps step P name keeps ran.0 n g ran.2 here.0 in
     (rest.0, rest.1 ∙ here.1)
 
-pub returns-clause-rival : goal.returns-clause-rival
-returns-clause-rival c =
-    let offers = c.try_fire_with.ensures.offers in
-    let kept = ran_keeps _ (λ f. IsSameAgent c.args.rival.now.agent (closure.captures f).rival.now.agent)
-    (λ f. (closure.captures f).rival.ghost_name) (λ f g step p. search rules) _ offers.0 _ offers.2
+pub returns-clause-second : goal.returns-clause-second
+returns-clause-second c =
+    let offers = c.given.ensures.offers in
+    let kept = ran_keeps _ (λ f. IsSameAgent c.args.other.now (closure.captures f).other.now)
+    (λ f. (closure.captures f).other.ghost_name) (λ f g step p. search rules) _ offers.0 _ offers.2
     (record { storage = refl; id = refl }) in
     search (rules, sym kept.1, kept.0)

@@ -1,0 +1,184 @@
+//! Fires of one agent in whose turns another one fires first.
+ghost use Rattle.asm_storage.specs.Storage.{IsSameAgent};
+
+use crate::asked::{Act, Put, Want, move_of, receipt_of};
+use crate::performing::{Standard, is_last};
+use asm_state::Named;
+use asm_storage::{Agent, Answer, Call, FireError, Receipt, Reply};
+use asm_update::Instructions;
+use std::alloc::{AllocError, Global};
+
+/// What the fire gives.
+#[derive(Clone, Copy)]
+pub(crate) enum Outcome {
+    /// This answer, and its receipt.
+    Answered(Want),
+    /// 64 offers were lost, with these moves seen at its start and at its end, and there is no receipt.
+    Busy(u32, u32),
+}
+
+/// The one agent asks this. Just before each of its offers, but at most so many times, the other fires a move with these
+/// puts, or two.
+#[derive(Clone, Copy)]
+pub(crate) struct Contest {
+    pub(crate) act: Act,
+    pub(crate) others: &'static [Put],
+    pub(crate) times: u32,
+    pub(crate) fires_twice: bool,
+    pub(crate) outcome: Outcome,
+}
+
+/// How often the other agent fires yet, whether it fires twice then, and whether memory was refused to it.
+#[derive(Clone, Copy)]
+struct Rival {
+    times: u32,
+    fires_twice: bool,
+    is_refused: bool,
+}
+
+/// The agent fires once.
+fn fire(alloc: Global, agent: &mut Agent<'_, Standard>, instrs: &Instructions) -> bool
+    ensures { IsSameAgent agent.old agent.new }
+{
+    agent.try_fire(alloc, &[], instrs).is_ok()
+}
+
+/// The other agent fires as the rival has it; what is left of that.
+fn meddle(
+    alloc: Global,
+    other: &mut Agent<'_, Standard>,
+    others: &Instructions,
+    rival: Rival,
+) -> Rival
+    ensures { IsSameAgent other.old other.new }
+{
+    if rival.times == 0 {
+        return rival;
+    }
+    let is_first_fired = fire(alloc, other, others);
+    let is_fired = is_first_fired && (!rival.fires_twice || fire(alloc, other, others));
+    Rival {
+        times: rival.times - 1,
+        fires_twice: rival.fires_twice,
+        is_refused: rival.is_refused || !is_fired,
+    }
+}
+
+/// What the agent's fire gives, where the other meddles; an allocation failure of either is that of both.
+fn fire_against(
+    alloc: Global,
+    agent: &mut Agent<'_, Standard>,
+    other: &mut Agent<'_, Standard>,
+    reads: &[Named],
+    instrs: &Instructions,
+    others: &Instructions,
+    rival: Rival,
+) -> Result<Reply, FireError>
+    ensures first { IsSameAgent agent.old agent.new }
+    ensures second { IsSameAgent other.old other.new }
+{
+    let mut left = rival;
+    let given = agent.try_fire_with(
+        alloc,
+        reads,
+        instrs,
+        &mut || left = meddle(alloc, other, others, left),
+    );
+    if left.is_refused {
+        return Err(FireError::Memory);
+    }
+    given
+}
+
+/// The same for a call, which has to be a fire.
+fn ask_against(
+    alloc: Global,
+    agent: &mut Agent<'_, Standard>,
+    other: &mut Agent<'_, Standard>,
+    call: &Call,
+    others: &Instructions,
+    rival: Rival,
+) -> Result<Reply, FireError>
+    ensures first { IsSameAgent agent.old agent.new }
+    ensures second { IsSameAgent other.old other.new }
+{
+    match call {
+        Call::Fire { reads, instrs } => {
+            fire_against(alloc, agent, other, reads.as_slice(), instrs, others, rival)
+        }
+        Call::Read(_) => Err(FireError::ManyReads),
+    }
+}
+
+fn is_reply(reply: &Reply, wanted: &Answer) -> bool {
+    match wanted {
+        Answer::Fire(wanted) => reply == wanted,
+        _ => false,
+    }
+}
+
+fn is_busy(outcome: Outcome, from: u32, to: u32) -> bool {
+    match outcome {
+        Outcome::Busy(start, end) => start == from && end == to,
+        Outcome::Answered(_) => false,
+    }
+}
+
+/// Whether the fire gave this: the answer of the receipt, where there is one.
+fn is_given(
+    given: Result<Reply, FireError>,
+    wanted: &Answer,
+    outcome: Outcome,
+) -> Result<bool, AllocError> {
+    match given {
+        Ok(reply) => Ok(is_reply(&reply, wanted)),
+        Err(FireError::Busy { from, to }) => Ok(is_busy(outcome, from, to)),
+        Err(FireError::Memory) => Err(AllocError),
+        Err(FireError::ManyReads) => Ok(false),
+    }
+}
+
+/// What the fire is answered; where it is not, an answer that no fire has: the first move is number 1.
+fn wanted_in(outcome: Outcome) -> Want {
+    match outcome {
+        Outcome::Answered(want) => want,
+        Outcome::Busy(_, _) => Want::Fired(0),
+    }
+}
+
+/// Whether the agent's fire gives the outcome, and it keeps the receipt of an answer alone.
+fn contends_for(
+    alloc: Global,
+    agent: &mut Agent<'_, Standard>,
+    other: &mut Agent<'_, Standard>,
+    wanted: &Receipt,
+    contest: &Contest,
+) -> Result<bool, AllocError>
+    ensures first { IsSameAgent agent.old agent.new }
+    ensures second { IsSameAgent other.old other.new }
+{
+    let others = move_of(alloc, contest.others)?;
+    let rival = Rival {
+        times: contest.times,
+        fires_twice: contest.fires_twice,
+        is_refused: false,
+    };
+    let given = ask_against(alloc, agent, other, &wanted.call, &others, rival);
+    let is_right = is_given(given, &wanted.answer, contest.outcome)?;
+    let is_answered = matches!(contest.outcome, Outcome::Answered(_));
+    Ok(is_right && is_last(agent, wanted) == is_answered)
+}
+
+/// Whether the contest of the two agents comes out right.
+pub(crate) fn contends(
+    alloc: Global,
+    agent: &mut Agent<'_, Standard>,
+    other: &mut Agent<'_, Standard>,
+    contest: &Contest,
+) -> Result<bool, AllocError>
+    ensures first { IsSameAgent agent.old agent.new }
+    ensures second { IsSameAgent other.old other.new }
+{
+    let wanted = receipt_of(alloc, contest.act, wanted_in(contest.outcome))?;
+    contends_for(alloc, agent, other, &wanted, contest)
+}

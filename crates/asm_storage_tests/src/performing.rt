@@ -1,0 +1,170 @@
+//! What one agent does, each time with the answer that it has to get. `AllocError` comes only where memory was refused.
+ghost use Rattle.std.specs.Prelude.{◌≡◌};
+ghost use Rattle.asm_storage.specs.Storage.{IsSameAgent};
+
+use crate::asked::{Act, Want, receipt_of};
+use asm_aggregate::{BagAgg, CountAgg, Pair, SetAgg};
+use asm_element::{Location, Value};
+use asm_state::Named;
+use asm_storage::{Agent, Answer, Call, FireError, ReadError, Reading, Receipt, Reply};
+use asm_update::Instructions;
+use std::alloc::{AllocError, Global};
+
+pub(crate) type Standard = Pair<Pair<SetAgg, BagAgg>, CountAgg>;
+
+/// Whether these values were read, in this order.
+fn are_read(reading: &Reading, values: &[Value]) -> bool {
+    if reading.len() != values.len() {
+        return false;
+    }
+    for (k, value) in values.iter().enumerate() {
+        if reading.value(k) != value {
+            return false;
+        }
+    }
+    true
+}
+
+/// Whether a read is answered so.
+pub(crate) fn reads(
+    alloc: Global,
+    agent: &mut Agent<'_, Standard>,
+    places: &[Location],
+    number: u32,
+    values: &[Value],
+) -> Result<bool, AllocError>
+    ensures { IsSameAgent agent.old agent.new }
+{
+    match agent.read(alloc, places) {
+        Ok(reading) => Ok(reading.number() == number && are_read(&reading, values)),
+        Err(ReadError::ManyLocations) => Ok(false),
+        Err(ReadError::Memory) => Err(AllocError),
+    }
+}
+
+/// Whether a fire is answered so.
+pub(crate) fn fires(
+    alloc: Global,
+    agent: &mut Agent<'_, Standard>,
+    reads: &[Named],
+    instrs: &Instructions,
+    wanted: &Reply,
+) -> Result<bool, AllocError>
+    ensures { IsSameAgent agent.old agent.new }
+{
+    match agent.try_fire(alloc, reads, instrs) {
+        Ok(reply) => Ok(reply == *wanted),
+        Err(FireError::Memory) => Err(AllocError),
+        Err(_) => Ok(false),
+    }
+}
+
+/// Whether a call is answered so.
+fn is_answered(
+    alloc: Global,
+    agent: &mut Agent<'_, Standard>,
+    call: &Call,
+    answer: &Answer,
+) -> Result<bool, AllocError>
+    ensures { IsSameAgent agent.old agent.new }
+{
+    match (call, answer) {
+        (Call::Read(places), Answer::Read { number, values }) => {
+            reads(alloc, agent, places.as_slice(), *number, values.as_slice())
+        }
+        (Call::Fire { reads, instrs }, Answer::Fire(reply)) => {
+            fires(alloc, agent, reads.as_slice(), instrs, reply)
+        }
+        _ => Ok(false),
+    }
+}
+
+/// Whether this is the agent's last receipt.
+pub(crate) fn is_last(agent: &Agent<'_, Standard>, wanted: &Receipt) -> bool {
+    agent.receipts().last() == Some(wanted)
+}
+
+/// The agent asks what the receipt tells; whether it is answered so, and keeps that receipt.
+pub(crate) fn performs(
+    alloc: Global,
+    agent: &mut Agent<'_, Standard>,
+    wanted: &Receipt,
+) -> Result<bool, AllocError>
+    ensures { IsSameAgent agent.old agent.new }
+{
+    Ok(is_answered(alloc, agent, &wanted.call, &wanted.answer)? && is_last(agent, wanted))
+}
+
+/// The agent asks this; whether it is answered so, and keeps the receipt.
+pub(crate) fn asks(
+    alloc: Global,
+    agent: &mut Agent<'_, Standard>,
+    act: Act,
+    want: Want,
+) -> Result<bool, AllocError>
+    ensures { IsSameAgent agent.old agent.new }
+{
+    let wanted = receipt_of(alloc, act, want)?;
+    performs(alloc, agent, &wanted)
+}
+
+/// Whether it has this many receipts, and has seen at most so many moves.
+fn is_unanswered(agent: &Agent<'_, Standard>, receipts: usize, seen: u32) -> bool {
+    agent.receipts().len() == receipts && agent.seen() <= seen
+}
+
+/// The agent asks what the receipt tells, and once more where memory was refused: it has then as many receipts as
+/// before, and has seen at most so many moves. Whether it is answered so.
+pub(crate) fn performs_in_the_end(
+    alloc: Global,
+    agent: &mut Agent<'_, Standard>,
+    wanted: &Receipt,
+    seen: u32,
+) -> Result<bool, AllocError>
+    ensures { IsSameAgent agent.old agent.new }
+{
+    let receipts = agent.receipts().len();
+    match performs(alloc, agent, wanted) {
+        Err(_) if is_unanswered(agent, receipts, seen) => performs(alloc, agent, wanted),
+        Err(_) => Ok(false),
+        is_right => is_right,
+    }
+}
+
+/// Learns the other's mark; whether it has then seen so many moves.
+pub(crate) fn learns(
+    alloc: Global,
+    agent: &mut Agent<'_, Standard>,
+    other: &Agent<'_, Standard>,
+    seen: u32,
+) -> Result<bool, AllocError>
+    requires { other.now.storage ≡ agent.old.storage }
+    ensures { IsSameAgent agent.old agent.new }
+{
+    let mark = other.mark(alloc)?;
+    agent.learn(alloc, &mark)?;
+    Ok(agent.seen() == seen)
+}
+
+/// Learns a mark of the other from before that one asks this, and is answered so; whether it has then seen so many
+/// moves.
+pub(crate) fn learns_from_before(
+    alloc: Global,
+    agent: &mut Agent<'_, Standard>,
+    other: &mut Agent<'_, Standard>,
+    wanted: &Receipt,
+    seen: u32,
+) -> Result<bool, AllocError>
+    requires { other.old.storage ≡ agent.old.storage }
+    ensures first { IsSameAgent agent.old agent.new }
+    ensures second { IsSameAgent other.old other.new }
+{
+    let mark = other.mark(alloc)?;
+    let is_right = performs(alloc, other, wanted)?;
+    agent.learn(alloc, &mark)?;
+    Ok(is_right && agent.seen() == seen)
+}
+
+pub(crate) fn counts(agent: &Agent<'_, Standard>, seen: u32, won: u32, misses: u64) -> bool {
+    agent.seen() == seen && agent.won() == won && agent.misses() == misses
+}
