@@ -245,13 +245,16 @@ fn limited(alloc: Global, list: Vec<Instruction>) -> Result<Instructions, Compos
 
 /// One move that does what the first and then the second do, by location in ascending order.
 ///
-/// Where the first fires, firing the composed move is firing the first and then the second,
-/// clashes included. `Clash` and `Large` come exactly where some location refuses, at the least one:
-/// no state then lets the first and then the second fire. `ManyInstructions` comes exactly where
-/// none refuses and the composed list has more than 4,096 instructions, and `Memory` only where
-/// memory was refused. Partial updates at one location are joined: additions by element, then
-/// removals by element, and none with an amount of 0. Source: sequential composition, by Börger and
-/// Stärk; the joins are of this project's profile.
+/// On a state on which the first fires, firing the composed move is firing the first and then the second,
+/// clashes included. On a state on which the first clashes nothing is promised, and the composed move may
+/// fire: an addition to a bag and a removal of the same element compose to no instruction, which fires
+/// where there is no bag. So judge the first move on the state before its composition is fired.
+///
+/// `Clash` and `Large` come exactly where some location refuses, at the least one: no state then lets the
+/// first and then the second fire. `ManyInstructions` comes exactly where none refuses and the composed list
+/// has more than 4,096 instructions, and `Memory` only where memory was refused. Partial updates at one
+/// location are joined: additions by element, then removals by element, and none with an amount of 0.
+/// Source: sequential composition, by Börger and Stärk; the joins are of this project's profile.
 pub fn compose<A: Aggregator>(
     alloc: Global,
     aggregator: &A,

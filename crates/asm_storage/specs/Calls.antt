@@ -80,7 +80,8 @@ pub record IsAnswered {A : Type 0} (meaning : A → Meaning) (old new : AgentAt 
   pub begins : IsPrefix old.account.seen (judged_on r new.account.seen)
   pub agent : new ≡ fired old new reads M r
 
--- a move that fired finds each location that it names as it was at the number of moves under which it names it
+-- a move that fired finds each location that it names as it was at the number under which it names it, as far as these
+-- moves stand before it
 abbrev pub IsCoherentReply : {A : Type 0} → (A → Meaning) → AgentAt A → List Named → Move → Reply → Type 0
 IsCoherentReply meaning new reads M (reply.Fired k) =
     IsCoherentAt (machine_of meaning new.storage) (moves_seen (judged_on (reply.Fired k) new.account.seen))

@@ -60,7 +60,8 @@ abbrev pub steps_from : Machine → State → List Event → List RunStep
 steps_from m A [] = []
 steps_from m A (e ∷ h) = step_and m A e.agent (move_of e) (λ B. steps_from m B h)
 
--- the move finds each location that it names as it was at the number of moves under which it names it
+-- the move finds each location that it names as it was at the number under which it names it, where that number is at
+-- most the number of moves before it; a location that is named at a greater number isn't tested
 abbrev pub IsCoherentAt : Machine → List Move → Call → ℕ → Type 0
 IsCoherentAt m q (call.Read places) before = Unit {0}
 IsCoherentAt m q (call.Fire reads instrs) before = All (λ r. r.number ≤ before →

@@ -1,4 +1,4 @@
-ghost use Rattle.std.specs.Prelude.{◌≡◌, ◌≢◌, ◌+◌, ◌<◌, ℕ, length, IfOk, IfErr, OnOk, OnErr, Some, None, Err, false};
+ghost use Rattle.std.specs.Prelude.{◌≡◌, ◌≢◌, ◌+◌, ◌<◌, ℕ, length, IfOk, IfErr, OnOk, OnErr, Some, None, Err, Ok, IsSome, false};
 ghost use Rattle.std.specs.Prelude.{IfSome, IfNone};
 ghost use mathlib.Core.List.{IsPrefix};
 ghost use Rattle.asm_storage.specs.Plain.{is_plain};
@@ -187,6 +187,7 @@ impl AgentPart {
         ensures won { IfOk result (λ o. IfSome o (HasFired storage.now self.old self.new reads.now instrs.now)) }
         ensures lost { IfOk result (λ o. IfNone o (IsLost storage.now self.old self.new)) }
         ensures pending { IfSome pending.new (IsOffering self.old.id reads.now instrs.now) }
+        ensures kept { result ≡ Ok None → IsSome pending.new }
         ensures err { OnErr result (agent_of storage.now self.new ≡ agent_of storage.now self.old) }
         ensures callable { F.IsAlwaysCallable between.new }
         ensures called { IfOk result (λ o. F.step between.old tt between.new) }

@@ -1,4 +1,4 @@
-ghost use Rattle.std.specs.Prelude.{◌≡◌, ℕ, IfOk, IfSome, None};
+ghost use Rattle.std.specs.Prelude.{◌≡◌, ℕ, IfOk, IfSome, None, Ok};
 ghost use Rattle.asm_storage.specs.declared.call.Call.TheVariants as call;
 ghost use Rattle.asm_storage.specs.Offering.{IsOffering};
 
@@ -60,6 +60,7 @@ impl Offering {
     ) -> Result<Offering, AllocError>
         requires { IfSome pending.old (IsOffering agent reads.now instrs.now) }
         ensures taken { pending.new ≡ None }
+        ensures left { IfSome pending.old (λ o. result ≡ Ok o) }
         ensures offering { IfOk result (IsOffering agent reads.now instrs.now) }
     {
         match pending.take() {
