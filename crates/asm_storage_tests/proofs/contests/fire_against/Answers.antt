@@ -16,7 +16,15 @@ ran_keeps step P name keeps f (suc n) g ran p =
 
 pub returns-clause-second : goal.returns-clause-second
 returns-clause-second c =
-    let offers = c.given.ensures.offers in
+    let offers = c.try_fire_with-given.ensures.offers in
+    let kept = ran_keeps _ (λ f. IsSameAgent c.args.other.now (closure.captures f).other.now)
+    (λ f. (closure.captures f).other.ghost_name) (λ f g step p. search rules) _ offers.0 _ offers.2
+    (record { storage = refl; id = refl }) in
+    search (rules, sym kept.1, kept.0)
+
+pub returns-then-left-clause-second : goal.returns-then-left-clause-second
+returns-then-left-clause-second c =
+    let offers = c.try_fire_with-given.ensures.offers in
     let kept = ran_keeps _ (λ f. IsSameAgent c.args.other.now (closure.captures f).other.now)
     (λ f. (closure.captures f).other.ghost_name) (λ f g step p. search rules) _ offers.0 _ offers.2
     (record { storage = refl; id = refl }) in
