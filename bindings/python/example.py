@@ -5,12 +5,12 @@
 import sys
 import threading
 
-from folugben import Busy, Stale, Storage, check, replay
+from folugben import Agent, Busy, Stale, Storage, check, replay
 
 AGENTS, TIMES = 8, 100
 
 
-def work(agent, own):
+def work(agent: Agent, own: int) -> None:
     """Adds 1 to the count so many times."""
     done = 0
     while done < TIMES:
@@ -24,7 +24,7 @@ def work(agent, own):
         done += 1
 
 
-def main():
+def main() -> None:
     with Storage([[["count"], 0], [["seen"], {"set": []}]], AGENTS * TIMES) as storage:
         agents = [storage.agent(k) for k in range(AGENTS)]
         threads = [threading.Thread(target=work, args=(agents[k], k)) for k in range(AGENTS)]

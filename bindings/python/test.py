@@ -1,35 +1,22 @@
 """Tests of the Python module: python3 test.py"""
+import copy
+import os
 import pickle
-import threading
 import unittest
 from unittest import mock
 
 import folugben
-from folugben import BadJournal, Busy, Clash, Error, Full, Missing, Stale, Storage, check, replay
+from folugben import Agent, BadJournal, Busy, Clash, Error, Full, Missing, Stale, Storage, check, replay
+from folugben import _library, _storage
+from test_interrupts import Interrupts
+from threads import in_threads
+
+__all__ = ["Agents", "Interrupts"]
 
 COUNT = [["count"]]
 
 
-def in_threads(work, count):
-    """Calls work with 0, 1 .. at once, each in a thread of its own; the errors, and whether all threads ended."""
-    start, errors = threading.Barrier(count), []
-
-    def run(own):
-        start.wait()
-        try:
-            work(own)
-        except Exception as error:
-            errors.append(error)
-
-    threads = [threading.Thread(target=run, args=(own,), daemon=True) for own in range(count)]
-    for thread in threads:
-        thread.start()
-    for thread in threads:
-        thread.join(60)
-    return errors, not any(thread.is_alive() for thread in threads)
-
-
-def add_one(agent):
+def add_one(agent: Agent) -> int:
     """Adds 1 to the count, however often another agent is quicker."""
     while True:
         number, (count,) = agent.read(COUNT)
@@ -94,12 +81,64 @@ class Agents(unittest.TestCase):
             agent.fire([["put", ["count"], "ü"]])
         self.assertEqual(replay(self.storage.close_journal()), [[["count"], "ü"]])
 
+    def test_a_with_that_an_exception_ends_gives_the_agent_back(self):
+        reader = self.storage.agent(1)
+        with self.assertRaises(KeyError), self.storage.agent(0) as agent:
+            agent.fire([["put", ["count"], 5]])
+            raise KeyError
+        self.assertEqual(reader.read(COUNT), (1, [5]))
+        reader.give()
+        self.assertEqual(check(self.storage.close_journal()), (2, 1))
+
+    def test_a_with_whose_agent_cannot_be_given_back(self):
+        self.storage.agent(0).give()
+        agent = self.storage.agent(0)
+        with self.assertRaises(Error) as caught, agent:
+            raise KeyError
+        self.assertEqual(caught.exception.code, folugben.NUMBER)
+        self.assertIsInstance(caught.exception.__context__, KeyError)
+        self.assertEqual(agent.read(COUNT), (0, [0]))
+        agent.free()
+        with agent:
+            pass
+
+    def test_no_copy_shares_a_slot(self):
+        agent = self.storage.agent(0)
+        agent.fire([])
+        for held in (self.storage, agent):
+            for copied in (copy.copy, copy.deepcopy, pickle.dumps):
+                with self.assertRaises(TypeError) as caught:
+                    copied(held)
+                self.assertEqual(str(caught.exception), f"cannot copy or pickle '{type(held).__name__}' object")
+        agent.give()
+        self.assertEqual(check(self.storage.close_journal()), (1, 1))
+
+    def test_true_is_not_1(self):
+        both = {"set": [True, 1]}
+        storage = Storage([[["f", True], "a"], [["f", 1], "b"], [["g"], both]])
+        self.assertEqual(storage.agent(0).read([["f", True], ["f", 1], ["g"]]), (0, ["a", "b", both]))
+        self.assertEqual(len({True, 1}), 1)
+
     def test_texts_longer_than_the_first_buffer(self):
         agent = self.storage.agent(0)
         agent.fire([["put", ["count"], "x" * 5000]])
         self.assertEqual(agent.read(COUNT), (1, ["x" * 5000]))
+        self.assertEqual(agent.read([["y"]]), (1, [None]))
         agent.give()
         self.assertEqual(replay(self.storage.close_journal()), [[["count"], "x" * 5000]])
+
+    def test_a_buffer_is_kept_and_a_journal_replayed_once(self):
+        agent = self.storage.agent(0)
+        agent.fire([["put", ["count"], "x" * 5000]])
+        with mock.patch.object(_storage, "lib", mock.Mock(wraps=_storage.lib)) as lib:
+            for _ in range(3):
+                agent.read(COUNT)
+            self.assertEqual(lib.asm_answer.call_count, 4)
+            agent.give()
+            journal = self.storage.close_journal()
+            self.assertEqual(lib.asm_journal.call_count, 2)
+            self.assertEqual(replay(journal), [[["count"], "x" * 5000]])
+            self.assertEqual(lib.asm_replay.call_count, 1)
 
     def test_threads_that_make_and_give_agents_of_one_storage(self):
         # A large state makes the calls that close long, so that others begin meanwhile.
@@ -185,9 +224,14 @@ class Agents(unittest.TestCase):
         self.assertEqual(folugben.version(), 1000)
 
     def test_a_library_of_another_version_is_refused(self):
-        with mock.patch.object(folugben, "WRITTEN_FOR", 2000), self.assertRaises(ImportError) as caught:
-            folugben._load()
-        self.assertIn("has version 1000, and this module was written for 2000", str(caught.exception))
+        with mock.patch.object(_library, "WRITTEN_FOR", 2000), self.assertRaises(ImportError) as caught:
+            _library.load()
+        self.assertIn("has version 1000, and this package was written for 2000", str(caught.exception))
+
+    def test_an_empty_path_is_none(self):
+        for path, found in (("", str(_library.BUILT)), ("/a/b.so", "/a/b.so")):
+            with mock.patch.dict(os.environ, FOLUGBEN_LIBRARY=path):
+                self.assertEqual(_library.path(), found)
 
 
 if __name__ == "__main__":

@@ -2,21 +2,30 @@ package folugben;
 
 import com.sun.jna.Memory;
 
+import java.util.Objects;
+
 /**
  * An agent of a storage, which reads locations and fires moves. Texts are JSON in the forms of
- * docs/FORMATS.md. Any thread may call it. Nothing is released by the garbage collector; call
- * close().
+ * docs/FORMATS.md; one with a lone surrogate is refused by an IllegalArgumentException. Any thread
+ * may call it. Nothing is released by the garbage collector; call close().
  */
 public final class Agent implements AutoCloseable {
+    private static final Object LEARNING = new Object();
+
+    /** The agent's slot, and the lock of the calls on it. */
     final Memory slot = Calls.slot();
+
     private final Storage storage;
 
     Agent(Storage storage) {
         this.storage = storage;
     }
 
-    /** What became of a fire. */
-    public record Reply(int code, int move, int from, int to) {
+    /**
+     * What became of a fire. `answer` is the text {"stale":LOC} or {"clash":[LOC,CAUSE]} of a fire
+     * that was answered so, and else null.
+     */
+    public record Reply(int code, int move, int from, int to, String answer) {
         /** Whether the move was fired; `move` is then its number. */
         public boolean isFired() {
             return code == FolugbenException.DONE;
@@ -29,45 +38,51 @@ public final class Agent implements AutoCloseable {
     }
 
     /** Reads the locations [LOC, ..]; the answer is {"number":N,"values":[VALUE, ..]}. */
-    public synchronized String read(String locations) {
-        byte[] call = Calls.bytes(locations);
-        FolugbenException.expect(Calls.asm_read(slot, call, call.length));
-        return answer();
+    public String read(String locations) {
+        byte[] call = Texts.utf8(locations, "locations");
+        synchronized (slot) {
+            FolugbenException.expect(Calls.asm_read(slot, call, call.length));
+            return answer();
+        }
     }
 
     /**
-     * Fires the instructions [INSTR, ..], which rest on the reads [NAMED, ..]; `answer` has the
-     * text of the reply.
+     * Fires the instructions [INSTR, ..], which rest on the reads [NAMED, ..].
+     *
+     * @throws FolugbenException NOT_JSON, which names the argument, if one isn't one value
      */
-    public synchronized Reply fire(String instructions, String reads) {
-        byte[] call = Calls.bytes("{\"fire\":" + instructions + ",\"reads\":" + reads + "}");
+    public Reply fire(String instructions, String reads) {
+        byte[] call = Texts.utf8("{\"fire\":" + Texts.oneValue(instructions, "instructions")
+                        + ",\"reads\":" + Texts.oneValue(reads, "reads") + "}", "the move");
         int[] numbers = new int[3];
-        int code = Calls.asm_try_fire(slot, call, call.length, numbers);
-        switch (code) {
-            case FolugbenException.STALE:
-            case FolugbenException.CLASH:
-            case FolugbenException.FULL:
-            case FolugbenException.BUSY:
-                break;
-            default:
-                FolugbenException.expect(code);
+        synchronized (slot) {
+            int code = Calls.asm_try_fire(slot, call, call.length, numbers);
+            String answer = null;
+            switch (code) {
+                case FolugbenException.STALE, FolugbenException.CLASH -> answer = answer();
+                case FolugbenException.FULL, FolugbenException.BUSY -> {}
+                default -> FolugbenException.expect(code);
+            }
+            return new Reply(code, numbers[0], numbers[1], numbers[2], answer);
         }
-        return new Reply(code, numbers[0], numbers[1], numbers[2]);
     }
 
-    /** The answer to the last answered call. */
-    public synchronized String answer() {
-        return Calls.text(
-                (out, room, written) -> Calls.asm_answer(slot, out, room, written), new long[1]);
+    /** The answer to the last answered call, of whichever thread. */
+    public String answer() {
+        synchronized (slot) {
+            return Calls.text(
+                    (out, room, written) -> Calls.asm_answer(slot, out, room, written), Calls.ROOM);
+        }
     }
 
     /** Takes in what the other agent of the storage has seen. */
     public void learn(Agent other) {
+        Objects.requireNonNull(other, "other");
         // Two agents that learn of each other at once would wait for each other without the first
         // lock.
-        synchronized (Agent.class) {
-            synchronized (this) {
-                synchronized (other) {
+        synchronized (LEARNING) {
+            synchronized (slot) {
+                synchronized (other.slot) {
                     FolugbenException.expect(Calls.asm_learn(slot, other.slot));
                 }
             }
@@ -75,18 +90,24 @@ public final class Agent implements AutoCloseable {
     }
 
     /** How many moves it has seen. */
-    public synchronized int seen() {
-        return Calls.asm_seen(slot);
+    public int seen() {
+        synchronized (slot) {
+            return Calls.asm_seen(slot);
+        }
     }
 
     /** How many moves it fired. */
-    public synchronized int won() {
-        return Calls.asm_won(slot);
+    public int won() {
+        synchronized (slot) {
+            return Calls.asm_won(slot);
+        }
     }
 
     /** How many of its looks found no further move. */
-    public synchronized long misses() {
-        return Calls.asm_misses(slot);
+    public long misses() {
+        synchronized (slot) {
+            return Calls.asm_misses(slot);
+        }
     }
 
     /** Gives it back to its storage. */
@@ -99,7 +120,9 @@ public final class Agent implements AutoCloseable {
      * Storage#closeJournal} throws MISSING if another agent saw a move it fired.
      */
     @Override
-    public synchronized void close() {
-        Calls.asm_free(slot);
+    public void close() {
+        synchronized (slot) {
+            Calls.asm_free(slot);
+        }
     }
 }

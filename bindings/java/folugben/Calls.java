@@ -10,13 +10,21 @@ import java.nio.charset.StandardCharsets;
 final class Calls {
     /** The version of the library that these classes were written for. */
     static final int WRITTEN_FOR = 1000;
+    /** The room for a text of which it isn't known how long it is. */
+    static final int ROOM = 512;
 
     static {
-        Native.register(Calls.class, System.getProperty("folugben.library", "folugben"));
+        Native.register(Calls.class, libraryName());
         expectVersion(asm_version());
     }
 
     private Calls() {}
+
+    /** The library's name or path: as folugben.library says, unless that is empty. */
+    static String libraryName() {
+        String name = System.getProperty("folugben.library", "");
+        return name.isEmpty() ? "folugben" : name;
+    }
 
     static native int asm_version();
 
@@ -66,18 +74,17 @@ final class Calls {
         return slot;
     }
 
-    static byte[] bytes(String text) {
-        return text.getBytes(StandardCharsets.UTF_8);
-    }
-
     /** A call that writes a text into a buffer. */
     interface Writer {
         int write(byte[] out, long room, long[] written);
     }
 
-    /** The text that a call writes, into a buffer that is made larger where it is too small. */
-    static String text(Writer call, long[] numbers) {
-        byte[] out = new byte[512];
+    /**
+     * The text that a call writes, into a buffer with so much room, or a larger one if that is too
+     * small.
+     */
+    static String text(Writer call, int room, long... numbers) {
+        byte[] out = new byte[room];
         long[] written = new long[1];
         int code = call.write(out, out.length, written);
         while (code == FolugbenException.SMALL) {

@@ -29,8 +29,8 @@ public final class FolugbenException extends RuntimeException {
     private final int code;
     private final long number;
 
-    private FolugbenException(int code, long number, boolean hasNumber) {
-        super(errorText(code) + (hasNumber ? " (" + numberName(code) + " " + number + ")" : ""));
+    private FolugbenException(int code, long number, String where) {
+        super(where.isEmpty() ? errorText(code) : errorText(code) + " (" + where + ")");
         this.code = code;
         this.number = number;
     }
@@ -74,8 +74,16 @@ public final class FolugbenException extends RuntimeException {
     static void expect(int code, long... numbers) {
         if (code == MEMORY)
             throw new OutOfMemoryError(errorText(code));
-        boolean hasNumber = numbers.length > 0 && numberName(code) != null;
-        if (code != DONE)
-            throw new FolugbenException(code, hasNumber ? numbers[0] : 0, hasNumber);
+        if (code == DONE)
+            return;
+        String name = numbers.length > 0 ? numberName(code) : null;
+        if (name == null)
+            throw new FolugbenException(code, 0, "");
+        throw new FolugbenException(code, numbers[0], name + " " + numbers[0]);
+    }
+
+    /** The exception for an argument that isn't one value of JSON. */
+    static FolugbenException notJson(String argument) {
+        return new FolugbenException(NOT_JSON, 0, argument);
     }
 }

@@ -2,47 +2,60 @@ package folugben;
 
 import com.sun.jna.Memory;
 
+import java.util.Objects;
+
 /**
  * A storage of which agents read and fire in threads. Texts are JSON in the forms of
- * docs/FORMATS.md. Any thread may call it. Nothing is released by the garbage collector; call
- * close(). Of the header's calls only asm_agents has no method here: call agent(number) for each
- * number.
+ * docs/FORMATS.md; one with a lone surrogate is refused by an IllegalArgumentException. Any thread
+ * may call it. Nothing is released by the garbage collector; call close(). Of the header's calls
+ * only asm_agents has no method here: call agent(number) for each number.
  */
 public final class Storage implements AutoCloseable {
+    /** The storage's slot, and the lock of the calls on it. */
     private final Memory slot = Calls.slot();
 
     /** A storage with the opening state [PAIR, ..], for 1 to 1,048,576 moves. */
     public Storage(String init, int capacity) {
-        byte[] state = Calls.bytes(init);
+        byte[] state = Texts.utf8(init, "init");
         FolugbenException.expect(Calls.asm_open(state, state.length, capacity, slot));
     }
 
     /** An agent with this number, 0 to 255. */
-    public synchronized Agent agent(int number) {
+    public Agent agent(int number) {
         Agent agent = new Agent(this);
-        FolugbenException.expect(Calls.asm_agent(slot, number, agent.slot));
+        synchronized (slot) {
+            FolugbenException.expect(Calls.asm_agent(slot, number, agent.slot));
+        }
         return agent;
     }
 
     /** Takes an agent back. */
-    public synchronized void give(Agent agent) {
-        synchronized (agent) {
-            FolugbenException.expect(Calls.asm_give(slot, agent.slot));
+    public void give(Agent agent) {
+        Objects.requireNonNull(agent, "agent");
+        synchronized (slot) {
+            synchronized (agent.slot) {
+                FolugbenException.expect(Calls.asm_give(slot, agent.slot));
+            }
         }
     }
 
     /** The journal of the agents that were given back. */
-    public synchronized String closeJournal() {
+    public String closeJournal() {
         int[] missing = new int[1];
-        FolugbenException.expect(Calls.asm_close(slot, missing), missing[0]);
-        return Calls.text(
-                (out, room, written) -> Calls.asm_journal(slot, out, room, written), new long[1]);
+        synchronized (slot) {
+            FolugbenException.expect(Calls.asm_close(slot, missing), missing[0]);
+            return Calls.text((out, room, written)
+                                      -> Calls.asm_journal(slot, out, room, written),
+                    Calls.ROOM);
+        }
     }
 
     /** Releases it. Its agents go on, and can't be given back any more. */
     @Override
-    public synchronized void close() {
-        Calls.asm_free(slot);
+    public void close() {
+        synchronized (slot) {
+            Calls.asm_free(slot);
+        }
     }
 
     /** The numbers of calls and of moves of a legal journal. */
@@ -50,7 +63,7 @@ public final class Storage implements AutoCloseable {
 
     /** Checks a journal; an exception where it isn't legal, or is none. */
     public static Checked check(String journal) {
-        byte[] text = Calls.bytes(journal);
+        byte[] text = Texts.utf8(journal, "journal");
         long[] calls = new long[1];
         int[] moves = new int[1];
         int code = Calls.asm_check(text, text.length, calls, moves);
@@ -60,11 +73,13 @@ public final class Storage implements AutoCloseable {
 
     /** The state [PAIR, ..] that the moves of a journal leave. */
     public static String replay(String journal) {
-        byte[] text = Calls.bytes(journal);
+        byte[] text = Texts.utf8(journal, "journal");
         long[] line = new long[1];
+        // A state is shorter than its journal, and all is replayed again where the room is too
+        // small.
         return Calls.text((out, room, written)
                                   -> Calls.asm_replay(text, text.length, out, room, written, line),
-                line);
+                text.length, line);
     }
 
     /** The version of the library: a million for each major one, a thousand for each minor one. */

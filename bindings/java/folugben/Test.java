@@ -31,14 +31,16 @@ public final class Test {
                 Agent second = storage.agent(1)) {
             equal(first.read("[[\"count\"]]"), "{\"number\":0,\"values\":[0]}");
             equal(first.fire("[[\"put\",[\"count\"],1]]", "[[[\"count\"],0]]"),
-                    new Agent.Reply(0, 1, 0, 0));
+                    new Agent.Reply(0, 1, 0, 0, null));
             equal(first.answer(), "{\"fired\":1}");
             Agent.Reply stale = second.fire("[[\"put\",[\"count\"],9]]", "[[[\"count\"],0]]");
             equal(stale.shouldRetry(), true);
-            equal(second.answer(), "{\"stale\":[\"count\"]}");
-            equal(second.fire("[[\"put\",[\"x\"],1],[\"put\",[\"x\"],2]]", "[]").code(),
-                    FolugbenException.CLASH);
-            equal(second.answer(), "{\"clash\":[[\"x\"],\"Two\"]}");
+            equal(stale.answer(), "{\"stale\":[\"count\"]}");
+            equal(second.answer(), stale.answer());
+            Agent.Reply clash = second.fire("[[\"put\",[\"x\"],1],[\"put\",[\"x\"],2]]", "[]");
+            equal(clash.code(), FolugbenException.CLASH);
+            equal(clash.answer(), "{\"clash\":[[\"x\"],\"Two\"]}");
+            equal(second.answer(), clash.answer());
             equal(second.fire("[]", "[]").move(), 2);
             equal(second.fire("[]", "[]").code(), FolugbenException.FULL);
             equal(second.answer(), "\"full\"");
@@ -104,6 +106,105 @@ public final class Test {
         throw new IllegalStateException("a library of another version is taken");
     }
 
+    /** The call throws an exception of this class, which tells this. */
+    static void thrown(Class<? extends RuntimeException> kind, String told, Runnable call) {
+        try {
+            call.run();
+        } catch (RuntimeException error) {
+            equal(error.getClass(), kind);
+            equal(error.getMessage(), told);
+            return;
+        }
+        throw new IllegalStateException("not thrown: " + told);
+    }
+
+    static void nulls() {
+        try (Storage storage = new Storage("[]", 8); Agent agent = storage.agent(0)) {
+            Class<? extends RuntimeException> kind = NullPointerException.class;
+            thrown(kind, "init", () -> new Storage(null, 8));
+            thrown(kind, "locations", () -> agent.read(null));
+            thrown(kind, "instructions", () -> agent.fire(null, "[]"));
+            thrown(kind, "reads", () -> agent.fire("[]", null));
+            thrown(kind, "other", () -> agent.learn(null));
+            thrown(kind, "agent", () -> storage.give(null));
+            thrown(kind, "journal", () -> Storage.check(null));
+            thrown(kind, "journal", () -> Storage.replay(null));
+        }
+    }
+
+    /** A lone surrogate isn't taken for the question mark that getBytes writes in its place. */
+    static void surrogates() {
+        String at = " has a lone surrogate at index ";
+        Class<? extends RuntimeException> kind = IllegalArgumentException.class;
+        try (Storage storage = new Storage("[[[\"k\",\"?\"],1],[[\"k\",\"\ud83d\ude00\"],2]]", 8);
+                Agent agent = storage.agent(0)) {
+            for (String lone :
+                    new String[] {"\ud83d", "\ude00", "\ude00\ud83d", "\ud83d\ud83d\ude00"}) {
+                String location = "[\"k\",\"" + lone + "\"]";
+                String put = "[[\"put\"," + location + ",9]]";
+                thrown(kind, "locations" + at + 7, () -> agent.read("[" + location + "]"));
+                thrown(kind, "instructions" + at + 14, () -> agent.fire(put, "[]"));
+                thrown(kind, "reads" + at + 8, () -> agent.fire("[]", "[[" + location + ",0]]"));
+                thrown(kind, "init" + at + 8, () -> new Storage("[[" + location + ",1]]", 8));
+                thrown(kind, "journal" + at + 0, () -> Storage.check(lone));
+                thrown(kind, "journal" + at + 0, () -> Storage.replay(lone));
+            }
+            refused(FolugbenException.NOT_JSON, () -> agent.read("[[\"k\",\"\\ud83d\"]]"));
+            refused(FolugbenException.NONE, agent::answer);
+            equal(agent.read("[[\"k\",\"\ud83d\ude00\"],[\"k\",\"\\ud83d\\ude00\"]]"),
+                    "{\"number\":0,\"values\":[2,2]}");
+        }
+    }
+
+    /** Neither the instructions nor the reads can be more than their part of the move. */
+    static void parts() {
+        String put = "[[\"put\",[\"x\"],1]]";
+        String[] none = {"", " ", ",", "]", "}", "[", "[[]", "[]]", "[],[]", "[] []", "[]7", "7 7",
+                "7,", "7:7", "[],\"fire\":" + put, "[],\"reads\":[]", "\"", "\"\\\"", "\"\"\"\"",
+                "[\"]", "[]}", "[]} {", "[]\u0000", "\u00a0[]"};
+        String[] wrong = {
+                "7", "-1e9", "null", "{}", "\"[],\\\"fire\\\":[]\"", " true ", "{\"fire\":[]}"};
+        String[] broken = {"[}", "{]", "nul", "[nul]", "[7 7]", "[,]", "[\"\\x\"]", "[\"\u0000\"]",
+                "[\"\n\"]"};
+        try (Storage storage = new Storage("[]", 8); Agent agent = storage.agent(0)) {
+            for (String text : none) {
+                String told = FolugbenException.errorText(FolugbenException.NOT_JSON);
+                thrown(FolugbenException.class, told + " (instructions)",
+                        () -> agent.fire(text, "[]"));
+                thrown(FolugbenException.class, told + " (reads)", () -> agent.fire(put, text));
+            }
+            for (String text : wrong) {
+                refused(FolugbenException.SHAPE, () -> agent.fire(text, "[]"));
+                refused(FolugbenException.SHAPE, () -> agent.fire(put, text));
+            }
+            for (String text : broken) {
+                refused(FolugbenException.NOT_JSON, () -> agent.fire(text, "[]"));
+                refused(FolugbenException.NOT_JSON, () -> agent.fire(put, text));
+            }
+            refused(FolugbenException.NONE, agent::answer);
+            equal(agent.seen(), 0);
+            String spaced = " [ [\"put\",[\"x\"],\"],\\\"fire\\\":[\\\\\"] ]\r\n";
+            equal(agent.fire(spaced, "\t[\n[ [\"x\"] , 0 ]]").move(), 1);
+            equal(agent.read("[[\"x\"]]"), "{\"number\":1,\"values\":[\"],\\\"fire\\\":[\\\\\"]}");
+        }
+    }
+
+    /** A zero character is one like any other, and ends no text. */
+    static void zeros() {
+        try (Storage storage = new Storage("[[[\"k\",\"\\u0000\"],1]]", 8);
+                Agent agent = storage.agent(0)) {
+            equal(agent.read("[[\"k\",\"\\u0000\"],[\"k\",\"\"]]"),
+                    "{\"number\":0,\"values\":[1,null]}");
+            refused(FolugbenException.NOT_JSON, () -> agent.read("[[\"k\",\"\u0000\"]]"));
+            refused(FolugbenException.NOT_JSON, () -> agent.read("[]\u0000"));
+            agent.fire("[[\"put\",[\"k\",\"\\u0000\"],\"a\\u0000b\"]]", "[]");
+            agent.give();
+            String journal = storage.closeJournal();
+            equal(Storage.replay(journal), "[[[\"k\",\"\\u0000\"],\"a\\u0000b\"]]");
+            refused(FolugbenException.SHAPE, () -> Storage.check(journal + "\u0000"));
+        }
+    }
+
     static void longTexts() {
         String word = "x".repeat(5000);
         try (Storage storage = new Storage("[[[\"w\"],\"" + word + "\"]]", 1);
@@ -112,6 +213,55 @@ public final class Test {
             agent.give();
             equal(Storage.replay(storage.closeJournal()), "[[[\"w\"],\"" + word + "\"]]");
         }
+    }
+
+    /** A text is written once if there is room for it, and else twice. */
+    static void rooms() {
+        for (int room : new int[] {0, 2, 3, 4}) {
+            int[] calls = new int[1];
+            equal(Calls.text((out, length, written) -> {
+                calls[0]++;
+                written[0] = 3;
+                return length < 3 ? FolugbenException.SMALL : FolugbenException.DONE;
+            }, room), "\0\0\0");
+            equal(calls[0], room < 3 ? 2 : 1);
+        }
+    }
+
+    /** Whoever holds the monitor of an agent or a storage hinders no other thread's calls. */
+    static void monitors() throws InterruptedException {
+        try (Storage storage = new Storage("[]", 8); Agent agent = storage.agent(0);
+                Agent other = storage.agent(1)) {
+            Thread thread = new Thread(() -> {
+                agent.read("[]");
+                other.learn(agent);
+                agent.give();
+                storage.closeJournal();
+            });
+            thread.setDaemon(true);
+            synchronized (Agent.class) {
+                synchronized (storage) {
+                    synchronized (agent) {
+                        thread.start();
+                        thread.join(60_000);
+                    }
+                }
+            }
+            equal(thread.isAlive(), false);
+        }
+    }
+
+    static void libraryNames() {
+        String key = "folugben.library";
+        String was = System.getProperty(key);
+        System.setProperty(key, "");
+        equal(Calls.libraryName(), "folugben");
+        System.setProperty(key, "/a/b.so");
+        equal(Calls.libraryName(), "/a/b.so");
+        System.clearProperty(key);
+        equal(Calls.libraryName(), "folugben");
+        if (was != null)
+            System.setProperty(key, was);
     }
 
     public static void main(String[] arguments) throws Exception {
@@ -123,8 +273,22 @@ public final class Test {
         System.out.println("closed agents");
         versions();
         System.out.println("versions");
+        nulls();
+        System.out.println("nulls");
+        surrogates();
+        System.out.println("surrogates");
+        parts();
+        System.out.println("parts");
+        zeros();
+        System.out.println("zeros");
         longTexts();
         System.out.println("long texts");
+        rooms();
+        System.out.println("rooms");
+        monitors();
+        System.out.println("monitors");
+        libraryNames();
+        System.out.println("library names");
         Example.play();
         System.out.println("threads");
     }

@@ -1,0 +1,37 @@
+"""The abstract storage of a CoreASM engine, for Python, over libfolugben.so by ctypes.
+
+A Storage is opened with a state; each Agent of it reads locations and fires moves, in a thread of its own. A location is a
+list ["name", argument, ..], a value is what docs/FORMATS.md says as JSON. An agent that is given back is closed with the
+others into a journal:
+
+    with Storage([[["count"], 0]], 1000) as storage:
+        with storage.agent(0) as agent:
+            number, (count,) = agent.read([["count"]])
+            agent.fire([["put", ["count"], count + 1]], [[["count"], number]])
+        journal = storage.close_journal()
+
+Any thread may call an Agent or a Storage: each has a lock, so that no slot is in two calls at the same time. ctypes releases
+the interpreter's lock while a call runs, so agents in different threads do run at the same time. Of the header's calls only
+asm_agents has no method here: call `Storage.agent` for each number.
+
+Signal handlers and finalizers should call neither: where one interrupts a call of its own thread, on whichever agent or
+storage, its calls raise `Nested` and do nothing. A handler had better leave a note for what it interrupts. If it lets an
+exception through, that ends the call which it interrupted, though the library may have answered it: `Agent.answer` tells.
+
+The storage tells true from 1 and false from 0, but in Python True == 1 and False == 0, and equal keys are one. So don't
+hold elements in Python's sets or as keys of its dicts: {True, 1} has one item, while {"set": [True, 1]}, as a set is written
+here, has two. Likewise ["f", True] and ["f", 1] are two locations, and a value that was read as true equals 1; compare by
+`is True` where both may occur.
+"""
+from ._errors import BadJournal, Busy, Clash, Error, Full, Missing, Stale, error_text
+from ._held import Nested
+from ._library import BUSY, CLASH, CUT, DONE, EMPTY, FULL, ILLEGAL, LARGE, MANY, MEMORY, MISSING, NONE, NOT_JSON, NUMBER
+from ._library import OTHER, RANGE, SHAPE, SMALL, STALE, TAKEN, VERSION
+from ._storage import Agent, Storage, check, replay, version
+
+__all__ = [
+    "Agent", "BadJournal", "Busy", "Clash", "Error", "Full", "Missing", "Nested", "Stale", "Storage", "check", "error_text",
+    "replay", "version",
+    "BUSY", "CLASH", "CUT", "DONE", "EMPTY", "FULL", "ILLEGAL", "LARGE", "MANY", "MEMORY", "MISSING", "NONE", "NOT_JSON",
+    "NUMBER", "OTHER", "RANGE", "SHAPE", "SMALL", "STALE", "TAKEN", "VERSION",
+]

@@ -1,0 +1,72 @@
+"""The exceptions of calls that weren't answered, or whose move wasn't fired."""
+from collections.abc import Iterable
+from typing import Any
+
+from ._library import BUSY, DONE, ILLEGAL, MEMORY, MISSING, NOT_JSON, SHAPE, Buffer, lib
+
+# What the numbers of an error mean, for the codes that have some.
+NUMBERS = {
+    BUSY: "the agent had seen {} moves at the start of the call and {} at its end",
+    MISSING: "move {}",
+    ILLEGAL: "call {}, counted from 0",
+    NOT_JSON: "line {}",
+    SHAPE: "line {}",
+}
+
+
+def error_text(code: int) -> str:
+    """What a code means, in a line."""
+    # ctypes would take 2**32 for 0.
+    code = code if -(2**31) <= code < 2**31 else -1
+    return Buffer().text(lib.asm_error_text, code)[1].decode()
+
+
+class Error(Exception):
+    """A call that wasn't answered, with its code, and its numbers where the code has some."""
+
+    def __init__(self, code: int, numbers: Iterable[int] = ()) -> None:
+        self.code = code
+        self.numbers = tuple(numbers) if code in NUMBERS else ()
+        super().__init__(self.code, self.numbers)
+
+    def __str__(self) -> str:
+        text = error_text(self.code)
+        return f"{text} ({NUMBERS[self.code].format(*self.numbers)})" if self.numbers else text
+
+
+class Stale(Error):
+    """A named location was written since it was read; `at` is the least such location."""
+
+    at: list[Any]
+    cause = None
+
+
+class Clash(Error):
+    """The updates of the move clash; `at` is the location and `cause` the cause."""
+
+    at: list[Any]
+    cause: str
+
+
+class Full(Error):
+    """As many moves were fired as the capacity."""
+
+
+class Busy(Error):
+    """64 offers were lost; `numbers` are how many moves had been seen at the start and at the end."""
+
+
+class Missing(Error):
+    """A move has no receipt among the agents that were given back; `numbers` has its number."""
+
+
+class BadJournal(Error):
+    """The journal is illegal, or is none; `numbers` has the number of the call or of the line, if there is one."""
+
+
+def expect(code: int, kind: type[Error] = Error, numbers: Iterable[int] = ()) -> None:
+    """Raises what the code says, unless it is DONE."""
+    if code == MEMORY:
+        raise MemoryError
+    if code != DONE:
+        raise kind(code, numbers)

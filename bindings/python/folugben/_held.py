@@ -1,0 +1,76 @@
+"""What holds a slot of the library, and the guard round each call on one."""
+import functools
+import threading
+from collections.abc import Callable
+from typing import Any, ParamSpec, Self, TypeVar
+
+from ._library import Slot, lib
+
+_P = ParamSpec("_P")
+_R = TypeVar("_R")
+
+
+class Nested(RuntimeError):
+    """A call by a signal handler or a finalizer, in the midst of another call of its thread; nothing was done."""
+
+
+class _Here(threading.local):
+    """Whether this thread is in a call."""
+
+    in_call = False
+
+
+_here = _Here()
+
+
+def one_call(method: Callable[_P, _R]) -> Callable[_P, _R]:
+    """A method that is one call: its thread makes no other before it ends.
+
+    Python runs signal handlers and finalizers between any two steps of a method. Their calls could take away the answer
+    that the method is about to ask for, or wait for a lock that their own thread holds.
+    """
+
+    @functools.wraps(method)
+    def call(*arguments: _P.args, **named: _P.kwargs) -> _R:
+        if _here.in_call:
+            raise Nested("this thread is in another call, which a signal handler or a finalizer has interrupted")
+        # A handler may raise at any step, so the mark is set where it is sure to be taken back.
+        try:
+            _here.in_call = True
+            return method(*arguments, **named)
+        finally:
+            _here.in_call = False
+
+    return call
+
+
+class Held:
+    """Something in a slot, which is released at the end of a `with`.
+
+    The lock is held during each call on the slot. Who needs several takes a storage's before an agent's, and those of two
+    agents in the order of their id, so that no two threads wait for each other.
+    """
+
+    def __init__(self) -> None:
+        self._lock, self._slot = threading.RLock(), Slot()
+
+    @one_call
+    def free(self) -> None:
+        """Releases it; it may be called again."""
+        with self._lock:
+            lib.asm_free(self._slot)
+
+    def __enter__(self) -> Self:
+        return self
+
+    def __exit__(self, *_: object) -> None:
+        self.free()
+
+    def __reduce__(self) -> Any:
+        # A copy would have the same slot, and release it.
+        raise TypeError(f"cannot copy or pickle {type(self).__name__!r} object")
+
+    def __del__(self) -> None:
+        # Nothing else has it any more, so there is no need for its lock, nor for the end of a call that this interrupts.
+        if getattr(self, "_slot", None) is not None and lib is not None:
+            lib.asm_free(self._slot)

@@ -1,0 +1,85 @@
+"""libfolugben.so by ctypes: its calls, their codes, and the texts that they write."""
+import ctypes
+import os
+import pathlib
+from collections.abc import Callable
+from typing import Any
+
+# The version of the library that this package was written for.
+WRITTEN_FOR = 1000
+# Where ./build_c puts the library.
+BUILT = pathlib.Path(__file__).resolve().parents[2] / "out" / "libfolugben.so"
+
+DONE, STALE, CLASH, MEMORY, FULL, EMPTY, RANGE, SMALL, BUSY, MANY, NONE = range(11)
+TAKEN, NUMBER, MISSING, OTHER, ILLEGAL, NOT_JSON, SHAPE, VERSION, CUT, LARGE = range(11, 21)
+
+
+class Slot(ctypes.Structure):
+    """Room for a storage or an agent."""
+
+    _fields_ = [("full", ctypes.c_bool), ("at", ctypes.c_void_p)]
+
+
+class Numbers(ctypes.Structure):
+    """The numbers of a fire."""
+
+    fired: int
+    from_: int
+    to: int
+    _fields_ = [("fired", ctypes.c_uint32), ("from_", ctypes.c_uint32), ("to", ctypes.c_uint32)]
+
+
+def path() -> str:
+    """Where the library is: as FOLUGBEN_LIBRARY says, unless that is empty."""
+    return os.environ.get("FOLUGBEN_LIBRARY") or str(BUILT)
+
+
+def load() -> ctypes.CDLL:
+    """The library, if it has the version that this package was written for."""
+    library = ctypes.CDLL(path())
+    library.asm_version.restype = ctypes.c_uint32
+    if library.asm_version() != WRITTEN_FOR:
+        raise ImportError(f"{path()} has version {library.asm_version()}, and this package was written for {WRITTEN_FOR}")
+    text, size, slot = ctypes.c_char_p, ctypes.c_size_t, ctypes.POINTER(Slot)
+    code, u32, u64, written = ctypes.c_int32, ctypes.c_uint32, ctypes.c_uint64, ctypes.POINTER(ctypes.c_size_t)
+    calls: dict[str, tuple[Any, list[Any]]] = {
+        "asm_error_text": (code, [code, text, size, written]),
+        "asm_open": (code, [text, size, u32, slot]),
+        "asm_agent": (code, [slot, u32, slot]),
+        "asm_read": (code, [slot, text, size]),
+        "asm_try_fire": (code, [slot, text, size, ctypes.POINTER(Numbers)]),
+        "asm_answer": (code, [slot, text, size, written]),
+        "asm_learn": (code, [slot, slot]),
+        "asm_seen": (u32, [slot]),
+        "asm_won": (u32, [slot]),
+        "asm_misses": (u64, [slot]),
+        "asm_give": (code, [slot, slot]),
+        "asm_close": (code, [slot, ctypes.POINTER(u32)]),
+        "asm_journal": (code, [slot, text, size, written]),
+        "asm_free": (None, [slot]),
+        "asm_check": (code, [text, size, ctypes.POINTER(u64), ctypes.POINTER(u32)]),
+        "asm_replay": (code, [text, size, text, size, written, ctypes.POINTER(u64)]),
+    }
+    for name, (result, arguments) in calls.items():
+        call = getattr(library, name)
+        call.restype, call.argtypes = result, arguments
+    return library
+
+
+lib = load()
+
+
+class Buffer:
+    """Room for the texts that calls write; it is kept from call to call, and for one call at a time."""
+
+    def __init__(self, room: int = 512) -> None:
+        self._out: Any = ctypes.create_string_buffer(room)
+        self._written = ctypes.c_size_t()
+
+    def text(self, call: Callable[..., int], *before: Any, after: tuple[Any, ...] = ()) -> tuple[int, bytes]:
+        """The code of a call, and what it wrote; the buffer grows where it is too small."""
+        while True:
+            code = call(*before, self._out, len(self._out), self._written, *after)
+            if code != SMALL:
+                return code, self._out[: self._written.value]
+            self._out = ctypes.create_string_buffer(max(self._written.value, 2 * len(self._out)))

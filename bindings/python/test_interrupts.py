@@ -1,0 +1,106 @@
+"""Tests of calls that signal handlers and finalizers make in the midst of others: python3 test.py runs them too."""
+import signal
+import time
+import unittest
+from collections.abc import Callable
+from unittest import mock
+
+from folugben import Nested, Storage, _storage
+from threads import in_threads
+
+
+class Alarm(Exception):
+    """What a handler raises."""
+
+
+class Interrupts(unittest.TestCase):
+    """Signal handlers and finalizers run between two steps of a call."""
+
+    def setUp(self):
+        self.storage = Storage([[["own"], 1], [["other"], 2]])
+        self.agent = self.storage.agent(0)
+        self.addCleanup(self.storage.free)
+        self.addCleanup(self.agent.free)
+
+    def interrupted(self, handler: Callable[[], object], work: Callable[[], bool]) -> None:
+        """Does the work until it says that it is done, while a timer calls the handler again and again."""
+        was = signal.signal(signal.SIGALRM, lambda *_: handler())
+        self.addCleanup(signal.signal, signal.SIGALRM, was)
+        self.addCleanup(signal.setitimer, signal.ITIMER_REAL, 0)
+        end = time.monotonic() + 60
+        signal.setitimer(signal.ITIMER_REAL, 0.0005, 0.0002)
+        while not work():
+            self.assertLess(time.monotonic(), end)
+        signal.setitimer(signal.ITIMER_REAL, 0)
+
+    def assert_fit(self):
+        """No lock is held and no thread counted as in a call."""
+        self.assertEqual(in_threads(lambda _: self.agent.read([["own"]]), 1), ([], True))
+        self.assertEqual(self.agent.read([["own"]]), (0, [1]))
+
+    def test_a_handler_takes_no_answer_of_the_call_that_it_interrupts(self):
+        refused, answered = [], []
+
+        def handler():
+            try:
+                answered.append(self.agent.read([["other"]]))
+            except Nested as error:
+                refused.append(error)
+
+        def work():
+            self.assertEqual(self.agent.read([["own"]]), (0, [1]))
+            return len(refused) > 100 and len(answered) > 10
+
+        self.interrupted(handler, work)
+        self.assertEqual(answered, [(0, [2])] * len(answered))
+        self.assert_fit()
+
+    def test_a_handler_that_raises_leaves_all_fit_for_use(self):
+        ready, raised = False, 0
+
+        def handler():
+            nonlocal ready
+            if ready:
+                ready = False
+                raise Alarm
+
+        def work():
+            nonlocal ready, raised
+            try:
+                ready = True
+                self.assertEqual(self.agent.read([["own"]]), (0, [1]))
+                self.agent.learn(other)
+                ready = False
+            except Alarm:
+                raised += 1
+            return raised > 300
+
+        other = self.storage.agent(1)
+        self.interrupted(handler, work)
+        self.assert_fit()
+        self.assertEqual(in_threads(lambda _: other.learn(self.agent), 1), ([], True))
+
+    def test_no_call_comes_between_a_read_and_its_answer(self):
+        answer, other, dropped = _storage.lib.asm_answer, self.storage.agent(1), [self.storage.agent(2)]
+        slot = dropped[0]._slot
+
+        def between(*arguments):
+            for call in (self.agent.answer, self.agent.give, self.agent.free, self.agent.__exit__, self.storage.free):
+                self.assertRaises(Nested, call)
+            self.assertRaises(Nested, self.agent.read, [["other"]])
+            self.assertRaises(Nested, self.agent.fire, [])
+            # These would wait for a lock of this thread if another one were at the same call.
+            self.assertRaises(Nested, other.learn, self.agent)
+            self.assertRaises(Nested, self.storage.agent, 3)
+            # What is dropped needs no lock to be released.
+            dropped.clear()
+            return answer(*arguments)
+
+        with mock.patch.object(_storage.lib, "asm_answer", between):
+            self.assertEqual(self.agent.read([["own"]]), (0, [1]))
+        self.assertFalse(slot.full or dropped)
+        self.assert_fit()
+
+
+if __name__ == "__main__":
+    unittest.main()
