@@ -13,6 +13,7 @@
 #include <stddef.h>
 #include <stdio.h>
 #include <stdlib.h>
+#include <sys/syscall.h>
 #include <unistd.h>
 
 extern void *__libc_malloc(size_t size);
@@ -81,6 +82,13 @@ static __attribute__((destructor)) void tell_asked(void) {
         fprintf(file, "%lu\n", bytes);
         fclose(file);
     }
+}
+
+/* The program may end so, and then no destructor runs. */
+void _exit(int status) {
+    tell_asked();
+    syscall(SYS_exit_group, status);
+    __builtin_unreachable();
 }
 
 /* What a program's first instructions call; it is handed the program's main. */
