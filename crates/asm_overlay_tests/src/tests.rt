@@ -1,23 +1,26 @@
 use asm_element::{Element, Location, Value};
-use asm_overlay::{FRAMES_LIMIT, Over, Overlay, OverlayError, Seen};
-use asm_update::{Lookup, PlainState, UpdateSet};
+use asm_overlay::{FRAMES_LIMIT, Overlay, OverlayError, Seen};
+use asm_update::UpdateSet;
 use std::alloc::Global;
 use std::process::Abort;
 use std::test::Fail;
 
 /// A number, or undef, at the location of this name.
 #[derive(Clone, Copy)]
-struct Put(&'static str, Option<i64>);
+pub(crate) struct Put(pub(crate) &'static str, pub(crate) Option<i64>);
+
+/// A frame as plain data.
+pub(crate) type Frame = &'static [Put];
 
 /// What is done with an overlay, and what comes of it.
 #[derive(Clone, Copy)]
 enum Step {
     /// A frame is put on top of the others.
-    Push(Put),
+    Push(Frame),
     /// A frame is handed back, as there are 64.
-    Deep(Put),
+    Deep(Frame),
     /// The topmost frame is this one.
-    Pop(Put),
+    Pop(Frame),
     /// There is no frame.
     Empty,
     /// There are so many frames.
@@ -28,35 +31,47 @@ enum Step {
     Below(&'static str),
 }
 
-fn location(alloc: Global, name: &str) -> Result<Location, Fail> {
+pub(crate) fn location(alloc: Global, name: &str) -> Result<Location, Fail> {
     Ok(Location::new(String::from_str(alloc, name)?, Vec::new(alloc))?)
 }
 
-fn value(number: Option<i64>) -> Value {
+pub(crate) fn value(number: Option<i64>) -> Value {
     match number {
         Some(n) => Value::Plain(Element::Num(n)),
         None => Value::Plain(Element::Undef),
     }
 }
 
-fn frame(alloc: Global, put: Put) -> Result<UpdateSet, Fail> {
+fn frame(alloc: Global, puts: &[Put]) -> Result<UpdateSet, Fail> {
     let mut updates = UpdateSet::new(alloc);
-    updates.put(location(alloc, put.0)?, value(put.1))?;
+    for put in puts {
+        let at = location(alloc, put.0)?;
+        updates.put(at, value(put.1))?;
+    }
     Ok(updates)
 }
 
-fn pushes(alloc: Global, overlay: &mut Overlay, put: Put) -> Result<bool, Fail> {
-    overlay.push(frame(alloc, put)?)?;
+pub(crate) fn pushes(alloc: Global, overlay: &mut Overlay, puts: &[Put]) -> Result<bool, Fail> {
+    overlay.push(frame(alloc, puts)?)?;
     Ok(true)
 }
 
-fn is_deep(alloc: Global, overlay: &mut Overlay, put: Put) -> Result<bool, Fail> {
-    let copy = frame(alloc, put)?;
-    Ok(overlay.push(frame(alloc, put)?) == Err(OverlayError::Deep(copy)))
+/// Whether the frame is handed back as one too many.
+fn is_deep(answer: Result<(), OverlayError>, frame: UpdateSet) -> bool {
+    match answer {
+        Ok(()) => false,
+        Err(OverlayError::Deep(back)) => back == frame,
+        Err(OverlayError::Memory(_back)) => false,
+    }
 }
 
-fn pops(alloc: Global, overlay: &mut Overlay, put: Put) -> Result<bool, Fail> {
-    let topmost = frame(alloc, put)?;
+fn is_too_many(alloc: Global, overlay: &mut Overlay, puts: &[Put]) -> Result<bool, Fail> {
+    let answer = overlay.push(frame(alloc, puts)?);
+    Ok(is_deep(answer, frame(alloc, puts)?))
+}
+
+fn pops(alloc: Global, overlay: &mut Overlay, puts: &[Put]) -> Result<bool, Fail> {
+    let topmost = frame(alloc, puts)?;
     Ok(overlay.pop() == Some(topmost))
 }
 
@@ -75,9 +90,9 @@ fn is_below(alloc: Global, overlay: &Overlay, name: &str) -> Result<bool, Fail> 
 
 fn takes(alloc: Global, overlay: &mut Overlay, step: Step) -> Result<bool, Fail> {
     match step {
-        Step::Push(put) => pushes(alloc, overlay, put),
-        Step::Deep(put) => is_deep(alloc, overlay, put),
-        Step::Pop(put) => pops(alloc, overlay, put),
+        Step::Push(puts) => pushes(alloc, overlay, puts),
+        Step::Deep(puts) => is_too_many(alloc, overlay, puts),
+        Step::Pop(puts) => pops(alloc, overlay, puts),
         Step::Empty => Ok(overlay.pop().is_none()),
         Step::Depth(depth) => Ok(overlay.depth() == depth),
         Step::Held(put) => holds(alloc, overlay, put),
@@ -101,18 +116,19 @@ fn play<R: Abort>(
 fn full(alloc: Global) -> Result<Overlay, Fail> {
     let mut overlay = Overlay::new(alloc);
     for n in 0..64 {
-        pushes(alloc, &mut overlay, Put("x", Some(n)))?;
+        pushes(alloc, &mut overlay, &[Put("x", Some(n))])?;
     }
     Ok(overlay)
 }
 
-static AT_64_FRAMES: [Step; 7] = [
+static AT_64_FRAMES: [Step; 8] = [
     Step::Depth(64),
-    Step::Deep(Put("x", Some(64))),
+    Step::Deep(&[Put("x", Some(64))]),
+    Step::Deep(&[]),
     Step::Depth(64),
-    Step::Pop(Put("x", Some(63))),
+    Step::Pop(&[Put("x", Some(63))]),
     Step::Depth(63),
-    Step::Push(Put("x", Some(64))),
+    Step::Push(&[Put("x", Some(64))]),
     Step::Depth(64),
 ];
 
@@ -128,37 +144,51 @@ fn the_limit_of_frames_is_told(rt: HostRuntime) -> Result<(), Fail> {
     Ok(())
 }
 
-/// Whether the frame is put on top, or, where memory was refused, is handed back, with as many frames as before.
-fn is_handed_back(alloc: Global, overlay: &mut Overlay, put: Put) -> Result<bool, Fail> {
-    let copy = frame(alloc, put)?;
-    let depth = overlay.depth();
-    Ok(match overlay.push(frame(alloc, put)?) {
-        Ok(()) => overlay.depth() == depth + 1,
-        Err(OverlayError::Memory(back)) => back == copy && overlay.depth() == depth,
+/// Whether the answer of a push tells whether the frame is on top, and else hands it back.
+fn is_told(answer: Result<(), OverlayError>, is_on_top: bool, frame: UpdateSet) -> bool {
+    match answer {
+        Ok(()) => is_on_top,
+        Err(OverlayError::Memory(back)) => !is_on_top && back == frame,
         Err(OverlayError::Deep(_back)) => false,
-    })
+    }
+}
+
+/// Whether the frame is put on top, or, where memory was refused, is handed back, with as many frames as before.
+fn is_handed_back(alloc: Global, overlay: &mut Overlay, puts: &[Put]) -> Result<bool, Fail> {
+    let depth = overlay.depth();
+    let answer = overlay.push(frame(alloc, puts)?);
+    let is_on_top = overlay.depth() == depth + 1;
+    let is_kept = is_on_top || overlay.depth() == depth;
+    Ok(is_told(answer, is_on_top, frame(alloc, puts)?) && is_kept)
 }
 
 #[test]
 fn a_frame_that_finds_no_memory_is_handed_back(rt: HostRuntime) -> Result<(), Fail> {
     let mut overlay = Overlay::new(rt.alloc());
     for n in 0..9 {
-        assert!(rt; is_handed_back(rt.alloc(), &mut overlay, Put("x", Some(n)))?);
+        assert!(rt; is_handed_back(rt.alloc(), &mut overlay, &[Put("x", Some(n))])?);
     }
     Ok(())
 }
 
-static TOPMOST: [Step; 12] = [
+static TOPMOST: [Step; 19] = [
     Step::Empty,
     Step::Below("x"),
-    Step::Push(Put("x", Some(1))),
-    Step::Push(Put("x", Some(2))),
-    Step::Push(Put("y", Some(3))),
+    Step::Push(&[Put("x", Some(1))]),
+    Step::Push(&[Put("x", Some(2))]),
+    Step::Push(&[Put("y", Some(3)), Put("w", None)]),
     Step::Held(Put("x", Some(2))),
     Step::Held(Put("y", Some(3))),
+    Step::Held(Put("w", None)),
     Step::Below("z"),
-    Step::Pop(Put("y", Some(3))),
-    Step::Pop(Put("x", Some(2))),
+    Step::Push(&[]),
+    Step::Depth(4),
+    Step::Held(Put("x", Some(2))),
+    Step::Below("z"),
+    Step::Pop(&[]),
+    Step::Depth(3),
+    Step::Pop(&[Put("y", Some(3)), Put("w", None)]),
+    Step::Pop(&[Put("x", Some(2))]),
     Step::Held(Put("x", Some(1))),
     Step::Below("y"),
 ];
@@ -167,36 +197,6 @@ static TOPMOST: [Step; 12] = [
 fn the_topmost_frame_wins(rt: HostRuntime) -> Result<(), Fail> {
     let mut overlay = Overlay::new(rt.alloc());
     play(&rt, rt.alloc(), &mut overlay, &TOPMOST)
-}
-
-fn state_with(alloc: Global, puts: &[Put]) -> Result<PlainState, Fail> {
-    let mut state = PlainState::new(alloc);
-    for put in puts {
-        state.set(location(alloc, put.0)?, value(put.1))?;
-    }
-    Ok(state)
-}
-
-/// An overlay with a frame for each put.
-fn overlay_of(alloc: Global, puts: &[Put]) -> Result<Overlay, Fail> {
-    let mut overlay = Overlay::new(alloc);
-    for put in puts {
-        pushes(alloc, &mut overlay, *put)?;
-    }
-    Ok(overlay)
-}
-
-fn gives<L: Lookup>(
-    alloc: Global,
-    lookup: &L,
-    name: &str,
-    number: Option<i64>,
-) -> Result<bool, Fail> {
-    let at = location(alloc, name)?;
-    Ok(match lookup.get(&at) {
-        Some(held) => number.is_some() && *held == value(number),
-        None => number.is_none(),
-    })
 }
 
 /// Whether what shows the one value is equal to what shows the other.
@@ -220,37 +220,6 @@ fn what_is_seen_is_equal_by_its_value(rt: HostRuntime) {
     assert!(rt; !is_held_equal_to_below(None));
 }
 
-#[test]
-fn undef_in_a_frame_hides_the_value_below(rt: HostRuntime) -> Result<(), Fail> {
-    let alloc = rt.alloc();
-    let state = state_with(alloc, &[Put("x", Some(1)), Put("y", Some(2))])?;
-    let overlay = overlay_of(alloc, &[Put("x", None)])?;
-    assert!(rt; holds(alloc, &overlay, Put("x", None))?);
-    let over = Over::new(&overlay, &state);
-    assert!(rt; gives(alloc, &over, "x", None)?);
-    assert!(rt; gives(alloc, &over, "y", Some(2))?);
-    assert!(rt; gives(alloc, &over, "z", None)?);
-    Ok(())
-}
-
-#[test]
-fn an_overlay_stands_over_another(rt: HostRuntime) -> Result<(), Fail> {
-    let alloc = rt.alloc();
-    let state = state_with(
-        alloc,
-        &[Put("x", Some(1)), Put("y", Some(2)), Put("z", Some(3))],
-    )?;
-    let lower = overlay_of(alloc, &[Put("x", Some(4)), Put("y", Some(5))])?;
-    let upper = overlay_of(alloc, &[Put("y", Some(6))])?;
-    let below = Over::new(&lower, &state);
-    let over = Over::new(&upper, &below);
-    assert!(rt; gives(alloc, &over, "x", Some(4))?);
-    assert!(rt; gives(alloc, &over, "y", Some(6))?);
-    assert!(rt; gives(alloc, &over, "z", Some(3))?);
-    assert!(rt; gives(alloc, &below, "y", Some(5))?);
-    Ok(())
-}
-
 /// Whether each is equal to itself alone.
 fn are_told_apart<T: PartialEq>(items: &[T]) -> bool {
     for (i, left) in items.iter().enumerate() {
@@ -263,24 +232,35 @@ fn are_told_apart<T: PartialEq>(items: &[T]) -> bool {
     true
 }
 
-#[test]
-fn errors_are_equal_by_their_kind_and_frame(rt: HostRuntime) -> Result<(), Fail> {
-    let alloc = rt.alloc();
+/// Two errors for each of three frames.
+fn errors(alloc: Global) -> Result<Vec<OverlayError>, Fail> {
     let mut errors = Vec::new(alloc);
     for number in [Some(1), Some(2), None] {
-        errors.push(OverlayError::Deep(frame(alloc, Put("x", number))?))?;
-        errors.push(OverlayError::Memory(frame(alloc, Put("x", number))?))?;
+        let one = frame(alloc, &[Put("x", number)])?;
+        errors.push(OverlayError::Deep(one))?;
+        let other = frame(alloc, &[Put("x", number)])?;
+        errors.push(OverlayError::Memory(other))?;
     }
+    Ok(errors)
+}
+
+#[test]
+fn errors_are_equal_by_their_kind_and_frame(rt: HostRuntime) -> Result<(), Fail> {
+    let errors = errors(rt.alloc())?;
     assert!(rt; errors.len() == 6 && are_told_apart(&errors));
     Ok(())
+}
+
+fn has_text(alloc: Global, error: OverlayError, text: &str) -> Result<bool, Fail> {
+    Ok(error.to_string(alloc)?.as_str() == text)
 }
 
 #[test]
 fn errors_have_their_texts(rt: HostRuntime) -> Result<(), Fail> {
     let alloc = rt.alloc();
-    let deep = OverlayError::Deep(UpdateSet::new(alloc)).to_string(alloc)?;
-    assert!(rt; deep.as_str() == "more than 64 frames");
-    let memory = OverlayError::Memory(UpdateSet::new(alloc)).to_string(alloc)?;
-    assert!(rt; memory.as_str() == "out of memory");
+    let deep = OverlayError::Deep(UpdateSet::new(alloc));
+    assert!(rt; has_text(alloc, deep, "more than 64 frames")?);
+    let memory = OverlayError::Memory(UpdateSet::new(alloc));
+    assert!(rt; has_text(alloc, memory, "out of memory")?);
     Ok(())
 }
