@@ -1,14 +1,14 @@
 //! The codes that calls answer, and their texts.
-ghost use Rattle.std.specs.Prelude.{◌≡◌, ◌≢◌, ◌⊎◌, ◌<◌, pos, length, slice_range};
-ghost use Rattle.asm_slots.specs.Codes.{text_of_code};
+ghost use Rattle.std.specs.Prelude.{◌≡◌, ◌≢◌, ◌⊎◌, ◌<◌, length, slice_range};
+ghost use Rattle.asm_slots.specs.Codes.{ASM_DONE, ASM_SMALL, text_of_code};
 
 #[unsafe(no_mangle)]
 pub extern "C" fn asm_error_text(code: i32, out: &mut [u8], written: &mut usize) -> i32
-    ensures codes { (result ≡ pos 0) ⊎ (result ≡ pos 7) }
+    ensures codes { (result ≡ ASM_DONE) ⊎ (result ≡ ASM_SMALL) }
     ensures written { written.new ≡ length (text_of_code code) }
-    ensures told { result ≡ pos 0 → slice_range out.new 0 written.new ≡ text_of_code code }
-    ensures unwritten { result ≢ pos 0 → out.new ≡ out.old }
-    ensures small { result ≡ pos 7 → length out.old < written.new }
+    ensures told { result ≡ ASM_DONE → slice_range out.new 0 written.new ≡ text_of_code code }
+    ensures unwritten { result ≢ ASM_DONE → out.new ≡ out.old }
+    ensures small { result ≡ ASM_SMALL → length out.old < written.new }
 {
     asm_slots::write_error_text(code, out, written)
 }

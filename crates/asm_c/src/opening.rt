@@ -1,7 +1,10 @@
 //! Opening storages, making agents, and letting go of what slots hold.
-ghost use Rattle.std.specs.Prelude.{◌≡◌, ◌≢◌, ◌≤◌, ◌<◌, ◌↔◌, ◌⊎◌, ◌∷◌, [], pos, length, None};
+ghost use Rattle.std.specs.Prelude.{◌≡◌, ◌≢◌, ◌≤◌, ◌<◌, ◌↔◌, ◌⊎◌, ◌∷◌, [], length, None};
 ghost use Rattle.asm_slots.specs.Calls.{IsOpened};
-ghost use Rattle.asm_slots.specs.Codes.{IsOneOf};
+ghost use Rattle.asm_journal.specs.Value.{IsStateForm};
+ghost use Rattle.asm_slots.specs.Bytes.{IsNoJson, IsOtherJson};
+ghost use Rattle.asm_slots.specs.Codes.{IsOneOf, ASM_DONE, ASM_MEMORY, ASM_EMPTY, ASM_RANGE, ASM_TAKEN};
+ghost use Rattle.asm_slots.specs.Codes.{ASM_NOT_JSON, ASM_SHAPE};
 ghost use Rattle.asm_slots.specs.Slots.{AreEmpty, AreNew, HoldsNew, HoldsNoStore, HoldsStore, content_of};
 
 use asm_slots::Slot;
@@ -9,41 +12,44 @@ use std::alloc::Global;
 
 #[unsafe(no_mangle)]
 pub extern "C" fn asm_open(alloc: Global, init: &[u8], capacity: u32, store: &mut Slot) -> i32
-    ensures codes { IsOneOf (0 ∷ 3 ∷ 6 ∷ 11 ∷ 16 ∷ 17 ∷ []) result }
-    ensures opened { result ≡ pos 0 → HoldsStore (content_of store.new) (IsOpened init.now capacity) }
-    ensures empty { result ≡ pos 0 → content_of store.old ≡ None }
-    ensures refused { result ≢ pos 0 → content_of store.new ≡ content_of store.old }
-    ensures range { result ≡ pos 6 → (capacity ≡ 0) ⊎ (1048576 < capacity) }
-    ensures taken { (result ≡ pos 11) ↔ (content_of store.old ≢ None) }
+    ensures codes { IsOneOf (ASM_DONE ∷ ASM_MEMORY ∷ ASM_RANGE ∷ ASM_TAKEN
+        ∷ ASM_NOT_JSON ∷ ASM_SHAPE ∷ []) result }
+    ensures opened { result ≡ ASM_DONE → HoldsStore (content_of store.new) (IsOpened init.now capacity) }
+    ensures empty { result ≡ ASM_DONE → content_of store.old ≡ None }
+    ensures refused { result ≢ ASM_DONE → content_of store.new ≡ content_of store.old }
+    ensures range { result ≡ ASM_RANGE → (capacity ≡ 0) ⊎ (1048576 < capacity) }
+    ensures not_json { result ≡ ASM_NOT_JSON → IsNoJson init.now }
+    ensures shape { result ≡ ASM_SHAPE → IsOtherJson IsStateForm init.now }
+    ensures taken { (result ≡ ASM_TAKEN) ↔ (content_of store.old ≢ None) }
 {
     asm_slots::open(alloc, init, capacity, store)
 }
 
 #[unsafe(no_mangle)]
 pub extern "C" fn asm_agent(alloc: Global, store: &mut Slot, id: u32, agent: &mut Slot) -> i32
-    ensures codes { IsOneOf (0 ∷ 3 ∷ 5 ∷ 6 ∷ 11 ∷ []) result }
+    ensures codes { IsOneOf (ASM_DONE ∷ ASM_MEMORY ∷ ASM_EMPTY ∷ ASM_RANGE ∷ ASM_TAKEN ∷ []) result }
     ensures store { content_of store.new ≡ content_of store.old }
-    ensures made { result ≡ pos 0 → HoldsNew (content_of store.old) (content_of agent.new) id }
-    ensures refused { result ≢ pos 0 → content_of agent.new ≡ content_of agent.old }
-    ensures range { (result ≡ pos 6) ↔ (256 ≤ id) }
-    ensures taken { result ≡ pos 11 → content_of agent.old ≢ None }
-    ensures free { result ≡ pos 0 → content_of agent.old ≡ None }
-    ensures empty { result ≡ pos 5 → HoldsNoStore (content_of store.old) }
+    ensures made { result ≡ ASM_DONE → HoldsNew (content_of store.old) (content_of agent.new) id }
+    ensures refused { result ≢ ASM_DONE → content_of agent.new ≡ content_of agent.old }
+    ensures range { (result ≡ ASM_RANGE) ↔ (256 ≤ id) }
+    ensures taken { result ≡ ASM_TAKEN → content_of agent.old ≢ None }
+    ensures free { result ≡ ASM_DONE → content_of agent.old ≡ None }
+    ensures empty { result ≡ ASM_EMPTY → HoldsNoStore (content_of store.old) }
 {
     asm_slots::make_agent(alloc, store, id, agent)
 }
 
 #[unsafe(no_mangle)]
 pub extern "C" fn asm_agents(alloc: Global, store: &mut Slot, agents: &mut [Slot]) -> i32
-    ensures codes { IsOneOf (0 ∷ 3 ∷ 5 ∷ 6 ∷ 11 ∷ []) result }
+    ensures codes { IsOneOf (ASM_DONE ∷ ASM_MEMORY ∷ ASM_EMPTY ∷ ASM_RANGE ∷ ASM_TAKEN ∷ []) result }
     ensures store { content_of store.new ≡ content_of store.old }
-    ensures made { result ≡ pos 0 → HoldsStore (content_of store.old) (λ s. AreNew s.storage agents.new) }
-    ensures range { (result ≡ pos 6) ↔ (256 < length agents.old) }
-    ensures taken { result ≡ pos 11 → ¬ AreEmpty agents.old }
-    ensures free { result ≡ pos 0 → AreEmpty agents.old }
-    ensures none { result ≡ pos 3 → AreEmpty agents.new }
-    ensures kept { IsOneOf (5 ∷ 6 ∷ 11 ∷ []) result → agents.new ≡ agents.old }
-    ensures empty { result ≡ pos 5 → HoldsNoStore (content_of store.old) }
+    ensures made { result ≡ ASM_DONE → HoldsStore (content_of store.old) (λ s. AreNew s.storage agents.new) }
+    ensures range { (result ≡ ASM_RANGE) ↔ (256 < length agents.old) }
+    ensures taken { result ≡ ASM_TAKEN → ¬ AreEmpty agents.old }
+    ensures free { result ≡ ASM_DONE → AreEmpty agents.old }
+    ensures none { result ≡ ASM_MEMORY → AreEmpty agents.new }
+    ensures kept { IsOneOf (ASM_EMPTY ∷ ASM_RANGE ∷ ASM_TAKEN ∷ []) result → agents.new ≡ agents.old }
+    ensures empty { result ≡ ASM_EMPTY → HoldsNoStore (content_of store.old) }
 {
     asm_slots::make_agents(alloc, store, agents)
 }

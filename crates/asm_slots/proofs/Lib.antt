@@ -3,5 +3,7 @@ pub mod HandleValues
 pub mod PartsAndAgents
 pub mod Ascending
 pub mod GivenAgents
-pub mod CodeZero
+pub mod CopiedTexts
 pub mod Crossing
+pub mod Unwritten
+pub mod Misread

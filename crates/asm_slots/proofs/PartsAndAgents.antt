@@ -8,6 +8,7 @@ use Rattle.asm_storage.specs.Agents.{ids}
 use Rattle.asm_storage.specs.Part.{agent_of}
 use Rattle.asm_storage.specs.Storage.{AgentAt, StorageView, accounts}
 use Rattle.asm_slots.specs.Standard.{Standard, meaning}
+use Rattle.asm_slots.specs.declared.shared.Shared.{Shared}
 
 pub all_one : {X : Type 0} (P : X → Type 0) (x : X) → P x → All P (x ∷ [])
 all_one P x p zero d lt = p
@@ -50,3 +51,11 @@ agents_among s parts before after p is = ap (map (agent_of s)) is ∙ map-append
 pub rises_again : (s t : StorageView Standard) (new old : List AgentPart) → map (agent_of s) new ≡ map (agent_of t) old → IsStrictlyIncreasing (map (λ p. p.id) old) → IsStrictlyIncreasing (map (λ p. p.id) new)
 rises_again s t new old same rises =
     subst IsStrictlyIncreasing (sym (sym (ids_of s new) ∙ ap (λ (l : List (AgentAt Standard)). ids (accounts l)) same ∙ ids_of t old)) rises
+
+-- what is told of the agents that are made of parts is told of those of the store that has the parts
+pub told_of_store : (P : StorageView Standard → List (AgentAt Standard) → Type 0) (x y z : Shared) (parts : List AgentPart)
+    (all : List (AgentAt Standard)) → y ≡ x → z ≡ x → all ≡ map (agent_of y.storage) parts → P z.storage all
+    → P x.storage (map (agent_of x.storage) parts)
+told_of_store P x y z parts all e f g p =
+    subst (λ (s : Shared). P s.storage (map (agent_of x.storage) parts)) f
+    (subst (λ (s : Shared). P z.storage (map (agent_of s.storage) parts)) e (subst (P z.storage) g p))

@@ -1,5 +1,6 @@
 -- What the calls do with the agents and the storages in slots.
-use Rattle.std.specs.Prelude.{◌≡◌, ◌≢◌, ◌⊎◌, ◌<◌, ℕ, ℤ, pos, List, [], ◌∷◌, ◌++◌, length, Option, None, Some}
+use Rattle.std.specs.Prelude.{◌≡◌, ◌≢◌, ◌⊎◌, ◌<◌, ◌≤◌, ◌+◌, ◌-◌, ◌^◌, min, max, ℕ, ℤ, List, [], ◌∷◌, ◌++◌, length, Option, None, Some}
+use Rattle.std.specs.Prelude.{Ok, Err}
 use Rattle.serde_json.specs.Written.{compact_text}
 use mathlib.Core.List.{IsPrefix}
 use Rattle.asm_element.specs.Place as element
@@ -7,15 +8,16 @@ use Rattle.asm_update.specs.Move.{Move}
 use Rattle.asm_state.specs.declared.named.Named.{Named}
 use Rattle.asm_storage.specs.declared.call.Reply.{Reply}
 use Rattle.asm_storage.specs.declared.call.Reply.TheVariants as reply
-use Rattle.asm_storage.specs.declared.error.FireError.TheVariants.{Busy}
+use Rattle.asm_storage.specs.declared.error.FireError.TheVariants.{Busy, Memory}
 use Rattle.asm_storage.specs.declared.receipt.Receipt.{Receipt}
 use Rattle.asm_storage.specs.declared.receipt.Entry.{Entry}
-use Rattle.asm_storage.specs.Storage.{AgentAt, has_looked, has_seen}
-use Rattle.asm_storage.specs.Calls.{ReadingView, IsRead, IsAnswered, IsBusy}
+use Rattle.asm_storage.specs.Storage.{AgentAt, has_looked, has_seen, last_look, Missed}
+use Rattle.asm_storage.specs.Calls.{ReadingView, IsRead, IsAnswered, IsBusy, IsCoherentReply, MadeOffers}
 use Rattle.asm_journal.specs.Event.{answer_json_of}
 use Rattle.asm_slots.specs.Standard.{Standard, meaning}
 use Rattle.asm_slots.specs.Bytes.{ReadAsLocations, ReadAsFire, ReadAsState}
 use Rattle.asm_slots.specs.Closed.{IsJournalOf}
+use Rattle.asm_slots.specs.Codes.{ASM_DONE, ASM_STALE, ASM_CLASH, ASM_FULL}
 use Rattle.asm_slots.specs.Slots.{Holds, HoldsStore, Goes}
 use Rattle.asm_slots.specs.Store.{StoreView, IsPutIn}
 use Rattle.asm_slots.specs.declared.content.Content.{Content}
@@ -26,17 +28,18 @@ abbrev pub IsOpened : List ℕ → ℕ → StoreView → Type 0
 IsOpened bytes capacity s =
     ReadAsState bytes s.storage.init × (length s.storage.row ≡ capacity) × (s.agents ≡ []) × (s.journal ≡ None)
 
--- the bytes are JSON of locations, and these were read
+-- the bytes are JSON of locations, and these were read, after a look that found nothing more
 abbrev pub HasRead : List ℕ → AgentAt Standard → AgentAt Standard → Type 0
 HasRead bytes old new =
-    (locations : List element.Place) × (r : ReadingView) × ReadAsLocations bytes locations × IsRead meaning old new locations r
+    (locations : List element.Place) × (r : ReadingView) × ReadAsLocations bytes locations
+    × IsRead meaning old new locations r × Missed old (last_look new) new
 
 -- the code of a reply
 abbrev pub code_of : Reply → ℤ
-code_of (reply.Fired k) = pos 0
-code_of (reply.Stale l) = pos 1
-code_of (reply.Clash c) = pos 2
-code_of reply.Full = pos 4
+code_of (reply.Fired k) = ASM_DONE
+code_of (reply.Stale l) = ASM_STALE
+code_of (reply.Clash c) = ASM_CLASH
+code_of reply.Full = ASM_FULL
 
 -- the number of the move that was fired, or 0
 abbrev pub number_of : Reply → ℕ
@@ -45,21 +48,43 @@ number_of _ = 0
 
 -- one of the codes of replies
 abbrev pub IsReplyCode : ℤ → Type 0
-IsReplyCode code = (code ≡ pos 0) ⊎ (code ≡ pos 1) ⊎ (code ≡ pos 2) ⊎ (code ≡ pos 4)
+IsReplyCode code = (code ≡ ASM_DONE) ⊎ (code ≡ ASM_STALE) ⊎ (code ≡ ASM_CLASH) ⊎ (code ≡ ASM_FULL)
 
--- the bytes are JSON of a fire, and it was answered with a reply of this code and this number
+-- the bytes are JSON of a fire, and it was answered with a reply of this code and this number, after so many offers and
+-- looks as this reply comes after
 abbrev pub HasFired : List ℕ → ℤ → ℕ → AgentAt Standard → AgentAt Standard → Type 0
 HasFired bytes code number old new =
     (reads : List Named) × (M : Move) × (r : Reply) × ReadAsFire bytes reads M × (code_of r ≡ code)
-    × (number_of r ≡ number) × IsAnswered meaning old new reads M r
+    × (number_of r ≡ number) × IsAnswered meaning old new reads M r × IsCoherentReply meaning new reads M r
+    × ((n : ℕ) × MadeOffers old new (Ok r) n)
 
--- so many moves had been seen at the start of a busy call, and so many at its end
+-- so many moves had been seen at the start of a call that lost 64 offers, and so many at its end
 abbrev pub WasBusy : ℕ → ℕ → AgentAt Standard → AgentAt Standard → Type 0
-WasBusy from to old new = IsBusy old new (Busy from to)
+WasBusy from to old new = IsBusy old new (Busy from to) × ((n : ℕ) × MadeOffers old new (Err (Busy from to)) n)
 
 -- it has looked on, and nothing else
 abbrev pub HasLooked : AgentAt Standard → AgentAt Standard → Type 0
 HasLooked old new = new ≡ has_looked old new.account.seen new.misses
+
+-- it has seen what it had seen before, and maybe more
+abbrev pub SeesOn : AgentAt Standard → AgentAt Standard → Type 0
+SeesOn old new = IsPrefix old.account.seen new.account.seen
+
+-- it stays as it was, or has looked on to the end for a read that was refused memory
+abbrev pub MayHaveLooked : AgentAt Standard → AgentAt Standard → Type 0
+MayHaveLooked old new = (new ≡ old) ⊎ Missed old (last_look new) new
+
+-- it stays as it was, or has made offers and looks for a fire that was refused memory
+abbrev pub MayHaveOffered : AgentAt Standard → AgentAt Standard → Type 0
+MayHaveOffered old new = (new ≡ old) ⊎ ((n : ℕ) × MadeOffers old new (Err Memory) n)
+
+-- at most 64 looks more found nothing
+abbrev pub MissedFew : AgentAt Standard → AgentAt Standard → Type 0
+MissedFew old new = new.misses ≤ old.misses + 64
+
+-- a look more found nothing, as far as they are counted
+abbrev pub MissedOne : AgentAt Standard → AgentAt Standard → Type 0
+MissedOne old new = min (old.misses + 1) (2 ^ 64 - 1) ≤ new.misses
 
 -- the text of the answer to the last of these calls
 abbrev pub IsLastAnswer : List Receipt → List ℕ → Type 0
@@ -71,11 +96,12 @@ abbrev pub TellsLast : AgentAt Standard → Option (List ℕ) → Type 0
 TellsLast a None = a.account.receipts ≡ []
 TellsLast a (Some s) = IsLastAnswer a.account.receipts s
 
--- it has learnt what was seen there
+-- it has learnt what was seen there, and has then seen as much as the one or the other
 abbrev pub HasLearnt : List Entry → AgentAt Standard → AgentAt Standard → Type 0
 HasLearnt theirs old new =
     (new ≡ has_seen old new.account.seen) × IsPrefix old.account.seen new.account.seen
     × IsPrefix theirs new.account.seen
+    × (length new.account.seen ≡ max (length old.account.seen) (length theirs))
 
 -- the agent has learnt what the other has seen
 abbrev pub Learns : Option Content → Option Content → Option Content → Type 0

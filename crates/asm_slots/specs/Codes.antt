@@ -1,10 +1,94 @@
 -- The codes that C gets.
-use Rattle.std.specs.Prelude.{◌≡◌, ◌⊎◌, ℕ, ℤ, pos, negsuc, List, [], ◌∷◌, codes, slice_index_or}
+use Rattle.std.specs.Prelude.{◌≡◌, ◌⊎◌, ℤ, pos, negsuc, List, [], ◌∷◌, ℕ, codes, slice_index_or}
+
+-- done; of a fire: fired; of a check: legal
+abbrev pub ASM_DONE : ℤ
+ASM_DONE = pos 0
+
+-- a location that the move names was written since
+abbrev pub ASM_STALE : ℤ
+ASM_STALE = pos 1
+
+-- the updates of the move clash
+abbrev pub ASM_CLASH : ℤ
+ASM_CLASH = pos 2
+
+-- out of memory
+abbrev pub ASM_MEMORY : ℤ
+ASM_MEMORY = pos 3
+
+-- as many moves were fired as the capacity
+abbrev pub ASM_FULL : ℤ
+ASM_FULL = pos 4
+
+-- a slot holds nothing of the kind that is wanted, or is passed twice
+abbrev pub ASM_EMPTY : ℤ
+ASM_EMPTY = pos 5
+
+-- the capacity, an agent's number or the count of slots is out of range
+abbrev pub ASM_RANGE : ℤ
+ASM_RANGE = pos 6
+
+-- the buffer is too small
+abbrev pub ASM_SMALL : ℤ
+ASM_SMALL = pos 7
+
+-- 64 offers were lost to other agents
+abbrev pub ASM_BUSY : ℤ
+ASM_BUSY = pos 8
+
+-- more than 256 locations
+abbrev pub ASM_MANY : ℤ
+ASM_MANY = pos 9
+
+-- no call was answered yet; or no journal since an agent was given back
+abbrev pub ASM_NONE : ℤ
+ASM_NONE = pos 10
+
+-- a slot that was to be filled is full
+abbrev pub ASM_TAKEN : ℤ
+ASM_TAKEN = pos 11
+
+-- an agent with this number was given back before
+abbrev pub ASM_NUMBER : ℤ
+ASM_NUMBER = pos 12
+
+-- a move has no receipt among the agents that were given back
+abbrev pub ASM_MISSING : ℤ
+ASM_MISSING = pos 13
+
+-- the two slots are of two storages
+abbrev pub ASM_OTHER : ℤ
+ASM_OTHER = pos 14
+
+-- the journal isn't legal
+abbrev pub ASM_ILLEGAL : ℤ
+ASM_ILLEGAL = pos 15
+
+-- the bytes, or a line of the journal, are not JSON
+abbrev pub ASM_NOT_JSON : ℤ
+ASM_NOT_JSON = pos 16
+
+-- they are JSON of another shape, or beyond a limit
+abbrev pub ASM_SHAPE : ℤ
+ASM_SHAPE = pos 17
+
+-- a journal of another version than 1 and 2
+abbrev pub ASM_VERSION : ℤ
+ASM_VERSION = pos 18
+
+-- the journal ends too early
+abbrev pub ASM_CUT : ℤ
+ASM_CUT = pos 19
+
+-- more calls than a journal holds
+abbrev pub ASM_LARGE : ℤ
+ASM_LARGE = pos 20
 
 -- one of these codes
-abbrev pub IsOneOf : List ℕ → ℤ → Type 0
+abbrev pub IsOneOf : List ℤ → ℤ → Type 0
 IsOneOf [] code = ⊥
-IsOneOf (k ∷ ks) code = (code ≡ pos k) ⊎ IsOneOf ks code
+IsOneOf (c ∷ cs) code = (code ≡ c) ⊎ IsOneOf cs code
 
 -- the texts of the codes, from 0 up
 abbrev pub texts : List (List ℕ)

@@ -1,5 +1,5 @@
 -- What is told of the bytes of a journal.
-use Rattle.std.specs.Prelude.{◌≡◌, ℕ, ℤ, pos, List}
+use Rattle.std.specs.Prelude.{◌≡◌, ℕ, ℤ, List}
 use Rattle.serde_json.specs.Written.{compact_text}
 use Rattle.asm_update.specs.Fire.{state_of}
 use Rattle.asm_storage.specs.declared.history.History.{History}
@@ -11,6 +11,7 @@ use Rattle.asm_journal.specs.Check.{machine_of, IsLegality}
 use Rattle.asm_journal.specs.Fault.{IsRefused}
 use Rattle.asm_journal.specs.Reading.{ReadsAs}
 use Rattle.asm_journal.specs.Text.{state_json_of}
+use Rattle.asm_slots.specs.Codes.{ASM_MEMORY, ASM_NOT_JSON, ASM_SHAPE, ASM_VERSION, ASM_CUT}
 use Rattle.asm_slots.specs.Standard.{part}
 
 -- the bytes are a journal, and this is what its check tells
@@ -25,13 +26,13 @@ pub record IsReplayed (bytes text : List ℕ) : Type 0 where
   pub reads : ReadsAs bytes history
   pub left : text ≡ compact_text (state_json_of (state_of part history.init (fired_moves history.events)))
 
--- this code tells the error, with this number of its line
+-- this code tells the error, with the number of its line, or 0
 abbrev pub TellsError : JournalError → ℤ → ℕ → Type 0
-TellsError (NotJson n) code line = (code ≡ pos 16) × (line ≡ n)
-TellsError (Shape n) code line = (code ≡ pos 17) × (line ≡ n)
-TellsError Version code line = code ≡ pos 18
-TellsError Cut code line = code ≡ pos 19
-TellsError Memory code line = code ≡ pos 3
+TellsError (NotJson n) code line = (code ≡ ASM_NOT_JSON) × (line ≡ n)
+TellsError (Shape n) code line = (code ≡ ASM_SHAPE) × (line ≡ n)
+TellsError Version code line = (code ≡ ASM_VERSION) × (line ≡ 0)
+TellsError Cut code line = (code ≡ ASM_CUT) × (line ≡ 0)
+TellsError Memory code line = (code ≡ ASM_MEMORY) × (line ≡ 0)
 
 -- the bytes are no journal, and this code tells their first fault, with this number of its line
 pub record IsRefusal (bytes : List ℕ) (code : ℤ) (line : ℕ) : Type 0 where

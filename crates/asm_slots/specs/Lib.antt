@@ -2,6 +2,7 @@ pub mod Standard
 pub mod Codes
 pub mod Boxed
 pub mod Bytes
+pub mod Written
 pub mod Store
 pub mod InsertPoint
 pub mod Closed

@@ -1,6 +1,6 @@
 //! The codes that calls answer, and their texts.
-ghost use Rattle.std.specs.Prelude.{◌≡◌, ◌≢◌, ◌⊎◌, ◌<◌, pos, length, slice_range};
-ghost use Rattle.asm_slots.specs.Codes.{text_of_code};
+ghost use Rattle.std.specs.Prelude.{◌≡◌, ◌≢◌, ◌⊎◌, ◌<◌, ◌≤◌, length, slice_range};
+ghost use Rattle.asm_slots.specs.Codes.{ASM_DONE, ASM_SMALL, text_of_code};
 
 pub(crate) const DONE: i32 = 0;
 
@@ -47,10 +47,11 @@ pub(crate) const LARGE: i32 = 20;
 /// Copies the bytes to the start of the buffer, where they fit.
 pub(crate) fn copied(bytes: &[u8], out: &mut [u8], written: &mut usize) -> i32
     ensures written { written.new ≡ length bytes.now }
-    ensures codes { (result ≡ pos 0) ⊎ (result ≡ pos 7) }
-    ensures bytes { result ≡ pos 0 → slice_range out.new 0 written.new ≡ bytes.now }
-    ensures small { result ≡ pos 7 → out.new ≡ out.old }
-    ensures room { result ≡ pos 7 → length out.old < length bytes.now }
+    ensures codes { (result ≡ ASM_DONE) ⊎ (result ≡ ASM_SMALL) }
+    ensures bytes { result ≡ ASM_DONE → slice_range out.new 0 written.new ≡ bytes.now }
+    ensures fits { result ≡ ASM_DONE → written.new ≤ length out.new }
+    ensures small { result ≡ ASM_SMALL → out.new ≡ out.old }
+    ensures room { result ≡ ASM_SMALL → length out.old < length bytes.now }
 {
     *written = bytes.len();
     if out.len() < bytes.len() {
@@ -89,13 +90,13 @@ fn text_of_code(code: i32) -> &'static str
     }
 }
 
-/// Writes what the code means, in a line of English. Answers 0, or 7 with the room that it needs.
+/// Writes what the code means, in a line of English. `ASM_SMALL` comes with the room that it needs.
 pub fn write_error_text(code: i32, out: &mut [u8], written: &mut usize) -> i32
-    ensures codes { (result ≡ pos 0) ⊎ (result ≡ pos 7) }
+    ensures codes { (result ≡ ASM_DONE) ⊎ (result ≡ ASM_SMALL) }
     ensures written { written.new ≡ length (text_of_code code) }
-    ensures told { result ≡ pos 0 → slice_range out.new 0 written.new ≡ text_of_code code }
-    ensures unwritten { result ≢ pos 0 → out.new ≡ out.old }
-    ensures small { result ≡ pos 7 → length out.old < written.new }
+    ensures told { result ≡ ASM_DONE → slice_range out.new 0 written.new ≡ text_of_code code }
+    ensures unwritten { result ≢ ASM_DONE → out.new ≡ out.old }
+    ensures small { result ≡ ASM_SMALL → length out.old < written.new }
 {
     copied(text_of_code(code).as_bytes(), out, written)
 }

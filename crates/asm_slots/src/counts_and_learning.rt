@@ -1,7 +1,7 @@
 //! What an agent has seen and counted, and what it learns from another.
-ghost use Rattle.std.specs.Prelude.{◌≡◌, ◌≢◌, ◌⊎◌, ◌∷◌, [], pos, length};
+ghost use Rattle.std.specs.Prelude.{◌≡◌, ◌≢◌, ◌⊎◌, ◌∷◌, [], length};
 ghost use Rattle.asm_slots.specs.Calls.{Learns};
-ghost use Rattle.asm_slots.specs.Codes.{IsOneOf};
+ghost use Rattle.asm_slots.specs.Codes.{IsOneOf, ASM_DONE, ASM_EMPTY, ASM_OTHER};
 ghost use Rattle.asm_slots.specs.Slots.{AreOfOneStorage, HoldsNoAgent, IfHolds, content_of};
 
 use crate::codes::{DONE, EMPTY, OTHER};
@@ -14,6 +14,7 @@ use std::alloc::Global;
 pub fn seen(alloc: Global, agent: &mut Slot) -> u32
     ensures kept { content_of agent.new ≡ content_of agent.old }
     ensures value { IfHolds (content_of agent.old) (λ a. result ≡ length a.account.seen) }
+    ensures none { HoldsNoAgent (content_of agent.old) → result ≡ 0 }
 {
     let Some((shell, inner)) = take_agent(alloc, agent) else {
         return 0;
@@ -27,6 +28,7 @@ pub fn seen(alloc: Global, agent: &mut Slot) -> u32
 pub fn won(alloc: Global, agent: &mut Slot) -> u32
     ensures kept { content_of agent.new ≡ content_of agent.old }
     ensures value { IfHolds (content_of agent.old) (λ a. result ≡ a.account.won) }
+    ensures none { HoldsNoAgent (content_of agent.old) → result ≡ 0 }
 {
     let Some((shell, inner)) = take_agent(alloc, agent) else {
         return 0;
@@ -40,6 +42,7 @@ pub fn won(alloc: Global, agent: &mut Slot) -> u32
 pub fn misses(alloc: Global, agent: &mut Slot) -> u64
     ensures kept { content_of agent.new ≡ content_of agent.old }
     ensures value { IfHolds (content_of agent.old) (λ a. result ≡ a.misses) }
+    ensures none { HoldsNoAgent (content_of agent.old) → result ≡ 0 }
 {
     let Some((shell, inner)) = take_agent(alloc, agent) else {
         return 0;
@@ -51,17 +54,17 @@ pub fn misses(alloc: Global, agent: &mut Slot) -> u64
 
 /// Takes in what the other agent of the same storage has seen, without a look at the storage.
 ///
-/// 5: one of the slots has no agent, or the two are one. 14: the agents are of two storages. After each
-/// code but 0 both slots are as they were. That the agents are of one storage is owed: 14 comes unless
-/// other threads learn or give in both storages at that moment.
+/// `ASM_EMPTY`: one of the slots has no agent, or the two are one. `ASM_OTHER`: the agents are of two
+/// storages. After each of these both slots are as they were. That the agents are of one storage is owed:
+/// `ASM_OTHER` comes unless other threads learn or give in both storages at that moment.
 pub fn learn(alloc: Global, agent: &mut Slot, other: &mut Slot) -> i32
     requires { AreOfOneStorage (content_of agent.old) (content_of other.old) }
-    ensures codes { IsOneOf (0 ∷ 5 ∷ 14 ∷ []) result }
-    ensures learnt { result ≡ pos 0 →
+    ensures codes { IsOneOf (ASM_DONE ∷ ASM_EMPTY ∷ ASM_OTHER ∷ []) result }
+    ensures learnt { result ≡ ASM_DONE →
         Learns (content_of other.old) (content_of agent.old) (content_of agent.new) }
     ensures theirs { content_of other.new ≡ content_of other.old }
-    ensures kept { result ≢ pos 0 → content_of agent.new ≡ content_of agent.old }
-    ensures empty { result ≡ pos 5 →
+    ensures kept { result ≢ ASM_DONE → content_of agent.new ≡ content_of agent.old }
+    ensures empty { result ≡ ASM_EMPTY →
         HoldsNoAgent (content_of agent.old) ⊎ HoldsNoAgent (content_of other.old) }
 {
     let Some((other_shell, theirs)) = take_agent(alloc, other) else {

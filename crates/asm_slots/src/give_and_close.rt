@@ -1,9 +1,11 @@
 //! Giving agents back, closing them into a journal, and its text.
-ghost use Rattle.std.specs.Prelude.{◌≡◌, ◌≢◌, ◌⊎◌, ◌∷◌, [], pos, slice_range, None, Some};
+ghost use Rattle.std.specs.Prelude.{◌≡◌, ◌≢◌, ◌⊎◌, ◌∷◌, [], length, None, Some};
 ghost use Rattle.asm_storage.specs.Storage.{accounts};
 ghost use Rattle.asm_slots.specs.Calls.{Closes, Gives, HasNumber, HasTaken, IsThere};
-ghost use Rattle.asm_slots.specs.Closed.{LacksReceipt};
-ghost use Rattle.asm_slots.specs.Codes.{IsOneOf};
+ghost use Rattle.asm_slots.specs.Closed.{IsTooLarge, LacksReceipt};
+ghost use Rattle.asm_slots.specs.Codes.{IsOneOf, ASM_DONE, ASM_MEMORY, ASM_EMPTY, ASM_SMALL, ASM_NONE};
+ghost use Rattle.asm_slots.specs.Codes.{ASM_NUMBER, ASM_MISSING, ASM_OTHER, ASM_LARGE};
+ghost use Rattle.asm_slots.specs.Written.{IsTooLong, IsWritten};
 ghost use Rattle.asm_slots.specs.Unclosed.{TellsUnclosed};
 ghost use Rattle.asm_slots.specs.Slots.{HoldsNoAgent, HoldsNoStore, HoldsStore, IsOfStore, content_of};
 ghost use Rattle.asm_slots.specs.declared.content.Content.TheVariants as content;
@@ -29,12 +31,12 @@ fn give_at(
     given: (Box<Content>, OwnedAgent),
 ) -> i32
     requires { given.1.storage ≡ kept.1.storage }
-    ensures codes { IsOneOf (0 ∷ 3 ∷ 12 ∷ []) result }
-    ensures given { result ≡ pos 0 → HoldsStore (content_of store.new) (HasTaken given.1 kept.1) }
-    ensures gone { result ≡ pos 0 → content_of agent.new ≡ None }
-    ensures kept { result ≢ pos 0 → content_of store.new ≡ Some (content.Store kept.1) }
-    ensures back { result ≢ pos 0 → content_of agent.new ≡ Some (content.Agent given.1) }
-    ensures there { result ≡ pos 12 → HasNumber kept.1 given.1.account.id }
+    ensures codes { IsOneOf (ASM_DONE ∷ ASM_MEMORY ∷ ASM_NUMBER ∷ []) result }
+    ensures given { result ≡ ASM_DONE → HoldsStore (content_of store.new) (HasTaken given.1 kept.1) }
+    ensures gone { result ≡ ASM_DONE → content_of agent.new ≡ None }
+    ensures kept { result ≢ ASM_DONE → content_of store.new ≡ Some (content.Store kept.1) }
+    ensures back { result ≢ ASM_DONE → content_of agent.new ≡ Some (content.Agent given.1) }
+    ensures there { result ≡ ASM_NUMBER → HasNumber kept.1 given.1.account.id }
 {
     let (store_shell, kept) = kept;
     let (shell, inner) = given;
@@ -59,20 +61,20 @@ fn give_at(
 /// Gives an agent back to its storage, in any order, and leaves its slot empty. The journal that the
 /// storage kept is discarded.
 ///
-/// 5: the first slot has no storage, the second no agent, or the two are one. 12: an agent with this
-/// number was given before. 14: the agent is of another storage. 3: out of memory. After each of these
-/// both slots are as they were. That the agent is of the storage is owed: 14 comes unless other threads
-/// learn or give in both storages at that moment.
+/// `ASM_EMPTY`: the first slot has no storage, the second no agent, or the two are one. `ASM_NUMBER`: an
+/// agent with this number was given before. `ASM_OTHER`: the agent is of another storage. `ASM_MEMORY`.
+/// After each of these both slots are as they were. That the agent is of the storage is owed: `ASM_OTHER`
+/// comes unless other threads learn or give in both storages at that moment.
 pub fn give(alloc: Global, store: &mut Slot, agent: &mut Slot) -> i32
     requires { IsOfStore (content_of agent.old) (content_of store.old) }
-    ensures codes { IsOneOf (0 ∷ 3 ∷ 5 ∷ 12 ∷ 14 ∷ []) result }
-    ensures given { result ≡ pos 0 →
+    ensures codes { IsOneOf (ASM_DONE ∷ ASM_MEMORY ∷ ASM_EMPTY ∷ ASM_NUMBER ∷ ASM_OTHER ∷ []) result }
+    ensures given { result ≡ ASM_DONE →
         Gives (content_of store.old) (content_of agent.old) (content_of store.new) }
-    ensures gone { result ≡ pos 0 → content_of agent.new ≡ None }
-    ensures kept { result ≢ pos 0 → content_of store.new ≡ content_of store.old }
-    ensures back { result ≢ pos 0 → content_of agent.new ≡ content_of agent.old }
-    ensures there { result ≡ pos 12 → IsThere (content_of store.old) (content_of agent.old) }
-    ensures empty { result ≡ pos 5 →
+    ensures gone { result ≡ ASM_DONE → content_of agent.new ≡ None }
+    ensures kept { result ≢ ASM_DONE → content_of store.new ≡ content_of store.old }
+    ensures back { result ≢ ASM_DONE → content_of agent.new ≡ content_of agent.old }
+    ensures there { result ≡ ASM_NUMBER → IsThere (content_of store.old) (content_of agent.old) }
+    ensures empty { result ≡ ASM_EMPTY →
         HoldsNoStore (content_of store.old) ⊎ HoldsNoAgent (content_of agent.old) }
 {
     let Some((store_shell, kept)) = take_store(alloc, store) else {
@@ -92,9 +94,11 @@ pub fn give(alloc: Global, store: &mut Slot, agent: &mut Slot) -> i32
 
 // The code of the error, with the number of the move that has no receipt.
 fn code_of_unclosed(error: Unclosed) -> (i32, u32)
-    ensures codes { IsOneOf (3 ∷ 13 ∷ 20 ∷ []) result.0 }
+    ensures codes { IsOneOf (ASM_MEMORY ∷ ASM_MISSING ∷ ASM_LARGE ∷ []) result.0 }
     ensures told { TellsUnclosed error result.0 result.1 }
-    ensures missing { result.0 ≡ pos 13 → error ≡ unclosed.Missing result.1 }
+    ensures missing { result.0 ≡ ASM_MISSING → error ≡ unclosed.Missing result.1 }
+    ensures large { result.0 ≡ ASM_LARGE → error ≡ unclosed.Large }
+    ensures none { result.0 ≢ ASM_MISSING → result.1 ≡ 0 }
 {
     match error {
         Unclosed::Missing(missing) => (MISSING, missing),
@@ -105,16 +109,20 @@ fn code_of_unclosed(error: Unclosed) -> (i32, u32)
 
 /// Closes the agents that were given back into one journal, which the storage keeps for `write_journal`.
 ///
-/// 13: the move with this number has no receipt among them; give back the agent that fired it, and close
-/// again. 20: more calls than a journal holds. 5: the slot has no storage. 3: out of memory. After each
-/// of these the slot is as it was. More agents may be made, given back and closed afterwards.
+/// `ASM_MISSING`: the move with this number has no receipt among them; give back the agent that fired it,
+/// and close again. With any other code the number is 0. `ASM_LARGE`: more calls than a journal holds.
+/// `ASM_EMPTY`: the slot has no storage. `ASM_MEMORY`. After each of these the slot is as it was. More
+/// agents may be made, given back and closed afterwards.
 pub fn close(alloc: Global, store: &mut Slot, number: &mut u32) -> i32
-    ensures codes { IsOneOf (0 ∷ 3 ∷ 5 ∷ 13 ∷ 20 ∷ []) result }
-    ensures closed { result ≡ pos 0 → Closes (content_of store.old) (content_of store.new) }
-    ensures kept { result ≢ pos 0 → content_of store.new ≡ content_of store.old }
-    ensures missing { result ≡ pos 13 →
+    ensures codes { IsOneOf (ASM_DONE ∷ ASM_MEMORY ∷ ASM_EMPTY ∷ ASM_MISSING ∷ ASM_LARGE ∷ []) result }
+    ensures closed { result ≡ ASM_DONE → Closes (content_of store.old) (content_of store.new) }
+    ensures kept { result ≢ ASM_DONE → content_of store.new ≡ content_of store.old }
+    ensures missing { result ≡ ASM_MISSING →
         HoldsStore (content_of store.old) (λ s. LacksReceipt (accounts s.agents) number.new) }
-    ensures empty { result ≡ pos 5 → HoldsNoStore (content_of store.old) }
+    ensures no_number { result ≢ ASM_MISSING → number.new ≡ 0 }
+    ensures large { result ≡ ASM_LARGE →
+        HoldsStore (content_of store.old) (λ s. IsTooLarge s.storage s.agents) }
+    ensures empty { result ≡ ASM_EMPTY → HoldsNoStore (content_of store.old) }
 {
     *number = 0;
     let Some((shell, kept)) = take_store(alloc, store) else {
@@ -134,16 +142,19 @@ pub fn close(alloc: Global, store: &mut Slot, number: &mut u32) -> i32
 
 /// Writes the journal that the storage keeps, as often as it is asked for.
 ///
-/// 7: the buffer is too small, and `written` is the room that it needs. 10: the storage wasn't closed
-/// since an agent was given back. 5: the slot has no storage. The slot stays as it was.
+/// `ASM_SMALL`: `written` is the room that it needs. `ASM_NONE`: the storage wasn't closed since an agent
+/// was given back. `ASM_EMPTY`: the slot has no storage. The slot stays as it was.
 pub fn write_journal(alloc: Global, store: &mut Slot, out: &mut [u8], written: &mut usize) -> i32
-    ensures codes { IsOneOf (0 ∷ 5 ∷ 7 ∷ 10 ∷ []) result }
+    ensures codes { IsOneOf (ASM_DONE ∷ ASM_EMPTY ∷ ASM_SMALL ∷ ASM_NONE ∷ []) result }
     ensures kept { content_of store.new ≡ content_of store.old }
-    ensures told { result ≡ pos 0 → HoldsStore (content_of store.old)
-        (λ s. s.journal ≡ Some (slice_range out.new 0 written.new)) }
-    ensures none { result ≡ pos 10 → HoldsStore (content_of store.old) (λ s. s.journal ≡ None) }
-    ensures empty { result ≡ pos 5 → HoldsNoStore (content_of store.old) }
-    ensures unwritten { result ≢ pos 0 → out.new ≡ out.old }
+    ensures told { result ≡ ASM_DONE → HoldsStore (content_of store.old)
+        (λ s. IsWritten (λ text. s.journal ≡ Some text) out.new written.new) }
+    ensures small { result ≡ ASM_SMALL → HoldsStore (content_of store.old)
+        (λ s. IsTooLong (λ text. s.journal ≡ Some text) (length out.old) written.new) }
+    ensures no_text { IsOneOf (ASM_EMPTY ∷ ASM_NONE ∷ []) result → written.new ≡ 0 }
+    ensures none { result ≡ ASM_NONE → HoldsStore (content_of store.old) (λ s. s.journal ≡ None) }
+    ensures empty { result ≡ ASM_EMPTY → HoldsNoStore (content_of store.old) }
+    ensures unwritten { result ≢ ASM_DONE → out.new ≡ out.old }
 {
     *written = 0;
     let Some((shell, kept)) = take_store(alloc, store) else {

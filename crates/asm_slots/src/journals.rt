@@ -1,7 +1,9 @@
 //! Checking a journal, and the state that it leaves.
-ghost use Rattle.std.specs.Prelude.{◌≡◌, ◌≢◌, ◌∷◌, [], pos, slice_range, string_bytes, IfOk, IfErr};
-ghost use Rattle.asm_slots.specs.Codes.{IsOneOf};
+ghost use Rattle.std.specs.Prelude.{◌≡◌, ◌≢◌, ◌∷◌, [], length, string_bytes, IfOk, IfErr};
+ghost use Rattle.asm_slots.specs.Codes.{IsOneOf, ASM_DONE, ASM_MEMORY, ASM_SMALL, ASM_ILLEGAL};
+ghost use Rattle.asm_slots.specs.Codes.{ASM_NOT_JSON, ASM_SHAPE, ASM_VERSION, ASM_CUT};
 ghost use Rattle.asm_slots.specs.Journals.{IsChecked, IsReplayed, IsRefusal, TellsError};
+ghost use Rattle.asm_slots.specs.Written.{IsTooLong, IsWritten};
 ghost use Rattle.asm_journal.specs.Fault.{IsRefused};
 ghost use Rattle.asm_journal.specs.declared.checking.Legality.TheVariants as legality;
 
@@ -10,23 +12,18 @@ use asm_aggregate::standard;
 use asm_journal::{JournalError, Legality, check, from_text, replay, state_text};
 use std::alloc::{AllocError, Global};
 
-// The code of the error, with the number of the line at fault.
-fn code_of_error(error: JournalError, line: &mut u64) -> i32
-    ensures codes { IsOneOf (3 ∷ 16 ∷ 17 ∷ 18 ∷ 19 ∷ []) result }
-    ensures told { TellsError error result line.new }
+// The code of the error, with the number of the line at fault, or 0.
+fn code_of_error(error: JournalError) -> (i32, u64)
+    ensures codes { IsOneOf (ASM_MEMORY ∷ ASM_NOT_JSON ∷ ASM_SHAPE ∷ ASM_VERSION ∷ ASM_CUT ∷ []) result.0 }
+    ensures told { TellsError error result.0 result.1 }
+    ensures none { IsOneOf (ASM_MEMORY ∷ ASM_VERSION ∷ ASM_CUT ∷ []) result.0 → result.1 ≡ 0 }
 {
     match error {
-        JournalError::NotJson(number) => {
-            *line = number;
-            NOT_JSON
-        }
-        JournalError::Shape(number) => {
-            *line = number;
-            SHAPE
-        }
-        JournalError::Version => VERSION,
-        JournalError::Cut => CUT,
-        JournalError::Memory => MEMORY,
+        JournalError::NotJson(number) => (NOT_JSON, number),
+        JournalError::Shape(number) => (SHAPE, number),
+        JournalError::Version => (VERSION, 0),
+        JournalError::Cut => (CUT, 0),
+        JournalError::Memory => (MEMORY, 0),
     }
 }
 
@@ -43,15 +40,19 @@ fn checked(alloc: Global, journal: &[u8]) -> Result<Legality, JournalError>
 
 /// Checks a journal, of version 1 or 2.
 ///
-/// 0: it is legal, with the numbers of its calls and of its moves. 15: it isn't, and `calls` is the number
-/// of the first call whose answer is another, counted from 0. 16 and 17: a line is not JSON, or not that
-/// of a journal, and `calls` is the number of the line. 18: another version. 19: it is cut off.
-/// 3: out of memory.
+/// `ASM_DONE`: it is legal, with the numbers of its calls and of its moves. `ASM_ILLEGAL`: it isn't, and
+/// `calls` is the number of the first call whose answer is another, counted from 0. `ASM_NOT_JSON` and
+/// `ASM_SHAPE`: a line is not JSON, or not that of a journal, and `calls` is the number of the line.
+/// `ASM_VERSION`, `ASM_CUT`, `ASM_MEMORY`. What a code doesn't set is 0.
 pub fn check_journal(alloc: Global, journal: &[u8], calls: &mut u64, moves: &mut u32) -> i32
-    ensures codes { IsOneOf (0 ∷ 3 ∷ 15 ∷ 16 ∷ 17 ∷ 18 ∷ 19 ∷ []) result }
-    ensures legal { result ≡ pos 0 → IsChecked journal.now (legality.Legal calls.new moves.new) }
-    ensures illegal { result ≡ pos 15 → IsChecked journal.now (legality.Illegal calls.new) }
-    ensures refused { IsOneOf (16 ∷ 17 ∷ 18 ∷ 19 ∷ []) result → IsRefusal journal.now result calls.new }
+    ensures codes { IsOneOf (ASM_DONE ∷ ASM_MEMORY ∷ ASM_ILLEGAL
+        ∷ ASM_NOT_JSON ∷ ASM_SHAPE ∷ ASM_VERSION ∷ ASM_CUT ∷ []) result }
+    ensures legal { result ≡ ASM_DONE → IsChecked journal.now (legality.Legal calls.new moves.new) }
+    ensures illegal { result ≡ ASM_ILLEGAL → IsChecked journal.now (legality.Illegal calls.new) }
+    ensures refused { IsOneOf (ASM_NOT_JSON ∷ ASM_SHAPE ∷ ASM_VERSION ∷ ASM_CUT ∷ []) result →
+        IsRefusal journal.now result calls.new }
+    ensures no_calls { IsOneOf (ASM_MEMORY ∷ ASM_VERSION ∷ ASM_CUT ∷ []) result → calls.new ≡ 0 }
+    ensures no_moves { result ≢ ASM_DONE → moves.new ≡ 0 }
 {
     *calls = 0;
     *moves = 0;
@@ -70,7 +71,11 @@ pub fn check_journal(alloc: Global, journal: &[u8], calls: &mut u64, moves: &mut
             *calls = call;
             ILLEGAL
         }
-        Err(error) => code_of_error(error, calls),
+        Err(error) => {
+            let (code, line) = code_of_error(error);
+            *calls = line;
+            code
+        }
     }
 }
 
@@ -90,9 +95,9 @@ fn replayed(alloc: Global, journal: &[u8]) -> Result<String, JournalError>
 
 /// Writes the state `[PAIR, ..]` that the moves of a journal leave, of version 1 or 2, legal or not.
 ///
-/// 7: the buffer is too small, and `written` is the room that it needs. 16 and 17: a line is not JSON, or
-/// not that of a journal, and `line` is its number. 18: another version. 19: it is cut off. 3: out of
-/// memory.
+/// `ASM_SMALL`: `written` is the room that it needs. `ASM_NOT_JSON` and `ASM_SHAPE`: a line is not JSON, or
+/// not that of a journal, and `line` is its number. `ASM_VERSION`, `ASM_CUT`, `ASM_MEMORY`. What a code
+/// doesn't set is 0.
 pub fn replay_journal(
     alloc: Global,
     journal: &[u8],
@@ -100,15 +105,27 @@ pub fn replay_journal(
     written: &mut usize,
     line: &mut u64,
 ) -> i32
-    ensures codes { IsOneOf (0 ∷ 3 ∷ 7 ∷ 16 ∷ 17 ∷ 18 ∷ 19 ∷ []) result }
-    ensures told { result ≡ pos 0 → IsReplayed journal.now (slice_range out.new 0 written.new) }
-    ensures unwritten { result ≢ pos 0 → out.new ≡ out.old }
-    ensures refused { IsOneOf (16 ∷ 17 ∷ 18 ∷ 19 ∷ []) result → IsRefusal journal.now result line.new }
+    ensures codes { IsOneOf (ASM_DONE ∷ ASM_MEMORY ∷ ASM_SMALL
+        ∷ ASM_NOT_JSON ∷ ASM_SHAPE ∷ ASM_VERSION ∷ ASM_CUT ∷ []) result }
+    ensures told { result ≡ ASM_DONE → IsWritten (IsReplayed journal.now) out.new written.new }
+    ensures small { result ≡ ASM_SMALL →
+        IsTooLong (IsReplayed journal.now) (length out.old) written.new }
+    ensures unwritten { result ≢ ASM_DONE → out.new ≡ out.old }
+    ensures refused { IsOneOf (ASM_NOT_JSON ∷ ASM_SHAPE ∷ ASM_VERSION ∷ ASM_CUT ∷ []) result →
+        IsRefusal journal.now result line.new }
+    ensures no_text { IsOneOf (ASM_MEMORY ∷ ASM_NOT_JSON ∷ ASM_SHAPE ∷ ASM_VERSION ∷ ASM_CUT ∷ []) result →
+        written.new ≡ 0 }
+    ensures no_line { IsOneOf (ASM_DONE ∷ ASM_MEMORY ∷ ASM_SMALL ∷ ASM_VERSION ∷ ASM_CUT ∷ []) result →
+        line.new ≡ 0 }
 {
     *written = 0;
     *line = 0;
     match replayed(alloc, journal) {
         Ok(text) => copied(text.as_bytes(), out, written),
-        Err(error) => code_of_error(error, line),
+        Err(error) => {
+            let (code, number) = code_of_error(error);
+            *line = number;
+            code
+        }
     }
 }

@@ -1,9 +1,12 @@
 //! Opening storages, making agents, and letting go of what slots hold.
-ghost use Rattle.std.specs.Prelude.{◌≡◌, ◌≢◌, ◌≤◌, ◌<◌, ◌↔◌, ◌⊎◌, ◌∷◌, [], pos, true, length, IfOk, IfErr, Some, None};
+ghost use Rattle.std.specs.Prelude.{◌≡◌, ◌≢◌, ◌≤◌, ◌<◌, ◌↔◌, ◌⊎◌, ◌∷◌, [], length, IfOk, IfErr, Some, None};
 ghost use Rattle.std.specs.Bool.{OnTrue, OnFalse};
 ghost use Rattle.asm_storage.specs.Storage.{at_start};
 ghost use Rattle.asm_slots.specs.Calls.{IsOpened};
-ghost use Rattle.asm_slots.specs.Codes.{IsOneOf};
+ghost use Rattle.asm_journal.specs.Value.{IsStateForm};
+ghost use Rattle.asm_slots.specs.Bytes.{IsNoJson, IsOtherJson};
+ghost use Rattle.asm_slots.specs.Codes.{IsOneOf, ASM_DONE, ASM_MEMORY, ASM_EMPTY, ASM_RANGE, ASM_TAKEN};
+ghost use Rattle.asm_slots.specs.Codes.{ASM_NOT_JSON, ASM_SHAPE};
 ghost use Rattle.asm_slots.specs.Slots.{AreEmpty, AreNew, Holds, HoldsNew, HoldsNoStore, HoldsStore, content_of};
 
 use crate::codes::{DONE, EMPTY, MEMORY, RANGE, TAKEN};
@@ -22,8 +25,10 @@ use std::sync::Arc;
 // A storage of which no move was fired.
 fn opened(alloc: Global, init: &[u8], capacity: u32) -> Result<Box<Content>, i32>
     ensures ok { IfOk result (λ b. HoldsStore (Some b.value) (IsOpened init.now capacity)) }
-    ensures err { IfErr result (IsOneOf (3 ∷ 6 ∷ 16 ∷ 17 ∷ [])) }
-    ensures range { IfErr result (λ code. code ≡ pos 6 → (capacity ≡ 0) ⊎ (1048576 < capacity)) }
+    ensures err { IfErr result (IsOneOf (ASM_MEMORY ∷ ASM_RANGE ∷ ASM_NOT_JSON ∷ ASM_SHAPE ∷ [])) }
+    ensures range { IfErr result (λ code. code ≡ ASM_RANGE → (capacity ≡ 0) ⊎ (1048576 < capacity)) }
+    ensures not_json { IfErr result (λ code. code ≡ ASM_NOT_JSON → IsNoJson init.now) }
+    ensures shape { IfErr result (λ code. code ≡ ASM_SHAPE → IsOtherJson IsStateForm init.now) }
 {
     let init = match state_of(alloc, init) {
         Ok(init) => init,
@@ -50,15 +55,18 @@ fn opened(alloc: Global, init: &[u8], capacity: u32) -> Result<Box<Content>, i32
 
 /// Opens a storage with the state `[PAIR, ..]`, for at most `capacity` moves, in an empty slot.
 ///
-/// 11: the slot is full. 6: the capacity isn't 1 to 1,048,576. 16 and 17: not JSON, or not that of a state.
-/// 3: out of memory. After each of these the slot is as it was.
+/// `ASM_TAKEN`, `ASM_NOT_JSON`, `ASM_SHAPE`, `ASM_RANGE` (the capacity isn't 1 to 1,048,576), `ASM_MEMORY`.
+/// After each of these the slot is as it was.
 pub fn open(alloc: Global, init: &[u8], capacity: u32, store: &mut Slot) -> i32
-    ensures codes { IsOneOf (0 ∷ 3 ∷ 6 ∷ 11 ∷ 16 ∷ 17 ∷ []) result }
-    ensures opened { result ≡ pos 0 → HoldsStore (content_of store.new) (IsOpened init.now capacity) }
-    ensures empty { result ≡ pos 0 → content_of store.old ≡ None }
-    ensures refused { result ≢ pos 0 → content_of store.new ≡ content_of store.old }
-    ensures range { result ≡ pos 6 → (capacity ≡ 0) ⊎ (1048576 < capacity) }
-    ensures taken { (result ≡ pos 11) ↔ (content_of store.old ≢ None) }
+    ensures codes { IsOneOf (ASM_DONE ∷ ASM_MEMORY ∷ ASM_RANGE ∷ ASM_TAKEN
+        ∷ ASM_NOT_JSON ∷ ASM_SHAPE ∷ []) result }
+    ensures opened { result ≡ ASM_DONE → HoldsStore (content_of store.new) (IsOpened init.now capacity) }
+    ensures empty { result ≡ ASM_DONE → content_of store.old ≡ None }
+    ensures refused { result ≢ ASM_DONE → content_of store.new ≡ content_of store.old }
+    ensures range { result ≡ ASM_RANGE → (capacity ≡ 0) ⊎ (1048576 < capacity) }
+    ensures not_json { result ≡ ASM_NOT_JSON → IsNoJson init.now }
+    ensures shape { result ≡ ASM_SHAPE → IsOtherJson IsStateForm init.now }
+    ensures taken { (result ≡ ASM_TAKEN) ↔ (content_of store.old ≢ None) }
 {
     if store.is_full() {
         return TAKEN;
@@ -82,18 +90,18 @@ fn agent_of(alloc: Global, store: &Store, id: u32) -> Result<Box<Content>, Alloc
 
 /// Makes an agent of the storage with the number `id`, in an empty slot.
 ///
-/// 6: the number isn't below 256. 11: the slot for the agent is full. 5: the other one has no storage.
-/// 3: out of memory. After each of these both slots are as they were. Agents whose calls are closed
-/// together need different numbers.
+/// `ASM_RANGE`: the number isn't below 256. `ASM_TAKEN`: the slot for the agent is full. `ASM_EMPTY`: the
+/// other one has no storage. `ASM_MEMORY`. After each of these both slots are as they were. Agents whose
+/// calls are closed together need different numbers.
 pub fn make_agent(alloc: Global, store: &mut Slot, id: u32, agent: &mut Slot) -> i32
-    ensures codes { IsOneOf (0 ∷ 3 ∷ 5 ∷ 6 ∷ 11 ∷ []) result }
+    ensures codes { IsOneOf (ASM_DONE ∷ ASM_MEMORY ∷ ASM_EMPTY ∷ ASM_RANGE ∷ ASM_TAKEN ∷ []) result }
     ensures store { content_of store.new ≡ content_of store.old }
-    ensures made { result ≡ pos 0 → HoldsNew (content_of store.old) (content_of agent.new) id }
-    ensures refused { result ≢ pos 0 → content_of agent.new ≡ content_of agent.old }
-    ensures range { (result ≡ pos 6) ↔ (256 ≤ id) }
-    ensures taken { result ≡ pos 11 → content_of agent.old ≢ None }
-    ensures free { result ≡ pos 0 → content_of agent.old ≡ None }
-    ensures empty { result ≡ pos 5 → HoldsNoStore (content_of store.old) }
+    ensures made { result ≡ ASM_DONE → HoldsNew (content_of store.old) (content_of agent.new) id }
+    ensures refused { result ≢ ASM_DONE → content_of agent.new ≡ content_of agent.old }
+    ensures range { (result ≡ ASM_RANGE) ↔ (256 ≤ id) }
+    ensures taken { result ≡ ASM_TAKEN → content_of agent.old ≢ None }
+    ensures free { result ≡ ASM_DONE → content_of agent.old ≡ None }
+    ensures empty { result ≡ ASM_EMPTY → HoldsNoStore (content_of store.old) }
 {
     if id >= 256 {
         return RANGE;
@@ -154,18 +162,18 @@ fn clear(alloc: Global, slots: &mut [Slot])
 
 /// Makes an agent of the storage in each of the empty slots, at most 256, with the numbers from 0 up.
 ///
-/// 6: more than 256 slots. 11: one of them is full. 5: the other slot has no storage. 3: out of memory.
-/// After each of these the storage's slot is as it was, and every agent slot still holds what it held.
+/// `ASM_RANGE`: more than 256 slots. `ASM_TAKEN`: one of them is full. `ASM_EMPTY`: the other slot has no
+/// storage. `ASM_MEMORY`. After each of these the storage's slot is as it was, and every agent slot still holds what it held.
 pub fn make_agents(alloc: Global, store: &mut Slot, agents: &mut [Slot]) -> i32
-    ensures codes { IsOneOf (0 ∷ 3 ∷ 5 ∷ 6 ∷ 11 ∷ []) result }
+    ensures codes { IsOneOf (ASM_DONE ∷ ASM_MEMORY ∷ ASM_EMPTY ∷ ASM_RANGE ∷ ASM_TAKEN ∷ []) result }
     ensures store { content_of store.new ≡ content_of store.old }
-    ensures made { result ≡ pos 0 → HoldsStore (content_of store.old) (λ s. AreNew s.storage agents.new) }
-    ensures range { (result ≡ pos 6) ↔ (256 < length agents.old) }
-    ensures taken { result ≡ pos 11 → ¬ AreEmpty agents.old }
-    ensures free { result ≡ pos 0 → AreEmpty agents.old }
-    ensures none { result ≡ pos 3 → AreEmpty agents.new }
-    ensures kept { IsOneOf (5 ∷ 6 ∷ 11 ∷ []) result → agents.new ≡ agents.old }
-    ensures empty { result ≡ pos 5 → HoldsNoStore (content_of store.old) }
+    ensures made { result ≡ ASM_DONE → HoldsStore (content_of store.old) (λ s. AreNew s.storage agents.new) }
+    ensures range { (result ≡ ASM_RANGE) ↔ (256 < length agents.old) }
+    ensures taken { result ≡ ASM_TAKEN → ¬ AreEmpty agents.old }
+    ensures free { result ≡ ASM_DONE → AreEmpty agents.old }
+    ensures none { result ≡ ASM_MEMORY → AreEmpty agents.new }
+    ensures kept { IsOneOf (ASM_EMPTY ∷ ASM_RANGE ∷ ASM_TAKEN ∷ []) result → agents.new ≡ agents.old }
+    ensures empty { result ≡ ASM_EMPTY → HoldsNoStore (content_of store.old) }
 {
     if agents.len() > 256 {
         return RANGE;

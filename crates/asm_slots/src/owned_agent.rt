@@ -1,12 +1,14 @@
 //! An agent that owns a share of its storage and borrows nothing, and its calls.
-ghost use Rattle.std.specs.Prelude.{◌≡◌, ◌↔◌, ◌<◌, length, IfOk, OnErr, IfErr, IsErrOf, option_map, string_bytes};
+ghost use Rattle.std.specs.Prelude.{◌≡◌, ◌↔◌, ◌<◌, ◌≤◌, ◌+◌, ℕ, length, option_map, string_bytes};
+ghost use Rattle.std.specs.Prelude.{Ok, Err, IfOk, OnOk, OnErr, IfErr, IsErrOf};
 ghost use Rattle.std_alloc.specs.Arc.{arc_value};
-ghost use Rattle.asm_storage.specs.declared.error.FireError.TheVariants.{ManyReads};
+ghost use Rattle.asm_storage.specs.declared.call.Reply.TheVariants.{Fired};
+ghost use Rattle.asm_storage.specs.declared.error.FireError.TheVariants.{Busy, ManyReads};
 ghost use Rattle.asm_storage.specs.declared.error.ReadError.TheVariants.{ManyLocations};
-ghost use Rattle.asm_storage.specs.Storage.{at_start, IsSameAgent};
-ghost use Rattle.asm_storage.specs.Calls.{IsAnswered, IsBusy, IsRead};
+ghost use Rattle.asm_storage.specs.Storage.{at_start, last_look, IsSameAgent, Missed};
+ghost use Rattle.asm_storage.specs.Calls.{HasLookedFor, IsAnswered, IsBusy, IsCoherentReply, IsRead, MadeOffers};
 ghost use Rattle.asm_slots.specs.Standard.{meaning};
-ghost use Rattle.asm_slots.specs.Calls.{HasLearnt, HasLooked, TellsLast};
+ghost use Rattle.asm_slots.specs.Calls.{HasLearnt, HasLooked, MissedFew, MissedOne, SeesOn, TellsLast};
 
 use crate::shared::{Shared, Standard};
 use asm_element::Location;
@@ -74,7 +76,10 @@ impl OwnedAgent {
     ) -> (OwnedAgent, Result<Reading, ReadError>)
         ensures same { IsSameAgent self result.0 }
         ensures answered { IfOk result.1 (IsRead meaning self result.0 locations.now) }
+        ensures looked { OnOk result.1 (Missed self (last_look result.0) result.0) }
+        ensures seen { SeesOn self result.0 }
         ensures refused { OnErr result.1 (HasLooked self result.0) }
+        ensures unread { IfErr result.1 (HasLookedFor self result.0) }
         ensures many { IsErrOf result.1 ManyLocations ↔ (256 < length locations.now) }
     {
         let OwnedAgent { shared, part } = self;
@@ -94,8 +99,14 @@ impl OwnedAgent {
         ensures same { IsSameAgent self result.0 }
         ensures answered { IfOk result.1
             (IsAnswered meaning self result.0 reads.now instrs.now) }
+        ensures coherent { IfOk result.1 (IsCoherentReply meaning result.0 reads.now instrs.now) }
+        ensures seen { SeesOn self result.0 }
         ensures refused { OnErr result.1 (HasLooked self result.0) }
         ensures busy { IfErr result.1 (IsBusy self result.0) }
+        ensures missed { (k : ℕ) → result.1 ≡ Ok (Fired k) → MissedOne self result.0 }
+        ensures few { MissedFew self result.0 }
+        ensures lost { (from to : ℕ) → result.1 ≡ Err (Busy from to) → from + 64 ≤ to }
+        ensures offers { (n : ℕ) × MadeOffers self result.0 result.1 n }
         ensures many { IsErrOf result.1 ManyReads ↔ (256 < length reads.now) }
     {
         let OwnedAgent { shared, part } = self;

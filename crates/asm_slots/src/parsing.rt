@@ -1,10 +1,12 @@
 //! What bytes from C read as.
-ghost use Rattle.std.specs.Prelude.{◌≡◌, ◌∷◌, [], IfOk};
+ghost use Rattle.std.specs.Prelude.{◌≡◌, ◌∷◌, [], IfOk, IfErr};
 ghost use Rattle.serde_json.specs.View.{view};
 ghost use Rattle.asm_journal.specs.Reading.{IsJson};
-ghost use Rattle.asm_slots.specs.Bytes.{ReadAsLocations, ReadAsFire, ReadAsState};
-ghost use Rattle.asm_slots.specs.Codes.{IsOneOf};
-ghost use Rattle.asm_slots.specs.declared.parsing.TextError.TheVariants as error;
+ghost use Rattle.asm_journal.specs.Value.{IsStateForm};
+ghost use Rattle.asm_slots.specs.Bytes.{AreLocations, IsFireForm, IsMisread, IsUnread, ReadAs};
+ghost use Rattle.asm_slots.specs.Bytes.{ReadAsFire, ReadAsLocations, ReadAsState, text_error_code};
+ghost use Rattle.asm_slots.specs.Codes.{IsOneOf, ASM_MEMORY, ASM_NOT_JSON, ASM_SHAPE};
+ghost use Rattle.asm_slots.specs.declared.parsing.TextError.TheVariants as text_errors;
 
 use crate::codes::{MEMORY, NOT_JSON, SHAPE};
 use asm_element::{Items, Location};
@@ -23,17 +25,12 @@ pub(crate) enum TextError {
     Memory,
 }
 
-impl From<AllocError> for TextError {
-    ghost from_gives = { λ _ e. e ≡ error.Memory };
-
-    fn from(_error: AllocError) -> TextError {
-        TextError::Memory
-    }
-}
-
 /// The code of the error.
 pub(crate) fn code_of_text_error(error: TextError) -> i32
-    ensures { IsOneOf (3 ∷ 16 ∷ 17 ∷ []) result }
+    ensures codes { IsOneOf (ASM_MEMORY ∷ ASM_NOT_JSON ∷ ASM_SHAPE ∷ []) result }
+    ensures code { result ≡ text_error_code error }
+    ensures not_json { result ≡ ASM_NOT_JSON → error ≡ text_errors.NotJson }
+    ensures shape { result ≡ ASM_SHAPE → error ≡ text_errors.Shape }
 {
     match error {
         TextError::Memory => MEMORY,
@@ -43,7 +40,8 @@ pub(crate) fn code_of_text_error(error: TextError) -> i32
 }
 
 fn json_of(alloc: Global, bytes: &[u8]) -> Result<Json, TextError>
-    ensures { IfOk result (λ v. IsJson bytes.now (view v)) }
+    ensures ok { IfOk result (λ v. IsJson bytes.now (view v)) }
+    ensures err { IfErr result (IsUnread bytes.now) }
 {
     match Json::from_slice(alloc, bytes) {
         Ok(json) => Ok(json),
@@ -52,26 +50,39 @@ fn json_of(alloc: Global, bytes: &[u8]) -> Result<Json, TextError>
     }
 }
 
+// The value of this type whose JSON the bytes are.
+fn read_as<T: FromJson>(alloc: Global, bytes: &[u8]) -> Result<T, TextError>
+    ensures ok { IfOk result (ReadAs T.is_form bytes.now) }
+    ensures err { IfErr result (IsMisread T.is_form bytes.now) }
+{
+    let json = match json_of(alloc, bytes) {
+        Ok(json) => json,
+        Err(error) => return Err(error),
+    };
+    match T::from_json(alloc, &json) {
+        Ok(Some(read)) => Ok(read),
+        Ok(None) => Err(TextError::Shape),
+        Err(AllocError) => Err(TextError::Memory),
+    }
+}
+
 /// The locations of `[LOC, ..]`.
 pub(crate) fn locations_of(alloc: Global, bytes: &[u8]) -> Result<Vec<Location>, TextError>
-    ensures { IfOk result (λ locations. ReadAsLocations bytes.now locations.items) }
+    ensures ok { IfOk result (λ locations. ReadAsLocations bytes.now locations.items) }
+    ensures err { IfErr result (IsMisread AreLocations bytes.now) }
 {
-    let json = json_of(alloc, bytes)?;
-    match Listed::<Location>::from_json(alloc, &json)? {
-        Some(locations) => Ok(locations.into_vec()),
-        None => Err(TextError::Shape),
+    match read_as::<Listed<Location>>(alloc, bytes) {
+        Ok(locations) => Ok(locations.into_vec()),
+        Err(error) => Err(error),
     }
 }
 
 /// The opening state of `[PAIR, ..]`.
 pub(crate) fn state_of(alloc: Global, bytes: &[u8]) -> Result<PlainState, TextError>
-    ensures { IfOk result (ReadAsState bytes.now) }
+    ensures ok { IfOk result (ReadAsState bytes.now) }
+    ensures err { IfErr result (IsMisread IsStateForm bytes.now) }
 {
-    let json = json_of(alloc, bytes)?;
-    match PlainState::from_json(alloc, &json)? {
-        Some(init) => Ok(init),
-        None => Err(TextError::Shape),
-    }
+    read_as::<PlainState>(alloc, bytes)
 }
 
 /// A move with its named reads.
@@ -83,11 +94,12 @@ pub(crate) struct Fire {
 
 /// The move of `{"fire":[INSTR, ..],"reads":[NAMED, ..]}`.
 pub(crate) fn fire_of(alloc: Global, bytes: &[u8]) -> Result<Fire, TextError>
-    ensures { IfOk result (λ f. ReadAsFire bytes.now f.reads f.instrs) }
+    ensures ok { IfOk result (λ f. ReadAsFire bytes.now f.reads f.instrs) }
+    ensures err { IfErr result (IsMisread IsFireForm bytes.now) }
 {
-    let json = json_of(alloc, bytes)?;
-    match Call::from_json(alloc, &json)? {
-        Some(Call::Fire { reads, instrs }) => Ok(Fire { reads, instrs }),
-        _ => Err(TextError::Shape),
+    match read_as::<Call>(alloc, bytes) {
+        Ok(Call::Fire { reads, instrs }) => Ok(Fire { reads, instrs }),
+        Ok(Call::Read(_)) => Err(TextError::Shape),
+        Err(error) => Err(error),
     }
 }

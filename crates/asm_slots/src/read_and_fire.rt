@@ -1,10 +1,18 @@
 //! Reading, firing, and the answers to both.
-ghost use Rattle.std.specs.Prelude.{◌≡◌, ◌≢◌, ◌∷◌, [], pos, slice_range};
+ghost use Rattle.std.specs.Prelude.{◌≡◌, ◌≢◌, ◌≤◌, ◌+◌, ◌∷◌, [], ℕ, Some, length};
+ghost use Rattle.asm_storage.specs.declared.call.Reply.TheVariants.{Fired};
 ghost use Rattle.asm_storage.specs.Storage.{IsSameAgent};
+ghost use Rattle.asm_slots.specs.Bytes.{AreLocations, IsFireForm, IsNoJson, IsOtherJson};
+ghost use Rattle.asm_slots.specs.Bytes.{ReadAsManyLocations, ReadAsManyReads};
 ghost use Rattle.asm_slots.specs.Calls.{HasFired, HasLooked, HasRead, IsLastAnswer, IsReplyCode, WasBusy};
+ghost use Rattle.asm_slots.specs.Calls.{MayHaveLooked, MayHaveOffered, MissedFew, MissedOne, SeesOn};
 ghost use Rattle.asm_slots.specs.Calls.{code_of, number_of};
-ghost use Rattle.asm_slots.specs.Codes.{IsOneOf};
+ghost use Rattle.asm_slots.specs.Codes.{IsOneOf, ASM_DONE, ASM_STALE, ASM_CLASH, ASM_MEMORY, ASM_FULL};
+ghost use Rattle.asm_slots.specs.Codes.{ASM_EMPTY, ASM_SMALL, ASM_BUSY, ASM_MANY, ASM_NONE};
+ghost use Rattle.asm_slots.specs.Codes.{ASM_NOT_JSON, ASM_SHAPE};
 ghost use Rattle.asm_slots.specs.Slots.{Goes, Holds, HoldsNoAgent, content_of};
+ghost use Rattle.asm_slots.specs.Written.{IsTooLong, IsWritten};
+ghost use Rattle.asm_slots.specs.declared.content.Content.TheVariants as content;
 
 use crate::codes::{BUSY, CLASH, DONE, EMPTY, FULL, MANY, MEMORY, NONE, STALE, copied};
 use crate::content::Content;
@@ -22,10 +30,17 @@ fn read_at(
     agent: OwnedAgent,
     locations: &[u8],
 ) -> i32
-    ensures codes { IsOneOf (0 ∷ 3 ∷ 9 ∷ 16 ∷ 17 ∷ []) result }
-    ensures answered { result ≡ pos 0 → Holds (content_of slot.new) (HasRead locations.now agent) }
-    ensures refused { result ≢ pos 0 → Holds (content_of slot.new) (HasLooked agent) }
+    ensures codes { IsOneOf (ASM_DONE ∷ ASM_MEMORY ∷ ASM_MANY ∷ ASM_NOT_JSON ∷ ASM_SHAPE ∷ []) result }
+    ensures answered { result ≡ ASM_DONE → Holds (content_of slot.new) (HasRead locations.now agent) }
+    ensures refused { result ≢ ASM_DONE → Holds (content_of slot.new) (HasLooked agent) }
     ensures same { Holds (content_of slot.new) (IsSameAgent agent) }
+    ensures seen { Holds (content_of slot.new) (SeesOn agent) }
+    ensures memory { result ≡ ASM_MEMORY → Holds (content_of slot.new) (MayHaveLooked agent) }
+    ensures many { result ≡ ASM_MANY → ReadAsManyLocations locations.now }
+    ensures not_json { result ≡ ASM_NOT_JSON → IsNoJson locations.now }
+    ensures shape { result ≡ ASM_SHAPE → IsOtherJson AreLocations locations.now }
+    ensures kept { IsOneOf (ASM_MANY ∷ ASM_NOT_JSON ∷ ASM_SHAPE ∷ []) result →
+        content_of slot.new ≡ Some (content.Agent agent) }
 {
     let locations = match locations_of(alloc, locations) {
         Ok(locations) => locations,
@@ -45,17 +60,25 @@ fn read_at(
 
 /// Reads the locations `[LOC, ..]`, at most 256; `write_answer` tells what was read.
 ///
-/// 5: the slot has no agent, and stays as it was. 9: more than 256 locations. 16 and 17: not JSON, or not
-/// that of locations. 3: out of memory. After these the agent has no receipt more, and may have seen more.
+/// `ASM_EMPTY`: the slot has no agent. `ASM_MANY`: more than 256 locations. `ASM_NOT_JSON`, `ASM_SHAPE`.
+/// After these the slot is as it was. `ASM_MEMORY`: the agent has no receipt more, and may have seen more.
 pub fn read(alloc: Global, agent: &mut Slot, locations: &[u8]) -> i32
-    ensures codes { IsOneOf (0 ∷ 3 ∷ 5 ∷ 9 ∷ 16 ∷ 17 ∷ []) result }
-    ensures answered { result ≡ pos 0 →
+    ensures codes { IsOneOf (ASM_DONE ∷ ASM_MEMORY ∷ ASM_EMPTY ∷ ASM_MANY
+        ∷ ASM_NOT_JSON ∷ ASM_SHAPE ∷ []) result }
+    ensures answered { result ≡ ASM_DONE →
         Goes (content_of agent.old) (content_of agent.new) (HasRead locations.now) }
-    ensures refused { IsOneOf (3 ∷ 9 ∷ 16 ∷ 17 ∷ []) result →
+    ensures memory { result ≡ ASM_MEMORY →
+        Goes (content_of agent.old) (content_of agent.new) MayHaveLooked }
+    ensures many { result ≡ ASM_MANY → ReadAsManyLocations locations.now }
+    ensures not_json { result ≡ ASM_NOT_JSON → IsNoJson locations.now }
+    ensures shape { result ≡ ASM_SHAPE → IsOtherJson AreLocations locations.now }
+    ensures refused { IsOneOf (ASM_MEMORY ∷ ASM_MANY ∷ ASM_NOT_JSON ∷ ASM_SHAPE ∷ []) result →
         Goes (content_of agent.old) (content_of agent.new) HasLooked }
-    ensures same { result ≢ pos 5 → Goes (content_of agent.old) (content_of agent.new) IsSameAgent }
-    ensures empty { result ≡ pos 5 → HoldsNoAgent (content_of agent.old) }
-    ensures kept { result ≡ pos 5 → content_of agent.new ≡ content_of agent.old }
+    ensures same { result ≢ ASM_EMPTY → Goes (content_of agent.old) (content_of agent.new) IsSameAgent }
+    ensures seen { result ≢ ASM_EMPTY → Goes (content_of agent.old) (content_of agent.new) SeesOn }
+    ensures empty { result ≡ ASM_EMPTY → HoldsNoAgent (content_of agent.old) }
+    ensures kept { IsOneOf (ASM_EMPTY ∷ ASM_MANY ∷ ASM_NOT_JSON ∷ ASM_SHAPE ∷ []) result →
+        content_of agent.new ≡ content_of agent.old }
 {
     match take_agent(alloc, agent) {
         Some((shell, inner)) => read_at(alloc, agent, shell, inner, locations),
@@ -75,19 +98,33 @@ pub struct Numbers {
     pub to: u32,
 }
 
-fn code_of_reply(reply: Reply, numbers: &mut Numbers) -> i32
-    ensures code { result ≡ code_of reply }
-    ensures number { numbers.new.fired ≡ number_of reply }
-{
-    numbers.fired = 0;
-    match reply {
-        Reply::Fired(number) => {
-            numbers.fired = number;
-            DONE
+impl Numbers {
+    fn none() -> Numbers
+        ensures fired { result.fired ≡ 0 }
+        ensures from { result.from ≡ 0 }
+        ensures to { result.to ≡ 0 }
+    {
+        Numbers {
+            fired: 0,
+            from: 0,
+            to: 0,
         }
-        Reply::Stale(_) => STALE,
-        Reply::Clash(_) => CLASH,
-        Reply::Full => FULL,
+    }
+}
+
+// The code of the reply, with the number of the move that was fired, or 0.
+fn code_of_reply(reply: Reply) -> (i32, u32)
+    ensures code { result.0 ≡ code_of reply }
+    ensures number { result.1 ≡ number_of reply }
+    ensures fired { (k : ℕ) → reply ≡ Fired k → result.0 ≡ ASM_DONE }
+    ensures done { result.0 ≡ ASM_DONE → reply ≡ Fired result.1 }
+    ensures none { result.0 ≢ ASM_DONE → result.1 ≡ 0 }
+{
+    match reply {
+        Reply::Fired(number) => (DONE, number),
+        Reply::Stale(_) => (STALE, 0),
+        Reply::Clash(_) => (CLASH, 0),
+        Reply::Full => (FULL, 0),
     }
 }
 
@@ -97,79 +134,112 @@ fn fire_at(
     shell: Box<Content>,
     agent: OwnedAgent,
     call: &[u8],
-    numbers: &mut Numbers,
-) -> i32
-    ensures codes { IsOneOf (0 ∷ 1 ∷ 2 ∷ 3 ∷ 4 ∷ 8 ∷ 9 ∷ 16 ∷ 17 ∷ []) result }
-    ensures answered { IsReplyCode result →
-        Holds (content_of slot.new) (HasFired call.now result numbers.new.fired agent) }
-    ensures refused { IsOneOf (3 ∷ 8 ∷ 9 ∷ 16 ∷ 17 ∷ []) result → Holds (content_of slot.new) (HasLooked agent) }
-    ensures busy { result ≡ pos 8 →
-        Holds (content_of slot.new) (WasBusy numbers.new.from numbers.new.to agent) }
+) -> (i32, Numbers)
+    ensures codes { IsOneOf (ASM_DONE ∷ ASM_STALE ∷ ASM_CLASH ∷ ASM_MEMORY ∷ ASM_FULL ∷ ASM_BUSY ∷ ASM_MANY
+        ∷ ASM_NOT_JSON ∷ ASM_SHAPE ∷ []) result.0 }
+    ensures answered { IsReplyCode result.0 →
+        Holds (content_of slot.new) (HasFired call.now result.0 result.1.fired agent) }
+    ensures unfired { result.0 ≢ ASM_DONE → result.1.fired ≡ 0 }
+    ensures not_busy { result.0 ≢ ASM_BUSY → (result.1.from ≡ 0) × (result.1.to ≡ 0) }
+    ensures refused { IsOneOf (ASM_MEMORY ∷ ASM_BUSY ∷ ASM_MANY ∷ ASM_NOT_JSON ∷ ASM_SHAPE ∷ []) result.0 →
+        Holds (content_of slot.new) (HasLooked agent) }
+    ensures busy { result.0 ≡ ASM_BUSY →
+        Holds (content_of slot.new) (WasBusy result.1.from result.1.to agent) }
+    ensures lost { result.0 ≡ ASM_BUSY → result.1.from + 64 ≤ result.1.to }
     ensures same { Holds (content_of slot.new) (IsSameAgent agent) }
+    ensures seen { Holds (content_of slot.new) (SeesOn agent) }
+    ensures few { Holds (content_of slot.new) (MissedFew agent) }
+    ensures missed { result.0 ≡ ASM_DONE → Holds (content_of slot.new) (MissedOne agent) }
+    ensures memory { result.0 ≡ ASM_MEMORY → Holds (content_of slot.new) (MayHaveOffered agent) }
+    ensures many { result.0 ≡ ASM_MANY → ReadAsManyReads call.now }
+    ensures not_json { result.0 ≡ ASM_NOT_JSON → IsNoJson call.now }
+    ensures shape { result.0 ≡ ASM_SHAPE → IsOtherJson IsFireForm call.now }
+    ensures kept { IsOneOf (ASM_MANY ∷ ASM_NOT_JSON ∷ ASM_SHAPE ∷ []) result.0 →
+        content_of slot.new ≡ Some (content.Agent agent) }
 {
     let fire = match fire_of(alloc, call) {
         Ok(fire) => fire,
         Err(error) => {
             put_agent(slot, shell, agent);
-            return code_of_text_error(error);
+            return (code_of_text_error(error), Numbers::none());
         }
     };
     let (agent, answer) = agent.fire(alloc, fire.reads.as_slice(), &fire.instrs);
     put_agent(slot, shell, agent);
     match answer {
-        Ok(reply) => code_of_reply(reply, numbers),
-        Err(FireError::ManyReads) => MANY,
-        Err(FireError::Busy { from, to }) => {
-            numbers.from = from;
-            numbers.to = to;
-            BUSY
+        Ok(reply) => {
+            let (code, fired) = code_of_reply(reply);
+            (
+                code,
+                Numbers {
+                    fired,
+                    from: 0,
+                    to: 0,
+                },
+            )
         }
-        Err(FireError::Memory) => MEMORY,
+        Err(FireError::ManyReads) => (MANY, Numbers::none()),
+        Err(FireError::Busy { from, to }) => (BUSY, Numbers { fired: 0, from, to }),
+        Err(FireError::Memory) => (MEMORY, Numbers::none()),
     }
 }
 
 /// Fires `{"fire":[INSTR, ..],"reads":[NAMED, ..]}`, with at most 256 named locations.
 ///
-/// 0: fired, with the number of the move. 1: a named location was written since. 2: the updates clash.
-/// 4: as many moves were fired as the capacity. `write_answer` tells the whole reply. With any other code
-/// nothing was fired and there is no receipt more: 8: 64 offers were lost, with what had been seen at the
-/// start and at the end; 9: more than 256 named locations; 16 and 17: not JSON, or not that of a fire;
-/// 3: out of memory; 5: the slot has no agent, and stays as it was.
+/// `ASM_DONE`: fired, with the number of the move. `ASM_STALE`, `ASM_CLASH`, `ASM_FULL`: answers too, which
+/// `write_answer` tells whole. With any other code nothing was fired and there is no receipt more:
+/// `ASM_BUSY`: 64 offers were lost, with what had been seen at the start and at the end; `ASM_MEMORY`; and
+/// with the slot as it was `ASM_MANY` (more than 256 named locations), `ASM_NOT_JSON`, `ASM_SHAPE`, and
+/// `ASM_EMPTY` (no agent). What a code doesn't set is 0.
 pub fn try_fire(alloc: Global, agent: &mut Slot, call: &[u8], numbers: &mut Numbers) -> i32
-    ensures codes { IsOneOf (0 ∷ 1 ∷ 2 ∷ 3 ∷ 4 ∷ 5 ∷ 8 ∷ 9 ∷ 16 ∷ 17 ∷ []) result }
+    ensures codes { IsOneOf (ASM_DONE ∷ ASM_STALE ∷ ASM_CLASH ∷ ASM_MEMORY ∷ ASM_FULL ∷ ASM_EMPTY
+        ∷ ASM_BUSY ∷ ASM_MANY ∷ ASM_NOT_JSON ∷ ASM_SHAPE ∷ []) result }
     ensures answered { IsReplyCode result → Goes (content_of agent.old) (content_of agent.new)
         (HasFired call.now result numbers.new.fired) }
-    ensures refused { IsOneOf (3 ∷ 8 ∷ 9 ∷ 16 ∷ 17 ∷ []) result →
+    ensures unfired { result ≢ ASM_DONE → numbers.new.fired ≡ 0 }
+    ensures not_busy { result ≢ ASM_BUSY → (numbers.new.from ≡ 0) × (numbers.new.to ≡ 0) }
+    ensures few { result ≢ ASM_EMPTY → Goes (content_of agent.old) (content_of agent.new) MissedFew }
+    ensures missed { result ≡ ASM_DONE → Goes (content_of agent.old) (content_of agent.new) MissedOne }
+    ensures lost { result ≡ ASM_BUSY → numbers.new.from + 64 ≤ numbers.new.to }
+    ensures memory { result ≡ ASM_MEMORY →
+        Goes (content_of agent.old) (content_of agent.new) MayHaveOffered }
+    ensures many { result ≡ ASM_MANY → ReadAsManyReads call.now }
+    ensures not_json { result ≡ ASM_NOT_JSON → IsNoJson call.now }
+    ensures shape { result ≡ ASM_SHAPE → IsOtherJson IsFireForm call.now }
+    ensures refused { IsOneOf (ASM_MEMORY ∷ ASM_BUSY ∷ ASM_MANY ∷ ASM_NOT_JSON ∷ ASM_SHAPE ∷ []) result →
         Goes (content_of agent.old) (content_of agent.new) HasLooked }
-    ensures busy { result ≡ pos 8 → Goes (content_of agent.old) (content_of agent.new)
+    ensures busy { result ≡ ASM_BUSY → Goes (content_of agent.old) (content_of agent.new)
         (WasBusy numbers.new.from numbers.new.to) }
-    ensures same { result ≢ pos 5 → Goes (content_of agent.old) (content_of agent.new) IsSameAgent }
-    ensures empty { result ≡ pos 5 → HoldsNoAgent (content_of agent.old) }
-    ensures kept { result ≡ pos 5 → content_of agent.new ≡ content_of agent.old }
+    ensures same { result ≢ ASM_EMPTY → Goes (content_of agent.old) (content_of agent.new) IsSameAgent }
+    ensures seen { result ≢ ASM_EMPTY → Goes (content_of agent.old) (content_of agent.new) SeesOn }
+    ensures empty { result ≡ ASM_EMPTY → HoldsNoAgent (content_of agent.old) }
+    ensures kept { IsOneOf (ASM_EMPTY ∷ ASM_MANY ∷ ASM_NOT_JSON ∷ ASM_SHAPE ∷ []) result →
+        content_of agent.new ≡ content_of agent.old }
 {
-    *numbers = Numbers {
-        fired: 0,
-        from: 0,
-        to: 0,
+    let Some((shell, inner)) = take_agent(alloc, agent) else {
+        *numbers = Numbers::none();
+        return EMPTY;
     };
-    match take_agent(alloc, agent) {
-        Some((shell, inner)) => fire_at(alloc, agent, shell, inner, call, numbers),
-        None => EMPTY,
-    }
+    let (code, told) = fire_at(alloc, agent, shell, inner, call);
+    *numbers = told;
+    code
 }
 
 /// Writes the answer to the agent's last answered call, as often as it is asked for.
 ///
-/// 7: the buffer is too small, and `written` is the room that it needs. 10: no call was answered yet.
-/// 5: the slot has no agent. 3: out of memory. The slot stays as it was.
+/// `ASM_SMALL`: `written` is the room that it needs. `ASM_NONE`: no call was answered yet. `ASM_EMPTY`: the
+/// slot has no agent. `ASM_MEMORY`. The slot stays as it was.
 pub fn write_answer(alloc: Global, agent: &mut Slot, out: &mut [u8], written: &mut usize) -> i32
-    ensures codes { IsOneOf (0 ∷ 3 ∷ 5 ∷ 7 ∷ 10 ∷ []) result }
+    ensures codes { IsOneOf (ASM_DONE ∷ ASM_MEMORY ∷ ASM_EMPTY ∷ ASM_SMALL ∷ ASM_NONE ∷ []) result }
     ensures kept { content_of agent.new ≡ content_of agent.old }
-    ensures told { result ≡ pos 0 → Holds (content_of agent.old)
-        (λ a. IsLastAnswer a.account.receipts (slice_range out.new 0 written.new)) }
-    ensures none { result ≡ pos 10 → Holds (content_of agent.old) (λ a. a.account.receipts ≡ []) }
-    ensures empty { result ≡ pos 5 → HoldsNoAgent (content_of agent.old) }
-    ensures unwritten { result ≢ pos 0 → out.new ≡ out.old }
+    ensures told { result ≡ ASM_DONE → Holds (content_of agent.old)
+        (λ a. IsWritten (IsLastAnswer a.account.receipts) out.new written.new) }
+    ensures small { result ≡ ASM_SMALL → Holds (content_of agent.old)
+        (λ a. IsTooLong (IsLastAnswer a.account.receipts) (length out.old) written.new) }
+    ensures no_text { IsOneOf (ASM_MEMORY ∷ ASM_EMPTY ∷ ASM_NONE ∷ []) result → written.new ≡ 0 }
+    ensures none { result ≡ ASM_NONE → Holds (content_of agent.old) (λ a. a.account.receipts ≡ []) }
+    ensures empty { result ≡ ASM_EMPTY → HoldsNoAgent (content_of agent.old) }
+    ensures unwritten { result ≢ ASM_DONE → out.new ≡ out.old }
 {
     *written = 0;
     let Some((shell, inner)) = take_agent(alloc, agent) else {

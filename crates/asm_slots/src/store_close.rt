@@ -1,15 +1,16 @@
 //! Closing the agents that were given back into one journal.
-ghost use Rattle.std.specs.Prelude.{◌≡◌, ◌++◌, ◌∷◌, ◌≤◌, [], List, All, length, map, string_bytes, vec_capacity};
+ghost use Rattle.std.specs.Prelude.{◌≡◌, ◌≤◌, [], All, length, map, string_bytes, vec_capacity};
 ghost use Rattle.std.specs.Prelude.{IfErr, IfOk, OnOk, OnErr};
 ghost use Rattle.std.specs.List.Sorted.{IsStrictlyIncreasing};
-ghost use Rattle.asm_storage.specs.Agents.{ids, AgentView};
+ghost use Rattle.asm_storage.specs.Agents.{ids};
+ghost use Rattle.asm_storage.specs.History.{Fits};
 ghost use Rattle.asm_storage.specs.Part.{agent_of, IsPartOf};
 ghost use Rattle.asm_storage.specs.Storage.{IsOf, accounts};
 ghost use Rattle.asm_journal.specs.Text.{text_of};
 ghost use Rattle.asm_slots.specs.Calls.{HasClosed};
 ghost use Rattle.asm_slots.specs.Closed.{IsJournalOf};
 ghost use Rattle.asm_slots.specs.Standard.{meaning};
-ghost use Rattle.asm_slots.specs.Unclosed.{IsUnclosed};
+ghost use Rattle.asm_slots.specs.Unclosed.{IsUnclosed, IsUnwritten};
 
 use crate::shared::Standard;
 use crate::store::Store;
@@ -63,8 +64,8 @@ pub(crate) enum Unclosed {
 
 // The text of the history as a journal.
 fn text_of(alloc: Global, history: &History) -> Result<String, Unclosed>
-    ensures ok { IfOk result (λ text. string_bytes text ≡ text_of history.now) }
-    ensures err { (agents : List AgentView) → IfErr result (IsUnclosed agents) }
+    ensures ok { IfOk result (λ text. Fits history.now × (string_bytes text ≡ text_of history.now)) }
+    ensures err { IfErr result (IsUnwritten history.now) }
 {
     if !history.fits() {
         return Err(Unclosed::Large);
@@ -84,7 +85,7 @@ fn journal_of(
     requires of_this { All (IsOf storage.now) agents.now }
     requires ascending { IsStrictlyIncreasing (ids (accounts agents.now)) }
     ensures ok { IfOk result (λ text. IsJournalOf storage.now agents.now (string_bytes text)) }
-    ensures err { IfErr result (IsUnclosed (accounts agents.now)) }
+    ensures err { IfErr result (IsUnclosed storage.now agents.now) }
 {
     match storage.close(alloc, agents) {
         Ok(history) => match text_of(alloc, &history) {
@@ -101,7 +102,7 @@ impl Store {
     pub(crate) fn close(self, alloc: Global) -> (Store, Result<(), Unclosed>)
         ensures closed { OnOk result.1 (HasClosed self result.0) }
         ensures unchanged { OnErr result.1 (result.0 ≡ self) }
-        ensures err { IfErr result.1 (IsUnclosed (accounts self.agents)) }
+        ensures err { IfErr result.1 (IsUnclosed self.storage self.agents) }
     {
         let Store {
             shared,

@@ -1,10 +1,14 @@
-use Rattle.std.proofs.Common.{◌≡◌, List, ℕ, subst, sym, ◌∙◌}
-use Rattle.std.specs.Prelude.{slice_range}
+use Rattle.std.proofs.Common.{◌≡◌, List, ℕ, sym, ◌∙◌}
 use Rattle.asm_slots.specs.Journals.{IsReplayed}
-use Rattle.asm_slots.proofs.CodeZero.{at_zero}
+use Rattle.asm_slots.proofs.CopiedTexts.{coded, is_too_long, is_written}
 use Rattle.asm_slots.proofs.journals.replay_journal.Goals as goal
 
 pub returns-in-Ok-clause-told : goal.returns-in-Ok-clause-told
-returns-in-Ok-clause-told c =
-    at_zero c.copied.result (IsReplayed c.args.journal.now (slice_range c.copied.new.out 0 c.copied.new.written)) c.copied.ensures.codes
-    (λ done. subst (λ (text : List ℕ). IsReplayed c.args.journal.now text) (sym (c.copied.ensures.bytes done ∙ c.as_bytes.ensures.value)) c.in-Ok.ensures.ok)
+returns-in-Ok-clause-told c done =
+    let d = sym (coded c.copied.result c.copied.ensures.codes) ∙ done in
+    is_written (IsReplayed c.args.journal.now) _ _ c.copied.new.out c.copied.new.written c.as_bytes.ensures.value c.in-Ok.ensures.ok (c.copied.ensures.bytes d) (c.copied.ensures.fits d)
+
+pub returns-in-Ok-clause-small : goal.returns-in-Ok-clause-small
+returns-in-Ok-clause-small c small =
+    let s = sym (coded c.copied.result c.copied.ensures.codes) ∙ small in
+    is_too_long (IsReplayed c.args.journal.now) _ _ _ c.copied.new.written c.as_bytes.ensures.value c.in-Ok.ensures.ok c.copied.ensures.written (c.copied.ensures.room s)

@@ -1,4 +1,4 @@
-use Rattle.std.proofs.Common.{◌≡◌, List, All, map, subst, sym, ap, ◌∙◌}
+use Rattle.std.proofs.Common.{rules, string_bytes, ◌≡◌, List, All, map, subst, sym, ap, ◌∙◌}
 use Rattle.std.proofs.lemmas.List.Elements.{All-map}
 use Rattle.asm_storage.specs.Part.{agent_of, IsPartOf}
 use Rattle.std.specs.List.Sorted.{IsStrictlyIncreasing}
@@ -6,7 +6,10 @@ use Rattle.asm_storage.specs.Agents.{ids}
 use Rattle.asm_storage.specs.Storage.{AgentAt, StorageView, IsOf, accounts}
 use Rattle.asm_slots.specs.Standard.{Standard, meaning}
 use Rattle.asm_slots.specs.declared.shared.Shared.{Shared}
-use Rattle.asm_slots.proofs.PartsAndAgents.{ids_of, rises_again}
+use Rattle.asm_slots.proofs.PartsAndAgents.{ids_of, rises_again, told_of_store}
+use Rattle.asm_slots.specs.Closed.{IsJournalOf}
+use Rattle.asm_slots.specs.Store.{StoreView}
+use Rattle.asm_slots.specs.Unclosed.{IsUnclosed}
 use Rattle.asm_slots.proofs.store.Store.close.Goals as goal
 
 pub journal_of-text-requires-clause-of_this : goal.journal_of-text-requires-clause-of_this
@@ -41,3 +44,16 @@ invariant_of-store-in-Err c =
       subst (λ (x : StorageView Standard). All (IsPartOf meaning x) new) (ap (λ (s : Shared). s.storage) c.deref-3.ensures) c.parts_of-parts.ensures.parts,
       rises_again c.deref-3.result.now.storage c.deref.result.now.storage new c.self.inside.parts.items (c.parts_of-parts.ensures.agents ∙ c.agents_of-agents.ensures) c.self.invariant.1,
     )
+
+pub returns-in-Err-clause-err : goal.returns-in-Err-clause-err
+returns-in-Err-clause-err c =
+    let told = told_of_store (λ s all. IsUnclosed s all c.in-Err.error) _ c.deref.result.now c.deref-2.result.now c.self.inside.parts.items
+    c.as_slice.result.now c.deref.ensures c.deref-2.ensures (c.as_slice.ensures.value ∙ c.agents_of-agents.ensures) c.in-Err.ensures.err in
+    subst (λ (v : StoreView). IsUnclosed v.storage v.agents c.in-Err.error) c.self.view_is told
+
+pub returns-in-Ok-clause-closed : goal.returns-in-Ok-clause-closed
+returns-in-Ok-clause-closed c =
+    let told = told_of_store (λ s all. IsJournalOf s all (string_bytes c.in-Ok.text)) _ c.deref.result.now c.deref-2.result.now
+    c.self.inside.parts.items c.as_slice.result.now c.deref.ensures c.deref-2.ensures
+    (c.as_slice.ensures.value ∙ c.agents_of-agents.ensures) c.in-Ok.ensures.ok in
+    (search rules, subst (λ (v : StoreView). IsJournalOf v.storage v.agents (string_bytes c.in-Ok.text)) c.self.view_is told)
