@@ -15,8 +15,8 @@ the interpreter's lock while a call runs, so agents in different threads do run 
 asm_agents has no method here: call `Storage.agent` for each number.
 
 Signal handlers and finalizers should call neither: where one interrupts a call of its own thread, on whichever agent or
-storage, its calls raise `Nested` and do nothing. A handler had better leave a note for what it interrupts. If it lets an
-exception through, that ends the call which it interrupted, though the library may have answered it: `Agent.answer` tells.
+storage, its calls raise `Nested` and do nothing. A handler does better to set a flag. An exception that it lets through ends
+the call which it interrupted, though the library may have answered that one: `Agent.answer` tells.
 
 The storage tells true from 1 and false from 0, but in Python True == 1 and False == 0, and equal keys are one. So don't
 hold elements in Python's sets or as keys of its dicts: {True, 1} has one item, while {"set": [True, 1]}, as a set is written

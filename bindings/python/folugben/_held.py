@@ -2,7 +2,7 @@
 import functools
 import threading
 from collections.abc import Callable
-from typing import Any, ParamSpec, Self, TypeVar
+from typing import NoReturn, ParamSpec, Self, TypeVar
 
 from ._library import Slot, lib
 
@@ -52,6 +52,7 @@ class Held:
     """
 
     def __init__(self) -> None:
+        # An agent that is to learn of itself takes its lock twice.
         self._lock, self._slot = threading.RLock(), Slot()
 
     @one_call
@@ -66,7 +67,7 @@ class Held:
     def __exit__(self, *_: object) -> None:
         self.free()
 
-    def __reduce__(self) -> Any:
+    def __reduce__(self) -> NoReturn:
         # A copy would have the same slot, and release it.
         raise TypeError(f"cannot copy or pickle {type(self).__name__!r} object")
 
