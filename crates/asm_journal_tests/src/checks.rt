@@ -1,9 +1,7 @@
 //! The check of histories, and the states that they leave.
+use crate::replays::leaves;
 use asm_aggregate::standard;
-use asm_element::{Element, Location, Value};
-use asm_journal::{JournalError, Legality, check, from_text, replay};
-use asm_storage::History;
-use asm_update::Lookup;
+use asm_journal::{JournalError, Legality, check, from_text};
 use std::alloc::{AllocError, Global};
 use std::test::Fail;
 
@@ -69,73 +67,65 @@ fn journal(alloc: Global, events: &[&str]) -> Result<String, AllocError> {
     Ok(text)
 }
 
-/// The history of these events.
-fn history(alloc: Global, events: &[&str]) -> Result<History, JournalError> {
-    let text = journal(alloc, events)?;
-    from_text(alloc, text.as_str().as_bytes())
-}
-
 /// What the check of these events answers.
 fn legality(alloc: Global, events: &[&str]) -> Result<Legality, JournalError> {
-    let history = history(alloc, events)?;
+    let text = journal(alloc, events)?;
+    let history = from_text(alloc, text.as_bytes())?;
     Ok(check(alloc, &standard(), &history)?)
 }
 
-/// Whether these events leave this number at x.
-fn leaves(alloc: Global, events: &[&str], number: i64) -> Result<bool, Fail> {
-    let at = Location::new(String::from_str(alloc, "x")?, Vec::new(alloc))?;
-    let history = history(alloc, events)?;
-    let state = replay(alloc, &standard(), &history)?;
-    Ok(state.get(&at) == Some(&Value::Plain(Element::Num(number))))
-}
+// Events, and what their check answers.
+static HISTORIES: [(&[&str], Legality); 10] = [
+    (
+        &[READ, SAME_FIRED, STALE],
+        Legality::Legal { calls: 3, moves: 1 },
+    ),
+    (
+        &[
+            FIRED,
+            TWO_CLASH,
+            NAMED_1_FIRED_2,
+            NAMED_2_FULL,
+            TWO_CLASH,
+            STALE,
+            READ_LAST,
+        ],
+        Legality::Legal { calls: 7, moves: 2 },
+    ),
+    (&[READ_OTHER, READ_EARLY], Legality::Illegal { call: 0 }),
+    (&[READ, READ_EARLY], Legality::Illegal { call: 1 }),
+    (&[READ, SAME_FIRED_2], Legality::Illegal { call: 1 }),
+    (&[SAME_FIRED, FIRED_2], Legality::Illegal { call: 1 }),
+    (&[SAME_FIRED, NAMED_1_STALE], Legality::Illegal { call: 1 }),
+    (&[SAME_FULL, NAMED_1_STALE], Legality::Illegal { call: 0 }),
+    (&[TWO_FULL, TWO_CLASH], Legality::Illegal { call: 0 }),
+    (&[TWO_CLASH, TWO_FIRED], Legality::Illegal { call: 1 }),
+];
 
 #[test]
-fn legal_histories_are_counted(rt: HostRuntime) -> Result<(), Fail> {
-    let same_value = [READ, SAME_FIRED, STALE];
-    let full = [
-        FIRED,
-        TWO_CLASH,
-        NAMED_1_FIRED_2,
-        NAMED_2_FULL,
-        TWO_CLASH,
-        STALE,
-        READ_LAST,
-    ];
-    let rows: [(&[&str], Legality); 2] = [
-        (&same_value, Legality::Legal { calls: 3, moves: 1 }),
-        (&full, Legality::Legal { calls: 7, moves: 2 }),
-    ];
-    for (events, want) in rows {
-        assert!(rt; legality(rt.alloc(), events)? == want);
+fn legal_calls_are_counted_and_the_first_wrong_answer_is_told(rt: HostRuntime) -> Result<(), Fail> {
+    for (index, (events, want)) in HISTORIES.iter().enumerate() {
+        assert!(rt; legality(rt.alloc(), events)? == *want, "{index}");
     }
     Ok(())
 }
 
-#[test]
-fn the_first_wrong_answer_is_told(rt: HostRuntime) -> Result<(), Fail> {
-    for (events, call) in [
-        ([READ_OTHER, READ_EARLY], 0),
-        ([READ, READ_EARLY], 1),
-        ([READ, SAME_FIRED_2], 1),
-        ([SAME_FIRED, FIRED_2], 1),
-        ([SAME_FIRED, NAMED_1_STALE], 1),
-        ([SAME_FULL, NAMED_1_STALE], 0),
-        ([TWO_FULL, TWO_CLASH], 0),
-        ([TWO_CLASH, TWO_FIRED], 1),
-    ] {
-        let told = legality(rt.alloc(), &events)?;
-        assert!(rt; told == Legality::Illegal { call });
-    }
-    Ok(())
+/// Whether a replay of these events leaves this state.
+fn leave(alloc: Global, events: &[&str], state: &str) -> Result<bool, JournalError> {
+    let text = journal(alloc, events)?;
+    leaves(alloc, text.as_str(), state)
 }
+
+// Events, and the state that their replay leaves.
+static REPLAYS: [(&[&str], &str); 2] = [
+    (&[FIRED, TWO_CLASH, NAMED_1_STALE], r#"[[["x"],1]]"#),
+    (&[TWO_FIRED, TWO_CLASH, STALE], r#"[[["x"],7]]"#),
+];
 
 #[test]
 fn a_replay_fires_what_was_fired_and_passes_over_a_clash(rt: HostRuntime) -> Result<(), Fail> {
-    for (events, number) in [
-        ([FIRED, TWO_CLASH, NAMED_1_STALE], 1),
-        ([TWO_FIRED, TWO_CLASH, STALE], 7),
-    ] {
-        assert!(rt; leaves(rt.alloc(), &events, number)?);
+    for (events, state) in REPLAYS.iter() {
+        assert!(rt; leave(rt.alloc(), events, state)?, "{state}");
     }
     Ok(())
 }

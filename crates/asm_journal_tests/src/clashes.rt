@@ -1,5 +1,5 @@
 //! A journal with every cause of a clash, and the wrong answers that stand in for its right ones.
-use crate::journals::goes_both_ways;
+use crate::journals::{goes_both_ways, replaced};
 use asm_journal::{JournalError, Legality};
 use std::alloc::Global;
 use std::test::Fail;
@@ -21,7 +21,7 @@ const CLASHES: &str =
 "#;
 
 /// The words of the causes, in the order in which the journal's clashes have them.
-const CAUSES: [&str; 7] = [
+static CAUSES: [&str; 7] = [
     r#""Two""#,
     r#""Mixed""#,
     r#""Kind""#,
@@ -33,46 +33,61 @@ const CAUSES: [&str; 7] = [
 
 /// Whether the journal, with one text in the place of another, is read, judged so and written as the same text.
 fn is_judged(alloc: Global, old: &str, new: &str, told: Legality) -> Result<bool, JournalError> {
-    let text = CLASHES.replace(alloc, old, new)?;
+    let text = replaced(alloc, CLASHES, old, new)?;
     goes_both_ways(alloc, text.as_str(), told)
+}
+
+/// What the check tells of the journal with the cause at `place` in the place of that at `index`.
+fn legality_with(index: usize, place: usize) -> Legality {
+    if place == index {
+        Legality::Legal {
+            calls: 10,
+            moves: 1,
+        }
+    } else {
+        Legality::Illegal { call: index as u64 }
+    }
+}
+
+/// Whether the journal is judged so with each cause in the place of that at `index`.
+fn are_judged(alloc: Global, index: usize, cause: &str) -> Result<bool, JournalError> {
+    for (place, word) in CAUSES.iter().enumerate() {
+        if !is_judged(alloc, cause, word, legality_with(index, place))? {
+            return Ok(false);
+        }
+    }
+    Ok(true)
 }
 
 #[test]
 fn each_cause_is_read_and_written_and_no_other_is_legal(rt: HostRuntime) -> Result<(), Fail> {
     for (index, cause) in CAUSES.iter().enumerate() {
-        for (place, word) in CAUSES.iter().enumerate() {
-            let told = if place == index {
-                Legality::Legal {
-                    calls: 10,
-                    moves: 1,
-                }
-            } else {
-                Legality::Illegal { call: index as u64 }
-            };
-            assert!(rt; is_judged(rt.alloc(), cause, word, told)?, "{cause} {word}");
-        }
+        assert!(rt; are_judged(rt.alloc(), index, cause)?, "{cause}");
     }
     Ok(())
 }
 
+// The first call with a wrong answer, the right text, and a wrong one.
+static WRONG: [(u64, &str, &str); 13] = [
+    (0, r#"["u"],"Two""#, r#"["w"],"Two""#),
+    (2, r#"{"clash":[["n"],"Kind"]}"#, r#"{"fired":1}"#),
+    (6, r#"{"clash":[["f"],"Large"]}"#, r#""full""#),
+    (7, r#"{"fired":1}"#, r#"{"stale":["s"]}"#),
+    (7, r#"{"fired":1}"#, r#"{"clash":[["x"],"Two"]}"#),
+    (7, r#"{"fired":1}"#, r#""full""#),
+    (8, r#"{"stale":["x"]}"#, r#"{"stale":["z"]}"#),
+    (8, r#"{"stale":["x"]}"#, r#"{"stale":["s"]}"#),
+    (8, r#"{"stale":["x"]}"#, r#"{"stale":["y"]}"#),
+    (8, r#"{"stale":["x"]}"#, r#"{"clash":[["y"],"Two"]}"#),
+    (8, r#"{"stale":["x"]}"#, r#""full""#),
+    (9, r#""full""#, r#"{"stale":["x"]}"#),
+    (9, r#""full""#, r#"{"fired":2}"#),
+];
+
 #[test]
 fn a_wrong_location_or_reply_is_told(rt: HostRuntime) -> Result<(), Fail> {
-    for (call, right, wrong) in [
-        (0, r#"["u"],"Two""#, r#"["w"],"Two""#),
-        (2, r#"{"clash":[["n"],"Kind"]}"#, r#"{"fired":1}"#),
-        (6, r#"{"clash":[["f"],"Large"]}"#, r#""full""#),
-        (7, r#"{"fired":1}"#, r#"{"stale":["s"]}"#),
-        (7, r#"{"fired":1}"#, r#"{"clash":[["x"],"Two"]}"#),
-        (7, r#"{"fired":1}"#, r#""full""#),
-        (8, r#"{"stale":["x"]}"#, r#"{"stale":["z"]}"#),
-        (8, r#"{"stale":["x"]}"#, r#"{"stale":["s"]}"#),
-        (8, r#"{"stale":["x"]}"#, r#"{"stale":["y"]}"#),
-        (8, r#"{"stale":["x"]}"#, r#"{"clash":[["y"],"Two"]}"#),
-        (8, r#"{"stale":["x"]}"#, r#""full""#),
-        (9, r#""full""#, r#"{"stale":["x"]}"#),
-        (9, r#""full""#, r#"{"fired":2}"#),
-    ] {
-        let told = Legality::Illegal { call };
+    for (call, right, wrong) in WRONG.iter() {
+        let told = Legality::Illegal { call: *call };
         assert!(rt;
             is_judged(rt.alloc(), right, wrong, told)?,
             "{right} {wrong}"

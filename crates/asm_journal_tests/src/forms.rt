@@ -1,4 +1,4 @@
-//! The forms of locations, values and instructions, read from texts and written anew.
+//! The forms of locations, values and instructions: reading and writing them, and some that are made by hand.
 use asm_element::{ElemText, Element, Location, Value};
 use asm_journal::{
     instruction_json, location_json, pair_json, read_instruction, read_location, read_value,
@@ -19,6 +19,11 @@ fn is_text(alloc: Global, json: &Json, want: Option<&str>) -> Result<bool, Alloc
     Ok(want == Some(json.to_string(alloc)?.as_str()))
 }
 
+/// Whether JSON is read as this location.
+fn location_is_read(alloc: Global, json: &Json, location: &Location) -> Result<bool, AllocError> {
+    Ok(read_location(alloc, json)?.as_ref() == Some(location))
+}
+
 /// Whether a location is written as this text, and read back equal.
 fn location_is_written(
     alloc: Global,
@@ -26,31 +31,43 @@ fn location_is_written(
     want: Option<&str>,
 ) -> Result<bool, AllocError> {
     let json = location_json(alloc, location)?;
-    Ok(is_text(alloc, &json, want)? && read_location(alloc, &json)?.as_ref() == Some(location))
+    Ok(is_text(alloc, &json, want)? && location_is_read(alloc, &json, location)?)
 }
 
-/// Whether a text is read as a location that is written as `want`; without `want`, whether it is read as none.
-pub(crate) fn location_is(alloc: Global, text: &str, want: Option<&str>) -> Result<bool, Fail> {
-    let json = json_of(alloc, text)?;
-    match read_location(alloc, &json)? {
-        Some(location) => Ok(location_is_written(alloc, &location, want)?),
+/// Whether JSON is read as a location that is written as `want`; without `want`, whether it is read as none.
+fn location_is(alloc: Global, json: &Json, want: Option<&str>) -> Result<bool, AllocError> {
+    match read_location(alloc, json)? {
+        Some(location) => location_is_written(alloc, &location, want),
         None => Ok(want.is_none()),
     }
+}
+
+/// Whether JSON is read as this value.
+fn value_is_read(alloc: Global, json: &Json, value: &Value) -> Result<bool, AllocError> {
+    Ok(read_value(alloc, json)?.as_ref() == Some(value))
 }
 
 /// Whether a value is written as this text, and read back equal.
 fn value_is_written(alloc: Global, value: &Value, want: Option<&str>) -> Result<bool, AllocError> {
     let json = value_json(alloc, value)?;
-    Ok(is_text(alloc, &json, want)? && read_value(alloc, &json)?.as_ref() == Some(value))
+    Ok(is_text(alloc, &json, want)? && value_is_read(alloc, &json, value)?)
 }
 
-/// Whether a text is read as a value that is written as `want`; without `want`, whether it is read as none.
-pub(crate) fn value_is(alloc: Global, text: &str, want: Option<&str>) -> Result<bool, Fail> {
-    let json = json_of(alloc, text)?;
-    match read_value(alloc, &json)? {
-        Some(value) => Ok(value_is_written(alloc, &value, want)?),
+/// Whether JSON is read as a value that is written as `want`; without `want`, whether it is read as none.
+fn value_is(alloc: Global, json: &Json, want: Option<&str>) -> Result<bool, AllocError> {
+    match read_value(alloc, json)? {
+        Some(value) => value_is_written(alloc, &value, want),
         None => Ok(want.is_none()),
     }
+}
+
+/// Whether JSON is read as this instruction.
+fn instruction_is_read(
+    alloc: Global,
+    json: &Json,
+    instruction: &Instruction,
+) -> Result<bool, AllocError> {
+    Ok(read_instruction(alloc, json)?.as_ref() == Some(instruction))
 }
 
 /// Whether an instruction is written as this text, and read back equal.
@@ -60,165 +77,39 @@ fn instruction_is_written(
     want: Option<&str>,
 ) -> Result<bool, AllocError> {
     let json = instruction_json(alloc, instruction)?;
-    Ok(
-        is_text(alloc, &json, want)?
-            && read_instruction(alloc, &json)?.as_ref() == Some(instruction),
-    )
+    Ok(is_text(alloc, &json, want)? && instruction_is_read(alloc, &json, instruction)?)
 }
 
-/// Whether a text is read as an instruction that is written as `want`; without `want`, whether it is read as none.
-pub(crate) fn instruction_is(alloc: Global, text: &str, want: Option<&str>) -> Result<bool, Fail> {
-    let json = json_of(alloc, text)?;
-    match read_instruction(alloc, &json)? {
-        Some(instruction) => Ok(instruction_is_written(alloc, &instruction, want)?),
+/// Whether JSON is read as an instruction that is written as `want`; without `want`, whether it is read as none.
+fn instruction_is(alloc: Global, json: &Json, want: Option<&str>) -> Result<bool, AllocError> {
+    match read_instruction(alloc, json)? {
+        Some(instruction) => instruction_is_written(alloc, &instruction, want),
         None => Ok(want.is_none()),
     }
 }
 
-#[test]
-fn locations_are_read_and_written(rt: HostRuntime) -> Result<(), Fail> {
-    for text in [
-        r#"["x"]"#,
-        r#"["_a1",null,false,true,-9223372036854775808,9223372036854775807,"","é\n"]"#,
-        r#"["x",1,2,3,4,5,6,7,8]"#,
-    ] {
-        assert!(rt; location_is(rt.alloc(), text, Some(text))?, "{text}");
-    }
-    Ok(())
+/// What a text is read as.
+#[derive(Clone, Copy)]
+pub(crate) enum Form {
+    Location,
+    Value,
+    Instruction,
 }
 
-#[test]
-fn other_shapes_are_no_locations(rt: HostRuntime) -> Result<(), Fail> {
-    for text in [
-        "[]",
-        r#""x""#,
-        r#"[1]"#,
-        r#"["1x"]"#,
-        r#"["x-y"]"#,
-        r#"[""]"#,
-        r#"["x",1,2,3,4,5,6,7,8,9]"#,
-        r#"["x",[]]"#,
-        r#"["x",1.0]"#,
-        r#"["x",9223372036854775808]"#,
-        r#"{"x":1}"#,
-    ] {
-        assert!(rt; location_is(rt.alloc(), text, None)?, "{text}");
-    }
-    Ok(())
-}
-
-#[test]
-fn values_are_read_and_written(rt: HostRuntime) -> Result<(), Fail> {
-    for text in [
-        "null",
-        "true",
-        "-1",
-        r#""a""#,
-        r#"{"set":[]}"#,
-        r#"{"set":[null,false,true,-1,0,10,"","B","a"]}"#,
-        r#"{"bag":[]}"#,
-        r#"{"bag":[[null,1],["e",4294967295]]}"#,
-    ] {
-        assert!(rt; value_is(rt.alloc(), text, Some(text))?, "{text}");
-    }
-    Ok(())
-}
-
-#[test]
-fn sets_and_bags_are_read_in_any_order(rt: HostRuntime) -> Result<(), Fail> {
-    for (text, want) in [
-        (
-            r#" { "set" : [10,"a",true,null,"",-1,"B",false,0] } "#,
-            r#"{"set":[null,false,true,-1,0,10,"","B","a"]}"#,
-        ),
-        (
-            r#"{"bag":[["e",2],[1,3],[null,1]]}"#,
-            r#"{"bag":[[null,1],[1,3],["e",2]]}"#,
-        ),
-    ] {
-        assert!(rt; value_is(rt.alloc(), text, Some(want))?, "{text}");
-    }
-    Ok(())
-}
-
-#[test]
-fn other_shapes_are_no_values(rt: HostRuntime) -> Result<(), Fail> {
-    for text in [
-        "[]",
-        "{}",
-        "1.0",
-        "1e0",
-        "-0",
-        "9223372036854775808",
-        r#"{"set":[1,1]}"#,
-        r#"{"set":[[1]]}"#,
-        r#"{"set":1}"#,
-        r#"{"set":[],"bag":[]}"#,
-        r#"{"set":[],"x":1}"#,
-        r#"{"bag":[[1,1],[1,2]]}"#,
-        r#"{"bag":[[1,0]]}"#,
-        r#"{"bag":[[1,4294967296]]}"#,
-        r#"{"bag":[[1,1.0]]}"#,
-        r#"{"bag":[[1]]}"#,
-        r#"{"bag":[[1,1,1]]}"#,
-    ] {
-        assert!(rt; value_is(rt.alloc(), text, None)?, "{text}");
-    }
-    Ok(())
-}
-
-#[test]
-fn instructions_are_read_and_written(rt: HostRuntime) -> Result<(), Fail> {
-    for text in [
-        r#"["put",["x"],null]"#,
-        r#"["put",["x",1],{"set":[1,2]}]"#,
-        r#"["add",["s"],"e"]"#,
-        r#"["remove",["s"],true]"#,
-        r#"["bagadd",["b"],"e",1]"#,
-        r#"["bagremove",["b"],-1,4294967295]"#,
-        r#"["inc",["n"],-9223372036854775808]"#,
-        r#"["inc",["n"],-1]"#,
-        r#"["inc",["n"],0]"#,
-        r#"["inc",["n",1],9223372036854775807]"#,
-    ] {
-        assert!(rt; instruction_is(rt.alloc(), text, Some(text))?, "{text}");
-    }
-    Ok(())
-}
-
-#[test]
-fn other_shapes_are_no_instructions(rt: HostRuntime) -> Result<(), Fail> {
-    for text in [
-        "[]",
-        r#"["put"]"#,
-        r#"["put",["x"]]"#,
-        r#"["put",["x"],1,1]"#,
-        r#"["put",["1x"],1]"#,
-        r#"["set",["x"],1]"#,
-        r#"["Put",["x"],1]"#,
-        r#"["add",["s"],{"set":[]}]"#,
-        r#"["bagadd",["b"],"e"]"#,
-        r#"["bagadd",["b"],"e",0]"#,
-        r#"["bagremove",["b"],"e",4294967296]"#,
-        r#"["bagremove",["b"],"e",1,1]"#,
-        r#"["inc",["n"]]"#,
-        r#"["inc",["n"],1,1]"#,
-        r#"["inc",["n"],1.0]"#,
-        r#"["inc",["n"],1e0]"#,
-        r#"["inc",["n"],-0]"#,
-        r#"["inc",["n"],"1"]"#,
-        r#"["inc",["n"],null]"#,
-        r#"["inc",["n"],true]"#,
-        r#"["inc",["n"],{"set":[]}]"#,
-        r#"["inc",["n"],9223372036854775808]"#,
-        r#"["inc",["n"],-9223372036854775809]"#,
-        r#"["inc",["1n"],1]"#,
-        r#"["Inc",["n"],1]"#,
-        r#"{"put":[["x"],1]}"#,
-    ] {
-        assert!(rt; instruction_is(rt.alloc(), text, None)?, "{text}");
-    }
-    Ok(())
+/// Whether a text is read as something of this form that is written as `want`; without `want`, whether it is read as none.
+pub(crate) fn is_form(
+    alloc: Global,
+    form: Form,
+    text: &str,
+    want: Option<&str>,
+) -> Result<bool, Fail> {
+    let json = json_of(alloc, text)?;
+    let holds = match form {
+        Form::Location => location_is(alloc, &json, want),
+        Form::Value => value_is(alloc, &json, want),
+        Form::Instruction => instruction_is(alloc, &json, want),
+    };
+    Ok(holds?)
 }
 
 fn at(alloc: Global, name: &str, argument: Element) -> Result<Location, Fail> {
@@ -244,12 +135,15 @@ fn removal(alloc: Global) -> Result<Instruction, Fail> {
     Ok(Instruction { at, action })
 }
 
+/// Whether the instruction is written as this text, and read back equal.
+fn is_written(alloc: Global, instruction: Instruction, want: &str) -> Result<bool, AllocError> {
+    instruction_is_written(alloc, &instruction, Some(want))
+}
+
 #[test]
 fn an_instruction_is_written(rt: HostRuntime) -> Result<(), Fail> {
-    let alloc = rt.alloc();
-    let removal = removal(alloc)?;
-    let want = r#"["bagremove",["b",0],false,7]"#;
-    assert!(rt; instruction_is_written(alloc, &removal, Some(want))?);
+    let removal = removal(rt.alloc())?;
+    assert!(rt; is_written(rt.alloc(), removal, r#"["bagremove",["b",0],false,7]"#)?);
     Ok(())
 }
 
@@ -257,18 +151,20 @@ fn an_instruction_is_written(rt: HostRuntime) -> Result<(), Fail> {
 fn increment_is_written(alloc: Global, number: i64, want: &str) -> Result<bool, Fail> {
     let at = at(alloc, "n", Element::Undef)?;
     let action = Action::Increment(number);
-    Ok(instruction_is_written(alloc, &Instruction { at, action }, Some(want))?)
+    Ok(is_written(alloc, Instruction { at, action }, want)?)
 }
+
+static INCREMENTS: [(i64, &str); 4] = [
+    (i64::MIN, r#"["inc",["n",null],-9223372036854775808]"#),
+    (-3, r#"["inc",["n",null],-3]"#),
+    (0, r#"["inc",["n",null],0]"#),
+    (i64::MAX, r#"["inc",["n",null],9223372036854775807]"#),
+];
 
 #[test]
 fn increments_are_written(rt: HostRuntime) -> Result<(), Fail> {
-    for (number, want) in [
-        (i64::MIN, r#"["inc",["n",null],-9223372036854775808]"#),
-        (-3, r#"["inc",["n",null],-3]"#),
-        (0, r#"["inc",["n",null],0]"#),
-        (i64::MAX, r#"["inc",["n",null],9223372036854775807]"#),
-    ] {
-        assert!(rt; increment_is_written(rt.alloc(), number, want)?, "{want}");
+    for (number, want) in INCREMENTS.iter() {
+        assert!(rt; increment_is_written(rt.alloc(), *number, want)?, "{want}");
     }
     Ok(())
 }

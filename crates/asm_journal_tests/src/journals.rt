@@ -112,6 +112,16 @@ fn blocks(alloc: Global) -> Result<History, Fail> {
     })
 }
 
+/// The text with one part in the place of another.
+pub(crate) fn replaced(
+    alloc: Global,
+    text: &str,
+    old: &str,
+    new: &str,
+) -> Result<String, AllocError> {
+    text.replace(alloc, old, new)
+}
+
 /// Whether the history fits a journal and is written as this text.
 pub(crate) fn is_written(alloc: Global, history: &History, text: &str) -> Result<bool, AllocError> {
     Ok(history.fits() && to_text(alloc, history)?.as_str() == text)
@@ -141,15 +151,17 @@ fn a_history_is_written_and_read(rt: HostRuntime) -> Result<(), Fail> {
     Ok(())
 }
 
+static JOURNALS: [(&str, Legality); 4] = [
+    (BLOCKS, Legality::Legal { calls: 2, moves: 1 }),
+    (AGENTS, Legality::Legal { calls: 2, moves: 2 }),
+    (SAME_VALUE, Legality::Legal { calls: 3, moves: 1 }),
+    (COUNTS, Legality::Legal { calls: 9, moves: 3 }),
+];
+
 #[test]
 fn journals_are_read_judged_and_written(rt: HostRuntime) -> Result<(), Fail> {
-    for (text, told) in [
-        (BLOCKS, Legality::Legal { calls: 2, moves: 1 }),
-        (AGENTS, Legality::Legal { calls: 2, moves: 2 }),
-        (SAME_VALUE, Legality::Legal { calls: 3, moves: 1 }),
-        (COUNTS, Legality::Legal { calls: 9, moves: 3 }),
-    ] {
-        assert!(rt; goes_both_ways(rt.alloc(), text, told)?, "{text}");
+    for (text, told) in JOURNALS.iter() {
+        assert!(rt; goes_both_ways(rt.alloc(), text, *told)?, "{text}");
     }
     Ok(())
 }

@@ -18,6 +18,8 @@ mod headers;
 #[cfg(test)]
 mod journals;
 #[cfg(test)]
+mod kept;
+#[cfg(test)]
 mod limits;
 #[cfg(test)]
 mod lists;

@@ -1,8 +1,6 @@
 //! Journals on outputs that take all, a part, or nothing.
-ghost use Rattle.std.specs.Prelude.{Some};
-
 use crate::journals::BLOCKS;
-use asm_journal::{WriteError, from_text, write_text};
+use asm_journal::{JournalError, WriteError, from_text, write_text};
 use asm_storage::History;
 use std::alloc::{AllocError, Global};
 use std::io;
@@ -10,20 +8,23 @@ use std::io::{ErrorKind, Write};
 use std::test::Fail;
 
 /// An output that takes some bytes, a few at a time. Then one write takes none or fails, and the next ones take all. It
-/// counts its flushes.
-#[derive(Drop)]
+/// counts its calls, and knows whether each was a write of all that is left of `BLOCKS`, which was something.
+#[derive(Clone, Copy)]
 struct Short {
-    taken: Vec<u8>,
     room: usize,
     most: usize,
     fails: Option<ErrorKind>,
-    flushes: u32,
+    taken: usize,
+    calls: u32,
+    writes_the_rest: bool,
 }
 
 impl Write for Short {
-    ghost contents = { λ w. Some w.taken.items };
-
     fn write(&mut self, buf: &[u8]) -> io::Result<usize> {
+        self.calls = self.calls.saturating_add(1);
+        if buf.is_empty() || BLOCKS.as_bytes().get(self.taken..) != Some(buf) {
+            self.writes_the_rest = false;
+        }
         if self.room == 0 {
             self.room = usize::MAX;
             self.most = usize::MAX;
@@ -33,70 +34,127 @@ impl Write for Short {
             };
         }
         let count = buf.len().min(self.room).min(self.most);
-        if self.taken.extend_from_slice(&buf[..count]).is_err() {
-            return Err(io::Error::from(ErrorKind::OutOfMemory));
-        }
+        self.taken = self.taken.saturating_add(count);
         self.room -= count;
         Ok(count)
     }
 
     fn flush(&mut self) -> io::Result<()> {
-        self.flushes = self.flushes.saturating_add(1);
+        self.writes_the_rest = false;
         Ok(())
     }
 }
 
-/// An output with this much room, that takes at most so much in one write, and then fails so or takes nothing.
-type Row = (usize, usize, Option<ErrorKind>);
+/// An output with this much room, that takes at most so much in one write, and then fails so or takes nothing; and how
+/// often it is called.
+type Row = (usize, usize, Option<ErrorKind>, u32);
 
-/// The output of a row, with memory for a whole journal.
-fn output_of(alloc: Global, (room, most, fails): Row) -> Result<Short, AllocError> {
-    let taken = Vec::with_capacity(alloc, BLOCKS.len())?;
-    Ok(Short {
-        taken,
-        room,
-        most,
-        fails,
-        flushes: 0,
-    })
-}
-
-/// Whether the history's journal goes out as far as there is room, the answer says so, and nothing is flushed.
-fn goes_out(alloc: Global, out: &mut Short, history: &History) -> Result<bool, AllocError> {
+/// Whether the history's journal, `BLOCKS`, goes out as far as there is room, and the answer says so.
+fn goes_out(
+    alloc: Global,
+    history: &History,
+    (room, most, fails, calls): Row,
+) -> Result<bool, AllocError> {
     if !history.fits() {
         return Ok(false);
     }
-    let room = out.room;
+    let mut out = Short {
+        room,
+        most,
+        fails,
+        taken: 0,
+        calls: 0,
+        writes_the_rest: true,
+    };
     let whole = BLOCKS.len();
-    let told = match write_text(alloc, out, history) {
+    let told = match write_text(alloc, &mut out, history) {
         Ok(()) => whole <= room,
         Err(WriteError::Output { written }) => room < whole && written == room as u64,
         Err(WriteError::Memory) => return Err(AllocError),
     };
-    let sent = &BLOCKS.as_bytes()[..room.min(whole)];
-    Ok(told && out.taken.as_slice() == sent && out.flushes == 0)
+    Ok(told && out.writes_the_rest && out.taken == room.min(whole) && out.calls == calls)
+}
+
+// `BLOCKS` has 271 bytes.
+static ROWS: [Row; 12] = [
+    (0, 1, Some(ErrorKind::Other), 1),
+    (0, 1, None, 1),
+    (1, 1, Some(ErrorKind::WouldBlock), 2),
+    (5, 5, Some(ErrorKind::Interrupted), 2),
+    (5, 2, None, 4),
+    (100, 64, Some(ErrorKind::Interrupted), 3),
+    (270, 4096, Some(ErrorKind::Other), 2),
+    (270, 4096, None, 2),
+    (271, 1, None, 271),
+    (271, 7, Some(ErrorKind::Other), 39),
+    (271, 4096, None, 1),
+    (4096, 4096, None, 1),
+];
+
+/// Whether the journal `BLOCKS` goes out so.
+fn blocks_go_out(alloc: Global, row: Row) -> Result<bool, JournalError> {
+    let history = from_text(alloc, BLOCKS.as_bytes())?;
+    Ok(goes_out(alloc, &history, row)?)
 }
 
 #[test]
-fn what_went_out_is_told(rt: HostRuntime) -> Result<(), Fail> {
-    let alloc = rt.alloc();
-    let history = from_text(alloc, BLOCKS.as_bytes())?;
-    let whole = BLOCKS.len();
-    for row in [
-        (0, 1, Some(ErrorKind::Other)),
-        (0, 1, None),
-        (1, 1, Some(ErrorKind::WouldBlock)),
-        (5, 5, Some(ErrorKind::Interrupted)),
-        (5, 2, None),
-        (100, 64, Some(ErrorKind::Interrupted)),
-        (whole.saturating_sub(1), 4096, Some(ErrorKind::Other)),
-        (whole.saturating_sub(1), 4096, None),
-        (whole, 7, Some(ErrorKind::Other)),
-        (whole, 4096, None),
-    ] {
-        let mut out = output_of(alloc, row)?;
-        let room = row.0;
-        assert!(rt; goes_out(alloc, &mut out, &history)?, "{room}");
+fn what_went_out_is_told_and_nothing_follows_a_failed_write(rt: HostRuntime) -> Result<(), Fail> {
+    for (index, row) in ROWS.iter().enumerate() {
+        assert!(rt; blocks_go_out(rt.alloc(), *row)?, "{index}");
+    }
+    Ok(())
+}
+
+static KINDS: [ErrorKind; 42] = [
+    ErrorKind::NotFound,
+    ErrorKind::PermissionDenied,
+    ErrorKind::ConnectionRefused,
+    ErrorKind::ConnectionReset,
+    ErrorKind::HostUnreachable,
+    ErrorKind::NetworkUnreachable,
+    ErrorKind::ConnectionAborted,
+    ErrorKind::NotConnected,
+    ErrorKind::AddrInUse,
+    ErrorKind::AddrNotAvailable,
+    ErrorKind::NetworkDown,
+    ErrorKind::BrokenPipe,
+    ErrorKind::AlreadyExists,
+    ErrorKind::WouldBlock,
+    ErrorKind::NotADirectory,
+    ErrorKind::IsADirectory,
+    ErrorKind::DirectoryNotEmpty,
+    ErrorKind::ReadOnlyFilesystem,
+    ErrorKind::FilesystemLoop,
+    ErrorKind::StaleNetworkFileHandle,
+    ErrorKind::InvalidInput,
+    ErrorKind::InvalidData,
+    ErrorKind::TimedOut,
+    ErrorKind::WriteZero,
+    ErrorKind::StorageFull,
+    ErrorKind::NotSeekable,
+    ErrorKind::QuotaExceeded,
+    ErrorKind::FileTooLarge,
+    ErrorKind::ResourceBusy,
+    ErrorKind::ExecutableFileBusy,
+    ErrorKind::Deadlock,
+    ErrorKind::CrossesDevices,
+    ErrorKind::TooManyLinks,
+    ErrorKind::InvalidFilename,
+    ErrorKind::ArgumentListTooLong,
+    ErrorKind::Interrupted,
+    ErrorKind::Unsupported,
+    ErrorKind::UnexpectedEof,
+    ErrorKind::OutOfMemory,
+    ErrorKind::InProgress,
+    ErrorKind::Other,
+    ErrorKind::Uncategorized,
+];
+
+#[test]
+fn a_write_that_fails_is_not_tried_again_whatever_its_kind(rt: HostRuntime) -> Result<(), Fail> {
+    for (index, kind) in KINDS.iter().enumerate() {
+        let row = (5, 5, Some(*kind), 2);
+        assert!(rt; blocks_go_out(rt.alloc(), row)?, "{index}");
     }
     Ok(())
 }

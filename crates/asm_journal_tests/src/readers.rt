@@ -8,141 +8,130 @@ use serde_json::Value as Json;
 use std::alloc::{AllocError, Global};
 use std::test::Fail;
 
-#[test]
-fn objects_with_one_key(rt: HostRuntime) -> Result<(), Fail> {
-    for (text, want) in [
-        (r#"{"a":1}"#, true),
-        (r#"{}"#, false),
-        (r#"{"b":1}"#, false),
-        (r#"{"a":1,"b":2}"#, false),
-        (r#"["a"]"#, false),
-    ] {
-        let json = json_of(rt.alloc(), text)?;
-        assert!(rt; one_member(&json, "a").is_some() == want, "{text}");
-    }
-    Ok(())
+/// A number in a form.
+#[derive(Clone, Copy)]
+enum Part {
+    /// The member `a` of an object that has no other.
+    OneMember,
+    /// The member `a` of an object that has `b` beside it and no other.
+    FirstMember,
+    /// The number in an array of one number.
+    OneItem,
+    /// The second of the two items of an array.
+    SecondItem,
+    Amount,
+    /// How many operands an instruction `put` has.
+    Operands,
 }
 
-#[test]
-fn objects_with_two_keys(rt: HostRuntime) -> Result<(), Fail> {
-    for (text, want) in [
-        (r#"{"b":2,"a":1}"#, true),
-        (r#"{"a":1}"#, false),
-        (r#"{"a":1,"b":2,"c":3}"#, false),
-        (r#"{"a":1,"c":2}"#, false),
-        (r#"[1,2]"#, false),
-    ] {
-        let json = json_of(rt.alloc(), text)?;
-        assert!(rt; two_members(&json, "a", "b").is_some() == want, "{text}");
-    }
-    Ok(())
+fn one_member_of(json: &Json) -> Option<i64> {
+    one_member(json, "a")?.as_i64()
 }
 
-/// The number in an array of one number.
-fn only_number(alloc: Global, json: &Json) -> Result<Option<i64>, AllocError> {
+fn first_member_of(json: &Json) -> Option<i64> {
+    let (a, _b) = two_members(json, "a", "b")?;
+    a.as_i64()
+}
+
+fn one_item_of(alloc: Global, json: &Json) -> Result<Option<i64>, AllocError> {
     match json.as_array() {
         Some(items) => read_one::<i64>(alloc, items),
         None => Ok(None),
     }
 }
 
+fn second_item_of(json: &Json) -> Option<i64> {
+    let (_first, second) = two_items(json.as_array()?)?;
+    second.as_i64()
+}
+
+fn amount_of(json: &Json) -> Option<i64> {
+    Some(i64::from(read_amount(json)?.get()))
+}
+
+fn operands_of(json: &Json) -> Option<i64> {
+    let (word, _at, operands) = instruction_parts(json)?;
+    if word == "put" {
+        i64::try_from(operands.len()).ok()
+    } else {
+        None
+    }
+}
+
+fn part_of(alloc: Global, part: Part, json: &Json) -> Result<Option<i64>, AllocError> {
+    match part {
+        Part::OneMember => Ok(one_member_of(json)),
+        Part::FirstMember => Ok(first_member_of(json)),
+        Part::OneItem => one_item_of(alloc, json),
+        Part::SecondItem => Ok(second_item_of(json)),
+        Part::Amount => Ok(amount_of(json)),
+        Part::Operands => Ok(operands_of(json)),
+    }
+}
+
+fn part_in(alloc: Global, part: Part, text: &str) -> Result<Option<i64>, Fail> {
+    let json = json_of(alloc, text)?;
+    Ok(part_of(alloc, part, &json)?)
+}
+
+static PARTS: [(Part, &str, Option<i64>); 33] = [
+    (Part::OneMember, r#"{"a":1}"#, Some(1)),
+    (Part::OneMember, r#"{}"#, None),
+    (Part::OneMember, r#"{"b":1}"#, None),
+    (Part::OneMember, r#"{"a":1,"b":2}"#, None),
+    (Part::OneMember, r#"["a"]"#, None),
+    (Part::FirstMember, r#"{"a":1,"b":2}"#, Some(1)),
+    (Part::FirstMember, r#"{"b":2,"a":1}"#, Some(1)),
+    (Part::FirstMember, r#"{"a":1}"#, None),
+    (Part::FirstMember, r#"{"a":1,"b":2,"c":3}"#, None),
+    (Part::FirstMember, r#"{"a":1,"c":2}"#, None),
+    (Part::FirstMember, r#"[1,2]"#, None),
+    (Part::OneItem, "[-7]", Some(-7)),
+    (Part::OneItem, "[]", None),
+    (Part::OneItem, "[true]", None),
+    (Part::OneItem, "[1,2]", None),
+    (Part::SecondItem, "[]", None),
+    (Part::SecondItem, "[1]", None),
+    (Part::SecondItem, "[null,1]", Some(1)),
+    (Part::SecondItem, "[1,2,3]", None),
+    (Part::Amount, "1", Some(1)),
+    (Part::Amount, "4294967295", Some(4_294_967_295)),
+    (Part::Amount, "0", None),
+    (Part::Amount, "4294967296", None),
+    (Part::Amount, "-1", None),
+    (Part::Amount, "1.0", None),
+    (Part::Amount, "null", None),
+    (Part::Operands, r#"["put",["x"],1,2]"#, Some(2)),
+    (Part::Operands, r#"["put",["x"],1]"#, Some(1)),
+    (Part::Operands, r#"["add",["x"],1,2]"#, None),
+    (Part::Operands, r#"[1,["x"],1,2]"#, None),
+    (Part::Operands, r#"["put",["x"]]"#, Some(0)),
+    (Part::Operands, r#"["put"]"#, None),
+    (Part::Operands, r#"{"put":1}"#, None),
+];
+
 #[test]
-fn lists_of_one_item(rt: HostRuntime) -> Result<(), Fail> {
-    for (text, want) in [
-        ("[-7]", Some(-7)),
-        ("[]", None),
-        ("[true]", None),
-        ("[1,2]", None),
-    ] {
-        let json = json_of(rt.alloc(), text)?;
-        assert!(rt; only_number(rt.alloc(), &json)? == want, "{text}");
+fn parts_are_read_from_forms_that_have_no_others(rt: HostRuntime) -> Result<(), Fail> {
+    for (part, text, want) in PARTS.iter() {
+        assert!(rt; part_in(rt.alloc(), *part, text)? == *want, "{text}");
     }
     Ok(())
 }
 
-/// Whether the JSON is an array of two items.
-fn has_two_items(json: &Json) -> bool {
-    match json.as_array() {
-        Some(items) => two_items(items).is_some(),
-        None => false,
-    }
-}
-
-#[test]
-fn lists_of_two_items(rt: HostRuntime) -> Result<(), Fail> {
-    for (text, want) in [
-        ("[]", false),
-        ("[1]", false),
-        ("[1,null]", true),
-        ("[1,2,3]", false),
-    ] {
-        let json = json_of(rt.alloc(), text)?;
-        assert!(rt; has_two_items(&json) == want, "{text}");
-    }
-    Ok(())
-}
-
-/// The amount in JSON, or 0 where there is none.
-fn amount_in(json: &Json) -> u32 {
-    match read_amount(json) {
-        Some(amount) => amount.get(),
-        None => 0,
-    }
-}
-
-#[test]
-fn amounts_are_whole_numbers_from_1(rt: HostRuntime) -> Result<(), Fail> {
-    for (text, want) in [
-        ("1", 1),
-        ("4294967295", 4_294_967_295),
-        ("0", 0),
-        ("4294967296", 0),
-        ("-1", 0),
-        ("1.0", 0),
-        ("null", 0),
-    ] {
-        let json = json_of(rt.alloc(), text)?;
-        assert!(rt; amount_in(&json) == want, "{text}");
-    }
-    Ok(())
-}
-
-/// Whether the JSON has the parts of an instruction: this word, and so many operands.
-fn has_parts(json: &Json, word: &str, operands: usize) -> bool {
-    match instruction_parts(json) {
-        Some((first, _at, rest)) => first == word && rest.len() == operands,
-        None => false,
-    }
-}
-
-#[test]
-fn instructions_have_parts(rt: HostRuntime) -> Result<(), Fail> {
-    for (text, want) in [
-        (r#"["put",["x"],1,2]"#, true),
-        (r#"["put",["x"],1]"#, false),
-        (r#"["add",["x"],1,2]"#, false),
-        (r#"[1,["x"],1,2]"#, false),
-        (r#"["put"]"#, false),
-        (r#"{"put":1}"#, false),
-    ] {
-        let json = json_of(rt.alloc(), text)?;
-        assert!(rt; has_parts(&json, "put", 2) == want, "{text}");
-    }
-    Ok(())
-}
+static CAUSES: [(Cause, &str); 7] = [
+    (Cause::Two, "Two"),
+    (Cause::Mixed, "Mixed"),
+    (Cause::Kind, "Kind"),
+    (Cause::Both, "Both"),
+    (Cause::Against, "Against"),
+    (Cause::Short, "Short"),
+    (Cause::Large, "Large"),
+];
 
 #[test]
 fn causes_have_words(rt: HostRuntime) -> Result<(), Fail> {
-    for (cause, word) in [
-        (Cause::Two, "Two"),
-        (Cause::Mixed, "Mixed"),
-        (Cause::Kind, "Kind"),
-        (Cause::Both, "Both"),
-        (Cause::Against, "Against"),
-        (Cause::Short, "Short"),
-        (Cause::Large, "Large"),
-    ] {
-        assert!(rt; word_of_cause(cause) == word, "{word}");
+    for (cause, word) in CAUSES.iter() {
+        assert!(rt; word_of_cause(*cause) == *word, "{word}");
     }
     Ok(())
 }

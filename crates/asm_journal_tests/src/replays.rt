@@ -1,11 +1,10 @@
 //! Replays of moves, with and without changes in place.
 use asm_aggregate::standard;
-use asm_journal::{JournalError, from_text, replay};
-use asm_storage::History;
+use asm_journal::{JournalError, from_text, replay, state_text};
 use std::alloc::{AllocError, Global};
 use std::test::Fail;
 
-/// Opening values, the moves' instructions, and the values that they leave.
+/// Opening values, the moves' instructions, and the state that they leave.
 #[derive(Clone, Copy)]
 struct Row {
     init: &'static str,
@@ -17,18 +16,18 @@ static ROWS: [Row; 12] = [
     Row {
         init: r#"[["s"],{"set":[1]}]"#,
         moves: &[r#"["add",["s"],2]"#, r#"["remove",["s"],1]"#],
-        left: r#"[["s"],{"set":[2]}]"#,
+        left: r#"[[["s"],{"set":[2]}]]"#,
     },
     Row {
         init: r#"[["a"],1],[["s"],{"set":[1]}],[["z"],2]"#,
         moves: &[r#"["add",["s"],3],["add",["s"],2],["remove",["s"],1],["add",["s"],2]"#],
-        left: r#"[["a"],1],[["s"],{"set":[2,3]}],[["z"],2]"#,
+        left: r#"[[["a"],1],[["s"],{"set":[2,3]}],[["z"],2]]"#,
     },
     // A set that is left empty is a value.
     Row {
         init: r#"[["s"],{"set":[1]}]"#,
         moves: &[r#"["remove",["s"],1]"#],
-        left: r#"[["s"],{"set":[]}]"#,
+        left: r#"[[["s"],{"set":[]}]]"#,
     },
     // Moves that clash: an element both added and removed, partial updates of two families, and such of numbers.
     Row {
@@ -40,18 +39,18 @@ static ROWS: [Row; 12] = [
             r#"["inc",["s"],3]"#,
             r#"["add",["s"],4]"#,
         ],
-        left: r#"[["s"],{"set":[1,4]}]"#,
+        left: r#"[[["s"],{"set":[1,4]}]]"#,
     },
     // A location that is undef.
     Row {
         init: r#"[["a"],1]"#,
         moves: &[r#"["add",["t"],5]"#, r#"["bagadd",["t"],5,1]"#],
-        left: r#"[["a"],1]"#,
+        left: r#"[[["a"],1]]"#,
     },
     Row {
         init: r#"[["a"],1]"#,
         moves: &[r#"["put",["t"],{"set":[]}]"#, r#"["add",["t"],5]"#],
-        left: r#"[["a"],1],[["t"],{"set":[5]}]"#,
+        left: r#"[[["a"],1],[["t"],{"set":[5]}]]"#,
     },
     Row {
         init: r#"[["b"],{"bag":[["e",2]]}]"#,
@@ -61,7 +60,7 @@ static ROWS: [Row; 12] = [
             r#"["bagremove",["b"],"e",2]"#,
             r#"["bagadd",["b"],"d",1]"#,
         ],
-        left: r#"[["b"],{"bag":[["d",1],["e",1]]}]"#,
+        left: r#"[[["b"],{"bag":[["d",1],["e",1]]}]]"#,
     },
     Row {
         init: r#"[["b"],{"bag":[["e",4294967295]]}]"#,
@@ -69,17 +68,17 @@ static ROWS: [Row; 12] = [
             r#"["bagadd",["b"],"d",1],["bagadd",["b"],"e",1]"#,
             r#"["bagadd",["b"],"f",7]"#,
         ],
-        left: r#"[["b"],{"bag":[["e",4294967295],["f",7]]}]"#,
+        left: r#"[[["b"],{"bag":[["e",4294967295],["f",7]]}]]"#,
     },
     Row {
         init: r#"[["n"],5]"#,
         moves: &[r#"["inc",["n"],-7]"#, r#"["inc",["n"],1],["inc",["n"],2]"#],
-        left: r#"[["n"],1]"#,
+        left: r#"[[["n"],1]]"#,
     },
     Row {
         init: r#"[["n"],9223372036854775807]"#,
         moves: &[r#"["inc",["n"],1]"#, r#"["inc",["n"],-1]"#],
-        left: r#"[["n"],9223372036854775806]"#,
+        left: r#"[[["n"],9223372036854775806]]"#,
     },
     // Moves of several locations, or with a put.
     Row {
@@ -89,7 +88,7 @@ static ROWS: [Row; 12] = [
             r#"["add",["s"],3],["remove",["t"],4],["add",["u"],4]"#,
             r#"["add",["s"],5],["put",["s"],{"set":[5]}]"#,
         ],
-        left: r#"[["s"],{"set":[5]}],[["t"],{"set":[2]}]"#,
+        left: r#"[[["s"],{"set":[5]}],[["t"],{"set":[2]}]]"#,
     },
     Row {
         init: r#"[["n"],5],[["s"],{"set":[1]}]"#,
@@ -98,12 +97,12 @@ static ROWS: [Row; 12] = [
             r#"["inc",["n"],1]"#,
             r#"["add",["s"],2]"#,
         ],
-        left: r#"[["s"],{"set":[1,2]}]"#,
+        left: r#"[[["s"],{"set":[1,2]}]]"#,
     },
 ];
 
 /// The journal of these moves, each fired as the next.
-fn journal(alloc: Global, init: &str, moves: &[&'static str]) -> Result<String, AllocError> {
+fn journal(alloc: Global, init: &str, moves: &[&str]) -> Result<String, AllocError> {
     let count = moves.len();
     let mut text = format!(in alloc;
         r#"{{"agents":1,"capacity":9,"events":{count},"init":[{init}],"version":2}}
@@ -111,25 +110,27 @@ fn journal(alloc: Global, init: &str, moves: &[&'static str]) -> Result<String, 
     )?;
     for (index, fired) in moves.iter().enumerate() {
         let number = index.saturating_add(1);
-        text.push_str(r#"{"agent":0,"call":{"fire":["#)?;
-        text.push_str(fired)?;
-        let reply = format!(in alloc; r#"],"reads":[]}},"reply":{{"fired":{number}}}}}"#)?;
-        text.push_str(reply.as_str())?;
-        text.push_str("\n")?;
+        write!(
+            text,
+            r#"{{"agent":0,"call":{{"fire":[{}],"reads":[]}},"reply":{{"fired":{}}}}}
+"#,
+            fired, number
+        )?;
     }
     Ok(text)
 }
 
-fn history(alloc: Global, init: &str, moves: &[&'static str]) -> Result<History, JournalError> {
-    let text = journal(alloc, init, moves)?;
-    from_text(alloc, text.as_str().as_bytes())
+/// Whether a replay of the journal leaves this state.
+pub(crate) fn leaves(alloc: Global, journal: &str, state: &str) -> Result<bool, JournalError> {
+    let history = from_text(alloc, journal.as_bytes())?;
+    let left = replay(alloc, &standard(), &history)?;
+    Ok(state_text(alloc, &left)?.as_str() == state)
 }
 
-/// Whether a replay of the row's moves leaves the row's values.
+/// Whether a replay of the row's moves leaves the row's state.
 fn is_replayed(alloc: Global, row: Row) -> Result<bool, JournalError> {
-    let played = history(alloc, row.init, row.moves)?;
-    let left = history(alloc, row.left, &[])?;
-    Ok(replay(alloc, &standard(), &played)? == left.init)
+    let text = journal(alloc, row.init, row.moves)?;
+    leaves(alloc, text.as_str(), row.left)
 }
 
 #[test]

@@ -37,35 +37,41 @@ fn history(alloc: Global, init: &str, count: usize, events: &str) -> Result<Hist
 }
 
 /// Whether the first answer has this text.
-fn is_told(alloc: Global, history: History, want: &str) -> Result<bool, AllocError> {
+fn is_told(alloc: Global, history: &History, want: &str) -> Result<bool, AllocError> {
     match history.events.as_slice().first() {
         Some(event) => Ok(answer_text(alloc, &event.answer)?.as_str() == want),
         None => Ok(false),
     }
 }
 
+/// Whether the answer that a journal has as this reply to this call has the reply's text.
+fn is_reply_told(alloc: Global, call: &str, reply: &str) -> Result<bool, JournalError> {
+    let event = format!(in alloc;
+        r#"{{"agent":0,"call":{call},"reply":{reply}}}
+"#
+    )?;
+    let history = history(alloc, "[]", 1, event.as_str())?;
+    Ok(is_told(alloc, &history, reply)?)
+}
+
 #[test]
 fn an_answer_is_told_as_in_a_journal(rt: HostRuntime) -> Result<(), Fail> {
     for (call, reply) in ANSWERS.iter() {
-        let event = format!(in rt.alloc();
-            r#"{{"agent":0,"call":{call},"reply":{reply}}}
-"#
-        )?;
-        let history = history(rt.alloc(), "[]", 1, event.as_str())?;
-        assert!(rt; is_told(rt.alloc(), history, reply)?);
+        assert!(rt; is_reply_told(rt.alloc(), call, reply)?, "{reply}");
     }
     Ok(())
 }
 
-fn is_state_told(alloc: Global, history: History, want: &str) -> Result<bool, AllocError> {
-    Ok(state_text(alloc, &history.init)?.as_str() == want)
+/// Whether the opening state that a journal has as this has the same text.
+fn is_state_told(alloc: Global, state: &str) -> Result<bool, JournalError> {
+    let history = history(alloc, state, 0, "")?;
+    Ok(state_text(alloc, &history.init)?.as_str() == state)
 }
 
 #[test]
 fn a_state_is_told_as_in_a_journal(rt: HostRuntime) -> Result<(), Fail> {
     for state in STATES.iter() {
-        let history = history(rt.alloc(), state, 0, "")?;
-        assert!(rt; is_state_told(rt.alloc(), history, state)?);
+        assert!(rt; is_state_told(rt.alloc(), state)?, "{state}");
     }
     Ok(())
 }

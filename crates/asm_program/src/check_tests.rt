@@ -1,5 +1,5 @@
 //! Journals that scripts leave, and their check.
-use crate::running::{CHECK, JOURNAL, ONE_PUT, first_wrong};
+use crate::running::{CHECK, JOURNAL, ONE_PUT, assert_ends};
 use std::test::Fail;
 
 pub(crate) const SEQUENCE: &str =
@@ -35,8 +35,7 @@ static JOURNALS: [(&str, &str); 3] = [
 
 #[test]
 fn journals_of_scripts(rt: HostRuntime) -> Result<(), Fail> {
-    assert_eq!(rt; first_wrong(&rt, rt.alloc(), &JOURNAL, 0, &JOURNALS)?, None);
-    Ok(())
+    Ok(assert_ends(&rt, rt.alloc(), &JOURNAL, 0, &JOURNALS)?)
 }
 
 pub(crate) static LEGAL: [(&str, &str); 3] = [
@@ -54,8 +53,7 @@ pub(crate) static LEGAL: [(&str, &str); 3] = [
 
 #[test]
 fn legal_journals(rt: HostRuntime) -> Result<(), Fail> {
-    assert_eq!(rt; first_wrong(&rt, rt.alloc(), &CHECK, 0, &LEGAL)?, None);
-    Ok(())
+    Ok(assert_ends(&rt, rt.alloc(), &CHECK, 0, &LEGAL)?)
 }
 
 pub(crate) static ILLEGAL: [(&str, &str); 2] = [
@@ -77,8 +75,7 @@ pub(crate) static ILLEGAL: [(&str, &str); 2] = [
 
 #[test]
 fn illegal_journals(rt: HostRuntime) -> Result<(), Fail> {
-    assert_eq!(rt; first_wrong(&rt, rt.alloc(), &CHECK, 1, &ILLEGAL)?, None);
-    Ok(())
+    Ok(assert_ends(&rt, rt.alloc(), &CHECK, 1, &ILLEGAL)?)
 }
 
 pub(crate) static NO_JOURNALS: [(&str, &str); 7] = [
@@ -109,9 +106,5 @@ pub(crate) static NO_JOURNALS: [(&str, &str); 7] = [
 
 #[test]
 fn texts_that_are_no_journals(rt: HostRuntime) -> Result<(), Fail> {
-    assert_eq!(rt;
-        first_wrong(&rt, rt.alloc(), &CHECK, 2, &NO_JOURNALS)?,
-        None
-    );
-    Ok(())
+    Ok(assert_ends(&rt, rt.alloc(), &CHECK, 2, &NO_JOURNALS)?)
 }

@@ -1,5 +1,6 @@
 //! Scripts of counters, through the whole program.
-use crate::running::{CHECK, JOURNAL, RUN, ends, first_wrong, run, script_of};
+use crate::run_tests::calls_in_journal;
+use crate::running::{CHECK, JOURNAL, RUN, assert_ends, ends, script_of};
 use std::test::Fail;
 
 static COUNTERS: [(&str, &str); 7] = [
@@ -64,8 +65,7 @@ moves 1
 
 #[test]
 fn reports_of_counters(rt: HostRuntime) -> Result<(), Fail> {
-    assert_eq!(rt; first_wrong(&rt, rt.alloc(), &RUN, 0, &COUNTERS)?, None);
-    Ok(())
+    Ok(assert_ends(&rt, rt.alloc(), &RUN, 0, &COUNTERS)?)
 }
 
 const BEYOND: &str = r#"{"init":[[["n"],-9223372036854775807]],
@@ -125,8 +125,7 @@ agent 0 step 0 clash ["n"] Kind
 /// Steps of several blocks, of which some change counters.
 #[test]
 fn reports_of_counters_in_sequence(rt: HostRuntime) -> Result<(), Fail> {
-    assert_eq!(rt; first_wrong(&rt, rt.alloc(), &RUN, 0, &SEQUENCES)?, None);
-    Ok(())
+    Ok(assert_ends(&rt, rt.alloc(), &RUN, 0, &SEQUENCES)?)
 }
 
 const BEYOND_JOURNAL: &str =
@@ -160,10 +159,7 @@ moves 100
 fn a_counter_is_raised_by_one_call_each(rt: HostRuntime) -> Result<(), Fail> {
     let alloc = rt.alloc();
     let script = script_of(alloc, r#"[[["n"],0]]"#, 4, 25, INC_STEP)?;
-    let (status, journal) = run(&rt, alloc, &JOURNAL, script.as_bytes())?;
-    assert_eq!(rt; status, 0);
-    let (status, told) = run(&rt, alloc, &CHECK, journal.as_slice())?;
-    assert_eq!(rt; status, 0);
-    assert!(rt; told.as_slice() == b"legal 100 100\n".as_slice());
+    let calls = calls_in_journal(&rt, alloc, script.as_str(), "100")?;
+    assert!(rt; calls == Some(100));
     Ok(())
 }

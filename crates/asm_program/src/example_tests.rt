@@ -1,5 +1,5 @@
 //! The scripts of the folder `examples`, each with the report that stands beside it: the same texts, letter for letter.
-use crate::running::{RUN, first_wrong};
+use crate::running::{RUN, assert_ends};
 use std::test::Fail;
 
 static EXAMPLES: [(&str, &str); 6] = [
@@ -189,6 +189,5 @@ agent 1 step 1 clash ["robot","bob"] Two
 
 #[test]
 fn reports_of_examples(rt: HostRuntime) -> Result<(), Fail> {
-    assert_eq!(rt; first_wrong(&rt, rt.alloc(), &RUN, 0, &EXAMPLES)?, None);
-    Ok(())
+    Ok(assert_ends(&rt, rt.alloc(), &RUN, 0, &EXAMPLES)?)
 }

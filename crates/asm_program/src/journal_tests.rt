@@ -1,9 +1,11 @@
 //! Journals that are cut, altered or written to an output that fails.
 use crate::check_tests::{SEQUENCE, SEQUENCE_JOURNAL, SEQUENCE_JOURNAL_1};
-use crate::port_tests::Short;
-use crate::running::{CHECK, JOURNAL, REWRITE, ends, first_wrong, words_of};
+use crate::port_tests::{Failing, Short};
+use crate::running::{CHECK, JOURNAL, REWRITE, assert_ends, ends, words_of};
 use asm_driver::run_main;
 use std::alloc::{AllocError, Global};
+use std::io::ErrorKind;
+use std::process::Abort;
 use std::sync::Wait;
 use std::test::Fail;
 use std::thread::Threads;
@@ -41,19 +43,26 @@ fn is_told_as_cut<T: Threads + Wait + Sync>(
     ends(rt, alloc, words, first, (2, wanted.as_str()))
 }
 
-#[test]
-fn journals_that_are_cut(rt: HostRuntime) -> Result<(), Fail> {
-    for place in 0..SEQUENCE_JOURNAL.len() {
+/// Asserts that each place is told at which the journal can be cut.
+fn assert_told<T: Threads + Wait + Sync + Abort>(
+    rt: &T,
+    alloc: Global,
+    words: &[&str],
+    journal: &str,
+) -> Result<(), AllocError> {
+    for place in 0..journal.len() {
         assert!(rt;
-            is_told_as_cut(&rt, rt.alloc(), &CHECK, SEQUENCE_JOURNAL, place)?,
-            "{place}"
-        );
-        assert!(rt;
-            is_told_as_cut(&rt, rt.alloc(), &REWRITE, SEQUENCE_JOURNAL_1, place)?,
+            is_told_as_cut(rt, alloc, words, journal, place)?,
             "{place}"
         );
     }
     Ok(())
+}
+
+#[test]
+fn journals_that_are_cut(rt: HostRuntime) -> Result<(), Fail> {
+    assert_told(&rt, rt.alloc(), &CHECK, SEQUENCE_JOURNAL)?;
+    Ok(assert_told(&rt, rt.alloc(), &REWRITE, SEQUENCE_JOURNAL_1)?)
 }
 
 static ALTERED: [(&str, &str); 7] = [
@@ -111,8 +120,8 @@ static ALTERED: [(&str, &str); 7] = [
 
 #[test]
 fn journals_that_are_altered(rt: HostRuntime) -> Result<(), Fail> {
-    assert_eq!(rt; first_wrong(&rt, rt.alloc(), &CHECK, 2, &ALTERED)?, None);
-    assert_eq!(rt; first_wrong(&rt, rt.alloc(), &REWRITE, 2, &ALTERED)?, None);
+    assert_ends(&rt, rt.alloc(), &CHECK, 2, &ALTERED)?;
+    assert_ends(&rt, rt.alloc(), &REWRITE, 2, &ALTERED)?;
     Ok(())
 }
 
@@ -133,36 +142,41 @@ fn ends_after<T: Threads + Wait + Sync>(
     rt: &T,
     alloc: Global,
     (words, input): (&[&str], &str),
-    output: (usize, bool, bool),
+    failing: Failing,
 ) -> Result<bool, AllocError> {
     let mut input = input.as_bytes();
-    let mut short = Short::new(alloc, output)?;
+    let mut short = Short::new(alloc, failing)?;
     let words = words_of(alloc, words)?;
     let status = run_main(rt, alloc, words, &mut input, &mut short);
     if status == 3 || matches!(short.taken().first(), Some(b'o' | b'n')) {
         return Err(AllocError);
     }
-    Ok(status == 4 && SEQUENCE_JOURNAL.as_bytes().get(..output.0) == Some(short.taken()))
+    Ok(status == 4 && SEQUENCE_JOURNAL.as_bytes().get(..failing.0) == Some(short.taken()))
+}
+
+const FAULT: Option<ErrorKind> = Some(ErrorKind::Interrupted);
+
+/// Asserts that the program ends so after each number of bytes, where the output fails or takes nothing, and with all bytes
+/// where the flush fails.
+fn assert_failures<T: Threads + Wait + Sync + Abort>(
+    rt: &T,
+    alloc: Global,
+    given: (&[&str], &str),
+) -> Result<(), AllocError> {
+    let whole = SEQUENCE_JOURNAL.len();
+    for room in 0..whole {
+        assert!(rt;
+            ends_after(rt, alloc, given, (room, FAULT, None))?,
+            "{room}"
+        );
+        assert!(rt; ends_after(rt, alloc, given, (room, None, None))?, "{room}");
+    }
+    assert!(rt; ends_after(rt, alloc, given, (whole, None, FAULT))?);
+    Ok(())
 }
 
 #[test]
 fn journals_to_outputs_that_fail(rt: HostRuntime) -> Result<(), Fail> {
-    for given in [
-        (JOURNAL.as_slice(), SEQUENCE),
-        (REWRITE.as_slice(), SEQUENCE_JOURNAL_1),
-    ] {
-        for room in 0..SEQUENCE_JOURNAL.len() {
-            assert!(rt;
-                ends_after(&rt, rt.alloc(), given, (room, true, true))?,
-                "{room}"
-            );
-            assert!(rt;
-                ends_after(&rt, rt.alloc(), given, (room, false, true))?,
-                "{room}"
-            );
-        }
-        let output = (SEQUENCE_JOURNAL.len(), false, false);
-        assert!(rt; ends_after(&rt, rt.alloc(), given, output)?);
-    }
-    Ok(())
+    assert_failures(&rt, rt.alloc(), (JOURNAL.as_slice(), SEQUENCE))?;
+    Ok(assert_failures(&rt, rt.alloc(), (REWRITE.as_slice(), SEQUENCE_JOURNAL_1))?)
 }

@@ -1,6 +1,7 @@
 //! Lists as elements, through the whole program.
-use crate::running::{CHECK, JOURNAL, REWRITE, RUN, ends, first_wrong, run};
+use crate::running::{CHECK, JOURNAL, REWRITE, RUN, assert_ends, ends, run};
 use std::alloc::{AllocError, Global};
+use std::process::Abort;
 use std::sync::Wait;
 use std::test::Fail;
 use std::thread::Threads;
@@ -81,8 +82,7 @@ moves 1
 
 #[test]
 fn reports_of_lists(rt: HostRuntime) -> Result<(), Fail> {
-    assert_eq!(rt; first_wrong(&rt, rt.alloc(), &RUN, 0, &LISTS)?, None);
-    Ok(())
+    Ok(assert_ends(&rt, rt.alloc(), &RUN, 0, &LISTS)?)
 }
 
 /// What stands in the place of a value, and makes the script one of a wrong shape.
@@ -114,15 +114,26 @@ fn is_no_shape<T: Threads + Wait + Sync>(
     ends(rt, alloc, &RUN, script.as_str(), (2, "bad script: shape\n"))
 }
 
-#[test]
-fn values_that_are_no_lists(rt: HostRuntime) -> Result<(), Fail> {
-    for list in NO_LISTS.iter() {
-        assert!(rt; is_no_shape(&rt, rt.alloc(), PUT, list)?, "{list}");
-    }
-    for list in [r#"{"list":[{"val":["y"]}]}"#, r#"{"set":[]}"#, TOO_DEEP] {
-        assert!(rt; is_no_shape(&rt, rt.alloc(), ARGUMENT, list)?, "{list}");
+/// What stands in the place of an argument, and makes the script one of a wrong shape.
+static NO_ARGUMENTS: [&str; 3] = [r#"{"list":[{"val":["y"]}]}"#, r#"{"set":[]}"#, TOO_DEEP];
+
+/// Asserts that the program refuses the script for its shape with each of these in the place for it.
+fn assert_no_shapes<T: Threads + Wait + Sync + Abort>(
+    rt: &T,
+    alloc: Global,
+    script: &str,
+    lists: &[&str],
+) -> Result<(), AllocError> {
+    for list in lists {
+        assert!(rt; is_no_shape(rt, alloc, script, list)?, "{list}");
     }
     Ok(())
+}
+
+#[test]
+fn values_that_are_no_lists(rt: HostRuntime) -> Result<(), Fail> {
+    assert_no_shapes(&rt, rt.alloc(), PUT, &NO_LISTS)?;
+    Ok(assert_no_shapes(&rt, rt.alloc(), ARGUMENT, &NO_ARGUMENTS)?)
 }
 
 /// A list that is nested as deep as a list may be.
@@ -167,12 +178,25 @@ fn list_of(alloc: Global, count: usize) -> Result<String, AllocError> {
     Ok(text)
 }
 
+/// Whether the program puts a list of so many items and reports it, or, if it isn't to be taken, refuses the script.
+fn is_put<T: Threads + Wait + Sync>(
+    rt: &T,
+    alloc: Global,
+    count: usize,
+    taken: bool,
+) -> Result<bool, AllocError> {
+    let list = list_of(alloc, count)?;
+    if taken {
+        reports(rt, alloc, PUT, PUT_REPORT, list.as_str())
+    } else {
+        is_no_shape(rt, alloc, PUT, list.as_str())
+    }
+}
+
 #[test]
 fn lists_have_up_to_4096_items(rt: HostRuntime) -> Result<(), Fail> {
-    let list = list_of(rt.alloc(), 4096)?;
-    assert!(rt; reports(&rt, rt.alloc(), PUT, PUT_REPORT, list.as_str())?);
-    let list = list_of(rt.alloc(), 4097)?;
-    assert!(rt; is_no_shape(&rt, rt.alloc(), PUT, list.as_str())?);
+    assert!(rt; is_put(&rt, rt.alloc(), 4096, true)?);
+    assert!(rt; is_put(&rt, rt.alloc(), 4097, false)?);
     Ok(())
 }
 
@@ -210,10 +234,10 @@ fn goes_round<T: Threads + Wait + Sync>(
     told: &str,
 ) -> Result<bool, AllocError> {
     let (_, journal) = run(rt, alloc, &JOURNAL, script.as_bytes())?;
-    let (status, rewritten) = run(rt, alloc, &REWRITE, journal.as_slice())?;
-    let same = status == 0 && rewritten.as_slice() == journal.as_slice();
-    let (status, line) = run(rt, alloc, &CHECK, rewritten.as_slice())?;
-    Ok(same && status == 0 && line.as_slice() == told.as_bytes())
+    let (rewritten, text) = run(rt, alloc, &REWRITE, journal.as_slice())?;
+    let (checked, line) = run(rt, alloc, &CHECK, text.as_slice())?;
+    let same = rewritten == 0 && text.as_slice() == journal.as_slice();
+    Ok(same && checked == 0 && line.as_slice() == told.as_bytes())
 }
 
 #[test]

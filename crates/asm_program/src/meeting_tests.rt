@@ -59,16 +59,12 @@ fn meet<R: Threads + Wait + Sync>(
 
 #[test]
 fn four_agents_play_at_once(rt: HostRuntime) -> Result<(), Fail> {
-    let (missed, moves) = meet(&rt, rt.alloc(), 4, 0xF)?;
-    assert_eq!(rt; missed, 0);
-    assert_eq!(rt; moves, 4);
+    assert!(rt; meet(&rt, rt.alloc(), 4, 0xF)? == (0, 4));
     Ok(())
 }
 
 #[test]
 fn sixteen_agents_play_at_once(rt: HostRuntime) -> Result<(), Fail> {
-    let (missed, moves) = meet(&rt, rt.alloc(), 16, 0xFFFF)?;
-    assert_eq!(rt; missed, 0);
-    assert_eq!(rt; moves, 16);
+    assert!(rt; meet(&rt, rt.alloc(), 16, 0xFFFF)? == (0, 16));
     Ok(())
 }

@@ -30,18 +30,64 @@ fn status_of<T: Threads + Wait + Sync, R: Read, W: Write>(
     }
 }
 
-/// Gives spaces: so many bytes, and then the end, or a fault and then the end. It counts its bytes
-/// and its reads.
+/// Every kind of fault.
+static KINDS: [ErrorKind; 42] = [
+    ErrorKind::NotFound,
+    ErrorKind::PermissionDenied,
+    ErrorKind::ConnectionRefused,
+    ErrorKind::ConnectionReset,
+    ErrorKind::HostUnreachable,
+    ErrorKind::NetworkUnreachable,
+    ErrorKind::ConnectionAborted,
+    ErrorKind::NotConnected,
+    ErrorKind::AddrInUse,
+    ErrorKind::AddrNotAvailable,
+    ErrorKind::NetworkDown,
+    ErrorKind::BrokenPipe,
+    ErrorKind::AlreadyExists,
+    ErrorKind::WouldBlock,
+    ErrorKind::NotADirectory,
+    ErrorKind::IsADirectory,
+    ErrorKind::DirectoryNotEmpty,
+    ErrorKind::ReadOnlyFilesystem,
+    ErrorKind::FilesystemLoop,
+    ErrorKind::StaleNetworkFileHandle,
+    ErrorKind::InvalidInput,
+    ErrorKind::InvalidData,
+    ErrorKind::TimedOut,
+    ErrorKind::WriteZero,
+    ErrorKind::StorageFull,
+    ErrorKind::NotSeekable,
+    ErrorKind::QuotaExceeded,
+    ErrorKind::FileTooLarge,
+    ErrorKind::ResourceBusy,
+    ErrorKind::ExecutableFileBusy,
+    ErrorKind::Deadlock,
+    ErrorKind::CrossesDevices,
+    ErrorKind::TooManyLinks,
+    ErrorKind::InvalidFilename,
+    ErrorKind::ArgumentListTooLong,
+    ErrorKind::Interrupted,
+    ErrorKind::Unsupported,
+    ErrorKind::UnexpectedEof,
+    ErrorKind::OutOfMemory,
+    ErrorKind::InProgress,
+    ErrorKind::Other,
+    ErrorKind::Uncategorized,
+];
+
+/// Gives spaces: so many bytes, and then the end, or a fault of this kind and then the end. It counts its bytes and its
+/// reads.
 #[derive(Clone, Copy)]
 struct Spaces {
     left: usize,
-    fails: bool,
+    fails: Option<ErrorKind>,
     given: usize,
     reads: usize,
 }
 
 impl Spaces {
-    fn new(left: usize, fails: bool) -> Spaces {
+    fn new((left, fails): (usize, Option<ErrorKind>)) -> Spaces {
         Spaces {
             left,
             fails,
@@ -54,9 +100,11 @@ impl Spaces {
 impl Read for Spaces {
     fn read(&mut self, buffer: &mut [u8]) -> io::Result<usize> {
         self.reads = self.reads.saturating_add(1);
-        if self.left == 0 && self.fails {
-            self.fails = false;
-            return Err(io::Error::from(ErrorKind::Other));
+        if self.left == 0 {
+            if let Some(kind) = self.fails {
+                self.fails = None;
+                return Err(io::Error::from(kind));
+            }
         }
         let count = buffer.len().min(self.left);
         for byte in buffer[..count].iter_mut() {
@@ -82,10 +130,10 @@ fn ends<T: Threads + Wait + Sync>(
     rt: &T,
     alloc: Global,
     word: &str,
-    (left, fails): (usize, bool),
+    spaces: (usize, Option<ErrorKind>),
     wanted: Ending,
 ) -> Result<bool, AllocError> {
-    let mut input = Spaces::new(left, fails);
+    let mut input = Spaces::new(spaces);
     let mut output = Vec::with_capacity(alloc, 64)?;
     let status = status_of(rt, alloc, word, &mut input, &mut output)?;
     Ok(
@@ -119,27 +167,20 @@ const FAULT: Ending = Ending {
     text: "input fault\n",
 };
 
-#[test]
-fn inputs_that_are_refused(rt: HostRuntime) -> Result<(), Fail> {
-    for (word, spaces, wanted) in [
-        ("run", (16_777_216, false), NOT_JSON),
-        ("run", (16_777_217, false), TOO_LARGE),
-        ("check", (usize::MAX, false), TOO_LARGE),
-        ("check", (4096, true), FAULT),
-    ] {
-        assert!(rt; ends(&rt, rt.alloc(), word, spaces, wanted)?);
-    }
-    Ok(())
-}
+static REFUSED: [(&str, (usize, Option<ErrorKind>), Ending); 7] = [
+    ("run", (16_777_216, None), NOT_JSON),
+    ("run", (16_777_217, None), TOO_LARGE),
+    ("check", (usize::MAX, None), TOO_LARGE),
+    ("check", (4096, Some(ErrorKind::Other)), FAULT),
+    ("rewrite", (16_777_216, None), NO_JOURNAL),
+    ("rewrite", (16_777_217, None), TOO_LARGE),
+    ("rewrite", (4096, Some(ErrorKind::Other)), FAULT),
+];
 
 #[test]
-fn inputs_that_are_not_rewritten(rt: HostRuntime) -> Result<(), Fail> {
-    for (spaces, wanted) in [
-        ((16_777_216, false), NO_JOURNAL),
-        ((16_777_217, false), TOO_LARGE),
-        ((4096, true), FAULT),
-    ] {
-        assert!(rt; ends(&rt, rt.alloc(), "rewrite", spaces, wanted)?);
+fn inputs_that_are_refused(rt: HostRuntime) -> Result<(), Fail> {
+    for (word, spaces, wanted) in REFUSED.iter() {
+        assert!(rt; ends(&rt, rt.alloc(), word, *spaces, *wanted)?, "{word}");
     }
     Ok(())
 }
@@ -149,29 +190,31 @@ fn reads_of<T: Threads + Wait + Sync>(
     rt: &T,
     alloc: Global,
     word: &str,
-    left: usize,
+    spaces: (usize, Option<ErrorKind>),
 ) -> Result<(usize, u8), AllocError> {
-    let mut input = Spaces::new(left, true);
+    let mut input = Spaces::new(spaces);
     let mut output = Vec::with_capacity(alloc, 1024)?;
     let status = status_of(rt, alloc, word, &mut input, &mut output)?;
     Ok((input.reads, status))
 }
 
 #[test]
-fn a_failed_read_is_not_tried_again(rt: HostRuntime) -> Result<(), Fail> {
-    let (reads, status) = reads_of(&rt, rt.alloc(), "run", 0)?;
-    assert_eq!(rt; status, 4);
-    assert_eq!(rt; reads, 1);
+fn a_failed_read_is_not_tried_again_whatever_its_kind(rt: HostRuntime) -> Result<(), Fail> {
+    for (index, kind) in KINDS.iter().enumerate() {
+        let spaces = (0, Some(*kind));
+        assert!(rt;
+            reads_of(&rt, rt.alloc(), "run", spaces)? == (1, 4),
+            "{index}"
+        );
+    }
     Ok(())
 }
 
 #[test]
 fn nothing_is_read_before_the_words_are_good(rt: HostRuntime) -> Result<(), Fail> {
-    for (word, wanted) in [("play", 2), ("--help", 0)] {
-        let (reads, status) = reads_of(&rt, rt.alloc(), word, 1)?;
-        assert_eq!(rt; status, wanted);
-        assert_eq!(rt; reads, 0);
-    }
+    let spaces = (1, Some(ErrorKind::Other));
+    assert!(rt; reads_of(&rt, rt.alloc(), "play", spaces)? == (0, 2));
+    assert!(rt; reads_of(&rt, rt.alloc(), "--help", spaces)? == (0, 0));
     Ok(())
 }
 
@@ -192,39 +235,46 @@ impl Read for Slow<'_> {
     }
 }
 
-#[test]
-fn an_input_of_one_byte_at_a_time(rt: HostRuntime) -> Result<(), Fail> {
-    let alloc = rt.alloc();
+/// Whether the program plays the script of one put that it is given so slowly.
+fn plays_slowly<T: Threads + Wait + Sync>(rt: &T, alloc: Global) -> Result<bool, AllocError> {
     let mut input = Slow {
         rest: ONE_PUT.as_bytes(),
     };
     let mut output = Vec::with_capacity(alloc, 64)?;
-    assert_eq!(rt; status_of(&rt, alloc, "run", &mut input, &mut output)?, 0);
-    assert!(rt; output.as_slice() == ONE_PUT_REPORT.as_bytes());
+    let status = status_of(rt, alloc, "run", &mut input, &mut output)?;
+    Ok(status == 0 && output.as_slice() == ONE_PUT_REPORT.as_bytes())
+}
+
+#[test]
+fn an_input_of_one_byte_at_a_time(rt: HostRuntime) -> Result<(), Fail> {
+    assert!(rt; plays_slowly(&rt, rt.alloc())?);
     Ok(())
 }
 
-/// Takes as many bytes as it has room for. Then a write takes none, or fails; its flush may fail.
+/// How much room an output has, and with which faults a write then fails and its flush does. Without the first, a write
+/// takes none.
+pub(crate) type Failing = (usize, Option<ErrorKind>, Option<ErrorKind>);
+
+/// Takes as many bytes as it has room for. Then a write takes none, or fails; its first flush may fail. It counts its calls.
 #[derive(Drop)]
 pub(crate) struct Short {
     taken: Vec<u8>,
     room: usize,
-    fails: bool,
-    flushes: bool,
+    write_fails: Option<ErrorKind>,
+    flush_fails: Option<ErrorKind>,
     calls: usize,
 }
 
 impl Short {
-    /// With so much room, after which it fails or not, and whose flush works or not.
     pub(crate) fn new(
         alloc: Global,
-        (room, fails, flushes): (usize, bool, bool),
+        (room, write_fails, flush_fails): Failing,
     ) -> Result<Short, AllocError> {
         Ok(Short {
             taken: Vec::with_capacity(alloc, 512)?,
             room,
-            fails,
-            flushes,
+            write_fails,
+            flush_fails,
             calls: 0,
         })
     }
@@ -238,10 +288,12 @@ impl Write for Short {
     fn write(&mut self, bytes: &[u8]) -> io::Result<usize> {
         self.calls = self.calls.saturating_add(1);
         let count = bytes.len().min(self.room);
-        if count == 0 && self.fails {
-            self.fails = false;
-            self.room = usize::MAX;
-            return Err(io::Error::from(ErrorKind::Interrupted));
+        if count == 0 {
+            if let Some(kind) = self.write_fails {
+                self.write_fails = None;
+                self.room = usize::MAX;
+                return Err(io::Error::from(kind));
+            }
         }
         if self.taken.extend_from_slice(&bytes[..count]).is_err() {
             return Err(io::Error::from(ErrorKind::OutOfMemory));
@@ -252,27 +304,27 @@ impl Write for Short {
 
     fn flush(&mut self) -> io::Result<()> {
         self.calls = self.calls.saturating_add(1);
-        if self.flushes {
-            Ok(())
-        } else {
-            self.flushes = true;
-            Err(io::Error::from(ErrorKind::Other))
+        match self.flush_fails {
+            Some(kind) => {
+                self.flush_fails = None;
+                Err(io::Error::from(kind))
+            }
+            None => Ok(()),
         }
     }
 }
 
-/// Whether over an output with so much room, which fails then, or whose flush fails, the program ends with status 4
-/// after so many calls of the output, which has the text. The error is an allocation failure: its line begins otherwise than a
-/// report.
+/// Whether over an output that fails so the program ends with status 4 after so many calls of the output, which has the
+/// text. The error is an allocation failure: its line begins otherwise than a report.
 fn fails_over<T: Threads + Wait + Sync>(
     rt: &T,
     alloc: Global,
-    ending: (usize, bool, bool),
+    failing: Failing,
     calls: usize,
     text: &str,
 ) -> Result<bool, AllocError> {
     let mut input = ONE_PUT.as_bytes();
-    let mut output = Short::new(alloc, ending)?;
+    let mut output = Short::new(alloc, failing)?;
     let status = status_of(rt, alloc, "run", &mut input, &mut output)?;
     if matches!(output.taken.as_slice().first(), Some(b'o')) {
         return Err(AllocError);
@@ -281,14 +333,31 @@ fn fails_over<T: Threads + Wait + Sync>(
 }
 
 #[test]
-fn outputs_that_fail(rt: HostRuntime) -> Result<(), Fail> {
-    for (output, calls, text) in [
-        ((5, false, true), 2, r#"[["x""#),
-        ((5, true, true), 2, r#"[["x""#),
-        ((0, true, true), 1, ""),
-        ((18, false, false), 2, ONE_PUT_REPORT),
-    ] {
-        assert!(rt; fails_over(&rt, rt.alloc(), output, calls, text)?, "{text}");
+fn an_output_that_takes_nothing_more_is_a_fault(rt: HostRuntime) -> Result<(), Fail> {
+    let alloc = rt.alloc();
+    assert!(rt; fails_over(&rt, alloc, (0, None, None), 1, "")?);
+    assert!(rt; fails_over(&rt, alloc, (5, None, None), 2, r#"[["x""#)?);
+    Ok(())
+}
+
+/// Whether no call of the output comes after a write that fails so, at once or later, or after a flush that does.
+fn is_called_no_more<T: Threads + Wait + Sync>(
+    rt: &T,
+    alloc: Global,
+    kind: ErrorKind,
+) -> Result<bool, AllocError> {
+    let fault = Some(kind);
+    Ok(
+        fails_over(rt, alloc, (0, fault, None), 1, "")?
+            && fails_over(rt, alloc, (5, fault, None), 2, r#"[["x""#)?
+            && fails_over(rt, alloc, (18, None, fault), 2, ONE_PUT_REPORT)?,
+    )
+}
+
+#[test]
+fn a_failed_output_is_called_no_more_whatever_the_kind(rt: HostRuntime) -> Result<(), Fail> {
+    for (index, kind) in KINDS.iter().enumerate() {
+        assert!(rt; is_called_no_more(&rt, rt.alloc(), *kind)?, "{index}");
     }
     Ok(())
 }

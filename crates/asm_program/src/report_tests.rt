@@ -1,6 +1,10 @@
 //! Scripts and their reports.
-use crate::running::{CHECK, JOURNAL, ONE_PUT, RUN, SUM_STEP, ends, first_wrong, run, script_of};
+use crate::run_tests::calls_in_journal;
+use crate::running::{ONE_PUT, RUN, SUM_STEP, assert_ends, ends, script_of};
+use std::alloc::{AllocError, Global};
+use std::sync::Wait;
 use std::test::Fail;
+use std::thread::Threads;
 
 const ONE_PUT_REPORT: &str = r#"[["x"],1]
 moves 1
@@ -37,8 +41,7 @@ moves 1
 
 #[test]
 fn reports_of_scripts(rt: HostRuntime) -> Result<(), Fail> {
-    assert_eq!(rt; first_wrong(&rt, rt.alloc(), &RUN, 0, &SCRIPTS)?, None);
-    Ok(())
+    Ok(assert_ends(&rt, rt.alloc(), &RUN, 0, &SCRIPTS)?)
 }
 
 static SETS_AND_BAGS: [(&str, &str); 8] = [
@@ -103,11 +106,7 @@ agent 0 step 0 clash ["x"] Both
 /// Scripts of partial updates, with their reports.
 #[test]
 fn reports_of_sets_and_bags(rt: HostRuntime) -> Result<(), Fail> {
-    assert_eq!(rt;
-        first_wrong(&rt, rt.alloc(), &RUN, 0, &SETS_AND_BAGS)?,
-        None
-    );
-    Ok(())
+    Ok(assert_ends(&rt, rt.alloc(), &RUN, 0, &SETS_AND_BAGS)?)
 }
 
 static SEQUENCES: [(&str, &str); 5] = [
@@ -153,38 +152,47 @@ agent 0 step 0 large ["b"]
 /// Steps of several blocks, and terms.
 #[test]
 fn reports_of_sequences(rt: HostRuntime) -> Result<(), Fail> {
-    assert_eq!(rt; first_wrong(&rt, rt.alloc(), &RUN, 0, &SEQUENCES)?, None);
-    Ok(())
+    Ok(assert_ends(&rt, rt.alloc(), &RUN, 0, &SEQUENCES)?)
 }
 
 const BAG_STEP: &str = r#"[[["bagadd",["b"],"e",1]]]"#;
 
-#[test]
-fn agents_share_the_storage(rt: HostRuntime) -> Result<(), Fail> {
-    let alloc = rt.alloc();
-    for (init, steps, step, want) in [
-        (
-            r#"[[["b"],{"bag":[]}]]"#,
-            50,
-            BAG_STEP,
-            r#"[["b"],{"bag":[["e",200]]}]
+/// An opening state, how often four agents take a step, the step, and the report.
+type Shared = (&'static str, usize, &'static str, &'static str);
+
+static SHARED: [Shared; 2] = [
+    (
+        r#"[[["b"],{"bag":[]}]]"#,
+        50,
+        BAG_STEP,
+        r#"[["b"],{"bag":[["e",200]]}]
 moves 200
 "#,
-        ),
-        (
-            r#"[[["n"],0]]"#,
-            25,
-            SUM_STEP,
-            r#"[["n"],100]
+    ),
+    (
+        r#"[[["n"],0]]"#,
+        25,
+        SUM_STEP,
+        r#"[["n"],100]
 moves 100
 "#,
-        ),
-    ] {
-        let script = script_of(alloc, init, 4, steps, step)?;
-        assert!(rt;
-            ends(&rt, alloc, &RUN, script.as_str(), (0, want))?,
-            "{step}"
-        );
+    ),
+];
+
+/// Whether four agents that play so leave the report.
+fn leaves_report<T: Threads + Wait + Sync>(
+    rt: &T,
+    alloc: Global,
+    (init, steps, step, want): Shared,
+) -> Result<bool, AllocError> {
+    let script = script_of(alloc, init, 4, steps, step)?;
+    ends(rt, alloc, &RUN, script.as_str(), (0, want))
+}
+
+#[test]
+fn agents_share_the_storage(rt: HostRuntime) -> Result<(), Fail> {
+    for row in SHARED.iter() {
+        assert!(rt; leaves_report(&rt, rt.alloc(), *row)?);
     }
     Ok(())
 }
@@ -193,11 +201,8 @@ moves 100
 fn a_written_journal_is_legal(rt: HostRuntime) -> Result<(), Fail> {
     let alloc = rt.alloc();
     let script = script_of(alloc, r#"[[["b"],{"bag":[]}]]"#, 4, 50, BAG_STEP)?;
-    let (status, journal) = run(&rt, alloc, &JOURNAL, script.as_bytes())?;
-    assert_eq!(rt; status, 0);
-    let (status, told) = run(&rt, alloc, &CHECK, journal.as_slice())?;
-    assert_eq!(rt; status, 0);
-    assert!(rt; told.as_slice() == b"legal 200 200\n".as_slice());
+    let calls = calls_in_journal(&rt, alloc, script.as_str(), "200")?;
+    assert!(rt; calls == Some(200));
     Ok(())
 }
 
@@ -217,21 +222,32 @@ agent 0 step 2 clash ["x"] Two
 
 const PUT_STEP: &str = r#"[[["put",["x"],1]]]"#;
 
-#[test]
-fn capacities_that_are_asked_for(rt: HostRuntime) -> Result<(), Fail> {
-    let alloc = rt.alloc();
-    let script = script_of(alloc, "[]", 1, 9, PUT_STEP)?;
-    let want = r#"[["x"],1]
+static EIGHT: [&[&str]; 4] = [
+    &["asm_driver", "run", "--capacity", "8"],
+    &["asm_driver", "run", "--capacity", "+8"],
+    &["asm_driver", "run", "--capacity", "08"],
+    &["asm_driver", "run", "--capacity=8"],
+];
+
+const FULL_REPORT: &str = r#"[["x"],1]
 moves 8
 agent 0 step 8 full
 "#;
-    for words in [
-        ["asm_driver", "run", "--capacity", "8"].as_slice(),
-        ["asm_driver", "run", "--capacity", "+8"].as_slice(),
-        ["asm_driver", "run", "--capacity", "08"].as_slice(),
-        ["asm_driver", "run", "--capacity=8"].as_slice(),
-    ] {
-        assert!(rt; ends(&rt, alloc, words, script.as_str(), (0, want))?);
+
+/// Whether with these words eight of nine moves are fired.
+fn fires_eight<T: Threads + Wait + Sync>(
+    rt: &T,
+    alloc: Global,
+    words: &[&str],
+) -> Result<bool, AllocError> {
+    let script = script_of(alloc, "[]", 1, 9, PUT_STEP)?;
+    ends(rt, alloc, words, script.as_str(), (0, FULL_REPORT))
+}
+
+#[test]
+fn capacities_that_are_asked_for(rt: HostRuntime) -> Result<(), Fail> {
+    for words in EIGHT.iter() {
+        assert!(rt; fires_eight(&rt, rt.alloc(), words)?);
     }
     Ok(())
 }
@@ -263,8 +279,7 @@ static REFUSED: [(&str, &str); 6] = [
 
 #[test]
 fn scripts_that_are_refused(rt: HostRuntime) -> Result<(), Fail> {
-    assert_eq!(rt; first_wrong(&rt, rt.alloc(), &RUN, 2, &REFUSED)?, None);
-    Ok(())
+    Ok(assert_ends(&rt, rt.alloc(), &RUN, 2, &REFUSED)?)
 }
 
 #[test]

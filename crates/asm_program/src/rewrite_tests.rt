@@ -1,7 +1,8 @@
 //! Journals that are rewritten, through the whole program.
 use crate::check_tests::{ILLEGAL, LEGAL, NO_JOURNALS, SEQUENCE_JOURNAL, SEQUENCE_JOURNAL_1};
-use crate::running::{CHECK, REWRITE, first_wrong, run};
+use crate::running::{CHECK, REWRITE, assert_ends, run};
 use std::alloc::{AllocError, Global};
+use std::process::Abort;
 use std::sync::Wait;
 use std::test::Fail;
 use std::thread::Threads;
@@ -58,17 +59,12 @@ static REWRITES: [(&str, &str); 7] = [
 /// Journals of both versions, legal and illegal ones, each with what is written for it.
 #[test]
 fn journals_that_are_rewritten(rt: HostRuntime) -> Result<(), Fail> {
-    assert_eq!(rt; first_wrong(&rt, rt.alloc(), &REWRITE, 0, &REWRITES)?, None);
-    Ok(())
+    Ok(assert_ends(&rt, rt.alloc(), &REWRITE, 0, &REWRITES)?)
 }
 
 #[test]
 fn texts_that_are_not_rewritten(rt: HostRuntime) -> Result<(), Fail> {
-    assert_eq!(rt;
-        first_wrong(&rt, rt.alloc(), &REWRITE, 2, &NO_JOURNALS)?,
-        None
-    );
-    Ok(())
+    Ok(assert_ends(&rt, rt.alloc(), &REWRITE, 2, &NO_JOURNALS)?)
 }
 
 /// Whether the journal is rewritten, and the program then checks what it wrote with this status and this line.
@@ -83,20 +79,25 @@ fn is_checked_again<T: Threads + Wait + Sync>(
     Ok(written == 0 && status == wanted.0 && line.as_slice() == wanted.1.as_bytes())
 }
 
-/// What is rewritten is as legal as it was.
-#[test]
-fn rewritten_journals_are_checked_alike(rt: HostRuntime) -> Result<(), Fail> {
-    for (journal, line) in LEGAL.iter() {
+/// Asserts that each of the journals is rewritten, and that `check` ends so with its rewriting.
+fn assert_checked_again<T: Threads + Wait + Sync + Abort>(
+    rt: &T,
+    alloc: Global,
+    status: u8,
+    journals: &[(&str, &str)],
+) -> Result<(), AllocError> {
+    for (journal, line) in journals {
         assert!(rt;
-            is_checked_again(&rt, rt.alloc(), journal, (0, line))?,
-            "{line}"
-        );
-    }
-    for (journal, line) in ILLEGAL.iter() {
-        assert!(rt;
-            is_checked_again(&rt, rt.alloc(), journal, (1, line))?,
+            is_checked_again(rt, alloc, journal, (status, *line))?,
             "{line}"
         );
     }
     Ok(())
+}
+
+/// What is rewritten is as legal as it was.
+#[test]
+fn rewritten_journals_are_checked_alike(rt: HostRuntime) -> Result<(), Fail> {
+    assert_checked_again(&rt, rt.alloc(), 0, &LEGAL)?;
+    Ok(assert_checked_again(&rt, rt.alloc(), 1, &ILLEGAL)?)
 }

@@ -1,5 +1,5 @@
 //! Scripts of long and of ready blocks, of nested lists and with small capacities, through the whole program.
-use crate::running::{CHECK, JOURNAL, RUN, SUM_STEP, ends, first_wrong, run, script_of};
+use crate::running::{CHECK, JOURNAL, RUN, SUM_STEP, assert_ends, ends, run, script_of};
 use std::alloc::{AllocError, Global};
 use std::sync::Wait;
 use std::test::Fail;
@@ -161,6 +161,5 @@ moves 2
 
 #[test]
 fn reports_of_ready_blocks(rt: HostRuntime) -> Result<(), Fail> {
-    assert_eq!(rt; first_wrong(&rt, rt.alloc(), &RUN, 0, &READY_BLOCKS)?, None);
-    Ok(())
+    Ok(assert_ends(&rt, rt.alloc(), &RUN, 0, &READY_BLOCKS)?)
 }

@@ -1,6 +1,7 @@
 //! Runs of the program, from the words to what is written.
 use asm_driver::run_main;
 use std::alloc::{AllocError, Global};
+use std::process::Abort;
 use std::sync::Wait;
 use std::thread::Threads;
 
@@ -51,22 +52,21 @@ pub(crate) fn ends<T: Threads + Wait + Sync>(
     Ok(status == wanted.0 && written.as_slice() == wanted.1.as_bytes())
 }
 
-/// The first of the rows, each an input and what is to be written, with which the program doesn't end so; none where it
-/// does with each of them.
-pub(crate) fn first_wrong<T: Threads + Wait + Sync>(
+/// Asserts of each row, an input and what is to be written, that the program ends with this status and writes that.
+pub(crate) fn assert_ends<T: Threads + Wait + Sync + Abort>(
     rt: &T,
     alloc: Global,
     words: &[&str],
     status: u8,
     rows: &[(&str, &str)],
-) -> Result<Option<usize>, AllocError> {
-    for (index, row) in rows.iter().enumerate() {
-        let (input, wanted) = *row;
-        if !ends(rt, alloc, words, input, (status, wanted))? {
-            return Ok(Some(index));
-        }
+) -> Result<(), AllocError> {
+    for (input, wanted) in rows {
+        assert!(rt;
+            ends(rt, alloc, words, input, (status, *wanted))?,
+            "{input}"
+        );
     }
-    Ok(None)
+    Ok(())
 }
 
 pub(crate) const SUM_STEP: &str = r#"[[["put",["n"],{"sum":[{"val":["n"]},1]}]]]"#;

@@ -1,26 +1,31 @@
 //! Words that are refused, and those that ask for help.
 use crate::running::{ONE_PUT, ends};
 use asm_driver::run_given;
+use std::alloc::{AllocError, Global};
 use std::io;
 use std::io::ErrorKind;
+use std::sync::Wait;
 use std::test::Fail;
+use std::thread::Threads;
+
+static REFUSED: [&[&str]; 12] = [
+    &["asm_driver"],
+    &["asm_driver", "play"],
+    &["asm_driver", "check", "more"],
+    &["asm_driver", "check", "--journal"],
+    &["asm_driver", "rewrite", "more"],
+    &["asm_driver", "rewrite", "--journal"],
+    &["asm_driver", "rewrite", "rewrite"],
+    &["asm_driver", "run", "--journal", "--journal"],
+    &["asm_driver", "run", "--journal=true"],
+    &["asm_driver", "run", "--capacity", "0"],
+    &["asm_driver", "run", "--capacity", "1048577"],
+    &["asm_driver", "run", "more"],
+];
 
 #[test]
 fn words_that_are_refused(rt: HostRuntime) -> Result<(), Fail> {
-    for words in [
-        ["asm_driver"].as_slice(),
-        ["asm_driver", "play"].as_slice(),
-        ["asm_driver", "check", "more"].as_slice(),
-        ["asm_driver", "check", "--journal"].as_slice(),
-        ["asm_driver", "rewrite", "more"].as_slice(),
-        ["asm_driver", "rewrite", "--journal"].as_slice(),
-        ["asm_driver", "rewrite", "rewrite"].as_slice(),
-        ["asm_driver", "run", "--journal", "--journal"].as_slice(),
-        ["asm_driver", "run", "--journal=true"].as_slice(),
-        ["asm_driver", "run", "--capacity", "0"].as_slice(),
-        ["asm_driver", "run", "--capacity", "1048577"].as_slice(),
-        ["asm_driver", "run", "more"].as_slice(),
-    ] {
+    for words in REFUSED.iter() {
         assert!(rt; ends(&rt, rt.alloc(), words, ONE_PUT, (2, "bad words\n"))?);
     }
     Ok(())
@@ -69,38 +74,45 @@ Options:
   -h, --help  Print help
 "#;
 
+static HELPS: [(&[&str], &str); 7] = [
+    (&["asm_driver", "--help"], HELP),
+    (&["asm_driver", "help"], HELP),
+    (&["asm_driver", "run", "--help"], RUN_HELP),
+    (&["asm_driver", "help", "run"], RUN_HELP),
+    (&["asm_driver", "check", "--help"], CHECK_HELP),
+    (&["asm_driver", "rewrite", "--help"], REWRITE_HELP),
+    (&["asm_driver", "help", "rewrite"], REWRITE_HELP),
+];
+
 #[test]
 fn help_is_no_mistake(rt: HostRuntime) -> Result<(), Fail> {
-    for (words, want) in [
-        (["asm_driver", "--help"].as_slice(), HELP),
-        (["asm_driver", "help"].as_slice(), HELP),
-        (["asm_driver", "run", "--help"].as_slice(), RUN_HELP),
-        (["asm_driver", "help", "run"].as_slice(), RUN_HELP),
-        (["asm_driver", "check", "--help"].as_slice(), CHECK_HELP),
-        (["asm_driver", "rewrite", "--help"].as_slice(), REWRITE_HELP),
-        (["asm_driver", "help", "rewrite"].as_slice(), REWRITE_HELP),
-    ] {
-        assert!(rt; ends(&rt, rt.alloc(), words, "", (0, want))?, "{want}");
+    for (words, want) in HELPS.iter() {
+        assert!(rt; ends(&rt, rt.alloc(), words, "", (0, *want))?, "{want}");
     }
     Ok(())
+}
+
+/// Whether the program ends so where the system gives no words, with an error of this kind.
+fn ends_without_words<T: Threads + Wait + Sync>(
+    rt: &T,
+    alloc: Global,
+    kind: ErrorKind,
+    wanted: (u8, &str),
+) -> Result<bool, AllocError> {
+    let mut input = ONE_PUT.as_bytes();
+    let mut output = Vec::with_capacity(alloc, 64)?;
+    let words = Err(io::Error::from(kind));
+    let status = run_given(rt, alloc, words, &mut input, &mut output);
+    Ok(status == wanted.0 && output.as_slice() == wanted.1.as_bytes())
 }
 
 /// The words as the system gives them: one isn't UTF-8, or there was no memory for them.
 #[test]
 fn words_that_are_not_given(rt: HostRuntime) -> Result<(), Fail> {
     let alloc = rt.alloc();
-    for (kind, status, want) in [
-        (ErrorKind::InvalidData, 2, "bad words\n"),
-        (ErrorKind::OutOfMemory, 3, "out of memory\n"),
-    ] {
-        let mut input = ONE_PUT.as_bytes();
-        let mut output = Vec::with_capacity(alloc, 64)?;
-        let words = Err(io::Error::from(kind));
-        assert_eq!(rt;
-            run_given(&rt, alloc, words, &mut input, &mut output),
-            status
-        );
-        assert!(rt; output.as_slice() == want.as_bytes());
-    }
+    let bad = (2, "bad words\n");
+    assert!(rt; ends_without_words(&rt, alloc, ErrorKind::InvalidData, bad)?);
+    let memory = (3, "out of memory\n");
+    assert!(rt; ends_without_words(&rt, alloc, ErrorKind::OutOfMemory, memory)?);
     Ok(())
 }
