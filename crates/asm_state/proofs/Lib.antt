@@ -6,6 +6,7 @@ pub mod InPlace
 pub mod Judged
 pub mod LeastFound
 pub mod OpeningState
+pub mod Wanted
 pub mod Overwritten
 pub mod Settled
 pub mod TakenBack

@@ -1,6 +1,7 @@
 pub mod Follow
 pub mod LeastNamed
 pub mod Named
+pub mod Plain
 pub mod Replaced
 pub mod Stands
 pub mod Verdict

@@ -135,7 +135,7 @@ impl Entries {
         self.tree.get(at)
     }
 
-    fn iter(&self) -> Iter<'_, Location, WrittenValue>
+    pub(crate) fn iter(&self) -> Iter<'_, Location, WrittenValue>
         ensures { result ≡ map.entries self.now }
     {
         self.tree.iter()

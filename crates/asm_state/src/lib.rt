@@ -5,6 +5,7 @@ mod entries;
 mod in_place;
 pub mod laws;
 mod named;
+mod plain;
 mod state;
 mod verdict;
 

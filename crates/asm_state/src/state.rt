@@ -37,8 +37,8 @@ use std::sync::Arc;
 pub struct State {
     number: u32,
     // The opening state, which copies share; what a move wrote stands in the entries.
-    base: Arc<PlainState>,
-    entries: Entries,
+    pub(crate) base: Arc<PlainState>,
+    pub(crate) entries: Entries,
 }
 
 impl Model for State {

@@ -1,5 +1,5 @@
 -- The calls of an agent: a reading, an agent after an answered call, and how many offers and looks the call made.
-use Rattle.std.specs.Prelude.{◌≡◌, ℕ, zero, suc, ◌+◌, ◌-◌, ◌≤◌, List, length, take, Result, Ok, Err}
+use Rattle.std.specs.Prelude.{◌≡◌, ℕ, zero, suc, ◌+◌, ◌-◌, ◌≤◌, List, length, take, Option, Result, Ok, Err}
 use Rattle.std.specs.Prelude.{refl}
 use Rattle.std.specs.Coded.{Coded, code_by, coded×, coded_ℕ, coded_list}
 use mathlib.Core.List.{IsPrefix}
@@ -7,6 +7,7 @@ use Rattle.asm_element.specs.Place.{Place}
 use Rattle.asm_element.specs.declared.value.Value.{Value}
 use Rattle.asm_update.specs.Aggregator.{Meaning}
 use Rattle.asm_update.specs.Move.{Move}
+use Rattle.asm_state.specs.Verdict.{least_stale}
 use Rattle.asm_state.specs.declared.named.Named.{Named}
 use Rattle.asm_storage.specs.declared.call.Answer.{Answer}
 use Rattle.asm_storage.specs.declared.call.Answer.TheVariants as answer
@@ -70,6 +71,21 @@ pub record IsRead {A : Type 0} (meaning : A → Meaning) (old new : AgentAt A) (
   pub begins : IsPrefix old.account.seen new.account.seen
   pub locations : r.places ≡ places
   pub agent : new ≡ answered old new (call.Read places) (read_answer r)
+
+-- what an agent's own state has at these locations, which no look is made for: the answer of the storage of one thread
+-- after the first moves that the agent has seen, as many as the number says
+pub record IsPeek {A : Type 0} (meaning : A → Meaning) (a : AgentAt A) (places : List Place) (r : ReadingView) : Type 0
+  where
+    pub within : r.number ≤ length a.account.seen
+    pub reply : read_answer r ≡
+        reply_to (machine_of meaning a.storage) (take r.number (moves_seen a.account.seen)) (call.Read places)
+    pub locations : r.places ≡ places
+
+-- the least of the named locations that is stale after what the agent has then seen, or None
+abbrev pub IsStaleRead : {A : Type 0} → (A → Meaning) → AgentAt A → List Named → Option Place → Type 0
+IsStaleRead meaning a reads found =
+    let m = machine_of meaning a.storage in
+    found ≡ least_stale m.part m.init (moves_seen a.account.seen) reads
 
 -- a fire was answered by this reply: it is that of the storage of one thread after a list of moves that begins with
 -- all that had been seen

@@ -5,8 +5,8 @@ ghost use Rattle.asm_storage.specs.declared.call.Reply.TheVariants.{Fired};
 ghost use Rattle.asm_storage.specs.declared.error.FireError.TheVariants.{Busy, ManyReads};
 ghost use Rattle.asm_storage.specs.declared.error.ReadError.TheVariants.{ManyLocations};
 ghost use Rattle.asm_storage.specs.Agents.{IsAgent, is_fired};
-ghost use Rattle.asm_storage.specs.Calls.{HasLookedFor, IsAnswered, IsBusy, IsCoherentReply, IsRead, MadeOffers, Ran};
-ghost use Rattle.asm_storage.specs.Part.{agent_of, IsPartOf};
+ghost use Rattle.asm_storage.specs.Calls.{HasLookedFor, IsAnswered, IsBusy, IsCoherentReply, IsPeek, IsRead, IsStaleRead, MadeOffers, Ran};
+ghost use Rattle.asm_storage.specs.Part.{agent_of, IsFollowing, IsPartOf};
 ghost use Rattle.asm_storage.specs.Storage.{machine_of, has_seen, has_looked, last_look, IsSameAgent, Missed};
 
 use crate::call::Reply;
@@ -16,7 +16,7 @@ use crate::reading::Reading;
 use crate::receipt::{Entry, Receipt};
 use crate::storage::Storage;
 use asm_element::Location;
-use asm_state::Named;
+use asm_state::{Named, State};
 use asm_update::{Aggregator, Instructions};
 use std::alloc::{AllocError, Global};
 use std::marker::Model;
@@ -144,6 +144,69 @@ impl<'s, A: Aggregator + Sync + Drop> Agent<'s, A> {
         let storage = self.storage;
         self.part.learn(storage, mark);
         Ok(())
+    }
+
+    /// Looks at the row until it finds nothing more, and has its state follow what it found, without a receipt;
+    /// answers how many moves it has then seen.
+    ///
+    /// `AllocError` comes only where memory was refused; it may then have seen more. Between this call and the
+    /// next that looks or fires, `state` and `peek` stand at this number.
+    pub fn follow(&mut self, alloc: Global) -> Result<u32, AllocError>
+        ensures same { IsSameAgent self.old self.new }
+        ensures number { IfOk result (λ n. n ≡ length self.new.account.seen) }
+        ensures looked { Missed self.old (last_look self.new) self.new }
+        ensures seen { IsPrefix self.old.account.seen self.new.account.seen }
+        ensures kept { self.new ≡ has_looked self.old self.new.account.seen self.new.misses }
+    {
+        let storage = self.storage;
+        self.part.follow_row(alloc, storage)?;
+        Ok(self.part.progress.seen_len())
+    }
+
+    /// Its own state, which stands for the first moves that it has seen, as many as the state's number says.
+    ///
+    /// It makes no look and keeps no receipt: all that is looked up in the state stands at one number, and a
+    /// fire that rests on a value names its location with that number. The state lags behind what was seen
+    /// after a fire, a `learn` or refused memory, until the next `follow`.
+    pub fn state(&self) -> &State
+        ensures { IsFollowing (machine_of A.meaning self.now.storage) self.now.account.seen result.now }
+    {
+        &self.part.state
+    }
+
+    /// The values of the locations in its own state, with the number of moves at which it stands, without a look
+    /// and without a receipt.
+    ///
+    /// `AllocError` comes only where memory was refused.
+    pub fn peek(&self, alloc: Global, places: &[Location]) -> Result<Reading, AllocError>
+        ensures { IfOk result (IsPeek A.meaning self.now places.now) }
+    {
+        let storage = self.storage;
+        self.part.peek(alloc, storage, places)
+    }
+
+    /// Whether what was read still stands: the least of the at most 256 named locations that a move has written
+    /// since, or `None` where no move has.
+    ///
+    /// It looks at the row until it finds nothing more, has its state follow what it found, and keeps no receipt.
+    /// A fire that names the same reads may be refused as stale all the same, by a move that comes in between.
+    /// `ReadError::ManyLocations` comes exactly for more reads, before anything else; `Memory` only where
+    /// memory was refused, and it may then have seen more.
+    pub fn stands(&mut self, alloc: Global, named: &[Named]) -> Result<Option<Location>, ReadError>
+        ensures same { IsSameAgent self.old self.new }
+        ensures stale { IfOk result (IsStaleRead A.meaning self.new named.now) }
+        ensures looked { IfOk result (λ found. Missed self.old (last_look self.new) self.new) }
+        ensures seen { IsPrefix self.old.account.seen self.new.account.seen }
+        ensures kept { self.new ≡ has_looked self.old self.new.account.seen self.new.misses }
+        ensures unread { IfErr result (HasLookedFor self.old self.new) }
+        ensures many { IsErrOf result ManyLocations ↔ (256 < length named.now) }
+    {
+        if named.len() > 256 {
+            return Err(ReadError::ManyLocations);
+        }
+        let storage = self.storage;
+        let stale = self.part.stands(alloc, storage, named)?;
+        Ok(stale)
     }
 
     /// Reads at most 256 locations: their values, in the order of the call, with the number of moves at which

@@ -10,7 +10,7 @@ use thiserror::Error;
 /// Why locations weren't read.
 #[derive(Debug, Drop, PartialEq, Eq, Error)]
 pub enum ReadError {
-    /// More than 256 locations. This is found before anything else.
+    /// More than 256 locations, or named reads to be tested. This is found before anything else.
     #[error("more than 256 locations")]
     ManyLocations,
     /// The memory that the call asked for was refused.

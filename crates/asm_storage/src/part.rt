@@ -39,6 +39,13 @@ impl AgentPart {
         self.id
     }
 
+    /// The agent's state: it has followed the first of the moves that the agent has seen, and may lag behind.
+    pub fn state(&self) -> &State
+        ensures { result.now ≡ self.now.state }
+    {
+        &self.state
+    }
+
     /// The part of an agent of the storage that has made no call.
     pub(crate) fn at_start<A: Aggregator + Sync + Drop>(
         alloc: Global,

@@ -1,4 +1,5 @@
-ghost use Rattle.std.specs.Prelude.{◌≡◌, ◌<◌, ◌↔◌, ◌⊎◌, [], map, length, IfOk, IsErrOf};
+ghost use Rattle.std.specs.Prelude.{◌≡◌, ◌+◌, ◌<◌, ◌≤◌, ◌↔◌, ◌⊎◌, [], map, length, IfOk, IsErrOf};
+ghost use Rattle.std.specs.Bool.{OnTrue};
 ghost use Rattle.std.specs.List.{range_with_len};
 ghost use Rattle.asm_storage.specs.declared.error.StorageError.TheVariants as storage_error;
 ghost use Rattle.asm_storage.specs.declared.error.AgentsError.TheVariants as agents_error;
@@ -10,7 +11,7 @@ use crate::agent::Agent;
 use crate::error::{AgentsError, StorageError};
 use crate::part::AgentPart;
 use crate::receipt::Entry;
-use asm_row::{Row, RowError};
+use asm_row::{Progress, Row, RowError};
 use asm_state::State;
 use asm_update::{Aggregator, PlainState};
 use std::alloc::{AllocError, Global};
@@ -107,6 +108,32 @@ impl<A: Aggregator + Sync + Drop> Storage<A> {
     {
         let part = AgentPart::at_start(alloc, self, id)?;
         Ok(Agent::of(self, part))
+    }
+
+    // Looks once at the row; true where an entry was found.
+    fn finds_next(&self, progress: &mut Progress<Entry>) -> bool
+        requires { progress.old.row ≡ self.now.row }
+        ensures row { progress.new.row ≡ self.now.row }
+        ensures within { length progress.new.seen ≤ length self.now.row }
+        ensures found { OnTrue result (length progress.new.seen ≡ length progress.old.seen + 1) }
+    {
+        if progress.is_full() {
+            return false;
+        }
+        progress.next(&self.row).is_some()
+    }
+
+    /// How many moves stand in its row: it looks from the first one on until it finds nothing more.
+    ///
+    /// It takes no memory, and no agent notices it. Agents may fire more meanwhile. Contracts don't tell what
+    /// stands in the row: that it counts all moves that were fired before the call, so at least as many as any
+    /// agent has seen, is tested.
+    pub fn moves(&self) -> u32
+        ensures { result ≤ length self.now.row }
+    {
+        let mut progress = self.row.progress();
+        while self.finds_next(&mut progress) {}
+        progress.seen_len()
     }
 
     pub(crate) fn row(&self) -> &Row<Entry>

@@ -1,11 +1,11 @@
-ghost use Rattle.std.specs.Prelude.{◌≡◌, map, length, IfOk, OnOk, OnErr};
+ghost use Rattle.std.specs.Prelude.{◌≡◌, ◌≤◌, map, length, take, IfOk, OnOk, OnErr};
 ghost use mathlib.Core.List.{IsPrefix};
 ghost use Rattle.asm_update.specs.State.{val};
 ghost use Rattle.asm_storage.specs.declared.call.Call.TheVariants as call;
 ghost use Rattle.asm_storage.specs.Machine.{machine_state, reply_to};
 ghost use Rattle.asm_storage.specs.Agents.{moves_seen};
 ghost use Rattle.asm_storage.specs.Storage.{machine_of, with_receipt, last_look, IsReplyOf, Missed};
-ghost use Rattle.asm_storage.specs.Calls.{receipt_at, read_answer, IsRead};
+ghost use Rattle.asm_storage.specs.Calls.{receipt_at, read_answer, IsPeek, IsRead, IsStaleRead};
 ghost use Rattle.asm_storage.specs.Part.{agent_of, IsPartOf, LooksOn};
 
 use crate::call::{Answer, Call};
@@ -15,7 +15,8 @@ use crate::receipt::Receipt;
 use crate::shared_lists::{copied_places, same_list, shared_list};
 use crate::storage::Storage;
 use asm_element::{Element, Items, Location, Value};
-use asm_update::{Aggregator, Lookup};
+use asm_state::{Named, Objection};
+use asm_update::{Aggregator, Instructions, Lookup};
 use std::alloc::{AllocError, Global};
 
 // The value at a location, in memory of its own.
@@ -45,21 +46,42 @@ fn values_at<L: Lookup>(
 }
 
 impl AgentPart {
-    // The values of the locations after all moves that were seen.
-    fn values<A: Aggregator + Sync + Drop>(
+    // The values of the locations after the moves that the state has followed.
+    fn values_held<A: Aggregator + Sync + Drop>(
         &self,
         alloc: Global,
         storage: &Storage<A>,
         places: &[Location],
     ) -> Result<Items<Value>, AllocError>
-        requires part { IsPartOf A.meaning storage.now self.now }
-        requires level { self.now.state.number ≡ length self.now.progress.seen }
-        ensures { IfOk result (λ values. values ≡
-            map (val (machine_state (machine_of A.meaning storage.now) (moves_seen self.now.progress.seen)))
-            places.now) }
+        requires { IsPartOf A.meaning storage.now self.now }
+        ensures within { self.now.state.number ≤ length self.now.progress.seen }
+        ensures count { self.now.state.number ≡ length (take self.now.state.number (moves_seen self.now.progress.seen)) }
+        ensures values { IfOk result (λ values. values ≡ map (val (machine_state (machine_of A.meaning storage.now)
+            (take self.now.state.number (moves_seen self.now.progress.seen)))) places.now) }
     {
         let _ = storage;
         values_at(alloc, &self.state, places)
+    }
+
+    /// The locations with their values after the moves that the state has followed, without a look or a receipt.
+    pub(crate) fn peek<A: Aggregator + Sync + Drop>(
+        &self,
+        alloc: Global,
+        storage: &Storage<A>,
+        places: &[Location],
+    ) -> Result<Reading, AllocError>
+        requires { IsPartOf A.meaning storage.now self.now }
+        ensures peeked { IfOk result (IsPeek A.meaning (agent_of storage.now self.now) places.now) }
+        ensures number { IfOk result (λ r. r.number ≡ self.now.state.number) }
+    {
+        let values = self.values_held(alloc, storage, places)?;
+        let places = copied_places(alloc, places)?;
+        let number = self.state.number();
+        Ok(Reading {
+            number,
+            places,
+            values,
+        })
     }
 
     // The locations with their values after all moves that were seen.
@@ -75,14 +97,7 @@ impl AgentPart {
         ensures reply { IfOk result (λ r.
             IsReplyOf A.meaning (agent_of storage.now self.now) (call.Read places.now) (read_answer r)) }
     {
-        let values = self.values(alloc, storage, places)?;
-        let places = copied_places(alloc, places)?;
-        let number = self.progress.seen_len();
-        Ok(Reading {
-            number,
-            places,
-            values,
-        })
+        self.peek(alloc, storage, places)
     }
 
     // Keeps the receipt of a read.
@@ -131,5 +146,44 @@ impl AgentPart {
         let reading = self.take_reading(alloc, storage, places)?;
         self.keep_reading(alloc, storage, &reading)?;
         Ok(reading)
+    }
+
+    // The least of the named locations that is stale after all moves that were seen.
+    fn stale_read<A: Aggregator + Sync + Drop>(
+        &self,
+        alloc: Global,
+        storage: &Storage<A>,
+        reads: &[Named],
+    ) -> Result<Option<Location>, AllocError>
+        requires part { IsPartOf A.meaning storage.now self.now }
+        requires level { self.now.state.number ≡ length self.now.progress.seen }
+        ensures { IfOk result (IsStaleRead A.meaning (agent_of storage.now self.now) reads.now) }
+    {
+        let none = Instructions::new(alloc);
+        match self
+            .state
+            .objection(alloc, storage.aggregator(), reads, &none)?
+        {
+            Some(Objection::Stale(at)) => Ok(Some(at)),
+            Some(Objection::Clash(_clash)) => Ok(None),
+            None => Ok(None),
+        }
+    }
+
+    /// Looks on, and tells the least of the named locations that is then stale; no receipt.
+    pub(crate) fn stands<A: Aggregator + Sync + Drop>(
+        &mut self,
+        alloc: Global,
+        storage: &Storage<A>,
+        reads: &[Named],
+    ) -> Result<Option<Location>, AllocError>
+        requires { IsPartOf A.meaning storage.now self.old }
+        ensures looks { LooksOn A.meaning storage.now self.old self.new }
+        ensures stale { IfOk result (IsStaleRead A.meaning (agent_of storage.now self.new) reads.now) }
+        ensures missed { Missed (agent_of storage.now self.old) (last_look (agent_of storage.now self.new))
+            (agent_of storage.now self.new) }
+    {
+        self.follow_row(alloc, storage)?;
+        self.stale_read(alloc, storage, reads)
     }
 }

@@ -1,0 +1,41 @@
+use Rattle.std.proofs.Common.{◌≡◌, ℕ, List, Result, Ok, Err, IfOk, length, take, ap, ◌∙◌, arith}
+use Rattle.std.proofs.lemmas.List.{take_all, length-map}
+use Rattle.std.specs.declared.alloc.AllocError.{AllocError}
+use Rattle.asm_update.specs.Aggregator.{Meaning}
+use Rattle.asm_element.specs.Place.{Place}
+use Rattle.asm_storage.specs.declared.receipt.Entry.{Entry}
+use Rattle.asm_storage.specs.declared.call.Call.TheVariants as call
+use Rattle.asm_storage.specs.Agents.{moves_seen}
+use Rattle.asm_storage.specs.Calls.{ReadingView, IsPeek, read_answer}
+use Rattle.asm_storage.specs.Machine.{reply_to}
+use Rattle.asm_storage.specs.Storage.{AgentAt, IsReplyOf, machine_of}
+use Rattle.asm_storage.proofs.part.AgentPart.take_reading.Goals as goal
+
+-- a peek at all that was seen is the reply of a read
+at_all : {A : Type 0} (meaning : A → Meaning) (a : AgentAt A) (places : List Place)
+    (result : Result ReadingView AllocError) → IfOk result (IsPeek meaning a places) →
+    IfOk result (λ r. r.number ≡ length a.account.seen) →
+    IfOk result (λ r. r.places ≡ places) × IfOk result (λ r. IsReplyOf meaning a (call.Read places) (read_answer r))
+at_all meaning a places (Ok r) peeked number =
+    let seen = a.account.seen in
+    let all : take r.number (moves_seen seen) ≡ moves_seen seen =
+    take_all r.number (moves_seen seen) (omega (arith, number, length-map seen (λ (x : Entry). x.instrs))) in (
+      peeked.locations,
+      peeked.reply ∙ ap (λ q. reply_to (machine_of meaning a.storage) q (call.Read places)) all,
+    )
+at_all meaning a places (Err e) peeked number = (tt, tt)
+
+level : {E : Type 0} (n k : ℕ) (result : Result ReadingView E) → IfOk result (λ r. r.number ≡ n) → n ≡ k →
+    IfOk result (λ r. r.number ≡ k)
+level n k (Ok r) number same = number ∙ same
+level n k (Err e) number same = tt
+
+pub returns-clause-places : goal.returns-clause-places
+returns-clause-places g c =
+    (at_all g.A.Aggregator.meaning _ c.args.places.now c.peek.result c.peek.ensures.peeked
+    (level _ _ c.peek.result c.peek.ensures.number c.requires.level)).0
+
+pub returns-clause-reply : goal.returns-clause-reply
+returns-clause-reply g c =
+    (at_all g.A.Aggregator.meaning _ c.args.places.now c.peek.result c.peek.ensures.peeked
+    (level _ _ c.peek.result c.peek.ensures.number c.requires.level)).1
