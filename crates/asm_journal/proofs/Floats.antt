@@ -14,6 +14,7 @@ use Rattle.asm_element.specs.declared.value.Value.TheVariants as values
 use Rattle.asm_element.specs.Place.{Place}
 use Rattle.asm_element.specs.Set as set
 use Rattle.asm_element.specs.Bag as bag
+use Rattle.asm_update.specs.Move.{Move}
 use Rattle.asm_update.specs.State.{State}
 use Rattle.asm_update.specs.declared.action.Action.{Action}
 use Rattle.asm_update.specs.declared.action.Action.TheVariants.{Regular, SetAdd, SetRemove, BagAdd, BagRemove, Increment}
@@ -31,7 +32,7 @@ use Rattle.asm_journal.specs.Element.{datum_json_of, items_json_of, element_json
 use Rattle.asm_journal.specs.Set.{count_json_of}
 use Rattle.asm_journal.specs.Value.{value_json_of, pair_json_of}
 use Rattle.asm_journal.specs.Instruction.{instruction_json_of}
-use Rattle.asm_journal.specs.Event.{named_json_of, call_json_of, reply_json_of, answer_json_of, event_json_of}
+use Rattle.asm_journal.specs.Event.{named_json_of, move_json_of, call_json_of, reply_json_of, answer_json_of, event_json_of}
 use Rattle.asm_journal.specs.Text.{state_json_of, header_json_of}
 
 -- a list of values without floats has none
@@ -81,6 +82,9 @@ instruction_no_float i = by_action i.action where
   by_action (BagAdd e n) = rw (location_no_float i.at, element_no_float e) refl
   by_action (BagRemove e n) = rw (location_no_float i.at, element_no_float e) refl
   by_action (Increment n) = rw (location_no_float i.at, integer_no_float n) refl
+
+pub move_no_float : (M : Move) → has_float (move_json_of M) ≡ false
+move_no_float M = list_no_float instruction_json_of instruction_no_float M
 
 named_no_float : (r : Named) → has_float (named_json_of r) ≡ false
 named_no_float r = rw (location_no_float r.at) refl

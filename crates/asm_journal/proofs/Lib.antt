@@ -24,3 +24,4 @@ pub mod EntriesKept
 pub mod CleanDepth
 pub mod WrittenForms
 pub mod RoundTrip
+pub mod GoesOn

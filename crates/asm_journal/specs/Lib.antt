@@ -10,4 +10,5 @@ pub mod Text
 pub mod Reading
 pub mod Fault
 pub mod Laws
+pub mod Next
 pub mod Output

@@ -1,10 +1,11 @@
-//! The laws of the journal's text. Each function does nothing; its contract is the law.
+//! The laws of the journal's text, and of a run that goes on. Each function does nothing; its contract is the law.
 ghost use Rattle.std.specs.Prelude.{◌≡◌};
 ghost use Rattle.asm_storage.specs.History.{Fits};
 ghost use Rattle.asm_storage.specs.declared.history.History.{History as Log};
 ghost use Rattle.asm_journal.specs.Text.{text_of};
 ghost use Rattle.asm_journal.specs.Reading.{ReadsAs};
 ghost use Rattle.asm_journal.specs.Fault.{RefusedReadsAsNone, OneFault, SomeFault};
+ghost use Rattle.asm_journal.specs.Next.{RunGoesOn};
 ghost use Rattle.asm_journal.specs.Laws.{TextReadsBack, OneReading, RewrittenReadsBack};
 
 use asm_storage::History;
@@ -47,3 +48,9 @@ pub fn reads_back(history: &History)
     text_reads_back();
     one_reading();
 }
+
+/// The moves of a history, and then those of another whose storage opened with the state that the first ones leave,
+/// are one run from the first opening state.
+pub fn run_goes_on()
+    ensures { RunGoesOn }
+{}

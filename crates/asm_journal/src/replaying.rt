@@ -1,16 +1,20 @@
-//! The state that a history leaves.
-ghost use Rattle.std.specs.Prelude.{◌≡◌, OnOk, IfOk};
+//! The state that a history leaves, and the storage that goes on from it.
+ghost use Rattle.std.specs.Prelude.{◌≡◌, ◌↔◌, ◌⊎◌, ◌<◌, OnOk, IfOk, IsErrOf};
 ghost use Rattle.asm_update.specs.State.{overwrite};
 ghost use Rattle.asm_update.specs.Fire.{state_of};
 ghost use Rattle.asm_update.specs.Move.{Move};
 ghost use Rattle.asm_state.specs.Change.{IsOneChange};
 ghost use Rattle.asm_state.specs.Stands.{after_move};
 ghost use Rattle.asm_storage.specs.History.{fired_moves};
+ghost use Rattle.asm_storage.specs.Storage.{machine_of};
+ghost use Rattle.asm_storage.specs.declared.error.StorageError.TheVariants as storage_error;
+ghost use Rattle.asm_journal.specs.Check.{machine_of as history_machine};
+ghost use Rattle.asm_journal.specs.Next.{next_machine};
 
 use asm_aggregate::aggregate;
 use asm_element::Location;
 use asm_state::one_change;
-use asm_storage::History;
+use asm_storage::{History, Storage, StorageError};
 use asm_update::{AggError, Aggregator, Group, Instructions, PlainState, ResultError, UpdateSet};
 use std::alloc::{AllocError, Global};
 
@@ -94,4 +98,30 @@ pub fn replay<A: Aggregator>(
         }
     }
     Ok(state)
+}
+
+/// A storage that goes on where a history ended, for at most `capacity` moves, from 1 to 1,048,576: it opens with the
+/// state that the history's moves leave, and its agents start anew.
+///
+/// What is then fired goes on with the history's run (`laws::run_goes_on`); its moves are numbered from 1 again.
+/// `StorageError::BadCapacity` comes exactly for another capacity, before any memory is asked for; `Memory` only where
+/// memory was refused.
+pub fn next_storage<A: Aggregator + Sync + Drop>(
+    alloc: Global,
+    aggregator: A,
+    history: &History,
+    capacity: u32,
+) -> Result<Storage<A>, StorageError>
+    ensures aggregator { IfOk result (λ s. s.agg ≡ aggregator) }
+    ensures machine { IfOk result (λ s. machine_of A.meaning s ≡ next_machine
+        (history_machine (A.meaning aggregator).part history.now) history.now.events capacity) }
+    ensures bad { IsErrOf result storage_error.BadCapacity ↔ ((capacity ≡ 0) ⊎ (1048576 < capacity)) }
+{
+    if capacity == 0 || capacity > 1_048_576 {
+        return Err(StorageError::BadCapacity);
+    }
+    match replay(alloc, &aggregator, history) {
+        Ok(init) => Storage::new(alloc, aggregator, init, capacity),
+        Err(_) => Err(StorageError::Memory),
+    }
 }

@@ -1,13 +1,13 @@
-//! The texts of answers and of states.
+//! The texts of answers, of moves, and of states and update sets.
 ghost use Rattle.std.specs.Prelude.{◌≡◌, IfOk, string_bytes, false};
 ghost use Rattle.serde_json.specs.View.{view};
 ghost use Rattle.serde_json.specs.Written.{compact_text, has_float};
-ghost use Rattle.asm_journal.specs.Event.{answer_json_of};
+ghost use Rattle.asm_journal.specs.Event.{answer_json_of, move_json_of};
 ghost use Rattle.asm_journal.specs.Text.{state_json_of};
 
 use crate::form::ToJson;
 use asm_storage::Answer;
-use asm_update::PlainState;
+use asm_update::{Instructions, PlainState, UpdateSet};
 use serde_json::Value as Json;
 use std::alloc::{AllocError, Global};
 
@@ -37,4 +37,24 @@ pub fn state_text(alloc: Global, state: &PlainState) -> Result<String, AllocErro
     ensures { IfOk result (λ s. string_bytes s ≡ compact_text (state_json_of state.now)) }
 {
     compact(alloc, &state.to_json(alloc)?)
+}
+
+/// Writes an update set as a state is written: its locations in ascending order, each with its value, undef among them.
+///
+/// `AllocError` comes only where memory was refused.
+#[tactic(auto, using(crate::proofs::Floats::state_no_float))]
+pub fn updates_text(alloc: Global, updates: &UpdateSet) -> Result<String, AllocError>
+    ensures { IfOk result (λ s. string_bytes s ≡ compact_text (state_json_of updates.now)) }
+{
+    compact(alloc, &updates.to_json(alloc)?)
+}
+
+/// Writes a move as it stands in a fire: its instructions, in their order.
+///
+/// `AllocError` comes only where memory was refused.
+#[tactic(auto, using(crate::proofs::Floats::move_no_float))]
+pub fn move_text(alloc: Global, instrs: &Instructions) -> Result<String, AllocError>
+    ensures { IfOk result (λ s. string_bytes s ≡ compact_text (move_json_of instrs.now)) }
+{
+    compact(alloc, &instrs.to_json(alloc)?)
 }

@@ -1,6 +1,8 @@
 //! Replays of moves, with and without changes in place.
 use asm_aggregate::standard;
-use asm_journal::{JournalError, from_text, replay, state_text};
+use asm_journal::{JournalError, from_text, next_storage, replay, state_text};
+use asm_storage::{CloseError, History, StorageError};
+use asm_update::PlainState;
 use std::alloc::{AllocError, Global};
 use std::test::Fail;
 
@@ -120,11 +122,42 @@ fn journal(alloc: Global, init: &str, moves: &[&str]) -> Result<String, AllocErr
     Ok(text)
 }
 
-/// Whether a replay of the journal leaves this state.
+/// Whether a storage that goes on after the history, for so many moves, opens with this state, in the end also where
+/// memory was refused.
+fn opens_next(
+    alloc: Global,
+    history: &History,
+    capacity: u32,
+    left: &PlainState,
+) -> Result<bool, StorageError> {
+    let storage = next_storage(alloc, standard(), history, capacity)?;
+    match storage.close(alloc, &[]) {
+        Ok(opened) => Ok(
+            opened.init == *left && opened.capacity == capacity && opened.moves() == 0,
+        ),
+        Err(CloseError::Memory) => Err(StorageError::Memory),
+        Err(CloseError::Missing(_)) => Ok(false),
+    }
+}
+
+/// Whether it does for one move and for the most, and is refused for none and for one more.
+fn goes_on(alloc: Global, history: &History, left: &PlainState) -> Result<bool, AllocError> {
+    for (capacity, is_good) in [(0, false), (1, true), (1_048_576, true), (1_048_577, false)] {
+        match opens_next(alloc, history, capacity, left) {
+            Ok(true) if is_good => {}
+            Err(StorageError::BadCapacity) if !is_good => {}
+            Err(StorageError::Memory) => return Err(AllocError),
+            _ => return Ok(false),
+        }
+    }
+    Ok(true)
+}
+
+/// Whether a replay of the journal leaves this state, with which a storage that goes on opens.
 pub(crate) fn leaves(alloc: Global, journal: &str, state: &str) -> Result<bool, JournalError> {
     let history = from_text(alloc, journal.as_bytes())?;
     let left = replay(alloc, &standard(), &history)?;
-    Ok(state_text(alloc, &left)?.as_str() == state)
+    Ok(state_text(alloc, &left)?.as_str() == state && goes_on(alloc, &history, &left)?)
 }
 
 /// Whether a replay of the row's moves leaves the row's state.

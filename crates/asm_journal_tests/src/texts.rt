@@ -1,6 +1,8 @@
-//! The texts of answers and of states are those that stand in a journal.
-use asm_journal::{JournalError, answer_text, from_text, state_text};
-use asm_storage::History;
+//! The texts of answers, of moves and of states are those that stand in a journal.
+use asm_aggregate::{aggregate, standard};
+use asm_journal::{JournalError, answer_text, from_text, move_text, state_text, updates_text};
+use asm_storage::{Call, History};
+use asm_update::{AggError, Instructions, PlainState};
 use std::alloc::{AllocError, Global};
 use std::test::Fail;
 
@@ -72,6 +74,72 @@ fn is_state_told(alloc: Global, state: &str) -> Result<bool, JournalError> {
 fn a_state_is_told_as_in_a_journal(rt: HostRuntime) -> Result<(), Fail> {
     for state in STATES.iter() {
         assert!(rt; is_state_told(rt.alloc(), state)?, "{state}");
+    }
+    Ok(())
+}
+
+/// An opening state, a move, and its updates there.
+static MOVES: [(&str, &str, &str); 3] = [
+    ("[]", "[]", "[]"),
+    (
+        r#"[[["x"],7]]"#,
+        r#"[["put",["y"],2],["put",["x"],null]]"#,
+        r#"[[["x"],null],[["y"],2]]"#,
+    ),
+    (
+        r#"[[["n"],5],[["s"],{"set":[1]}]]"#,
+        r#"[["remove",["s"],1],["bagadd",["b"],"e",3],["add",["s"],2],["inc",["n"],-4]]"#,
+        r#"[[["b"],{"bag":[["e",3]]}],[["n"],1],[["s"],{"set":[2]}]]"#,
+    ),
+];
+
+fn are_updates(
+    alloc: Global,
+    state: &PlainState,
+    instrs: &Instructions,
+    want: &str,
+) -> Result<bool, AllocError> {
+    match aggregate(alloc, &standard(), state, instrs) {
+        Ok(updates) => Ok(updates_text(alloc, &updates)?.as_str() == want),
+        Err(AggError::Clash(_)) => Ok(false),
+        Err(AggError::Memory) => Err(AllocError),
+    }
+}
+
+/// Whether the first call fires the move with this text, and its updates on the opening state have that text.
+fn is_move_of(
+    alloc: Global,
+    history: &History,
+    text: &str,
+    updates: &str,
+) -> Result<bool, AllocError> {
+    match history.events.as_slice().first().map(|event| &event.call) {
+        Some(Call::Fire { instrs, .. }) => Ok(
+            move_text(alloc, instrs)?.as_str() == text
+                && are_updates(alloc, &history.init, instrs, updates)?,
+        ),
+        _ => Ok(false),
+    }
+}
+
+fn is_move_told(
+    alloc: Global,
+    init: &str,
+    text: &str,
+    updates: &str,
+) -> Result<bool, JournalError> {
+    let event = format!(in alloc;
+        r#"{{"agent":0,"call":{{"fire":{text},"reads":[]}},"reply":"full"}}
+"#
+    )?;
+    let history = history(alloc, init, 1, event.as_str())?;
+    Ok(is_move_of(alloc, &history, text, updates)?)
+}
+
+#[test]
+fn a_move_is_told_as_in_a_journal(rt: HostRuntime) -> Result<(), Fail> {
+    for (init, text, updates) in MOVES.iter() {
+        assert!(rt; is_move_told(rt.alloc(), init, text, updates)?, "{text}");
     }
     Ok(())
 }

@@ -10,4 +10,6 @@ mod judging;
 #[cfg(test)]
 mod opening;
 #[cfg(test)]
+mod plain;
+#[cfg(test)]
 mod resultless;

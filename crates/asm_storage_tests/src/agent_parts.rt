@@ -57,7 +57,7 @@ fn is_held(
 ) -> Result<bool, AllocError>
     requires { id < 256 }
 {
-    Ok(is_made(alloc, storage, instrs, id, number)? && holds(alloc, storage, number))
+    Ok(is_made(alloc, storage, instrs, id, number)? && holds(storage, number))
 }
 
 /// Whether agents with the least and the greatest number, and two with one number, are made and fire one move each.
@@ -79,7 +79,7 @@ fn an_agent_has_the_number_that_it_is_made_with(rt: HostRuntime) -> Result<(), F
     let alloc = rt.alloc();
     let storage = storage_of(alloc, None, 8)?;
     let instrs = move_of(alloc, &[Put("x", 1)])?;
-    assert!(rt; holds(alloc, &storage, 0));
+    assert!(rt; holds(&storage, 0));
     assert!(rt; are_made(alloc, &storage, &instrs)?);
     Ok(())
 }

@@ -111,7 +111,7 @@ pub(crate) fn named_of(alloc: Global, reads: &[At]) -> Result<Vec<Named>, AllocE
     Ok(list)
 }
 
-fn values_of(alloc: Global, contents: &[Option<i64>]) -> Result<Vec<Value>, AllocError> {
+pub(crate) fn values_of(alloc: Global, contents: &[Option<i64>]) -> Result<Vec<Value>, AllocError> {
     let mut list = Vec::new(alloc);
     for content in contents {
         list.push(value(*content))?;

@@ -6,7 +6,7 @@ ghost use Rattle.asm_storage.specs.Storage.{accounts, IsOf};
 
 use crate::performing::Standard;
 use asm_storage::{Agent, CloseError, Event, History, Storage};
-use std::alloc::{AllocError, Global};
+use std::alloc::Global;
 
 /// What closing gives.
 #[derive(Clone, Copy)]
@@ -90,24 +90,7 @@ pub(crate) fn closes(
     is_closed(&closed, want) && close(alloc, storage, agents) == closed
 }
 
-/// How many moves the agent finds in the row.
-fn moves_found(alloc: Global, agent: &mut Agent<'_, Standard>) -> Result<u32, AllocError> {
-    match agent.read(alloc, &[]) {
-        Ok(reading) => Ok(reading.number()),
-        Err(_) => Err(AllocError),
-    }
-}
-
-/// How many moves a new agent finds in the row.
-fn row_len(alloc: Global, storage: &Storage<Standard>) -> Result<u32, AllocError> {
-    let mut agent = storage.agent_at(alloc, 0)?;
-    moves_found(alloc, &mut agent)
-}
-
-/// Whether a new agent finds so many moves in the row, one more of them where memory was refused to the first.
-pub(crate) fn holds(alloc: Global, storage: &Storage<Standard>, moves: u32) -> bool {
-    match row_len(alloc, storage) {
-        Ok(found) => found == moves,
-        Err(_) => row_len(alloc, storage) == Ok(moves),
-    }
+/// Whether the row holds so many moves.
+pub(crate) fn holds(storage: &Storage<Standard>, moves: u32) -> bool {
+    storage.moves() == moves
 }

@@ -18,6 +18,8 @@ mod errors;
 #[cfg(test)]
 mod fires_on_threads;
 #[cfg(test)]
+mod glances;
+#[cfg(test)]
 mod limits;
 #[cfg(test)]
 mod lost_offers;

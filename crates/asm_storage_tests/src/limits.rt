@@ -121,7 +121,24 @@ fn named_many(alloc: Global, n: usize) -> Result<Vec<Named>, AllocError> {
     Ok(reads)
 }
 
-/// Whether a move with so many named reads is the first that is fired, or refused for their number where that isn't good.
+/// Whether so many named reads stand, or are refused for their number where that isn't good.
+fn stand_many(
+    alloc: Global,
+    agent: &mut Agent<'_, Standard>,
+    reads: &[Named],
+    is_good: bool,
+) -> Result<bool, AllocError>
+    ensures { IsSameAgent agent.old agent.new }
+{
+    match agent.stands(alloc, reads) {
+        Ok(stale) => Ok(is_good && stale.is_none()),
+        Err(ReadError::ManyLocations) => Ok(!is_good),
+        Err(ReadError::Memory) => Err(AllocError),
+    }
+}
+
+/// Whether a move with so many named reads, which stand, is the first that is fired, or both are refused for their
+/// number where that isn't good.
 pub(crate) fn names_many(
     alloc: Global,
     agent: &mut Agent<'_, Standard>,
@@ -131,6 +148,9 @@ pub(crate) fn names_many(
     ensures { IsSameAgent agent.old agent.new }
 {
     let reads = named_many(alloc, n)?;
+    if !stand_many(alloc, agent, &reads, is_good)? {
+        return Ok(false);
+    }
     match agent.try_fire(alloc, &reads, &Instructions::new(alloc)) {
         Ok(reply) => Ok(is_good && reply == Reply::Fired(1)),
         Err(FireError::ManyReads) => Ok(!is_good),

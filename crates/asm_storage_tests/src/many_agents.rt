@@ -101,7 +101,7 @@ fn closes_right(
     requires ids { map (λ a. a.account.id) agents.items ≡ range_with_len 0 256 }
 {
     let is_closed = is_right(storage.close(alloc, &agents))?;
-    Ok(is_closed && holds(alloc, storage, 2))
+    Ok(is_closed && holds(storage, 2))
 }
 
 fn closes_after_calls(

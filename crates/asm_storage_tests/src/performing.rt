@@ -13,7 +13,7 @@ use std::alloc::{AllocError, Global};
 pub(crate) type Standard = Pair<Pair<SetAgg, BagAgg>, CountAgg>;
 
 /// Whether these values were read, in this order.
-fn are_read(reading: &Reading, values: &[Value]) -> bool {
+pub(crate) fn are_read(reading: &Reading, values: &[Value]) -> bool {
     if reading.len() != values.len() {
         return false;
     }

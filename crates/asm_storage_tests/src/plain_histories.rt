@@ -145,7 +145,7 @@ fn closed(alloc: Global, storage: &Storage<Standard>, how: How) -> Result<Histor
 fn history(alloc: Global, how: How) -> Result<Option<History>, AllocError> {
     let storage = storage_of(alloc, None, 40)?;
     let history = closed(alloc, &storage, how)?;
-    Ok(if holds(alloc, &storage, 40) {
+    Ok(if holds(&storage, 40) {
         Some(history)
     } else {
         None

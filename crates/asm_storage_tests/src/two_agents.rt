@@ -5,6 +5,7 @@ ghost use Rattle.asm_storage.specs.Storage.{IsSameAgent};
 use crate::asked::{Act, Want, location, receipt_of, value};
 use crate::closings::{Closing, closes, holds, moves_in};
 use crate::contests::{Contest, contends};
+use crate::glances::{Glance, glances};
 use crate::limits::{names_many, reads_many};
 use crate::named_readings::{Round, rests};
 use crate::performing::{Standard, asks, counts, learns, learns_from_before, performs_in_the_end};
@@ -38,6 +39,8 @@ pub(crate) enum Step {
     Count(Who, u32, u32, u64),
     /// It has so many receipts.
     Receipts(Who, usize),
+    /// It looks this up without a receipt.
+    Glance(Who, Glance),
     /// The row holds so many moves.
     Row(u32),
     /// Closing with the first alone gives this.
@@ -137,7 +140,7 @@ impl Two<'_> {
         match step {
             Step::Count(who, seen, won, misses) => counts(self.agent(who), seen, won, misses),
             Step::Receipts(who, receipts) => self.agent(who).receipts().len() == receipts,
-            Step::Row(moves) => holds(alloc, self.storage, moves),
+            Step::Row(moves) => holds(self.storage, moves),
             Step::Alone(closing) => closes(alloc, self.storage, slice::from_ref(&self.a), closing),
             _ => false,
         }
@@ -148,6 +151,8 @@ impl Two<'_> {
         match step {
             Step::Ask(Who::A, act, want) => asks(alloc, &mut self.a, act, want),
             Step::Ask(Who::B, act, want) => asks(alloc, &mut self.b, act, want),
+            Step::Glance(Who::A, glance) => glances(alloc, &mut self.a, glance),
+            Step::Glance(Who::B, glance) => glances(alloc, &mut self.b, glance),
             Step::Learn(Who::A, seen) => learns(alloc, &mut self.a, &self.b, seen),
             Step::Learn(Who::B, seen) => learns(alloc, &mut self.b, &self.a, seen),
             Step::LearnFromBefore(act, want, seen) => {
@@ -182,11 +187,11 @@ impl Two<'_> {
         let agents = [a, b];
         let moves = moves_in(both);
         closes(alloc, storage, &agents[..0], Closing::Events(0, &[]))
-            && holds(alloc, storage, moves)
+            && holds(storage, moves)
             && closes(alloc, storage, &agents[..1], alone)
-            && holds(alloc, storage, moves)
+            && holds(storage, moves)
             && closes(alloc, storage, &agents, both)
-            && holds(alloc, storage, moves)
+            && holds(storage, moves)
     }
 }
 
@@ -195,7 +200,7 @@ impl Two<'_> {
     pub(crate) fn closes_both(self, alloc: Global, both: Closing) -> bool {
         let Two { storage, a, b } = self;
         let agents = [a, b];
-        closes(alloc, storage, &agents, both) && holds(alloc, storage, moves_in(both))
+        closes(alloc, storage, &agents, both) && holds(storage, moves_in(both))
     }
 }
 

@@ -108,7 +108,7 @@ fn closes_right(
     let (second, third) = others;
     let agents = [first, second, third];
     let is_closed = is_right(storage.close(alloc, &agents))?;
-    Ok(is_closed && holds(alloc, storage, 200))
+    Ok(is_closed && holds(storage, 200))
 }
 
 /// Whether that is so where the first agent fires the moves on a thread of its own, beside the second, which fires

@@ -1,10 +1,10 @@
-//! The JSON of states: locations with their values.
+//! The JSON of states and update sets: locations with their values.
 ghost use Rattle.std.specs.Prelude.{◌≡◌, ◌||◌, IfOk, OnOk, is_some, if◌then◌else◌};
 ghost use Rattle.std.specs.Prelude as list;
 ghost use Rattle.std.specs.FinMap as map;
 ghost use Rattle.serde_json.specs.View.{view};
 ghost use Rattle.asm_element.specs.Value.{is_undef};
-ghost use Rattle.asm_journal.specs.Shape.{IsParsed};
+ghost use Rattle.asm_journal.specs.Shape.{IsParsed, list_of};
 ghost use Rattle.asm_journal.specs.Value.{pair_json_of, IsPairForm, IsStateOf, IsStateForm};
 ghost use Rattle.asm_journal.specs.Text.{state_json_of};
 
@@ -14,6 +14,7 @@ use asm_element::{Location, Value};
 use asm_update::{PlainState, UpdateSet};
 use serde_json::Value as Json;
 use std::alloc::{AllocError, Global};
+use std::collections::btree_map::Iter;
 
 /// A location with its value.
 #[derive(Drop)]
@@ -95,14 +96,29 @@ pub fn pair_json(alloc: Global, location: &Location, value: &Value) -> Result<Js
     pair_of(alloc, location.to_json(alloc)?, value.to_json(alloc)?)
 }
 
+/// An array of the JSON of locations with their values.
+fn pairs_json(alloc: Global, pairs: Iter<'_, Location, Value>) -> Result<Json, AllocError>
+    ensures { IfOk result (λ json. view json ≡ list_of (list.map pair_json_of pairs.entry)) }
+{
+    let mut list = Vec::new(alloc);
+    for (at, value) in pairs {
+        list.push(pair_json(alloc, at, value)?)?;
+    }
+    Ok(array_of(list))
+}
+
 impl ToJson for PlainState {
     ghost json_of = { state_json_of };
 
     fn to_json(&self, alloc: Global) -> Result<Json, AllocError> {
-        let mut list = Vec::new(alloc);
-        for (at, value) in self.iter() {
-            list.push(pair_json(alloc, at, value)?)?;
-        }
-        Ok(array_of(list))
+        pairs_json(alloc, self.iter())
+    }
+}
+
+impl ToJson for UpdateSet {
+    ghost json_of = { state_json_of };
+
+    fn to_json(&self, alloc: Global) -> Result<Json, AllocError> {
+        pairs_json(alloc, self.iter())
     }
 }

@@ -4,7 +4,7 @@ use Rattle.serde_json.specs.View.{view}
 use Rattle.asm_journal.specs.Shape.{list_of}
 use Rattle.asm_journal.specs.Value.{pair_json_of}
 use Rattle.asm_journal.proofs.Arrays.{left_json}
-use Rattle.asm_journal.proofs.form.state.PlainStateToJson.to_json.Goals as goal
+use Rattle.asm_journal.proofs.form.state.pairs_json.Goals as goal
 
 pub loop-at-preserved : goal.loop-at-preserved
 loop-at-preserved c =
@@ -15,6 +15,6 @@ loop-at-preserved c =
 pub returns : goal.returns
 returns c =
     let l = c.loop-at in
-    let start = c.into_iter-at-iterator.ensures.into_iter_gives ∙ c.iter-at-items.ensures.entries in
+    let start = c.into_iter-at-iterator.ensures.into_iter_gives in
     let done : map view l.list.items ≡ map pair_json_of c.into_iter-at-iterator.result = sym (append-nil (map view l.list.items)) ∙ ap (λ left. map view l.list.items ++ map pair_json_of left) (sym c.in-None.ensures.steps.0) ∙ l.invariant in
     c.array_of.ensures ∙ ap list_of (done ∙ ap (map pair_json_of) start)
