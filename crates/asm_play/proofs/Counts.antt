@@ -1,11 +1,19 @@
 -- How many there are, and lists that are gone through, over plain variables.
-use Rattle.std.proofs.Common.{◌≡◌, ◌≢◌, ◌∙◌, ℕ, suc, ◌+◌, ◌<◌, ◌≤◌, List, [], ◌∷◌, ◌++◌, map, refl, sym}
-use Rattle.std.proofs.Common.{ap, arith}
+use Rattle.std.proofs.Common.{◌≡◌, ◌≢◌, inl, inr, ◌∙◌, ℕ, ◌+◌, ◌<◌, ◌≤◌, List, [], ◌∷◌, ◌++◌, map, length, All, refl, sym}
+use Rattle.std.proofs.Common.{None, Ok, ap, arith}
 use Rattle.std.proofs.Common.{append_assoc}
 use Rattle.std.proofs.lemmas.List.{append-nil}
 use Rattle.asm_element.specs.Place.{Place}
+use Rattle.asm_element.specs.declared.value.Value.{Value}
+use Rattle.asm_update.specs.Aggregator.{Meaning}
+use Rattle.asm_update.specs.Move.{Move}
+use Rattle.asm_storage.specs.Machine.{Machine}
+use Rattle.asm_storage.specs.declared.call.Answer.TheVariants as answer
+use Rattle.asm_storage.specs.declared.call.Call.TheVariants as call
 use Rattle.asm_storage.specs.declared.history.Event.{Event}
-use Rattle.asm_play.specs.StepEvents.{stale_fires, reads_among, AreTries}
+use Rattle.asm_script.specs.Sequencing.{step_move_on}
+use Rattle.asm_script.specs.declared.step.Step.{Step}
+use Rattle.asm_play.specs.StepEvents.{name_at, state_at, stale_fires, IsIdle, IsReading, IsTryOf, IsVainTry}
 
 pub tries_left : (n : ℕ) → n < 1001 → n ≤ 1000
 tries_left n below = omega arith
@@ -16,30 +24,36 @@ pub stale_both : (xs ys : List Event) → stale_fires (xs ++ ys) ≡ stale_fires
 stale_both [] ys = omega arith
 stale_both (x ∷ xs) ys = omega (arith, stale_both xs ys)
 
-pub reads_both : (xs ys : List Event) → reads_among (xs ++ ys) ≡ reads_among xs + reads_among ys
-reads_both [] ys = omega arith
-reads_both (x ∷ xs) ys = omega (arith, reads_both xs ys)
+-- ---- the events of a try
 
--- further events, none of them a read, of a step that reads something
-pub tries_with : (ps : List Place) (n : ℕ) (xs ys : List Event) → ps ≢ [] → AreTries n ps xs →
-    reads_among ys ≡ 0 → AreTries n ps (xs ++ ys)
-tries_with [] n xs ys some tries none = absurd (some refl)
-tries_with (p ∷ ps) n xs ys some tries none = omega (arith, reads_both xs ys, tries, none)
+-- the read of a step that reads something
+pub one_reading : (ps : List Place) (n : ℕ) (vs : List Value) (e : Event) → ps ≢ [] → e.call ≡ call.Read ps →
+    e.answer ≡ answer.Read n vs → IsReading ps n (e ∷ [])
+one_reading [] n vs e some asked told = absurd (some refl)
+one_reading (p ∷ ps) n vs e some asked told = (e, vs, refl, asked, told)
 
--- one try more
-pub tries_more : (ps : List Place) (n : ℕ) (xs ys : List Event) → AreTries n ps xs → AreTries 1 ps ys →
-    AreTries (suc n) ps (xs ++ ys)
-tries_more [] n xs ys tries last = ap (λ w. w ++ ys) tries ∙ last
-tries_more (p ∷ ps) n xs ys tries last = omega (arith, reads_both xs ys, tries, last)
+module _ (own : Meaning) (m : Machine) (q : List Move) (step : Step) where
+  -- a try without a fire, and one with a fire
+  pub try_without : (ps : List Place) (n : ℕ) (es : List Event) → n ≤ length q → IsReading ps n es →
+      IsTryOf own m q step ps es
+  try_without ps n es le reading = (n, le, es, [], sym (append-nil es), reading, inl refl)
 
-pub no_tries : (ps : List Place) → AreTries 0 ps []
-no_tries [] = refl
-no_tries (p ∷ ps) = refl
+  pub try_with : (ps : List Place) (n : ℕ) (es read : List Event) (e : Event) (M : Move) → n ≤ length q →
+      es ≡ read ++ e ∷ [] → IsReading ps n read → e.call ≡ call.Fire (map (name_at n) ps) M →
+      step_move_on own (state_at m q n) None step ≡ Ok M → IsTryOf own m q step ps es
+  try_with ps n es read e M le is reading asked move =
+      (n, le, read, e ∷ [], is, reading, inr (e, M, refl, asked, move))
 
--- each try has one read at most
-pub few_reads : (ps : List Place) (n : ℕ) (es : List Event) → AreTries n ps es → reads_among es ≤ n
-few_reads [] n es tries = omega (arith, ap reads_among tries)
-few_reads (p ∷ ps) n es tries = omega (arith, tries)
+  -- a try in vain without a fire, and one with a fire, of a step that reads something
+  pub vain_without : (ps : List Place) (n : ℕ) (es : List Event) → n ≤ length q → IsReading ps n es → All IsIdle es →
+      IsVainTry own m q step ps es
+  vain_without [] n es le reading idle = reading
+  vain_without (p ∷ ps) n es le reading idle = (try_without (p ∷ ps) n es le reading, idle)
+
+  pub vain_with : (ps : List Place) (es : List Event) → ps ≢ [] → IsTryOf own m q step ps es → All IsIdle es →
+      IsVainTry own m q step ps es
+  vain_with [] es some once idle = absurd (some refl)
+  vain_with (p ∷ ps) es some once idle = (once, idle)
 
 -- ---- what is done, in front of what is left, is all
 

@@ -10,7 +10,8 @@ use Rattle.asm_element.specs.Value.{undef}
 use Rattle.asm_element.specs.declared.value.Value.{Value}
 use Rattle.asm_state.specs.declared.named.Named.{Named}
 use Rattle.asm_storage.specs.Calls.{ReadingView}
-use Rattle.asm_play.specs.Trying.{value_among, name_at}
+use Rattle.asm_play.specs.StepEvents.{name_at}
+use Rattle.asm_play.specs.Trying.{value_among}
 
 left_suc : {X : Type 0} (xs : List X) (i : ℕ) (x : X) → slice_get xs i ≡ Some x → drop i xs ≡ x ∷ drop (suc i) xs
 left_suc [] i x is = absurd cc

@@ -20,7 +20,8 @@ use Rattle.asm_storage.proofs.Lists.{take-prefix, length-prefix}
 use Rattle.asm_play.specs.AgentPlay.{AreProper, Plays}
 use Rattle.asm_script.specs.Sequencing.{fire_blocks, step_move_on, StandsFor}
 use Rattle.asm_play.specs.StepEvents.{IsIdle, IsFiring, IsClashing, HasNoRoom, HasFault, Outgrows}
-use Rattle.asm_play.specs.StepEvents.{stale_fires, reads_among, AreTries, HasTries, EndsWith}
+use Rattle.asm_play.specs.StepEvents.{stale_fires, AreTries, AreInVain, IsEndedAfter, HasTriesOf, HasTries, EndsWith}
+use Rattle.asm_play.specs.StepEvents.{IsTryOf, IsVainTry}
 use Rattle.asm_play.specs.StepEvents.{IsTold, AreTold}
 use Rattle.asm_play.specs.Trying.{Adds, IsAgain, IsVain, Tried, IsStepPlayed}
 use Rattle.asm_script.specs.declared.step.Step.{Step}
@@ -29,7 +30,7 @@ use Rattle.asm_script.specs.declared.step.StepFault.TheVariants as fault
 use Rattle.asm_play.specs.declared.outcome.Outcome.{Outcome}
 use Rattle.asm_play.specs.declared.outcome.Outcome.TheVariants as outcome
 use Rattle.asm_play.proofs.ProperMoves.{proper_prefix}
-use Rattle.asm_play.proofs.Counts.{stale_both, reads_both, tries_more, no_tries, few_reads}
+use Rattle.asm_play.proofs.Counts.{stale_both}
 use Rattle.asm_play.proofs.Tries.{prefix_mapped, adds_then, adds_none}
 
 -- idle events in front change nothing
@@ -124,16 +125,83 @@ module _ (own : Meaning) (m : Machine) (q r : List Move) (p : IsPrefix q r) wher
   told_later step outcome.Many es told = (told.0, outgrows_later step told.1)
   told_later step outcome.GaveUp es told = told
 
-  tries_later : (step : Step) (o : Outcome) (es : List Event) → HasTries q step o es → HasTries r step o es
-  tries_later step outcome.GaveUp es has = record {
-    places = has.places;
-    reads = has.reads;
-    tries = has.tries;
+  try_later : (step : Step) (places : List Place) (es : List Event) → IsTryOf own m q step places es →
+      IsTryOf own m r step places es
+  try_later step places es (n, le, read, fires, is, reading, inl none) =
+      (n, omega (arith, le, length-prefix q r p), read, fires, is, reading, inl none)
+  try_later step places es (n, le, read, fires, is, reading, inr (e, M, one, asked, move)) = (
+    n,
+    omega (arith, le, length-prefix q r p),
+    read,
+    fires,
+    is,
+    reading,
+    inr (
+      e,
+      M,
+      one,
+      asked,
+      subst (λ w. step_move_on own (machine_state m w) None step ≡ Ok M) (take-prefix n q r p le) move,
+    ),
+  )
+
+  vain_try_later : (step : Step) (places : List Place) (es : List Event) → IsVainTry own m q step places es →
+      IsVainTry own m r step places es
+  vain_try_later step [] es has = has
+  vain_try_later step (l ∷ ls) es has = (try_later step (l ∷ ls) es has.0, has.1)
+
+  are_tries_later : (step : Step) (places : List Place) (n : ℕ) (es : List Event) →
+      AreTries own m q step places n es → AreTries own m r step places n es
+  are_tries_later step places zero es has = has
+  are_tries_later step places (suc n) es (first, last, is, before, once) = (
+    first,
+    last,
+    is,
+    are_tries_later step places n first before,
+    vain_try_later step places last once,
+  )
+
+  in_vain_later : (step : Step) (places : List Place) (n : ℕ) (es : List Event) →
+      AreInVain own m q step places n es → AreInVain own m r step places n es
+  in_vain_later step places n es has = record {
+    tries = are_tries_later step places n es has.tries;
     busy = has.busy;
     lost = omega (arith, has.lost, length-prefix q r p);
     counted = has.counted;
   }
-  tries_later step _ es has = has
+
+  ended_later : (step : Step) (places : List Place) (es : List Event) → IsEndedAfter own m q step places es →
+      IsEndedAfter own m r step places es
+  ended_later step places es has = record {
+    few = has.few;
+    tried = has.tried;
+    most = has.most;
+    first = has.first;
+    last = has.last;
+    parts = has.parts;
+    in_vain = in_vain_later step places has.tried has.first has.in_vain;
+    once = try_later step places has.last has.once;
+    fresh = has.fresh;
+  }
+
+  tries_of_later : (step : Step) (places : List Place) (o : Outcome) (es : List Event) →
+      HasTriesOf own m q step places o es → HasTriesOf own m r step places o es
+  tries_of_later step places outcome.GaveUp es has = record {
+    few = has.few;
+    tried = has.tried;
+    all = has.all;
+    in_vain = in_vain_later step places has.tried es has.in_vain;
+  }
+  tries_of_later step places outcome.Many es (inl none) = inl none
+  tries_of_later step places outcome.Many es (inr has) = inr (ended_later step places es has)
+  tries_of_later step places (outcome.Fired k) es has = ended_later step places es has
+  tries_of_later step places (outcome.Clash c) es has = ended_later step places es has
+  tries_of_later step places outcome.Full es has = ended_later step places es has
+  tries_of_later step places outcome.Term es has = ended_later step places es has
+  tries_of_later step places (outcome.Large l) es has = ended_later step places es has
+
+  tries_later : (step : Step) (o : Outcome) (es : List Event) → HasTries own m q step o es → HasTries own m r step o es
+  tries_later step o es (places, reads, has) = (places, reads, tries_of_later step places o es has)
 
   pub are_told_later : (ss : List Step) (os : List Outcome) (es : List Event) → AreTold own m q ss os es →
       AreTold own m r ss os es
@@ -152,7 +220,7 @@ module _ (own : Meaning) (m : Machine) (q r : List Move) (p : IsPrefix q r) wher
 -- one step more
 are_told_more : (own : Meaning) (m : Machine) (q : List Move) (ss : List Step) (os : List Outcome)
     (es fs : List Event) (s : Step) (o : Outcome) →
-    AreTold own m q ss os es → IsTold own m q s o fs × HasTries q s o fs →
+    AreTold own m q ss os es → IsTold own m q s o fs × HasTries own m q s o fs →
     AreTold own m q (ss ++ s ∷ []) (os ++ o ∷ []) (es ++ fs)
 are_told_more own m q [] [] es fs s o told last =
     (fs, [], ap (λ w. w ++ fs) told ∙ sym (append-nil fs), last.0, last.1, refl)
@@ -168,20 +236,27 @@ are_told_more own m q (t ∷ ss) (p ∷ os) es fs s o told last = (
 )
 
 -- at most 1,000 tries in vain, and the last one
-few_tries : (q : List Move) (step : Step) (o : Outcome) (es : List Event) → o ≢ outcome.GaveUp →
-    stale_fires es ≤ 1000 → reads_among es ≤ 1001 → HasTries q step o es
-few_tries q step outcome.GaveUp es ended stale reads = absurd (ended refl)
-few_tries q step _ es ended stale reads = (stale, reads)
+few_tries : (own : Meaning) (m : Machine) (q : List Move) (step : Step) (places : List Place) (o : Outcome)
+    (es : List Event) → o ≢ outcome.GaveUp → IsEndedAfter own m q step places es → HasTriesOf own m q step places o es
+few_tries own m q step places outcome.GaveUp es ended has = absurd (ended refl)
+few_tries own m q step places outcome.Many es ended has = inr has
+few_tries own m q step places (outcome.Fired k) es ended has = has
+few_tries own m q step places (outcome.Clash c) es ended has = has
+few_tries own m q step places outcome.Full es ended has = has
+few_tries own m q step places outcome.Term es ended has = has
+few_tries own m q step places (outcome.Large l) es ended has = has
 
 -- the receipts of so many tries that ended in nothing
-record AddsIdle {A : Type 0} (places : List Place) (n : ℕ) (old new : AgentAt A) : Type 0 where
+record AddsIdle {A : Type 0} (meaning : A → Meaning) (own : Meaning) (step : Step) (places : List Place) (n : ℕ)
+    (old new : AgentAt A) : Type 0 where
   more : List Receipt
   adds : Adds old new more
   idle : All IsIdle (map (event_of old.account.id) more)
   busy : ℕ
   lost : length old.account.seen + 64 * busy ≤ length new.account.seen
   counted : stale_fires (map (event_of old.account.id) more) + busy ≡ n
-  tries : AreTries n places (map (event_of old.account.id) more)
+  tries : AreProper old.storage.init (moves_seen new.account.seen) → AreTries own (machine_of meaning old.storage)
+      (moves_seen new.account.seen) step places n (map (event_of old.account.id) more)
 
 -- the events of receipts that were added in turn
 added_events : {A : Type 0} (old mid : AgentAt A) (xs ys : List Receipt) → IsSameAgent old mid →
@@ -190,63 +265,85 @@ added_events old mid xs ys same =
     map-append (event_of old.account.id) xs ys
     ∙ ap (λ (i : ℕ). map (event_of old.account.id) xs ++ map (event_of i) ys) (sym same.id)
 
--- one try more
-adds_try : {A : Type 0} (places : List Place) (n : ℕ) (old mid new : AgentAt A) → AddsIdle places n old mid →
-    IsAgain places mid new → AddsIdle places (suc n) old new
-adds_try places n old mid new first again = record {
-  more = first.more ++ again.more;
-  adds = adds_then old mid new first.more again.more first.adds again.adds;
-  idle = subst (All IsIdle) (sym events) (All-append IsIdle _ _ first.idle again.idle);
-  busy = all.0;
-  lost = all.1;
-  counted = all.2;
-  tries = subst (AreTries (suc n) places) (sym events) (tries_more places n
-      (map (event_of old.account.id) first.more) (map (event_of mid.account.id) again.more) first.tries again.tries);
-} where
-  events : map (event_of old.account.id) (first.more ++ again.more)
-      ≡ map (event_of old.account.id) first.more ++ map (event_of mid.account.id) again.more
-  events = added_events old mid first.more again.more first.adds.same
+module _ {A : Type 0} (meaning : A → Meaning) (own : Meaning) (step : Step) (places : List Place) where
+  -- one try more
+  adds_try : (n : ℕ) (old mid new : AgentAt A) → AddsIdle meaning own step places n old mid →
+      IsAgain meaning own step places mid new → AddsIdle meaning own step places (suc n) old new
+  adds_try n old mid new first again = record {
+    more = first.more ++ again.more;
+    adds = adds_then old mid new first.more again.more first.adds again.adds;
+    idle = subst (All IsIdle) (sym events) (All-append IsIdle _ _ first.idle again.idle);
+    busy = all.0;
+    lost = all.1;
+    counted = all.2;
+    tries = λ proper. (
+      map (event_of old.account.id) first.more,
+      map (event_of mid.account.id) again.more,
+      events,
+      are_tries_later own (machine_of meaning old.storage) before after seen step places n
+          (map (event_of old.account.id) first.more)
+          (first.tries (proper_prefix old.storage.init before after seen proper)),
+      vain proper,
+    );
+  } where
+    before : List Move
+    before = moves_seen mid.account.seen
 
-  both : stale_fires (map (event_of old.account.id) (first.more ++ again.more))
-      ≡ stale_fires (map (event_of old.account.id) first.more) + stale_fires (map (event_of mid.account.id) again.more)
-  both = ap stale_fires events
-      ∙ stale_both (map (event_of old.account.id) first.more) (map (event_of mid.account.id) again.more)
+    after : List Move
+    after = moves_seen new.account.seen
 
-  by_cause : IsVain mid new again.more →
-      (busy : ℕ) × (length old.account.seen + 64 * busy ≤ length new.account.seen)
-      × (stale_fires (map (event_of old.account.id) (first.more ++ again.more)) + busy ≡ suc n)
-  by_cause (inl (ends, one)) = (
-    first.busy,
-    omega (arith, first.lost, length-prefix mid.account.seen new.account.seen again.adds.begins),
-    omega (arith, first.counted, both, one),
-  )
-  by_cause (inr (none, longer)) =
-      (suc first.busy, omega (arith, first.lost, longer), omega (arith, first.counted, both, none))
+    seen : IsPrefix before after
+    seen = prefix_mapped (λ (x : Entry). x.instrs) mid.account.seen new.account.seen again.adds.begins
 
-  all : (busy : ℕ) × (length old.account.seen + 64 * busy ≤ length new.account.seen)
-      × (stale_fires (map (event_of old.account.id) (first.more ++ again.more)) + busy ≡ suc n)
-  all = by_cause again.cause
+    vain : AreProper old.storage.init after → IsVainTry own (machine_of meaning old.storage) after step places
+        (map (event_of mid.account.id) again.more)
+    vain = subst (λ (s : StorageView A). AreProper s.init after → IsVainTry own (machine_of meaning s) after step places
+        (map (event_of mid.account.id) again.more)) first.adds.same.storage again.once
 
-tried_adds : {A : Type 0} (places : List Place) (n : ℕ) (old new : AgentAt A) → Tried places n old new →
-    AddsIdle places n old new
-tried_adds {A} places zero old new same = record {
-  more = [];
-  adds = subst (λ (a : AgentAt A). Adds old a []) same (adds_none old);
-  idle = All-nil IsIdle;
-  busy = 0;
-  lost = omega (arith, ap (λ (a : AgentAt A). length a.account.seen) same);
-  counted = refl;
-  tries = no_tries places;
-}
-tried_adds {A} places (suc n) old new (mid, before, again) =
-    adds_try places n old mid new (tried_adds places n old mid before) again
+    events : map (event_of old.account.id) (first.more ++ again.more)
+        ≡ map (event_of old.account.id) first.more ++ map (event_of mid.account.id) again.more
+    events = added_events old mid first.more again.more first.adds.same
+
+    both : stale_fires (map (event_of old.account.id) (first.more ++ again.more))
+        ≡ stale_fires (map (event_of old.account.id) first.more) + stale_fires (map (event_of mid.account.id) again.more)
+    both = ap stale_fires events
+        ∙ stale_both (map (event_of old.account.id) first.more) (map (event_of mid.account.id) again.more)
+
+    by_cause : IsVain mid new again.more →
+        (busy : ℕ) × (length old.account.seen + 64 * busy ≤ length new.account.seen)
+        × (stale_fires (map (event_of old.account.id) (first.more ++ again.more)) + busy ≡ suc n)
+    by_cause (inl (ends, one)) = (
+      first.busy,
+      omega (arith, first.lost, length-prefix mid.account.seen new.account.seen again.adds.begins),
+      omega (arith, first.counted, both, one),
+    )
+    by_cause (inr (none, longer)) =
+        (suc first.busy, omega (arith, first.lost, longer), omega (arith, first.counted, both, none))
+
+    all : (busy : ℕ) × (length old.account.seen + 64 * busy ≤ length new.account.seen)
+        × (stale_fires (map (event_of old.account.id) (first.more ++ again.more)) + busy ≡ suc n)
+    all = by_cause again.cause
+
+  tried_adds : (n : ℕ) (old new : AgentAt A) → Tried meaning own step places n old new →
+      AddsIdle meaning own step places n old new
+  tried_adds zero old new same = record {
+    more = [];
+    adds = subst (λ (a : AgentAt A). Adds old a []) same (adds_none old);
+    idle = All-nil IsIdle;
+    busy = 0;
+    lost = omega (arith, ap (λ (a : AgentAt A). length a.account.seen) same);
+    counted = refl;
+    tries = λ proper. refl;
+  }
+  tried_adds (suc n) old new (mid, before, again) = adds_try n old mid new (tried_adds n old mid before) again
 
 -- the receipts that the agent has more are those of all tries of a step, and tell its outcome
 record HasEnded {A : Type 0} (meaning : A → Meaning) (own : Meaning) (old new : AgentAt A) (step : Step)
     (o : Outcome) : Type 0 where
   more : List Receipt
   adds : Adds old new more
-  tries : HasTries (moves_seen new.account.seen) step o (map (event_of old.account.id) more)
+  tries : AreProper old.storage.init (moves_seen new.account.seen) → HasTries own (machine_of meaning old.storage)
+      (moves_seen new.account.seen) step o (map (event_of old.account.id) more)
   told : (meaning old.storage.agg).part ≡ own.part → AreProper old.storage.init (moves_seen new.account.seen) →
       IsTold own (machine_of meaning old.storage) (moves_seen new.account.seen) step o
       (map (event_of old.account.id) more)
@@ -255,50 +352,82 @@ module _ {A : Type 0} (meaning : A → Meaning) (own : Meaning) where
   -- a step that was played ended
   step_ended : (old new : AgentAt A) (step : Step) (o : Outcome) → IsStepPlayed meaning own old new step o →
       HasEnded meaning own old new step o
-  step_ended old new step o (places, reads, inl (is, n, count, tried)) =
-      let all = tried_adds places n old new tried in
+  step_ended old new step o (places, reads, inl (many, is, same)) =
       subst (HasEnded meaning own old new step) (sym is)
       (record {
-        more = all.more;
-        adds = all.adds;
-        tries = record {
-          places = places;
-          reads = reads;
-          tries = subst (λ k. AreTries k places (map (event_of old.account.id) all.more)) count all.tries;
-          busy = all.busy;
-          lost = omega (arith, all.lost, length-map new.account.seen (λ (x : Entry). x.instrs));
-          counted = all.counted ∙ count;
-        };
-        told = λ same proper. all.idle;
+        more = [];
+        adds = subst (λ (a : AgentAt A). Adds old a []) same (adds_none old);
+        tries = λ proper. (places, reads, inl (many, refl));
+        told = λ part proper. (All-nil IsIdle, inl (places, reads, many));
       })
-  step_ended old new step o (places, reads, inr (n, few, mid, tried, ended)) =
-      let first = tried_adds places n old mid tried in
+  step_ended old new step o (places, reads, inr (few, inl (is, n, count, tried))) =
+      let added = tried_adds meaning own step places n old new tried in
+      subst (HasEnded meaning own old new step) (sym is)
+      (record {
+        more = added.more;
+        adds = added.adds;
+        tries = λ proper. (
+          places,
+          reads,
+          record {
+            few = few;
+            tried = n;
+            all = count;
+            in_vain = record {
+              tries = added.tries proper;
+              busy = added.busy;
+              lost = omega (arith, added.lost, length-map new.account.seen (λ (x : Entry). x.instrs));
+              counted = added.counted;
+            };
+          },
+        );
+        told = λ part proper. added.idle;
+      })
+  step_ended old new step o (places, reads, inr (few, inr (n, most, mid, tried, ended))) =
+      let first = tried_adds meaning own step places n old mid tried in
       let last = ended.0 in
+      let m = machine_of meaning old.storage in
+      let before = moves_seen mid.account.seen in
       let q = moves_seen new.account.seen in
+      let seen = prefix_mapped (λ (x : Entry). x.instrs) mid.account.seen new.account.seen last.adds.begins in
+      let once = subst (λ (s : StorageView A). AreProper s.init q → IsTryOf own (machine_of meaning s) q step places
+      (map (event_of mid.account.id) last.more)) first.adds.same.storage last.once in
       let events = added_events old mid first.more last.more first.adds.same in
-      let early = map (event_of old.account.id) first.more in
-      let late = map (event_of mid.account.id) last.more in
-      let stale : stale_fires (map (event_of old.account.id) (first.more ++ last.more)) ≤ 1000 =
-      omega (arith, ap stale_fires events, stale_both early late, first.counted, last.fresh, few) in
-      let read : reads_among (map (event_of old.account.id) (first.more ++ last.more)) ≤ 1001 = omega (
-        arith,
-        ap reads_among events,
-        reads_both early late,
-        few_reads places n early first.tries,
-        last.once,
-        few,
-      ) in
       record {
         more = first.more ++ last.more;
         adds = adds_then old mid new first.more last.more first.adds last.adds;
-        tries = few_tries q step o (map (event_of old.account.id) (first.more ++ last.more)) ended.1 stale read;
+        tries = λ proper. (
+          places,
+          reads,
+          few_tries own m q step places o (map (event_of old.account.id) (first.more ++ last.more)) ended.1 (record {
+            few = few;
+            tried = n;
+            most = most;
+            first = map (event_of old.account.id) first.more;
+            last = map (event_of mid.account.id) last.more;
+            parts = events;
+            in_vain = record {
+              tries = are_tries_later own m before q seen step places n (map (event_of old.account.id) first.more)
+                  (first.tries (proper_prefix old.storage.init before q seen proper));
+              busy = first.busy;
+              lost = omega (
+                arith,
+                first.lost,
+                length-prefix mid.account.seen new.account.seen last.adds.begins,
+                length-map new.account.seen (λ (x : Entry). x.instrs),
+              );
+              counted = first.counted;
+            };
+            once = once proper;
+            fresh = last.fresh;
+          }),
+        );
         told = λ same proper.
             let told = subst (λ (s : StorageView A). (meaning s.agg).part ≡ own.part → AreProper s.init q →
             IsTold own (machine_of meaning s) q step o (map (event_of mid.account.id) last.more))
             first.adds.same.storage
             last.told same proper in
-            subst (IsTold own (machine_of meaning old.storage) q step o)
-            (sym (added_events old mid first.more last.more first.adds.same))
+            subst (IsTold own (machine_of meaning old.storage) q step o) (sym events)
             (idle_before own (machine_of meaning old.storage) q step o _ _ first.idle told);
       }
 
@@ -334,7 +463,8 @@ module _ {A : Type 0} (meaning : A → Meaning) (own : Meaning) where
             let told = subst (λ (t : StorageView A). (meaning t.agg).part ≡ own.part → AreProper t.init r →
             IsTold own (machine_of meaning t) r s o (map (event_of mid.account.id) last.more)) before.same.storage
             last.told same proper in
-            let tries = last.tries in
+            let tries = subst (λ (t : StorageView A). AreProper t.init r → HasTries own (machine_of meaning t) r s o
+            (map (event_of mid.account.id) last.more)) before.same.storage last.tries proper in
             subst (AreTold own m r (ss ++ s ∷ []) (os ++ o ∷ []))
             (sym (added_events old mid before.more last.more before.same))
             (are_told_more own m r ss os _ _ s o first (told, tries));

@@ -34,8 +34,8 @@ use Rattle.asm_play.specs.AgentPlay.{AreProper}
 use Rattle.asm_script.specs.StepReads.{AreReads}
 use Rattle.asm_script.specs.Sequencing.{fired_or_stopped, fire_blocks, step_move_on, IsReadOf, StandsFor, IsStepMove}
 use Rattle.asm_play.specs.StepEvents.{IsIdle, IsFiring, IsClashing, HasNoRoom, HasFault, EndsWith, IsTold}
-use Rattle.asm_play.specs.StepEvents.{stale_fire, stale_fires, read_once, reads_among, AreTries}
-use Rattle.asm_play.specs.Trying.{value_among, read_value, name_at, names_of, HasRead, HasTried, outcome_of}
+use Rattle.asm_play.specs.StepEvents.{name_at, stale_fire, stale_fires, IsReading, IsTryOf, IsVainTry}
+use Rattle.asm_play.specs.Trying.{value_among, read_value, names_of, HasRead, HasTried, outcome_of}
 use Rattle.asm_play.specs.Trying.{IsEndOf, Adds, IsAgain, IsTry}
 use Rattle.asm_script.specs.declared.step.Step.{Step}
 use Rattle.asm_script.specs.declared.step.StepFault.{StepFault}
@@ -45,7 +45,7 @@ use Rattle.asm_play.specs.declared.outcome.Outcome.TheVariants as outcome
 use Rattle.asm_row.proofs.Prefixes.{IsPrefix-trans}
 use Rattle.asm_play.proofs.ProperMoves.{proper_prefix}
 use Rattle.asm_play.proofs.Properness.{moves_proper}
-use Rattle.asm_play.proofs.Counts.{stale_both, reads_both, tries_with, few_reads}
+use Rattle.asm_play.proofs.Counts.{stale_both, one_reading, try_without, try_with, vain_without, vain_with}
 use Rattle.asm_play.proofs.Readings.{value_mapped}
 
 pub prefix_mapped : {X Y : Type 0} (f : X → Y) (xs ys : List X) → IsPrefix xs ys → IsPrefix (map f xs) (map f ys)
@@ -74,11 +74,11 @@ adds_none old = record {
 -- a receipt of a read is idle, and so is one of a stale fire
 idle_read : (id stood n : ℕ) (places : List Place) (vs : List Value) →
     IsIdle (event_of id (receipt_at stood (call.Read places) (answer.Read n vs)))
-idle_read id stood n places vs = ((λ bad. cc bad), (λ k bad. cc bad))
+idle_read id stood n places vs = tt
 
 idle_stale : (id stood : ℕ) (reads : List Named) (M : Move) (l : Place) →
     IsIdle (event_of id (receipt_at stood (call.Fire reads M) (answer.Fire (reply.Stale l))))
-idle_stale id stood reads M l = ((λ bad. cc bad), (λ k bad. cc bad))
+idle_stale id stood reads M l = tt
 
 -- where no named location is stale, each keeps its value
 each_named : (test : Named → Bool) (n : ℕ) (ps : List Place) →
@@ -166,37 +166,39 @@ not_stale m q M l is = by_answer (fire m.part (machine_state m q) M) told where
 
 -- a try of the same locations that ended, and one that is to be made again
 pub try_ended : {A : Type 0} (meaning : A → Meaning) (own : Meaning) (old new : AgentAt A) (step : Step)
-    (ps qs : List Place) (x : Option Outcome) (o : Outcome) → x ≡ Some o → IsTry meaning own old new step ps x →
-    IsTry meaning own old new step qs (Some o)
-try_ended meaning own old new step ps qs x o is tried = subst (IsTry meaning own old new step ps) is tried
+    (ps qs : List Place) (x : Option Outcome) (o : Outcome) → ps ≡ qs → x ≡ Some o →
+    IsTry meaning own old new step ps x → IsTry meaning own old new step qs (Some o)
+try_ended meaning own old new step ps qs x o same is tried =
+    subst (λ rs. IsTry meaning own old new step rs (Some o)) same (subst (IsTry meaning own old new step ps) is tried)
 
 pub try_again : {A : Type 0} (meaning : A → Meaning) (own : Meaning) (old new : AgentAt A) (step : Step)
     (ps qs : List Place) (x : Option Outcome) → ps ≡ qs → x ≡ None → IsTry meaning own old new step ps x →
-    IsAgain qs old new
+    IsAgain meaning own step qs old new
 try_again meaning own old new step ps qs x same is tried =
-    subst (λ rs. IsAgain rs old new) same (subst (IsTry meaning own old new step ps) is tried)
+    subst (λ rs. IsAgain meaning own step rs old new) same (subst (IsTry meaning own old new step ps) is tried)
 
--- an agent that read has a receipt more, where it read anything
-record HasRead1 {A : Type 0} (places : List Place) (old mid : AgentAt A) : Type 0 where
+-- an agent that read has a receipt more, where it read anything, and a fire that names what was read
+record HasRead1 {A : Type 0} (places : List Place) (o : Option ReadingView) (old mid : AgentAt A) : Type 0 where
   more : List Receipt
   adds : Adds old mid more
   idle : All IsIdle (map (event_of old.account.id) more)
-  tries : AreTries 1 places (map (event_of old.account.id) more)
+  number : ℕ
+  number_is : number ≡ length (moves_seen mid.account.seen)
+  calls : IsReading places number (map (event_of old.account.id) more)
+  names : names_of o ≡ map (name_at number) places
   fresh : stale_fires (map (event_of old.account.id) more) ≡ 0
-
--- one read, of a step that reads something
-one_read : (ps : List Place) (es : List Event) → ps ≢ [] → reads_among es ≡ 1 → AreTries 1 ps es
-one_read [] es some is = absurd (some refl)
-one_read (p ∷ ps) es some is = is
 
 module _ {A : Type 0} (meaning : A → Meaning) where
   read_adds : (old mid : AgentAt A) (places : List Place) (o : Option ReadingView) →
-      HasRead meaning old mid places o → HasRead1 places old mid
+      HasRead meaning old mid places o → HasRead1 places o old mid
   read_adds old mid places None read = record {
     more = [];
     adds = subst (λ (a : AgentAt A). Adds old a []) (sym read.1) (adds_none old);
     idle = All-nil IsIdle;
-    tries = subst (λ (ps : List Place). AreTries 1 ps []) (sym read.0) refl;
+    number = length (moves_seen mid.account.seen);
+    number_is = refl;
+    calls = subst (λ (ps : List Place). IsReading ps (length (moves_seen mid.account.seen)) []) (sym read.0) refl;
+    names = ap (map (name_at (length (moves_seen mid.account.seen)))) (sym read.0);
     fresh = refl;
   }
   read_adds old mid places (Some r) read =
@@ -213,7 +215,10 @@ module _ {A : Type 0} (meaning : A → Meaning) where
         };
         idle = All-cons IsIdle _ [] (idle_read old.account.id (length mid.account.seen) r.number places r.values)
             (All-nil IsIdle);
-        tries = one_read places (map (event_of old.account.id) (receipt ∷ [])) read.0 refl;
+        number = r.number;
+        number_is = cc read.1.reply;
+        calls = one_reading places r.number r.values (event_of old.account.id receipt) read.0 refl refl;
+        names = ap (map (name_at r.number)) read.1.locations;
         fresh = refl;
       }
 
@@ -289,7 +294,8 @@ module _ {A : Type 0} (meaning : A → Meaning) where
             more = had.more;
             adds = had.adds;
             fresh = had.fresh;
-            once = few_reads places 1 (map (event_of old.account.id) had.more) had.tries;
+            once = λ proper. try_without own m here step places had.number (map (event_of old.account.id) had.more)
+                (omega (arith, had.number_is)) had.calls;
             told = λ same proper.
                 fault_told f o (map (event_of old.account.id) had.more) is had.idle (fault_here f move proper);
           },
@@ -300,7 +306,7 @@ module _ {A : Type 0} (meaning : A → Meaning) where
       abbrev reads_named : List Named
       reads_named = names_of reading
 
-      had : HasRead1 places old mid
+      had : HasRead1 places reading old mid
       had = read_adds old mid places reading read
 
       storage_is : mid.storage ≡ old.storage
@@ -358,15 +364,21 @@ module _ {A : Type 0} (meaning : A → Meaning) where
         is,
       )
 
-      read_at_most : (r : Receipt) → read_once r.answer ≡ 0 →
-          reads_among (map (event_of old.account.id) (had.more ++ r ∷ [])) ≤ 1
-      read_at_most r is = omega (
-        arith,
-        ap reads_among (events_of r),
-        reads_both (map (event_of old.account.id) had.more) (event_of old.account.id r ∷ []),
-        few_reads places 1 (map (event_of old.account.id) had.more) had.tries,
-        is,
-      )
+      -- the number that was read is within what the agent has seen since
+      number_within : (q : List Move) → IsPrefix here q → had.number ≤ length q
+      number_within q p = omega (arith, had.number_is, length-prefix here q p)
+
+      -- with the receipt of a fire of the move
+      tried_once : (r : Receipt) (q : List Move) → r.call ≡ call.Fire reads_named M → IsPrefix here q →
+          AreProper old.storage.init q → IsTryOf own m q step places (map (event_of old.account.id) (had.more ++ r ∷ []))
+      tried_once r q is p proper =
+          let there = proper_prefix old.storage.init here q p proper in
+          let move_here = (move (machine_state m here) (read_of here there (λ l at. refl))).0 in
+          try_with own m q step places had.number (map (event_of old.account.id) (had.more ++ r ∷ []))
+          (map (event_of old.account.id) had.more) (event_of old.account.id r) M (number_within q p) (events_of r)
+          had.calls (is ∙ ap (λ (ns : List Named). call.Fire ns M) had.names)
+          (subst (λ w. step_move_on own (machine_state m w) None step ≡ Ok M)
+          (sym (taken_prefix here q had.number had.number_is p)) move_here)
 
       replied : (r : Reply) (q : List Move) →
           answer.Fire r ≡ reply_to (machine_of meaning mid.storage) q (call.Fire reads_named M) →
@@ -402,7 +414,8 @@ module _ {A : Type 0} (meaning : A → Meaning) where
               more = had.more ++ r ∷ [];
               adds = adds_then old mid new had.more (r ∷ []) had.adds adds;
               fresh = none_stale r refl;
-              once = read_at_most r refl;
+              once = tried_once r all refl (prefix_mapped (λ (x : Entry). x.instrs) mid.account.seen new.account.seen
+                  (IsPrefix-trans mid.account.seen seen new.account.seen is.begins (entry ∷ [], sym longer)));
               told = λ same proper.
                   let proper_q = proper_prefix old.storage.init q all (M ∷ [], sym moves_more) proper in
                   let stands_q = stands q proper_q before by.fresh in
@@ -463,7 +476,7 @@ module _ {A : Type 0} (meaning : A → Meaning) where
               more = had.more ++ r ∷ [];
               adds = answered_adds (reply.Clash c) is.begins is.agent;
               fresh = none_stale r refl;
-              once = read_at_most r refl;
+              once = tried_once r all refl before;
               told = λ same proper.
                   let stands_here = stands all proper before by.0 in
                   let whole = take_all (length all) all (omega arith) in
@@ -490,7 +503,7 @@ module _ {A : Type 0} (meaning : A → Meaning) where
               more = had.more ++ r ∷ [];
               adds = answered_adds reply.Full is.begins is.agent;
               fresh = none_stale r refl;
-              once = read_at_most r refl;
+              once = tried_once r all refl before;
               told = λ same proper.
                   let stands_here = stands all proper before by.fresh in
                   let whole = take_all (length all) all (omega arith) in
@@ -515,13 +528,15 @@ module _ {A : Type 0} (meaning : A → Meaning) where
       ended_by_fire (Some (reply.Stale l)) is =
           let r = receipt_at (length new.account.seen) (call.Fire reads_named M) (answer.Fire (reply.Stale l)) in
           let one : stale_fire r.answer ≡ 1 = refl in
+          let q = moves_seen new.account.seen in
+          let before = prefix_mapped (λ (x : Entry). x.instrs) mid.account.seen new.account.seen is.begins in
           record {
             more = had.more ++ r ∷ [];
             adds = answered_adds (reply.Stale l) is.begins is.agent;
             idle = all_idle r (idle_stale old.account.id (length new.account.seen) reads_named M l);
-            tries = subst (AreTries 1 places) (sym (events_of r))
-                (tries_with places 1 (map (event_of old.account.id) had.more) (event_of old.account.id r ∷ [])
-                (reads_some l is) had.tries refl);
+            once = λ proper. vain_with own m q step places (map (event_of old.account.id) (had.more ++ r ∷ []))
+                (reads_some l is) (tried_once r q refl before proper)
+                (all_idle r (idle_stale old.account.id (length new.account.seen) reads_named M l));
             cause = inl (
               (had.more, r, l, refl, refl),
               omega (
@@ -544,8 +559,12 @@ module _ {A : Type 0} (meaning : A → Meaning) where
           added = ap (λ (a : AgentAt A). a.account.receipts) is.agent ∙ sym (append-nil mid.account.receipts);
         });
         idle = subst (λ rs. All IsIdle (map (event_of old.account.id) rs)) (sym (append-nil had.more)) had.idle;
-        tries = subst (λ rs. AreTries 1 places (map (event_of old.account.id) rs)) (sym (append-nil had.more))
-            had.tries;
+        once = λ proper. subst (λ rs. IsVainTry own m (moves_seen new.account.seen) step places
+            (map (event_of old.account.id) rs)) (sym (append-nil had.more))
+            (vain_without own m (moves_seen new.account.seen) step places had.number
+            (map (event_of old.account.id) had.more)
+            (number_within (moves_seen new.account.seen)
+            (prefix_mapped (λ (x : Entry). x.instrs) mid.account.seen new.account.seen is.begins)) had.calls had.idle);
         cause = inr (
           subst (λ rs. stale_fires (map (event_of old.account.id) rs) ≡ 0) (sym (append-nil had.more)) had.fresh,
           omega (arith, is.longer, length-prefix old.account.seen mid.account.seen had.adds.begins),

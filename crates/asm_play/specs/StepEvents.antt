@@ -1,7 +1,8 @@
 -- What the outcomes of an agent's steps tell of its answered calls.
-use Rattle.std.specs.Prelude.{◌≡◌, ◌≢◌, ◌+◌, ◌-◌, ◌*◌, ◌≤◌, ◌<◌, ◌⊎◌, ℕ, List, [], ◌∷◌, ◌++◌, length, take, All}
+use Rattle.std.specs.Prelude.{◌≡◌, ◌+◌, ◌-◌, ◌*◌, ◌≤◌, ◌<◌, ◌⊎◌, ℕ, zero, suc, List, [], ◌∷◌, ◌++◌, length, map, take, All}
 use Rattle.std.specs.Prelude.{None, Ok, Err}
 use Rattle.asm_element.specs.Place.{Place}
+use Rattle.asm_element.specs.declared.value.Value.{Value}
 use Rattle.asm_update.specs.Aggregator.{Meaning}
 use Rattle.asm_update.specs.Fire.{fire}
 use Rattle.asm_update.specs.Move.{Move}
@@ -26,9 +27,15 @@ use Rattle.asm_play.specs.declared.outcome.Outcome.TheVariants as outcome
 abbrev pub state_at : Machine → List Move → ℕ → State
 state_at m q n = machine_state m (take n q)
 
--- the event is no fired move, and met no full row
+-- the answer is that of a read or of a stale fire
+abbrev pub IsIdleAnswer : Answer → Type 0
+IsIdleAnswer (answer.Read number values) = Unit {0}
+IsIdleAnswer (answer.Fire (reply.Stale l)) = Unit {0}
+IsIdleAnswer (answer.Fire _) = ⊥
+
+-- the event is a read or a stale fire
 abbrev pub IsIdle : Event → Type 0
-IsIdle e = (e.answer ≢ answer.Fire reply.Full) × ((k : ℕ) → e.answer ≢ answer.Fire (reply.Fired k))
+IsIdle e = IsIdleAnswer e.answer
 
 -- the event fired the k-th of the moves, which is that of the step on the state before it, and leaves what the blocks
 -- of the step, fired in turn, leave there
@@ -74,36 +81,82 @@ abbrev pub stale_fires : List Event → ℕ
 stale_fires [] = 0
 stale_fires (e ∷ es) = stale_fire e.answer + stale_fires es
 
--- 1 for the answer of a read, else 0
-abbrev pub read_once : Answer → ℕ
-read_once (answer.Read number values) = 1
-read_once (answer.Fire r) = 0
+-- a location that was read at this number
+abbrev pub name_at : ℕ → Place → Named
+name_at n l = record { at = l; number = n }
 
--- how many of the events are reads
-abbrev pub reads_among : List Event → ℕ
-reads_among [] = 0
-reads_among (e ∷ es) = read_once e.answer + reads_among es
+-- the read of a try, which was answered at this number: one, of exactly these locations in their order; where there are
+-- none, none
+abbrev pub IsReading : List Place → ℕ → List Event → Type 0
+IsReading [] n es = es ≡ []
+IsReading (p ∷ ps) n es =
+    (e : Event) × (vs : List Value) × (es ≡ e ∷ []) × (e.call ≡ call.Read (p ∷ ps)) × (e.answer ≡ answer.Read n vs)
 
--- So many tries in vain of a step that reads these locations left these events: a read each; where the step reads none,
--- no events at all.
-abbrev pub AreTries : ℕ → List Place → List Event → Type 0
-AreTries n [] es = es ≡ []
-AreTries n (p ∷ ps) es = reads_among es ≡ n
+-- no fire, or one of the step's move on the state that the first n moves leave; it names exactly these locations in their
+-- order, each with the number n
+abbrev pub IsNaming : Meaning → Machine → List Move → Step → List Place → ℕ → List Event → Type 0
+IsNaming own m q step places n es =
+    (es ≡ []) ⊎ ((e : Event) × (M : Move) × (es ≡ e ∷ []) × (e.call ≡ call.Fire (map (name_at n) places) M)
+    × (step_move_on own (state_at m q n) None step ≡ Ok M))
 
--- The events are those of exactly 1,001 tries of the step. Each was answered stale, but for some that were busy: they
--- lost 64 offers each, to as many moves.
-pub record IsGivenUp (q : List Move) (step : Step) (es : List Event) : Type 0 where
-  pub places : List Place
-  pub reads : AreReads step places
-  pub tries : AreTries 1001 places es
+-- The events of one try of a step that reads these locations: the read, and then at most one fire of the move that the
+-- step has on what was read, which names all of this, with the number of the read.
+abbrev pub IsTryOf : Meaning → Machine → List Move → Step → List Place → List Event → Type 0
+IsTryOf own m q step places es =
+    (n : ℕ) × (n ≤ length q) × (read fires : List Event) × (es ≡ read ++ fires) × IsReading places n read
+    × IsNaming own m q step places n fires
+
+-- the events of a try in vain, whose fire, if there is one, was stale; where the step reads no location, there are none
+abbrev pub IsVainTry : Meaning → Machine → List Move → Step → List Place → List Event → Type 0
+IsVainTry own m q step [] es = es ≡ []
+IsVainTry own m q step (p ∷ ps) es = IsTryOf own m q step (p ∷ ps) es × All IsIdle es
+
+-- the events of so many tries in vain, one after another
+abbrev pub AreTries : Meaning → Machine → List Move → Step → List Place → ℕ → List Event → Type 0
+AreTries own m q step places zero es = es ≡ []
+AreTries own m q step places (suc n) es = (first last : List Event) × (es ≡ first ++ last)
+    × AreTries own m q step places n first × IsVainTry own m q step places last
+
+-- The events are those of so many tries in vain. Each was answered stale, but for some that were busy: they lost 64
+-- offers each, to as many moves.
+pub record AreInVain (own : Meaning) (m : Machine) (q : List Move) (step : Step) (places : List Place) (n : ℕ)
+    (es : List Event) : Type 0 where
+  pub tries : AreTries own m q step places n es
   pub busy : ℕ
   pub lost : 64 * busy ≤ length q
-  pub counted : stale_fires es + busy ≡ 1001
+  pub counted : stale_fires es + busy ≡ n
 
--- the tries of a step with this outcome: 1,001 in vain where it was given up, else at most 1,000, and then the last one
-abbrev pub HasTries : List Move → Step → Outcome → List Event → Type 0
-HasTries q step outcome.GaveUp es = IsGivenUp q step es
-HasTries q step _ es = (stale_fires es ≤ 1000) × (reads_among es ≤ 1001)
+-- the events are those of exactly 1,001 tries in vain
+pub record IsGivenUp (own : Meaning) (m : Machine) (q : List Move) (step : Step) (places : List Place) (es : List Event)
+    : Type 0 where
+  pub few : length places ≤ 256
+  pub tried : ℕ
+  pub all : tried ≡ 1001
+  pub in_vain : AreInVain own m q step places tried es
+
+-- the events are those of at most 1,000 tries in vain, and then of one whose fire, if there is one, isn't stale
+pub record IsEndedAfter (own : Meaning) (m : Machine) (q : List Move) (step : Step) (places : List Place)
+    (es : List Event) : Type 0 where
+  pub few : length places ≤ 256
+  pub tried : ℕ
+  pub most : tried ≤ 1000
+  pub first : List Event
+  pub last : List Event
+  pub parts : es ≡ first ++ last
+  pub in_vain : AreInVain own m q step places tried first
+  pub once : IsTryOf own m q step places last
+  pub fresh : stale_fires last ≡ 0
+
+-- the tries of a step with this outcome, which reads these locations; where these are more than 256, it made no call
+abbrev pub HasTriesOf : Meaning → Machine → List Move → Step → List Place → Outcome → List Event → Type 0
+HasTriesOf own m q step places outcome.GaveUp es = IsGivenUp own m q step places es
+HasTriesOf own m q step places outcome.Many es =
+    ((256 < length places) × (es ≡ [])) ⊎ IsEndedAfter own m q step places es
+HasTriesOf own m q step places _ es = IsEndedAfter own m q step places es
+
+-- the tries of a step with this outcome
+abbrev pub HasTries : Meaning → Machine → List Move → Step → Outcome → List Event → Type 0
+HasTries own m q step o es = (places : List Place) × AreReads step places × HasTriesOf own m q step places o es
 
 -- the events are idle but for the last, which is so
 abbrev pub EndsWith : (Event → Type 0) → List Event → Type 0
@@ -126,5 +179,5 @@ AreTold own m q [] [] es = es ≡ []
 AreTold own m q [] (o ∷ os) es = ⊥
 AreTold own m q (s ∷ ss) [] es = ⊥
 AreTold own m q (s ∷ ss) (o ∷ os) es =
-    (mine rest : List Event) × (es ≡ mine ++ rest) × IsTold own m q s o mine × HasTries q s o mine
+    (mine rest : List Event) × (es ≡ mine ++ rest) × IsTold own m q s o mine × HasTries own m q s o mine
     × AreTold own m q ss os rest

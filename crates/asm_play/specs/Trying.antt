@@ -1,5 +1,5 @@
 -- Trying a step: what it reads, what becomes of a try, and how many tries there are.
-use Rattle.std.specs.Prelude.{◌≡◌, ◌≢◌, ◌⊎◌, ◌+◌, ◌≤◌, ℕ, zero, suc, List, [], ◌∷◌, ◌++◌, length, map, All}
+use Rattle.std.specs.Prelude.{◌≡◌, ◌≢◌, ◌⊎◌, ◌+◌, ◌≤◌, ◌<◌, ℕ, zero, suc, List, [], ◌∷◌, ◌++◌, length, map, All}
 use Rattle.std.specs.Prelude.{Option, Some, None, if◌then◌else◌}
 use Rattle.std.specs.Ordering.{eq_by_cmp}
 use mathlib.Core.List.{IsPrefix}
@@ -19,7 +19,7 @@ use Rattle.asm_storage.specs.declared.call.Reply.TheVariants as reply
 use Rattle.asm_storage.specs.declared.receipt.Receipt.{Receipt}
 use Rattle.asm_play.specs.AgentPlay.{AreProper}
 use Rattle.asm_script.specs.StepReads.{AreReads}
-use Rattle.asm_play.specs.StepEvents.{stale_fires, reads_among, AreTries, IsIdle, IsTold}
+use Rattle.asm_play.specs.StepEvents.{name_at, stale_fires, IsIdle, IsTryOf, IsVainTry, IsTold}
 use Rattle.asm_script.specs.declared.step.Step.{Step}
 use Rattle.asm_script.specs.declared.step.StepFault.{StepFault}
 use Rattle.asm_script.specs.declared.step.StepFault.TheVariants as fault
@@ -36,10 +36,6 @@ value_among (p ∷ ps) (v ∷ vs) l = if eq_by_cmp location_cmp p l then v else 
 abbrev pub read_value : Option ReadingView → Old
 read_value None l = undef
 read_value (Some r) l = value_among r.places r.values l
-
--- a location that was read at this number
-abbrev pub name_at : ℕ → Place → Named
-name_at n l = record { at = l; number = n }
 
 -- all that was read, each location with the number of the reading
 abbrev pub names_of : Option ReadingView → List Named
@@ -89,7 +85,8 @@ abbrev pub EndsStale : List Receipt → Type 0
 EndsStale more = (first : List Receipt) × (r : Receipt) × (l : Place) × (more ≡ first ++ r ∷ [])
     × (r.answer ≡ answer.Fire (reply.Stale l))
 
--- why a try ended in nothing: it left one stale fire, which is its last receipt, or none, as 64 offers were lost
+-- why a try ended in nothing: it left one stale fire, which is its last receipt; or it left none and so, being in vain,
+-- no fire at all, as 64 offers were lost
 abbrev pub IsVain : {A : Type 0} → AgentAt A → AgentAt A → List Receipt → Type 0
 IsVain old new more =
     (EndsStale more × (stale_fires (map (event_of old.account.id) more) ≡ 1))
@@ -97,20 +94,25 @@ IsVain old new more =
     × (length old.account.seen + 64 ≤ length new.account.seen))
 
 -- a try, of a step that reads these locations, that ended in nothing: its fire was stale or busy
-pub record IsAgain {A : Type 0} (places : List Place) (old new : AgentAt A) : Type 0 where
+pub record IsAgain {A : Type 0} (meaning : A → Meaning) (own : Meaning) (step : Step) (places : List Place)
+    (old new : AgentAt A) : Type 0 where
   pub more : List Receipt
   pub adds : Adds old new more
   pub idle : All IsIdle (map (event_of old.account.id) more)
-  pub tries : AreTries 1 places (map (event_of old.account.id) more)
+  pub once : AreProper old.storage.init (moves_seen new.account.seen) →
+      IsVainTry own (machine_of meaning old.storage) (moves_seen new.account.seen) step places
+      (map (event_of old.account.id) more)
   pub cause : IsVain old new more
 
--- the receipts that the agent has more are those of one try, and tell the step's outcome
+-- the receipts that the agent has more are those of one try of the step, which reads these locations, and tell its outcome
 pub record IsEnded {A : Type 0} (meaning : A → Meaning) (own : Meaning) (old new : AgentAt A) (step : Step)
-    (o : Outcome) : Type 0 where
+    (places : List Place) (o : Outcome) : Type 0 where
   pub more : List Receipt
   pub adds : Adds old new more
   pub fresh : stale_fires (map (event_of old.account.id) more) ≡ 0
-  pub once : reads_among (map (event_of old.account.id) more) ≤ 1
+  pub once : AreProper old.storage.init (moves_seen new.account.seen) →
+      IsTryOf own (machine_of meaning old.storage) (moves_seen new.account.seen) step places
+      (map (event_of old.account.id) more)
   pub told : (meaning old.storage.agg).part ≡ own.part → AreProper old.storage.init (moves_seen new.account.seen) →
       IsTold own (machine_of meaning old.storage) (moves_seen new.account.seen) step o
       (map (event_of old.account.id) more)
@@ -118,23 +120,32 @@ pub record IsEnded {A : Type 0} (meaning : A → Meaning) (own : Meaning) (old n
 -- one try of a step: it ended with an outcome, which isn't that it was given up, or is to be tried again
 abbrev pub IsTry : {A : Type 0} → (A → Meaning) → Meaning → AgentAt A → AgentAt A → Step → List Place →
     Option Outcome → Type 0
-IsTry meaning own old new step places None = IsAgain places old new
-IsTry meaning own old new step places (Some o) = IsEnded meaning own old new step o × (o ≢ outcome.GaveUp)
+IsTry meaning own old new step places None = IsAgain meaning own step places old new
+IsTry meaning own old new step places (Some o) = IsEnded meaning own old new step places o × (o ≢ outcome.GaveUp)
 
 -- so many tries in a row, of a step that reads these locations, ended in nothing
-abbrev pub Tried : {A : Type 0} → List Place → ℕ → AgentAt A → AgentAt A → Type 0
-Tried places zero old new = old ≡ new
-Tried {A} places (suc n) old new = (mid : AgentAt A) × Tried places n old mid × IsAgain places mid new
+abbrev pub Tried : {A : Type 0} → (A → Meaning) → Meaning → Step → List Place → ℕ → AgentAt A → AgentAt A → Type 0
+Tried meaning own step places zero old new = old ≡ new
+Tried {A} meaning own step places (suc n) old new =
+    (mid : AgentAt A) × Tried meaning own step places n old mid × IsAgain meaning own step places mid new
 
 -- a step that reads these locations was given up after 1,001 tries, or ended after at most 1,000 in nothing
-abbrev pub IsPlayedBy : {A : Type 0} → (A → Meaning) → Meaning → AgentAt A → AgentAt A → Step → Outcome →
+abbrev pub IsTriedBy : {A : Type 0} → (A → Meaning) → Meaning → AgentAt A → AgentAt A → Step → Outcome →
     List Place → Type 0
-IsPlayedBy {A} meaning own old new step o places =
-    ((o ≡ outcome.GaveUp) × (n : ℕ) × (n ≡ 1001) × Tried places n old new)
-    ⊎ ((n : ℕ) × (n ≤ 1000) × (mid : AgentAt A) × Tried places n old mid
+IsTriedBy {A} meaning own old new step o places =
+    ((o ≡ outcome.GaveUp) × (n : ℕ) × (n ≡ 1001) × Tried meaning own step places n old new)
+    ⊎ ((n : ℕ) × (n ≤ 1000) × (mid : AgentAt A) × Tried meaning own step places n old mid
     × IsTry meaning own mid new step places (Some o))
 
--- A step was played: it was given up after 1,001 tries that ended in nothing, or ended after at most 1,000 of them.
+-- it wasn't tried, as it reads more than 256 locations, or it was
+abbrev pub IsPlayedBy : {A : Type 0} → (A → Meaning) → Meaning → AgentAt A → AgentAt A → Step → Outcome →
+    List Place → Type 0
+IsPlayedBy meaning own old new step o places =
+    ((256 < length places) × (o ≡ outcome.Many) × (old ≡ new))
+    ⊎ ((length places ≤ 256) × IsTriedBy meaning own old new step o places)
+
+-- A step was played: it reads too many locations, or was given up after 1,001 tries that ended in nothing, or ended after
+-- at most 1,000 of them.
 abbrev pub IsStepPlayed : {A : Type 0} → (A → Meaning) → Meaning → AgentAt A → AgentAt A → Step → Outcome → Type 0
 IsStepPlayed meaning own old new step o =
     (places : List Place) × AreReads step places × IsPlayedBy meaning own old new step o places

@@ -7,25 +7,43 @@ use std::sync::atomic::{AtomicU64, Ordering};
 use std::test::Fail;
 use std::thread::{Threads, yield_now};
 
-/// A step that reads and fires, one that reads and has a term without a value, one that fires without a read, one that
-/// is answered by a clash, and again one that reads and fires: eight calls.
-const STEPS: &str = r#"{"init":[[["n"],0]],"agents":[[
-[[["put",["n"],{"sum":[{"val":["n"]},1]}]]],
-[[["put",["n"],{"sum":[{"val":["x"]},1]}]]],
-[[["put",["x"],0]]],
-[[["put",["y"],{"val":["n"]}],["put",["y"],2]]],
-[[["put",["n"],{"sum":[{"val":["n"]},1]}]]]
-]]}"#;
+/// Three agents, each with a step that reads and fires, one that reads and has a term without a value, one that fires
+/// without a read, one that is answered by a clash, and again one that reads and fires: eight calls. None reads what
+/// another writes.
+const STEPS: &str = r#"{"init":[[["a"],0],[["b"],0],[["c"],0]],"agents":[
+[[[["put",["a"],{"sum":[{"val":["a"]},1]}]]],[[["put",["a"],{"sum":[{"val":["x"]},1]}]]],[[["put",["a"],0]]],
+[[["put",["y"],{"val":["a"]}],["put",["y"],2]]],[[["put",["a"],{"sum":[{"val":["a"]},1]}]]]],
+[[[["put",["b"],{"sum":[{"val":["b"]},1]}]]],[[["put",["b"],{"sum":[{"val":["x"]},1]}]]],[[["put",["b"],0]]],
+[[["put",["y"],{"val":["b"]}],["put",["y"],2]]],[[["put",["b"],{"sum":[{"val":["b"]},1]}]]]],
+[[[["put",["c"],{"sum":[{"val":["c"]},1]}]]],[[["put",["c"],{"sum":[{"val":["x"]},1]}]]],[[["put",["c"],0]]],
+[[["put",["y"],{"val":["c"]}],["put",["y"],2]]],[[["put",["c"],{"sum":[{"val":["c"]},1]}]]]]
+]}"#;
 
-/// Takes the calls of one agent: how many began and ended, and how many of these had another count than the next.
+/// The calls of one agent: how many began and ended.
 #[derive(Drop)]
-struct Counting {
+struct Counts {
     begun: AtomicU64,
     ended: AtomicU64,
+}
+
+/// Takes the calls of three agents, and whether one of these had another count than the agent's next.
+#[derive(Drop)]
+struct Counting {
+    first: Counts,
+    second: Counts,
+    third: Counts,
     wrong: AtomicU64,
 }
 
 impl Counting {
+    fn of(&self, agent: u32) -> &Counts {
+        match agent {
+            0 => &self.first,
+            1 => &self.second,
+            _ => &self.third,
+        }
+    }
+
     fn note(&self, is_right: bool) {
         if !is_right {
             self.wrong.store(1, Ordering::SeqCst);
@@ -35,27 +53,43 @@ impl Counting {
 
 impl Gate for Counting {
     fn before<R: Wait>(&self, _rt: &R, agent: u32, call: u64) {
-        let begun = self.begun.fetch_add(1, Ordering::SeqCst);
-        self.note(agent == 0 && call == begun && self.ended.load(Ordering::SeqCst) == begun);
+        let counts = self.of(agent);
+        let begun = counts.begun.fetch_add(1, Ordering::SeqCst);
+        self.note(agent < 3 && call == begun && counts.ended.load(Ordering::SeqCst) == begun);
     }
 
     fn after<R: Wait>(&self, _rt: &R, agent: u32, call: u64) {
-        let ended = self.ended.fetch_add(1, Ordering::SeqCst);
-        self.note(agent == 0 && call == ended);
+        let ended = self.of(agent).ended.fetch_add(1, Ordering::SeqCst);
+        self.note(call == ended);
     }
 }
 
-/// How many calls the gate saw, whether each with its count, and how many the history has.
-fn counted<R: Threads + Wait + Sync>(rt: &R, alloc: Global) -> Result<(u64, bool, usize), Fail> {
-    let gate = Counting {
+fn none_counted() -> Counts {
+    Counts {
         begun: AtomicU64::new(0),
         ended: AtomicU64::new(0),
+    }
+}
+
+/// How many calls of each agent the gate saw, whether each with its count, and how many the history has.
+fn counted<R: Threads + Wait + Sync>(
+    rt: &R,
+    alloc: Global,
+) -> Result<((u64, u64, u64), bool, usize), Fail> {
+    let gate = Counting {
+        first: none_counted(),
+        second: none_counted(),
+        third: none_counted(),
         wrong: AtomicU64::new(0),
     };
     let script = parse_script(alloc, STEPS.as_bytes())?;
     let played = run_script(rt, alloc, &script, 4096, &gate)?;
     Ok((
-        gate.ended.load(Ordering::SeqCst),
+        (
+            gate.first.ended.load(Ordering::SeqCst),
+            gate.second.ended.load(Ordering::SeqCst),
+            gate.third.ended.load(Ordering::SeqCst),
+        ),
         gate.wrong.load(Ordering::SeqCst) == 0,
         played.history.events.as_slice().len(),
     ))
@@ -64,9 +98,9 @@ fn counted<R: Threads + Wait + Sync>(rt: &R, alloc: Global) -> Result<(u64, bool
 #[test]
 fn calls_are_counted_from_0_on_through_all_steps(rt: HostRuntime) -> Result<(), Fail> {
     let (calls, are_right, events) = counted(&rt, rt.alloc())?;
-    assert_eq!(rt; calls, 8);
+    assert_eq!(rt; calls, (8, 8, 8));
     assert!(rt; are_right);
-    assert_eq!(rt; events, 8);
+    assert_eq!(rt; events, 24);
     Ok(())
 }
 

@@ -1,4 +1,13 @@
-//! Runs of the most agents and of the greatest capacity, and the order of what a step reads.
+//! Runs of the most agents, of the longest steps and of the greatest capacity, and the order of what a step reads.
+ghost use Rattle.std.specs.Prelude.{◌≡◌, ◌≤◌, ◌+◌, ◌*◌, ℕ, List, length};
+ghost use Rattle.asm_element.specs.Place.{Place};
+ghost use Rattle.asm_update.specs.Aggregator.{Meaning};
+ghost use Rattle.asm_update.specs.Move.{Move};
+ghost use Rattle.asm_storage.specs.Machine.{Machine};
+ghost use Rattle.asm_storage.specs.declared.history.Event.{Event};
+ghost use Rattle.asm_script.specs.declared.step.Step.{Step};
+ghost use Rattle.asm_play.specs.StepEvents.{stale_fires, AreInVain, IsEndedAfter, IsGivenUp};
+
 use crate::play_tests::{has_number, journal_of, play_behind, script_of};
 use asm_play::{Open, Outcome, Played, RunError, run_script};
 use std::alloc::Global;
@@ -41,8 +50,47 @@ fn takes<R: Threads + Wait + Sync>(rt: &R, alloc: Global, capacity: u32) -> Resu
 
 #[test]
 fn a_capacity_of_1048576_is_the_greatest(rt: HostRuntime) -> Result<(), Fail> {
-    for (capacity, is_taken) in [(1_048_576u32, true), (1_048_577, false)] {
+    for (capacity, is_taken) in [(5_000u32, true), (1_048_576, true), (1_048_577, false)] {
         assert!(rt; takes(&rt, rt.alloc(), capacity)? == is_taken, "{capacity}");
+    }
+    Ok(())
+}
+
+/// A step: what stands in front of its items, the two parts of each with its number between them, how many there are,
+/// and what stands behind them. 65 blocks, 256 reads and 4,096 terms are the most.
+static LONGEST: [(&str, (&str, &str), usize, &str); 3] = [
+    (
+        "[",
+        (r#"[["put",["n"],{"sum":[{"val":["n"]},"#, "]}]]"),
+        65,
+        "]",
+    ),
+    ("[[", (r#"["put",["x"],{"val":["y","#, "]}]"), 256, "]]"),
+    ("[[", (r#"["put",["x","#, r#"],{"val":["n"]}]"#), 4096, "]]"),
+];
+
+/// Whether such a step fires.
+fn fires<R: Threads + Wait + Sync>(
+    rt: &R,
+    alloc: Global,
+    row: &(&str, (&str, &str), usize, &str),
+) -> Result<bool, Fail> {
+    let (front, item, count, end) = *row;
+    let mut step = String::from_str(alloc, front)?;
+    for index in 0..count {
+        step.push_str(if index > 0 { "," } else { "" })?;
+        write!(step, "{}{}{}", item.0, index, item.1)?;
+    }
+    step.push_str(end)?;
+    let agents = [(step.as_str(), 1usize)];
+    let played = play_behind(rt, alloc, r#"[["n"],0]"#, &agents, &Open)?;
+    Ok(all_fired(&played, 1))
+}
+
+#[test]
+fn the_longest_steps_fire(rt: HostRuntime) -> Result<(), Fail> {
+    for row in LONGEST.iter() {
+        assert!(rt; fires(&rt, rt.alloc(), row)?, "{}", row.2);
     }
     Ok(())
 }
@@ -67,4 +115,21 @@ fn a_step_reads_and_names_its_locations_in_ascending_order(rt: HostRuntime) -> R
     )?;
     assert!(rt; journal_of(&rt, alloc, &script)?.as_str() == JOURNAL);
     Ok(())
+}
+
+// Does nothing; its contract tells the limits of a step's tries, which stand in definitions alone.
+fn tries_have_limits()
+    ensures in_vain { (own : Meaning) (m : Machine) (q : List Move) (s : Step) (places : List Place) (n : ℕ)
+        (es : List Event) (vain : AreInVain own m q s places n es) →
+        (64 * vain.busy ≤ length q) × (stale_fires es + vain.busy ≡ n) }
+    ensures given_up { (own : Meaning) (m : Machine) (q : List Move) (s : Step) (places : List Place) (es : List Event)
+        (given : IsGivenUp own m q s places es) → (given.tried ≡ 1001) × (length places ≤ 256) }
+    ensures ended { (own : Meaning) (m : Machine) (q : List Move) (s : Step) (places : List Place) (es : List Event)
+        (after : IsEndedAfter own m q s places es) →
+        (after.tried ≤ 1000) × (length places ≤ 256) × (stale_fires after.last ≡ 0) }
+{}
+
+#[test]
+fn limits_of_tries(_rt: HostRuntime) {
+    tries_have_limits();
 }

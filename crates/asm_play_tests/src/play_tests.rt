@@ -132,31 +132,32 @@ fn four_agents_count_to_100(rt: HostRuntime) -> Result<(), Fail> {
 /// other on a busy machine too.
 const LOOKS: u64 = 50_000_000;
 
-/// At its first call each of two agents looks for the other.
+/// At its first call each of 64 agents looks for the others, all of them together so often at most.
 #[derive(Drop)]
 struct Meeting {
-    first: AtomicU64,
-    second: AtomicU64,
-    missed: AtomicU64,
+    arrived: AtomicU64,
+    looks: AtomicU64,
+}
+
+impl Meeting {
+    fn looks_on(&self) -> bool {
+        self.arrived.load(Ordering::SeqCst) < 64
+            && self.looks.fetch_add(1, Ordering::SeqCst) < LOOKS
+    }
 }
 
 impl Gate for Meeting {
-    fn before<R: Wait>(&self, _rt: &R, agent: u32, call: u64) {
+    fn before<R: Wait>(&self, _rt: &R, _agent: u32, call: u64) {
         if call > 0 {
             return;
         }
-        let (mine, other) = match agent {
-            0 => (&self.first, &self.second),
-            _ => (&self.second, &self.first),
-        };
-        mine.store(1, Ordering::SeqCst);
+        let _ = self.arrived.fetch_add(1, Ordering::SeqCst);
         for _ in 0..LOOKS {
-            if other.load(Ordering::SeqCst) == 1 {
+            if !self.looks_on() {
                 return;
             }
             yield_now();
         }
-        self.missed.store(1, Ordering::SeqCst);
     }
 
     fn after<R: Wait>(&self, _rt: &R, _agent: u32, _call: u64) {}
@@ -165,14 +166,13 @@ impl Gate for Meeting {
 #[test]
 fn agents_play_at_once(rt: HostRuntime) -> Result<(), Fail> {
     let gate = Meeting {
-        first: AtomicU64::new(0),
-        second: AtomicU64::new(0),
-        missed: AtomicU64::new(0),
+        arrived: AtomicU64::new(0),
+        looks: AtomicU64::new(0),
     };
-    let agents = [(RESET, 1usize), (RESET, 1)];
+    let agents = [(RESET, 1usize); 64];
     let played = play_behind(&rt, rt.alloc(), r#"[["n"],0]"#, &agents, &gate)?;
-    assert_eq!(rt; gate.missed.load(Ordering::SeqCst), 0);
-    assert_eq!(rt; played.history.moves(), 2);
+    assert!(rt; gate.looks.load(Ordering::SeqCst) < LOOKS);
+    assert_eq!(rt; played.history.moves(), 64);
     Ok(())
 }
 

@@ -1,7 +1,8 @@
 use Rattle.std.proofs.Common.{◌≤◌, ℕ, Option, map, sym, ap, subst, ◌∙◌}
 use Rattle.std.proofs.lemmas.List.{take_all}
 use Rattle.asm_storage.specs.Calls.{ReadingView}
-use Rattle.asm_play.specs.Trying.{name_at, names_of}
+use Rattle.asm_play.specs.StepEvents.{name_at}
+use Rattle.asm_play.specs.Trying.{names_of}
 use Rattle.asm_play.proofs.Readings.{named_more}
 use Rattle.asm_play.proofs.player.names.Goals as goal
 

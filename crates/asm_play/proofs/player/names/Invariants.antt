@@ -1,5 +1,5 @@
 use Rattle.std.proofs.Common.{◌≡◌, map, take}
-use Rattle.asm_play.specs.Trying.{name_at}
+use Rattle.asm_play.specs.StepEvents.{name_at}
 use Rattle.asm_play.proofs.player.names.Given as goal
 
 -- the locations so far are named
