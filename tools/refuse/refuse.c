@@ -4,7 +4,8 @@
  * the environment's FAIL_AT is answered as where there is no memory. Where that happens, an empty file is made at the
  * path in REFUSED_MARK, so that whoever tries one number after the other knows where to end.
  *
- * Where the environment has ASKED_FOR, the sum of the bytes that were asked for is written to that file as the program exits. */
+ * Where the environment has ASKED_FOR, how many allocations were asked for, and how many bytes in all, is written to that file
+ * as the program exits. */
 #define _GNU_SOURCE
 #include <dlfcn.h>
 #include <errno.h>
@@ -33,7 +34,7 @@ static Main *program;
  * counted. */
 static int refuses(size_t size) {
     atomic_fetch_add(&asked, size);
-    if (fail_at == 0 || atomic_fetch_add(&calls, 1) + 1 != fail_at) {
+    if (atomic_fetch_add(&calls, 1) + 1 != fail_at) {
         return 0;
     }
     int file = mark ? open(mark, O_WRONLY | O_CREAT, 0600) : -1;
@@ -69,17 +70,19 @@ int posix_memalign(void **answer, size_t alignment, size_t size) {
 static int main_that_counts(int argc, char **argv, char **environment) {
     const char *given = getenv("FAIL_AT");
     mark = getenv("REFUSED_MARK");
-    fail_at = given ? atol(given) : 0;
+    atomic_store(&calls, 0);
     atomic_store(&asked, 0);
+    fail_at = given ? atol(given) : 0;
     return program(argc, argv, environment);
 }
 
 static __attribute__((destructor)) void tell_asked(void) {
     const char *path = getenv("ASKED_FOR");
+    long number = atomic_load(&calls);
     unsigned long bytes = atomic_load(&asked);
     FILE *file = path ? fopen(path, "w") : NULL;
     if (file) {
-        fprintf(file, "%lu\n", bytes);
+        fprintf(file, "%ld %lu\n", number, bytes);
         fclose(file);
     }
 }

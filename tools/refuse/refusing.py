@@ -33,6 +33,13 @@ class Sweep(NamedTuple):
     is_whole: bool
 
 
+class Asked(NamedTuple):
+    """How often a run asked for memory, and for how many bytes in all."""
+
+    allocations: int
+    size: int
+
+
 class Refuser:
     """The built library, in a folder of its own that lasts as long as this."""
 
@@ -41,31 +48,41 @@ class Refuser:
         self.folder = tempfile.TemporaryDirectory(prefix="refuse_")
         self.library = f"{self.folder.name}/refuse.so"
         source = Path(__file__).with_name("refuse.c")
-        compiler = os.environ.get("CC", "cc")
+        compiler = os.environ.get("CC", "cc").split()
         subprocess.run(
-            [compiler, "-O2", "-shared", "-fPIC", "-o", self.library, source], check=True
+            [*compiler, "-O2", "-shared", "-fPIC", "-o", self.library, source], check=True
         )
 
     def run(self, words: list[str], text: bytes, number: int = 0) -> tuple[Ended, bool]:
         """Runs the program with the call of this number refused (of 0: none); tells also whether one was refused."""
         mark = Path(f"{self.folder.name}/mark_{number}")
-        given = {"LD_PRELOAD": self.library, "FAIL_AT": str(number), "REFUSED_MARK": str(mark)}
+        ended = self.ended(words, text, {"FAIL_AT": str(number), "REFUSED_MARK": str(mark)})
+        is_refused = mark.exists()
+        mark.unlink(missing_ok=True)
+        return ended, is_refused
+
+    def asked(self, words: list[str]) -> tuple[Ended, Asked | None]:
+        """Runs the program with no call refused, and tells what it asked for; nothing where it was stopped."""
+        told = Path(f"{self.folder.name}/asked")
+        told.unlink(missing_ok=True)
+        ended = self.ended(words, b"", {"ASKED_FOR": str(told)})
+        return ended, Asked(*map(int, told.read_text().split())) if told.exists() else None
+
+    def ended(self, words: list[str], text: bytes, given: dict[str, str]) -> Ended:
+        """Runs the program over the library, with this in its environment."""
         try:
             ran = subprocess.run(
                 words,
                 input=text,
                 stdout=subprocess.PIPE,
                 stderr=subprocess.STDOUT,
-                env={**os.environ, **given},
+                env={**os.environ, "LD_PRELOAD": self.library, **given},
                 timeout=TIME_LIMIT,
                 check=False,
             )
-            ended = Ended(ran.returncode, ran.stdout)
+            return Ended(ran.returncode, ran.stdout)
         except subprocess.TimeoutExpired as error:
-            ended = Ended(DID_NOT_END, error.stdout or b"")
-        is_refused = mark.exists()
-        mark.unlink(missing_ok=True)
-        return ended, is_refused
+            return Ended(DID_NOT_END, error.stdout or b"")
 
     def sweep(
         self,
