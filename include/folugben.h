@@ -113,13 +113,13 @@ enum asm_code {
     ASM_MEMORY = 3,    /* out of memory; nothing was fired or lost */
     ASM_FULL = 4,      /* as many moves were fired as the capacity; nothing was fired */
     ASM_EMPTY = 5,     /* a slot holds nothing of the kind that is wanted, or is passed twice */
-    ASM_RANGE = 6,     /* the capacity, an agent's number or the count of slots is out of range */
+    ASM_RANGE = 6,     /* the capacity, a number, the count of slots or a form is out of range */
     ASM_SMALL = 7,     /* the buffer is too small, and `*written` is the room that is needed */
     ASM_BUSY = 8,      /* 64 offers were lost to other agents; nothing was fired */
     ASM_MANY = 9,      /* more than 256 locations */
     ASM_NONE = 10,     /* no call was answered yet; or no journal since an agent was given back */
     ASM_TAKEN = 11,    /* a slot that was to be filled is full */
-    ASM_NUMBER = 12,   /* an agent with this number was given back before */
+    ASM_NUMBER = 12,   /* an agent of the storage with this number was made before */
     ASM_MISSING = 13,  /* a move has no receipt among the agents that were given back */
     ASM_OTHER = 14,    /* the two slots are of two storages */
     ASM_ILLEGAL = 15,  /* the journal isn't legal */
@@ -147,13 +147,16 @@ typedef struct asm_slot {
  * ASM_TAKEN, ASM_NOT_JSON, ASM_SHAPE, ASM_RANGE (the capacity), ASM_MEMORY. */
 int32_t asm_open(const uint8_t *init, size_t len, uint32_t capacity, asm_slot *storage);
 
-/* Makes an agent with this number, below 256, in an empty slot, at any time. Agents that are closed
- * together need different numbers. ASM_RANGE (the number), ASM_TAKEN (`agent` is full), ASM_EMPTY
- * (`storage`), ASM_MEMORY. */
+/* Makes an agent with this number, below 256, in an empty slot, at any time. A storage has one
+ * agent of each number: also one that was freed keeps its number, as its moves may be in the
+ * journal. ASM_RANGE (the number), ASM_TAKEN (`agent` is full), ASM_EMPTY (`storage`), ASM_NUMBER
+ * (an agent with this number was made before), ASM_MEMORY; the first of these that holds is
+ * answered. */
 int32_t asm_agent(asm_slot *storage, uint32_t number, asm_slot *agent);
 
-/* Makes an agent in each of at most 256 empty slots, with the numbers from 0 up.
- * ASM_RANGE (the count), ASM_TAKEN (one of the slots), ASM_EMPTY (`storage`), ASM_MEMORY. */
+/* Makes an agent in each of at most 256 empty slots, with the numbers from 0 up. ASM_RANGE (the
+ * count), ASM_TAKEN (one of the slots), ASM_EMPTY (`storage`), ASM_NUMBER (an agent with one of
+ * the numbers was made before), ASM_MEMORY; the first of these that holds is answered. */
 int32_t asm_agents(asm_slot *storage, asm_slot *agents, size_t count);
 
 /* Reads the locations [LOC, ..], at most 256. The answer is the text {"number":N,"values":[VALUE,
@@ -191,14 +194,20 @@ uint32_t asm_seen(asm_slot *agent);
 uint32_t asm_won(asm_slot *agent);
 uint64_t asm_misses(asm_slot *agent);
 
+/* How many moves were fired on the storage: `*moves` is that number. It looks along all of them,
+ * and agents may fire more meanwhile. ASM_EMPTY. */
+int32_t asm_moves(asm_slot *storage, uint32_t *moves);
+
 /* Gives an agent back to its storage, in any order; its slot is then empty, and the journal of an
- * earlier asm_close is discarded.
- * ASM_EMPTY (one of the slots), ASM_OTHER, ASM_NUMBER, ASM_MEMORY. */
+ * earlier asm_close is discarded. ASM_EMPTY (one of the slots), ASM_OTHER, ASM_MEMORY, and
+ * ASM_NUMBER for an agent of another storage, if it isn't told as such: of one storage no two
+ * agents have the same number. */
 int32_t asm_give(asm_slot *storage, asm_slot *agent);
 
-/* Makes the journal of the agents that were given back. ASM_MISSING: the move `*number` has no
- * receipt among them; give back the agent that fired it, and close again. Else `*number` is 0.
- * ASM_EMPTY, ASM_LARGE, ASM_MEMORY. */
+/* Makes the journal of the agents that were given back, if they have a receipt of every move that
+ * was fired before this call. ASM_MISSING: the move `*number`, the least such, has none among
+ * them; give back the agent that fired it, and close again. The moves of an agent that was freed
+ * are missing for good. Else `*number` is 0. ASM_EMPTY, ASM_LARGE, ASM_MEMORY. */
 int32_t asm_close(asm_slot *storage, uint32_t *number);
 
 /* Writes the journal that asm_close made. ASM_EMPTY, ASM_NONE, ASM_SMALL. */
@@ -219,6 +228,23 @@ int32_t asm_check(const uint8_t *journal, size_t len, uint64_t *calls, uint32_t 
  * else 0. ASM_VERSION, ASM_CUT, ASM_SMALL, ASM_MEMORY. */
 int32_t asm_replay(const uint8_t *journal, size_t len, uint8_t *out, size_t room, size_t *written,
                    uint64_t *line);
+
+/* The forms that asm_explain knows, by the calls that take them. */
+enum asm_form {
+    ASM_FORM_LOCATIONS = 0, /* [LOC, ..], of asm_read */
+    ASM_FORM_MOVE = 1,      /* {"fire":[INSTR, ..],"reads":[NAMED, ..]}, of asm_try_fire */
+    ASM_FORM_STATE = 2,     /* [PAIR, ..], of asm_open */
+    ASM_FORM_EVENT = 3      /* {"agent":N,"call":..,"reply":..}, a journal's line but the first */
+};
+
+/* Writes a sentence that says where and why a text is refused as ASM_NOT_JSON or ASM_SHAPE, such
+ * as "instruction 3: a set can't hold a set", "4,097 instructions, at most 4,096" or "not JSON at
+ * byte 17"; the parts and the bytes of a text are counted from 1. The text is empty, with
+ * `*written` 0, exactly where the form's readers accept what they are passed: nothing is said of
+ * what makes ASM_MANY, nor of an event that doesn't fit the journal's first line. The sentences
+ * may change with the version. ASM_RANGE (the form), ASM_SMALL, ASM_MEMORY. */
+int32_t asm_explain(int32_t form, const uint8_t *text, size_t len, uint8_t *out, size_t room,
+                    size_t *written);
 
 #ifdef __cplusplus
 }

@@ -1,4 +1,5 @@
-/* A fire that loses 64 offers: while it is judged, which takes long, agents on two other threads fire. */
+/* A fire that loses 64 offers: while it is judged, which takes long, agents on two other threads fire.
+ * Then all agents are given back and closed, or all slots released with what they hold. */
 #include "folugben.h"
 
 #include <inttypes.h>
@@ -67,6 +68,7 @@ static void lose_64_offers(void) {
     pthread_t threads[OTHERS];
     char *call = long_call();
     int tries = 0;
+    is_over = false;
     for (int i = 0; i < OTHERS; i++)
         REQUIRE(!pthread_create(&threads[i], NULL, fire_short, &agents[i + 1]));
     while (!is_busy(&agents[0], call))
@@ -96,12 +98,25 @@ static void close_all(void) {
     asm_free(&storage);
 }
 
+/* Of moves that were fired, and of one that was offered in vain, nothing is left. */
+static void release_all(void) {
+    uint32_t number, moves;
+    REQUIRE(asm_moves(&storage, &moves) == ASM_DONE && moves >= asm_seen(&agents[0]));
+    asm_free(&agents[0]);
+    REQUIRE(asm_close(&storage, &number) == ASM_MISSING && number == 1);
+    asm_free(&storage);
+    for (int i = 1; i <= OTHERS; i++)
+        asm_free(&agents[i]);
+}
+
 int main(void) {
     const char *init = "[[[\"x\"],0]]";
-    REQUIRE(asm_open(bytes(init), strlen(init), CAPACITY, &storage) == ASM_DONE);
-    REQUIRE(asm_agents(&storage, agents, OTHERS + 1) == ASM_DONE);
-    lose_64_offers();
-    close_all();
+    for (int i = 0; i < 2; i++) {
+        REQUIRE(asm_open(bytes(init), strlen(init), CAPACITY, &storage) == ASM_DONE);
+        REQUIRE(asm_agents(&storage, agents, OTHERS + 1) == ASM_DONE);
+        lose_64_offers();
+        i ? release_all() : close_all();
+    }
     puts("passed");
     return 0;
 }

@@ -10,16 +10,24 @@
 #include <stdlib.h>
 #include <string.h>
 
-enum { SLOTS = 12, STORAGES = 4096, NUMBERS = 6, ROOM = 4096 };
+enum { SLOTS = 12, STORAGES = 4096, NUMBERS = 12, MOVES = 8, ROOM = 4096 };
 
 #define REQUIRE(holds) require((holds), #holds, __LINE__)
 
-/* What a slot has to hold: nothing, a storage, or an agent with its number; of which storage. */
+/* What a slot has to hold: nothing, a storage, or an agent with its number and a bit for each move
+ * that it fired; of which storage. */
 typedef struct account {
     enum { NOTHING, STORAGE, AGENT } kind;
-    unsigned storage, number;
+    unsigned storage, number, fired;
     bool is_answered;
 } account;
+
+/* Of a storage: which agents were made, how many moves were fired, a bit for each of these of which an
+ * agent that was given back has the receipt, and whether there is a journal. */
+typedef struct story {
+    bool made[NUMBERS], is_closed;
+    unsigned moves, told;
+} story;
 
 /* A text, and the codes that it gets as a state, as locations and as a move. */
 typedef struct text {
@@ -43,7 +51,7 @@ static const text texts[] = {
 
 static asm_slot slots[SLOTS];
 static account accounts[SLOTS];
-static bool given[STORAGES][NUMBERS], is_closed[STORAGES];
+static story stories[STORAGES];
 static unsigned opened, last_seed;
 static unsigned long call_number;
 
@@ -73,7 +81,7 @@ static void is_now(unsigned at, account now) { accounts[at] = now; }
 
 static void opens(unsigned at) {
     const text *t = any_text();
-    uint32_t capacity = below(4) ? 1 + below(8) : below(2) * 1048577;
+    uint32_t capacity = below(4) ? 1 + below(MOVES) : below(2) * 1048577;
     int32_t wanted = accounts[at].kind                     ? ASM_TAKEN
                      : t->state                            ? t->state
                      : capacity == 0 || capacity > 1048576 ? ASM_RANGE
@@ -82,7 +90,20 @@ static void opens(unsigned at) {
         return;
     REQUIRE(asm_open(bytes(t), strlen(t->bytes), capacity, &slots[at]) == wanted);
     if (wanted == ASM_DONE)
-        is_now(at, (account){STORAGE, opened++, 0, false});
+        is_now(at, (account){STORAGE, opened++, 0, 0, false});
+}
+
+/* ASM_NUMBER where an agent with one of so many numbers from this one up was made. */
+static int32_t was_made(unsigned storage, unsigned number, unsigned count) {
+    for (unsigned i = number; i < number + count; i++)
+        if (stories[storage].made[i])
+            return ASM_NUMBER;
+    return ASM_DONE;
+}
+
+static void agent_is_made(unsigned at, unsigned storage, unsigned number) {
+    stories[storage].made[number] = true;
+    is_now(at, (account){AGENT, storage, number, 0, false});
 }
 
 static void makes_agent(unsigned of, unsigned at) {
@@ -90,10 +111,10 @@ static void makes_agent(unsigned of, unsigned at) {
     int32_t wanted = number >= 256                  ? ASM_RANGE
                      : accounts[at].kind            ? ASM_TAKEN
                      : accounts[of].kind != STORAGE ? ASM_EMPTY
-                                                    : ASM_DONE;
+                                                    : was_made(accounts[of].storage, number, 1);
     REQUIRE(asm_agent(&slots[of], number, &slots[at]) == wanted);
     if (wanted == ASM_DONE)
-        is_now(at, (account){AGENT, accounts[of].storage, number, false});
+        agent_is_made(at, accounts[of].storage, number);
 }
 
 static void makes_agents(unsigned of, unsigned at) {
@@ -103,10 +124,12 @@ static void makes_agents(unsigned of, unsigned at) {
         return;
     for (unsigned i = 0; i < count; i++)
         is_any_full |= accounts[at + i].kind != NOTHING;
-    int32_t wanted = is_any_full ? ASM_TAKEN : accounts[of].kind != STORAGE ? ASM_EMPTY : ASM_DONE;
+    int32_t wanted = is_any_full                    ? ASM_TAKEN
+                     : accounts[of].kind != STORAGE ? ASM_EMPTY
+                                                    : was_made(accounts[of].storage, 0, count);
     REQUIRE(asm_agents(&slots[of], count ? &slots[at] : NULL, count) == wanted);
     for (unsigned i = 0; wanted == ASM_DONE && i < count; i++)
-        is_now(at + i, (account){AGENT, accounts[of].storage, i, false});
+        agent_is_made(at + i, accounts[of].storage, i);
 }
 
 static void reads(unsigned at) {
@@ -125,7 +148,11 @@ static void fires(unsigned at) {
         REQUIRE(is_answer);
     else
         REQUIRE(code == (accounts[at].kind != AGENT ? ASM_EMPTY : t->move));
-    REQUIRE((numbers.fired > 0) == (code == ASM_DONE) && numbers.from == 0 && numbers.to == 0);
+    story *s = &stories[accounts[at].storage];
+    REQUIRE(numbers.fired == (code == ASM_DONE ? s->moves + 1 : 0));
+    REQUIRE(numbers.from == 0 && numbers.to == 0);
+    if (code == ASM_DONE)
+        accounts[at].fired |= 1u << s->moves++;
     accounts[at].is_answered |= is_answer;
 }
 
@@ -160,24 +187,50 @@ static void gives(unsigned to, unsigned at) {
     const account a = accounts[at], s = accounts[to];
     int32_t wanted = s.kind != STORAGE || a.kind != AGENT ? ASM_EMPTY
                      : s.storage != a.storage             ? ASM_OTHER
-                     : given[a.storage][a.number]         ? ASM_NUMBER
                                                           : ASM_DONE;
     REQUIRE(asm_give(&slots[to], &slots[at]) == wanted);
     if (wanted == ASM_DONE) {
-        given[a.storage][a.number] = true;
-        is_closed[a.storage] = false;
-        is_now(at, (account){NOTHING, 0, 0, false});
+        stories[a.storage].told |= a.fired;
+        stories[a.storage].is_closed = false;
+        is_now(at, (account){NOTHING, 0, 0, 0, false});
     }
 }
 
 static void closes(unsigned at) {
-    uint32_t number = 9;
-    int32_t code = asm_close(&slots[at], &number);
-    if (accounts[at].kind != STORAGE)
-        REQUIRE(code == ASM_EMPTY && number == 0);
-    else
-        REQUIRE((code == ASM_DONE && number == 0) || (code == ASM_MISSING && number > 0));
-    is_closed[accounts[at].storage] |= code == ASM_DONE;
+    story *s = &stories[accounts[at].storage];
+    uint32_t number = 9, missing = 0;
+    for (unsigned i = s->moves; i > 0; i--)
+        if (!(s->told >> (i - 1) & 1))
+            missing = i;
+    int32_t wanted = accounts[at].kind != STORAGE ? ASM_EMPTY : missing ? ASM_MISSING : ASM_DONE;
+    REQUIRE(asm_close(&slots[at], &number) == wanted);
+    REQUIRE(number == (wanted == ASM_MISSING ? missing : 0));
+    s->is_closed |= wanted == ASM_DONE;
+}
+
+static void counts_moves(unsigned at) {
+    uint32_t moves = 9;
+    bool is_storage = accounts[at].kind == STORAGE;
+    REQUIRE(asm_moves(&slots[at], &moves) == (is_storage ? ASM_DONE : ASM_EMPTY));
+    REQUIRE(moves == (is_storage ? stories[accounts[at].storage].moves : 0));
+}
+
+/* What is said of a text is nothing exactly where its form is accepted. */
+static void explains(void) {
+    const text *t = any_text();
+    uint8_t out[ROOM];
+    size_t written = 9, room = below(2) ? sizeof out : 0;
+    int32_t form = (int32_t)below(6) - 1;
+    int32_t found = form == ASM_FORM_LOCATIONS ? t->locations
+                    : form == ASM_FORM_MOVE    ? t->move
+                    : form == ASM_FORM_STATE   ? t->state
+                                               : ASM_SHAPE;
+    int32_t wanted = form < 0 || form > ASM_FORM_EVENT ? ASM_RANGE
+                     : found == ASM_DONE || room       ? ASM_DONE
+                                                       : ASM_SMALL;
+    REQUIRE(asm_explain(form, bytes(t), strlen(t->bytes), room ? out : NULL, room, &written) ==
+            wanted);
+    REQUIRE((written > 0) == (wanted != ASM_RANGE && found != ASM_DONE));
 }
 
 /* Checks and replays a journal that is cut off, or has one bit that is another. */
@@ -200,7 +253,7 @@ static void judges(uint8_t *journal, size_t len) {
 static void writes(unsigned at) {
     uint8_t journal[ROOM];
     size_t written = 9, room = below(4) ? sizeof journal : 0;
-    bool is_there = is_closed[accounts[at].storage];
+    bool is_there = stories[accounts[at].storage].is_closed;
     int32_t wanted = accounts[at].kind != STORAGE ? ASM_EMPTY : is_there ? ASM_DONE : ASM_NONE;
     int32_t code = asm_journal(&slots[at], room ? journal : NULL, room, &written);
     REQUIRE(code == wanted || (wanted == ASM_DONE && code == ASM_SMALL && written > room));
@@ -212,7 +265,7 @@ static void writes(unsigned at) {
 static void frees(unsigned at) {
     asm_free(&slots[at]);
     REQUIRE(slots[at].at == NULL);
-    is_now(at, (account){NOTHING, 0, 0, false});
+    is_now(at, (account){NOTHING, 0, 0, 0, false});
 }
 
 /* One call on any slots, the same one for two of them at times. */
@@ -244,6 +297,8 @@ static void calls_any(void) {
         break;
     case 9:
         counts(at);
+        counts_moves(at);
+        explains();
         break;
     case 10:
         gives(other, at);

@@ -69,6 +69,7 @@ static void play(asm_slot *storage, asm_slot *agents) {
 int main(int argc, char **argv) {
     static uint8_t journal[ROOM], state[ROOM];
     const char *init = "[[[\"x\"],7],[[\"s\"],{\"set\":[1,\"two\"]}]]";
+    const char *said = "location 1: a location is an array of a name and at most 8 arguments";
     const char *left = "[[[\"s\"],{\"set\":[1,3,\"two\"]}],[[\"x\"],8]]";
     asm_slot storage = {0}, agents[3] = {{0}, {0}, {0}};
     size_t len, written;
@@ -77,12 +78,16 @@ int main(int argc, char **argv) {
     REQUIRE((AGAIN(asm_open(bytes(init), strlen(init), 8, &storage))) == ASM_DONE);
     REQUIRE((AGAIN(asm_agents(&storage, agents, 3))) == ASM_DONE);
     play(&storage, agents);
+    REQUIRE((AGAIN(asm_moves(&storage, &number))) == ASM_DONE && number == 1);
     REQUIRE((AGAIN(asm_close(&storage, &number))) == ASM_DONE && number == 0);
     REQUIRE((AGAIN(asm_journal(&storage, journal, sizeof journal, &len))) == ASM_DONE);
     REQUIRE((AGAIN(asm_check(journal, len, &calls, &number))) == ASM_DONE && calls == 4 &&
             number == 1);
     REQUIRE((AGAIN(asm_replay(journal, len, state, sizeof state, &written, &line))) == ASM_DONE);
     REQUIRE(written == strlen(left) && !memcmp(state, left, written));
+    REQUIRE((AGAIN(asm_explain(ASM_FORM_LOCATIONS, bytes(init), strlen(init), state, sizeof state,
+                               &written))) == ASM_DONE);
+    REQUIRE(written == strlen(said) && !memcmp(state, said, written));
     asm_free(&storage);
     REQUIRE(fwrite(journal, 1, len, stdout) == len && !fflush(stdout));
     if (argc > 1)

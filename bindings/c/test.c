@@ -57,6 +57,7 @@ static void on_nothing(asm_slot *storage, asm_slot *agent) {
     REQUIRE(asm_learn(agent, agent) == ASM_EMPTY);
     REQUIRE(asm_seen(agent) == 0 && asm_won(agent) == 0 && asm_misses(agent) == 0);
     REQUIRE(asm_give(storage, agent) == ASM_EMPTY && asm_give(storage, storage) == ASM_EMPTY);
+    REQUIRE(asm_moves(storage, &number) == ASM_EMPTY && number == 0);
     REQUIRE(asm_close(storage, &number) == ASM_EMPTY && number == 0);
     REQUIRE(asm_journal(storage, out, sizeof out, &written) == ASM_EMPTY && written == 0);
     REQUIRE(storage->full == full.full && storage->at == full.at && agent->full == was.full &&
@@ -81,17 +82,60 @@ static void empty_slots(void) {
 }
 
 static void full_slots(void) {
-    asm_slot storage = {0}, agent = {0}, many[257] = {{0}};
+    asm_slot storage = {0}, many[257] = {{0}};
     REQUIRE(open_with("[]", 4, &storage) == ASM_DONE && open_with("[]", 4, &storage) == ASM_TAKEN);
     REQUIRE(open_with("[", 0, &storage) == ASM_TAKEN);
-    REQUIRE(asm_agent(&storage, 0, &agent) == ASM_DONE &&
-            asm_agent(&storage, 1, &agent) == ASM_TAKEN);
     REQUIRE(asm_agents(&storage, many, 257) == ASM_RANGE && !many[0].full);
     REQUIRE(asm_agents(&storage, many, 256) == ASM_DONE && many[255].full && !many[256].full);
+    REQUIRE(asm_agent(&storage, 0, &many[0]) == ASM_TAKEN);
     REQUIRE(asm_agents(&storage, many + 255, 2) == ASM_TAKEN && !many[256].full);
     for (size_t i = 0; i < 256; i++)
         asm_free(&many[i]);
-    asm_free(&agent);
+    asm_free(&storage);
+}
+
+/* A number is handed out once, also where its agent is freed or given back, and one that a refused
+ * call asked for stays free. */
+static void numbers(void) {
+    asm_slot storage = {0}, other = {0}, a[3] = {{0}, {0}, {0}};
+    REQUIRE(open_with("[]", 4, &storage) == ASM_DONE && open_with("[]", 4, &other) == ASM_DONE);
+    REQUIRE(asm_agent(&storage, 1, &a[0]) == ASM_DONE);
+    REQUIRE(asm_agent(&storage, 1, &a[1]) == ASM_NUMBER && !a[1].full);
+    REQUIRE(asm_agents(&storage, &a[1], 2) == ASM_NUMBER && !a[1].full && !a[2].full);
+    REQUIRE(asm_agent(&storage, 1, &a[0]) == ASM_TAKEN && asm_agent(&a[0], 1, &a[1]) == ASM_EMPTY);
+    asm_free(&a[0]);
+    REQUIRE(asm_agent(&storage, 1, &a[0]) == ASM_NUMBER);
+    REQUIRE(asm_agents(&storage, a, 1) == ASM_DONE && asm_give(&storage, &a[0]) == ASM_DONE);
+    REQUIRE(asm_agent(&storage, 0, &a[0]) == ASM_NUMBER &&
+            asm_agents(&storage, a, 1) == ASM_NUMBER);
+    REQUIRE(asm_agents(&storage, NULL, 0) == ASM_DONE);
+    REQUIRE(asm_agent(&storage, 255, &a[0]) == ASM_DONE && asm_agents(&other, &a[1], 2) == ASM_DONE);
+    asm_free(&storage);
+    asm_free(&other);
+    for (size_t i = 0; i < 3; i++)
+        asm_free(&a[i]);
+}
+
+/* The moves of an agent that is freed are missing, whether another agent has seen them or none. */
+static void lost_agents(void) {
+    const char *move = "{\"fire\":[],\"reads\":[]}";
+    asm_slot storage = {0}, a[3] = {{0}, {0}, {0}};
+    uint32_t number = 9;
+    REQUIRE(open_with("[]", 4, &storage) == ASM_DONE && asm_agents(&storage, a, 3) == ASM_DONE);
+    REQUIRE(asm_moves(&storage, &number) == ASM_DONE && number == 0);
+    REQUIRE(fire_of(&a[0], move) == ASM_DONE && fire_of(&a[1], move) == ASM_DONE);
+    asm_free(&a[1]);
+    REQUIRE(asm_moves(&storage, &number) == ASM_DONE && number == 2);
+    REQUIRE(asm_close(&storage, &number) == ASM_MISSING && number == 1);
+    REQUIRE(asm_give(&storage, &a[2]) == ASM_DONE);
+    REQUIRE(asm_close(&storage, &number) == ASM_MISSING && number == 1);
+    REQUIRE(asm_give(&storage, &a[0]) == ASM_DONE);
+    REQUIRE(asm_close(&storage, &number) == ASM_MISSING && number == 2);
+    REQUIRE(asm_agent(&storage, 3, &a[2]) == ASM_DONE && fire_of(&a[2], move) == ASM_DONE);
+    REQUIRE(asm_give(&storage, &a[2]) == ASM_DONE);
+    REQUIRE(asm_close(&storage, &number) == ASM_MISSING && number == 2);
+    REQUIRE(asm_moves(&storage, &number) == ASM_DONE && number == 3);
+    REQUIRE(asm_moves(&a[0], &number) == ASM_EMPTY && number == 0);
     asm_free(&storage);
 }
 
@@ -115,6 +159,7 @@ static void no_bytes(void) {
     REQUIRE(asm_check(NULL, 0, &calls, &number) == ASM_CUT);
     REQUIRE(asm_replay(NULL, 0, NULL, 0, &written, &line) == ASM_CUT && written == 0 && line == 0);
     REQUIRE(asm_error_text(0, NULL, 0, &written) == ASM_SMALL && written == 4);
+    REQUIRE(asm_explain(ASM_FORM_STATE, NULL, 0, NULL, 0, &written) == ASM_SMALL && written > 0);
     asm_free(&storage);
 }
 
@@ -235,15 +280,15 @@ static void two_storages(void) {
     }
     REQUIRE(asm_learn(&a[0], &a[1]) == ASM_OTHER && asm_give(&s[0], &a[1]) == ASM_OTHER &&
             a[1].full);
-    REQUIRE(asm_close(&s[0], &number) == ASM_DONE && asm_give(&s[1], &a[1]) == ASM_DONE &&
-            !a[1].full);
+    REQUIRE(asm_close(&s[0], &number) == ASM_MISSING && number == 1);
+    REQUIRE(asm_give(&s[1], &a[1]) == ASM_DONE && !a[1].full);
     REQUIRE(asm_close(&s[1], &number) == ASM_DONE && asm_give(&s[0], &a[0]) == ASM_DONE);
     asm_free(&s[0]);
     asm_free(&s[1]);
 }
 
 static void ends(void) {
-    asm_slot storage = {0}, a[3] = {{0}, {0}, {0}}, again = {0};
+    asm_slot storage = {0}, a[3] = {{0}, {0}, {0}};
     static uint8_t text[ROOM], state[ROOM];
     size_t len, written;
     uint64_t calls, line;
@@ -254,8 +299,6 @@ static void ends(void) {
             read_of(&a[2], "[[\"x\"]]") == ASM_DONE);
     REQUIRE(asm_give(&storage, &a[2]) == ASM_DONE && asm_close(&storage, &number) == ASM_MISSING &&
             number == 1);
-    REQUIRE(asm_agent(&storage, 2, &again) == ASM_DONE &&
-            asm_give(&storage, &again) == ASM_NUMBER && again.full);
     REQUIRE(asm_give(&storage, &a[0]) == ASM_DONE && asm_give(&storage, &a[1]) == ASM_DONE);
     REQUIRE(asm_close(&storage, &number) == ASM_DONE && number == 0);
     REQUIRE(asm_journal(&storage, text, ROOM, &len) == ASM_DONE &&
@@ -280,7 +323,43 @@ static void ends(void) {
     REQUIRE(asm_journal(&storage, text, ROOM, &written) == ASM_NONE &&
             asm_close(&storage, &number) == ASM_DONE);
     asm_free(&storage);
-    asm_free(&again);
+}
+
+/* What is said of a text; nothing where it is accepted. One byte of room less is too little. */
+static void explains(int32_t form, const char *text, const char *said) {
+    uint8_t out[128];
+    size_t written = 9, len = strlen(said);
+    REQUIRE(asm_explain(form, bytes(text), strlen(text), out, len, &written) == ASM_DONE);
+    REQUIRE(written == len && !memcmp(out, said, len));
+    REQUIRE(len == 0 || (asm_explain(form, bytes(text), strlen(text), out, len - 1, &written) ==
+                             ASM_SMALL &&
+                         written == len));
+}
+
+static void sentences(void) {
+    static char text[2 * ROOM];
+    uint8_t out[8];
+    size_t written = 9;
+    explains(ASM_FORM_LOCATIONS, "[[\"x\"],[\"y\",1]]", "");
+    explains(ASM_FORM_MOVE, "{\"fire\":[[\"inc\",[\"x\"],1]],\"reads\":[[[\"x\"],0]]}", "");
+    explains(ASM_FORM_STATE, "[[[\"x\"],7]]", "");
+    explains(ASM_FORM_EVENT, "{\"agent\":0,\"call\":{\"read\":[]},\"reply\":\"full\"}", "");
+    explains(ASM_FORM_LOCATIONS, "[[\"x\"],\n[nul]]", "not JSON at byte 10");
+    explains(ASM_FORM_LOCATIONS, "[[\"1\"]]",
+             "location 1: a name has 1 to 64 letters, digits and _, and begins with no digit");
+    explains(ASM_FORM_MOVE,
+             "{\"fire\":[[\"add\",[\"s\"],1],[\"inc\",[\"x\"],1],[\"put\",[\"s\"],"
+             "{\"set\":[{\"set\":[]}]}]],\"reads\":[]}",
+             "instruction 3: a set can't hold a set");
+    explains(ASM_FORM_STATE, "[[[\"x\"],1],[[\"x\"],2]]", "a location stands twice");
+    char *at = text + sprintf(text, "{\"fire\":[");
+    for (int i = 0; i < 4097; i++)
+        at += sprintf(at, "%s[\"put\",[\"x\"],1]", i ? "," : "");
+    sprintf(at, "],\"reads\":[]}");
+    explains(ASM_FORM_MOVE, text, "4,097 instructions, at most 4,096");
+    for (int32_t form = -1; form <= 4; form += 5)
+        REQUIRE(asm_explain(form, bytes("[]"), 2, out, sizeof out, &written) == ASM_RANGE &&
+                written == 0);
 }
 
 static void texts_of_codes(void) {
@@ -297,6 +376,8 @@ static void texts_of_codes(void) {
 int main(void) {
     empty_slots();
     full_slots();
+    numbers();
+    lost_agents();
     no_bytes();
     garbage();
     fires();
@@ -304,6 +385,7 @@ int main(void) {
     many_instructions();
     two_storages();
     ends();
+    sentences();
     texts_of_codes();
     puts("passed");
     return 0;

@@ -91,16 +91,39 @@ class Agents(unittest.TestCase):
         self.assertEqual(check(self.storage.close_journal()), (2, 1))
 
     def test_a_with_whose_agent_cannot_be_given_back(self):
-        self.storage.agent(0).give()
         agent = self.storage.agent(0)
+        self.storage.free()
         with self.assertRaises(Error) as caught, agent:
             raise KeyError
-        self.assertEqual(caught.exception.code, folugben.NUMBER)
+        self.assertEqual(caught.exception.code, folugben.EMPTY)
         self.assertIsInstance(caught.exception.__context__, KeyError)
         self.assertEqual(agent.read(COUNT), (0, [0]))
         agent.free()
         with agent:
             pass
+
+    def test_a_number_is_made_once(self):
+        self.storage.agent(0).give()
+        self.storage.agent(1).free()
+        for number in (0, 1):
+            self.assertEqual(self.code_of(self.storage.agent, number), folugben.NUMBER)
+        self.assertEqual(self.storage.agent(2).read(COUNT), (0, [0]))
+
+    def test_the_moves_of_an_agent_that_was_freed_are_missing(self):
+        first, lost = self.storage.agent(0), self.storage.agent(1)
+        self.assertEqual(self.storage.moves(), 0)
+        first.fire([])
+        lost.fire([])
+        lost.free()
+        self.assertEqual(self.storage.moves(), 2)
+        for wanted in (1, 2):
+            with self.assertRaises(Missing) as caught:
+                self.storage.close_journal()
+            self.assertEqual(caught.exception.numbers, (wanted,))
+            if first._slot.full:
+                first.give()
+        self.storage.free()
+        self.assertEqual(self.code_of(self.storage.moves), folugben.EMPTY)
 
     def test_no_copy_shares_a_slot(self):
         agent = self.storage.agent(0)
@@ -189,17 +212,21 @@ class Agents(unittest.TestCase):
         self.assertEqual(self.code_of(agent.learn, agent), folugben.EMPTY)
         agent.give()
         self.assertEqual(self.code_of(agent.read, COUNT), folugben.EMPTY)
-        self.assertEqual(self.code_of(self.storage.agent(0).give), folugben.NUMBER)
 
     def test_journals(self):
         with self.storage.agent(0) as agent:
             agent.fire([])
         journal = self.storage.close_journal()
+        event = "an event is an object with the members agent, call and reply"
+        instruction = "instruction 1: an instruction is an array of a word, a location and operands"
         for text, code, numbers, behind in [
             (b"", folugben.CUT, (), ""),
             (b"{\n", folugben.NOT_JSON, (1,), " (line 1)"),
             (b"{}\n", folugben.SHAPE, (1,), " (line 1)"),
-            (journal + b"7\n", folugben.SHAPE, (3,), " (line 3)"),
+            (journal + b"7\n", folugben.SHAPE, (3,), f": {event} (line 3)"),
+            (journal + journal.split(b"\n")[1] + b"\n", folugben.SHAPE, (3,), " (line 3)"),
+            (journal.replace(b'"agent"', b'"Agent"'), folugben.SHAPE, (2,), f": {event} (line 2)"),
+            (journal.replace(b'"fire":[]', b'"fire":[7]'), folugben.SHAPE, (2,), f": {instruction} (line 2)"),
             (journal[:-1], folugben.CUT, (), ""),
             (journal.replace(b'"version":2', b'"version":3'), folugben.VERSION, (), ""),
             (journal.replace(b'"fired":1', b'"fired":2'), folugben.ILLEGAL, (0,), " (call 0, counted from 0)"),
@@ -216,6 +243,29 @@ class Agents(unittest.TestCase):
         self.assertEqual(str(busy), told)
         self.assertEqual(str(pickle.loads(pickle.dumps(busy))), told)
         self.assertEqual(str(Error(folugben.NOT_JSON)), "not JSON")
+
+    def test_a_refused_text_says_where(self):
+        agent = self.storage.agent(0)
+        nested = [["add", ["s"], 1], ["inc", ["x"], 2], ["put", ["s"], {"set": [{"set": []}]}]]
+        shape = "JSON of another shape: "
+        for said, call, *arguments in [
+            (shape + "pair 1: a pair is an array of a location and its value", Storage, [1]),
+            ("not JSON at byte 9", Storage, [[["x"], float("nan")]]),
+            (shape + "location 2: a location can't hold a bag", agent.read, [["x"], ["y", {"bag": []}]]),
+            (shape + "instruction 3: a set can't hold a set", agent.fire, nested),
+            (shape + "4,097 instructions, at most 4,096", agent.fire, [["put", ["x"], 1]] * 4097),
+            (shape + "read 2: a read is an array of a location and a number", agent.fire, [], [[["x"], 0], ["x"]]),
+        ]:
+            with self.assertRaises(Error) as caught:
+                call(*arguments)
+            self.assertEqual(str(caught.exception), said)
+            self.assertEqual(str(pickle.loads(pickle.dumps(caught.exception))), said)
+
+    def test_texts_are_explained(self):
+        self.assertEqual(folugben.explain(folugben.LOCATIONS, b'[["x"]]'), "")
+        self.assertEqual(folugben.explain(folugben.MOVE, b'[["x"]'), "not JSON: cut off after byte 6")
+        for form in (-1, 4, 2**32):
+            self.assertEqual(self.code_of(folugben.explain, form, b"[]"), folugben.RANGE)
 
     def test_texts_of_codes(self):
         texts = [folugben.error_text(code) for code in range(22)]

@@ -41,7 +41,8 @@ public final class Agent implements AutoCloseable {
     public String read(String locations) {
         byte[] call = Texts.utf8(locations, "locations");
         synchronized (slot) {
-            FolugbenException.expect(Calls.asm_read(slot, call, call.length));
+            FolugbenException.expectRead(
+                    Calls.asm_read(slot, call, call.length), Storage.Form.LOCATIONS, call);
             return answer();
         }
     }
@@ -61,7 +62,7 @@ public final class Agent implements AutoCloseable {
             switch (code) {
                 case FolugbenException.STALE, FolugbenException.CLASH -> answer = answer();
                 case FolugbenException.FULL, FolugbenException.BUSY -> {}
-                default -> FolugbenException.expect(code);
+                default -> FolugbenException.expectRead(code, Storage.Form.MOVE, call);
             }
             return new Reply(code, numbers[0], numbers[1], numbers[2], answer);
         }
@@ -117,7 +118,7 @@ public final class Agent implements AutoCloseable {
 
     /**
      * Releases the agent <b>without</b> giving it back: call {@link #give} first, or {@link
-     * Storage#closeJournal} throws MISSING if another agent saw a move it fired.
+     * Storage#closeJournal} throws MISSING if it fired a move.
      */
     @Override
     public void close() {

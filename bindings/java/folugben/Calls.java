@@ -48,6 +48,8 @@ final class Calls {
 
     static native long asm_misses(Pointer agent);
 
+    static native int asm_moves(Pointer storage, int[] moves);
+
     static native int asm_give(Pointer storage, Pointer agent);
 
     static native int asm_close(Pointer storage, int[] number);
@@ -60,6 +62,17 @@ final class Calls {
 
     static native int asm_replay(
             byte[] journal, long len, byte[] out, long room, long[] written, long[] line);
+
+    static native int asm_explain(
+            int form, byte[] text, long len, byte[] out, long room, long[] written);
+
+    /** What asm_explain says of a text. */
+    static String explain(Storage.Form form, byte[] bytes) {
+        return text((out, room, written)
+                            -> asm_explain(
+                                    form.ordinal(), bytes, bytes.length, out, room, written),
+                ROOM);
+    }
 
     static void expectVersion(int version) {
         if (version != WRITTEN_FOR)
@@ -83,7 +96,7 @@ final class Calls {
      * The text that a call writes, into a buffer with so much room, or a larger one if that is too
      * small.
      */
-    static String text(Writer call, int room, long... numbers) {
+    static String text(Writer call, int room) {
         byte[] out = new byte[room];
         long[] written = new long[1];
         int code = call.write(out, out.length, written);
@@ -93,7 +106,7 @@ final class Calls {
             out = new byte[(int) written[0]];
             code = call.write(out, out.length, written);
         }
-        FolugbenException.expect(code, numbers);
+        FolugbenException.expect(code);
         return new String(out, 0, (int) written[0], StandardCharsets.UTF_8);
     }
 }

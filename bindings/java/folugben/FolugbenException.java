@@ -29,10 +29,17 @@ public final class FolugbenException extends RuntimeException {
     private final int code;
     private final long number;
 
-    private FolugbenException(int code, long number, String where) {
-        super(where.isEmpty() ? errorText(code) : errorText(code) + " (" + where + ")");
+    private FolugbenException(int code, long number, String said, String where) {
+        super(message(code, said) + (where.isEmpty() ? "" : " (" + where + ")"));
         this.code = code;
         this.number = number;
+    }
+
+    /** What the code means, with what is said of the text that is refused. */
+    private static String message(int code, String said) {
+        if (said.isEmpty())
+            return errorText(code);
+        return code == NOT_JSON ? said : errorText(code) + ": " + said;
     }
 
     /** One of the codes above. */
@@ -72,18 +79,34 @@ public final class FolugbenException extends RuntimeException {
     }
 
     static void expect(int code, long... numbers) {
+        expect(code, "", numbers);
+    }
+
+    private static void expect(int code, String said, long... numbers) {
         if (code == MEMORY)
             throw new OutOfMemoryError(errorText(code));
         if (code == DONE)
             return;
         String name = numbers.length > 0 ? numberName(code) : null;
         if (name == null)
-            throw new FolugbenException(code, 0, "");
-        throw new FolugbenException(code, numbers[0], name + " " + numbers[0]);
+            throw new FolugbenException(code, 0, said, "");
+        throw new FolugbenException(code, numbers[0], said, name + " " + numbers[0]);
+    }
+
+    /** What is expected of the code of a call that was passed a text of this form. */
+    static void expectRead(int code, Storage.Form form, byte[] text) {
+        expect(code, code == NOT_JSON || code == SHAPE ? Calls.explain(form, text) : "");
+    }
+
+    /** What is expected of the code of a call on a journal, with the number of a call or a line. */
+    static void expectJournal(int code, byte[] journal, long number) {
+        boolean isLine = (code == NOT_JSON || code == SHAPE) && number > 1;
+        String said = isLine ? Calls.explain(Storage.Form.EVENT, Texts.line(journal, number)) : "";
+        expect(code, said, number);
     }
 
     /** The exception for an argument that isn't one value of JSON. */
     static FolugbenException notJson(String argument) {
-        return new FolugbenException(NOT_JSON, 0, argument);
+        return new FolugbenException(NOT_JSON, 0, "", argument);
     }
 }

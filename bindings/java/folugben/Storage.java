@@ -17,16 +17,26 @@ public final class Storage implements AutoCloseable {
     /** A storage with the opening state [PAIR, ..], for 1 to 1,048,576 moves. */
     public Storage(String init, int capacity) {
         byte[] state = Texts.utf8(init, "init");
-        FolugbenException.expect(Calls.asm_open(state, state.length, capacity, slot));
+        FolugbenException.expectRead(
+                Calls.asm_open(state, state.length, capacity, slot), Form.STATE, state);
     }
 
-    /** An agent with this number, 0 to 255. */
+    /** An agent with this number, 0 to 255, of which none was made before. */
     public Agent agent(int number) {
         Agent agent = new Agent(this);
         synchronized (slot) {
             FolugbenException.expect(Calls.asm_agent(slot, number, agent.slot));
         }
         return agent;
+    }
+
+    /** How many moves were fired on it. */
+    public int moves() {
+        int[] moves = new int[1];
+        synchronized (slot) {
+            FolugbenException.expect(Calls.asm_moves(slot, moves));
+        }
+        return moves[0];
     }
 
     /** Takes an agent back. */
@@ -39,7 +49,10 @@ public final class Storage implements AutoCloseable {
         }
     }
 
-    /** The journal of the agents that were given back. */
+    /**
+     * The journal of the agents that were given back, which has to tell every move: where an agent
+     * that fired was closed before it was given back, MISSING is thrown for good.
+     */
     public String closeJournal() {
         int[] missing = new int[1];
         synchronized (slot) {
@@ -67,7 +80,7 @@ public final class Storage implements AutoCloseable {
         long[] calls = new long[1];
         int[] moves = new int[1];
         int code = Calls.asm_check(text, text.length, calls, moves);
-        FolugbenException.expect(code, calls[0]);
+        FolugbenException.expectJournal(code, text, calls[0]);
         return new Checked(calls[0], moves[0]);
     }
 
@@ -77,9 +90,21 @@ public final class Storage implements AutoCloseable {
         long[] line = new long[1];
         // A state is shorter than its journal, and all is replayed again where the room is too
         // small.
-        return Calls.text((out, room, written)
-                                  -> Calls.asm_replay(text, text.length, out, room, written, line),
-                text.length, line);
+        return Calls.text((out, room, written) -> {
+            int code = Calls.asm_replay(text, text.length, out, room, written, line);
+            if (code != FolugbenException.SMALL)
+                FolugbenException.expectJournal(code, text, line[0]);
+            return code;
+        }, text.length);
+    }
+
+    /** The forms of texts that explain knows: of a journal the lines behind the first are events. */
+    public enum Form { LOCATIONS, MOVE, STATE, EVENT }
+
+    /** Where and why a text isn't of a form; empty for a text that is. */
+    public static String explain(Form form, String text) {
+        return Calls.explain(
+                Objects.requireNonNull(form, "form"), Texts.utf8(text, "text"));
     }
 
     /** The version of the library: a million for each major one, a thousand for each minor one. */

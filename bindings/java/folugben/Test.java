@@ -66,32 +66,59 @@ public final class Test {
         agent.fire("[]", "[]");
         agent.give();
         refused(FolugbenException.EMPTY, () -> agent.read("[]"));
-        refused(FolugbenException.NUMBER, () -> storage.agent(0).give());
+        refused(FolugbenException.NUMBER, () -> storage.agent(0));
+        storage.agent(7).close();
+        refused(FolugbenException.NUMBER, () -> storage.agent(7));
         String journal = storage.closeJournal();
         equal(Storage.check(journal), new Storage.Checked(1, 1));
         refusedAt(FolugbenException.CUT, 0, "",
                 () -> Storage.check(journal.substring(0, journal.length() - 1)));
         refusedAt(FolugbenException.ILLEGAL, 0, " (call 0)",
                 () -> Storage.check(journal.replace("\"fired\":1", "\"fired\":2")));
-        refusedAt(FolugbenException.SHAPE, 3, " (line 3)", () -> Storage.check(journal + "7\n"));
+        String event = ": an event is an object with the members agent, call and reply";
+        refusedAt(FolugbenException.SHAPE, 3, event + " (line 3)",
+                () -> Storage.check(journal + "7\n"));
+        refusedAt(FolugbenException.SHAPE, 2, event + " (line 2)",
+                () -> Storage.replay(journal.replace("\"agent\"", "\"Agent\"")));
         refusedAt(FolugbenException.NOT_JSON, 1, " (line 1)", () -> Storage.replay("{\n"));
-        refusedAt(FolugbenException.NOT_JSON, 0, "", () -> new Storage("[", 1));
+        refusedAt(FolugbenException.NOT_JSON, 0, ": cut off after byte 1", () -> new Storage("[", 1));
         storage.close();
         refused(FolugbenException.EMPTY, () -> storage.agent(1));
         other.close();
         stranger.close();
     }
 
-    /** The moves of an agent that is closed without being given back have no receipts. */
+    /** The moves of an agent that is closed without being given back are missing, seen or not. */
     static void closedAgents() {
         try (Storage storage = new Storage("[]", 8); Agent reader = storage.agent(1)) {
+            equal(storage.moves(), 0);
             try (Agent lost = storage.agent(0)) {
                 lost.fire("[]", "[]");
             }
+            equal(storage.moves(), 1);
+            refusedAt(FolugbenException.MISSING, 1, " (move 1)", storage::closeJournal);
             reader.read("[]");
             reader.give();
             refusedAt(FolugbenException.MISSING, 1, " (move 1)", storage::closeJournal);
         }
+    }
+
+    /** A refused text says where and why. */
+    static void explained() {
+        String nested = "[[\"add\",[\"s\"],1],[\"put\",[\"s\"],{\"set\":[{\"set\":[]}]}]]";
+        try (Storage storage = new Storage("[]", 8); Agent agent = storage.agent(0)) {
+            refusedAt(FolugbenException.SHAPE, 0, ": instruction 2: a set can't hold a set",
+                    () -> agent.fire(nested, "[]"));
+            refusedAt(FolugbenException.SHAPE, 0,
+                    ": location 1: a location is an array of a name and at most 8 arguments",
+                    () -> agent.read("[7]"));
+            refusedAt(FolugbenException.NOT_JSON, 0, " at byte 3", () -> agent.read("[[nul]]"));
+            refusedAt(FolugbenException.SHAPE, 0, ": a location stands twice",
+                    () -> new Storage("[[[\"x\"],1],[[\"x\"],2]]", 8));
+        }
+        equal(Storage.explain(Storage.Form.LOCATIONS, "[[\"x\"]]"), "");
+        equal(Storage.explain(Storage.Form.EVENT, "{}"),
+                "an event is an object with the members agent, call and reply");
     }
 
     static void versions() {
@@ -271,6 +298,8 @@ public final class Test {
         System.out.println("codes");
         closedAgents();
         System.out.println("closed agents");
+        explained();
+        System.out.println("explained texts");
         versions();
         System.out.println("versions");
         nulls();

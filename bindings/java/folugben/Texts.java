@@ -1,11 +1,24 @@
 package folugben;
 
 import java.nio.charset.StandardCharsets;
+import java.util.Arrays;
 import java.util.Objects;
 
 /** What is looked at in the texts of a caller before the library gets them. */
 final class Texts {
     private Texts() {}
+
+    /** The line with this number, from 1 up, without its line feed. */
+    static byte[] line(byte[] text, long number) {
+        int begin = 0;
+        for (long left = number; left > 1; left--) begin = lineEnd(text, begin) + 1;
+        return Arrays.copyOfRange(text, begin, lineEnd(text, begin));
+    }
+
+    private static int lineEnd(byte[] text, int at) {
+        while (at < text.length && text[at] != '\n') at++;
+        return at;
+    }
 
     /** The text in UTF-8; an exception names the argument that is null or has no such text. */
     static byte[] utf8(String text, String name) {

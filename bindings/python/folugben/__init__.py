@@ -12,7 +12,10 @@ others into a journal:
 
 Any thread may call an Agent or a Storage: each has a lock, so that no slot is in two calls at the same time. ctypes releases
 the interpreter's lock while a call runs, so agents in different threads do run at the same time. Of the header's calls only
-asm_agents has no method here: call `Storage.agent` for each number.
+asm_agents has no method here: call `Storage.agent` for each number. A storage makes one agent of each number.
+
+The journal tells every move: where an agent that fired was freed and not given back, `close_journal` raises `Missing` for
+good. A `with` gives its agent back. The error of a refused text says where and why, as `explain` does.
 
 Signal handlers and finalizers should call neither: where one interrupts a call of its own thread, on whichever agent or
 storage, its calls raise `Nested` and do nothing. A handler does better to set a flag. An exception that it lets through ends
@@ -23,15 +26,16 @@ hold elements in Python's sets or as keys of its dicts: {True, 1} has one item, 
 here, has two. Likewise ["f", True] and ["f", 1] are two locations, and a value that was read as true equals 1; compare by
 `is True` where both may occur.
 """
-from ._errors import BadJournal, Busy, Clash, Error, Full, Missing, Stale, error_text
+from ._errors import BadJournal, Busy, Clash, Error, Full, Missing, Stale, error_text, explain
 from ._held import Nested
-from ._library import BUSY, CLASH, CUT, DONE, EMPTY, FULL, ILLEGAL, LARGE, MANY, MEMORY, MISSING, NONE, NOT_JSON, NUMBER
-from ._library import OTHER, RANGE, SHAPE, SMALL, STALE, TAKEN, VERSION
+from ._library import BUSY, CLASH, CUT, DONE, EMPTY, EVENT, FULL, ILLEGAL, LARGE, LOCATIONS, MANY, MEMORY, MISSING, MOVE
+from ._library import NONE, NOT_JSON, NUMBER, OTHER, RANGE, SHAPE, SMALL, STALE, STATE, TAKEN, VERSION
 from ._storage import Agent, Storage, check, replay, version
 
 __all__ = [
     "Agent", "BadJournal", "Busy", "Clash", "Error", "Full", "Missing", "Nested", "Stale", "Storage", "check", "error_text",
-    "replay", "version",
+    "explain", "replay", "version",
+    "EVENT", "LOCATIONS", "MOVE", "STATE",
     "BUSY", "CLASH", "CUT", "DONE", "EMPTY", "FULL", "ILLEGAL", "LARGE", "MANY", "MEMORY", "MISSING", "NONE", "NOT_JSON",
     "NUMBER", "OTHER", "RANGE", "SHAPE", "SMALL", "STALE", "TAKEN", "VERSION",
 ]

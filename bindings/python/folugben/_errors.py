@@ -2,7 +2,7 @@
 from collections.abc import Iterable
 from typing import Any
 
-from ._library import BUSY, DONE, ILLEGAL, MEMORY, MISSING, NOT_JSON, SHAPE, Buffer, lib
+from ._library import BUSY, DONE, ILLEGAL, MEMORY, MISSING, NOT_JSON, RANGE, SHAPE, Buffer, lib
 
 # What the numbers of an error mean, for the codes that have some.
 NUMBERS = {
@@ -22,15 +22,21 @@ def error_text(code: int) -> str:
 
 
 class Error(Exception):
-    """A call that wasn't answered, with its code, and its numbers where the code has some."""
+    """A call that wasn't answered, with its code, and its numbers where the code has some.
 
-    def __init__(self, code: int, numbers: Iterable[int] = ()) -> None:
+    Of a text that was refused `said` tells where and why, as `explain` does.
+    """
+
+    def __init__(self, code: int, numbers: Iterable[int] = (), said: str = "") -> None:
         self.code = code
         self.numbers = tuple(numbers) if code in NUMBERS else ()
-        super().__init__(self.code, self.numbers)
+        self.said = said
+        super().__init__(self.code, self.numbers, self.said)
 
     def __str__(self) -> str:
         text = error_text(self.code)
+        if self.said:
+            text = self.said if self.code == NOT_JSON else f"{text}: {self.said}"
         return f"{text} ({NUMBERS[self.code].format(*self.numbers)})" if self.numbers else text
 
 
@@ -64,9 +70,25 @@ class BadJournal(Error):
     """The journal is illegal, or is none; `numbers` has the number of the call or of the line, if there is one."""
 
 
-def expect(code: int, kind: type[Error] = Error, numbers: Iterable[int] = ()) -> None:
+def expect(code: int, kind: type[Error] = Error, numbers: Iterable[int] = (), said: str = "") -> None:
     """Raises what the code says, unless it is DONE."""
     if code == MEMORY:
         raise MemoryError
     if code != DONE:
-        raise kind(code, numbers)
+        raise kind(code, numbers, said)
+
+
+def explain(form: int, text: bytes) -> str:
+    """Where and why a text isn't of a form, LOCATIONS, MOVE, STATE or EVENT; empty for a text that is."""
+    if not 0 <= form < 2**31:
+        raise Error(RANGE)
+    code, said = Buffer().text(lib.asm_explain, form, text, len(text))
+    expect(code)
+    return said.decode()
+
+
+def expect_read(code: int, form: int, text: bytes) -> None:
+    """Raises what the code of a call says that was passed a text of this form, unless it is DONE."""
+    if code in (NOT_JSON, SHAPE):
+        expect(code, said=explain(form, text))
+    expect(code)

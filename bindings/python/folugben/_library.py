@@ -13,6 +13,9 @@ BUILT = pathlib.Path(__file__).resolve().parents[2] / "out" / "libfolugben.so"
 DONE, STALE, CLASH, MEMORY, FULL, EMPTY, RANGE, SMALL, BUSY, MANY, NONE = range(11)
 TAKEN, NUMBER, MISSING, OTHER, ILLEGAL, NOT_JSON, SHAPE, VERSION, CUT, LARGE = range(11, 21)
 
+# The forms of texts that `explain` knows.
+LOCATIONS, MOVE, STATE, EVENT = range(4)
+
 
 class Slot(ctypes.Structure):
     """Room for a storage or an agent."""
@@ -53,12 +56,14 @@ def load() -> ctypes.CDLL:
         "asm_seen": (u32, [slot]),
         "asm_won": (u32, [slot]),
         "asm_misses": (u64, [slot]),
+        "asm_moves": (code, [slot, ctypes.POINTER(u32)]),
         "asm_give": (code, [slot, slot]),
         "asm_close": (code, [slot, ctypes.POINTER(u32)]),
         "asm_journal": (code, [slot, text, size, written]),
         "asm_free": (None, [slot]),
         "asm_check": (code, [text, size, ctypes.POINTER(u64), ctypes.POINTER(u32)]),
         "asm_replay": (code, [text, size, text, size, written, ctypes.POINTER(u64)]),
+        "asm_explain": (code, [code, text, size, text, size, written]),
     }
     for name, (result, arguments) in calls.items():
         call = getattr(library, name)

@@ -5,9 +5,10 @@ import operator
 from collections.abc import Callable, Iterable, Sequence
 from typing import Any, TypeAlias
 
-from ._errors import BadJournal, Busy, Clash, Error, Full, Missing, Stale, expect
+from ._errors import BadJournal, Busy, Clash, Error, Full, Missing, Stale, expect, expect_read, explain
 from ._held import Held, one_call
-from ._library import BUSY, CLASH, FULL, MISSING, RANGE, STALE, Buffer, Numbers, Slot, lib
+from ._library import BUSY, CLASH, EVENT, FULL, LOCATIONS, MISSING, MOVE, NOT_JSON, RANGE, SHAPE, STALE, STATE
+from ._library import Buffer, Numbers, Slot, lib
 
 # A location, an instruction, or a pair of a location and its value or number, as JSON has it.
 Form: TypeAlias = Sequence[Any]
@@ -55,7 +56,8 @@ class Agent(Held):
     @one_call
     def _read(self, call: bytes) -> tuple[int, list[Any]]:
         with self._lock:
-            expect(lib.asm_read(self._slot, call, len(call)))
+            code = lib.asm_read(self._slot, call, len(call))
+            expect_read(code, LOCATIONS, call)
             answer = self._answer()
         return answer["number"], answer["values"]
 
@@ -79,7 +81,9 @@ class Agent(Held):
             clash = Clash(code)
             clash.at, clash.cause = answer["clash"]
             raise clash
-        expect(code, Full if code == FULL else Error)
+        if code == FULL:
+            raise Full(code)
+        expect_read(code, MOVE, call)
         return numbers.fired
 
     @one_call
@@ -137,11 +141,19 @@ class Storage(Held):
     def __init__(self, init: Iterable[Form] = (), capacity: int = 4096) -> None:
         super().__init__()
         state = _json(list(init))
-        expect(lib.asm_open(state, len(state), _unsigned(capacity), self._slot))
+        expect_read(lib.asm_open(state, len(state), _unsigned(capacity), self._slot), STATE, state)
 
     def agent(self, number: int) -> Agent:
-        """An agent with this number, below 256."""
+        """An agent with this number, below 256, of which none was made before."""
         return Agent(self, number)
+
+    @one_call
+    def moves(self) -> int:
+        """How many moves were fired on it."""
+        moves = ctypes.c_uint32()
+        with self._lock:
+            expect(lib.asm_moves(self._slot, moves))
+        return moves.value
 
     @one_call
     def give(self, agent: Agent) -> None:
@@ -161,11 +173,19 @@ class Storage(Held):
         return journal
 
 
+def _expect_journal(code: int, journal: bytes, number: int) -> None:
+    """Raises what the code of a call on the journal says, with the number of the call or of the line, unless it is DONE."""
+    said = ""
+    if code in (NOT_JSON, SHAPE) and number > 1:
+        said = explain(EVENT, journal.split(b"\n", number)[number - 1])
+    expect(code, BadJournal, (number,), said)
+
+
 def check(journal: bytes) -> tuple[int, int]:
     """The numbers of calls and of moves of a journal that is legal. `BadJournal` where it isn't, or is none."""
     calls, moves = ctypes.c_uint64(), ctypes.c_uint32()
     code = lib.asm_check(journal, len(journal), calls, moves)
-    expect(code, BadJournal, (calls.value,))
+    _expect_journal(code, journal, calls.value)
     return calls.value, moves.value
 
 
@@ -174,6 +194,6 @@ def replay(journal: bytes) -> list[Any]:
     line = ctypes.c_uint64()
     # The text of a state is shorter than that of its journal, and where a buffer is too small all is replayed again.
     code, state = Buffer(len(journal)).text(lib.asm_replay, journal, len(journal), after=(line,))
-    expect(code, BadJournal, (line.value,))
+    _expect_journal(code, journal, line.value)
     pairs: list[Any] = _decode(state.decode())
     return pairs

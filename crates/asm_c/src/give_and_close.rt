@@ -1,6 +1,5 @@
-//! Giving agents back, closing them into a journal, and its text.
-ghost use Rattle.std.specs.Prelude.{◌≡◌, ◌≢◌, ◌⊎◌, ◌∷◌, [], length, None, Some};
-ghost use Rattle.asm_storage.specs.Storage.{accounts};
+//! Counting a storage's moves, giving agents back, closing them into a journal, and its text.
+ghost use Rattle.std.specs.Prelude.{◌≡◌, ◌≢◌, ◌⊎◌, ◌≤◌, ◌∷◌, [], length, None, Some};
 ghost use Rattle.asm_slots.specs.Calls.{Closes, Gives, IsThere};
 ghost use Rattle.asm_slots.specs.Closed.{IsTooLarge, LacksReceipt};
 ghost use Rattle.asm_slots.specs.Codes.{IsOneOf, ASM_DONE, ASM_MEMORY, ASM_EMPTY, ASM_SMALL, ASM_NONE};
@@ -10,6 +9,18 @@ ghost use Rattle.asm_slots.specs.Slots.{HoldsNoAgent, HoldsNoStore, HoldsStore, 
 
 use asm_slots::Slot;
 use std::alloc::Global;
+
+#[unsafe(no_mangle)]
+pub extern "C" fn asm_moves(alloc: Global, store: &mut Slot, moves: &mut u32) -> i32
+    ensures codes { IsOneOf (ASM_DONE ∷ ASM_EMPTY ∷ []) result }
+    ensures kept { content_of store.new ≡ content_of store.old }
+    ensures within { result ≡ ASM_DONE →
+        HoldsStore (content_of store.old) (λ s. moves.new ≤ length s.storage.row) }
+    ensures none { result ≡ ASM_EMPTY → moves.new ≡ 0 }
+    ensures empty { result ≡ ASM_EMPTY → HoldsNoStore (content_of store.old) }
+{
+    asm_slots::moves(alloc, store, moves)
+}
 
 #[unsafe(no_mangle)]
 pub extern "C" fn asm_give(alloc: Global, store: &mut Slot, agent: &mut Slot) -> i32
@@ -33,7 +44,7 @@ pub extern "C" fn asm_close(alloc: Global, store: &mut Slot, number: &mut u32) -
     ensures closed { result ≡ ASM_DONE → Closes (content_of store.old) (content_of store.new) }
     ensures kept { result ≢ ASM_DONE → content_of store.new ≡ content_of store.old }
     ensures missing { result ≡ ASM_MISSING →
-        HoldsStore (content_of store.old) (λ s. LacksReceipt (accounts s.agents) number.new) }
+        HoldsStore (content_of store.old) (λ s. LacksReceipt s.storage s.agents number.new) }
     ensures no_number { result ≢ ASM_MISSING → number.new ≡ 0 }
     ensures large { result ≡ ASM_LARGE →
         HoldsStore (content_of store.old) (λ s. IsTooLarge s.storage s.agents) }

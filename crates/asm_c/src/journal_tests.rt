@@ -1,7 +1,8 @@
 //! Agents that are given back, journals that are closed, checked and replayed, and the texts of codes.
 use crate::codes::{asm_error_text, asm_version};
-use crate::give_and_close::{asm_close, asm_give, asm_journal};
+use crate::give_and_close::{asm_close, asm_give, asm_journal, asm_moves};
 use crate::journals::{asm_check, asm_replay};
+use crate::opening::asm_free;
 use crate::test_slots::{agent, close, fire, give, read, store, two};
 use asm_slots::Slot;
 use std::alloc::Global;
@@ -10,25 +11,43 @@ use std::test::Fail;
 const INC: &[u8] = b"{\"fire\":[[\"inc\",[\"x\"],2]],\"reads\":[]}";
 
 // The codes of giving agents back, of closing them with the number, and whether the slots are full then.
-fn given(alloc: Global) -> ([i32; 4], [(i32, u32); 2], [bool; 3]) {
+fn given(alloc: Global) -> ([i32; 3], [(i32, u32); 2], [bool; 2]) {
     let mut store = store(alloc);
     let mut first = agent(alloc, &mut store, 0);
     let mut second = agent(alloc, &mut store, 1);
-    let mut third = agent(alloc, &mut store, 1);
     let _code = fire(alloc, &mut first, INC);
     let _code = read(alloc, &mut second, b"[]");
     let codes = [
         give(alloc, &mut store, &mut second),
-        give(alloc, &mut store, &mut third),
         asm_give(alloc, &mut store, &mut Slot::empty(alloc)),
     ];
     let missing = close(alloc, &mut store);
     let last = give(alloc, &mut store, &mut first);
     (
-        [codes[0], codes[1], codes[2], last],
+        [codes[0], codes[1], last],
         [missing, close(alloc, &mut store)],
-        [first.is_full(), second.is_full(), third.is_full()],
+        [first.is_full(), second.is_full()],
     )
+}
+
+// The codes of closing with the numbers, where an agent that fired is freed: with no other, and with one that has seen
+// nothing; and how many moves there are.
+fn lost(alloc: Global) -> ([(i32, u32); 2], (i32, u32)) {
+    let mut store = store(alloc);
+    let mut lost = agent(alloc, &mut store, 0);
+    let mut other = agent(alloc, &mut store, 1);
+    let _code = fire(alloc, &mut lost, INC);
+    asm_free(alloc, &mut lost);
+    let alone = close(alloc, &mut store);
+    let _code = give(alloc, &mut store, &mut other);
+    ([alone, close(alloc, &mut store)], moves(alloc, &mut store))
+}
+
+// The code and the number of the moves of the slot.
+fn moves(alloc: Global, store: &mut Slot) -> (i32, u32) {
+    let mut number = 9;
+    let code = asm_moves(alloc, store, &mut number);
+    (code, number)
 }
 
 // The codes of slots with nothing, and of an agent, where a storage is wanted.
@@ -52,8 +71,10 @@ fn codes_of_none(alloc: Global) -> ([i32; 3], [i32; 2], bool) {
 #[test]
 fn gives_and_closes(rt: HostRuntime) {
     let alloc = rt.alloc();
-    assert!(rt; given(alloc) == ([0, 12, 5, 0], [(13, 1), (0, 0)], [false, false, true]));
+    assert!(rt; given(alloc) == ([0, 5, 0], [(13, 1), (0, 0)], [false, false]));
+    assert!(rt; lost(alloc) == ([(13, 1), (13, 1)], (0, 1)));
     assert!(rt; codes_of_none(alloc) == ([5, 5, 5], [5, 5], true));
+    assert!(rt; moves(alloc, &mut Slot::empty(alloc)) == (5, 0));
 }
 
 const JOURNAL: &[u8] =
@@ -209,7 +230,7 @@ static CODE_TEXTS: [CodeText; 7] = [
     },
     CodeText {
         code: 6,
-        text: b"the capacity, the agent's number or the count of slots is out of range",
+        text: b"the capacity, the agent's number, the count of slots or the form is out of range",
     },
     CodeText {
         code: 16,
@@ -227,7 +248,7 @@ static CODE_TEXTS: [CodeText; 7] = [
 
 #[test]
 fn codes_have_texts(rt: HostRuntime) {
-    let mut out = [0u8; 80];
+    let mut out = [0u8; 100];
     let mut written = 0;
     for row in CODE_TEXTS.iter() {
         assert!(rt; asm_error_text(row.code, &mut out, &mut written) == 0);

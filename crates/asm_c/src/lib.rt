@@ -3,6 +3,9 @@
 
 mod codes;
 mod counts_and_learning;
+mod explaining;
+#[cfg(test)]
+mod explaining_tests;
 mod give_and_close;
 #[cfg(test)]
 mod journal_tests;

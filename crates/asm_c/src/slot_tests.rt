@@ -57,6 +57,29 @@ fn makes_one_agent(rt: HostRuntime) {
     assert!(rt; codes_of_agent(alloc) == ([5, 6, 0, 11, 5], [false, true]));
 }
 
+// The codes of agents whose number is free, and was made before: of one that is freed, and of one or two at once.
+fn codes_of_numbers(alloc: Global) -> [i32; 5] {
+    let mut store = store(alloc);
+    let mut slot = Slot::empty(alloc);
+    let first = asm_agent(alloc, &mut store, 1, &mut slot);
+    asm_free(alloc, &mut slot);
+    let again = asm_agent(alloc, &mut store, 1, &mut slot);
+    let two = [Slot::empty(alloc), Slot::empty(alloc)];
+    let mut two = two;
+    [
+        first,
+        again,
+        asm_agents(alloc, &mut store, two.as_mut_slice()),
+        asm_agents(alloc, &mut store, &mut two[..1]),
+        asm_agent(alloc, &mut store, 0, &mut slot),
+    ]
+}
+
+#[test]
+fn each_number_is_made_once(rt: HostRuntime) {
+    assert!(rt; codes_of_numbers(rt.alloc()) == [0, 12, 12, 0, 12]);
+}
+
 // How many of the slots are full.
 fn full_of(slots: &[Slot]) -> usize {
     let mut count = 0usize;
@@ -95,6 +118,7 @@ fn makes_agents(rt: HostRuntime) -> Result<(), Fail> {
     assert!(rt; code_for(alloc, &mut store, 0)? == (0, 0));
     assert!(rt; code_for(alloc, &mut store, 256)? == (0, 256));
     assert!(rt; code_for(alloc, &mut store, 257)? == (6, 0));
+    assert!(rt; code_for(alloc, &mut store, 1)? == (12, 0));
     assert!(rt; code_of_taken(alloc) == (11, [false, true]));
     Ok(())
 }

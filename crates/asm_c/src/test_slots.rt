@@ -21,7 +21,7 @@ pub(crate) fn store(alloc: Global) -> Slot {
 
 /// An agent of it.
 pub(crate) fn agent(alloc: Global, store: &mut Slot, id: u32) -> Slot
-    ensures store { content_of store.new ≡ content_of store.old }
+    ensures kept { (a : Option Content) → IsOfStore a (content_of store.old) → IsOfStore a (content_of store.new) }
     ensures of { IsOfStore (content_of result) (content_of store.new) }
 {
     let mut slot = Slot::empty(alloc);

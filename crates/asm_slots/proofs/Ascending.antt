@@ -1,5 +1,5 @@
 -- Numbers that ascend, with one more among them.
-use Rattle.std.proofs.Common.{◌≡◌, ◌<◌, ◌≤◌, ◌+◌, ℕ, zero, suc, List, [], ◌∷◌, ◌++◌, All, Some, length, map, take, drop, take-append-drop, get_or, add-one, sym, ap, ◌∙◌, subst, refl, arith}
+use Rattle.std.proofs.Common.{◌≡◌, ◌<◌, ◌≤◌, ℕ, zero, suc, List, [], ◌∷◌, ◌++◌, All, Some, length, map, take, drop, take-append-drop, get_or, add-one, sym, ap, ◌∙◌, subst, refl, arith}
 use Rattle.std.proofs.lemmas.List.{map-append, length-drop}
 use Rattle.std.proofs.lemmas.List.Elements.{All-append, All-map, All-weaker}
 use Rattle.std.proofs.lemmas.Option.{same_Some}
@@ -8,7 +8,7 @@ use Rattle.std.specs.List.Sorted.{IsStrictlyIncreasing}
 use Rattle.asm_storage.proofs.Rounds.{rises_tail}
 use Rattle.asm_storage.specs.declared.part.AgentPart.{AgentPart}
 use Rattle.asm_slots.specs.InsertPoint.{IsAmong, IsInsertPoint}
-use Rattle.asm_slots.proofs.PartsAndAgents.{all_first, all_left, all_one}
+use Rattle.asm_slots.proofs.PartsAndAgents.{all_first, all_left}
 
 -- a number below all of those that ascend, in front of them
 pub rises_from : (x : ℕ) (xs : List ℕ) → All (λ y. x < y) xs → IsStrictlyIncreasing xs → IsStrictlyIncreasing (x ∷ xs)

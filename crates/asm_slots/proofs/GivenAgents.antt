@@ -26,5 +26,5 @@ put_in s old new p at a agents whole is are = (
 )
 
 -- a storage with no journal
-abbrev pub the_store : StorageView Standard → List (AgentAt Standard) → StoreView
-the_store s agents = record { storage = s; agents = agents; journal = None }
+abbrev pub the_store : StorageView Standard → List ℕ → List (AgentAt Standard) → StoreView
+the_store s numbers agents = record { storage = s; numbers = numbers; agents = agents; journal = None }

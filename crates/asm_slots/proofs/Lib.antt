@@ -4,6 +4,7 @@ pub mod PartsAndAgents
 pub mod Ascending
 pub mod GivenAgents
 pub mod CopiedTexts
+pub mod Noted
 pub mod Crossing
 pub mod Unwritten
 pub mod Misread

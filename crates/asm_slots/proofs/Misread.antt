@@ -1,6 +1,5 @@
 -- Bytes that aren't read as a fire.
 use Rattle.std.proofs.Common.{List, ℕ, sym, ◌∙◌}
-use Rattle.serde_json.specs.Data.{Data}
 use Rattle.asm_element.specs.Place.{Place}
 use Rattle.asm_storage.specs.declared.call.Call.TheVariants as call
 use Rattle.asm_journal.specs.Event.{IsCallForm}

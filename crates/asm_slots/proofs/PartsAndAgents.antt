@@ -1,5 +1,5 @@
 -- Parts and agents, one more at a time.
-use Rattle.std.proofs.Common.{◌≡◌, ◌<◌, ◌≤◌, ◌+◌, ℕ, zero, suc, List, [], ◌∷◌, ◌++◌, All, length, map, sym, ap, ◌∙◌, subst, append_assoc, refl, arith}
+use Rattle.std.proofs.Common.{◌≡◌, zero, suc, List, [], ◌∷◌, ◌++◌, All, map, sym, ap, ◌∙◌, subst, append_assoc, refl, arith}
 use Rattle.std.proofs.lemmas.List.{map-append}
 use Rattle.std.proofs.lemmas.List.Elements.{All-append}
 use Rattle.std.specs.List.Sorted.{IsStrictlyIncreasing}
@@ -7,7 +7,7 @@ use Rattle.asm_storage.specs.declared.part.AgentPart.{AgentPart}
 use Rattle.asm_storage.specs.Agents.{ids}
 use Rattle.asm_storage.specs.Part.{agent_of}
 use Rattle.asm_storage.specs.Storage.{AgentAt, StorageView, accounts}
-use Rattle.asm_slots.specs.Standard.{Standard, meaning}
+use Rattle.asm_slots.specs.Standard.{Standard}
 use Rattle.asm_slots.specs.declared.shared.Shared.{Shared}
 
 pub all_one : {X : Type 0} (P : X → Type 0) (x : X) → P x → All P (x ∷ [])

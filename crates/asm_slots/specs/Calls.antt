@@ -1,5 +1,5 @@
 -- What the calls do with the agents and the storages in slots.
-use Rattle.std.specs.Prelude.{◌≡◌, ◌≢◌, ◌⊎◌, ◌<◌, ◌≤◌, ◌+◌, ◌-◌, ◌^◌, min, max, ℕ, ℤ, List, [], ◌∷◌, ◌++◌, length, Option, None, Some}
+use Rattle.std.specs.Prelude.{◌≡◌, ◌⊎◌, ◌≤◌, ◌+◌, ◌-◌, ◌^◌, min, max, ℕ, ℤ, List, [], ◌∷◌, ◌++◌, length, Option, None, Some}
 use Rattle.std.specs.Prelude.{Ok, Err}
 use Rattle.serde_json.specs.Written.{compact_text}
 use mathlib.Core.List.{IsPrefix}
@@ -18,15 +18,25 @@ use Rattle.asm_slots.specs.Standard.{Standard, meaning}
 use Rattle.asm_slots.specs.Bytes.{ReadAsLocations, ReadAsFire, ReadAsState}
 use Rattle.asm_slots.specs.Closed.{IsJournalOf}
 use Rattle.asm_slots.specs.Codes.{ASM_DONE, ASM_STALE, ASM_CLASH, ASM_FULL}
-use Rattle.asm_slots.specs.Slots.{Holds, HoldsStore, Goes}
+use Rattle.asm_slots.specs.Slots.{HoldsStore, Goes}
 use Rattle.asm_slots.specs.Store.{StoreView, IsPutIn}
 use Rattle.asm_slots.specs.declared.content.Content.{Content}
 use Rattle.asm_slots.specs.declared.content.Content.TheVariants as content
 
--- a storage with this opening state and this capacity, to which no agent was given back
+-- a storage with this opening state and this capacity, of which no agent was made
 abbrev pub IsOpened : List ℕ → ℕ → StoreView → Type 0
 IsOpened bytes capacity s =
-    ReadAsState bytes s.storage.init × (length s.storage.row ≡ capacity) × (s.agents ≡ []) × (s.journal ≡ None)
+    ReadAsState bytes s.storage.init × (length s.storage.row ≡ capacity) × (s.numbers ≡ []) × (s.agents ≡ [])
+    × (s.journal ≡ None)
+
+-- the storage with these numbers of agents that were made besides
+abbrev pub HasMade : List ℕ → StoreView → StoreView → Type 0
+HasMade numbers old new = new ≡ record old { numbers = old.numbers ++ numbers }
+
+-- agents with these numbers were made of the storage
+abbrev pub Makes : List ℕ → Option Content → Option Content → Type 0
+Makes numbers (Some (content.Store s)) new = HoldsStore new (HasMade numbers s)
+Makes numbers _ new = ⊥
 
 -- the bytes are JSON of locations, and these were read, after a look that found nothing more
 abbrev pub HasRead : List ℕ → AgentAt Standard → AgentAt Standard → Type 0

@@ -1,7 +1,7 @@
 -- What a closed storage tells.
-use Rattle.std.specs.Prelude.{◌≡◌, ℕ, List, length}
+use Rattle.std.specs.Prelude.{◌≡◌, ◌⊎◌, ◌+◌, ◌≤◌, ℕ, List, length}
 use Rattle.asm_storage.specs.declared.history.History.{History}
-use Rattle.asm_storage.specs.Agents.{AgentView, IsHistoryOf, NoneMissing, id_bound, merged}
+use Rattle.asm_storage.specs.Agents.{IsHistoryOf, NoneMissing, id_bound, merged, most_seen}
 use Rattle.asm_storage.specs.declared.error.CloseError.TheVariants.{Missing}
 use Rattle.asm_storage.specs.History.{Fits}
 use Rattle.asm_storage.specs.Storage.{AgentAt, StorageView, accounts, machine_of, IsMissing}
@@ -26,6 +26,12 @@ IsJournalOf s all text = (history : History) × IsClosing s all history × Fits 
 abbrev pub IsTooLarge : StorageView Standard → List (AgentAt Standard) → Type 0
 IsTooLarge s all = (history : History) × IsClosing s all history × ¬ Fits history
 
--- no receipt of these agents tells the move with this number, which one of them has seen, and it is the least such move
-abbrev pub LacksReceipt : List AgentView → ℕ → Type 0
-LacksReceipt agents number = IsMissing agents (Missing number)
+-- this is the number of the move after all that these agents have seen, and the storage's row has a cell for it
+abbrev pub IsUnseen : StorageView Standard → List (AgentAt Standard) → ℕ → Type 0
+IsUnseen s all number = (number ≡ most_seen (accounts all) + 1) × (number ≤ length s.row)
+
+-- no receipt of these agents tells the move with this number: either it is the least such move of those that one of them has
+-- seen; or each of these has a receipt, and it is the move after them
+abbrev pub LacksReceipt : StorageView Standard → List (AgentAt Standard) → ℕ → Type 0
+LacksReceipt s all number =
+    IsMissing (accounts all) (Missing number) ⊎ (NoneMissing (accounts all) × IsUnseen s all number)

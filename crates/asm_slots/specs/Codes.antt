@@ -25,7 +25,7 @@ ASM_FULL = pos 4
 abbrev pub ASM_EMPTY : ℤ
 ASM_EMPTY = pos 5
 
--- the capacity, an agent's number or the count of slots is out of range
+-- the capacity, an agent's number, the count of slots or a form is out of range
 abbrev pub ASM_RANGE : ℤ
 ASM_RANGE = pos 6
 
@@ -49,7 +49,7 @@ ASM_NONE = pos 10
 abbrev pub ASM_TAKEN : ℤ
 ASM_TAKEN = pos 11
 
--- an agent with this number was given back before
+-- an agent with this number was made before
 abbrev pub ASM_NUMBER : ℤ
 ASM_NUMBER = pos 12
 
@@ -99,13 +99,13 @@ texts =
     codes "out of memory" ∷
     codes "as many moves were fired as the capacity" ∷
     codes "a slot holds nothing of this kind, or is passed twice" ∷
-    codes "the capacity, the agent's number or the count of slots is out of range" ∷
+    codes "the capacity, the agent's number, the count of slots or the form is out of range" ∷
     codes "the buffer is too small" ∷
     codes "64 offers were lost" ∷
     codes "more than 256 locations" ∷
     codes "there is no answer or no journal yet" ∷
     codes "the slot that was to be filled is full" ∷
-    codes "an agent with this number was given back before" ∷
+    codes "an agent with this number was made before" ∷
     codes "a move has no receipt among the agents that were given back" ∷
     codes "the two slots are of two storages" ∷
     codes "the journal is not legal" ∷

@@ -2,8 +2,10 @@ pub mod Standard
 pub mod Codes
 pub mod Boxed
 pub mod Bytes
+pub mod Forms
 pub mod Written
 pub mod Store
+pub mod Numbers
 pub mod InsertPoint
 pub mod Closed
 pub mod Unclosed

@@ -1,6 +1,5 @@
-//! Giving agents back, closing them into a journal, and its text.
-ghost use Rattle.std.specs.Prelude.{◌≡◌, ◌≢◌, ◌⊎◌, ◌∷◌, [], length, None, Some};
-ghost use Rattle.asm_storage.specs.Storage.{accounts};
+//! Counting a storage's moves, giving agents back, closing them into a journal, and its text.
+ghost use Rattle.std.specs.Prelude.{◌≡◌, ◌≢◌, ◌⊎◌, ◌≤◌, ◌∷◌, [], length, None, Some};
 ghost use Rattle.asm_slots.specs.Calls.{Closes, Gives, HasNumber, HasTaken, IsThere};
 ghost use Rattle.asm_slots.specs.Closed.{IsTooLarge, LacksReceipt};
 ghost use Rattle.asm_slots.specs.Codes.{IsOneOf, ASM_DONE, ASM_MEMORY, ASM_EMPTY, ASM_SMALL, ASM_NONE};
@@ -21,6 +20,28 @@ use crate::store_close::Unclosed;
 use crate::store_give::GiveError;
 use crate::take_and_put::{put_agent, put_store, take_agent, take_store};
 use std::alloc::Global;
+
+/// Tells how many moves stand in the storage's row: it looks from the first one on until it finds nothing more.
+///
+/// `ASM_EMPTY`: the slot has no storage, and `moves` is 0. The slot stays as it was. Other agents may fire
+/// meanwhile. Contracts don't tell what stands in a row: that it counts the moves that were fired before the
+/// call is tested.
+pub fn moves(alloc: Global, store: &mut Slot, moves: &mut u32) -> i32
+    ensures codes { IsOneOf (ASM_DONE ∷ ASM_EMPTY ∷ []) result }
+    ensures kept { content_of store.new ≡ content_of store.old }
+    ensures within { result ≡ ASM_DONE →
+        HoldsStore (content_of store.old) (λ s. moves.new ≤ length s.storage.row) }
+    ensures none { result ≡ ASM_EMPTY → moves.new ≡ 0 }
+    ensures empty { result ≡ ASM_EMPTY → HoldsNoStore (content_of store.old) }
+{
+    *moves = 0;
+    let Some((shell, kept)) = take_store(alloc, store) else {
+        return EMPTY;
+    };
+    *moves = kept.shared.storage.moves();
+    put_store(store, shell, kept);
+    DONE
+}
 
 // Gives the agent to the storage, and puts both back where it is refused.
 fn give_at(
@@ -109,8 +130,11 @@ fn code_of_unclosed(error: Unclosed) -> (i32, u32)
 
 /// Closes the agents that were given back into one journal, which the storage keeps for `write_journal`.
 ///
-/// `ASM_MISSING`: the move with this number has no receipt among them; give back the agent that fired it,
-/// and close again. With any other code the number is 0. `ASM_LARGE`: more calls than a journal holds.
+/// It looks along the storage's row first, so it tells of a move that none of them has seen too.
+///
+/// `ASM_MISSING`: the move with this number, the least such, has no receipt among them; give back the agent
+/// that fired it, and close again. The moves of an agent that was freed without being given back are missing
+/// for good. With any other code the number is 0. `ASM_LARGE`: more calls than a journal holds.
 /// `ASM_EMPTY`: the slot has no storage. `ASM_MEMORY`. After each of these the slot is as it was. More
 /// agents may be made, given back and closed afterwards.
 pub fn close(alloc: Global, store: &mut Slot, number: &mut u32) -> i32
@@ -118,7 +142,7 @@ pub fn close(alloc: Global, store: &mut Slot, number: &mut u32) -> i32
     ensures closed { result ≡ ASM_DONE → Closes (content_of store.old) (content_of store.new) }
     ensures kept { result ≢ ASM_DONE → content_of store.new ≡ content_of store.old }
     ensures missing { result ≡ ASM_MISSING →
-        HoldsStore (content_of store.old) (λ s. LacksReceipt (accounts s.agents) number.new) }
+        HoldsStore (content_of store.old) (λ s. LacksReceipt s.storage s.agents number.new) }
     ensures no_number { result ≢ ASM_MISSING → number.new ≡ 0 }
     ensures large { result ≡ ASM_LARGE →
         HoldsStore (content_of store.old) (λ s. IsTooLarge s.storage s.agents) }

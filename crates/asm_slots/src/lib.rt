@@ -7,6 +7,8 @@
 mod codes;
 mod content;
 mod counts_and_learning;
+mod explaining;
+mod faults;
 mod give_and_close;
 mod handle;
 mod journals;
@@ -18,13 +20,15 @@ mod read_and_fire;
 mod shared;
 mod slot;
 mod store;
+mod store_agents;
 mod store_close;
 mod store_give;
 mod take_and_put;
 
 pub use codes::write_error_text;
 pub use counts_and_learning::{learn, misses, seen, won};
-pub use give_and_close::{close, give, write_journal};
+pub use explaining::explain;
+pub use give_and_close::{close, give, moves, write_journal};
 pub use journals::{check_journal, replay_journal};
 pub use opening::{make_agent, make_agents, open, release};
 pub use read_and_fire::{Numbers, read, try_fire, write_answer};

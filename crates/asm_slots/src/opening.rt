@@ -1,17 +1,17 @@
 //! Opening storages, making agents, and letting go of what slots hold.
-ghost use Rattle.std.specs.Prelude.{◌≡◌, ◌≢◌, ◌≤◌, ◌<◌, ◌↔◌, ◌⊎◌, ◌∷◌, [], length, IfOk, IfErr, Some, None};
+ghost use Rattle.std.specs.Prelude.{◌≡◌, ◌≢◌, ◌≤◌, ◌<◌, ◌↔◌, ◌⊎◌, ◌∷◌, [], length, true, false, IfOk, IfErr, Some, None};
 ghost use Rattle.std.specs.Bool.{OnTrue, OnFalse};
-ghost use Rattle.asm_storage.specs.Storage.{at_start};
-ghost use Rattle.asm_slots.specs.Calls.{IsOpened};
+ghost use Rattle.std.specs.List.{range_with_len};
+ghost use Rattle.asm_slots.specs.Calls.{IsOpened, Makes};
 ghost use Rattle.asm_journal.specs.Value.{IsStateForm};
 ghost use Rattle.asm_slots.specs.Bytes.{IsNoJson, IsOtherJson};
 ghost use Rattle.asm_slots.specs.Codes.{IsOneOf, ASM_DONE, ASM_MEMORY, ASM_EMPTY, ASM_RANGE, ASM_TAKEN};
-ghost use Rattle.asm_slots.specs.Codes.{ASM_NOT_JSON, ASM_SHAPE};
-ghost use Rattle.asm_slots.specs.Slots.{AreEmpty, AreNew, Holds, HoldsNew, HoldsNoStore, HoldsStore, content_of};
+ghost use Rattle.asm_slots.specs.Codes.{ASM_NOT_JSON, ASM_NUMBER, ASM_SHAPE};
+ghost use Rattle.asm_slots.specs.Numbers.{was_any_made, was_made};
+ghost use Rattle.asm_slots.specs.Slots.{AreEmpty, AreNew, HoldsNew, HoldsNoStore, HoldsStore, content_of};
 
 use crate::codes::{DONE, EMPTY, MEMORY, RANGE, TAKEN};
 use crate::content::Content;
-use crate::owned_agent::OwnedAgent;
 use crate::parsing::{code_of_text_error, state_of};
 use crate::shared::Shared;
 use crate::slot::Slot;
@@ -19,7 +19,7 @@ use crate::store::Store;
 use crate::take_and_put::{put_store, take_store};
 use asm_aggregate::standard;
 use asm_storage::{Storage, StorageError};
-use std::alloc::{AllocError, Global};
+use std::alloc::Global;
 use std::sync::Arc;
 
 // A storage of which no move was fired.
@@ -44,6 +44,7 @@ fn opened(alloc: Global, init: &[u8], capacity: u32) -> Result<Box<Content>, i32
     };
     let store = Store {
         shared,
+        numbers: Vec::new(alloc),
         parts: Vec::new(alloc),
         journal: None,
     };
@@ -80,28 +81,25 @@ pub fn open(alloc: Global, init: &[u8], capacity: u32, store: &mut Slot) -> i32
     }
 }
 
-fn agent_of(alloc: Global, store: &Store, id: u32) -> Result<Box<Content>, AllocError>
-    requires { id < 256 }
-    ensures { IfOk result (λ b. Holds (Some b.value) (λ a. a ≡ at_start store.now.storage id)) }
-{
-    let agent = OwnedAgent::at_start(alloc, &store.shared, id)?;
-    Ok(Box::new(alloc, Content::Agent(agent))?)
-}
-
 /// Makes an agent of the storage with the number `id`, in an empty slot.
 ///
 /// `ASM_RANGE`: the number isn't below 256. `ASM_TAKEN`: the slot for the agent is full. `ASM_EMPTY`: the
-/// other one has no storage. `ASM_MEMORY`. After each of these both slots are as they were. Agents whose
-/// calls are closed together need different numbers.
+/// other one has no storage. `ASM_NUMBER`: an agent of the storage with this number was made before, be it
+/// freed or not, as its moves may stand in the row. `ASM_MEMORY`. The first of these that holds is answered.
+/// After each of them both slots are as they were, and the number is as free as it was.
 pub fn make_agent(alloc: Global, store: &mut Slot, id: u32, agent: &mut Slot) -> i32
-    ensures codes { IsOneOf (ASM_DONE ∷ ASM_MEMORY ∷ ASM_EMPTY ∷ ASM_RANGE ∷ ASM_TAKEN ∷ []) result }
-    ensures store { content_of store.new ≡ content_of store.old }
+    ensures codes { IsOneOf (ASM_DONE ∷ ASM_MEMORY ∷ ASM_EMPTY ∷ ASM_RANGE ∷ ASM_TAKEN ∷ ASM_NUMBER ∷ []) result }
+    ensures store { result ≡ ASM_DONE → Makes (id ∷ []) (content_of store.old) (content_of store.new) }
+    ensures kept { result ≢ ASM_DONE → content_of store.new ≡ content_of store.old }
     ensures made { result ≡ ASM_DONE → HoldsNew (content_of store.old) (content_of agent.new) id }
     ensures refused { result ≢ ASM_DONE → content_of agent.new ≡ content_of agent.old }
     ensures range { (result ≡ ASM_RANGE) ↔ (256 ≤ id) }
     ensures taken { result ≡ ASM_TAKEN → content_of agent.old ≢ None }
-    ensures free { result ≡ ASM_DONE → content_of agent.old ≡ None }
+    ensures free { IsOneOf (ASM_DONE ∷ ASM_MEMORY ∷ ASM_EMPTY ∷ ASM_NUMBER ∷ []) result → content_of agent.old ≡ None }
     ensures empty { result ≡ ASM_EMPTY → HoldsNoStore (content_of store.old) }
+    ensures number { result ≡ ASM_NUMBER → HoldsStore (content_of store.old) (λ s. was_made s id ≡ true) }
+    ensures fresh { IsOneOf (ASM_DONE ∷ ASM_MEMORY ∷ []) result →
+        HoldsStore (content_of store.old) (λ s. was_made s id ≡ false) }
 {
     if id >= 256 {
         return RANGE;
@@ -112,14 +110,14 @@ pub fn make_agent(alloc: Global, store: &mut Slot, id: u32, agent: &mut Slot) ->
     let Some((shell, kept)) = take_store(alloc, store) else {
         return EMPTY;
     };
-    let made = agent_of(alloc, &kept, id);
+    let (kept, made) = kept.make_agent(alloc, id);
     put_store(store, shell, kept);
     match made {
         Ok(made) => {
             *agent = Slot::holding(made);
             DONE
         }
-        Err(_) => MEMORY,
+        Err(code) => code,
     }
 }
 
@@ -136,21 +134,6 @@ fn is_any_full(slots: &[Slot]) -> bool
     false
 }
 
-// Makes an agent in each of the slots, with the numbers from 0 up; false where there was no memory.
-fn fill(alloc: Global, store: &Store, agents: &mut [Slot]) -> bool
-    requires { length agents.old ≤ 256 }
-    ensures made { OnTrue result (AreNew store.now.storage agents.new) }
-    ensures len { length agents.new ≡ length agents.old }
-{
-    for id in 0..agents.len() {
-        let Ok(made) = agent_of(alloc, store, id as u32) else {
-            return false;
-        };
-        agents[id] = Slot::holding(made);
-    }
-    true
-}
-
 // Releases what the slots hold.
 fn clear(alloc: Global, slots: &mut [Slot])
     ensures { AreEmpty slots.new }
@@ -163,17 +146,25 @@ fn clear(alloc: Global, slots: &mut [Slot])
 /// Makes an agent of the storage in each of the empty slots, at most 256, with the numbers from 0 up.
 ///
 /// `ASM_RANGE`: more than 256 slots. `ASM_TAKEN`: one of them is full. `ASM_EMPTY`: the other slot has no
-/// storage. `ASM_MEMORY`. After each of these the storage's slot is as it was, and every agent slot still holds what it held.
+/// storage. `ASM_NUMBER`: an agent with one of the numbers was made before. `ASM_MEMORY`. The first of these
+/// that holds is answered. After each of them the storage's slot is as it was, and every agent slot still holds
+/// what it held.
 pub fn make_agents(alloc: Global, store: &mut Slot, agents: &mut [Slot]) -> i32
-    ensures codes { IsOneOf (ASM_DONE ∷ ASM_MEMORY ∷ ASM_EMPTY ∷ ASM_RANGE ∷ ASM_TAKEN ∷ []) result }
-    ensures store { content_of store.new ≡ content_of store.old }
+    ensures codes { IsOneOf (ASM_DONE ∷ ASM_MEMORY ∷ ASM_EMPTY ∷ ASM_RANGE ∷ ASM_TAKEN ∷ ASM_NUMBER ∷ []) result }
+    ensures store { result ≡ ASM_DONE →
+        Makes (range_with_len 0 (length agents.old)) (content_of store.old) (content_of store.new) }
+    ensures unmade { result ≢ ASM_DONE → content_of store.new ≡ content_of store.old }
     ensures made { result ≡ ASM_DONE → HoldsStore (content_of store.old) (λ s. AreNew s.storage agents.new) }
     ensures range { (result ≡ ASM_RANGE) ↔ (256 < length agents.old) }
     ensures taken { result ≡ ASM_TAKEN → ¬ AreEmpty agents.old }
-    ensures free { result ≡ ASM_DONE → AreEmpty agents.old }
+    ensures free { IsOneOf (ASM_DONE ∷ ASM_MEMORY ∷ ASM_EMPTY ∷ ASM_NUMBER ∷ []) result → AreEmpty agents.old }
     ensures none { result ≡ ASM_MEMORY → AreEmpty agents.new }
-    ensures kept { IsOneOf (ASM_EMPTY ∷ ASM_RANGE ∷ ASM_TAKEN ∷ []) result → agents.new ≡ agents.old }
+    ensures kept { IsOneOf (ASM_EMPTY ∷ ASM_RANGE ∷ ASM_TAKEN ∷ ASM_NUMBER ∷ []) result → agents.new ≡ agents.old }
     ensures empty { result ≡ ASM_EMPTY → HoldsNoStore (content_of store.old) }
+    ensures number { result ≡ ASM_NUMBER →
+        HoldsStore (content_of store.old) (λ s. was_any_made s (length agents.old) ≡ true) }
+    ensures fresh { IsOneOf (ASM_DONE ∷ ASM_MEMORY ∷ []) result →
+        HoldsStore (content_of store.old) (λ s. was_any_made s (length agents.old) ≡ false) }
 {
     if agents.len() > 256 {
         return RANGE;
@@ -184,13 +175,12 @@ pub fn make_agents(alloc: Global, store: &mut Slot, agents: &mut [Slot]) -> i32
     let Some((shell, kept)) = take_store(alloc, store) else {
         return EMPTY;
     };
-    let is_made = fill(alloc, &kept, agents);
+    let (kept, code) = kept.make_agents(alloc, agents);
     put_store(store, shell, kept);
-    if is_made {
-        return DONE;
+    if code == MEMORY {
+        clear(alloc, agents);
     }
-    clear(alloc, agents);
-    MEMORY
+    code
 }
 
 /// Releases what the slot holds, if anything. A storage ends with the last slot that has a share of it.

@@ -51,7 +51,7 @@ fn json_of(alloc: Global, bytes: &[u8]) -> Result<Json, TextError>
 }
 
 // The value of this type whose JSON the bytes are.
-fn read_as<T: FromJson>(alloc: Global, bytes: &[u8]) -> Result<T, TextError>
+pub(crate) fn read_as<T: FromJson>(alloc: Global, bytes: &[u8]) -> Result<T, TextError>
     ensures ok { IfOk result (ReadAs T.is_form bytes.now) }
     ensures err { IfErr result (IsMisread T.is_form bytes.now) }
 {

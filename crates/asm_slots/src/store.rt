@@ -1,13 +1,15 @@
-//! A share of a storage, with the agents that were given back to it, and their journal.
+//! A share of a storage, with the numbers of its agents, those that were given back to it, and their journal.
 use crate::shared::Shared;
 use asm_storage::AgentPart;
 use std::marker::Model;
 use std::sync::Arc;
 
-/// The agents' numbers ascend.
+/// The numbers of the agents that were given back ascend.
 #[derive(Drop)]
 pub struct Store {
     pub(crate) shared: Arc<Shared>,
+    // The number of each agent that was made: a freed agent's moves may stand in the row.
+    pub(crate) numbers: Vec<u32>,
     pub(crate) parts: Vec<AgentPart>,
     pub(crate) journal: Option<String>,
 }
@@ -39,6 +41,7 @@ impl Model for Store {
 
     ghost view = { λ s. record {
       storage = (arc_value s.shared).storage;
+      numbers = s.numbers.items;
       agents = map (agent_of (arc_value s.shared).storage) s.parts.items;
       journal = option_map string_bytes s.journal;
     } };

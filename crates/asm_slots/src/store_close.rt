@@ -1,14 +1,14 @@
 //! Closing the agents that were given back into one journal.
 ghost use Rattle.std.specs.Prelude.{◌≡◌, ◌≤◌, [], All, length, map, string_bytes, vec_capacity};
-ghost use Rattle.std.specs.Prelude.{IfErr, IfOk, OnOk, OnErr};
+ghost use Rattle.std.specs.Prelude.{IfErr, IfOk, IfSome, OnOk, OnErr};
 ghost use Rattle.std.specs.List.Sorted.{IsStrictlyIncreasing};
-ghost use Rattle.asm_storage.specs.Agents.{ids};
+ghost use Rattle.asm_storage.specs.Agents.{ids, most_seen};
 ghost use Rattle.asm_storage.specs.History.{Fits};
 ghost use Rattle.asm_storage.specs.Part.{agent_of, IsPartOf};
 ghost use Rattle.asm_storage.specs.Storage.{IsOf, accounts};
 ghost use Rattle.asm_journal.specs.Text.{text_of};
 ghost use Rattle.asm_slots.specs.Calls.{HasClosed};
-ghost use Rattle.asm_slots.specs.Closed.{IsJournalOf};
+ghost use Rattle.asm_slots.specs.Closed.{IsJournalOf, IsUnseen};
 ghost use Rattle.asm_slots.specs.Standard.{meaning};
 ghost use Rattle.asm_slots.specs.Unclosed.{IsUnclosed, IsUnwritten};
 
@@ -62,11 +62,41 @@ pub(crate) enum Unclosed {
     Memory,
 }
 
-// The text of the history as a journal.
-fn text_of(alloc: Global, history: &History) -> Result<String, Unclosed>
-    ensures ok { IfOk result (λ text. Fits history.now × (string_bytes text ≡ text_of history.now)) }
-    ensures err { IfErr result (IsUnwritten history.now) }
+// How many moves the agent has seen that has seen most.
+fn most_seen(agents: &[Agent<'_, Standard>]) -> u32
+    ensures { result ≡ most_seen (accounts agents.now) }
 {
+    let mut seen = 0;
+    for agent in agents {
+        seen = seen.max(agent.seen());
+    }
+    seen
+}
+
+// The number of a move that none of the agents has seen, as it stands behind all that they have.
+fn unseen_move(storage: &Storage<Standard>, agents: &[Agent<'_, Standard>]) -> Option<u32>
+    ensures { IfSome result (IsUnseen storage.now agents.now) }
+{
+    let seen = most_seen(agents);
+    if storage.moves() <= seen {
+        return None;
+    }
+    Some(seen + 1)
+}
+
+// The text of the agents' history as a journal, unless a move stands in the row that none of them has seen.
+fn text_of(
+    alloc: Global,
+    storage: &Storage<Standard>,
+    agents: &[Agent<'_, Standard>],
+    history: &History,
+) -> Result<String, Unclosed>
+    ensures ok { IfOk result (λ text. Fits history.now × (string_bytes text ≡ text_of history.now)) }
+    ensures err { IfErr result (IsUnwritten storage.now agents.now history.now) }
+{
+    if let Some(number) = unseen_move(storage, agents) {
+        return Err(Unclosed::Missing(number));
+    }
     if !history.fits() {
         return Err(Unclosed::Large);
     }
@@ -76,7 +106,7 @@ fn text_of(alloc: Global, history: &History) -> Result<String, Unclosed>
     }
 }
 
-// The text of the journal of the agents' history.
+// The text of the journal of the agents' history, unless a move has no receipt among them.
 fn journal_of(
     alloc: Global,
     storage: &Storage<Standard>,
@@ -88,7 +118,7 @@ fn journal_of(
     ensures err { IfErr result (IsUnclosed storage.now agents.now) }
 {
     match storage.close(alloc, agents) {
-        Ok(history) => match text_of(alloc, &history) {
+        Ok(history) => match text_of(alloc, storage, agents, &history) {
             Ok(text) => Ok(text),
             Err(error) => Err(error),
         },
@@ -106,6 +136,7 @@ impl Store {
     {
         let Store {
             shared,
+            numbers,
             parts,
             journal,
         } = self;
@@ -116,6 +147,7 @@ impl Store {
         ) else {
             let store = Store {
                 shared,
+                numbers,
                 parts,
                 journal,
             };
@@ -128,6 +160,7 @@ impl Store {
             Ok(text) => {
                 let store = Store {
                     shared,
+                    numbers,
                     parts,
                     journal: Some(text),
                 };
@@ -136,6 +169,7 @@ impl Store {
             Err(error) => {
                 let store = Store {
                     shared,
+                    numbers,
                     parts,
                     journal,
                 };

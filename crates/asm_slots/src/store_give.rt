@@ -66,12 +66,14 @@ impl Store {
         let (agent, id) = agent.id();
         let Store {
             shared,
+            numbers,
             mut parts,
             journal,
         } = self;
         let Some(at) = insert_point(&parts, id) else {
             let store = Store {
                 shared,
+                numbers,
                 parts,
                 journal,
             };
@@ -80,6 +82,7 @@ impl Store {
         if parts.reserve(1).is_err() {
             let store = Store {
                 shared,
+                numbers,
                 parts,
                 journal,
             };
@@ -88,6 +91,7 @@ impl Store {
         parts.insert(at, part_of(agent)).unwrap();
         let store = Store {
             shared,
+            numbers,
             parts,
             journal: None,
         };

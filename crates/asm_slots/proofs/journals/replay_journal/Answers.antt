@@ -1,4 +1,4 @@
-use Rattle.std.proofs.Common.{◌≡◌, List, ℕ, sym, ◌∙◌}
+use Rattle.std.proofs.Common.{sym, ◌∙◌}
 use Rattle.asm_slots.specs.Journals.{IsReplayed}
 use Rattle.asm_slots.proofs.CopiedTexts.{coded, is_too_long, is_written}
 use Rattle.asm_slots.proofs.journals.replay_journal.Goals as goal

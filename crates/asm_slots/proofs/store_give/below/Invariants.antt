@@ -1,4 +1,4 @@
-use Rattle.std.proofs.Common.{◌<◌, ℕ, All}
+use Rattle.std.proofs.Common.{◌<◌, All}
 use Rattle.std.specs.Prelude.{take}
 use Rattle.asm_slots.proofs.store_give.below.Given as goal
 

@@ -1,4 +1,4 @@
-use Rattle.std.proofs.Common.{◌≡◌, ◌<◌, All, drop, arith}
+use Rattle.std.proofs.Common.{◌<◌, All, drop, arith}
 use Rattle.asm_slots.proofs.Ascending.{above_at, above_end, among_at}
 use Rattle.asm_slots.proofs.store_give.insert_point.Goals as goal
 use Rattle.asm_slots.proofs.store_give.insert_point.Goals.{else-at-parts-via-then-at-parts+else-id, else-at-parts-via-else-at-parts}

@@ -1,4 +1,4 @@
-use Rattle.std.proofs.Common.{rules, string_bytes, ◌≡◌, List, All, map, subst, sym, ap, ◌∙◌}
+use Rattle.std.proofs.Common.{rules, string_bytes, List, All, subst, sym, ap, ◌∙◌}
 use Rattle.std.proofs.lemmas.List.Elements.{All-map}
 use Rattle.asm_storage.specs.Part.{agent_of, IsPartOf}
 use Rattle.std.specs.List.Sorted.{IsStrictlyIncreasing}

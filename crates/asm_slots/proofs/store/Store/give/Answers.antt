@@ -56,6 +56,6 @@ returns-clause-given c =
     ap (λ (a : AgentAt Standard). a.storage) c.id-agent.ensures.same ∙ c.requires ∙ sym (ap (λ (v : StoreView). v.storage) c.self.view_is) in
     let is : agent_of s part ≡ c.args.agent =
     ap (λ (x : StorageView Standard). agent_of x part) (sym here) ∙ c.part_of.ensures.agent ∙ c.id-agent.ensures.same in (
-      ap (λ (x : StorageView Standard). the_store x (map (agent_of s) new)) (ap (λ (v : StoreView). v.storage) c.self.view_is),
+      ap (λ (v : StoreView). the_store v.storage v.numbers (map (agent_of s) new)) c.self.view_is,
       put_in s old new part at c.args.agent c.args.self.agents whole is (ap (λ (v : StoreView). v.agents) (sym c.self.view_is)),
     )

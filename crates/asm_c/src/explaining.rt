@@ -1,0 +1,26 @@
+//! Where and why a text is refused.
+ghost use Rattle.std.specs.Prelude.{◌≡◌, ◌≢◌, ◌<◌, ◌≤◌, ◌↔◌, ◌∷◌, [], length};
+ghost use Rattle.asm_slots.specs.Codes.{IsOneOf, ASM_DONE, ASM_MEMORY, ASM_RANGE, ASM_SMALL};
+ghost use Rattle.asm_slots.specs.Forms.{HasForm, IsNoForm, LacksForm};
+
+use std::alloc::Global;
+
+#[unsafe(no_mangle)]
+pub extern "C" fn asm_explain(
+    alloc: Global,
+    form: i32,
+    text: &[u8],
+    out: &mut [u8],
+    written: &mut usize,
+) -> i32
+    ensures codes { IsOneOf (ASM_DONE ∷ ASM_MEMORY ∷ ASM_RANGE ∷ ASM_SMALL ∷ []) result }
+    ensures accepted { result ≡ ASM_DONE → written.new ≡ 0 → HasForm form text.now }
+    ensures refused { written.new ≢ 0 → LacksForm form text.now }
+    ensures fits { result ≡ ASM_DONE → written.new ≤ length out.new }
+    ensures small { result ≡ ASM_SMALL → length out.old < written.new }
+    ensures no_text { IsOneOf (ASM_MEMORY ∷ ASM_RANGE ∷ []) result → written.new ≡ 0 }
+    ensures range { (result ≡ ASM_RANGE) ↔ IsNoForm form }
+    ensures unwritten { result ≢ ASM_DONE → out.new ≡ out.old }
+{
+    asm_slots::explain(alloc, form, text, out, written)
+}
