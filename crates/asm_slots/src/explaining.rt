@@ -101,6 +101,7 @@ fn byte_of(text: &[u8], line: usize, column: usize) -> usize {
 fn said(alloc: Global, form: Form, text: &[u8]) -> Result<String, AllocError> {
     match Json::from_slice(alloc, text) {
         Ok(json) => fault_of(alloc, form, &json)?.sentence(alloc),
+        Err(error) if error.is_memory() => Err(AllocError),
         Err(error) => {
             let byte = byte_of(text, error.line(), error.column());
             if error.is_eof() {
