@@ -1,0 +1,5 @@
+pub mod Agreeing
+pub mod Answered
+pub mod Layered
+pub mod Stacked
+pub mod Turns

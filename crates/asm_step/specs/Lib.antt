@@ -1,0 +1,5 @@
+pub mod Answer
+pub mod InTurn
+pub mod Layers
+pub mod Next
+pub mod Places

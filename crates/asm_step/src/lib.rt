@@ -1,0 +1,16 @@
+//! A step of an engine: moves that are pushed one after the other over what is looked up, each seen by the
+//! next, and the one move that does what all of them do in turn.
+//!
+//! Nothing is fired before the step's one move is, so a push is also a dry run, and a pop takes it back
+//! (CoreASM's pushed and popped states).
+#![tactic(auto)]
+
+mod error;
+mod layer;
+mod over;
+mod places;
+mod step;
+
+pub use error::StepError;
+pub use over::OverStep;
+pub use step::Step;

@@ -1,0 +1,176 @@
+//! What is done with a step, and what comes of it, as rows of a table.
+use crate::moves::{Line, is_same, location, move_of, number, opening, updates_on, write};
+use asm_aggregate::standard;
+use asm_step::{Step, StepError};
+use asm_update::{Cause, Instructions, PlainState};
+use std::alloc::{AllocError, Global};
+use std::test::Fail;
+
+/// What a push or an extension answers.
+#[derive(Clone, Copy)]
+pub(crate) enum Answer {
+    Taken,
+    Clashes(&'static str, Cause),
+    Many,
+    Deep,
+}
+
+/// An act on a step, with what it answers.
+#[derive(Clone, Copy)]
+pub(crate) enum Act {
+    Push(&'static [Line], Answer),
+    Extend(&'static [Line], Answer),
+    Pop(bool),
+    /// The location has this number; undef is none.
+    Gives(&'static str, Option<i64>),
+    Depth(usize),
+    /// So many instructions has the one move.
+    Size(usize),
+    /// There the moves have partial updates.
+    Partial(&'static [&'static str]),
+    /// The one move leaves below what is seen.
+    Fires,
+    /// So the one move with a last one is answered.
+    Ends(&'static [Line], Answer),
+    /// Fired below, it gives the location this number.
+    Leaves(&'static [Line], &'static str, i64),
+}
+
+/// Whether the answer is this one. `AllocError` comes only where memory was refused.
+pub(crate) fn is_told(answer: Result<(), StepError>, want: Answer) -> Result<bool, Fail> {
+    match answer {
+        Ok(()) => Ok(matches!(want, Answer::Taken)),
+        Err(StepError::Clash(clash)) => Ok(match want {
+            Answer::Clashes(name, cause) => clash.at.name() == name && clash.cause == cause,
+            _ => false,
+        }),
+        Err(StepError::Large(_at)) => Ok(false),
+        Err(StepError::Many) => Ok(matches!(want, Answer::Many)),
+        Err(StepError::Deep) => Ok(matches!(want, Answer::Deep)),
+        Err(StepError::Memory) => Err(Fail::from(AllocError)),
+    }
+}
+
+/// Takes the move into the step; it is dropped.
+pub(crate) fn take(
+    alloc: Global,
+    step: &mut Step,
+    below: &PlainState,
+    instructions: Instructions,
+    is_pushed: bool,
+) -> Result<(), StepError> {
+    if is_pushed {
+        step.push(alloc, &standard(), below, &instructions)
+    } else {
+        step.extend(alloc, &standard(), below, &instructions)
+    }
+}
+
+fn gives(
+    alloc: Global,
+    step: &Step,
+    below: &PlainState,
+    name: &str,
+    n: Option<i64>,
+) -> Result<bool, Fail> {
+    let at = location(alloc, name)?;
+    Ok(match step.get(below, &at) {
+        Some(value) => n.is_some_and(|n| *value == number(n)),
+        None => n.is_none(),
+    })
+}
+
+fn has_partials(step: &Step, names: &[&str]) -> bool {
+    let locations = step.partial_locations();
+    if locations.len() != names.len() {
+        return false;
+    }
+    for (at, name) in locations.iter().zip(names) {
+        if at.name() != *name {
+            return false;
+        }
+    }
+    true
+}
+
+/// Whether the one move, fired on what is below, leaves what is seen through the step.
+pub(crate) fn fires(alloc: Global, step: &Step, below: &PlainState) -> Result<bool, Fail> {
+    let mut state = opening(alloc)?;
+    let Ok(updates) = updates_on(alloc, below, step.as_move().copy(alloc)?) else {
+        return Ok(false);
+    };
+    write(&mut state, updates)?;
+    is_same(alloc, &state, &step.over(below))
+}
+
+fn is_ended(answer: Result<Instructions, StepError>, want: Answer) -> Result<bool, Fail> {
+    match answer {
+        Ok(_one) => Ok(matches!(want, Answer::Taken)),
+        Err(error) => is_told(Err(error), want),
+    }
+}
+
+/// The one move that does what the step's moves and then this one do; the latter is dropped.
+fn ended(alloc: Global, step: &Step, last: Instructions) -> Result<Instructions, StepError> {
+    step.followed_by(alloc, &standard(), &last)
+}
+
+fn leaves(
+    alloc: Global,
+    step: &Step,
+    below: &PlainState,
+    lines: &[Line],
+    put: (&str, i64),
+) -> Result<bool, Fail> {
+    let one = ended(alloc, step, move_of(alloc, lines)?)?;
+    let updates = updates_on(alloc, below, one)?;
+    let at = location(alloc, put.0)?;
+    Ok(
+        updates
+            .get(&at)
+            .is_some_and(|value| *value == number(put.1)),
+    )
+}
+
+fn comes_out(alloc: Global, step: &mut Step, below: &PlainState, act: Act) -> Result<bool, Fail> {
+    match act {
+        Act::Push(lines, want) => {
+            let instructions = move_of(alloc, lines)?;
+            is_told(take(alloc, step, below, instructions, true), want)
+        }
+        Act::Extend(lines, want) => {
+            let instructions = move_of(alloc, lines)?;
+            is_told(take(alloc, step, below, instructions, false), want)
+        }
+        Act::Pop(is_there) => Ok(step.pop() == is_there),
+        Act::Gives(name, n) => gives(alloc, step, below, name, n),
+        Act::Depth(depth) => Ok(step.depth() == depth),
+        Act::Size(size) => Ok(step.as_move().len() == size),
+        Act::Partial(names) => Ok(has_partials(step, names)),
+        Act::Fires => fires(alloc, step, below),
+        Act::Ends(lines, want) => is_ended(ended(alloc, step, move_of(alloc, lines)?), want),
+        Act::Leaves(lines, name, n) => leaves(alloc, step, below, lines, (name, n)),
+    }
+}
+
+/// How many of the acts come out, from the first on.
+pub(crate) fn played(
+    alloc: Global,
+    step: &mut Step,
+    below: &PlainState,
+    acts: &[Act],
+) -> Result<usize, Fail> {
+    for (k, act) in acts.iter().enumerate() {
+        if !comes_out(alloc, step, below, *act)? {
+            return Ok(k);
+        }
+    }
+    Ok(acts.len())
+}
+
+/// The same on a step without moves.
+pub(crate) fn played_anew(alloc: Global, acts: &[Act]) -> Result<usize, Fail> {
+    let below = opening(alloc)?;
+    let mut step = Step::new(alloc);
+    played(alloc, &mut step, &below, acts)
+}
