@@ -1,13 +1,15 @@
 -- Blocks in sequence: the state that they leave, and what the one move of a step owes to it.
-use Rattle.std.specs.Prelude.{◌≡◌, ◌≤◌, ◌<◌, [], ◌∷◌, length, nat_lt, if◌then◌else◌, Option, Some, None}
+use Rattle.std.specs.Prelude.{◌≡◌, [], ◌∷◌, length, nat_lt, if◌then◌else◌, Option, Some, None}
 use Rattle.std.specs.Prelude.{Result, Ok, Err, unwrap_or, Contains}
 use Rattle.asm_element.specs.Place.{Place}
 use Rattle.asm_update.specs.Aggregator.{Meaning, NoJoin, Refused, TooLarge}
-use Rattle.asm_update.specs.Fire.{Part, Old, fire, IsUpdateSet, IsLeastClash}
+use Rattle.asm_update.specs.Fire.{Part, Old, fire}
 use Rattle.asm_update.specs.Move.{Move}
-use Rattle.asm_update.specs.State.{State, Updates, IsProper, val}
-use Rattle.asm_aggregate.specs.Compose.{composition, IsSequence, NeverFires}
+use Rattle.asm_update.specs.State.{State, IsProper, val}
+use Rattle.asm_aggregate.specs.Compose.{composition}
 use Rattle.asm_update.specs.declared.clash.Clash.{Clash}
+use Rattle.asm_step.specs.declared.error.StepError.{StepError}
+use Rattle.asm_step.specs.declared.error.StepError.TheVariants as step_error
 use Rattle.asm_script.specs.Blocks.{move_in}
 use Rattle.asm_script.specs.StepReads.{named}
 use Rattle.asm_script.specs.declared.block.Block.{Block}
@@ -117,22 +119,10 @@ IsNext there (Err Term) = there ≡ None
 IsNext there (Err Memory) = Unit {0}
 IsNext there (Err _) = ⊥
 
--- the answer is the move's update set, or its clash
-abbrev pub IsFrame : Part → Old → Move → Result Updates StepFault → Type 0
-IsFrame part old M (Ok U) = IsUpdateSet part old M U
-IsFrame part old M (Err (Clashing clash)) = IsLeastClash part old M clash
-IsFrame part old M (Err Memory) = Unit {0}
-IsFrame part old M (Err _) = ⊥
-
--- the answer is what the earlier move, if there is one, and the next one compose to, and does what they do in turn; or
--- why they don't compose, and where they are refused no state lets both fire
-abbrev pub Extends : Meaning → Option Move → Move → Result Move StepFault → Type 0
-Extends a None N (Ok C) = C ≡ N
-Extends a None N (Err fault) = ⊥
-Extends a (Some M) N (Ok C) = IsSequence a.part M N C × (composition a M N ≡ Ok C) × (length C ≤ 4096)
-Extends a (Some M) N (Err Term) = ⊥
-Extends a (Some M) N (Err (Clashing clash)) =
-    NeverFires a.part M N × (composition a M N ≡ Err (clash.at, Refused clash.cause))
-Extends a (Some M) N (Err (Large l)) = NeverFires a.part M N × (composition a M N ≡ Err (l, TooLarge))
-Extends a (Some M) N (Err Many) = (C : Move) × (composition a M N ≡ Ok C) × (4096 < length C)
-Extends a (Some M) N (Err Memory) = Unit {0}
+-- the fault of a step of which a block isn't taken; at most 64 are pushed, so none is too deep
+abbrev pub fault_of : StepError → StepFault
+fault_of (step_error.Clash clash) = Clashing clash
+fault_of (step_error.Large l) = Large l
+fault_of step_error.Many = Many
+fault_of step_error.Deep = Many
+fault_of step_error.Memory = Memory
