@@ -20,4 +20,6 @@ mod script;
 #[cfg(test)]
 mod shared;
 #[cfg(test)]
+mod steps;
+#[cfg(test)]
 mod two_agents;
