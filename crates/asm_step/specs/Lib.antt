@@ -3,3 +3,4 @@ pub mod InTurn
 pub mod Layers
 pub mod Next
 pub mod Places
+pub mod Scan

@@ -9,6 +9,7 @@ mod error;
 mod layer;
 mod over;
 mod places;
+mod scan;
 mod step;
 
 pub use error::StepError;

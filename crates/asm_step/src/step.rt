@@ -31,7 +31,7 @@ use std::marker::Model;
 /// `IsStepOf` tells of which moves it is a step, over what is looked up below it.
 #[derive(Drop)]
 pub struct Step {
-    layers: Vec<Layer>,
+    pub(crate) layers: Vec<Layer>,
     // The one move of a step without moves.
     none: Instructions,
 }

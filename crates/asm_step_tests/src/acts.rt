@@ -1,6 +1,7 @@
 //! What is done with a step, and what comes of it, as rows of a table.
-use crate::moves::{Line, is_same, location, move_of, number, opening, updates_on, write};
+use crate::moves::{Line, NAMES, is_same, location, move_of, number, opening, updates_on, write};
 use asm_aggregate::standard;
+use asm_element::Value;
 use asm_step::{Step, StepError};
 use asm_update::{Cause, Instructions, PlainState};
 use std::alloc::{AllocError, Global};
@@ -23,6 +24,8 @@ pub(crate) enum Act {
     Pop(bool),
     /// The location has this number; undef is none.
     Gives(&'static str, Option<i64>),
+    /// A scan of the name has it at the location, and at each other what is below.
+    Scans(&'static str, Option<i64>),
     Depth(usize),
     /// So many instructions has the one move.
     Size(usize),
@@ -66,6 +69,14 @@ pub(crate) fn take(
     }
 }
 
+/// Whether the value is this number; undef is none.
+fn is_number(value: Option<&Value>, n: Option<i64>) -> bool {
+    match value {
+        Some(value) => n.is_some_and(|n| *value == number(n)),
+        None => n.is_none(),
+    }
+}
+
 fn gives(
     alloc: Global,
     step: &Step,
@@ -74,10 +85,40 @@ fn gives(
     n: Option<i64>,
 ) -> Result<bool, Fail> {
     let at = location(alloc, name)?;
-    Ok(match step.get(below, &at) {
-        Some(value) => n.is_some_and(|n| *value == number(n)),
-        None => n.is_none(),
-    })
+    Ok(is_number(step.get(below, &at), n))
+}
+
+/// Whether the state has this number at the location of the name, and what is below at each other.
+fn differs_at(
+    alloc: Global,
+    plain: &PlainState,
+    below: &PlainState,
+    name: &str,
+    n: Option<i64>,
+) -> Result<bool, Fail> {
+    for other in NAMES {
+        let at = location(alloc, other)?;
+        let is_right = if other == name {
+            is_number(plain.get(&at), n)
+        } else {
+            plain.get(&at) == below.get(&at)
+        };
+        if !is_right {
+            return Ok(false);
+        }
+    }
+    Ok(true)
+}
+
+fn scans(
+    alloc: Global,
+    step: &Step,
+    below: &PlainState,
+    name: &str,
+    n: Option<i64>,
+) -> Result<bool, Fail> {
+    let plain = step.scan(alloc, below.copy(alloc)?, name)?;
+    differs_at(alloc, &plain, below, name, n)
 }
 
 fn has_partials(step: &Step, names: &[&str]) -> bool {
@@ -144,6 +185,7 @@ fn comes_out(alloc: Global, step: &mut Step, below: &PlainState, act: Act) -> Re
         }
         Act::Pop(is_there) => Ok(step.pop() == is_there),
         Act::Gives(name, n) => gives(alloc, step, below, name, n),
+        Act::Scans(name, n) => scans(alloc, step, below, name, n),
         Act::Depth(depth) => Ok(step.depth() == depth),
         Act::Size(size) => Ok(step.as_move().len() == size),
         Act::Partial(names) => Ok(has_partials(step, names)),

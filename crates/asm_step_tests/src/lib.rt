@@ -10,4 +10,6 @@ mod moves;
 #[cfg(test)]
 mod random;
 #[cfg(test)]
+mod scan_tests;
+#[cfg(test)]
 mod tests;

@@ -33,6 +33,14 @@ pub(crate) fn location(alloc: Global, name: &str) -> Result<Location, Fail> {
     Ok(Location::new(String::from_str(alloc, name)?, Vec::new(alloc))?)
 }
 
+/// The location m with this argument.
+pub(crate) fn m_of(alloc: Global, n: i64) -> Result<Location, Fail> {
+    Ok(Location::new(
+        String::from_str(alloc, "m")?,
+        vec![in alloc; Element::Num(n)]?,
+    )?)
+}
+
 pub(crate) fn number(n: i64) -> Value {
     Value::Plain(Element::Num(n))
 }
@@ -52,6 +60,14 @@ fn action(what: Do) -> Result<Action, Fail> {
 pub(crate) fn append(alloc: Global, list: &mut Instructions, line: Line) -> Result<(), Fail> {
     let at = location(alloc, line.0)?;
     let action = action(line.1)?;
+    list.push(Instruction { at, action })?;
+    Ok(())
+}
+
+/// Appends a put at m with the argument n.
+pub(crate) fn append_put(alloc: Global, list: &mut Instructions, n: i64) -> Result<(), Fail> {
+    let at = m_of(alloc, n)?;
+    let action = Action::Regular(number(n));
     list.push(Instruction { at, action })?;
     Ok(())
 }

@@ -3,10 +3,9 @@ use crate::acts::Act::{self, Depth, Ends, Extend, Fires, Gives, Leaves, Partial,
 use crate::acts::Answer::{Clashes, Deep, Many, Taken};
 use crate::acts::{played, played_anew, take};
 use crate::moves::Do::{Add, BagAdd, BagRemove, Inc, Put, Remove, Undef};
-use crate::moves::{Line, append, move_of, number, opening};
-use asm_element::{Element, Location};
+use crate::moves::{Line, append_put, move_of, opening};
 use asm_step::Step;
-use asm_update::{Action, Cause, Instruction, Instructions, PlainState};
+use asm_update::{Cause, Instructions, PlainState};
 use std::alloc::Global;
 use std::test::Fail;
 
@@ -204,17 +203,6 @@ fn the_65th_push_is_deep(rt: HostRuntime) -> Result<(), Fail> {
     let mut step = Step::new(rt.alloc());
     assert_eq!(rt; taken(rt.alloc(), &mut step, &below, 64, true)?, 64);
     assert_eq!(rt; played(rt.alloc(), &mut step, &below, &AT_64)?, AT_64.len());
-    Ok(())
-}
-
-/// Appends a put at m with the argument n.
-fn append_put(alloc: Global, list: &mut Instructions, n: i64) -> Result<(), Fail> {
-    let at = Location::new(
-        String::from_str(alloc, "m")?,
-        vec![in alloc; Element::Num(n)]?,
-    )?;
-    let action = Action::Regular(number(n));
-    list.push(Instruction { at, action })?;
     Ok(())
 }
 

@@ -1,0 +1,68 @@
+//! What is seen at the locations with one function name.
+ghost use Rattle.std.specs.Prelude.{◌≡◌, ◌∷◌, [], nat_eq, IfOk, OnOk, if◌then◌else◌};
+ghost use Rattle.std.specs.Cmp.Lexicographic.{pointwise};
+ghost use Rattle.asm_element.specs.Place.{Place};
+ghost use Rattle.asm_update.specs.State.{val, write};
+ghost use Rattle.asm_step.specs.Layers.{frames_of};
+ghost use Rattle.asm_step.specs.Scan.{scanned};
+
+use crate::step::Step;
+use asm_element::{Location, Value};
+use asm_update::{PlainState, UpdateSet};
+use std::alloc::{AllocError, Global};
+
+// Gives the location a copy of the value, if it has the name; undef takes it out.
+fn put_named(
+    alloc: Global,
+    plain: &mut PlainState,
+    name: &str,
+    at: &Location,
+    value: &Value,
+) -> Result<(), AllocError>
+    ensures { OnOk result (plain.new ≡
+        if pointwise nat_eq at.now.name name.now then write plain.old at.now value.now else plain.old) }
+{
+    if at.name() != name {
+        return Ok(());
+    }
+    let at = at.copy(alloc)?;
+    plain.set(at, value.copy(alloc)?)
+}
+
+// Writes the frame's values at the locations with the name.
+fn put_frame(
+    alloc: Global,
+    plain: &mut PlainState,
+    name: &str,
+    frame: &UpdateSet,
+) -> Result<(), AllocError>
+    ensures { OnOk result ((l : Place) → val plain.new l ≡ scanned (frame.now ∷ []) (val plain.old) name.now l) }
+{
+    for (at, value) in frame.iter() {
+        put_named(alloc, plain, name, at, value)?;
+    }
+    Ok(())
+}
+
+impl Step {
+    /// What is seen through the step's moves at the locations with this function name, over the values that
+    /// `below` has there, as a plain state; at every other location it has what `below` has.
+    ///
+    /// It walks all that the moves write, and copies their values at these locations. `AllocError` comes only
+    /// where memory was refused; `below` is dropped then.
+    pub fn scan(
+        &self,
+        alloc: Global,
+        below: PlainState,
+        name: &str,
+    ) -> Result<PlainState, AllocError>
+        ensures { IfOk result (λ plain. (l : Place) →
+            val plain l ≡ scanned (frames_of self.now) (val below) name.now l) }
+    {
+        let mut plain = below;
+        for layer in &self.layers {
+            put_frame(alloc, &mut plain, name, &layer.frame)?;
+        }
+        Ok(plain)
+    }
+}
