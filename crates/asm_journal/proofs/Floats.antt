@@ -36,7 +36,7 @@ use Rattle.asm_journal.specs.Event.{named_json_of, move_json_of, call_json_of, r
 use Rattle.asm_journal.specs.Text.{state_json_of, header_json_of}
 
 -- a list of values without floats has none
-list_no_float : {X : Type 0} (f : X → Data) → ((x : X) → has_float (f x) ≡ false) → (xs : List X) → items_have_float (items_of (map f xs)) ≡ false
+pub list_no_float : {X : Type 0} (f : X → Data) → ((x : X) → has_float (f x) ≡ false) → (xs : List X) → items_have_float (items_of (map f xs)) ≡ false
 list_no_float f none [] = refl
 list_no_float f none (x ∷ xs) = rw (none x) (list_no_float f none xs)
 
@@ -56,16 +56,16 @@ mutual
   items_no_float datum.nothing = refl
   items_no_float (datum.item d ds) = rw (datum_no_float d) (items_no_float ds)
 
-element_no_float : (x : Element) → has_float (element_json_of x) ≡ false
+pub element_no_float : (x : Element) → has_float (element_json_of x) ≡ false
 element_no_float x = datum_no_float (datum_of x)
 
-count_no_float : (p : Element × ℕ) → has_float (count_json_of p) ≡ false
+pub count_no_float : (p : Element × ℕ) → has_float (count_json_of p) ≡ false
 count_no_float p = rw (element_no_float p.0) refl
 
 pub location_no_float : (p : Place) → has_float (location_json_of p) ≡ false
 location_no_float p = list_no_float element_json_of element_no_float p.args
 
-value_no_float : (v : Value) → has_float (value_json_of v) ≡ false
+pub value_no_float : (v : Value) → has_float (value_json_of v) ≡ false
 value_no_float (values.Plain x) = element_no_float x
 value_no_float (values.Set s) = rw (list_no_float element_json_of element_no_float (set.elements s)) refl
 value_no_float (values.Bag b) = rw (list_no_float count_json_of count_no_float (bag.entries b)) refl
@@ -73,7 +73,7 @@ value_no_float (values.Bag b) = rw (list_no_float count_json_of count_no_float (
 pub pair_no_float : (e : Place × Value) → has_float (pair_json_of e) ≡ false
 pair_no_float e = rw (location_no_float e.0, value_no_float e.1) refl
 
-instruction_no_float : (i : Instruction) → has_float (instruction_json_of i) ≡ false
+pub instruction_no_float : (i : Instruction) → has_float (instruction_json_of i) ≡ false
 instruction_no_float i = by_action i.action where
   by_action : (a : Action) → has_float (instruction_json_of (record { at = i.at; action = a })) ≡ false
   by_action (Regular v) = rw (location_no_float i.at, value_no_float v) refl
@@ -86,10 +86,10 @@ instruction_no_float i = by_action i.action where
 pub move_no_float : (M : Move) → has_float (move_json_of M) ≡ false
 move_no_float M = list_no_float instruction_json_of instruction_no_float M
 
-named_no_float : (r : Named) → has_float (named_json_of r) ≡ false
+pub named_no_float : (r : Named) → has_float (named_json_of r) ≡ false
 named_no_float r = rw (location_no_float r.at) refl
 
-call_no_float : (c : Call) → has_float (call_json_of c) ≡ false
+pub call_no_float : (c : Call) → has_float (call_json_of c) ≡ false
 call_no_float (call.Read ps) = rw (list_no_float location_json_of location_no_float ps) refl
 call_no_float (call.Fire rs M) = rw (list_no_float instruction_json_of instruction_no_float M, list_no_float named_json_of named_no_float rs) refl
 

@@ -60,7 +60,7 @@ module _ (part : Part) (init : State) (capacity : ℕ) (events : List Event) (i 
     stands = ap (λ x. take i events ++ x ∷ drop (suc i) events) here ∙ sym (split_at events i e within);
     counted = length-take-le i events (omega (arith, within));
     legal = legal-from (machine part init capacity) (take i events) checked.1;
-    wrong = subst (IsStep part capacity e old new) false_is step init (fired_moves (take i events)) checked.0;
+    wrong = let wrong = subst (IsStep part capacity e old new) false_is step in wrong.1 init (fired_moves (take i events)) checked.0;
   }
 
 -- ---- one read
@@ -78,10 +78,13 @@ read_step part capacity e s places n vs true call-is answer-is tells = λ init q
     (answered, subst (Stands part init s) (sym (ap (λ o. q ++ cons_option o []) quiet ∙ append-nil q)) stands) where
       fired : Call → Answer → Option Move
       fired c a = move_of (record { agent = e.agent; call = c; answer = a })
-read_step part capacity e s places n vs false call-is answer-is tells = λ init q stands same.
-    let parts = same_read _ _ _ _ (sym answer-is ∙ same ∙ ap (reply_to (machine part init capacity) q) call-is) in
-    let values = ap (λ (f : Place → Value). map f places) (same_old part init q s stands) ∙ sym parts.1 in
-    true_and_false false (tells.1 (parts.0 ∙ sym stands.number, values)) refl
+read_step part capacity e s places n vs false call-is answer-is tells = (
+  refl,
+  λ init q stands same.
+      let parts = same_read _ _ _ _ (sym answer-is ∙ same ∙ ap (reply_to (machine part init capacity) q) call-is) in
+      let values = ap (λ (f : Place → Value). map f places) (same_old part init q s stands) ∙ sym parts.1 in
+      true_and_false false (tells.1 (parts.0 ∙ sym stands.number, values)) refl,
+)
 
 -- ---- one fire
 
@@ -103,8 +106,8 @@ module _ (part : Part) (capacity : ℕ) (e : Event) (old : StateView) (reads : L
   replied init q stands =
       ap (reply_to (machine part init capacity) q) call-is ∙ ap answer.Fire (objection_is init q v (judged init q stands) ∙ ap (λ n. judged_reply capacity n v) (sym stands.number))
 
-  pub wrong_fire : (new : StateView) → (r ≡ judged_reply capacity old.number v → ⊥) → IsStep part capacity e old new false
-  wrong_fire new other = λ init q stands same. other (same_fire _ _ (sym answer-is ∙ same ∙ replied init q stands)) where
+  pub wrong_fire : (r ≡ judged_reply capacity old.number v → ⊥) → IsStep part capacity e old old false
+  wrong_fire other = (refl, λ init q stands same. other (same_fire _ _ (sym answer-is ∙ same ∙ replied init q stands))) where
     same_fire : (x y : Reply) → answer.Fire x ≡ answer.Fire y → x ≡ y
     same_fire x y e = cc
 

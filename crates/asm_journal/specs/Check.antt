@@ -62,9 +62,9 @@ abbrev pub moves_with : List Move → Event → List Move
 moves_with q e = q ++ cons_option (move_of e) []
 
 -- whether the answer is right after the moves that the state stands for; if so, the new state stands for the event's
--- move too
+-- move too, and else it is the old one
 abbrev pub IsStep : Part → ℕ → Event → StateView → StateView → Bool → Type 0
 IsStep part capacity e old new true = (init : State) (q : List Move) → Stands part init old q →
     (e.answer ≡ reply_to (machine part init capacity) q e.call) × Stands part init new (moves_with q e)
-IsStep part capacity e old new false = (init : State) (q : List Move) → Stands part init old q →
-    e.answer ≢ reply_to (machine part init capacity) q e.call
+IsStep part capacity e old new false = (new ≡ old) × ((init : State) (q : List Move) → Stands part init old q →
+    e.answer ≢ reply_to (machine part init capacity) q e.call)

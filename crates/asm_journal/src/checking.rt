@@ -85,9 +85,11 @@ fn is_fired(reply: &Reply) -> bool
     matches!(reply, Reply::Fired(_))
 }
 
-/// Judges the event's answer after the moves that the state has followed. Where the answer is right, the state follows
-/// the event's move too.
-fn step<A: Aggregator>(
+/// Whether the event's answer is the one that the storage of one thread, with this capacity, gives after the moves
+/// that the state has followed. Where it is, the state follows the event's move too; else it is as it was.
+///
+/// `AllocError` comes only where memory was refused; the state is then as it was.
+pub fn judge_event<A: Aggregator>(
     alloc: Global,
     aggregator: &A,
     state: &mut State,
@@ -133,7 +135,7 @@ pub fn check<A: Aggregator>(
     let mut state = State::new(alloc, history.init.copy(alloc)?)?;
     let events = history.events.as_slice();
     for (index, event) in events.iter().enumerate() {
-        if !step(alloc, aggregator, &mut state, history.capacity, event)? {
+        if !judge_event(alloc, aggregator, &mut state, history.capacity, event)? {
             return Ok(Legality::Illegal { call: index as u64 });
         }
     }

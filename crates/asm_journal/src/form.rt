@@ -45,10 +45,13 @@ pub trait FromJson: Drop {
 }
 
 /// A value that is written as JSON.
-pub(crate) trait ToJson {
+pub trait ToJson {
     // the JSON that is written
     ghost json_of: { Self → Data };
 
+    /// Its form.
+    ///
+    /// `AllocError` comes only where memory was refused.
     fn to_json(&self, alloc: Global) -> Result<Json, AllocError>
         ensures { IfOk result (λ json. view json ≡ json_of self.now) };
 }

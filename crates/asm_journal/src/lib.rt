@@ -13,15 +13,15 @@ mod texts;
 mod version;
 mod writing;
 
-pub use checking::{Legality, check};
+pub use checking::{Legality, check, judge_event};
 pub use fault::{JournalError, WriteError};
 pub use form::{
-    FromJson, Listed, instruction_json, instruction_parts, location_json, one_member, pair_json,
-    read_amount, read_instruction, read_location, read_one, read_value, two_items, two_members,
-    value_json, word_of_cause,
+    FromJson, Listed, ToJson, instruction_json, instruction_parts, location_json, one_member,
+    pair_json, read_amount, read_instruction, read_location, read_one, read_value, two_items,
+    two_members, value_json, word_of_cause,
 };
 pub use output::write_text;
 pub use reading::from_text;
 pub use replaying::{next_storage, replay};
 pub use texts::{answer_text, move_text, state_text, updates_text};
-pub use writing::to_text;
+pub use writing::{push_line, to_text};

@@ -25,8 +25,10 @@ fn header_json(alloc: Global, history: &History) -> Result<Json, AllocError>
     Ok(Json::Object(header))
 }
 
-/// Appends the compact text of a value, and a line feed.
-fn push_line(alloc: Global, text: &mut String, json: &Json) -> Result<(), AllocError>
+/// Appends the compact text of a value without floats, and a line feed.
+///
+/// `AllocError` comes only where memory was refused.
+pub fn push_line(alloc: Global, text: &mut String, json: &Json) -> Result<(), AllocError>
     requires { has_float (view json.now) ≡ false }
     ensures { OnOk result (string_bytes text.new ≡ string_bytes text.old ++ line (view json.now)) }
 {

@@ -4,8 +4,8 @@ use Rattle.asm_storage.specs.declared.call.Answer.TheVariants as answer
 use Rattle.asm_journal.specs.Check.{judged_reply, IsStep}
 use Rattle.asm_journal.proofs.Legal.{read_step, wrong_fire, quiet_fire, taken_fire}
 use Rattle.asm_journal.proofs.Parsed.{true_and_false}
-use Rattle.asm_journal.proofs.checking.step.Goals as goal
-use Rattle.asm_journal.proofs.checking.step.Goals.{then-is_fired+in_ok-follow-in-Fire-Fire, else-is_fired}
+use Rattle.asm_journal.proofs.checking.judge_event.Goals as goal
+use Rattle.asm_journal.proofs.checking.judge_event.Goals.{then-is_fired+in_ok-follow-in-Fire-Fire, else-is_fired}
 
 pub returns-then-number : goal.returns-then-number
 returns-then-number g c =
@@ -24,7 +24,7 @@ returns-then-not-is_reply g c =
     let v = c.in_ok-objection-in-Fire-Fire.objection in
     let reads = c.as_slice-in-Fire-Fire.result.now in
     wrong_fire part c.args.capacity c.args.event.now c.args.state.now reads f.instrs f.reply v
-    (f.is-0 ∙ ap (λ rs. call.Fire rs f.instrs) (sym c.as_slice-in-Fire-Fire.ensures)) f.is-1 c.in_ok-objection-in-Fire-Fire.ensures c.args.state.now
+    (f.is-0 ∙ ap (λ rs. call.Fire rs f.instrs) (sym c.as_slice-in-Fire-Fire.ensures)) f.is-1 c.in_ok-objection-in-Fire-Fire.ensures
     (λ e. true_and_false c.is_reply.result (c.is_reply.ensures.1 (e ∙ ap (λ n. judged_reply c.args.capacity n v) (sym c.number-in-Fire-Fire.ensures))) c.if-not-is_reply.true)
 
 pub returns-after-is_fired : goal.returns-after-is_fired
