@@ -1,6 +1,6 @@
 -- What is answered to the program's words.
 use Rattle.std.proofs.Common.{◌≡◌, ◌∙◌, ◌<◌, ◌^◌, Bool, true, false, ap, ap₂, length, option_map, List, [], ◌∷◌}
-use Rattle.std.proofs.Common.{Option, Some, None, Result, Ok, Err, refl, sym, subst, codes, inl, inr, arith, lit<}
+use Rattle.std.proofs.Common.{get_or, Option, Some, None, Result, Ok, Err, refl, sym, subst, codes, inl, inr, arith, lit<}
 use Rattle.std.specs.Prelude.{IfOk, IfErr, IfSome, IfNone, ◌⊎◌}
 use Rattle.std.specs.Option.{ok_or, option_and_then}
 use Rattle.std.specs.Str.Parse.{IsNumeral, digits_value, without_leading_plus}
@@ -12,7 +12,7 @@ use Rattle.asm_driver.specs.Words.{Words, program, faults, program_with, run_wit
 use Rattle.asm_driver.specs.Words.{IsRefusal, IsMadeOf}
 use Rattle.asm_driver.specs.Words.{Gives, RefusesWords, Helps, Answers}
 use Rattle.asm_driver.specs.declared.program.words.Request.{Request}
-use Rattle.asm_driver.specs.declared.program.words.Request.TheVariants.{Run, Check, Rewrite}
+use Rattle.asm_driver.specs.declared.program.words.Request.TheVariants.{Run, Check, Rewrite, Trace}
 use Rattle.asm_driver.specs.declared.program.words.WordsError.{WordsError}
 use Rattle.asm_driver.specs.declared.program.words.WordsError.TheVariants.{Help, Bad, Memory}
 
@@ -32,7 +32,7 @@ record IsExample (example : Words) (r : Request) : Type 0 where
   asks : (m : Request) → Asks (subcommand_of program example) m → m ≡ r
   known : ¬ IsNoCommand (subcommand_of program example)
 
--- the words of the commands differ, as their lengths do
+-- the words of the commands differ, most by their lengths
 run_is_no_check : codes "run" ≡ codes "check" → ⊥
 run_is_no_check e = let bad : 3 ≡ 5 = ap length e in absurd (omega (arith, bad))
 
@@ -41,6 +41,16 @@ run_is_no_rewrite e = let bad : 3 ≡ 7 = ap length e in absurd (omega (arith, b
 
 check_is_no_rewrite : codes "check" ≡ codes "rewrite" → ⊥
 check_is_no_rewrite e = let bad : 5 ≡ 7 = ap length e in absurd (omega (arith, bad))
+
+run_is_no_trace : codes "run" ≡ codes "trace" → ⊥
+run_is_no_trace e = let bad : 3 ≡ 5 = ap length e in absurd (omega (arith, bad))
+
+rewrite_is_no_trace : codes "rewrite" ≡ codes "trace" → ⊥
+rewrite_is_no_trace e = let bad : 7 ≡ 5 = ap length e in absurd (omega (arith, bad))
+
+-- these two are of one length, and differ in their first letter
+check_is_no_trace : codes "check" ≡ codes "trace" → ⊥
+check_is_no_trace e = let bad : 99 ≡ 116 = ap (λ (t : Text). get_or t 0 0) e in absurd (omega (arith, bad))
 
 -- the text of a flag
 abbrev flag_text : Bool → Text
@@ -62,6 +72,8 @@ asked_run (Some p) t j named number numeral small flag Check h =
     let name : p.0 ≡ codes "run" = cc named in absurd (run_is_no_check (sym name ∙ h))
 asked_run (Some p) t j named number numeral small flag Rewrite h =
     let name : p.0 ≡ codes "run" = cc named in absurd (run_is_no_rewrite (sym name ∙ h))
+asked_run (Some p) t j named number numeral small flag Trace h =
+    let name : p.0 ≡ codes "run" = cc named in absurd (run_is_no_trace (sym name ∙ h))
 
 asked_check : (s : Option (Text × List Row)) → option_map (λ p. p.0) s ≡ Some (codes "check") → (m : Request) →
     Asks s m → m ≡ Check
@@ -71,6 +83,8 @@ asked_check (Some p) named (Run c k) h =
 asked_check (Some p) named Check h = refl
 asked_check (Some p) named Rewrite h =
     let name : p.0 ≡ codes "check" = cc named in absurd (check_is_no_rewrite (sym name ∙ h))
+asked_check (Some p) named Trace h =
+    let name : p.0 ≡ codes "check" = cc named in absurd (check_is_no_trace (sym name ∙ h))
 
 asked_rewrite : (s : Option (Text × List Row)) → option_map (λ p. p.0) s ≡ Some (codes "rewrite") → (m : Request) →
     Asks s m → m ≡ Rewrite
@@ -80,6 +94,19 @@ asked_rewrite (Some p) named (Run c k) h =
 asked_rewrite (Some p) named Check h =
     let name : p.0 ≡ codes "rewrite" = cc named in absurd (check_is_no_rewrite (sym h ∙ name))
 asked_rewrite (Some p) named Rewrite h = refl
+asked_rewrite (Some p) named Trace h =
+    let name : p.0 ≡ codes "rewrite" = cc named in absurd (rewrite_is_no_trace (sym name ∙ h))
+
+asked_trace : (s : Option (Text × List Row)) → option_map (λ p. p.0) s ≡ Some (codes "trace") → (m : Request) →
+    Asks s m → m ≡ Trace
+asked_trace None named m h = absurd h
+asked_trace (Some p) named (Run c k) h =
+    let name : p.0 ≡ codes "trace" = cc named in absurd (run_is_no_trace (sym h.0 ∙ name))
+asked_trace (Some p) named Check h =
+    let name : p.0 ≡ codes "trace" = cc named in absurd (check_is_no_trace (sym h ∙ name))
+asked_trace (Some p) named Rewrite h =
+    let name : p.0 ≡ codes "trace" = cc named in absurd (rewrite_is_no_trace (sym h ∙ name))
+asked_trace (Some p) named Trace h = refl
 
 none_among : (k : ErrorKind) (ks : Kinds) → ks ≡ [] → IsAmong k ks → ⊥
 none_among k [] e h = h
@@ -200,6 +227,14 @@ rewritten = record {
   known = λ h. h.2 refl;
 }
 
+traced : IsExample (program_with (codes "trace" ∷ [])) Trace
+unfolding clap_on_literals faults
+traced = record {
+  taken = refl;
+  asks = asked_trace (subcommand_of program (program_with (codes "trace" ∷ []))) refl;
+  known = λ h. h.3 refl;
+}
+
 no_help : (k : ErrorKind) → ¬ (kind.DisplayHelp ≡ k) → ¬ IsAmong kind.DisplayHelp (k ∷ [])
 no_help k without (inl h) = without h
 no_help k without (inr h) = h
@@ -237,6 +272,10 @@ rewrite_further : faults (program_with (codes "rewrite" ∷ codes "more" ∷ [])
 unfolding clap_on_literals faults
 rewrite_further = refl
 
+trace_further : faults (program_with (codes "trace" ∷ codes "more" ∷ [])) ≡ kind.UnknownArgument ∷ []
+unfolding clap_on_literals faults
+trace_further = refl
+
 help : faults (codes "asm_driver" ∷ codes "--help" ∷ []) ≡ kind.DisplayHelp ∷ []
 unfolding clap_on_literals faults
 help = refl
@@ -252,6 +291,10 @@ check_help = refl
 rewrite_help : faults (program_with (codes "rewrite" ∷ codes "--help" ∷ [])) ≡ kind.DisplayHelp ∷ []
 unfolding clap_on_literals faults
 rewrite_help = refl
+
+trace_help : faults (program_with (codes "trace" ∷ codes "--help" ∷ [])) ≡ kind.DisplayHelp ∷ []
+unfolding clap_on_literals faults
+trace_help = refl
 
 pub answers : (words : Words) (r : Result Request WordsError) → IfOk r (AsksFor words) → IfErr r (IsRefusal words) →
     Answers words r
@@ -272,10 +315,13 @@ answers words r ok err = record {
   check_further = refuses _ words _ _ r check_further (no_help _ (λ e. cc (e))) ok err;
   rewrite = gives _ words _ r rewritten ok err;
   rewrite_further = refuses _ words _ _ r rewrite_further (no_help _ (λ e. cc (e))) ok err;
+  trace = gives _ words _ r traced ok err;
+  trace_further = refuses _ words _ _ r trace_further (no_help _ (λ e. cc (e))) ok err;
   help = helps _ words r help ok err;
   run_help = helps _ words r run_help ok err;
   check_help = helps _ words r check_help ok err;
   rewrite_help = helps _ words r rewrite_help ok err;
+  trace_help = helps _ words r trace_help ok err;
 }
 
 -- what the matches ask for, or a mistake where their command isn't one of the program's

@@ -11,7 +11,7 @@ use Rattle.asm_driver.specs.Run.{Input, Output, IsAnswer, IsNoAnswer, IsShown, W
 use Rattle.asm_driver.specs.declared.program.refusal.Refusal.{Refusal}
 use Rattle.asm_driver.specs.declared.program.refusal.Refusal.TheVariants as refusal
 use Rattle.asm_driver.specs.declared.program.words.Request.{Request}
-use Rattle.asm_driver.specs.declared.program.words.Request.TheVariants.{Run, Check, Rewrite}
+use Rattle.asm_driver.specs.declared.program.words.Request.TheVariants.{Run, Check, Rewrite, Trace}
 
 -- it has failed, and it hasn't
 both : true ≡ false → ⊥
@@ -29,6 +29,8 @@ done_works bytes (Run capacity asked) status text done e = let bad : 0 ≡ 4 = s
     ∙ e in absurd (omega (arith, bad))
 done_works bytes Check status text (h, l, reads, is, same, written) e = legality_works l (sym same ∙ e)
 done_works bytes Rewrite status text done e = let bad : 0 ≡ 4 = sym done.0
+    ∙ e in absurd (omega (arith, bad))
+done_works bytes Trace status text done e = let bad : 0 ≡ 4 = sym done.0
     ∙ e in absurd (omega (arith, bad))
 
 answer_works : (words : Words) (i : Input) (status : ℕ) (text : List ℕ) → IsAnswer words i status text → status ≡ 4 → ⊥
@@ -89,6 +91,7 @@ done_reads : (bytes : List ℕ) (request : Request) → IsNotDone bytes request 
 done_reads bytes (Run capacity asked) is = is
 done_reads bytes Check is = is
 done_reads bytes Rewrite is = is
+done_reads bytes Trace is = is
 
 -- a failed read is refused so
 fault_failed : (words : Words) (i : Input) → IsNoAnswer words i refusal.InputFault → i.failed ≡ true

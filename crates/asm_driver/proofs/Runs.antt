@@ -10,7 +10,7 @@ use Rattle.asm_driver.specs.Run.{Ports, input_of, output_of}
 use Rattle.asm_driver.specs.declared.program.refusal.Refusal.{Refusal}
 use Rattle.asm_driver.specs.declared.program.refusal.Refusal.TheVariants as refusal
 use Rattle.asm_driver.specs.declared.program.words.Request.{Request}
-use Rattle.asm_driver.specs.declared.program.words.Request.TheVariants.{Run, Check, Rewrite}
+use Rattle.asm_driver.specs.declared.program.words.Request.TheVariants.{Run, Check, Rewrite, Trace}
 
 pub answered : (given words : Words) (i : Input) (o : Output) (status : ℕ) (text bytes : List ℕ) (result : ℕ) →
     given ≡ words → bytes ≡ text → IsAnswer given i status text → Writes o status bytes result → Runs words i o result
@@ -27,6 +27,7 @@ memory_done : (bytes : List ℕ) (request : Request) → IsNotDone bytes request
 memory_done bytes (Run capacity asked) = tt
 memory_done bytes Check = tt
 memory_done bytes Rewrite = tt
+memory_done bytes Trace = tt
 
 -- a refusal of the input has no number
 input_plain : (i : Input) (r : Refusal) → IsNoInput i r → has_number r ≡ true → ⊥

@@ -1,5 +1,5 @@
 -- How many bytes of the input a run takes.
-use Rattle.std.proofs.Common.{◌≡◌, ◌≤◌, ℕ, List, [], length, sym, subst, inl, inr, arith}
+use Rattle.std.proofs.Common.{◌≤◌, ℕ, List, [], length, sym, subst, inl, inr, arith}
 use Rattle.std.proofs.KnownBytes.{Consumes-nil}
 use Rattle.std.specs.Io.KnownBytes.{Consumes}
 use Rattle.asm_driver.specs.Input.{Known, TakesUpTo}

@@ -16,11 +16,12 @@ use Rattle.asm_driver.specs.Report.{line, report_of}
 use Rattle.asm_script.specs.Script.{IsScriptOf, IsRefusedScript}
 use Rattle.asm_play.specs.Standard.{standard_part}
 use Rattle.asm_play.specs.declared.outcome.Played.{Played}
+use Rattle.asm_trace.specs.Text.{IsTrace}
 use Rattle.asm_driver.specs.declared.program.refusal.Refusal.{Refusal}
 use Rattle.asm_driver.specs.declared.program.refusal.Refusal.TheVariants as refusal
 use Rattle.asm_script.specs.declared.script.ScriptError.TheVariants.{BadScript}
 use Rattle.asm_driver.specs.declared.program.words.Request.{Request}
-use Rattle.asm_driver.specs.declared.program.words.Request.TheVariants.{Run, Check, Rewrite}
+use Rattle.asm_driver.specs.declared.program.words.Request.TheVariants.{Run, Check, Rewrite, Trace}
 
 -- ---- run
 
@@ -88,9 +89,15 @@ IsCheck bytes status text =
 abbrev pub IsRewrite : List ℕ → List ℕ → Type 0
 IsRewrite bytes text = (h : History) × journal.ReadsAs bytes h × (text ≡ text_of h)
 
--- ---- check and rewrite
+-- ---- trace
 
--- why these bytes are neither checked nor rewritten: they are no journal; an allocation failure tells nothing
+-- the trace of the history that these bytes read as, whether it is legal or not
+abbrev pub IsTraceOf : List ℕ → List ℕ → Type 0
+IsTraceOf bytes text = (h : History) × journal.ReadsAs bytes h × IsTrace standard_part h text
+
+-- ---- check, rewrite and trace
+
+-- why these bytes are neither checked nor rewritten nor traced: they are no journal; an allocation failure tells nothing
 abbrev pub IsNoJournal : List ℕ → Refusal → Type 0
 IsNoJournal bytes (refusal.BadJournal e) = (e ≢ journal_error.Memory) × fault.IsRefused bytes e
 IsNoJournal bytes refusal.Memory = Unit {0}
@@ -103,9 +110,11 @@ abbrev pub IsDone : List ℕ → Request → ℕ → List ℕ → Type 0
 IsDone bytes (Run capacity asked) status text = (status ≡ 0) × IsRunText bytes capacity asked text
 IsDone bytes Check status text = IsCheck bytes status text
 IsDone bytes Rewrite status text = (status ≡ 0) × IsRewrite bytes text
+IsDone bytes Trace status text = (status ≡ 0) × IsTraceOf bytes text
 
 -- why it isn't done
 abbrev pub IsNotDone : List ℕ → Request → Refusal → Type 0
 IsNotDone bytes (Run capacity asked) r = IsNoRun bytes capacity asked r
 IsNotDone bytes Check r = IsNoJournal bytes r
 IsNotDone bytes Rewrite r = IsNoJournal bytes r
+IsNotDone bytes Trace r = IsNoJournal bytes r

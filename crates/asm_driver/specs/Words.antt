@@ -9,7 +9,7 @@ use Rattle.clap.specs.declared.builder.value_parser.ValueParser.TheVariants.{Sig
 use Rattle.clap.specs.declared.error.kind.ErrorKind.{ErrorKind}
 use Rattle.clap.specs.declared.error.kind.ErrorKind.TheVariants as kind
 use Rattle.asm_driver.specs.declared.program.words.Request.{Request}
-use Rattle.asm_driver.specs.declared.program.words.Request.TheVariants.{Run, Check, Rewrite}
+use Rattle.asm_driver.specs.declared.program.words.Request.TheVariants.{Run, Check, Rewrite, Trace}
 use Rattle.asm_driver.specs.declared.program.words.WordsError.{WordsError}
 use Rattle.asm_driver.specs.declared.program.words.WordsError.TheVariants.{Help, Bad, Memory}
 
@@ -39,12 +39,20 @@ check = new_app (codes "check")
 abbrev pub rewrite : App
 rewrite = new_app (codes "rewrite")
 
--- the commands run, check and rewrite, of which one must be given
+-- the command trace
+abbrev pub trace : App
+trace = new_app (codes "trace")
+
+-- with the commands that read a journal
+abbrev pub with_journals : App → App
+with_journals a = with_subcommand (with_subcommand (with_subcommand a check.top) rewrite.top) trace.top
+
+-- the commands run, check, rewrite and trace, of which one must be given
 abbrev pub program : App
 program =
     let named = new_app (codes "asm_driver") in
     let required = record named { top = record named.top { subcommand_required = true } } in
-    with_subcommand (with_subcommand (with_subcommand required run.top) check.top) rewrite.top
+    with_journals (with_subcommand required run.top)
 
 -- the words, each with its bytes
 abbrev pub Words : Type 0
@@ -71,6 +79,7 @@ abbrev pub AsksRun : List Row → Request → Type 0
 AsksRun rows (Run number asked) = AsksCapacity rows number × AsksJournal rows asked
 AsksRun rows Check = ⊥
 AsksRun rows Rewrite = ⊥
+AsksRun rows Trace = ⊥
 
 -- the command with its options asks for this
 abbrev pub Asks : Option (Text × List Row) → Request → Type 0
@@ -78,6 +87,7 @@ Asks None r = ⊥
 Asks (Some p) (Run number asked) = (p.0 ≡ codes "run") × AsksRun p.1 (Run number asked)
 Asks (Some p) Check = p.0 ≡ codes "check"
 Asks (Some p) Rewrite = p.0 ≡ codes "rewrite"
+Asks (Some p) Trace = p.0 ≡ codes "trace"
 
 -- the words are taken, and ask for this
 abbrev pub AsksFor : Words → Request → Type 0
@@ -90,7 +100,8 @@ AsksForHelp words = IsAmong kind.DisplayHelp (faults words)
 -- there is another command, or none
 abbrev pub IsNoCommand : Option (Text × List Row) → Type 0
 IsNoCommand None = Unit {0}
-IsNoCommand (Some p) = ¬ (p.0 ≡ codes "run") × ¬ (p.0 ≡ codes "check") × ¬ (p.0 ≡ codes "rewrite")
+IsNoCommand (Some p) =
+    ¬ (p.0 ≡ codes "run") × ¬ (p.0 ≡ codes "check") × ¬ (p.0 ≡ codes "rewrite") × ¬ (p.0 ≡ codes "trace")
 
 -- the words have a mistake: one that clap may find, or clap takes them and there is no command of the program's
 abbrev pub HasMistake : Words → Type 0
@@ -157,7 +168,10 @@ pub record Answers (words : Words) (r : Result Request WordsError) : Type 0 wher
   pub check_further : words ≡ program_with (codes "check" ∷ codes "more" ∷ []) → RefusesWords r
   pub rewrite : words ≡ program_with (codes "rewrite" ∷ []) → Gives Rewrite r
   pub rewrite_further : words ≡ program_with (codes "rewrite" ∷ codes "more" ∷ []) → RefusesWords r
+  pub trace : words ≡ program_with (codes "trace" ∷ []) → Gives Trace r
+  pub trace_further : words ≡ program_with (codes "trace" ∷ codes "more" ∷ []) → RefusesWords r
   pub help : words ≡ program_with (codes "--help" ∷ []) → Helps r
   pub run_help : words ≡ run_with (codes "--help" ∷ []) → Helps r
   pub check_help : words ≡ program_with (codes "check" ∷ codes "--help" ∷ []) → Helps r
   pub rewrite_help : words ≡ program_with (codes "rewrite" ∷ codes "--help" ∷ []) → Helps r
+  pub trace_help : words ≡ program_with (codes "trace" ∷ codes "--help" ∷ []) → Helps r

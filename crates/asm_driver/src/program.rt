@@ -136,12 +136,12 @@ pub fn run_noted<T: Threads + Wait + Sync, S: Source, K: Sink>(
 
 /// Does what the words ask for, and gives the program's status.
 ///
-/// The words begin with the program's name, and are `run` with its options, `check` or `rewrite`. The input
+/// The words begin with the program's name, and are `run` with its options, `check`, `rewrite` or `trace`. The input
 /// is read to its end, at most 16,777,216 bytes. With `run` it is a script, which is played, and the report
 /// is written with status 0, or with `--journal` the journal of the calls. With `check` it is a journal, and
 /// `legal CALLS MOVES` is written with status 0, or `illegal CALL` with status 1. With `rewrite` it is a
-/// journal too, whether legal or not, and the journal of the same history is written with status 0. Help that
-/// is asked for has status 0.
+/// journal too, whether legal or not, and the journal of the same history is written with status 0; so is its
+/// trace with `trace`. Help that is asked for has status 0.
 ///
 /// Otherwise one line tells why: status 1 for a fired move without a receipt, 2 for words, a size, a script
 /// or a journal that is refused, 3 for an allocation failure or a thread that couldn't be started, 4 for a failed

@@ -36,7 +36,7 @@ fn refuses<T: Threads + Wait + Sync>(
 }
 
 /// A word, an input, and the line.
-static REFUSALS: [(&str, &str, &str); 10] = [
+static REFUSALS: [(&str, &str, &str); 12] = [
     ("play", "", "bad words\n"),
     ("run", "{", "bad script: not JSON\n"),
     ("run", "{}", "bad script: shape\n"),
@@ -68,6 +68,8 @@ static REFUSALS: [(&str, &str, &str); 10] = [
 {"agent":0"#,
         "journal line 2: not JSON\n",
     ),
+    ("trace", "", "journal cut\n"),
+    ("trace", "{}\n", "journal line 1: shape\n"),
 ];
 
 #[test]

@@ -2,7 +2,7 @@
 use crate::running::{RUN, assert_ends};
 use std::test::Fail;
 
-static EXAMPLES: [(&str, &str); 6] = [
+pub(crate) static EXAMPLES: [(&str, &str); 6] = [
     (
         r#"{"init":[],"agents":[[[[["put",["x"],1]]]]]}
 "#,

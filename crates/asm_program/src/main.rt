@@ -1,4 +1,4 @@
-//! The program: it plays scripts, and checks and rewrites journals.
+//! The program: it plays scripts, and checks, rewrites and traces journals.
 #![tactic(auto)]
 
 use asm_driver::run_given;
@@ -45,5 +45,7 @@ mod rewrite_tests;
 mod run_tests;
 #[cfg(test)]
 mod running;
+#[cfg(test)]
+mod trace_tests;
 #[cfg(test)]
 mod words_tests;

@@ -167,7 +167,7 @@ const FAULT: Ending = Ending {
     text: "input fault\n",
 };
 
-static REFUSED: [(&str, (usize, Option<ErrorKind>), Ending); 7] = [
+static REFUSED: [(&str, (usize, Option<ErrorKind>), Ending); 10] = [
     ("run", (16_777_216, None), NOT_JSON),
     ("run", (16_777_217, None), TOO_LARGE),
     ("check", (usize::MAX, None), TOO_LARGE),
@@ -175,6 +175,9 @@ static REFUSED: [(&str, (usize, Option<ErrorKind>), Ending); 7] = [
     ("rewrite", (16_777_216, None), NO_JOURNAL),
     ("rewrite", (16_777_217, None), TOO_LARGE),
     ("rewrite", (4096, Some(ErrorKind::Other)), FAULT),
+    ("trace", (16_777_216, None), NO_JOURNAL),
+    ("trace", (16_777_217, None), TOO_LARGE),
+    ("trace", (4096, Some(ErrorKind::Other)), FAULT),
 ];
 
 #[test]

@@ -13,6 +13,8 @@ pub(crate) const CHECK: [&str; 2] = ["asm_driver", "check"];
 
 pub(crate) const REWRITE: [&str; 2] = ["asm_driver", "rewrite"];
 
+pub(crate) const TRACE: [&str; 2] = ["asm_driver", "trace"];
+
 pub(crate) const ONE_PUT: &str = r#"{"init":[],"agents":[[[[["put",["x"],1]]]]]}"#;
 
 pub(crate) fn words_of(alloc: Global, words: &[&str]) -> Result<Vec<String>, AllocError> {

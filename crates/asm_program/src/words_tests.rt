@@ -8,7 +8,7 @@ use std::sync::Wait;
 use std::test::Fail;
 use std::thread::Threads;
 
-static REFUSED: [&[&str]; 12] = [
+static REFUSED: [&[&str]; 15] = [
     &["asm_driver"],
     &["asm_driver", "play"],
     &["asm_driver", "check", "more"],
@@ -16,6 +16,9 @@ static REFUSED: [&[&str]; 12] = [
     &["asm_driver", "rewrite", "more"],
     &["asm_driver", "rewrite", "--journal"],
     &["asm_driver", "rewrite", "rewrite"],
+    &["asm_driver", "trace", "more"],
+    &["asm_driver", "trace", "--journal"],
+    &["asm_driver", "trace", "check"],
     &["asm_driver", "run", "--journal", "--journal"],
     &["asm_driver", "run", "--journal=true"],
     &["asm_driver", "run", "--capacity", "0"],
@@ -32,7 +35,7 @@ fn words_that_are_refused(rt: HostRuntime) -> Result<(), Fail> {
 }
 
 const HELP: &str =
-    r#"Plays the steps of an abstract state machine's agents on one storage, and checks and rewrites journals
+    r#"Plays the steps of an abstract state machine's agents on one storage, and checks, rewrites and traces journals
 
 Usage: asm_driver <COMMAND>
 
@@ -40,6 +43,7 @@ Commands:
   run      Plays a script, which is read from standard input, and writes the report
   check    Checks a journal, which is read from standard input, and writes whether it is legal
   rewrite  Rewrites a journal, which is read from standard input, in version 2, and doesn't check it
+  trace    Traces a journal, which is read from standard input, and writes what each call did
   help     Print this message or the help of the given subcommand(s)
 
 Options:
@@ -74,7 +78,16 @@ Options:
   -h, --help  Print help
 "#;
 
-static HELPS: [(&[&str], &str); 7] = [
+const TRACE_HELP: &str =
+    r#"Traces a journal, which is read from standard input, and writes what each call did
+
+Usage: asm_driver trace
+
+Options:
+  -h, --help  Print help
+"#;
+
+static HELPS: [(&[&str], &str); 9] = [
     (&["asm_driver", "--help"], HELP),
     (&["asm_driver", "help"], HELP),
     (&["asm_driver", "run", "--help"], RUN_HELP),
@@ -82,6 +95,8 @@ static HELPS: [(&[&str], &str); 7] = [
     (&["asm_driver", "check", "--help"], CHECK_HELP),
     (&["asm_driver", "rewrite", "--help"], REWRITE_HELP),
     (&["asm_driver", "help", "rewrite"], REWRITE_HELP),
+    (&["asm_driver", "trace", "--help"], TRACE_HELP),
+    (&["asm_driver", "help", "trace"], TRACE_HELP),
 ];
 
 #[test]

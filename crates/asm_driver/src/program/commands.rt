@@ -1,7 +1,7 @@
 //! What the commands do with the input.
 ghost use Rattle.std.specs.Prelude.{◌≡◌, IfOk, IfErr, string_bytes};
 ghost use Rattle.asm_driver.specs.Commands.{text_of_played, IsNoText, IsRunText, IsNoRun, IsCheck};
-ghost use Rattle.asm_driver.specs.Commands.{IsNoJournal, IsRewrite};
+ghost use Rattle.asm_driver.specs.Commands.{IsNoJournal, IsRewrite, IsTraceOf};
 ghost use Rattle.asm_driver.specs.Commands.{legality_line, legality_status, IsDone, IsNotDone};
 
 use crate::program::refusal::Refusal;
@@ -11,6 +11,7 @@ use asm_journal::{Legality, check, from_text, to_text};
 use asm_play::aggregator::chosen;
 use asm_play::{Open, Played, run_script};
 use asm_script::parse_script;
+use asm_trace::trace_text;
 use std::alloc::{AllocError, Global};
 use std::sync::Wait;
 use std::thread::Threads;
@@ -88,6 +89,15 @@ fn rewrite(alloc: Global, bytes: &[u8]) -> Result<String, Refusal>
     Ok(to_text(alloc, &history)?)
 }
 
+/// Reads the bytes as a journal, legal or not, and writes its trace. What was read always fits a journal.
+fn trace(alloc: Global, bytes: &[u8]) -> Result<String, Refusal>
+    ensures ok { IfOk result (λ text. IsTraceOf bytes.now (string_bytes text)) }
+    ensures err { IfErr result (IsNoJournal bytes.now) }
+{
+    let history = from_text(alloc, bytes)?;
+    Ok(trace_text(alloc, &chosen(), &history)?)
+}
+
 /// Does what is asked with the bytes of the input.
 pub(crate) fn carry_out<T: Threads + Wait + Sync>(
     rt: &T,
@@ -107,6 +117,10 @@ pub(crate) fn carry_out<T: Threads + Wait + Sync>(
         Request::Rewrite => Ok(Ending {
             status: 0,
             text: rewrite(alloc, bytes)?,
+        }),
+        Request::Trace => Ok(Ending {
+            status: 0,
+            text: trace(alloc, bytes)?,
         }),
     }
 }

@@ -2,7 +2,7 @@
 ghost use Rattle.std.specs.Prelude.{◌≡◌, false, map, IfOk, IfErr, IfSome, IfNone, string_bytes};
 ghost use Rattle.clap.specs.Words.{FailsBy, app_of, found_of, kind_of, rows_of, rule_of, subcommand_of};
 ghost use Rattle.clap.specs.Words.{subcommand_rows_of};
-ghost use Rattle.asm_driver.specs.Words.{capacity as capacity_rule, journal as journal_rule, program, faults};
+ghost use Rattle.asm_driver.specs.Words.{capacity as capacity_rule, journal as journal_rule, with_journals, program, faults};
 ghost use Rattle.asm_driver.specs.Words.{Asks, AsksRun, AsksFor, IsNoCommand, IsMadeOf, IsRefusal, Answers};
 
 use clap::error::ErrorKind;
@@ -18,6 +18,8 @@ pub enum Request {
     Check,
     /// To write a journal again.
     Rewrite,
+    /// To write the trace of a journal.
+    Trace,
 }
 
 /// Why the words are no request.
@@ -54,6 +56,25 @@ fn journal_option<'a>(alloc: Global) -> Arg<'a>
         .help("Writes the journal of the calls in place of the report")
 }
 
+/// Adds the commands that read a journal.
+fn with_journals<'a>(alloc: Global, command: Command<'a>) -> Result<Command<'a>, AllocError>
+    ensures app { IfOk result (λ c. app_of c ≡ with_journals (app_of command.entry)) }
+{
+    let check = Command::new(alloc, "check").about(
+        "Checks a journal, which is read from standard input, and writes whether it is legal",
+    );
+    let rewrite = Command::new(alloc, "rewrite").about(
+        "Rewrites a journal, which is read from standard input, in version 2, and doesn't check it",
+    );
+    let trace = Command::new(alloc, "trace").about(
+        "Traces a journal, which is read from standard input, and writes what each call did",
+    );
+    command
+        .subcommand(check)?
+        .subcommand(rewrite)?
+        .subcommand(trace)
+}
+
 fn program_command<'a>(alloc: Global) -> Result<Command<'a>, AllocError>
     ensures app { IfOk result (λ c. app_of c ≡ program) }
 {
@@ -61,21 +82,12 @@ fn program_command<'a>(alloc: Global) -> Result<Command<'a>, AllocError>
         .about("Plays a script, which is read from standard input, and writes the report")
         .arg(capacity_option(alloc))?
         .arg(journal_option(alloc))?;
-    let check = Command::new(alloc, "check").about(
-        "Checks a journal, which is read from standard input, and writes whether it is legal",
-    );
-    let rewrite = Command::new(alloc, "rewrite").about(
-        "Rewrites a journal, which is read from standard input, in version 2, and doesn't check it",
-    );
     let named = Command::new(alloc, "asm_driver")
         .about(
-            "Plays the steps of an abstract state machine's agents on one storage, and checks and rewrites journals",
+            "Plays the steps of an abstract state machine's agents on one storage, and checks, rewrites and traces journals",
         )
         .subcommand_required(true);
-    named
-        .subcommand(run)?
-        .subcommand(check)?
-        .subcommand(rewrite)
+    with_journals(alloc, named.subcommand(run)?)
 }
 
 fn parse<'a>(alloc: Global, words: &'a [String]) -> Result<ArgMatches<'a>, Error>
@@ -109,7 +121,10 @@ fn asked(matches: &ArgMatches<'_>) -> Option<Request>
         return Some(Request::Check);
     }
     if name == "rewrite" {
-        Some(Request::Rewrite)
+        return Some(Request::Rewrite);
+    }
+    if name == "trace" {
+        Some(Request::Trace)
     } else {
         None
     }

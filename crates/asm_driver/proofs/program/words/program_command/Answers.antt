@@ -2,7 +2,7 @@ use Rattle.std.proofs.Common.{rules, ap, ap₂, codes, true, ◌≡◌, ◌∙�
 use Rattle.std.proofs.lemmas.Result.{IfOk-weaker}
 use Rattle.clap.specs.Simple.{app_of_fields}
 use Rattle.clap.specs.Words.{App, app_of, new_app, with_rule, with_subcommand}
-use Rattle.asm_driver.specs.Words.{capacity, run, check, rewrite}
+use Rattle.asm_driver.specs.Words.{capacity, run, with_journals}
 use Rattle.asm_driver.proofs.program.words.program_command.Goals as goal
 
 abbrev required : App → App
@@ -15,20 +15,11 @@ returns c =
     ∙ ap₂ with_rule (ap app_of_fields c.about.ensures ∙ c.new.ensures.app) c.capacity_option.ensures.rule in
     let run_is : app_of c.in_ok-run.run' ≡ run =
     c.in_ok-run.ensures.shape c.journal_option.ensures.local ∙ ap₂ with_rule first_is c.journal_option.ensures.rule in
-    let check_is : app_of c.about-check.result ≡ check = ap app_of_fields c.about-check.ensures ∙ c.new-2.ensures.app in
-    let rewrite_is : app_of c.about-rewrite.result ≡ rewrite =
-    ap app_of_fields c.about-rewrite.ensures ∙ c.new-3.ensures.app in
     let named_is : app_of c.subcommand_required-named.result ≡ required (new_app (codes "asm_driver")) =
     ap app_of_fields c.subcommand_required-named.ensures
-    ∙ ap required (ap app_of_fields c.about-2.ensures ∙ c.new-4.ensures.app) in
+    ∙ ap required (ap app_of_fields c.about-2.ensures ∙ c.new-2.ensures.app) in
     let one_is : app_of c.in_ok-subcommand.field-0 ≡ with_subcommand (required (new_app (codes "asm_driver"))) run.top =
     c.in_ok-subcommand.ensures.shape (search rules) ∙ ap₂ with_subcommand named_is (ap (λ (a : App). a.top) run_is) in
-    let two_is : app_of c.in_ok-subcommand-2.field-0
-    ≡ with_subcommand (with_subcommand (required (new_app (codes "asm_driver"))) run.top) check.top =
-    c.in_ok-subcommand-2.ensures.shape (search rules)
-    ∙ ap₂ with_subcommand one_is (ap (λ (a : App). a.top) check_is) in
     record {
-      app = IfOk-weaker c.subcommand-3.result _ _
-          (λ m h. h.shape (search rules) ∙ ap₂ with_subcommand two_is (ap (λ (a : App). a.top) rewrite_is))
-          c.subcommand-3.ensures;
+      app = IfOk-weaker c.with_journals.result _ _ (λ m h. h ∙ ap with_journals one_is) c.with_journals.ensures.app;
     }

@@ -1,0 +1,5 @@
+use Rattle.asm_trace.proofs.Leaving as leaving
+use Rattle.asm_trace.proofs.laws.changes_leave.Goals as goal
+
+pub returns : goal.returns
+returns c = leaving.changes_leave

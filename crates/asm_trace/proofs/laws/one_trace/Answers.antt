@@ -1,0 +1,5 @@
+use Rattle.asm_trace.proofs.Once as once
+use Rattle.asm_trace.proofs.laws.one_trace.Goals as goal
+
+pub returns : goal.returns
+returns c = once.one_trace

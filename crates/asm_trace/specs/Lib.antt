@@ -1,0 +1,4 @@
+pub mod Change
+pub mod Note
+pub mod Text
+pub mod Laws

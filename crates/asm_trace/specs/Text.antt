@@ -1,0 +1,91 @@
+-- The text of a trace.
+use Rattle.std.specs.Prelude.{◌≡◌, ℕ, List, [], ◌∷◌, ◌++◌, length, map, codes, Option, None, Some, option_map}
+use Rattle.std.specs.List.{flat_map}
+use Rattle.serde_json.specs.Data.{Data, object, Members, member, no_members, put}
+use Rattle.asm_element.specs.Place.{Place}
+use Rattle.asm_element.specs.declared.element.Element.{Element}
+use Rattle.asm_update.specs.Move.{Move}
+use Rattle.asm_update.specs.State.{State}
+use Rattle.asm_update.specs.Fire.{Part}
+use Rattle.asm_state.specs.Stands.{Stands}
+use Rattle.asm_state.specs.View.{StateView}
+use Rattle.asm_storage.specs.declared.history.Event.{Event}
+use Rattle.asm_storage.specs.declared.history.History.{History}
+use Rattle.asm_journal.specs.Check.{machine, machine_of, moves_with}
+use Rattle.asm_journal.specs.Element.{element_json_of, location_json_of}
+use Rattle.asm_journal.specs.Event.{call_json_of, answer_json_of}
+use Rattle.asm_journal.specs.Shape.{list_of, pair_of, one_of, two_of, number_json_of}
+use Rattle.asm_journal.specs.Text.{line, state_json_of}
+use Rattle.asm_journal.specs.Value.{value_json_of}
+use Rattle.asm_trace.specs.Change.{Change, OfSet, OfBag, OfValue, Recount}
+use Rattle.asm_trace.specs.Note.{Note, IsNoteOf, AreNotesOf}
+
+-- ---- changes
+
+-- [ELEMENT, ..]
+abbrev pub elements_json_of : List Element → Data
+elements_json_of es = list_of (map element_json_of es)
+
+-- [ELEMENT,COUNT,COUNT]
+abbrev pub recount_json_of : Recount → Data
+recount_json_of r = list_of (element_json_of r.element ∷ number_json_of r.before ∷ number_json_of r.after ∷ [])
+
+-- [LOC,{"added":[ELEMENT, ..],"removed":[ELEMENT, ..]}], [LOC,{"counts":[[ELEMENT,COUNT,COUNT], ..]}] or [LOC,OLD,NEW]
+abbrev pub change_json_of : Place → Change → Data
+change_json_of l (OfSet added removed) =
+    pair_of (location_json_of l)
+    (two_of (codes "added") (elements_json_of added) (codes "removed") (elements_json_of removed))
+change_json_of l (OfBag rs) = pair_of (location_json_of l) (one_of (codes "counts") (list_of (map recount_json_of rs)))
+change_json_of l (OfValue old new) = list_of (location_json_of l ∷ value_json_of old ∷ value_json_of new ∷ [])
+
+-- [CHANGE, ..]
+abbrev pub changes_json_of : List (Place × Change) → Data
+changes_json_of cs = list_of (map (λ c. change_json_of c.0 c.1) cs)
+
+-- ---- events
+
+-- the members, with this one in front of them if it is there
+abbrev pub some_member : List ℕ → Option Data → Members → Members
+some_member key None ms = ms
+some_member key (Some d) ms = member key d ms
+
+-- the members, with this value at the key if there is one
+abbrev pub with_some : List ℕ → Option Data → Members → Members
+with_some key None ms = ms
+with_some key (Some d) ms = put key d ms
+
+-- {"agent":N,"call":CALL,"event":N,"reply":REPLY}, and "right" and "updates" where there are such
+abbrev pub event_with : ℕ → Event → Option Data → Option Data → Data
+event_with n e right updates =
+    object (member (codes "agent") (number_json_of e.agent) (member (codes "call") (call_json_of e.call)
+    (member (codes "event") (number_json_of n) (member (codes "reply") (answer_json_of e.answer)
+    (some_member (codes "right") right (some_member (codes "updates") updates no_members))))))
+
+-- the JSON of a note
+abbrev pub note_json_of : Note → Data
+note_json_of x = event_with x.number x.event (option_map answer_json_of x.right) (option_map changes_json_of x.changes)
+
+-- ---- the text
+
+-- {"agents":N,"capacity":N,"events":N,"init":[PAIR, ..],"trace":1}
+abbrev pub header_of : History → Data
+header_of h =
+    object (member (codes "agents") (number_json_of h.agents) (member (codes "capacity") (number_json_of h.capacity)
+    (member (codes "events") (number_json_of (length h.events)) (member (codes "init") (state_json_of h.init)
+    (member (codes "trace") (number_json_of 1) no_members)))))
+
+-- a line for each note
+abbrev pub notes_text : List Note → List ℕ
+notes_text xs = flat_map (λ x. line (note_json_of x)) xs
+
+-- a header line, and a line for each event's note
+abbrev pub IsTrace : Part → History → List ℕ → Type 0
+IsTrace part h text =
+    (notes : List Note) × AreNotesOf (machine_of part h) [] 0 h.events notes
+    × (text ≡ line (header_of h) ++ notes_text notes)
+
+-- once an event is noted on a state: the line of its note is appended, and the new state stands for its move too
+abbrev pub IsNoted : Part → ℕ → ℕ → Event → StateView → StateView → List ℕ → List ℕ → Type 0
+IsNoted part capacity n e old new before after = (init : State) (q : List Move) → Stands part init old q →
+    ((x : Note) × IsNoteOf (machine part init capacity) q n e x × (after ≡ before ++ line (note_json_of x)))
+    × Stands part init new (moves_with q e)

@@ -1,0 +1,176 @@
+//! Events, judged and noted one by one.
+ghost use Rattle.std.specs.Prelude.{◌≡◌, ◌<◌, List, IfOk, OnOk, map, option_map, string_bytes};
+ghost use Rattle.serde_json.specs.View.{view};
+ghost use Rattle.asm_update.specs.State as plain;
+ghost use Rattle.asm_update.specs.Move.{Move};
+ghost use Rattle.asm_state.specs.View.{value_at};
+ghost use Rattle.asm_state.specs.Stands.{Stands};
+ghost use Rattle.asm_storage.specs.Machine.{reply_to};
+ghost use Rattle.asm_journal.specs.Check.{machine, judged_reply, moves_with};
+ghost use Rattle.asm_journal.specs.Event.{answer_json_of};
+ghost use Rattle.asm_trace.specs.Note.{IsJudged};
+ghost use Rattle.asm_trace.specs.Text.{event_with, IsNoted};
+
+use crate::changes::event_changes;
+use crate::json::put_some;
+use asm_element::{Element, Items, Location, Value};
+use asm_journal::{ToJson, judge_event, push_line};
+use asm_state::{Objection, State};
+use asm_storage::{Answer, Call, Event, Reply};
+use asm_update::{Aggregator, Lookup};
+use serde_json::{Map, Value as Json};
+use std::alloc::{AllocError, Global};
+
+/// The value of a location, in memory of its own.
+fn held(alloc: Global, state: &State, at: &Location) -> Result<Value, AllocError>
+    ensures { IfOk result (λ v. v ≡ value_at state.now at.now) }
+{
+    match state.get(at) {
+        Some(value) => value.copy(alloc),
+        None => Ok(Value::Plain(Element::Undef)),
+    }
+}
+
+/// The values of the locations, in their order.
+fn all_held(alloc: Global, state: &State, places: &[Location]) -> Result<Vec<Value>, AllocError>
+    ensures { IfOk result (λ values. values.items ≡ map (value_at state.now) places.now) }
+{
+    let mut values = Vec::new(alloc);
+    for place in places {
+        values.push(held(alloc, state, place)?)?;
+    }
+    Ok(values)
+}
+
+/// The reply, after so many moves, to a move with this objection or with none.
+fn reply_of(objection: Option<Objection>, capacity: u32, number: u32) -> Reply
+    ensures { result ≡ judged_reply capacity number objection }
+{
+    match objection {
+        Some(Objection::Stale(at)) => Reply::Stale(at),
+        Some(Objection::Clash(clash)) => Reply::Clash(clash),
+        None => {
+            if number < capacity {
+                Reply::Fired(number + 1)
+            } else {
+                Reply::Full
+            }
+        }
+    }
+}
+
+/// What the storage of one thread answers to the call after the moves that the state has followed.
+fn right_answer<A: Aggregator>(
+    alloc: Global,
+    aggregator: &A,
+    state: &State,
+    capacity: u32,
+    call: &Call,
+) -> Result<Answer, AllocError>
+    ensures { IfOk result (λ a. (init : plain.State) (q : List Move) →
+        Stands (A.meaning aggregator.now).part init state.now q →
+        a ≡ reply_to (machine (A.meaning aggregator.now).part init capacity) q call.now) }
+{
+    match call {
+        Call::Read(places) => Ok(Answer::Read {
+            number: state.number(),
+            values: Items::new(all_held(alloc, state, places.as_slice())?),
+        }),
+        Call::Fire { reads, instrs } => {
+            let objection = state.objection(alloc, aggregator, reads.as_slice(), instrs)?;
+            Ok(Answer::Fire(reply_of(objection, capacity, state.number())))
+        }
+    }
+}
+
+/// Follows the event's move, if it fired one, whatever the right answer is.
+fn follow_event<A: Aggregator>(
+    alloc: Global,
+    aggregator: &A,
+    state: &mut State,
+    event: &Event,
+) -> Result<(), AllocError>
+    requires { state.old.number < 4294967295 }
+    ensures { OnOk result ((init : plain.State) (q : List Move) →
+        Stands (A.meaning aggregator.now).part init state.old q →
+        Stands (A.meaning aggregator.now).part init state.new (moves_with q event.now)) }
+{
+    match event.fired_move() {
+        Some(instructions) => state.follow(alloc, aggregator, instructions),
+        None => Ok(()),
+    }
+}
+
+/// The right answer to the event's call after the moves that the state has followed, where the event has another. The
+/// state follows the event's move.
+fn other_answer<A: Aggregator>(
+    alloc: Global,
+    aggregator: &A,
+    state: &mut State,
+    capacity: u32,
+    event: &Event,
+) -> Result<Option<Answer>, AllocError>
+    requires { state.old.number < 4294967295 }
+    ensures { IfOk result (IsJudged (A.meaning aggregator.now).part capacity event.now state.old state.new) }
+{
+    if judge_event(alloc, aggregator, state, capacity, event)? {
+        return Ok(None);
+    }
+    let right = right_answer(alloc, aggregator, state, capacity, &event.call)?;
+    follow_event(alloc, aggregator, state, event)?;
+    Ok(Some(right))
+}
+
+/// The JSON of an answer, if there is one.
+fn some_answer_json(alloc: Global, answer: &Option<Answer>) -> Result<Option<Json>, AllocError>
+    ensures { IfOk result (λ o. option_map view o ≡ option_map answer_json_of answer.now) }
+{
+    match answer {
+        Some(answer) => Ok(Some(answer.to_json(alloc)?)),
+        None => Ok(None),
+    }
+}
+
+/// The JSON of the event with this number, with the right answer where there is another, and with what its move
+/// changes where it fired one.
+fn note_json(
+    alloc: Global,
+    number: u64,
+    event: &Event,
+    right: &Option<Answer>,
+    changes: Option<Json>,
+) -> Result<Json, AllocError>
+    ensures { IfOk result (λ json. view json
+        ≡ event_with number event.now (option_map answer_json_of right.now) (option_map view changes)) }
+{
+    let right = some_answer_json(alloc, right)?;
+    let mut members = Map::new(alloc);
+    serde_json::put(&mut members, alloc, "agent", Json::from(event.agent))?;
+    serde_json::put(&mut members, alloc, "call", event.call.to_json(alloc)?)?;
+    serde_json::put(&mut members, alloc, "event", Json::from(number))?;
+    serde_json::put(&mut members, alloc, "reply", event.answer.to_json(alloc)?)?;
+    put_some(alloc, &mut members, "right", right)?;
+    put_some(alloc, &mut members, "updates", changes)?;
+    Ok(Json::Object(members))
+}
+
+/// Appends the line of the event with this number, which comes after the moves that the state has followed. The state
+/// follows the event's move.
+pub(crate) fn push_note<A: Aggregator>(
+    alloc: Global,
+    aggregator: &A,
+    text: &mut String,
+    state: &mut State,
+    capacity: u32,
+    number: u64,
+    event: &Event,
+) -> Result<(), AllocError>
+    requires { state.old.number < 4294967295 }
+    ensures { OnOk result (IsNoted (A.meaning aggregator.now).part capacity number event.now state.old state.new
+        (string_bytes text.old) (string_bytes text.new)) }
+{
+    let changes = event_changes(alloc, aggregator, state, event)?;
+    let right = other_answer(alloc, aggregator, state, capacity, event)?;
+    let json = note_json(alloc, number, event, &right, changes)?;
+    push_line(alloc, text, &json)
+}

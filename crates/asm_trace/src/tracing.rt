@@ -1,0 +1,62 @@
+//! The text of a trace.
+ghost use Rattle.std.specs.Prelude.{◌≡◌, ◌≤◌, IfOk, length, string_bytes};
+ghost use Rattle.serde_json.specs.View.{view};
+ghost use Rattle.asm_storage.specs.History.{Fits};
+ghost use Rattle.asm_trace.specs.Text.{header_of, IsTrace};
+
+use crate::notes::push_note;
+use asm_journal::{ToJson, push_line};
+use asm_state::State;
+use asm_storage::History;
+use asm_update::Aggregator;
+use serde_json::{Map, Value as Json};
+use std::alloc::{AllocError, Global};
+
+/// The JSON of a trace's header.
+fn header_json(alloc: Global, history: &History) -> Result<Json, AllocError>
+    requires { length history.now.events ≤ 4294967295 }
+    ensures { IfOk result (λ json. view json ≡ header_of history.now) }
+{
+    let events = history.events.as_slice().len() as u32;
+    let mut header = Map::new(alloc);
+    serde_json::put(&mut header, alloc, "agents", Json::from(history.agents))?;
+    serde_json::put(&mut header, alloc, "capacity", Json::from(history.capacity))?;
+    serde_json::put(&mut header, alloc, "events", Json::from(events))?;
+    serde_json::put(&mut header, alloc, "init", history.init.to_json(alloc)?)?;
+    serde_json::put(&mut header, alloc, "trace", Json::from(1u32))?;
+    Ok(Json::Object(header))
+}
+
+/// Writes what each event of a history did, as a trace of version 1: a header line, and for each event a line with its
+/// call and its reply. A fired move has each location that it writes, in ascending order, with what differs there: of a
+/// set the elements that come and those that go, of a bag the counts that differ, else the value before and the new one,
+/// which may be the same. Where a reply isn't the one that the storage of one thread gives there, the line has that reply
+/// too, as `right`.
+///
+/// The history may be illegal: each move that it tells fired is fired, and one that clashes changes nothing. It must be
+/// within the limits of a journal, which `History::fits` tests. A move costs as much as the sets and bags have elements
+/// that it changes, but the text has what differs alone. `AllocError` comes only where memory was refused.
+pub fn trace_text<A: Aggregator>(
+    alloc: Global,
+    aggregator: &A,
+    history: &History,
+) -> Result<String, AllocError>
+    requires { Fits history.now }
+    ensures { IfOk result (λ s. IsTrace (A.meaning aggregator.now).part history.now (string_bytes s)) }
+{
+    let mut text = String::new(alloc);
+    push_line(alloc, &mut text, &header_json(alloc, history)?)?;
+    let mut state = State::new(alloc, history.init.copy(alloc)?)?;
+    for (index, event) in history.events.as_slice().iter().enumerate() {
+        push_note(
+            alloc,
+            aggregator,
+            &mut text,
+            &mut state,
+            history.capacity,
+            index as u64,
+            event,
+        )?;
+    }
+    Ok(text)
+}

@@ -1,0 +1,15 @@
+//! Tests of `asm_trace`, which see its public items alone, and of the judgement of one event on which it stands.
+#![tactic(auto)]
+
+#[cfg(test)]
+mod answers;
+#[cfg(test)]
+mod changes;
+#[cfg(test)]
+mod histories;
+#[cfg(test)]
+mod judging;
+#[cfg(test)]
+mod lengths;
+#[cfg(test)]
+mod traced;
