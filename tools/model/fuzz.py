@@ -28,6 +28,7 @@ from journal import BadJournal, read_journal, write_journal
 from play import SeveralAgents
 from runs import NoRun, check_run
 from script import read_script
+from tracing import NoTrace, check_trace
 
 TIME_LIMIT = 120
 # How often each kind of input is made; see `trials`.
@@ -46,11 +47,12 @@ KINDS = {
     "long": 0.05,
 }
 # What reads a journal.
-READING = [["check"], ["rewrite"]]
+READING = [["check"], ["rewrite"], ["trace"]]
 CAPACITIES = ["1", "2", "3", "5", "+4", "007", "1048576"]
 BAD_WORDS = [
     *[[], [""], ["Run"], ["Rewrite"], ["run", "check"], ["check", "run"], ["check", "--journal"], ["run", "x"]],
     *[["rewrite", "check"], ["check", "rewrite"], ["rewrite", "--journal"], ["rewrite", "--capacity", "8"], ["rewrit"]],
+    *[["Trace"], ["trace", "check"], ["run", "trace"], ["trace", "--journal"], ["trace", "--capacity=8"], ["traces"]],
     *[["run", "--capacity"], ["run", "--capacity", "0"], ["run", "--capacity", "1048577"], ["run", "--capacity="]],
     *[["run", "--capacity", it] for it in ["-1", "1.0", "1e2", "0x8", " 8", "8 ", "++8", "+", "٣", 30 * "9"]],
     *[["run", "--capacity", "1", "--capacity", "1"], ["run", "--journal", "--journal"], ["run", "--journal=1"]],
@@ -130,7 +132,7 @@ class Fuzz:
             yield Trial(either, self.text(maker.script(), self.kind == "script"))
 
     def journals(self, text: bytes) -> Iterator[Trial]:
-        """Answers the journal in both versions, each checked and rewritten, and some that were altered."""
+        """Answers the journal in both versions, each checked, rewritten and traced, and some that were altered."""
         versions = [text, in_version_1(text)]
         for words in READING:
             yield from (Trial(words, version) for version in versions)
@@ -163,7 +165,15 @@ class Fuzz:
         self.counts.update(sorts_of(ran))
         if ran != said:
             self.differences.append(Difference(trial, f"program {shown(ran)}\n  model   {shown(said)}"))
+        elif trial.words == ["trace"] and ran.status == 0:
+            self.check_trace(trial, ran)
         return ran
+
+    def check_trace(self, trial: Trial, ran: model.Answer) -> None:
+        try:
+            check_trace(read_journal(trial.text), ran.output)
+        except NoTrace as error:
+            self.differences.append(Difference(trial, f"the trace: {error}"))
 
     def ran(self, trial: Trial) -> model.Answer:
         try:
@@ -194,7 +204,8 @@ class Fuzz:
             return
         self.counts.update(f"there answered {type(it.reply).__name__}" for it in history.events)
         legal = f"legal {len(history.events)} {history.moves()}\n".encode()
-        check, rewrite = (Trial(words, ran.output) for words in READING)
+        check, rewrite, trace = (Trial(words, ran.output) for words in READING)
+        self.compare(trace)
         if self.compare(check) != model.Answer(0, legal):
             self.differences.append(Difference(check, "a journal of the program isn't legal"))
         if self.compare(rewrite) != ran:
@@ -214,7 +225,11 @@ def sorts_of(ran: model.Answer) -> set[str]:
     if ran.output[:1] == b"l":
         return {"status 0 legal"}
     if ran.output[:1] == b"{":
-        return {"status 0 journal"}
+        header, *lines = ran.output.split(b"\n")
+        if not header.endswith(b'"trace":1}'):
+            return {"status 0 journal"}
+        is_legal = not any(b',"right":' in it for it in lines)
+        return {f"status 0 trace of a {'legal' if is_legal else 'wrong'} history"}
     steps = re.findall(r"^agent \d+ step \d+ (\w+)(?: .* (\w+)$)?", ran.output.decode(), re.M)
     return {f"status 0 step {' '.join(it).strip()}" for it in steps} or {"status 0 all steps fired"}
 

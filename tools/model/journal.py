@@ -111,22 +111,35 @@ class Storage:
 
     def reply(self, call: Call) -> Reply:
         """Answers the call; a move that is answered Fired is fired."""
+        given = self.judged(call)
+        if isinstance(given, Fired):
+            assert isinstance(call, Fire)
+            self.follow(call.move)
+        return given
+
+    def judged(self, call: Call) -> Reply:
+        """Answers what is answered to the call here, and fires nothing."""
         if isinstance(call, Read):
             return Values(self.number, [self.state.get(at, UNDEF) for at in call.places])
         stale = [at for at, number in call.reads if self.writers.get(at, 0) > number]
         if stale:
             return Stale(min(stale))
         try:
-            written = updates_on(self.state, call.move)
+            updates_on(self.state, call.move)
         except Clash as clash:
             return Clashed(clash.at, clash.cause)
-        if self.number >= self.capacity:
-            return Full()
+        return Fired(self.number + 1) if self.number < self.capacity else Full()
+
+    def follow(self, move: Move) -> None:
+        """Counts a move as fired, whatever would be answered to it; one that clashes changes nothing."""
         self.number += 1
+        try:
+            written = updates_on(self.state, move)
+        except Clash:
+            return
         for at, value in written.items():
             write_to(self.state, at, value)
             self.writers[at] = self.number
-        return Fired(self.number)
 
 
 def first_illegal(history: History) -> int | None:
@@ -147,21 +160,21 @@ def write_journal(history: History) -> bytes:
         "init": pairs_json(history.init),
         "version": VERSION,
     }
-    lines = [header, *map(_event_json, history.events)]
+    lines = [header, *map(event_json, history.events)]
     return "".join(jsontext.write(line) + "\n" for line in lines).encode()
 
 
-def _event_json(event: Event) -> Json:
+def event_json(event: Event) -> Json:
     call: Json
     if isinstance(event.call, Read):
         call = {"read": [location_json(at) for at in event.call.places]}
     else:
         reads: Json = [[location_json(at), number] for at, number in event.call.reads]
         call = {"fire": [instruction_json(it) for it in event.call.move], "reads": reads}
-    return {"agent": event.agent, "call": call, "reply": _reply_json(event.reply)}
+    return {"agent": event.agent, "call": call, "reply": reply_json(event.reply)}
 
 
-def _reply_json(reply: Reply) -> Json:
+def reply_json(reply: Reply) -> Json:
     if isinstance(reply, Values):
         return {"number": reply.number, "values": [value_json(it) for it in reply.values]}
     if isinstance(reply, Fired):

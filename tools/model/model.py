@@ -2,7 +2,7 @@
 """A second implementation of the program, for comparison: slow, plain, and written from the page on formats in docs/.
 
 It takes the program's words, reads its standard input, and ends with its status: `run [--capacity N] [--journal]`,
-`check` and `rewrite`. It plays one agent after the other, and so refuses, with status 70, a script of several agents
+`check`, `rewrite` and `trace`. It plays one agent after the other, and so refuses, with status 70, a script of several agents
 whose output may depend on the order of their moves. It has no text of help.
 """
 
@@ -13,6 +13,7 @@ from typing import NamedTuple
 from journal import CAPACITIES, BadJournal, first_illegal, read_journal, write_journal
 from play import SeveralAgents, play, report
 from script import BadScript, read_script
+from tracing import write_trace
 
 MAX_INPUT = 2**24
 DEFAULT_CAPACITY = 4096
@@ -39,7 +40,7 @@ def answer(words: list[str], text: bytes) -> Answer:
     try:
         if isinstance(given, RunWords):
             return run(given, text)
-        return check(text) if given == "check" else rewrite(text)
+        return READING[given](text)
     except BadScript as error:
         return line(2, f"bad script: {error}")
     except BadJournal as error:
@@ -67,9 +68,17 @@ def rewrite(text: bytes) -> Answer:
     return Answer(0, write_journal(read_journal(text)))
 
 
+def trace(text: bytes) -> Answer:
+    return Answer(0, write_trace(read_journal(text)))
+
+
+# What reads a journal, by its word.
+READING = {"check": check, "rewrite": rewrite, "trace": trace}
+
+
 def read_words(words: list[str]) -> RunWords | str | None:
     """Answers what the words ask for, or None where they are refused; an option may be given once."""
-    if words in (["check"], ["rewrite"]):
+    if len(words) == 1 and words[0] in READING:
         return words[0]
     if words[:1] != ["run"]:
         return None

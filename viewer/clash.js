@@ -1,0 +1,74 @@
+// Why the updates of a location have no result, in words.
+import { elementNode, valueNode } from "./nodes.js";
+import { byElement, isBag, isNumber, isSet, keyOf } from "./terms.js";
+
+const REASONS = {
+  Two: "two different regular values are put there",
+  Mixed: "partial updates of two families meet there: of sets, of bags or of counters",
+  Kind: "a partial update finds no value of its kind there: no set, no bag, or for inc no number",
+  Both: "an element is both added to the set and removed from it",
+  Against: "a regular value stands beside partial updates that don't agree with it",
+  Short: "more of an element is removed than the bag has of it",
+};
+const TOO_LARGE = { count: "the new count is above 4,294,967,295", number: "the new number is outside the range of 64 bits" };
+const MOST_COUNT = 2 ** 32 - 1;
+
+// The cause in words, and what it is about where that can be shown: nodes and texts.
+export function clashNodes(cause, instructions, old) {
+  const tell = { Two: tellTwo, Both: tellBoth, Against: tellAgainst, Short: tellCounts, Large: isNumber(old) ? tellNumber : tellCounts }[cause];
+  const told = tell?.(new Group(instructions), old) ?? [];
+  const reason = cause === "Large" ? TOO_LARGE[isNumber(old) ? "number" : "count"] : REASONS[cause];
+  return [` ${reason}.`, ...(told.length ? [" ", ...told] : [])];
+}
+
+// The instructions of one location.
+class Group {
+  constructor(instructions) {
+    this.put = distinct(instructions.filter(it => it[0] === "put").map(it => it[2]));
+    this.added = distinct(elements(instructions, "add"));
+    this.removed = distinct(elements(instructions, "remove"));
+    this.bags = instructions.filter(it => it[0].startsWith("bag"));
+    this.increments = elements(instructions, "inc");
+  }
+}
+const elements = (instructions, word) => instructions.filter(it => it[0] === word).map(it => it[2]);
+const distinct = list => [...new Map(list.map(it => [keyOf(it), it])).values()];
+const without = (list, others) => {
+  const keys = new Set(others.map(keyOf));
+  return list.filter(it => !keys.has(keyOf(it)));
+};
+
+const tellTwo = group => ["They are ", ...group.put.slice(0, 3).flatMap((it, i) => [i ? " and " : "", valueNode(it, 6)]), "."];
+function tellBoth(group) {
+  const once = without(group.added, group.removed), both = without(group.added, once);
+  return both.length ? ["It is ", elementNode(both.sort(byElement)[0]), "."] : [];
+}
+function tellAgainst(group) {
+  const [value] = group.put;
+  if (isBag(value)) return ["A bag that is put agrees with no partial update."];
+  if (!isSet(value)) return ["A number that is put agrees with no increment."];
+  const lacking = without(group.added, value.set), kept = without(group.removed, without(group.removed, value.set));
+  if (lacking.length) return ["The set that is put lacks ", elementNode(lacking[0]), ", which is added."];
+  return kept.length ? ["The set that is put has ", elementNode(kept[0]), ", which is removed."] : [];
+}
+// The first element of which the bag has too few for what is removed, or comes to have too many.
+function tellCounts(group, old) {
+  if (!isBag(old)) return [];
+  const counts = new Map();
+  for (const [word, , element, amount] of group.bags) {
+    const it = counts.get(keyOf(element)) ?? { element, added: 0, removed: 0 };
+    it[word === "bagadd" ? "added" : "removed"] += amount;
+    counts.set(keyOf(element), it);
+  }
+  const had = element => old.bag.find(it => keyOf(it[0]) === keyOf(element))?.[1] ?? 0;
+  for (const { element, added, removed } of [...counts.values()].sort((a, b) => byElement(a.element, b.element))) {
+    const count = had(element), now = count - removed + added;
+    if (removed > count) return [`${removed} of `, elementNode(element), ` are removed, and the bag has ${count || "none"}.`];
+    if (now > MOST_COUNT) return ["Of ", elementNode(element), ` it would have ${now}.`];
+  }
+  return [];
+}
+function tellNumber(group, old) {
+  const sum = group.increments.reduce((all, it) => all + BigInt(it), BigInt(old));
+  return [`It would be ${sum}.`];
+}

@@ -1,0 +1,57 @@
+// Lists of many rows, of which only those in sight are there.
+import { make } from "./nodes.js";
+
+// `rows` tells `count()`, `sign(i)`, which differs wherever a row would look otherwise, `make(i)`, and `empty`, a text or a call.
+export class List {
+  constructor(box, height, rows) {
+    Object.assign(this, { box, height, rows, made: new Map(), top: 0 });
+    this.holder = box.querySelector(".rows");
+    box.addEventListener("scroll", () => {
+      if (Math.abs(box.scrollTop - this.top) >= 1) this.show();
+    }, { passive: true });
+  }
+  // Forgets the rows of another run.
+  clear() {
+    this.made.clear();
+    this.holder.replaceChildren();
+    this.box.scrollTop = this.top = 0;
+  }
+  // Shows the rows in sight, and the row with this index among them where one is given.
+  show(index = -1) {
+    const { box, height } = this, room = box.clientHeight - this.holder.offsetTop, count = this.rows.count();
+    let top = box.scrollTop;
+    if (index >= 0 && index * height < top) top = index * height - (room - height) / 3;
+    else if (index >= 0 && (index + 1) * height > top + room) top = (index + 1) * height - room + (room - height) / 3;
+    this.top = Math.max(0, Math.min(top, count * height - room));
+    this.fill(Math.max(0, Math.floor(this.top / height) - 4), Math.min(count, Math.ceil((this.top + box.clientHeight) / height) + 4), count);
+    if (Math.abs(box.scrollTop - this.top) >= 1) box.scrollTop = this.top;
+  }
+  fill(from, to, count) {
+    const kept = new Map();
+    for (let i = from; i < to; i++) {
+      const sign = `${i} ${this.rows.sign(i)}`;
+      let row = this.made.get(sign);
+      if (!row) {
+        row = this.rows.make(i);
+        row.style.top = `${i * this.height}px`;
+        for (const it of row.querySelectorAll("button")) it.tabIndex = -1; // the list is one stop of the Tab key
+      }
+      kept.set(sign, row);
+    }
+    if (!count) kept.set("", make("div", { class: "empty" }, this.rows.empty()));
+    this.holder.style.height = count ? `${count * this.height}px` : "";
+    this.made = kept;
+    const wanted = new Set(kept.values());
+    for (const row of [...this.holder.children]) if (!wanted.has(row)) row.remove();
+    let next = this.holder.firstChild;
+    for (const row of wanted) {
+      if (row === next) next = next.nextSibling;
+      else this.holder.insertBefore(row, next);
+    }
+  }
+  // Whether one of the rows with these indices is in sight.
+  sees(index) {
+    const top = this.box.scrollTop, room = this.box.clientHeight - this.holder.offsetTop;
+    return index * this.height >= top && (index + 1) * this.height <= top + room;
+  }
+}

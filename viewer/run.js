@@ -1,0 +1,274 @@
+// The run that a trace tells: its events, its locations, and the value of each at any move.
+import { Fault, readJson } from "./exact.js";
+import { checkEvent, checkHeader } from "./shape.js";
+import { byElement, byLocation, firstFrom, isBag, isSet, keyOf, locationText } from "./terms.js";
+
+export const KINDS = ["read", "fired", "stale", "clash", "full"];
+export const kindOf = reply => reply === "full" ? "full" : KINDS.find(it => it in reply) ?? "read";
+
+// So many items may be told as changes after a whole value, however small that is.
+const FEW = 64;
+
+// What a location holds, where a set or a bag is a map from keys to an element with its count.
+class Content {
+  constructor(value) {
+    this.kind = isSet(value) ? "set" : isBag(value) ? "bag" : "element";
+    this.value = value;
+    if (this.kind !== "element") this.items = new Map(itemsOf(value).map(it => [keyOf(it[0]), it]));
+  }
+  get size() {
+    return this.items ? this.items.size : 1;
+  }
+  countOf(element) {
+    return this.items.get(keyOf(element))?.[1] ?? 0;
+  }
+  put(element, count) {
+    const key = keyOf(element);
+    this.items.delete(key);
+    if (count) this.items.set(key, [element, count]);
+  }
+  whole() {
+    if (this.kind === "element") return this.value;
+    const items = [...this.items.values()].sort((a, b) => byElement(a[0], b[0]));
+    return this.kind === "set" ? { set: items.map(it => it[0]) } : { bag: items };
+  }
+  equals(value) {
+    const other = new Content(value);
+    if (this.kind !== other.kind || this.size !== other.size) return false;
+    if (this.kind === "element") return keyOf(this.value) === keyOf(value);
+    return itemsOf(value).every(([element, count]) => this.countOf(element) === count);
+  }
+  // Makes a change, each item of which is an element with its counts before and after.
+  follow(items) {
+    for (const [element, , now] of items) this.put(element, now);
+  }
+}
+export const itemsOf = value => isSet(value) ? value.set.map(it => [it, 1]) : value.bag;
+
+class Place {
+  constructor(at) {
+    this.at = at;
+    this.key = keyOf(at);
+    this.label = locationText(at);
+    this.opening = null;
+    this.times = []; // the events that write it, and what each of them writes
+    this.writes = [];
+    this.content = new Content(null); // while the trace is read
+    this.debt = 0;
+    this.last = { index: -1, value: null }; // the value that was made last
+  }
+  // Takes in a change of the trace; false where it isn't one of what the location holds.
+  take(write, told) {
+    const fits = told.length === 2 ? this.replace(write, told) : this.alter(write, told[0]);
+    this.times.push(write.event);
+    this.writes.push(write);
+    return fits;
+  }
+  replace(write, [old, value]) {
+    const fits = this.content.equals(old);
+    Object.assign(write, { old, value, size: 1 });
+    this.content = new Content(value);
+    this.debt = 0;
+    return fits;
+  }
+  alter(write, told) {
+    const isBags = "counts" in told;
+    write.isBag = isBags;
+    write.items = isBags ? told.counts : [...told.added.map(it => [it, 0, 1]), ...told.removed.map(it => [it, 1, 0])].sort((a, b) => byElement(a[0], b[0]));
+    const fits = this.content.kind === (isBags ? "bag" : "set") && write.items.every(([it, was, now]) => was !== now && this.content.countOf(it) === was);
+    if (!fits) return false;
+    this.content.follow(write.items);
+    write.size = this.content.size;
+    // A whole value is kept wherever as many changes were told as it has items, so all these take no more room than the changes.
+    this.debt += write.items.length + 1;
+    if (this.debt >= Math.max(FEW, write.size)) {
+      write.kept = this.content.whole();
+      this.debt = 0;
+    }
+    return true;
+  }
+  // The value that its write with this index leaves; of -1 the opening one.
+  after(index) {
+    if (index < 0) return this.opening;
+    const write = this.writes[index];
+    if (!write.items) return write.value;
+    if (this.last.index === index) return this.last.value;
+    let from = index;
+    while (from >= 0 && this.writes[from].items && !this.writes[from].kept) from--;
+    const base = from < 0 ? this.opening : this.writes[from].items ? this.writes[from].kept : this.writes[from].value;
+    const content = new Content(base);
+    for (let i = from + 1; i <= index; i++) content.follow(this.writes[i].items);
+    this.last = { index, value: content.whole() };
+    return this.last.value;
+  }
+  // The index of its last write in the first events, so many; -1 where there is none.
+  indexBefore(count) {
+    return firstFrom(this.times, count) - 1;
+  }
+}
+
+export class Run {
+  constructor(header) {
+    checkHeader(header);
+    Object.assign(this, { agents: header.agents, capacity: header.capacity, told: header.events });
+    this.events = [];
+    this.locations = new Map();
+    this.moves = []; // the events of the fired moves
+    for (const [at, value] of header.init) {
+      const it = this.location(at);
+      it.opening = value;
+      it.content = new Content(value);
+    }
+  }
+  location(at) {
+    const key = keyOf(at);
+    let found = this.locations.get(key);
+    if (!found) this.locations.set(key, found = new Place(at));
+    return found;
+  }
+  add(line) {
+    const number = this.events.length;
+    checkEvent(line, number, this.agents);
+    if (number === this.told) throw new Fault(`the header tells of ${number} events, and this is one more`);
+    const { agent, call, reply, right } = line;
+    const event = { number, agent, kind: kindOf(reply), reply, right, isWrong: "right" in line, before: this.moves.length };
+    if ("read" in call) event.read = call.read.map(at => this.location(at));
+    else {
+      event.fire = call.fire;
+      event.targets = call.fire.map(it => this.location(it[1]));
+      event.named = call.reads.map(([at, number]) => ({ location: this.location(at), number }));
+    }
+    for (const answer of event.isWrong ? [reply, right] : [reply]) {
+      const at = answer.stale ?? answer.clash?.[0];
+      if (at) this.location(at);
+    }
+    if (event.kind === "fired") this.fire(event, line.updates);
+    this.events.push(event);
+  }
+  fire(event, updates) {
+    this.moves.push(event.number);
+    event.move = this.moves.length;
+    event.writes = updates.map(([at, ...told]) => {
+      const location = this.location(at), write = { event: event.number, move: event.move, agent: event.agent, location, index: location.writes.length };
+      if (!location.take(write, told)) throw new Fault(`its change at ${location.label} isn't one of the value that stands there`);
+      return write;
+    });
+  }
+  finish() {
+    this.sorted = [...this.locations.values()].sort((a, b) => byLocation(a.at, b.at));
+    for (const it of this.sorted) it.content = null;
+    this.byAgent = Array.from({ length: this.agents }, () => []);
+    this.byKind = Object.fromEntries(KINDS.map(kind => [kind, []]));
+    this.wrong = [];
+    for (const it of this.events) {
+      this.byAgent[it.agent].push(it.number);
+      this.byKind[it.kind].push(it.number);
+      if (it.isWrong) this.wrong.push(it.number);
+    }
+    return this;
+  }
+  // How many moves the first events fire, so many of them.
+  movesIn(count) {
+    return firstFrom(this.moves, count);
+  }
+  // How many events there are up to that move, it among them.
+  eventsTo(move) {
+    return move <= 0 ? 0 : move > this.moves.length ? this.events.length : this.moves[move - 1] + 1;
+  }
+  lastWrite(location, count) {
+    return location.writes[location.indexBefore(count)] ?? null;
+  }
+  valueAt(location, count) {
+    return location.after(location.indexBefore(count));
+  }
+  isUndefAt(location, count) {
+    const write = this.lastWrite(location, count);
+    return (write ? write.items ? 0 : write.value : location.opening) === null;
+  }
+  // The writes of the location by moves above that number, before the event.
+  writesSince(location, number, event) {
+    const from = firstFrom(location.writes, number + 1, it => it.move), to = firstFrom(location.times, event.number);
+    return from < to ? { first: location.writes[from], count: to - from } : null;
+  }
+  // What the event has to do with the location, or null.
+  howTouched(event, location) {
+    if (event.writes?.some(it => it.location === location)) return "wrote";
+    const at = event.reply.stale ?? event.reply.clash?.[0];
+    if (at && keyOf(at) === location.key) return event.kind;
+    if (event.read?.includes(location)) return "read";
+    if (event.targets?.includes(location)) return "target";
+    return event.named?.some(it => it.location === location) ? "named" : null;
+  }
+}
+
+// Reads a trace from a text or a file, line by line and in turns, so that the page stays alive.
+export async function readRun(source, progress) {
+  const reading = new Lines(), isText = typeof source === "string";
+  const reader = isText ? null : source.stream().getReader(), decoder = new TextDecoder("utf-8", { fatal: true });
+  let done = 0, since = performance.now();
+  for (;;) {
+    const from = done, part = isText ? { done: from >= source.length, value: source.slice(from, from + 2 ** 20) } : await reader.read();
+    if (part.done) break;
+    done += part.value.length;
+    let text = part.value;
+    if (!isText) {
+      try {
+        text = decoder.decode(part.value, { stream: true });
+      } catch {
+        throw new Fault("This is no trace: its bytes are no text in UTF-8.");
+      }
+    }
+    for (const line of reading.of(text)) {
+      reading.take(line);
+      if (performance.now() - since < 30) continue;
+      progress(done / (isText ? source.length : source.size));
+      await new Promise(go => setTimeout(go));
+      since = performance.now();
+    }
+  }
+  return reading.finish();
+}
+
+class Lines {
+  constructor() {
+    this.rest = "";
+    this.number = 0;
+    this.run = null;
+  }
+  // The lines that end within the text; what is behind them begins the next one.
+  of(text) {
+    const lines = (this.rest + text).split("\n");
+    this.rest = lines.pop();
+    return lines;
+  }
+  take(line) {
+    this.number++;
+    let value;
+    try {
+      value = readJson(line);
+    } catch (fault) {
+      throw new Fault(this.run ? `Line ${this.number} can't be read: ${fault.message}.` : "This is no trace: its first line isn't JSON.");
+    }
+    try {
+      if (this.run) this.run.add(value);
+      else this.run = new Run(value);
+    } catch (fault) {
+      if (!(fault instanceof Fault)) throw fault;
+      throw new Fault(fault.message.startsWith("This ") ? fault.message : `Line ${this.number} doesn't fit a trace: ${fault.message}.`);
+    }
+  }
+  // A trace that was cut off is one with fewer events than its header tells; half a line at its end is left out.
+  finish() {
+    if (!this.run && !this.rest) throw new Fault("This file is empty.");
+    if (!this.run) this.take(this.rest);
+    else if (this.rest) this.takeLast();
+    return this.run.finish();
+  }
+  takeLast() {
+    try {
+      this.take(this.rest);
+    } catch (fault) {
+      if (this.run.events.length === this.run.told) throw fault;
+    }
+  }
+}

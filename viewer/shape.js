@@ -1,0 +1,155 @@
+// The forms of a trace, by the page on formats: what a line has to be, and in words why it isn't.
+import { Fault } from "./exact.js";
+import { byElement, byLocation } from "./terms.js";
+
+const NAME = /^[A-Za-z_][A-Za-z0-9_]{0,63}$/;
+const MOST = { agents: 256, capacity: 2 ** 20, number: 2 ** 32 - 1, reads: 256, fire: 4096, arguments: 8, items: 4096, depth: 8 };
+const LEAST_NUMBER = -(2n ** 63n), MOST_NUMBER = 2n ** 63n - 1n;
+const CAUSES = ["Two", "Mixed", "Kind", "Both", "Against", "Short", "Large"];
+// How many members the instruction has, and what reads the third.
+const INSTRUCTIONS = { put: [3, checkValue], add: [3, checkElement], remove: [3, checkElement], bagadd: [4, checkElement], bagremove: [4, checkElement], inc: [3, checkNumber] };
+
+function need(holds, what) {
+  if (!holds) throw new Fault(what);
+}
+const isObject = x => x !== null && typeof x === "object" && !Array.isArray(x);
+const isWithin = (x, least, most) => typeof x === "number" && x >= least && x <= most;
+const isOnly = (x, key) => isObject(x) && key in x && Object.keys(x).length === 1;
+
+export function checkHeader(header) {
+  need(isObject(header), "This is no trace: its first line is no header.");
+  need(!("version" in header), "This is a journal, not its trace. ./view < JOURNAL shows it, and ./asm_driver trace < JOURNAL makes the trace.");
+  need(!(Array.isArray(header.agents) && "init" in header), "This is a script, not the trace of its run. ./asm_driver run --journal < SCRIPT plays it, and ./view shows the journal.");
+  need("trace" in header, "This is no trace: its first line is no header.");
+  need(header.trace === 1, "This page reads traces of version 1, and this is one of another version.");
+  members(header, ["agents", "capacity", "events", "init", "trace"], "the header");
+  need(isWithin(header.agents, 0, MOST.agents), "`agents` isn't a whole number from 0 to 256");
+  need(isWithin(header.capacity, 1, MOST.capacity), "`capacity` isn't a whole number from 1 to 1,048,576");
+  need(isWithin(header.events, 0, MOST.number), "`events` isn't a whole number from 0 to 4,294,967,295");
+  listOf(header.init, Infinity, checkPair, "`init`");
+  ascending(header.init.map(it => it[0]), byLocation, "the locations of `init`");
+}
+
+export function checkEvent(line, number, agents) {
+  need(isObject(line), "it is no event");
+  need(line.event === number, `its \`event\` isn't ${number}`);
+  need(isWithin(line.agent, 0, agents - 1), `its \`agent\` isn't one of the ${agents} of the header, which are counted from 0`);
+  checkCall(line.call);
+  checkReply(line.call, line.reply, "`reply`");
+  if ("right" in line) checkReply(line.call, line.right, "`right`");
+  const isFired = isObject(line.reply) && "fired" in line.reply;
+  need(isFired === "updates" in line, isFired ? "it is fired and has no `updates`" : "it isn't fired and has `updates`");
+  if (isFired) {
+    listOf(line.updates, MOST.fire, checkChange, "`updates`");
+    ascending(line.updates.map(it => it[0]), byLocation, "the locations of `updates`");
+  }
+  members(line, ["agent", "call", "event", "reply", ...["right", "updates"].filter(it => it in line)], "it");
+}
+
+function members(object, names, what) {
+  for (const name of names) need(name in object, `${what} has no \`${name}\``);
+  for (const name in object) need(names.includes(name), `${what} has a further member \`${name}\``);
+}
+function listOf(list, most, check, what) {
+  need(Array.isArray(list), `${what} is no list`);
+  need(list.length <= most, `${what} has more than ${most} items`);
+  list.forEach(check);
+}
+function ascending(list, by, what) {
+  for (let i = 1; i < list.length; i++) need(by(list[i - 1], list[i]) < 0, `${what} aren't in ascending order`);
+}
+
+function checkCall(call) {
+  need(isObject(call), "its `call` is no call");
+  if ("read" in call) {
+    members(call, ["read"], "its read");
+    return listOf(call.read, MOST.reads, checkLocation, "`read`");
+  }
+  members(call, ["fire", "reads"], "its `call`");
+  listOf(call.fire, MOST.fire, checkInstruction, "`fire`");
+  listOf(call.reads, MOST.reads, named => {
+    need(Array.isArray(named) && named.length === 2, "one of its `reads` is no location with a number");
+    checkLocation(named[0]);
+    need(isWithin(named[1], 0, MOST.number), "one of its `reads` has no number");
+  }, "`reads`");
+}
+function checkReply(call, reply, what) {
+  if ("read" in call) {
+    need(isObject(reply) && "number" in reply && "values" in reply, `${what} isn't one of a read`);
+    members(reply, ["number", "values"], what);
+    need(isWithin(reply.number, 0, MOST.number), `${what} has no number`);
+    listOf(reply.values, MOST.reads, checkValue, `the values of ${what}`);
+    return need(reply.values.length === call.read.length, `${what} has ${reply.values.length} values for ${call.read.length} locations`);
+  }
+  if (reply === "full") return;
+  if (isOnly(reply, "fired")) return need(isWithin(reply.fired, 0, MOST.number), `${what} has no number`);
+  if (isOnly(reply, "stale")) return checkLocation(reply.stale);
+  need(isOnly(reply, "clash") && Array.isArray(reply.clash) && reply.clash.length === 2, `${what} isn't one of a fire`);
+  checkLocation(reply.clash[0]);
+  need(CAUSES.includes(reply.clash[1]), `${what} has no cause of a clash`);
+}
+function checkInstruction(it) {
+  need(Array.isArray(it) && Object.hasOwn(INSTRUCTIONS, it[0]), "an instruction begins with none of put, add, remove, bagadd, bagremove and inc");
+  const [count, check] = INSTRUCTIONS[it[0]];
+  need(it.length === count, `an instruction \`${it[0]}\` has ${it.length} members and not ${count}`);
+  checkLocation(it[1]);
+  check(it[2]);
+  if (count === 4) checkCount(it[3], 1);
+}
+function checkChange(change) {
+  need(Array.isArray(change) && (change.length === 2 || change.length === 3), "one of its `updates` is no change");
+  const [at, told] = change;
+  checkLocation(at);
+  if (change.length === 3) return change.slice(1).forEach(checkValue);
+  need(isObject(told), "one of its `updates` is no change");
+  if ("counts" in told) {
+    members(told, ["counts"], "a change");
+    listOf(told.counts, Infinity, it => {
+      need(Array.isArray(it) && it.length === 3, "one of its `counts` isn't an element with two counts");
+      checkElement(it[0]);
+      checkCount(it[1], 0);
+      checkCount(it[2], 0);
+    }, "`counts`");
+    return ascending(told.counts.map(it => it[0]), byElement, "the elements of `counts`");
+  }
+  members(told, ["added", "removed"], "a change");
+  for (const side of ["added", "removed"]) checkElements(told[side], `\`${side}\``);
+}
+
+function checkPair(pair) {
+  need(Array.isArray(pair) && pair.length === 2, "one of its pairs isn't a location with its value");
+  checkLocation(pair[0]);
+  checkValue(pair[1]);
+}
+function checkLocation(at) {
+  need(Array.isArray(at) && typeof at[0] === "string" && NAME.test(at[0]), "a location has no name of 1 to 64 letters, digits or _, the first no digit");
+  need(at.length <= 1 + MOST.arguments, "a location has more than 8 arguments");
+  for (let i = 1; i < at.length; i++) checkElement(at[i]);
+}
+function checkValue(value) {
+  if (isOnly(value, "set")) return checkElements(value.set, "a set");
+  if (!isOnly(value, "bag")) return checkElement(value);
+  listOf(value.bag, Infinity, it => {
+    need(Array.isArray(it) && it.length === 2, "a bag has an item that isn't an element with its count");
+    checkElement(it[0]);
+    checkCount(it[1], 1);
+  }, "a bag");
+  ascending(value.bag.map(it => it[0]), byElement, "the elements of a bag");
+}
+function checkElements(list, what) {
+  listOf(list, Infinity, it => checkElement(it), what);
+  ascending(list, byElement, `the elements of ${what}`);
+}
+function checkElement(x, depth = 0) {
+  if (x === null || typeof x === "boolean" || typeof x === "string") return;
+  if (!isObject(x)) return checkNumber(x);
+  need(isOnly(x, "list"), "an object stands where an element has to");
+  need(depth < MOST.depth, "a list is nested deeper than 8");
+  listOf(x.list, MOST.items, it => checkElement(it, depth + 1), "a list");
+}
+function checkNumber(x) {
+  need(typeof x === "number" || (typeof x === "bigint" && x >= LEAST_NUMBER && x <= MOST_NUMBER), "what has to be a number isn't one, or is outside the range of 64 bits");
+}
+function checkCount(x, least) {
+  need(isWithin(x, least, MOST.number), "a count is out of its range");
+}

@@ -1,0 +1,87 @@
+// Elements, values and locations: their keys, their order, and how they are written for a person.
+
+// The compact text of an element or a location, under which it is kept.
+export function keyOf(x) {
+  try {
+    return JSON.stringify(x);
+  } catch {
+    return exactKey(x); // JSON.stringify refuses a BigInt
+  }
+}
+function exactKey(x) {
+  if (typeof x === "bigint") return String(x);
+  if (Array.isArray(x)) return `[${x.map(exactKey).join(",")}]`;
+  if (x && typeof x === "object") return `{${Object.keys(x).map(k => `${JSON.stringify(k)}:${exactKey(x[k])}`).join(",")}}`;
+  return JSON.stringify(x);
+}
+
+export const isSet = v => v !== null && typeof v === "object" && "set" in v;
+export const isBag = v => v !== null && typeof v === "object" && "bag" in v;
+export const isNumber = v => typeof v === "number" || typeof v === "bigint";
+
+// The order of elements: undef, false, true, numbers, texts, lists.
+function rankOf(x) {
+  if (typeof x === "boolean") return x ? 2 : 1;
+  if (isNumber(x)) return 3;
+  if (typeof x === "string") return 4;
+  return x === null ? 0 : 5;
+}
+export function byElement(a, b) {
+  const rank = rankOf(a), apart = rank - rankOf(b);
+  if (apart || rank < 3) return apart;
+  if (rank === 3) return a < b ? -1 : a > b ? 1 : 0;
+  return rank === 4 ? byText(a, b) : byItems(a.list, b.list, 0);
+}
+// The order of the bytes in UTF-8, which is that of code points: surrogates stand above the rest of 16 bits.
+function byText(a, b) {
+  const least = Math.min(a.length, b.length);
+  for (let i = 0; i < least; i++) {
+    const x = a.charCodeAt(i), y = b.charCodeAt(i);
+    if (x !== y) return lifted(x) - lifted(y);
+  }
+  return a.length - b.length;
+}
+const lifted = unit => unit < 0xd800 ? unit : unit < 0xe000 ? unit + 0x2000 : unit - 0x800;
+function byItems(a, b, from) {
+  if (a.length !== b.length) return a.length - b.length;
+  for (let i = from; i < a.length; i++) {
+    const apart = byElement(a[i], b[i]);
+    if (apart) return apart;
+  }
+  return 0;
+}
+export const byLocation = (a, b) => byText(a[0], b[0]) || byItems(a, b, 1);
+
+// What can't be seen, or turns the direction of writing.
+const UNSEEN = /[\u007f-\u009f\u00ad\u200b-\u200f\u2028-\u202e\u2060-\u206f\ufeff]/g;
+const quoted = text => JSON.stringify(text).replace(UNSEEN, it => `\\u${it.charCodeAt(0).toString(16).padStart(4, "0")}`);
+export function elementText(x) {
+  if (x === null) return "undef";
+  if (typeof x === "string") return quoted(x);
+  if (typeof x === "object") return `[${x.list.map(elementText).join(", ")}]`;
+  return String(x);
+}
+export const locationText = at => at.length > 1 ? `${at[0]}(${at.slice(1).map(elementText).join(", ")})` : at[0];
+// A value in one line, of which a long one tells its size alone.
+export function valueText(v, most = 40) {
+  const items = isSet(v) ? v.set : isBag(v) ? v.bag : null;
+  if (!items) return elementText(v);
+  if (items.length > most) return `${isSet(v) ? "set" : "bag"} of ${plural(items.length, "element")}`;
+  return `{${items.map(it => isSet(v) ? elementText(it) : `${elementText(it[0])} ×${it[1]}`).join(", ")}}`;
+}
+
+export const grouped = n => n.toLocaleString("en");
+export const plural = (n, one, many = `${one}s`) => `${grouped(n)} ${n === 1 ? one : many}`;
+// After how many moves something was read.
+export const afterMoves = n => n ? `after ${plural(n, "move")}` : "in the opening state";
+
+// The index of the first item of an ascending list that isn't below the limit.
+export function firstFrom(list, limit, of = it => it) {
+  let low = 0, high = list.length;
+  while (low < high) {
+    const middle = (low + high) >> 1;
+    if (of(list[middle]) < limit) low = middle + 1;
+    else high = middle;
+  }
+  return low;
+}

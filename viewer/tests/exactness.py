@@ -1,0 +1,122 @@
+"""Tries that the page has the same state as the model, after each event of many runs, and that it is quick with a long one."""
+
+import json
+from random import Random
+
+from browser import Browser
+from inputs import Maker
+from journal import Fire, Fired, History, Storage
+from samples import ROOT, example, large_trace, strange, warehouse, write_trace, wrong
+from selenium.webdriver.common.keys import Keys
+from tries import Tries
+from values import UNDEF, Location, location_json, value_json
+
+RUNS, EVENTS = 400, 100_000
+# Each location's value and last writer after each number of events, as the page has them; twice, as the first asking may leave
+# what the second finds. And for each read that an event names, the first move that wrote its location since, or 0.
+STATES = """
+const [texts, done] = arguments;
+const state = (run, count) => run.sorted.map(it => [it.key, keyOf(run.valueAt(it, count)), run.lastWrite(it, count)?.move ?? 0]);
+(async () => {
+  const out = [];
+  for (const text of texts) {
+    const run = await readRun(text, () => {}), counts = [...Array(run.events.length + 1).keys()];
+    const forth = counts.map(it => state(run, it)), back = counts.reverse().map(it => state(run, it)).reverse();
+    const since = run.events.map(it => (it.named ?? []).map(({ location, number }) => run.writesSince(location, number, it)?.first.move ?? 0));
+    out.push({ states: forth, since, isSame: keyOf(forth) === keyOf(back) });
+  }
+  done(out);
+})().catch(fault => done(String(fault)));
+"""
+JUMPS = """
+const [counts, done] = arguments, slider = document.getElementById("slider"), out = [];
+function next() {
+  if (!counts.length) return done(out);
+  const start = performance.now();
+  slider.value = counts.shift();
+  slider.dispatchEvent(new Event("input"));
+  requestAnimationFrame(() => setTimeout(() => { out.push(performance.now() - start); next(); }));
+}
+next();
+"""
+
+
+def model_of(history: History) -> dict[str, object]:
+    """What the model has in the place of the page's answer."""
+    storage = Storage(history.init, history.capacity)
+    moments, since = [told(storage)], []
+    writers: dict[Location, list[int]] = {}
+    for event in history.events:
+        named = event.call.reads if isinstance(event.call, Fire) else []
+        since.append([min((it for it in writers.get(at, []) if it > number), default=0) for at, number in named])
+        if isinstance(event.reply, Fired):
+            storage.follow(event.call.move)
+            for at, writer in storage.writers.items():
+                if writer == storage.number:
+                    writers.setdefault(at, []).append(writer)
+        moments.append(told(storage))
+    return {"states": moments, "since": since, "isSame": True}
+
+
+def told(storage: Storage) -> dict[str, tuple[str, int]]:
+    """The value and the last writer of each location that holds something or was written."""
+    every = {*storage.state, *storage.writers}
+    return {text(location_json(at)): (text(value_json(storage.state.get(at, UNDEF))), storage.writers.get(at, 0)) for at in every}
+
+
+def text(value: object) -> str:
+    return json.dumps(value, sort_keys=True)
+
+
+def try_states(tries: Tries, browser: Browser) -> None:
+    histories = [*(Maker(Random(it)).history() for it in range(RUNS)), *(warehouse(4, 60, it) for it in range(3)), wrong(), strange()]
+    histories += [example(it.stem, 2) for it in sorted((ROOT / "examples").glob("*.json"))]
+    browser.open()
+    moments, grounds, differences = 0, 0, []
+    for first in range(0, len(histories), 50):
+        part = histories[first : first + 50]
+        found = browser.driver.execute_async_script(STATES, [write_trace(it).decode() for it in part])
+        if isinstance(found, str):
+            differences.append(found)
+            continue
+        for number, (history, page) in enumerate(zip(part, found), first):
+            moments += len(page["states"])
+            grounds += sum(map(len, page["since"]))
+            page["states"] = [{text(json.loads(at)): (text(json.loads(value)), writer) for at, value, writer in it} for it in page["states"]]
+            # (a location that holds undef and was never written is none of the model's)
+            page["states"] = [{at: held for at, held in it.items() if held != ("null", 0)} for it in page["states"]]
+            if page != model_of(history):
+                differences.append(number)
+    what = f"the page has the model's state after each event of {len(histories)} runs, and the writers since each named read"
+    tries.claim(f"{what}: {moments} moments, {grounds} reads", moments > 1500 and grounds > 1000 and not differences, differences[:5])
+
+
+def try_long(tries: Tries, browser: Browser) -> None:
+    path = tries.file("long.trace", large_trace(EVENTS))
+    took = browser.load(path)
+    tries.claim(f"{EVENTS:,} events ({path.stat().st_size / 2**20:.0f} MiB) are shown within 15 seconds: {took:.1f} s", took < 15, took)
+    random = Random(7)
+
+    def jumps(what: str, count: int = 12) -> None:
+        spent = browser.driver.execute_async_script(JUMPS, [random.randrange(EVENTS + 1) for _ in range(count)])
+        tries.claim(f"a jump {what} takes less than a second: {sum(spent) / len(spent):.0f} ms, at most {max(spent):.0f} ms", max(spent) < 1000, spent)
+
+    jumps("in it")
+    browser.click("fit")
+    jumps("with the whole run in sight")
+    for name in ("set", "bag"):
+        browser.run("act.chooseLocation(shown.run.locations.get(arguments[0]))", f'["{name}"]')
+        browser.frame()
+        jumps(f"with the writes of a {name} that {browser.run('return shown.location.writes.length'):,} moves change")
+    browser.click("state-hide")
+    jumps("with undef hidden")
+    browser.write("events-find", "stale cell(7")
+    tries.claim(f"a search among them finds some: {browser.text('events-count')}", browser.texts("#events .event"))
+    jumps("with a search in the events")
+    tries.shot(browser, "long")
+    browser.leave()
+    browser.press(Keys.END)
+    size = browser.run("return shown.run.valueAt(shown.run.locations.get('[\"set\"]'), shown.count).set.length")
+    lines = path.read_bytes().splitlines()[1:]
+    added = sum(len(change[1]["added"]) for line in map(json.loads, lines) for change in line.get("updates", []) if len(change) == 2 and "added" in change[1])
+    tries.same("the set has all that was added", size, added)

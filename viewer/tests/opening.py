@@ -1,0 +1,160 @@
+"""Tries how a run comes onto the page: by a file, by a drop, by ./view; and what is refused."""
+
+import json
+import os
+import shutil
+import subprocess
+from pathlib import Path
+
+from browser import PAGE, Browser
+from samples import ROOT, example, strange, warehouse, write_journal, write_trace, wrong
+from tries import Tries
+
+DROP = """
+const files = new DataTransfer();
+files.items.add(new File([arguments[0]], arguments[1]));
+for (const kind of ["dragover", "drop"]) document.body.dispatchEvent(new DragEvent(kind, { bubbles: true, cancelable: true, dataTransfer: files }));
+"""
+
+
+def try_opening(tries: Tries, browser: Browser) -> None:
+    browser.open()
+    tries.claim("an empty page asks for a trace", browser.find("start").is_displayed() and not browser.find("main").is_displayed())
+    tries.has("it says that nothing leaves the computer", browser.text("hint"), "It stays on this computer")
+    tries.shot(browser, "start")
+    history = warehouse(5, 16, 3)
+    browser.load(tries.trace("chosen", history))
+    tries.same("a chosen file is shown with its name", browser.text("name"), "chosen.trace")
+    tries.same("what the run has is counted", browser.texts("#facts .fact")[:3], ["5 agents", f"{len(history.events)} events", f"{history.moves()} moves"])
+    tries.same("a legal run is called so", browser.texts("#facts .legal"), ["legal"])
+    browser.open()
+    browser.run(DROP, write_trace(history).decode(), "dropped.trace")
+    browser.until("return !document.getElementById('main').hidden")
+    tries.same("a dropped file is shown", browser.text("name"), "dropped.trace")
+    browser.run(DROP, write_trace(example("one_move")).decode(), "other.trace")
+    browser.until("return document.getElementById('name').textContent === 'other.trace'")
+    tries.same("another one takes its place", browser.texts("#facts .fact")[1], "1 event")
+    browser.load(tries.trace("chosen", history), "#event=46&at=%5B%22packed%22%5D")
+    tries.has("an address leads to its event", browser.title(), "Event 46")
+    tries.has("and to the writes of its location", browser.text("writes-title"), "packed")
+    tries.same("nothing was loaded from elsewhere", browser.run("return performance.getEntriesByType('resource').length"), 0)
+    tries.same("the console tells of no problem", browser.problems(), [])
+
+
+def try_empty(tries: Tries, browser: Browser) -> None:
+    header = {"agents": 0, "capacity": 1, "events": 0, "init": [], "trace": 1}
+    browser.load(tries.file("nothing.trace", json.dumps(header).encode() + b"\n"))
+    tries.has("a run without a call says so", browser.text("detail"), "No call was made in this run")
+    tries.has("so does its list of events", browser.text("events"), "This run has no event")
+    tries.has("so does its state", browser.text("state"), "No location is written or read in this run")
+    browser.press("c")
+    browser.press(" ")
+    tries.same("keys do nothing there, and no problem is told", browser.problems(), [])
+
+
+def refused_texts(good: str) -> dict[str, tuple[str | bytes, str]]:
+    """Texts that are no trace, each with what is to be told of it; most are a good one with one change."""
+    lines = good.splitlines()
+    journal, script = write_journal(wrong()).decode(), (ROOT / "examples" / "bank_transfers.json").read_text()
+
+    def altered(old: str, new: str, count: int = 1) -> str:
+        assert old in good, old
+        return good.replace(old, new, count)
+
+    return {
+        "an empty file": ("", "This file is empty"),
+        "a text that is no JSON": ("hello\n", "This is no trace: its first line isn't JSON"),
+        "bytes that are no UTF-8": (b"\xff\xfe\x00", "its bytes are no text in UTF-8"),
+        "a journal": (journal, "This is a journal, not its trace. ./view < JOURNAL shows it"),
+        "a script": (json.dumps(json.loads(script)), "This is a script, not the trace of its run"),
+        "another JSON": ("[1]\n", "its first line is no header"),
+        "another version": (altered('"trace":1', '"trace":2'), "this is one of another version"),
+        "a header without a member": (altered('"capacity":4096,', ""), "Line 1 doesn't fit a trace: the header has no `capacity`"),
+        "half a line in the midst": ("\n".join([*lines[:3], lines[3][:40], *lines[4:]]) + "\n", "Line 4 can't be read: the line ends at column 41"),
+        "an empty line": (altered("\n", "\n\n"), "Line 2 can't be read"),
+        "a line that is missing": ("\n".join([*lines[:3], *lines[4:]]) + "\n", "Line 4 doesn't fit a trace: its `event` isn't 2"),
+        "a line too many": (good + lines[-1].replace('"event":9', '"event":10') + "\n", "the header tells of 10 events, and this is one more"),
+        "an agent that isn't there": (altered('"agent":1', '"agent":2'), "its `agent` isn't one of the 2 of the header"),
+        "a further member": (altered('"agent":1', '"also":0,"agent":1'), "it has a further member `also`"),
+        "a fired move without updates": (altered('"reply":{"fired":1},"updates"', '"reply":"full","updates"'), "it isn't fired and has `updates`"),
+        "a number with a point": (altered('["put",["x"],2]', '["put",["x"],2.0]'), "can't be read: no plain whole number at column 41"),
+        "a minus zero": (altered('["put",["x"],2]', '["put",["x"],-0]'), "no plain whole number at column 41"),
+        "a number beyond 64 bits": (altered('["put",["x"],2]', f'["put",["x"],{2**63}]'), "outside the range of 64 bits"),
+        "a set out of order": (altered('{"set":[1,2]}', '{"set":[2,1]}'), "the elements of a set aren't in ascending order"),
+        "a name of another form": (altered('["put",["x"]', '["put",["1"]'), "a location has no name of 1 to 64 letters"),
+        "another word": (altered('["put"', '["get"'), "begins with none of put, add"),
+        "a change of what isn't there": (altered('[["x"],1,2]', '[["x"],7,2]'), "its change at x isn't one of the value that stands there"),
+        "an element removed that isn't there": (altered('"removed":[1]', '"removed":[3]'), "its change at s isn't one of the value that stands there"),
+        "lists that are nested too deeply": (altered('["put",["x"],2]', '["put",["x"],' + 9 * '{"list":[' + 9 * "]}" + "]"), "a list is nested deeper than 8"),
+        "brackets without an end": ("[" * 100000 + "\n", "its first line isn't JSON"),
+    }
+
+
+def try_refusals(tries: Tries, browser: Browser) -> None:
+    good = write_trace(wrong()).decode()
+    browser.open()
+    for what, (text, told) in refused_texts(good).items():
+        browser.choose_file(tries.file("refused", text if isinstance(text, bytes) else text.encode()))
+        fault = browser.text("fault")
+        tries.claim(f"{what} is refused: {fault}", told in fault and not browser.find("main").is_displayed(), told)
+    tries.shot(browser, "refused")
+    browser.choose_file(tries.file("cut.trace", good[: good.index('"event":7')].encode()))
+    tries.same("a trace that was cut off is shown with a warning", browser.text("warning"), "This trace is cut off: it has 7 events of 10. What is there is shown.")
+    browser.choose_file(tries.file("fed.trace", good[:-1].encode()))
+    tries.same("one without its last line feed is whole", (browser.find("warning").is_displayed(), browser.texts("#facts .fact")[1]), (False, "10 events"))
+    tries.same("no refusal is a problem on the console", browser.problems(), [])
+
+
+class View:
+    """Runs ./view in a folder where the model stands for the program."""
+
+    def __init__(self, room: Path) -> None:
+        self.room = room
+        self.root = room / "root"
+        self.opened = self.root / "opened"
+        (self.root / "viewer").mkdir(parents=True)
+        self.opened.mkdir()
+        shutil.copy(ROOT / "view", self.root / "view")
+        shutil.copy(PAGE, self.root / "viewer" / "index.html")
+        self.write("asm_driver", f'exec python3 "{ROOT}/tools/model/model.py" "$@"')
+        self.write("opened/xdg-open", f'echo "$1" >"{self.opened}/file"')
+
+    def write(self, name: str, line: str) -> None:
+        (self.root / name).write_text(f"#!/bin/sh\n{line}\n")
+        (self.root / name).chmod(0o755)
+
+    def __call__(self, *words: str, text: bytes, path: str = os.environ["PATH"]) -> subprocess.CompletedProcess[bytes]:
+        environment = os.environ | {"PATH": path, "TMPDIR": str(self.room)}
+        return subprocess.run([self.root / "view", *words], input=text, capture_output=True, env=environment, check=False)
+
+
+def try_view(tries: Tries, browser: Browser) -> None:
+    view, page = View(tries.room), tries.room / 'a "run" & <its> page.html'
+    for what, text in {"a journal": write_journal(strange()), "a trace": write_trace(strange())}.items():
+        ran = view("--page", str(page), text=text)
+        tries.same(f"./view --page takes {what}", (ran.returncode, ran.stdout, ran.stderr), (0, b"", b""))
+        browser.open(page)
+        browser.until("return !document.getElementById('main').hidden")
+        tries.same("the run is on the page when that is opened", (browser.text("name"), browser.texts("#facts .fact")[1]), (page.stem, "10 events"))
+        tries.same("the page holds no further script", (len(browser.all("script")), browser.run("return document.title")), (2, f"{page.stem} – Folugben"))
+    tries.same("no more than the one file was written", sorted(it.name for it in tries.room.glob("*.html")), [page.name])
+    ran = view(text=write_journal(strange()), path=f"{view.opened}:{os.environ['PATH']}")
+    named = ran.stdout.decode().strip()
+    tries.same("without --page a browser is started with the page, which is named", ((view.opened / "file").read_text().strip(), named.endswith(".html"), ran.returncode), (named, True, 0))
+    ran = view(text=write_journal(strange()), path=poor_path(tries.room))
+    tries.claim("where none is there it is named", Path(ran.stdout.decode().strip()).exists() and b"no browser could be started" in ran.stderr, ran)
+    ran = view("--page", str(tries.room / "none.html"), text=b"hello\n")
+    tries.same("what is no journal is refused as the program does", (ran.returncode, ran.stderr, (tries.room / "none.html").exists()), (2, b"journal line 1: not JSON\n", False))
+    ran = view("--pages", "x", text=b"")
+    tries.same("other words are refused", (ran.returncode, ran.stderr[:12]), (2, b"view: usage:"))
+
+
+def poor_path(room: Path) -> str:
+    """A path on which no browser is, but what ./view and the model need."""
+    folder = room / "poor"
+    folder.mkdir()
+    for name in ("bash", "sh", "env", "dirname", "basename", "realpath", "mktemp", "cat", "head", "grep", "sed", "mv", "rm", "python3"):
+        found = shutil.which(name)
+        if found:
+            (folder / name).symlink_to(os.path.realpath(found) if name != "python3" else "/usr/bin/python3")
+    return str(folder)
