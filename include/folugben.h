@@ -5,6 +5,10 @@
  * names was written since the agent read it. Agents that are given back are closed into a journal,
  * which tells what each call was answered, and which can be checked again.
  *
+ * An engine's agent works in steps: asm_begin; asm_get and asm_push in any order, all of which see
+ * one state; and asm_commit, which fires one move that does what the pushed ones do in turn, unless
+ * something was written since that the step rests on.
+ *
  * WHAT THE CALLER OWES
  *
  *  - Threads. Never use one slot in two calls at the same time. Different slots may be in calls at
@@ -18,7 +22,9 @@
  *    asm_free(NULL) isn't allowed either.
  *  - Buffers. A buffer is at least `room` bytes long. The bytes passed, the buffer and the numbers
  *    that a call writes overlap neither one another nor a slot. No text has a zero byte at its end.
- *  - Storages. asm_learn takes two agents of one storage, and asm_give an agent of the storage.
+ *  - Storages. asm_learn takes two agents of one storage, and asm_give an agent of the storage. A
+ *    step goes with agents of the storage that it began on; with one of another storage, what is got
+ *    and committed has no meaning, and no code tells so.
  *    ASM_OTHER reports a mistake, except possibly while other threads are in asm_learn or asm_give
  *    on both storages. The behaviour is undefined where a mistake isn't reported.
  *  - malloc, realloc and free are of one allocator, and malloc aligns a block to each power of two
@@ -38,11 +44,13 @@
  * WHAT STANDS AFTER A CALL
  *
  *  - asm_read and asm_try_fire add a receipt with ASM_DONE, ASM_STALE, ASM_CLASH and ASM_FULL.
- *    After asm_read or asm_try_fire, any other code means that no receipt was added; the agent may
- *    have seen more moves. After any other call, each code but ASM_DONE means that the slots are as
- *    they were.
+ *    So does asm_commit. Any other code of these three means that no receipt was added; the agent
+ *    may have seen more moves. No other call adds one.
+ *  - After asm_follow, asm_stands and asm_begin the agent may have seen more moves, with ASM_MEMORY
+ *    too. After any other call, each code but ASM_DONE means that the slots are as they were.
  *  - A number that a call writes is 0 unless its code is said to set it. `*written` is set with
- *    ASM_DONE, to the length of the text, and with ASM_SMALL.
+ *    ASM_DONE and with each code that is said to come with a text, to the length of the text, and
+ *    with ASM_SMALL.
  *  - ASM_MEMORY: nothing was fired or lost, and the call may be made again.
  *  - ASM_SMALL: nothing was written to the buffer; `*written` is the room that is needed. The call
  *    may be made again: nothing is read, fired or closed by it.
@@ -103,7 +111,7 @@ extern "C" {
 
 /* The version of this header, as asm_version tells that of the library: a million for each major
  * version, a thousand for each minor one. */
-#define FOLUGBEN_VERSION 1000
+#define FOLUGBEN_VERSION 2000
 
 /* What calls answer. */
 enum asm_code {
@@ -116,8 +124,9 @@ enum asm_code {
     ASM_RANGE = 6,     /* the capacity, a number, the count of slots or a form is out of range */
     ASM_SMALL = 7,     /* the buffer is too small, and `*written` is the room that is needed */
     ASM_BUSY = 8,      /* 64 offers were lost to other agents; nothing was fired */
-    ASM_MANY = 9,      /* more than 256 locations */
-    ASM_NONE = 10,     /* no call was answered yet; or no journal since an agent was given back */
+    ASM_MANY = 9,      /* more than 256 locations; or a move of more than 4,096 instructions */
+    ASM_NONE = 10,     /* no call was answered yet; no journal since an agent was given back; or no
+                          move is pushed */
     ASM_TAKEN = 11,    /* a slot that was to be filled is full */
     ASM_NUMBER = 12,   /* an agent of the storage with this number was made before */
     ASM_MISSING = 13,  /* a move has no receipt among the agents that were given back */
@@ -127,7 +136,10 @@ enum asm_code {
     ASM_SHAPE = 17,    /* they are JSON of another shape, or beyond a limit */
     ASM_VERSION = 18,  /* a journal of another version than 1 and 2 */
     ASM_CUT = 19,      /* the journal ends too early */
-    ASM_LARGE = 20     /* more calls than the 4,294,967,295 that a journal holds */
+    ASM_LARGE = 20,    /* more calls than the 4,294,967,295 that a journal holds; or too large an
+                          amount or sum */
+    ASM_MOVED = 21,    /* the agent's own state has moved on since the step began */
+    ASM_DEEP = 22      /* 64 moves are pushed already */
 };
 
 /* Writes what a code means, in a line of English. ASM_SMALL. */
@@ -136,7 +148,7 @@ int32_t asm_error_text(int32_t code, uint8_t *out, size_t room, size_t *written)
 /* The version of the library. */
 uint32_t asm_version(void);
 
-/* Room for a storage or an agent. Zeros hold nothing. `full` may be read between calls;
+/* Room for a storage, an agent or a step. Zeros hold nothing. `full` may be read between calls;
  * write neither. */
 typedef struct asm_slot {
     bool full;
@@ -188,6 +200,86 @@ int32_t asm_answer(asm_slot *agent, uint8_t *out, size_t room, size_t *written);
  * call. ASM_EMPTY (one of the slots), ASM_OTHER. */
 int32_t asm_learn(asm_slot *agent, asm_slot *other);
 
+/* AN AGENT'S OWN STATE stands at one number of moves, and moves on only in asm_follow, asm_stands,
+ * asm_begin, asm_read, asm_try_fire and asm_commit; a move that the agent fired itself is taken in by
+ * its next look, as asm_follow makes one. What asm_peek, asm_state and asm_scan tell is of that
+ * state: no look is made and no receipt. A later fire may name each location with the number that
+ * they tell. */
+
+/* Looks on until nothing more is found, and has the agent's own state follow: `*number` is then how
+ * many moves it has seen. ASM_EMPTY, ASM_MEMORY. */
+int32_t asm_follow(asm_slot *agent, uint32_t *number);
+
+/* Writes {"number":N,"values":[VALUE, ..]}: the values of the locations [LOC, ..], any number of them,
+ * in the agent's own state, which stands at N moves. ASM_EMPTY, ASM_SMALL, ASM_NOT_JSON, ASM_SHAPE,
+ * ASM_MEMORY. */
+int32_t asm_peek(asm_slot *agent, const uint8_t *locations, size_t len, uint8_t *out, size_t room,
+                 size_t *written);
+
+/* Writes the agent's own state [PAIR, ..], in ascending order of locations, which stands at `*number`
+ * moves; with ASM_SMALL `*number` is set too. ASM_EMPTY, ASM_MEMORY. */
+int32_t asm_state(asm_slot *agent, uint32_t *number, uint8_t *out, size_t room, size_t *written);
+
+/* The same with the locations of one function name alone, which is passed in UTF-8 without quotes.
+ * A fire that names each that was found doesn't notice that a further one is written later.
+ * ASM_EMPTY, ASM_SHAPE (the name isn't UTF-8), ASM_SMALL, ASM_MEMORY. */
+int32_t asm_scan(asm_slot *agent, const uint8_t *name, size_t len, uint32_t *number, uint8_t *out,
+                 size_t room, size_t *written);
+
+/* Tells whether the named reads [NAMED, ..], at most 256, still stand: it looks on, as asm_follow does.
+ * ASM_DONE: none of the locations was written since. ASM_STALE, with the text {"stale":LOC}: the least
+ * location that was. A fire may still be refused, by a move that comes in between. ASM_EMPTY, ASM_MANY,
+ * ASM_SMALL, ASM_NOT_JSON, ASM_SHAPE, ASM_MEMORY. */
+int32_t asm_stands(asm_slot *agent, const uint8_t *reads, size_t len, uint8_t *out, size_t room,
+                   size_t *written);
+
+/* A STEP is what an engine does between a look and a fire. Its slot keeps the number of moves at
+ * which it began, the moves that were pushed, and the locations that were got. asm_free abandons it. */
+
+/* Follows, and begins a step at `*number` moves, in a slot that is empty or holds a step, which is
+ * dropped. ASM_TAKEN (`step` holds something else), ASM_EMPTY (`agent`), ASM_MEMORY. */
+int32_t asm_begin(asm_slot *agent, asm_slot *step, uint32_t *number);
+
+/* Writes {"number":N,"values":[VALUE, ..]}: what is seen through the pushed moves at the locations
+ * [LOC, ..]. They are got, and asm_commit names them. ASM_MOVED: begin again. ASM_MANY: more than 256
+ * would be got. ASM_EMPTY (one of the slots), ASM_SMALL, ASM_NOT_JSON, ASM_SHAPE, ASM_MEMORY. */
+int32_t asm_get(asm_slot *agent, asm_slot *step, const uint8_t *locations, size_t len, uint8_t *out,
+                size_t room, size_t *written);
+
+/* Writes [PAIR, ..]: what is seen through the pushed moves at all locations with a function name,
+ * which is passed in UTF-8 without quotes. The locations that are found are got; that a further one
+ * is written later isn't noticed. ASM_SHAPE: the name isn't UTF-8. Else as asm_get. */
+int32_t asm_get_all(asm_slot *agent, asm_slot *step, const uint8_t *name, size_t len, uint8_t *out,
+                    size_t room, size_t *written);
+
+/* Pushes the move [INSTR, ..]: what is got and pushed later is seen through what it leaves. A push
+ * that is refused, or is popped, is a dry run. ASM_CLASH, with the text {"clash":[LOC,CAUSE]}: its
+ * updates clash on what is seen. ASM_DEEP. ASM_MANY: the one move of all would have more than 4,096
+ * instructions. ASM_LARGE, with {"large":LOC}: never for a step of the agent's storage. ASM_MOVED:
+ * begin again. ASM_EMPTY (one of the slots), ASM_SMALL (for the text of a refusal), ASM_NOT_JSON,
+ * ASM_SHAPE, ASM_MEMORY. */
+int32_t asm_push(asm_slot *agent, asm_slot *step, const uint8_t *move, size_t len, uint8_t *out,
+                 size_t room, size_t *written);
+
+/* The same, but the move joins the one that was pushed last, and is popped with it: a loop of a
+ * thousand rounds is one move deep. Without a pushed move it is pushed. Never ASM_DEEP. */
+int32_t asm_extend(asm_slot *agent, asm_slot *step, const uint8_t *move, size_t len, uint8_t *out,
+                   size_t room, size_t *written);
+
+/* Takes away the move that was pushed last. What was got stays got; the locations that its partial
+ * updates change are no longer named. ASM_NONE, ASM_EMPTY. */
+int32_t asm_pop(asm_slot *step);
+
+/* How many moves are pushed; 0 for a slot without a step. */
+uint32_t asm_depth(asm_slot *step);
+
+/* Fires one move that does what the pushed moves do in turn, with all named, at the step's number,
+ * that was got or that a pushed partial update changes: codes, numbers and receipt as of
+ * asm_try_fire, and asm_answer tells the reply whole. With ASM_DONE the step is over, and its slot is
+ * empty; with any other code it stays, until asm_begin or asm_free. ASM_MANY: more than 256 locations
+ * would be named. */
+int32_t asm_commit(asm_slot *agent, asm_slot *step, asm_numbers *numbers);
+
 /* How many moves the agent has seen, how many it fired, and how many of its looks found no further
  * move; 0 for a slot without an agent. */
 uint32_t asm_seen(asm_slot *agent);
@@ -213,6 +305,13 @@ int32_t asm_close(asm_slot *storage, uint32_t *number);
 /* Writes the journal that asm_close made. ASM_EMPTY, ASM_NONE, ASM_SMALL. */
 int32_t asm_journal(asm_slot *storage, uint8_t *out, size_t room, size_t *written);
 
+/* Opens a storage for 1 to 1,048,576 moves, in an empty slot, that goes on where a closed one ended:
+ * its opening state is the one that the moves of the kept journal leave, and its agents start anew.
+ * The journals of both, one after the other, tell one run; moves that were fired after asm_close
+ * are in neither. ASM_TAKEN (`next`), ASM_EMPTY (`storage`), ASM_NONE, ASM_RANGE (the capacity),
+ * ASM_MEMORY. */
+int32_t asm_next(asm_slot *storage, uint32_t capacity, asm_slot *next);
+
 /* Releases what the slot holds, if anything, and leaves it empty. The memory of a storage is
  * freed with the last slot that holds it or an agent of it. */
 void asm_free(asm_slot *slot);
@@ -228,6 +327,29 @@ int32_t asm_check(const uint8_t *journal, size_t len, uint64_t *calls, uint32_t 
  * else 0. ASM_VERSION, ASM_CUT, ASM_SMALL, ASM_MEMORY. */
 int32_t asm_replay(const uint8_t *journal, size_t len, uint8_t *out, size_t room, size_t *written,
                    uint64_t *line);
+
+/* Writes the trace of a journal, legal or not: what each of its calls did, in the form that the page on
+ * formats has, for a viewer or a debugger. ASM_NOT_JSON, ASM_SHAPE: `*line` is the number of the line,
+ * else 0. ASM_VERSION, ASM_CUT, ASM_SMALL, ASM_MEMORY. */
+int32_t asm_trace(const uint8_t *journal, size_t len, uint8_t *out, size_t room, size_t *written,
+                  uint64_t *line);
+
+/* Writes the updates [PAIR, ..] of the move [INSTR, ..] on the state [PAIR, ..], in ascending order of
+ * locations; null leaves a location empty, as each is that the state doesn't have. The state needs
+ * the locations of partial updates alone. ASM_CLASH, with the text {"clash":[LOC,CAUSE]} of the least
+ * location that clashes. ASM_NOT_JSON, ASM_SHAPE (the state, or else the move), ASM_SMALL,
+ * ASM_MEMORY. */
+int32_t asm_aggregate(const uint8_t *state, size_t state_len, const uint8_t *move, size_t move_len,
+                      uint8_t *out, size_t room, size_t *written);
+
+/* Writes one move [INSTR, ..] that does what the first move [INSTR, ..] and then the second do: on a
+ * state on which the first fires, it fires as the two in turn, or clashes as the second does then.
+ * ASM_CLASH and ASM_LARGE come where on no state both fire, with the texts {"clash":[LOC,CAUSE]}, and
+ * {"large":LOC} where an amount would be above 4294967295 or a sum of increments farther from 0 than
+ * 18446744073709551615. ASM_MANY: more than 4,096 instructions. ASM_NOT_JSON, ASM_SHAPE (the first, or
+ * else the second), ASM_SMALL, ASM_MEMORY. */
+int32_t asm_compose(const uint8_t *first, size_t first_len, const uint8_t *second,
+                    size_t second_len, uint8_t *out, size_t room, size_t *written);
 
 /* The forms that asm_explain knows, by the calls that take them. */
 enum asm_form {

@@ -16,7 +16,7 @@ pub extern "C" fn asm_error_text(code: i32, out: &mut [u8], written: &mut usize)
 /// The version of this library: a million for each major one, a thousand for each minor one.
 #[unsafe(no_mangle)]
 pub extern "C" fn asm_version() -> u32
-    ensures { result ≡ 1000 }
+    ensures { result ≡ 2000 }
 {
-    1_000
+    2_000
 }

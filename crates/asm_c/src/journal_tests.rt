@@ -215,7 +215,7 @@ struct CodeText {
     text: &'static [u8],
 }
 
-static CODE_TEXTS: [CodeText; 7] = [
+static CODE_TEXTS: [CodeText; 11] = [
     CodeText {
         code: 0,
         text: b"done",
@@ -238,7 +238,23 @@ static CODE_TEXTS: [CodeText; 7] = [
     },
     CodeText {
         code: 20,
-        text: b"more calls than a journal holds",
+        text: b"more calls than a journal holds, or too large an amount or sum",
+    },
+    CodeText {
+        code: 9,
+        text: b"more than 256 locations, or more than 4,096 instructions",
+    },
+    CodeText {
+        code: 10,
+        text: b"there is no answer, no journal or no pushed move",
+    },
+    CodeText {
+        code: 21,
+        text: b"the state of the agent has moved on since the step began",
+    },
+    CodeText {
+        code: 22,
+        text: b"64 moves are pushed already",
     },
     CodeText {
         code: -1,
@@ -255,5 +271,5 @@ fn codes_have_texts(rt: HostRuntime) {
         assert!(rt; out.get(..written) == Some(row.text));
     }
     assert!(rt; asm_error_text(0, &mut [0, 0, 0], &mut written) == 7 && written == 4);
-    assert!(rt; asm_version() == 1000);
+    assert!(rt; asm_version() == 2000);
 }

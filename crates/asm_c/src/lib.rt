@@ -2,19 +2,34 @@
 #![tactic(auto)]
 
 mod codes;
+mod committing;
 mod counts_and_learning;
 mod explaining;
 #[cfg(test)]
 mod explaining_tests;
+mod getting_all;
 mod give_and_close;
 #[cfg(test)]
 mod journal_tests;
 mod journals;
+mod looking;
+mod moves;
+#[cfg(test)]
+mod moves_tests;
+mod next_store;
 mod opening;
+mod own_state;
+mod pushing;
 mod read_and_fire;
 #[cfg(test)]
 mod read_and_fire_tests;
 #[cfg(test)]
 mod slot_tests;
 #[cfg(test)]
+mod step_rows;
+#[cfg(test)]
+mod step_tests;
+mod steps;
+#[cfg(test)]
 mod test_slots;
+mod tracing;

@@ -13,9 +13,13 @@ use Rattle.asm_storage.proofs.Standard.{standard, standard_ghosts, standard_stor
 use Rattle.asm_storage.specs.contracts.receipt.Entry as Entry
 use Rattle.asm_storage.specs.contracts.storage.Storage as Storage
 use Rattle.asm_storage.specs.contracts.storage.Storage.TheInside as InsideStorage
+use Rattle.asm_element.proofs.Crossing.{location_is_sent}
+use Rattle.asm_step.proofs.Crossing.{step_is_sent}
 use Rattle.asm_slots.specs.contracts.content.Content as Content
 use Rattle.asm_slots.specs.contracts.owned_agent.OwnedAgent as OwnedAgent
 use Rattle.asm_slots.specs.contracts.owned_agent.OwnedAgent.TheInside as InsideAgent
+use Rattle.asm_slots.specs.contracts.owned_step.OwnedStep as OwnedStep
+use Rattle.asm_slots.specs.contracts.owned_step.OwnedStep.TheInside as InsideStep
 use Rattle.asm_slots.specs.contracts.shared.Shared as Shared
 use Rattle.asm_slots.specs.contracts.store.Store as Store
 use Rattle.asm_slots.specs.contracts.store.Store.TheInside as InsideStore
@@ -56,5 +60,11 @@ inside_store_is_sent = search (sendable, Arc-send, Vec-send, shared_is_sent, sha
 store_is_sent : IsSend Store.the_row
 store_is_sent = search (sendable, inside_store_is_sent) depth 20
 
+inside_step_is_sent : IsSend InsideStep.the_row
+inside_step_is_sent = search (sendable, Vec-send, step_is_sent, location_is_sent) depth 20
+
+owned_step_is_sent : IsSend OwnedStep.the_row
+owned_step_is_sent = search (sendable, inside_step_is_sent) depth 20
+
 pub content_is_sent : IsSend Content.the_row
-content_is_sent = search (sendable, agent_is_sent, store_is_sent) depth 20
+content_is_sent = search (sendable, agent_is_sent, store_is_sent, owned_step_is_sent) depth 20

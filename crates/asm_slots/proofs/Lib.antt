@@ -6,5 +6,10 @@ pub mod GivenAgents
 pub mod CopiedTexts
 pub mod Noted
 pub mod Crossing
+pub mod Held
+pub mod GoingOn
+pub mod OwnStates
+pub mod Growing
+pub mod Commits
 pub mod Unwritten
 pub mod Misread

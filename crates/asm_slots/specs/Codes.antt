@@ -37,11 +37,11 @@ ASM_SMALL = pos 7
 abbrev pub ASM_BUSY : ℤ
 ASM_BUSY = pos 8
 
--- more than 256 locations
+-- more than 256 locations; or a move with more than 4,096 instructions
 abbrev pub ASM_MANY : ℤ
 ASM_MANY = pos 9
 
--- no call was answered yet; or no journal since an agent was given back
+-- no call was answered yet; no journal since an agent was given back; or no move is pushed
 abbrev pub ASM_NONE : ℤ
 ASM_NONE = pos 10
 
@@ -81,9 +81,17 @@ ASM_VERSION = pos 18
 abbrev pub ASM_CUT : ℤ
 ASM_CUT = pos 19
 
--- more calls than a journal holds
+-- more calls than a journal holds; or too large an amount or sum
 abbrev pub ASM_LARGE : ℤ
 ASM_LARGE = pos 20
+
+-- the agent's own state stands no longer at the number of the step
+abbrev pub ASM_MOVED : ℤ
+ASM_MOVED = pos 21
+
+-- 64 moves are pushed already
+abbrev pub ASM_DEEP : ℤ
+ASM_DEEP = pos 22
 
 -- one of these codes
 abbrev pub IsOneOf : List ℤ → ℤ → Type 0
@@ -102,8 +110,8 @@ texts =
     codes "the capacity, the agent's number, the count of slots or the form is out of range" ∷
     codes "the buffer is too small" ∷
     codes "64 offers were lost" ∷
-    codes "more than 256 locations" ∷
-    codes "there is no answer or no journal yet" ∷
+    codes "more than 256 locations, or more than 4,096 instructions" ∷
+    codes "there is no answer, no journal or no pushed move" ∷
     codes "the slot that was to be filled is full" ∷
     codes "an agent with this number was made before" ∷
     codes "a move has no receipt among the agents that were given back" ∷
@@ -113,7 +121,9 @@ texts =
     codes "JSON of another shape" ∷
     codes "a journal of another version" ∷
     codes "the journal is cut off" ∷
-    codes "more calls than a journal holds" ∷ []
+    codes "more calls than a journal holds, or too large an amount or sum" ∷
+    codes "the state of the agent has moved on since the step began" ∷
+    codes "64 moves are pushed already" ∷ []
 
 -- the text of a code
 abbrev pub text_of_code : ℤ → List ℕ

@@ -11,6 +11,7 @@ use Rattle.asm_journal.specs.Check.{machine_of, IsLegality}
 use Rattle.asm_journal.specs.Fault.{IsRefused}
 use Rattle.asm_journal.specs.Reading.{ReadsAs}
 use Rattle.asm_journal.specs.Text.{state_json_of}
+use Rattle.asm_trace.specs.Text.{IsTrace}
 use Rattle.asm_slots.specs.Codes.{ASM_MEMORY, ASM_NOT_JSON, ASM_SHAPE, ASM_VERSION, ASM_CUT}
 use Rattle.asm_slots.specs.Standard.{part}
 
@@ -25,6 +26,12 @@ pub record IsReplayed (bytes text : List ℕ) : Type 0 where
   pub history : History
   pub reads : ReadsAs bytes history
   pub left : text ≡ compact_text (state_json_of (state_of part history.init (fired_moves history.events)))
+
+-- the bytes are a journal, and this is its trace
+pub record IsTraceOf (bytes text : List ℕ) : Type 0 where
+  pub history : History
+  pub reads : ReadsAs bytes history
+  pub trace : IsTrace part history text
 
 -- this code tells the error, with the number of its line, or 0
 abbrev pub TellsError : JournalError → ℤ → ℕ → Type 0

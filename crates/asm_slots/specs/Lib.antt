@@ -9,7 +9,13 @@ pub mod Numbers
 pub mod InsertPoint
 pub mod Closed
 pub mod Unclosed
+pub mod Step
 pub mod Slots
 pub mod Calls
 pub mod GiveError
 pub mod Journals
+pub mod Moves
+pub mod Own
+pub mod Next
+pub mod Steps
+pub mod Committed

@@ -1,7 +1,8 @@
 -- What slots hold.
-use Rattle.std.specs.Prelude.{◌≡◌, ◌<◌, slice_index_or, ℕ, List, length, Option, None, Some}
+use Rattle.std.specs.Prelude.{◌≡◌, ◌<◌, ◌⊎◌, slice_index_or, ℕ, List, length, Option, None, Some}
 use Rattle.asm_storage.specs.Storage.{AgentAt, StorageView, at_start}
 use Rattle.asm_slots.specs.Standard.{Standard}
+use Rattle.asm_slots.specs.Step.{StepView}
 use Rattle.asm_slots.specs.Store.{StoreView}
 use Rattle.asm_slots.specs.declared.slot.Slot.{Slot}
 use Rattle.asm_slots.specs.declared.content.Content.{Content}
@@ -40,6 +41,41 @@ HoldsStore _ P = ⊥
 abbrev pub HoldsNoStore : Option Content → Type 0
 HoldsNoStore (Some (content.Store s)) = ⊥
 HoldsNoStore _ = Unit {0}
+
+-- the slot holds a step, and it is so
+abbrev pub HoldsStep : Option Content → (StepView → Type 0) → Type 0
+HoldsStep (Some (content.Step s)) P = P s
+HoldsStep _ P = ⊥
+
+-- where the slot holds a step, it is so
+abbrev pub IfHoldsStep : Option Content → (StepView → Type 0) → Type 0
+IfHoldsStep (Some (content.Step s)) P = P s
+IfHoldsStep _ P = Unit {0}
+
+-- the slot is empty or holds a step
+abbrev pub HasRoomForStep : Option Content → Type 0
+HasRoomForStep None = Unit {0}
+HasRoomForStep (Some (content.Step s)) = Unit {0}
+HasRoomForStep _ = ⊥
+
+-- the slot holds no step
+abbrev pub HoldsNoStep : Option Content → Type 0
+HoldsNoStep (Some (content.Step s)) = ⊥
+HoldsNoStep _ = Unit {0}
+
+-- the slot holds a step before and after, and these two are so
+abbrev pub GoesStep : Option Content → Option Content → (StepView → StepView → Type 0) → Type 0
+GoesStep (Some (content.Step s)) new P = HoldsStep new (P s)
+GoesStep _ new P = ⊥
+
+-- the one slot holds an agent and the other a step, and they are so
+abbrev pub HoldBoth : Option Content → Option Content → (AgentAt Standard → StepView → Type 0) → Type 0
+HoldBoth (Some (content.Agent a)) step P = HoldsStep step (P a)
+HoldBoth _ step P = ⊥
+
+-- one of the two isn't there, the agent or the step
+abbrev pub LacksOne : Option Content → Option Content → Type 0
+LacksOne agent step = HoldsNoAgent agent ⊎ HoldsNoStep step
 
 -- two agents are of one storage, where there are two
 abbrev pub AreOfOneStorage : Option Content → Option Content → Type 0

@@ -14,6 +14,10 @@ use Rattle.asm_aggregate.specs.declared.count_agg.CountAgg.{CountAgg}
 abbrev pub Standard : Type 0
 Standard = Pair (Pair SetAgg BagAgg) CountAgg
 
+-- what the three compute
+abbrev pub standard : Meaning
+standard = pair_meaning (pair_meaning set_meaning bag_meaning) count_meaning
+
 -- what they compute
 abbrev pub meaning : Standard → Meaning
 meaning _ = pair_meaning (pair_meaning set_meaning bag_meaning) count_meaning

@@ -1,5 +1,5 @@
 //! The codes that calls answer, and their texts.
-ghost use Rattle.std.specs.Prelude.{◌≡◌, ◌≢◌, ◌⊎◌, ◌<◌, ◌≤◌, length, slice_range};
+ghost use Rattle.std.specs.Prelude.{◌≡◌, ◌≢◌, ◌⊎◌, ◌<◌, ◌≤◌, length, slice_range, string_bytes};
 ghost use Rattle.asm_slots.specs.Codes.{ASM_DONE, ASM_SMALL, text_of_code};
 
 pub(crate) const DONE: i32 = 0;
@@ -44,6 +44,17 @@ pub(crate) const CUT: i32 = 19;
 
 pub(crate) const LARGE: i32 = 20;
 
+pub(crate) const MOVED: i32 = 21;
+
+pub(crate) const DEEP: i32 = 22;
+
+/// A text that is to be written, with its code.
+#[derive(Drop)]
+pub(crate) struct Told {
+    pub(crate) code: i32,
+    pub(crate) text: String,
+}
+
 /// Copies the bytes to the start of the buffer, where they fit.
 pub(crate) fn copied(bytes: &[u8], out: &mut [u8], written: &mut usize) -> i32
     ensures written { written.new ≡ length bytes.now }
@@ -61,6 +72,22 @@ pub(crate) fn copied(bytes: &[u8], out: &mut [u8], written: &mut usize) -> i32
     DONE
 }
 
+/// Copies the text to the start of the buffer and answers the code, where it fits.
+pub(crate) fn written_as(told: &Told, out: &mut [u8], written: &mut usize) -> i32
+    requires { told.now.code ≢ ASM_SMALL }
+    ensures written { written.new ≡ length (string_bytes told.now.text) }
+    ensures codes { (result ≡ told.now.code) ⊎ (result ≡ ASM_SMALL) }
+    ensures bytes { result ≢ ASM_SMALL → slice_range out.new 0 written.new ≡ string_bytes told.now.text }
+    ensures fits { result ≢ ASM_SMALL → written.new ≤ length out.new }
+    ensures small { result ≡ ASM_SMALL → out.new ≡ out.old }
+    ensures room { result ≡ ASM_SMALL → length out.old < length (string_bytes told.now.text) }
+{
+    if copied(told.text.as_bytes(), out, written) == DONE {
+        return told.code;
+    }
+    SMALL
+}
+
 fn text_of_code(code: i32) -> &'static str
     ensures { result.now ≡ text_of_code code }
 {
@@ -74,8 +101,8 @@ fn text_of_code(code: i32) -> &'static str
         RANGE => "the capacity, the agent's number, the count of slots or the form is out of range",
         SMALL => "the buffer is too small",
         BUSY => "64 offers were lost",
-        MANY => "more than 256 locations",
-        NONE => "there is no answer or no journal yet",
+        MANY => "more than 256 locations, or more than 4,096 instructions",
+        NONE => "there is no answer, no journal or no pushed move",
         TAKEN => "the slot that was to be filled is full",
         NUMBER => "an agent with this number was made before",
         MISSING => "a move has no receipt among the agents that were given back",
@@ -85,7 +112,9 @@ fn text_of_code(code: i32) -> &'static str
         SHAPE => "JSON of another shape",
         VERSION => "a journal of another version",
         CUT => "the journal is cut off",
-        LARGE => "more calls than a journal holds",
+        LARGE => "more calls than a journal holds, or too large an amount or sum",
+        MOVED => "the state of the agent has moved on since the step began",
+        DEEP => "64 moves are pushed already",
         _ => "no code of this library",
     }
 }

@@ -1,5 +1,6 @@
 //! What a slot contains, in the box behind its handle.
 use crate::owned_agent::OwnedAgent;
+use crate::owned_step::OwnedStep;
 use crate::store::Store;
 
 /// The box is reused: it contains nothing while a call works on what was taken out.
@@ -8,4 +9,5 @@ pub enum Content {
     Nothing,
     Store(Store),
     Agent(OwnedAgent),
+    Step(OwnedStep),
 }

@@ -12,8 +12,8 @@ use asm_aggregate::standard;
 use asm_journal::{JournalError, Legality, check, from_text, replay, state_text};
 use std::alloc::{AllocError, Global};
 
-// The code of the error, with the number of the line at fault, or 0.
-fn code_of_error(error: JournalError) -> (i32, u64)
+/// The code of the error, with the number of the line at fault, or 0.
+pub(crate) fn code_of_error(error: JournalError) -> (i32, u64)
     ensures codes { IsOneOf (ASM_MEMORY ∷ ASM_NOT_JSON ∷ ASM_SHAPE ∷ ASM_VERSION ∷ ASM_CUT ∷ []) result.0 }
     ensures told { TellsError error result.0 result.1 }
     ensures none { IsOneOf (ASM_MEMORY ∷ ASM_VERSION ∷ ASM_CUT ∷ []) result.0 → result.1 ≡ 0 }

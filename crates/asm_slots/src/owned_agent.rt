@@ -5,15 +5,18 @@ ghost use Rattle.std_alloc.specs.Arc.{arc_value};
 ghost use Rattle.asm_storage.specs.declared.call.Reply.TheVariants.{Fired};
 ghost use Rattle.asm_storage.specs.declared.error.FireError.TheVariants.{Busy, ManyReads};
 ghost use Rattle.asm_storage.specs.declared.error.ReadError.TheVariants.{ManyLocations};
-ghost use Rattle.asm_storage.specs.Storage.{at_start, last_look, IsSameAgent, Missed};
-ghost use Rattle.asm_storage.specs.Calls.{HasLookedFor, IsAnswered, IsBusy, IsCoherentReply, IsRead, MadeOffers};
+ghost use Rattle.asm_storage.specs.Part.{IsFollowing};
+ghost use Rattle.asm_storage.specs.Storage.{at_start, last_look, machine_of, IsSameAgent, Missed};
+ghost use Rattle.asm_storage.specs.Calls.{HasLookedFor, IsAnswered, IsBusy, IsCoherentReply, IsRead};
+ghost use Rattle.asm_storage.specs.Calls.{IsStaleRead, MadeOffers};
 ghost use Rattle.asm_slots.specs.Standard.{meaning};
+ghost use Rattle.asm_slots.specs.Own.{HasLookedOn};
 ghost use Rattle.asm_slots.specs.Calls.{HasLearnt, HasLooked, MissedFew, MissedOne, SeesOn, TellsLast};
 
 use crate::shared::{Shared, Standard};
 use asm_element::Location;
 use asm_journal::answer_text;
-use asm_state::Named;
+use asm_state::{Named, State};
 use asm_storage::{Agent, AgentPart, FireError, Mark, ReadError, Reading, Reply};
 use asm_update::Instructions;
 use std::alloc::{AllocError, Global};
@@ -114,6 +117,48 @@ impl OwnedAgent {
         let answer = agent.try_fire(alloc, reads, instrs);
         let part = agent.into_part();
         (OwnedAgent { shared, part }, answer)
+    }
+
+    /// Its own state.
+    pub(crate) fn state(&self) -> &State
+        ensures { IsFollowing (machine_of meaning self.now.storage) self.now.account.seen result.now }
+    {
+        self.part.state()
+    }
+
+    /// Has its state follow the row to the end; how many moves it has then seen.
+    pub(crate) fn follow(self, alloc: Global) -> (OwnedAgent, Result<u32, AllocError>)
+        ensures same { IsSameAgent self result.0 }
+        ensures looked { HasLookedOn self result.0 }
+        ensures seen { SeesOn self result.0 }
+        ensures number { IfOk result.1 (λ n. n ≡ length result.0.account.seen) }
+    {
+        let OwnedAgent { shared, part } = self;
+        let mut agent = Agent::of(&shared.storage, part);
+        let number = agent.follow(alloc);
+        let part = agent.into_part();
+        (OwnedAgent { shared, part }, number)
+    }
+
+    /// The least location of the named reads that is stale by now, if one is.
+    pub(crate) fn stale_of(
+        self,
+        alloc: Global,
+        reads: &[Named],
+    ) -> (OwnedAgent, Result<Option<Location>, ReadError>)
+        ensures same { IsSameAgent self result.0 }
+        ensures stale { IfOk result.1 (IsStaleRead meaning result.0 reads.now) }
+        ensures looked { OnOk result.1 (HasLookedOn self result.0) }
+        ensures seen { SeesOn self result.0 }
+        ensures kept { HasLooked self result.0 }
+        ensures unread { IfErr result.1 (HasLookedFor self result.0) }
+        ensures many { IsErrOf result.1 ManyLocations ↔ (256 < length reads.now) }
+    {
+        let OwnedAgent { shared, part } = self;
+        let mut agent = Agent::of(&shared.storage, part);
+        let stale = agent.stands(alloc, reads);
+        let part = agent.into_part();
+        (OwnedAgent { shared, part }, stale)
     }
 
     /// Its number.

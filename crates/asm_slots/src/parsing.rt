@@ -3,7 +3,9 @@ ghost use Rattle.std.specs.Prelude.{◌≡◌, ◌∷◌, [], IfOk, IfErr};
 ghost use Rattle.serde_json.specs.View.{view};
 ghost use Rattle.asm_journal.specs.Reading.{IsJson};
 ghost use Rattle.asm_journal.specs.Value.{IsStateForm};
-ghost use Rattle.asm_slots.specs.Bytes.{AreLocations, IsFireForm, IsMisread, IsUnread, ReadAs};
+ghost use Rattle.asm_slots.specs.Bytes.{AreLocations, AreReads, IsEitherMisread, IsFireForm, IsMisread, IsUnread};
+ghost use Rattle.asm_slots.specs.Bytes.{ReadAs, ReadAsMove, ReadAsReads};
+ghost use Rattle.asm_journal.specs.Event.{IsMoveForm};
 ghost use Rattle.asm_slots.specs.Bytes.{ReadAsFire, ReadAsLocations, ReadAsState, text_error_code};
 ghost use Rattle.asm_slots.specs.Codes.{IsOneOf, ASM_MEMORY, ASM_NOT_JSON, ASM_SHAPE};
 ghost use Rattle.asm_slots.specs.declared.parsing.TextError.TheVariants as text_errors;
@@ -73,6 +75,45 @@ pub(crate) fn locations_of(alloc: Global, bytes: &[u8]) -> Result<Vec<Location>,
 {
     match read_as::<Listed<Location>>(alloc, bytes) {
         Ok(locations) => Ok(locations.into_vec()),
+        Err(error) => Err(error),
+    }
+}
+
+/// The named reads of `[NAMED, ..]`.
+pub(crate) fn reads_of(alloc: Global, bytes: &[u8]) -> Result<Vec<Named>, TextError>
+    ensures ok { IfOk result (λ reads. ReadAsReads bytes.now reads.items) }
+    ensures err { IfErr result (IsMisread AreReads bytes.now) }
+{
+    match read_as::<Listed<Named>>(alloc, bytes) {
+        Ok(reads) => Ok(reads.into_vec()),
+        Err(error) => Err(error),
+    }
+}
+
+/// The move of `[INSTR, ..]`.
+pub(crate) fn move_of(alloc: Global, bytes: &[u8]) -> Result<Instructions, TextError>
+    ensures ok { IfOk result (ReadAsMove bytes.now) }
+    ensures err { IfErr result (IsMisread IsMoveForm bytes.now) }
+{
+    read_as::<Instructions>(alloc, bytes)
+}
+
+/// The values of two texts, or the fault of the first of them that has one.
+pub(crate) fn read_both<T: FromJson, U: FromJson>(
+    alloc: Global,
+    first: &[u8],
+    second: &[u8],
+) -> Result<(T, U), TextError>
+    ensures first { IfOk result (λ p. ReadAs T.is_form first.now p.0) }
+    ensures second { IfOk result (λ p. ReadAs U.is_form second.now p.1) }
+    ensures err { IfErr result (IsEitherMisread T.is_form U.is_form first.now second.now) }
+{
+    let one = match read_as::<T>(alloc, first) {
+        Ok(one) => one,
+        Err(error) => return Err(error),
+    };
+    match read_as::<U>(alloc, second) {
+        Ok(two) => Ok((one, two)),
         Err(error) => Err(error),
     }
 }

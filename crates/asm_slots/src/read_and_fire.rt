@@ -99,7 +99,7 @@ pub struct Numbers {
 }
 
 impl Numbers {
-    fn none() -> Numbers
+    pub(crate) fn none() -> Numbers
         ensures fired { result.fired ≡ 0 }
         ensures from { result.from ≡ 0 }
         ensures to { result.to ≡ 0 }
@@ -112,8 +112,8 @@ impl Numbers {
     }
 }
 
-// The code of the reply, with the number of the move that was fired, or 0.
-fn code_of_reply(reply: Reply) -> (i32, u32)
+/// The code of the reply, with the number of the move that was fired, or 0.
+pub(crate) fn code_of_reply(reply: Reply) -> (i32, u32)
     ensures code { result.0 ≡ code_of reply }
     ensures number { result.1 ≡ number_of reply }
     ensures fired { (k : ℕ) → reply ≡ Fired k → result.0 ≡ ASM_DONE }

@@ -1,12 +1,13 @@
-//! Taking agents and storages out of slots, and putting them back.
+//! Taking agents, storages and steps out of slots, and putting them back.
 ghost use Rattle.std.specs.Prelude.{◌≡◌, IfNone, IfSome, None, Some};
 ghost use denote.Param.Send.{IsSend};
-ghost use Rattle.asm_slots.specs.Slots.{HoldsNoAgent, HoldsNoStore, content_of};
+ghost use Rattle.asm_slots.specs.Slots.{HoldsNoAgent, HoldsNoStep, HoldsNoStore, LacksOne, content_of};
 ghost use Rattle.asm_slots.specs.contracts.content.Content.{the_row as content_row};
 ghost use Rattle.asm_slots.specs.declared.content.Content.TheVariants as content;
 
 use crate::content::Content;
 use crate::owned_agent::OwnedAgent;
+use crate::owned_step::OwnedStep;
 use crate::slot::Slot;
 use crate::store::Store;
 use std::alloc::Global;
@@ -59,6 +60,72 @@ pub(crate) fn put_store(slot: &mut Slot, mut shell: Box<Content>, store: Store)
 {
     *shell = Content::Store(store);
     *slot = Slot::holding(shell);
+}
+
+/// The step of the slot and its box, taken out of it.
+pub(crate) fn take_step(alloc: Global, slot: &mut Slot) -> Option<(Box<Content>, OwnedStep)>
+    ensures some { IfSome result (λ p. content_of slot.old ≡ Some (content.Step p.1)) }
+    ensures none { IfNone result (content_of slot.new ≡ content_of slot.old) }
+    ensures other { IfNone result (HoldsNoStep (content_of slot.old)) }
+{
+    let mut shell = std::mem::replace(slot, Slot::empty(alloc)).into_box()?;
+    match std::mem::replace(&mut *shell, Content::Nothing) {
+        Content::Step(step) => Some((shell, step)),
+        other => {
+            *shell = other;
+            *slot = Slot::holding(shell);
+            None
+        }
+    }
+}
+
+/// Puts the step into the slot, in its box.
+pub(crate) fn put_step(slot: &mut Slot, mut shell: Box<Content>, step: OwnedStep)
+    ensures { content_of slot.new ≡ Some (content.Step step) }
+{
+    *shell = Content::Step(step);
+    *slot = Slot::holding(shell);
+}
+
+/// An agent and a step with their boxes, taken out of their slots.
+#[derive(Drop)]
+pub(crate) struct Both {
+    pub(crate) agent_shell: Box<Content>,
+    pub(crate) agent: OwnedAgent,
+    pub(crate) step_shell: Box<Content>,
+    pub(crate) step: OwnedStep,
+}
+
+/// The agent of the one slot and the step of the other, taken out of them.
+pub(crate) fn take_both(alloc: Global, agent: &mut Slot, step: &mut Slot) -> Option<Both>
+    ensures agent { IfSome result (λ b. content_of agent.old ≡ Some (content.Agent b.agent)) }
+    ensures step { IfSome result (λ b. content_of step.old ≡ Some (content.Step b.step)) }
+    ensures none { IfNone result ((content_of agent.new ≡ content_of agent.old)
+        × (content_of step.new ≡ content_of step.old)) }
+    ensures other { IfNone result (LacksOne (content_of agent.old) (content_of step.old)) }
+{
+    let (agent_shell, inner) = take_agent(alloc, agent)?;
+    match take_step(alloc, step) {
+        Some((step_shell, taken)) => Some(Both {
+            agent_shell,
+            agent: inner,
+            step_shell,
+            step: taken,
+        }),
+        None => {
+            put_agent(agent, agent_shell, inner);
+            None
+        }
+    }
+}
+
+/// Puts both into their slots, in their boxes.
+pub(crate) fn put_both(agent: &mut Slot, step: &mut Slot, both: Both)
+    ensures agent { content_of agent.new ≡ Some (content.Agent both.agent) }
+    ensures step { content_of step.new ≡ Some (content.Step both.step) }
+{
+    put_agent(agent, both.agent_shell, both.agent);
+    put_step(step, both.step_shell, both.step);
 }
 
 // What a slot contains may go from thread to thread.

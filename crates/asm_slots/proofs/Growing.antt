@@ -1,0 +1,105 @@
+-- A step that grows or shrinks over the state at its number.
+use Rattle.std.proofs.Common.{Bool, true, false, ℕ, ℤ, slice_range, ◌≡◌, List, [], ◌∷◌, ◌++◌, Ok, Err, refl, subst, sym}
+use Rattle.std.specs.Bool.{OnTrue}
+use Rattle.asm_update.specs.Fire.{Part, Old}
+use Rattle.asm_update.specs.Move.{Move}
+use Rattle.asm_state.specs.View.{StateView, value_at}
+use Rattle.asm_step.specs.Answer.{IsAnswer}
+use Rattle.asm_step.specs.Layers.{IsStepOf}
+use Rattle.asm_step.specs.declared.error.StepError.{StepError}
+use Rattle.asm_step.specs.declared.error.StepError.TheVariants.{Deep}
+use Rattle.asm_step.specs.declared.layer.Layer.{Layer}
+use Rattle.asm_storage.specs.Storage.{AgentAt}
+use Rattle.asm_slots.specs.Bytes.{ReadAsMove}
+use Rattle.asm_slots.specs.Written.{IsTooLong, IsWritten}
+use Rattle.asm_slots.specs.Standard.{Standard, standard, part}
+use Rattle.asm_slots.specs.Step.{StepView}
+use Rattle.asm_slots.specs.Steps.{HasPopped, IsGrown, IsLayered, IsNotGrown, IsPushError, TellsRefusal, below, grown}
+use Rattle.asm_slots.specs.declared.owned_step.Way.{Way}
+use Rattle.asm_slots.specs.declared.owned_step.Way.TheVariants as ways
+use Rattle.asm_slots.proofs.OwnStates.{IsOwn, below_is}
+
+-- what a push or an extension tells over a look-up is so over what is below the step
+pub is_grown : (way : Way) (a : AgentAt Standard) (s : StateView) (old : StepView) (ls : List Layer) (M : Move) →
+    IsOwn a s → s.number ≡ old.number → IsLayered way old.layers ls →
+    IsAnswer standard (value_at s) old.layers ls M (Ok tt) →
+    ((groups : List (List Move)) → IsStepOf part (value_at s) old.layers groups →
+    IsStepOf part (value_at s) ls (grown way groups M)) →
+    IsGrown way M a old (record old { layers = ls })
+is_grown way a s old ls M own same layers answer step =
+    let at = below_is a s old own same in
+    record {
+      same = refl;
+      layers = layers;
+      answer = subst (λ (o : Old). IsAnswer standard o old.layers ls M (Ok tt)) at
+          answer;
+      step = λ groups is. (is.0, moved groups is.1);
+    } where
+      moved : (groups : List (List Move)) → IsStepOf part (below a old) old.layers groups → IsStepOf part (below a old) ls (grown way groups M)
+      moved groups is =
+          let at = below_is a s old own same in
+          subst (λ (o : Old). IsStepOf part o ls (grown way groups M)) at
+          (step groups (subst (λ (o : Old). IsStepOf part o old.layers groups) (sym at) is))
+
+-- why a move isn't taken, over what is below the step
+pub is_push_error : (way : Way) (a : AgentAt Standard) (s : StateView) (t : StepView) (M : Move) (e : StepError) →
+    IsOwn a s → s.number ≡ t.number → (way ≡ ways.Extend → ¬ (e ≡ Deep)) →
+    IsAnswer standard (value_at s) t.layers t.layers M (Err e) → IsPushError way M a t e
+is_push_error way a s t M e own same deep answer =
+    let at = below_is a s t own same in
+    by_way way e deep
+    (subst (λ (o : Old). IsAnswer standard o t.layers t.layers M (Err e)) at answer) where
+      by_way : (way : Way) (e : StepError) → (way ≡ ways.Extend → ¬ (e ≡ Deep)) → IsAnswer standard (below a t) t.layers t.layers M (Err e) → IsPushError way M a t e
+      by_way ways.Push e deep is = is
+      by_way ways.Extend Deep deep is = absurd (deep refl refl)
+      by_way ways.Extend e deep is = is
+
+-- the same, of a step whose contents are these
+pub is_grown_of : (way : Way) (a : AgentAt Standard) (s : StateView) (t inside : StepView) (ls : List Layer) (M : Move) →
+    inside ≡ t → IsOwn a s → s.number ≡ inside.number → IsLayered way inside.layers ls →
+    IsAnswer standard (value_at s) inside.layers ls M (Ok tt) →
+    ((groups : List (List Move)) → IsStepOf part (value_at s) inside.layers groups →
+    IsStepOf part (value_at s) ls (grown way groups M)) →
+    IsGrown way M a t (record inside { layers = ls })
+is_grown_of way a s t inside ls M view own same layers answer step =
+    subst (λ (x : StepView). IsGrown way M a x (record inside { layers = ls })) view
+    (is_grown way a s inside ls M own same layers answer step)
+
+-- a move that wasn't taken changes no layer, and is told by its text
+module _ (way : Way) (bytes : List ℕ) (a : AgentAt Standard) (s : StateView) (t inside : StepView) (ls : List Layer) (M : Move)
+    (e : StepError) where
+  told_of : (code : ℤ) (text : List ℕ) → ReadAsMove bytes M → inside ≡ t → IsOwn a s → s.number ≡ inside.number →
+      (way ≡ ways.Extend → ¬ (e ≡ Deep)) → ls ≡ inside.layers →
+      IsAnswer standard (value_at s) inside.layers ls M (Err e) → TellsRefusal e code text →
+      IsNotGrown way bytes a t code text
+  told_of code text reads view own same deep kept answer told =
+      let error = is_push_error way a s inside M e own same deep
+      (subst (λ (x : List Layer). IsAnswer standard (value_at s) inside.layers x M (Err e)) kept answer) in
+      (M, e, reads, subst (λ (x : StepView). IsPushError way M a x e) view error, told)
+
+  pub not_grown : (code : ℤ) (out : List ℕ) (written : ℕ) → ReadAsMove bytes M → inside ≡ t → IsOwn a s → s.number ≡ inside.number →
+      (way ≡ ways.Extend → ¬ (e ≡ Deep)) → ls ≡ inside.layers →
+      IsAnswer standard (value_at s) inside.layers ls M (Err e) → IsWritten (TellsRefusal e code) out written →
+      IsWritten (IsNotGrown way bytes a t code) out written
+  not_grown code out written reads view own same deep kept answer (told, fits) =
+      (told_of code (slice_range out 0 written) reads view own same deep kept answer told, fits)
+
+  pub not_grown_long : (room written : ℕ) → ReadAsMove bytes M → inside ≡ t → IsOwn a s → s.number ≡ inside.number →
+      (way ≡ ways.Extend → ¬ (e ≡ Deep)) → ls ≡ inside.layers →
+      IsAnswer standard (value_at s) inside.layers ls M (Err e) →
+      IsTooLong (λ text. (code : ℤ) × TellsRefusal e code text) room written →
+      IsTooLong (λ text. (code : ℤ) × IsNotGrown way bytes a t code text) room written
+  not_grown_long room written reads view own same deep kept answer (text, (code, told), is, less) =
+      (text, (code, told_of code text reads view own same deep kept answer told), is, less)
+
+-- the topmost layer is gone, and the step is of the groups before the last one
+pub is_popped : (b : Bool) (old : StepView) (ls : List Layer) → OnTrue b ((y : Layer) × (old.layers ≡ ls ++ y ∷ [])) →
+    OnTrue b ((part : Part) (o : Old) (groups : List (List Move)) (group : List Move) →
+    IsStepOf part o old.layers (groups ++ group ∷ []) → IsStepOf part o ls groups) →
+    OnTrue b (HasPopped old (record old { layers = ls }))
+is_popped true old ls less step = record {
+  same = refl;
+  less = less;
+  step = λ a groups group is. (is.0, step part (below a old) groups group is.1);
+}
+is_popped false old ls less step = tt

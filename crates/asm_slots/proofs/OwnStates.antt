@@ -1,0 +1,73 @@
+-- What an agent's own state has: what the first moves leave that the agent has seen.
+use Rattle.std.proofs.Common.{◌≡◌, ℕ, List, take, ap, subst, sym, ◌∙◌}
+use Rattle.serde_json.specs.Written.{compact_text}
+use Rattle.asm_element.specs.Place.{Place}
+use Rattle.asm_update.specs.Fire.{Old}
+use Rattle.asm_update.specs.State.{State, IsProper, val}
+use Rattle.asm_overlay.specs.Frames.{OverView, seen_through}
+use Rattle.asm_state.proofs.Judged.{same_old}
+use Rattle.asm_state.specs.Plain.{value_of_name}
+use Rattle.asm_state.specs.View.{StateView, value_at}
+use Rattle.asm_step.specs.Layers.{frames_of}
+use Rattle.asm_storage.specs.Agents.{moves_seen}
+use Rattle.asm_storage.specs.Part.{IsFollowing}
+use Rattle.asm_storage.specs.Storage.{AgentAt, machine_of}
+use Rattle.asm_journal.specs.Text.{state_json_of}
+use Rattle.asm_slots.specs.Bytes.{ReadAsLocations}
+use Rattle.asm_slots.specs.Own.{IsOwnOfName, IsOwnState, IsPeekOf, of_name, state_at, values_text}
+use Rattle.asm_slots.specs.Standard.{Standard, meaning, part}
+use Rattle.asm_slots.specs.Step.{StepView}
+use Rattle.asm_slots.specs.Steps.{below, seen}
+
+-- the state is the agent's own
+abbrev pub IsOwn : AgentAt Standard → StateView → Type 0
+IsOwn a s = IsFollowing (machine_of meaning a.storage) a.account.seen s
+
+-- what it has
+pub own_values : (a : AgentAt Standard) (s : StateView) → IsOwn a s → value_at s ≡ val (state_at a s.number)
+own_values a s own = same_old part a.storage.init (take s.number (moves_seen a.account.seen)) s own.stands
+
+pub own_peek : (a : AgentAt Standard) (s : StateView) (n : ℕ) (bytes text : List ℕ) (locations : List Place) → IsOwn a s →
+    n ≡ s.number → ReadAsLocations bytes locations → text ≡ values_text n (value_at s) locations → IsPeekOf bytes a text
+own_peek a s n bytes text locations own same reads is = (
+  locations,
+  s.number,
+  reads,
+  own.within,
+  is ∙ ap (λ (k : ℕ). values_text k (value_at s) locations) same
+      ∙ ap (λ (o : Old). values_text s.number o locations) (own_values a s own),
+)
+
+pub own_state : (a : AgentAt Standard) (s : StateView) (S : State) (n : ℕ) (text : List ℕ) → IsOwn a s → n ≡ s.number →
+    IsProper S → ((l : Place) → val S l ≡ value_at s l) → text ≡ compact_text (state_json_of S) → IsOwnState a n text
+own_state a s S n text own same proper values is =
+    subst (λ (k : ℕ). IsOwnState a k text) (sym same)
+    (own.within, (S, proper, (λ l. values l ∙ ap (λ (o : Old). o l) (own_values a s own)), is))
+
+pub own_of_name : (a : AgentAt Standard) (s : StateView) (S : State) (name : List ℕ) (n : ℕ) (text : List ℕ) → IsOwn a s →
+    n ≡ s.number → IsProper S → ((l : Place) → val S l ≡ value_of_name s name l) → text ≡ compact_text (state_json_of S) →
+    IsOwnOfName name a n text
+own_of_name a s S name n text own same proper values is =
+    subst (λ (k : ℕ). IsOwnOfName name a k text) (sym same)
+    (own.within, (S, proper, (λ l. values l ∙ ap (λ (o : Old). of_name name o l) (own_values a s own)), is))
+
+-- the state stands at the step's number, so what is below the step is what it has
+pub below_is : (a : AgentAt Standard) (s : StateView) (t : StepView) → IsOwn a s → s.number ≡ t.number →
+    value_at s ≡ below a t
+below_is a s t own same = own_values a s own ∙ ap (λ n. val (state_at a n)) same
+
+pub seen_is : (a : AgentAt Standard) (s : StateView) (t : StepView) → IsOwn a s → s.number ≡ t.number →
+    seen_through (frames_of t.layers) (value_at s) ≡ seen a t
+seen_is a s t own same = ap (λ (o : Old). seen_through (frames_of t.layers) o) (below_is a s t own same)
+
+-- what is seen through a step, whose contents are these, over the state at its number
+pub own_got : (a : AgentAt Standard) (s : StateView) (t inside : StepView) (n : ℕ) (o : OverView StateView)
+    (locations : List Place) (text : List ℕ) → inside ≡ t → IsOwn a s → n ≡ s.number → n ≡ inside.number →
+    o ≡ record { frames = frames_of inside.layers; below = s } →
+    text ≡ values_text inside.number (seen_through o.frames (value_at o.below)) locations →
+    text ≡ values_text t.number (seen a t) locations
+own_got a s t inside n o locations text view own number at over is =
+    is ∙ ap (λ (x : OverView StateView). values_text inside.number (seen_through x.frames (value_at x.below)) locations) over
+    ∙ ap (λ (x : StepView). values_text x.number (seen_through (frames_of x.layers) (value_at s)) locations) view
+    ∙ ap (λ (f : Old). values_text t.number f locations)
+    (seen_is a s t own (sym number ∙ at ∙ ap (λ (x : StepView). x.number) view))

@@ -1,0 +1,13 @@
+use Rattle.asm_slots.proofs.composing.composed.Goals as goal
+
+pub returns-in-Ok-told_move-clause-ok : goal.returns-in-Ok-told_move-clause-ok
+returns-in-Ok-told_move-clause-ok c = record {
+  one = c.in-Ok.both.0;
+  two = c.in-Ok.both.1;
+  answer = c.compose.result;
+  first_reads = c.in-Ok.ensures.first;
+  second_reads = c.in-Ok.ensures.second;
+  composition = c.compose.ensures.composition;
+  sequence = c.compose.ensures.sequence;
+  told = c.in-Ok-told_move.ensures.told;
+}

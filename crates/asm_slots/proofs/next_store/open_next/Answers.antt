@@ -1,0 +1,10 @@
+use Rattle.std.proofs.Common.{sym, ◌∙◌}
+use Rattle.asm_slots.specs.Next.{LacksJournal}
+use Rattle.asm_slots.specs.Slots.{content_of}
+use Rattle.asm_slots.proofs.GoingOn.{coded, holds_store}
+use Rattle.asm_slots.proofs.next_store.open_next.Goals as goal
+
+pub returns-in-Err-clause-none : goal.returns-in-Err-clause-none
+returns-in-Err-clause-none c none =
+    holds_store (content_of c.args.store.now) c.in-Some.kept LacksJournal c.in-Some.ensures.some
+    (c.in-Err.ensures.none (sym (coded c.in-Err.code c.in-Err.ensures.codes) ∙ none))

@@ -1,0 +1,20 @@
+use Rattle.std.proofs.Common.{◌≡◌, IfOk, ap, ◌∙◌, subst}
+use Rattle.std_alloc.specs.Arc.{arc_value}
+use Rattle.asm_storage.specs.Calls.{IsStaleRead}
+use Rattle.asm_storage.specs.Part.{agent_of}
+use Rattle.asm_storage.specs.Storage.{AgentAt, StorageView}
+use Rattle.asm_slots.specs.Standard.{Standard, meaning}
+use Rattle.asm_slots.specs.declared.shared.Shared.{Shared}
+use Rattle.asm_slots.proofs.owned_agent.OwnedAgent.stale_of.Goals as goal
+
+pub returns-clause-stale : goal.returns-clause-stale
+returns-clause-stale c =
+    let told = c.stands-stale in
+    let part = c.into_part-part.result in
+    let storage = (arc_value c.self.inside.shared).storage in
+    let here : c.of-agent.result.storage ≡ storage =
+    ap (λ (a : AgentAt Standard). a.storage) c.of-agent.ensures ∙ ap (λ (s : Shared). s.storage) c.deref.ensures in
+    let new_is : told.new.self ≡ agent_of storage part =
+    c.into_part-part.ensures.agent ∙ ap (λ (s : StorageView Standard). agent_of s part) (told.ensures.same.storage ∙ here) in
+    subst (λ (a : AgentAt Standard). IfOk told.result (IsStaleRead {A = Standard} meaning a c.args.reads.now)) new_is
+    told.ensures.stale

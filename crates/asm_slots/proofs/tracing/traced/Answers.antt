@@ -1,0 +1,8 @@
+use Rattle.asm_slots.proofs.tracing.traced.Goals as goal
+
+pub returns-in-Ok-clause-ok : goal.returns-in-Ok-clause-ok
+returns-in-Ok-clause-ok c = record {
+  history = c.in_ok-history.history;
+  reads = c.in_ok-history.ensures.ok;
+  trace = c.in-Ok.ensures;
+}

@@ -1,0 +1,65 @@
+-- What is told of a move on a state, and of two moves, that are given as texts.
+use Rattle.std.specs.Prelude.{◌≡◌, ℕ, ℤ, List, [], codes, Result, Ok, Err}
+use Rattle.serde_json.specs.Written.{compact_text}
+use Rattle.asm_element.specs.Place.{Place}
+use Rattle.asm_update.specs.Move.{Move}
+use Rattle.asm_update.specs.State.{State, Updates, val}
+use Rattle.asm_update.specs.declared.clash.AggError.{AggError}
+use Rattle.asm_update.specs.declared.clash.AggError.TheVariants as agg_error
+use Rattle.asm_update.specs.declared.clash.Clash.{Clash}
+use Rattle.asm_aggregate.specs.Bundle.{IsAggregate}
+use Rattle.asm_aggregate.specs.Compose.{IsComposition, KeepsSequence}
+use Rattle.asm_aggregate.specs.declared.composition.ComposeError.{ComposeError}
+use Rattle.asm_aggregate.specs.declared.composition.ComposeError.TheVariants as compose_error
+use Rattle.asm_storage.specs.declared.call.Reply.TheVariants as reply
+use Rattle.asm_journal.specs.Element.{location_json_of}
+use Rattle.asm_journal.specs.Event.{move_json_of, reply_json_of}
+use Rattle.asm_journal.specs.Shape.{one_of}
+use Rattle.asm_journal.specs.Text.{state_json_of}
+use Rattle.asm_slots.specs.Bytes.{ReadAsMove, ReadAsState}
+use Rattle.asm_slots.specs.Codes.{ASM_DONE, ASM_CLASH, ASM_MANY, ASM_LARGE}
+use Rattle.asm_slots.specs.Standard.{standard, part}
+
+-- {"clash":[LOC,CAUSE]}
+abbrev pub clash_text : Clash → List ℕ
+clash_text c = compact_text (reply_json_of (reply.Clash c))
+
+-- {"large":LOC}
+abbrev pub large_text : Place → List ℕ
+large_text l = compact_text (one_of (codes "large") (location_json_of l))
+
+-- the code and the text of what an aggregation answers: the updates [PAIR, ..], or the clash
+abbrev pub TellsAggregate : Result Updates AggError → ℤ → List ℕ → Type 0
+TellsAggregate (Ok U) code text = (code ≡ ASM_DONE) × (text ≡ compact_text (state_json_of U))
+TellsAggregate (Err (agg_error.Clash c)) code text = (code ≡ ASM_CLASH) × (text ≡ clash_text c)
+TellsAggregate (Err agg_error.Memory) code text = ⊥
+
+-- the bytes are JSON of a state and of a move, and code and text tell the aggregation of the move on the state
+pub record IsAggregated (state instrs : List ℕ) (code : ℤ) (text : List ℕ) : Type 0 where
+  pub old : State
+  pub move : Move
+  pub answer : Result Updates AggError
+  pub state_reads : ReadAsState state old
+  pub move_reads : ReadAsMove instrs move
+  pub aggregate : IsAggregate part (val old) move answer
+  pub told : TellsAggregate answer code text
+
+-- the code and the text of what a composition answers: the move [INSTR, ..], the clash, the location where an amount or a
+-- sum is too large, or nothing where the move is too long
+abbrev pub TellsComposition : Result Move ComposeError → ℤ → List ℕ → Type 0
+TellsComposition (Ok C) code text = (code ≡ ASM_DONE) × (text ≡ compact_text (move_json_of C))
+TellsComposition (Err (compose_error.Clash c)) code text = (code ≡ ASM_CLASH) × (text ≡ clash_text c)
+TellsComposition (Err (compose_error.Large l)) code text = (code ≡ ASM_LARGE) × (text ≡ large_text l)
+TellsComposition (Err compose_error.ManyInstructions) code text = (code ≡ ASM_MANY) × (text ≡ [])
+TellsComposition (Err compose_error.Memory) code text = ⊥
+
+-- the bytes are JSON of two moves, and code and text tell their composition, which fires as the two do in turn
+pub record IsComposed (first second : List ℕ) (code : ℤ) (text : List ℕ) : Type 0 where
+  pub one : Move
+  pub two : Move
+  pub answer : Result Move ComposeError
+  pub first_reads : ReadAsMove first one
+  pub second_reads : ReadAsMove second two
+  pub composition : IsComposition standard one two answer
+  pub sequence : KeepsSequence part one two answer
+  pub told : TellsComposition answer code text

@@ -1,0 +1,73 @@
+-- What an agent's own state tells, which stands at one number of the moves that the agent has seen.
+use Rattle.std.specs.Prelude.{◌≡◌, ◌≤◌, if◌then◌else◌, nat_eq, ℕ, List, length, map, take, Some, None}
+use Rattle.std.specs.Cmp.Lexicographic.{pointwise}
+use Rattle.serde_json.specs.Written.{compact_text}
+use Rattle.asm_element.specs.Place.{Place}
+use Rattle.asm_element.specs.Value.{undef}
+use Rattle.asm_update.specs.Fire.{Old, state_of}
+use Rattle.asm_update.specs.State.{State, IsProper, val}
+use Rattle.asm_state.specs.declared.named.Named.{Named}
+use Rattle.asm_storage.specs.Agents.{moves_seen}
+use Rattle.asm_storage.specs.Calls.{IsStaleRead}
+use Rattle.asm_storage.specs.Storage.{AgentAt, last_look, Missed}
+use Rattle.asm_storage.specs.declared.call.Answer.TheVariants as answer
+use Rattle.asm_storage.specs.declared.call.Reply.TheVariants as reply
+use Rattle.asm_journal.specs.Event.{answer_json_of, reply_json_of}
+use Rattle.asm_journal.specs.Text.{state_json_of}
+use Rattle.asm_slots.specs.Bytes.{ReadAsLocations, ReadAsReads}
+use Rattle.asm_slots.specs.Calls.{HasLooked}
+use Rattle.asm_slots.specs.Standard.{Standard, meaning, part}
+
+-- the state that the first so many moves leave, of those that the agent has seen
+abbrev pub state_at : AgentAt Standard → ℕ → State
+state_at a n = state_of part a.storage.init (take n (moves_seen a.account.seen))
+
+-- {"number":N,"values":[VALUE, ..]}: what is seen at the locations after so many moves
+abbrev pub values_text : ℕ → Old → List Place → List ℕ
+values_text n seen locations = compact_text (answer_json_of (answer.Read n (map seen locations)))
+
+-- the bytes are JSON of locations, and the text tells what the first moves that the agent has seen leave there, as many
+-- as its number says
+abbrev pub IsPeekOf : List ℕ → AgentAt Standard → List ℕ → Type 0
+IsPeekOf bytes a text =
+    (locations : List Place) × (n : ℕ) × ReadAsLocations bytes locations × (n ≤ length a.account.seen)
+    × (text ≡ values_text n (val (state_at a n)) locations)
+
+-- the text is the JSON of a state without undef, which has these values
+abbrev pub IsTextOfState : Old → List ℕ → Type 0
+IsTextOfState values text =
+    (S : State) × IsProper S × ((l : Place) → val S l ≡ values l) × (text ≡ compact_text (state_json_of S))
+
+-- what is there at the locations with this function name; elsewhere undef
+abbrev pub of_name : List ℕ → Old → Old
+of_name name old l = if pointwise nat_eq l.name name then old l else undef
+
+-- the text is the JSON of the state that the first so many moves leave, of those that the agent has seen
+abbrev pub IsOwnState : AgentAt Standard → ℕ → List ℕ → Type 0
+IsOwnState a n text = (n ≤ length a.account.seen) × IsTextOfState (val (state_at a n)) text
+
+-- the same, with the locations of this function name alone
+abbrev pub IsOwnOfName : List ℕ → AgentAt Standard → ℕ → List ℕ → Type 0
+IsOwnOfName name a n text = (n ≤ length a.account.seen) × IsTextOfState (of_name name (val (state_at a n))) text
+
+-- it has looked on until it found nothing more, and nothing else
+abbrev pub HasLookedOn : AgentAt Standard → AgentAt Standard → Type 0
+HasLookedOn old new = HasLooked old new × Missed old (last_look new) new
+
+-- it has looked on until it found nothing more, and has then seen so many moves
+abbrev pub HasFollowed : ℕ → AgentAt Standard → AgentAt Standard → Type 0
+HasFollowed n old new = HasLookedOn old new × (n ≡ length new.account.seen)
+
+-- the bytes are JSON of named reads, and none of them is stale after what the agent has then seen
+abbrev pub AllStand : List ℕ → AgentAt Standard → Type 0
+AllStand bytes a = (reads : List Named) × ReadAsReads bytes reads × IsStaleRead meaning a reads None
+
+-- {"stale":LOC}
+abbrev pub IsStaleText : Place → List ℕ → Type 0
+IsStaleText l text = text ≡ compact_text (reply_json_of (reply.Stale l))
+
+-- the bytes are JSON of named reads, and the text {"stale":LOC} tells the least location of those that are stale
+abbrev pub IsStaleOf : List ℕ → AgentAt Standard → List ℕ → Type 0
+IsStaleOf bytes a text =
+    (reads : List Named) × (l : Place) × ReadAsReads bytes reads × IsStaleRead meaning a reads (Some l)
+    × IsStaleText l text

@@ -1,0 +1,142 @@
+-- What the calls do with the step in a slot.
+use Rattle.std.specs.Prelude.{◌≡◌, ◌≢◌, ◌≤◌, ◌<◌, ℕ, ℤ, List, [], ◌∷◌, ◌++◌, length, Ok, Err}
+use Rattle.std.specs.FinMap as finite
+use Rattle.asm_element.specs.Place.{Place}
+use Rattle.asm_update.specs.Fire.{Old}
+use Rattle.asm_update.specs.Move.{Move}
+use Rattle.asm_update.specs.State.{State, IsProper, val}
+use Rattle.asm_overlay.specs.Frames.{seen_through}
+use Rattle.asm_storage.specs.Storage.{AgentAt}
+use Rattle.asm_step.specs.Answer.{IsAnswer}
+use Rattle.asm_step.specs.InTurn.{all_but_last}
+use Rattle.asm_step.specs.Layers.{extended, frames_of, IsStepOf}
+use Rattle.asm_step.specs.Places.{AreEach}
+use Rattle.asm_step.specs.declared.error.StepError.{StepError}
+use Rattle.asm_step.specs.declared.error.StepError.TheVariants.{Clash, Large, Many, Deep, Memory}
+use Rattle.asm_step.specs.declared.layer.Layer.{Layer}
+use Rattle.asm_slots.specs.Bytes.{ReadAsLocations, ReadAsMove}
+use Rattle.asm_slots.specs.Codes.{ASM_CLASH, ASM_MANY, ASM_LARGE, ASM_DEEP}
+use Rattle.asm_slots.specs.Moves.{clash_text, large_text}
+use Rattle.asm_slots.specs.Own.{IsTextOfState, of_name, state_at, values_text}
+use Rattle.asm_slots.specs.Standard.{Standard, standard, part}
+use Rattle.asm_slots.specs.Step.{StepView}
+use Rattle.asm_slots.specs.declared.owned_step.Way.{Way}
+use Rattle.asm_slots.specs.declared.owned_step.Way.TheVariants as ways
+
+-- what is below the pushed moves: the state that the first moves leave, as many as the step's number says, of those that the
+-- agent has seen
+abbrev pub below : AgentAt Standard → StepView → Old
+below a s = val (state_at a s.number)
+
+-- what is seen through the pushed moves
+abbrev pub seen : AgentAt Standard → StepView → Old
+seen a s = seen_through (frames_of s.layers) (below a s)
+
+-- the step is of these groups of moves, over the state at its number, which the agent has reached: each is a pushed move with
+-- those that extend it
+abbrev pub IsStepOn : AgentAt Standard → StepView → List (List Move) → Type 0
+IsStepOn a s groups = (s.number ≤ length a.account.seen) × IsStepOf part (below a s) s.layers groups
+
+-- ---- getting
+
+-- the bytes are JSON of locations, and the text tells what is seen there
+abbrev pub IsGotText : List ℕ → AgentAt Standard → StepView → List ℕ → Type 0
+IsGotText bytes a s text =
+    (locations : List Place) × ReadAsLocations bytes locations × (text ≡ values_text s.number (seen a s) locations)
+
+-- the locations of these bytes are got too
+abbrev pub HasGot : List ℕ → StepView → StepView → Type 0
+HasGot bytes old new =
+    (locations : List Place) × ReadAsLocations bytes locations × (new ≡ record old { got = new.got })
+    × AreEach (old.got ++ locations) new.got × (length new.got ≤ 256)
+
+-- more than 256 would be got, with the locations of these bytes
+abbrev pub WouldGetMany : List ℕ → StepView → Type 0
+WouldGetMany bytes s =
+    (locations ls : List Place) × ReadAsLocations bytes locations × AreEach (s.got ++ locations) ls × (256 < length ls)
+
+-- the text tells what is seen at the locations with this function name
+abbrev pub IsFoundText : List ℕ → AgentAt Standard → StepView → List ℕ → Type 0
+IsFoundText name a s text = IsTextOfState (of_name name (seen a s)) text
+
+-- what is seen at the locations with this function name, as a state without undef
+abbrev pub IsFound : List ℕ → AgentAt Standard → StepView → State → Type 0
+IsFound name a s S = IsProper S × ((l : Place) → val S l ≡ of_name name (seen a s) l)
+
+-- the locations that are found with this function name are got too
+abbrev pub HasGotAll : List ℕ → AgentAt Standard → StepView → StepView → Type 0
+HasGotAll name a old new =
+    (S : State) × IsFound name a old S × (new ≡ record old { got = new.got })
+    × AreEach (old.got ++ finite.keys S) new.got × (length new.got ≤ 256)
+
+-- more than 256 would be got, with those that are found
+abbrev pub WouldGetManyMore : List ℕ → AgentAt Standard → StepView → Type 0
+WouldGetManyMore name a s =
+    (S : State) × (ls : List Place) × IsFound name a s S × AreEach (s.got ++ finite.keys S) ls × (256 < length ls)
+
+-- ---- pushing
+
+-- the groups of moves with this one: pushed, or extending the last
+abbrev pub grown : Way → List (List Move) → Move → List (List Move)
+grown ways.Push groups M = groups ++ (M ∷ []) ∷ []
+grown ways.Extend groups M = extended groups M
+
+-- a layer more; or a new one in the place of the last. There are 64 at most
+abbrev pub IsLayered : Way → List Layer → List Layer → Type 0
+IsLayered ways.Push old new = ((y : Layer) × (new ≡ old ++ y ∷ [])) × (length old ≢ 64)
+IsLayered ways.Extend old new = (y : Layer) × (new ≡ all_but_last old ++ y ∷ [])
+
+-- the move is pushed, or extends the one that was pushed last
+pub record IsGrown (way : Way) (M : Move) (a : AgentAt Standard) (old new : StepView) : Type 0 where
+  pub same : new ≡ record old { layers = new.layers }
+  pub layers : IsLayered way old.layers new.layers
+  pub answer : IsAnswer standard (below a old) old.layers new.layers M (Ok tt)
+  pub step : (groups : List (List Move)) → IsStepOn a old groups → IsStepOn a new (grown way groups M)
+
+-- why it isn't; 64 moves don't keep one from extending the last
+abbrev pub IsPushError : Way → Move → AgentAt Standard → StepView → StepError → Type 0
+IsPushError ways.Extend M a s Deep = ⊥
+IsPushError way M a s e = IsAnswer standard (below a s) s.layers s.layers M (Err e)
+
+-- the bytes are JSON of a move, which is pushed or extends the one that was pushed last
+abbrev pub HasGrown : Way → List ℕ → AgentAt Standard → StepView → StepView → Type 0
+HasGrown way bytes a old new = (M : Move) × ReadAsMove bytes M × IsGrown way M a old new
+
+-- the code and the text of why a move isn't pushed: the clash, the location where an amount or a sum is too large, or nothing
+-- where there are too many instructions or moves
+abbrev pub TellsRefusal : StepError → ℤ → List ℕ → Type 0
+TellsRefusal (Clash c) code text = (code ≡ ASM_CLASH) × (text ≡ clash_text c)
+TellsRefusal (Large l) code text = (code ≡ ASM_LARGE) × (text ≡ large_text l)
+TellsRefusal Many code text = (code ≡ ASM_MANY) × (text ≡ [])
+TellsRefusal Deep code text = (code ≡ ASM_DEEP) × (text ≡ [])
+TellsRefusal Memory code text = ⊥
+
+-- the bytes are JSON of a move, and code and text tell why it is neither pushed nor extends the last one
+abbrev pub IsNotGrown : Way → List ℕ → AgentAt Standard → StepView → ℤ → List ℕ → Type 0
+IsNotGrown way bytes a s code text =
+    (M : Move) × (e : StepError) × ReadAsMove bytes M × IsPushError way M a s e × TellsRefusal e code text
+
+-- the bytes are JSON of a move, which is pushed
+abbrev pub HasPushed : List ℕ → AgentAt Standard → StepView → StepView → Type 0
+HasPushed = HasGrown ways.Push
+
+-- the bytes are JSON of a move, and code and text tell why it isn't pushed
+abbrev pub IsNotPushed : List ℕ → AgentAt Standard → StepView → ℤ → List ℕ → Type 0
+IsNotPushed = IsNotGrown ways.Push
+
+-- the bytes are JSON of a move, which extends the one that was pushed last
+abbrev pub HasExtended : List ℕ → AgentAt Standard → StepView → StepView → Type 0
+HasExtended = HasGrown ways.Extend
+
+-- the bytes are JSON of a move, and code and text tell why it doesn't extend the one that was pushed last
+abbrev pub IsNotExtended : List ℕ → AgentAt Standard → StepView → ℤ → List ℕ → Type 0
+IsNotExtended = IsNotGrown ways.Extend
+
+-- ---- popping
+
+-- the move that was pushed last is gone, with those that extended it
+pub record HasPopped (old new : StepView) : Type 0 where
+  pub same : new ≡ record old { layers = new.layers }
+  pub less : (y : Layer) × (old.layers ≡ new.layers ++ y ∷ [])
+  pub step : (a : AgentAt Standard) (groups : List (List Move)) (group : List Move) →
+      IsStepOn a old (groups ++ group ∷ []) → IsStepOn a new groups

@@ -1,0 +1,101 @@
+//! Firing the one move of a step.
+ghost use Rattle.std.specs.Prelude.{◌≡◌, ◌≢◌, ◌≤◌, ◌+◌, ◌∷◌, [], ℤ, None};
+ghost use Rattle.asm_storage.specs.Storage.{IsSameAgent};
+ghost use Rattle.asm_slots.specs.Calls.{MissedFew, MissedOne, SeesOn};
+ghost use Rattle.asm_slots.specs.Codes.{IsOneOf, ASM_DONE, ASM_STALE, ASM_CLASH, ASM_MEMORY, ASM_FULL};
+ghost use Rattle.asm_slots.specs.Codes.{ASM_EMPTY, ASM_BUSY, ASM_MANY};
+ghost use Rattle.asm_slots.specs.Committed.{HasCommitted, OneDoesAll, TellsFire};
+ghost use Rattle.asm_slots.specs.Slots.{Goes, HoldBoth, Holds, LacksOne, content_of};
+
+use crate::codes::{BUSY, DONE, EMPTY, MANY, MEMORY};
+use crate::owned_agent::OwnedAgent;
+use crate::owned_step::OwnedStep;
+use crate::read_and_fire::{Numbers, code_of_reply};
+use crate::slot::Slot;
+use crate::take_and_put::{put_agent, put_step, take_both};
+use asm_storage::{FireError, Reply};
+use std::alloc::Global;
+
+// The code of what a fire answers, with its numbers.
+fn told_fire(answer: Result<Reply, FireError>) -> (i32, Numbers)
+    ensures told { TellsFire answer result.0 result.1.fired result.1.from result.1.to }
+    ensures codes { IsOneOf (ASM_DONE ∷ ASM_STALE ∷ ASM_CLASH ∷ ASM_MEMORY ∷ ASM_FULL ∷ ASM_BUSY ∷ ASM_MANY ∷ []) result.0 }
+{
+    match answer {
+        Ok(reply) => {
+            let (code, fired) = code_of_reply(reply);
+            (
+                code,
+                Numbers {
+                    fired,
+                    from: 0,
+                    to: 0,
+                },
+            )
+        }
+        Err(FireError::ManyReads) => (MANY, Numbers::none()),
+        Err(FireError::Busy { from, to }) => (BUSY, Numbers { fired: 0, from, to }),
+        Err(FireError::Memory) => (MEMORY, Numbers::none()),
+    }
+}
+
+// Fires the step's one move with all named that it rests on.
+fn fire_step(alloc: Global, agent: OwnedAgent, step: &OwnedStep) -> (OwnedAgent, i32, Numbers)
+    ensures committed { HasCommitted step.now result.1 result.2.fired result.2.from result.2.to agent result.0 }
+    ensures codes { IsOneOf (ASM_DONE ∷ ASM_STALE ∷ ASM_CLASH ∷ ASM_MEMORY ∷ ASM_FULL ∷ ASM_BUSY ∷ ASM_MANY ∷ []) result.1 }
+    ensures does { OneDoesAll agent step.now }
+    ensures same { IsSameAgent agent result.0 }
+    ensures seen { SeesOn agent result.0 }
+    ensures few { MissedFew agent result.0 }
+    ensures missed { result.1 ≡ ASM_DONE → MissedOne agent result.0 }
+    ensures lost { result.1 ≡ ASM_BUSY → result.2.from + 64 ≤ result.2.to }
+{
+    let instrs = step.step.as_move();
+    let Ok(reads) = step.reads(alloc) else {
+        return (agent, MEMORY, Numbers::none());
+    };
+    let (agent, answer) = agent.fire(alloc, &reads, instrs);
+    let (code, numbers) = told_fire(answer);
+    (agent, code, numbers)
+}
+
+/// Fires the one move that does what the pushed moves do in turn, with each location named that was got, and each
+/// of a partial update of a pushed move, at the step's number: the codes, numbers and receipt of `try_fire`.
+///
+/// With `ASM_DONE` the step is over, and its slot is empty. After any other code it stays as it was. `ASM_MANY`:
+/// more than 256 locations would be named. `ASM_EMPTY`: the first slot has no agent, the second no step, or the
+/// two are one. Where it fires, all that was got and seen through the pushed moves stands as if it were read at
+/// that moment. The step has to be one of the agent's storage.
+pub fn commit(alloc: Global, agent: &mut Slot, step: &mut Slot, numbers: &mut Numbers) -> i32
+    ensures codes { IsOneOf (ASM_DONE ∷ ASM_STALE ∷ ASM_CLASH ∷ ASM_MEMORY ∷ ASM_FULL ∷ ASM_EMPTY
+        ∷ ASM_BUSY ∷ ASM_MANY ∷ []) result }
+    ensures committed { result ≢ ASM_EMPTY → HoldBoth (content_of agent.old) (content_of step.old)
+        (λ a s. Holds (content_of agent.new)
+        (HasCommitted s result numbers.new.fired numbers.new.from numbers.new.to a)) }
+    ensures does { result ≢ ASM_EMPTY → HoldBoth (content_of agent.old) (content_of step.old) OneDoesAll }
+    ensures over { result ≡ ASM_DONE → content_of step.new ≡ None }
+    ensures stays { result ≢ ASM_DONE → content_of step.new ≡ content_of step.old }
+    ensures same { result ≢ ASM_EMPTY → Goes (content_of agent.old) (content_of agent.new) IsSameAgent }
+    ensures seen { result ≢ ASM_EMPTY → Goes (content_of agent.old) (content_of agent.new) SeesOn }
+    ensures few { result ≢ ASM_EMPTY → Goes (content_of agent.old) (content_of agent.new) MissedFew }
+    ensures missed { result ≡ ASM_DONE → Goes (content_of agent.old) (content_of agent.new) MissedOne }
+    ensures lost { result ≡ ASM_BUSY → numbers.new.from + 64 ≤ numbers.new.to }
+    ensures empty { result ≡ ASM_EMPTY → LacksOne (content_of agent.old) (content_of step.old) }
+    ensures kept { result ≡ ASM_EMPTY → content_of agent.new ≡ content_of agent.old }
+    ensures no_numbers { result ≡ ASM_EMPTY →
+        (numbers.new.fired ≡ 0) × (numbers.new.from ≡ 0) × (numbers.new.to ≡ 0) }
+{
+    let Some(both) = take_both(alloc, agent, step) else {
+        *numbers = Numbers::none();
+        return EMPTY;
+    };
+    let (inner, code, told) = fire_step(alloc, both.agent, &both.step);
+    *numbers = told;
+    put_agent(agent, both.agent_shell, inner);
+    if code == DONE {
+        *step = Slot::empty(alloc);
+    } else {
+        put_step(step, both.step_shell, both.step);
+    }
+    code
+}

@@ -1,0 +1,185 @@
+//! Moves without an agent: their updates on a state, and two of them composed. Both go from texts to a text.
+ghost use Rattle.std.specs.Prelude.{◌≡◌, ◌≢◌, ◌∷◌, [], ℤ, codes, length, string_bytes, IfOk, IfErr};
+ghost use Rattle.serde_json.specs.View.{view};
+ghost use Rattle.asm_journal.specs.Element.{location_json_of};
+ghost use Rattle.asm_journal.specs.Event.{IsMoveForm};
+ghost use Rattle.asm_journal.specs.Shape.{one_of};
+ghost use Rattle.asm_journal.specs.Value.{IsStateForm};
+ghost use Rattle.asm_slots.specs.Bytes.{AreMisread};
+ghost use Rattle.asm_slots.specs.Codes.{IsOneOf, ASM_DONE, ASM_CLASH, ASM_MEMORY, ASM_SMALL, ASM_MANY};
+ghost use Rattle.asm_slots.specs.Codes.{ASM_LARGE, ASM_NOT_JSON, ASM_SHAPE};
+ghost use Rattle.asm_slots.specs.Moves.{IsAggregated, IsComposed, TellsAggregate, TellsComposition};
+ghost use Rattle.asm_slots.specs.Moves.{clash_text, large_text};
+ghost use Rattle.asm_slots.specs.Written.{IsTooLong, IsWritten};
+
+use crate::codes::{CLASH, DONE, LARGE, MANY, MEMORY, Told, written_as};
+use crate::parsing::{code_of_text_error, read_both};
+use asm_aggregate::{ComposeError, aggregate, compose, standard};
+use asm_element::Location;
+use asm_journal::{answer_text, location_json, move_text, updates_text};
+use asm_storage::{Answer, Reply};
+use asm_update::{AggError, Clash, Instructions, PlainState, UpdateSet};
+use serde_json::{Map, Value as Json};
+use std::alloc::{AllocError, Global};
+
+/// `{"clash":[LOC,CAUSE]}`
+pub(crate) fn clash_text(alloc: Global, clash: Clash) -> Result<String, AllocError>
+    ensures { IfOk result (λ s. string_bytes s ≡ clash_text clash) }
+{
+    answer_text(alloc, &Answer::Fire(Reply::Clash(clash)))
+}
+
+fn large_json(alloc: Global, at: &Location) -> Result<Json, AllocError>
+    ensures { IfOk result (λ json. view json ≡ one_of (codes "large") (location_json_of at.now)) }
+{
+    let mut members = Map::new(alloc);
+    serde_json::put(&mut members, alloc, "large", location_json(alloc, at)?)?;
+    Ok(Json::Object(members))
+}
+
+/// `{"large":LOC}`
+pub(crate) fn large_text(alloc: Global, at: &Location) -> Result<String, AllocError>
+    ensures { IfOk result (λ s. string_bytes s ≡ large_text at.now) }
+{
+    large_json(alloc, at)?.to_string(alloc)
+}
+
+fn told_updates(alloc: Global, answer: Result<UpdateSet, AggError>) -> Result<Told, AllocError>
+    ensures told { IfOk result (λ t. TellsAggregate answer t.code (string_bytes t.text)) }
+    ensures codes { IfOk result (λ t. IsOneOf (ASM_DONE ∷ ASM_CLASH ∷ []) t.code) }
+{
+    match answer {
+        Ok(updates) => Ok(Told {
+            code: DONE,
+            text: updates_text(alloc, &updates)?,
+        }),
+        Err(AggError::Clash(clash)) => Ok(Told {
+            code: CLASH,
+            text: clash_text(alloc, clash)?,
+        }),
+        Err(AggError::Memory) => Err(AllocError),
+    }
+}
+
+fn told_move(alloc: Global, answer: Result<Instructions, ComposeError>) -> Result<Told, AllocError>
+    ensures told { IfOk result (λ t. TellsComposition answer t.code (string_bytes t.text)) }
+    ensures codes { IfOk result (λ t. IsOneOf (ASM_DONE ∷ ASM_CLASH ∷ ASM_MANY ∷ ASM_LARGE ∷ []) t.code) }
+{
+    match answer {
+        Ok(instrs) => Ok(Told {
+            code: DONE,
+            text: move_text(alloc, &instrs)?,
+        }),
+        Err(ComposeError::Clash(clash)) => Ok(Told {
+            code: CLASH,
+            text: clash_text(alloc, clash)?,
+        }),
+        Err(ComposeError::Large(at)) => Ok(Told {
+            code: LARGE,
+            text: large_text(alloc, &at)?,
+        }),
+        Err(ComposeError::ManyInstructions) => Ok(Told {
+            code: MANY,
+            text: String::new(alloc),
+        }),
+        Err(ComposeError::Memory) => Err(AllocError),
+    }
+}
+
+fn aggregated(alloc: Global, state: &[u8], instrs: &[u8]) -> Result<Told, i32>
+    ensures ok { IfOk result (λ t. IsAggregated state.now instrs.now t.code (string_bytes t.text)) }
+    ensures few { IfOk result (λ t. IsOneOf (ASM_DONE ∷ ASM_CLASH ∷ []) t.code) }
+    ensures err { IfErr result (λ code. IsOneOf (ASM_NOT_JSON ∷ ASM_SHAPE ∷ []) code →
+        AreMisread IsStateForm IsMoveForm state.now instrs.now code) }
+    ensures codes { IfErr result (IsOneOf (ASM_MEMORY ∷ ASM_NOT_JSON ∷ ASM_SHAPE ∷ [])) }
+{
+    let (old, step) = match read_both::<PlainState, Instructions>(alloc, state, instrs) {
+        Ok(both) => both,
+        Err(error) => return Err(code_of_text_error(error)),
+    };
+    match told_updates(alloc, aggregate(alloc, &standard(), &old, &step)) {
+        Ok(told) => Ok(told),
+        Err(AllocError) => Err(MEMORY),
+    }
+}
+
+/// Writes the updates `[PAIR, ..]` of the move `[INSTR, ..]` on the state `[PAIR, ..]`, in ascending order of
+/// locations; null is a value that leaves a location empty, as each is that the state doesn't have.
+///
+/// `ASM_CLASH`: the updates clash, and `{"clash":[LOC,CAUSE]}` is written. `ASM_SMALL`: `written` is the room
+/// that it needs. `ASM_NOT_JSON` and `ASM_SHAPE`: the state, or else the move, is not JSON or none.
+/// `ASM_MEMORY`.
+pub fn aggregate_move(
+    alloc: Global,
+    state: &[u8],
+    instrs: &[u8],
+    out: &mut [u8],
+    written: &mut usize,
+) -> i32
+    ensures codes { IsOneOf (ASM_DONE ∷ ASM_CLASH ∷ ASM_MEMORY ∷ ASM_SMALL ∷ ASM_NOT_JSON ∷ ASM_SHAPE ∷ []) result }
+    ensures told { IsOneOf (ASM_DONE ∷ ASM_CLASH ∷ []) result →
+        IsWritten (IsAggregated state.now instrs.now result) out.new written.new }
+    ensures small { result ≡ ASM_SMALL → IsTooLong
+        (λ text. (code : ℤ) × IsAggregated state.now instrs.now code text) (length out.old) written.new }
+    ensures refused { IsOneOf (ASM_NOT_JSON ∷ ASM_SHAPE ∷ []) result →
+        AreMisread IsStateForm IsMoveForm state.now instrs.now result }
+    ensures no_text { IsOneOf (ASM_MEMORY ∷ ASM_NOT_JSON ∷ ASM_SHAPE ∷ []) result → written.new ≡ 0 }
+    ensures unwritten { IsOneOf (ASM_MEMORY ∷ ASM_SMALL ∷ ASM_NOT_JSON ∷ ASM_SHAPE ∷ []) result →
+        out.new ≡ out.old }
+{
+    *written = 0;
+    match aggregated(alloc, state, instrs) {
+        Ok(told) => written_as(&told, out, written),
+        Err(code) => code,
+    }
+}
+
+fn composed(alloc: Global, first: &[u8], second: &[u8]) -> Result<Told, i32>
+    ensures ok { IfOk result (λ t. IsComposed first.now second.now t.code (string_bytes t.text)) }
+    ensures few { IfOk result (λ t. IsOneOf (ASM_DONE ∷ ASM_CLASH ∷ ASM_MANY ∷ ASM_LARGE ∷ []) t.code) }
+    ensures err { IfErr result (λ code. IsOneOf (ASM_NOT_JSON ∷ ASM_SHAPE ∷ []) code →
+        AreMisread IsMoveForm IsMoveForm first.now second.now code) }
+    ensures codes { IfErr result (IsOneOf (ASM_MEMORY ∷ ASM_NOT_JSON ∷ ASM_SHAPE ∷ [])) }
+{
+    let (one, two) = match read_both::<Instructions, Instructions>(alloc, first, second) {
+        Ok(both) => both,
+        Err(error) => return Err(code_of_text_error(error)),
+    };
+    match told_move(alloc, compose(alloc, &standard(), &one, &two)) {
+        Ok(told) => Ok(told),
+        Err(AllocError) => Err(MEMORY),
+    }
+}
+
+/// Writes one move `[INSTR, ..]` that does what the two moves do in turn.
+///
+/// Where the first fires, the written move fires as the first and then the second, clashes included. On no state
+/// do both fire with `ASM_CLASH`, where `{"clash":[LOC,CAUSE]}` is written, and with `ASM_LARGE`: an amount or a
+/// sum is too large, and `{"large":LOC}` is written. `ASM_MANY`: the move would have more than 4,096
+/// instructions. `ASM_SMALL`: `written` is the room that it needs. `ASM_NOT_JSON` and `ASM_SHAPE`: the first, or
+/// else the second, is not JSON or no move. `ASM_MEMORY`.
+pub fn compose_moves(
+    alloc: Global,
+    first: &[u8],
+    second: &[u8],
+    out: &mut [u8],
+    written: &mut usize,
+) -> i32
+    ensures codes { IsOneOf (ASM_DONE ∷ ASM_CLASH ∷ ASM_MEMORY ∷ ASM_SMALL ∷ ASM_MANY
+        ∷ ASM_NOT_JSON ∷ ASM_SHAPE ∷ ASM_LARGE ∷ []) result }
+    ensures told { IsOneOf (ASM_DONE ∷ ASM_CLASH ∷ ASM_MANY ∷ ASM_LARGE ∷ []) result →
+        IsWritten (IsComposed first.now second.now result) out.new written.new }
+    ensures small { result ≡ ASM_SMALL → IsTooLong
+        (λ text. (code : ℤ) × IsComposed first.now second.now code text) (length out.old) written.new }
+    ensures refused { IsOneOf (ASM_NOT_JSON ∷ ASM_SHAPE ∷ []) result →
+        AreMisread IsMoveForm IsMoveForm first.now second.now result }
+    ensures no_text { IsOneOf (ASM_MEMORY ∷ ASM_NOT_JSON ∷ ASM_SHAPE ∷ []) result → written.new ≡ 0 }
+    ensures unwritten { IsOneOf (ASM_MEMORY ∷ ASM_SMALL ∷ ASM_NOT_JSON ∷ ASM_SHAPE ∷ []) result →
+        out.new ≡ out.old }
+{
+    *written = 0;
+    match composed(alloc, first, second) {
+        Ok(told) => written_as(&told, out, written),
+        Err(code) => code,
+    }
+}

@@ -1,0 +1,172 @@
+//! What is seen through a step at all locations with one function name.
+ghost use Rattle.std.specs.Prelude.{◌≡◌, ◌≢◌, ◌≤◌, ◌<◌, ◌∷◌, ◌++◌, [], List, length, string_bytes, IsUtf8, IfOk, IfErr};
+ghost use Rattle.std.specs.FinMap as finite;
+ghost use Rattle.asm_element.specs.Place.{Place};
+ghost use Rattle.asm_update.specs.State.{State, IsProper, val};
+ghost use Rattle.asm_step.specs.Places.{AreEach};
+ghost use Rattle.asm_slots.specs.Codes.{IsOneOf, ASM_DONE, ASM_MEMORY, ASM_EMPTY, ASM_SMALL, ASM_MANY};
+ghost use Rattle.asm_slots.specs.Codes.{ASM_SHAPE, ASM_MOVED};
+ghost use Rattle.asm_slots.specs.Slots.{HoldBoth, HoldsStep, LacksOne, content_of};
+ghost use Rattle.asm_slots.specs.Steps.{HasGotAll, IsFound, IsFoundText, WouldGetManyMore};
+ghost use Rattle.asm_slots.specs.Written.{IsTooLong, IsWritten};
+
+use crate::codes::{DONE, EMPTY, MANY, MEMORY, MOVED, SHAPE, copied};
+use crate::owned_agent::OwnedAgent;
+use crate::owned_step::{OwnedStep, each_of};
+use crate::slot::Slot;
+use crate::steps::{GetError, Got};
+use crate::take_and_put::{put_both, take_both};
+use asm_element::Location;
+use asm_journal::state_text;
+use asm_update::PlainState;
+use std::alloc::{AllocError, Global};
+use std::str;
+
+// What is seen at the locations with this name.
+fn found_in(
+    alloc: Global,
+    agent: &OwnedAgent,
+    step: &OwnedStep,
+    name: &str,
+) -> Result<PlainState, GetError>
+    ensures found { IfOk result (IsFound name.now agent.now step.now) }
+    ensures many { IfErr result (λ e. ¬ (e ≡ GetError.Many)) }
+    ensures shape { IfErr result (λ e. ¬ (e ≡ GetError.Shape)) }
+{
+    let state = agent.state();
+    if state.number() != step.number {
+        return Err(GetError::Moved);
+    }
+    let below = state.of_name(alloc, name)?;
+    let found = step.step.scan(alloc, below, name)?;
+    found.proper();
+    Ok(found)
+}
+
+// The same, with the bytes of the name.
+fn found_of(
+    alloc: Global,
+    agent: &OwnedAgent,
+    step: &OwnedStep,
+    name: &[u8],
+) -> Result<PlainState, GetError>
+    ensures found { IfOk result (IsFound name.now agent.now step.now) }
+    ensures many { IfErr result (λ e. ¬ (e ≡ GetError.Many)) }
+    ensures shape { IfErr result (λ e. e ≡ GetError.Shape → ¬ IsUtf8 name.now) }
+{
+    let Ok(name) = str::from_utf8(name) else {
+        return Err(GetError::Shape);
+    };
+    found_in(alloc, agent, step, name)
+}
+
+// Copies of the locations of a state, in ascending order.
+fn locations_of_state(alloc: Global, state: &PlainState) -> Result<Vec<Location>, AllocError>
+    ensures { IfOk result (λ locations. locations.items ≡ finite.keys state.now) }
+{
+    let mut locations = Vec::new(alloc);
+    for (at, _value) in state.iter() {
+        locations.push(at.copy(alloc)?)?;
+    }
+    Ok(locations)
+}
+
+fn got_all_at(
+    alloc: Global,
+    agent: &OwnedAgent,
+    step: &OwnedStep,
+    name: &[u8],
+) -> Result<Got, GetError>
+    ensures text { IfOk result (λ g. IsFoundText name.now agent.now step.now (string_bytes g.text)) }
+    ensures all { IfOk result (λ g. (S : State) × IsFound name.now agent.now step.now S
+        × AreEach (step.now.got ++ finite.keys S) g.all.items) }
+    ensures few { IfOk result (λ g. length g.all.items ≤ 256) }
+    ensures many { IfErr result (λ e. e ≡ GetError.Many → WouldGetManyMore name.now agent.now step.now) }
+    ensures shape { IfErr result (λ e. e ≡ GetError.Shape → ¬ IsUtf8 name.now) }
+{
+    let found = found_of(alloc, agent, step, name)?;
+    let locations = locations_of_state(alloc, &found)?;
+    let all = each_of(alloc, &step.got, &locations)?;
+    if all.len() > 256 {
+        return Err(GetError::Many);
+    }
+    let text = state_text(alloc, &found)?;
+    Ok(Got { text, all })
+}
+
+fn get_all_in(
+    alloc: Global,
+    agent: &OwnedAgent,
+    step: &mut OwnedStep,
+    name: &[u8],
+    out: &mut [u8],
+    written: &mut usize,
+) -> i32
+    requires { written.old ≡ 0 }
+    ensures codes { IsOneOf (ASM_DONE ∷ ASM_MEMORY ∷ ASM_SMALL ∷ ASM_MANY ∷ ASM_SHAPE ∷ ASM_MOVED ∷ []) result }
+    ensures told { result ≡ ASM_DONE →
+        IsWritten (IsFoundText name.now agent.now step.old) out.new written.new }
+    ensures got { result ≡ ASM_DONE → HasGotAll name.now agent.now step.old step.new }
+    ensures small { result ≡ ASM_SMALL →
+        IsTooLong (IsFoundText name.now agent.now step.old) (length out.old) written.new }
+    ensures many { result ≡ ASM_MANY → WouldGetManyMore name.now agent.now step.old }
+    ensures shape { result ≡ ASM_SHAPE → ¬ IsUtf8 name.now }
+    ensures stays { result ≢ ASM_DONE → step.new ≡ step.old }
+    ensures no_text { IsOneOf (ASM_MEMORY ∷ ASM_MANY ∷ ASM_SHAPE ∷ ASM_MOVED ∷ []) result → written.new ≡ 0 }
+    ensures unwritten { result ≢ ASM_DONE → out.new ≡ out.old }
+{
+    match got_all_at(alloc, agent, step, name) {
+        Ok(got) => {
+            let code = copied(got.text.as_bytes(), out, written);
+            if code == DONE {
+                step.got = got.all;
+            }
+            code
+        }
+        Err(GetError::Moved) => MOVED,
+        Err(GetError::Many) => MANY,
+        Err(GetError::Shape) => SHAPE,
+        Err(GetError::Memory) => MEMORY,
+    }
+}
+
+/// Writes `[PAIR, ..]`: what is seen through the pushed moves at all locations with the function name, a text in
+/// UTF-8 without quotes, in ascending order. Each location that is found is got, and is named by the commit; that
+/// a further location of the name is written later isn't noticed by it.
+///
+/// It makes no look and no receipt, and the agent's slot stays as it was. `ASM_SHAPE`: the name isn't UTF-8.
+/// `ASM_MOVED`, `ASM_MANY`, `ASM_SMALL`, `ASM_EMPTY` and `ASM_MEMORY` come as of `get`; after each of these the
+/// step's slot is as it was. The step has to be one of the agent's storage.
+pub fn get_all(
+    alloc: Global,
+    agent: &mut Slot,
+    step: &mut Slot,
+    name: &[u8],
+    out: &mut [u8],
+    written: &mut usize,
+) -> i32
+    ensures codes { IsOneOf (ASM_DONE ∷ ASM_MEMORY ∷ ASM_EMPTY ∷ ASM_SMALL ∷ ASM_MANY ∷ ASM_SHAPE ∷ ASM_MOVED ∷ []) result }
+    ensures told { result ≡ ASM_DONE → HoldBoth (content_of agent.old) (content_of step.old)
+        (λ a s. IsWritten (IsFoundText name.now a s) out.new written.new) }
+    ensures got { result ≡ ASM_DONE → HoldBoth (content_of agent.old) (content_of step.old)
+        (λ a s. HoldsStep (content_of step.new) (HasGotAll name.now a s)) }
+    ensures small { result ≡ ASM_SMALL → HoldBoth (content_of agent.old) (content_of step.old)
+        (λ a s. IsTooLong (IsFoundText name.now a s) (length out.old) written.new) }
+    ensures many { result ≡ ASM_MANY → HoldBoth (content_of agent.old) (content_of step.old)
+        (WouldGetManyMore name.now) }
+    ensures shape { result ≡ ASM_SHAPE → ¬ IsUtf8 name.now }
+    ensures empty { result ≡ ASM_EMPTY → LacksOne (content_of agent.old) (content_of step.old) }
+    ensures kept { content_of agent.new ≡ content_of agent.old }
+    ensures stays { result ≢ ASM_DONE → content_of step.new ≡ content_of step.old }
+    ensures no_text { IsOneOf (ASM_MEMORY ∷ ASM_EMPTY ∷ ASM_MANY ∷ ASM_SHAPE ∷ ASM_MOVED ∷ []) result →
+        written.new ≡ 0 }
+    ensures unwritten { result ≢ ASM_DONE → out.new ≡ out.old }
+{
+    *written = 0;
+    let Some(mut both) = take_both(alloc, agent, step) else {
+        return EMPTY;
+    };
+    let code = get_all_in(alloc, &both.agent, &mut both.step, name, out, written);
+    put_both(agent, step, both);
+    code
+}

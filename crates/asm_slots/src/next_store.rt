@@ -1,0 +1,123 @@
+//! The storage that goes on where a closed one ended.
+ghost use Rattle.std.specs.Prelude.{◌≡◌, ◌≢◌, ◌<◌, ◌⊎◌, ◌∷◌, [], None, Some, IfOk, IfErr};
+ghost use Rattle.asm_journal.specs.Reading.{ReadsAs};
+ghost use Rattle.asm_journal.specs.declared.fault.JournalError.TheVariants as journal_error;
+ghost use Rattle.asm_storage.specs.declared.history.History.{History};
+ghost use Rattle.asm_slots.specs.Codes.{IsOneOf, ASM_DONE, ASM_MEMORY, ASM_EMPTY, ASM_RANGE, ASM_NONE, ASM_TAKEN};
+ghost use Rattle.asm_slots.specs.Next.{GoesOn, HasOpened, IsNextOf, IsOpenedAfter, LacksJournal};
+ghost use Rattle.asm_slots.specs.Slots.{HoldsNoStore, HoldsStore, content_of};
+
+use crate::codes::{DONE, EMPTY, MEMORY, NONE, RANGE, TAKEN};
+use crate::content::Content;
+use crate::shared::{Shared, Standard};
+use crate::slot::Slot;
+use crate::store::Store;
+use crate::take_and_put::{put_store, take_store};
+use asm_aggregate::standard;
+use asm_journal::{JournalError, from_text, next_storage};
+use asm_storage::{Storage, StorageError};
+use std::alloc::Global;
+use std::sync::Arc;
+
+// Why a journal wasn't read: refused memory, or that it is none.
+fn code_of_refusal(error: JournalError) -> i32
+    ensures codes { IsOneOf (ASM_MEMORY ∷ ASM_NONE ∷ []) result }
+    ensures none { result ≡ ASM_NONE → error ≢ journal_error.Memory }
+{
+    match error {
+        JournalError::Memory => MEMORY,
+        JournalError::NotJson(_) | JournalError::Shape(_) => NONE,
+        JournalError::Version | JournalError::Cut => NONE,
+    }
+}
+
+// The storage that goes on from the journal with this text.
+fn storage_after(alloc: Global, journal: &[u8], capacity: u32) -> Result<Storage<Standard>, i32>
+    ensures ok { IfOk result (HasOpened journal.now capacity) }
+    ensures codes { IfErr result (IsOneOf (ASM_MEMORY ∷ ASM_RANGE ∷ ASM_NONE ∷ [])) }
+    ensures range { IfErr result (λ code. code ≡ ASM_RANGE → (capacity ≡ 0) ⊎ (1048576 < capacity)) }
+    ensures none { IfErr result (λ code. code ≡ ASM_NONE → (h : History) → ¬ ReadsAs journal.now h) }
+{
+    let history = match from_text(alloc, journal) {
+        Ok(history) => history,
+        Err(error) => return Err(code_of_refusal(error)),
+    };
+    match next_storage(alloc, standard(), &history, capacity) {
+        Ok(storage) => Ok(storage),
+        Err(StorageError::BadCapacity) => Err(RANGE),
+        Err(StorageError::Memory) => Err(MEMORY),
+    }
+}
+
+// The same, in a slot's box, with no agents.
+fn opened_after(alloc: Global, journal: &[u8], capacity: u32) -> Result<Box<Content>, i32>
+    ensures ok { IfOk result (λ b. HoldsStore (Some b.value) (IsOpenedAfter journal.now capacity)) }
+    ensures codes { IfErr result (IsOneOf (ASM_MEMORY ∷ ASM_RANGE ∷ ASM_NONE ∷ [])) }
+    ensures range { IfErr result (λ code. code ≡ ASM_RANGE → (capacity ≡ 0) ⊎ (1048576 < capacity)) }
+    ensures none { IfErr result (λ code. code ≡ ASM_NONE → (h : History) → ¬ ReadsAs journal.now h) }
+{
+    let storage = storage_after(alloc, journal, capacity)?;
+    let Ok(shared) = Arc::new(alloc, Shared::new(storage)) else {
+        return Err(MEMORY);
+    };
+    let store = Store {
+        shared,
+        numbers: Vec::new(alloc),
+        parts: Vec::new(alloc),
+        journal: None,
+    };
+    let Ok(made) = Box::new(alloc, Content::Store(store)) else {
+        return Err(MEMORY);
+    };
+    Ok(made)
+}
+
+impl Store {
+    // The storage that goes on from the journal that is kept.
+    fn next(&self, alloc: Global, capacity: u32) -> Result<Box<Content>, i32>
+        ensures ok { IfOk result (λ b. HoldsStore (Some b.value) (GoesOn capacity self.now)) }
+        ensures codes { IfErr result (IsOneOf (ASM_MEMORY ∷ ASM_RANGE ∷ ASM_NONE ∷ [])) }
+        ensures range { IfErr result (λ code. code ≡ ASM_RANGE → (capacity ≡ 0) ⊎ (1048576 < capacity)) }
+        ensures none { IfErr result (λ code. code ≡ ASM_NONE → LacksJournal self.now) }
+    {
+        match &self.journal {
+            Some(journal) => opened_after(alloc, journal.as_bytes(), capacity),
+            None => Err(NONE),
+        }
+    }
+}
+
+/// Opens a storage, for at most `capacity` moves, in an empty slot, that goes on where the one that was closed
+/// ended: its opening state is the one that the moves of the kept journal leave, and its agents start anew.
+///
+/// The first storage's slot stays as it was. The journals of both, one after the other, tell one run.
+/// `ASM_TAKEN`: the second slot is full. `ASM_EMPTY`: the first has no storage. `ASM_NONE`: the storage wasn't
+/// closed since an agent was given back. `ASM_RANGE`: the capacity isn't 1 to 1,048,576. `ASM_MEMORY`. After
+/// each of these both slots are as they were.
+pub fn open_next(alloc: Global, store: &mut Slot, capacity: u32, next: &mut Slot) -> i32
+    ensures codes { IsOneOf (ASM_DONE ∷ ASM_MEMORY ∷ ASM_EMPTY ∷ ASM_RANGE ∷ ASM_NONE ∷ ASM_TAKEN ∷ []) result }
+    ensures opened { result ≡ ASM_DONE → IsNextOf capacity (content_of store.old) (content_of next.new) }
+    ensures was_empty { result ≡ ASM_DONE → content_of next.old ≡ None }
+    ensures kept { content_of store.new ≡ content_of store.old }
+    ensures refused { result ≢ ASM_DONE → content_of next.new ≡ content_of next.old }
+    ensures range { result ≡ ASM_RANGE → (capacity ≡ 0) ⊎ (1048576 < capacity) }
+    ensures none { result ≡ ASM_NONE → HoldsStore (content_of store.old) LacksJournal }
+    ensures empty { result ≡ ASM_EMPTY → HoldsNoStore (content_of store.old) }
+    ensures taken { result ≡ ASM_TAKEN → content_of next.old ≢ None }
+{
+    if next.is_full() {
+        return TAKEN;
+    }
+    let Some((shell, kept)) = take_store(alloc, store) else {
+        return EMPTY;
+    };
+    let made = kept.next(alloc, capacity);
+    put_store(store, shell, kept);
+    match made {
+        Ok(made) => {
+            *next = Slot::holding(made);
+            DONE
+        }
+        Err(code) => code,
+    }
+}

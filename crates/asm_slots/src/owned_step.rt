@@ -1,0 +1,144 @@
+//! A step of an engine: moves pushed over the state at one number of moves, and the locations that were got.
+ghost use Rattle.std.specs.Prelude.{◌≡◌, ◌++◌, [], All, List, map, IfOk, OnOk, OnErr, IfErr};
+ghost use Rattle.std.specs.Bool.{OnTrue, OnFalse};
+ghost use Rattle.asm_update.specs.Move.{Move};
+ghost use Rattle.asm_step.specs.Layers.{IsStepOf};
+ghost use Rattle.asm_step.specs.Places.{AreEach};
+ghost use Rattle.asm_slots.specs.Committed.{NamesAll};
+ghost use Rattle.asm_slots.specs.Step.{begun};
+ghost use Rattle.asm_slots.specs.Standard.{part, standard};
+ghost use Rattle.asm_slots.specs.Steps.{HasPopped, IsLayered, grown};
+ghost use Rattle.asm_slots.specs.declared.owned_step.Way.TheVariants as ways;
+ghost use Rattle.asm_state.specs.View.{value_at};
+ghost use Rattle.asm_step.specs.Answer.{IsAnswer};
+
+use asm_aggregate::standard;
+use asm_element::Location;
+use asm_state::{Named, State};
+use asm_step::{Step, StepError};
+use asm_update::Instructions;
+use std::alloc::{AllocError, Global};
+use std::marker::Model;
+
+/// It borrows nothing: each call is passed the agent whose own state it is over.
+#[derive(Drop)]
+pub struct OwnedStep {
+    pub(crate) number: u32,
+    pub(crate) step: Step,
+    // Each once, in ascending order.
+    pub(crate) got: Vec<Location>,
+}
+
+impl Model for OwnedStep {
+    ghost use Rattle.std.specs.Coded.{coded_list};
+    ghost use Rattle.asm_element.specs.contracts.location.Location.{the_row as location_row};
+    ghost use Rattle.asm_step.specs.contracts.step.Step.{the_row as step_row};
+    ghost use Rattle.asm_slots.specs.Step.{StepView, step_code};
+
+    ghost Value = { StepView };
+
+    ghost coded = { step_code step_row.coded (coded_list location_row.coded) };
+
+    ghost view = { λ s. record { number = s.number; layers = s.step; got = s.got.items } };
+}
+
+/// How a move is put onto a step.
+#[derive(Clone, Copy, Drop)]
+pub(crate) enum Way {
+    Push,
+    Extend,
+}
+
+// Appends copies of the locations.
+fn push_copies(
+    alloc: Global,
+    all: &mut Vec<Location>,
+    locations: &[Location],
+) -> Result<(), AllocError>
+    ensures { OnOk result (all.new.items ≡ all.old.items ++ locations.now) }
+{
+    for at in locations {
+        all.push(at.copy(alloc)?)?;
+    }
+    Ok(())
+}
+
+/// The locations of both lists, each once, in ascending order.
+pub(crate) fn each_of(
+    alloc: Global,
+    first: &[Location],
+    second: &[Location],
+) -> Result<Vec<Location>, AllocError>
+    ensures { IfOk result (λ all. AreEach (first.now ++ second.now) all.items) }
+{
+    let mut all = Vec::new(alloc);
+    push_copies(alloc, &mut all, first)?;
+    push_copies(alloc, &mut all, second)?;
+    all.sort_unstable();
+    all.dedup();
+    Ok(all)
+}
+
+/// Puts the move onto the step, over what the state has.
+pub(crate) fn grow(
+    alloc: Global,
+    step: &mut Step,
+    state: &State,
+    way: Way,
+    instrs: &Instructions,
+) -> Result<(), StepError>
+    ensures layers { OnOk result (IsLayered way step.old step.new) }
+    ensures answer { IsAnswer standard (value_at state.now) step.old step.new instrs.now result }
+    ensures step { OnOk result ((groups : List (List Move)) →
+        IsStepOf part (value_at state.now) step.old groups →
+        IsStepOf part (value_at state.now) step.new (grown way groups instrs.now)) }
+    ensures err { OnErr result (step.new ≡ step.old) }
+    ensures deep { IfErr result (λ e. way ≡ ways.Extend → ¬ (e ≡ StepError.Deep)) }
+{
+    match way {
+        Way::Push => step.push(alloc, &standard(), state, instrs),
+        Way::Extend => step.extend(alloc, &standard(), state, instrs),
+    }
+}
+
+// Each of the locations under the number.
+fn named_at(alloc: Global, locations: Vec<Location>, number: u32) -> Result<Vec<Named>, AllocError>
+    ensures locations { IfOk result (λ reads. map (λ r. r.at) reads.items ≡ locations.items) }
+    ensures numbers { IfOk result (λ reads. All (λ r. r.number ≡ number) reads.items) }
+{
+    let mut reads = Vec::new(alloc);
+    for at in locations {
+        reads.push(Named { at, number })?;
+    }
+    Ok(reads)
+}
+
+impl OwnedStep {
+    /// A step at this number of moves, of no moves; it takes no memory.
+    pub(crate) fn at(alloc: Global, number: u32) -> OwnedStep
+        ensures { result ≡ begun number }
+    {
+        OwnedStep {
+            number,
+            step: Step::new(alloc),
+            got: Vec::new(alloc),
+        }
+    }
+
+    /// Takes the move that was pushed last away, with those that extend it; false where there is none.
+    pub(crate) fn pop(&mut self) -> bool
+        ensures popped { OnTrue result (HasPopped self.old self.new) }
+        ensures none { OnFalse result (self.old.layers ≡ []) }
+        ensures same { OnFalse result (self.new ≡ self.old) }
+    {
+        self.step.pop()
+    }
+
+    /// All that the step rests on, at its number.
+    pub(crate) fn reads(&self, alloc: Global) -> Result<Vec<Named>, AllocError>
+        ensures { IfOk result (λ reads. NamesAll self.now reads.items) }
+    {
+        let locations = each_of(alloc, &self.got, self.step.partial_locations())?;
+        named_at(alloc, locations, self.number)
+    }
+}

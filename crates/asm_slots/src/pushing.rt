@@ -1,0 +1,206 @@
+//! Pushing moves onto a step, and extending the one that was pushed last.
+ghost use Rattle.std.specs.Prelude.{◌≡◌, ◌≢◌, ◌∷◌, [], ℤ, length, string_bytes, IfOk};
+ghost use Rattle.asm_journal.specs.Event.{IsMoveForm};
+ghost use Rattle.asm_slots.specs.Bytes.{IsNoJson, IsOtherJson};
+ghost use Rattle.asm_slots.specs.Codes.{IsOneOf, ASM_DONE, ASM_CLASH, ASM_MEMORY, ASM_EMPTY, ASM_SMALL};
+ghost use Rattle.asm_slots.specs.Codes.{ASM_MANY, ASM_NOT_JSON, ASM_SHAPE, ASM_LARGE, ASM_MOVED, ASM_DEEP};
+ghost use Rattle.asm_slots.specs.Slots.{HoldBoth, HoldsStep, LacksOne, content_of};
+ghost use Rattle.asm_slots.specs.Steps.{HasExtended, HasGrown, HasPushed, IsNotExtended, IsNotGrown, IsNotPushed};
+ghost use Rattle.asm_slots.specs.Steps.{TellsRefusal};
+ghost use Rattle.asm_slots.specs.Written.{IsTooLong, IsWritten};
+
+use crate::codes::{CLASH, DEEP, DONE, EMPTY, LARGE, MANY, MEMORY, MOVED, Told, written_as};
+use crate::composing::{clash_text, large_text};
+use crate::owned_agent::OwnedAgent;
+use crate::owned_step::{OwnedStep, Way, grow};
+use crate::parsing::{code_of_text_error, move_of};
+use crate::slot::Slot;
+use crate::take_and_put::{put_both, take_both};
+use asm_aggregate::standard;
+use asm_step::StepError;
+use std::alloc::{AllocError, Global};
+
+fn told_refusal(alloc: Global, error: StepError) -> Result<Told, AllocError>
+    ensures told { IfOk result (λ t. TellsRefusal error t.code (string_bytes t.text)) }
+    ensures codes { IfOk result (λ t. IsOneOf (ASM_CLASH ∷ ASM_MANY ∷ ASM_LARGE ∷ ASM_DEEP ∷ []) t.code) }
+{
+    match error {
+        StepError::Clash(clash) => Ok(Told {
+            code: CLASH,
+            text: clash_text(alloc, clash)?,
+        }),
+        StepError::Large(at) => Ok(Told {
+            code: LARGE,
+            text: large_text(alloc, &at)?,
+        }),
+        StepError::Many => Ok(Told {
+            code: MANY,
+            text: String::new(alloc),
+        }),
+        StepError::Deep => Ok(Told {
+            code: DEEP,
+            text: String::new(alloc),
+        }),
+        StepError::Memory => Err(AllocError),
+    }
+}
+
+// Tells why a move isn't pushed.
+fn refuse(alloc: Global, error: StepError, out: &mut [u8], written: &mut usize) -> i32
+    requires { written.old ≡ 0 }
+    ensures codes { IsOneOf (ASM_CLASH ∷ ASM_MEMORY ∷ ASM_SMALL ∷ ASM_MANY ∷ ASM_LARGE ∷ ASM_DEEP ∷ []) result }
+    ensures told { IsOneOf (ASM_CLASH ∷ ASM_MANY ∷ ASM_LARGE ∷ ASM_DEEP ∷ []) result →
+        IsWritten (TellsRefusal error result) out.new written.new }
+    ensures small { result ≡ ASM_SMALL →
+        IsTooLong (λ text. (code : ℤ) × TellsRefusal error code text) (length out.old) written.new }
+    ensures no_text { result ≡ ASM_MEMORY → written.new ≡ 0 }
+    ensures unwritten { IsOneOf (ASM_MEMORY ∷ ASM_SMALL ∷ []) result → out.new ≡ out.old }
+{
+    match told_refusal(alloc, error) {
+        Ok(told) => written_as(&told, out, written),
+        Err(AllocError) => MEMORY,
+    }
+}
+
+fn grow_in(
+    alloc: Global,
+    agent: &OwnedAgent,
+    step: &mut OwnedStep,
+    way: Way,
+    instrs: &[u8],
+    out: &mut [u8],
+    written: &mut usize,
+) -> i32
+    requires { written.old ≡ 0 }
+    ensures codes { IsOneOf (ASM_DONE ∷ ASM_CLASH ∷ ASM_MEMORY ∷ ASM_SMALL ∷ ASM_MANY
+        ∷ ASM_NOT_JSON ∷ ASM_SHAPE ∷ ASM_LARGE ∷ ASM_MOVED ∷ ASM_DEEP ∷ []) result }
+    ensures grown { result ≡ ASM_DONE → HasGrown way instrs.now agent.now step.old step.new }
+    ensures told { IsOneOf (ASM_CLASH ∷ ASM_MANY ∷ ASM_LARGE ∷ ASM_DEEP ∷ []) result →
+        IsWritten (IsNotGrown way instrs.now agent.now step.old result) out.new written.new }
+    ensures small { result ≡ ASM_SMALL → IsTooLong
+        (λ text. (code : ℤ) × IsNotGrown way instrs.now agent.now step.old code text) (length out.old) written.new }
+    ensures not_json { result ≡ ASM_NOT_JSON → IsNoJson instrs.now }
+    ensures shape { result ≡ ASM_SHAPE → IsOtherJson IsMoveForm instrs.now }
+    ensures stays { result ≢ ASM_DONE → step.new ≡ step.old }
+    ensures no_text { IsOneOf (ASM_DONE ∷ ASM_MEMORY ∷ ASM_NOT_JSON ∷ ASM_SHAPE ∷ ASM_MOVED ∷ []) result →
+        written.new ≡ 0 }
+    ensures unwritten { IsOneOf (ASM_DONE ∷ ASM_MEMORY ∷ ASM_SMALL ∷ ASM_NOT_JSON ∷ ASM_SHAPE ∷ ASM_MOVED ∷ []) result →
+        out.new ≡ out.old }
+{
+    let instrs = match move_of(alloc, instrs) {
+        Ok(instrs) => instrs,
+        Err(error) => return code_of_text_error(error),
+    };
+    let state = agent.state();
+    if state.number() != step.number {
+        return MOVED;
+    }
+    match grow(alloc, &mut step.step, state, way, &instrs) {
+        Ok(()) => DONE,
+        Err(error) => refuse(alloc, error, out, written),
+    }
+}
+
+/// Pushes the move `[INSTR, ..]`: what is got or pushed later is seen through what it leaves.
+///
+/// It makes no look and no receipt, and the agent's slot stays as it was. `ASM_CLASH`: its updates clash on what
+/// is seen, and `{"clash":[LOC,CAUSE]}` is written. `ASM_DEEP`: 64 moves are pushed. `ASM_MANY`: the one move of
+/// all that is pushed would have more than 4,096 instructions. `ASM_LARGE`, with `{"large":LOC}`, never comes
+/// for a step of the agent's storage. `ASM_MOVED`: the agent's own state stands no longer at the step's number.
+/// `ASM_SMALL`: `written` is the room that the text of a refusal needs. `ASM_EMPTY`: the first slot has no agent,
+/// the second no step, or the two are one. `ASM_NOT_JSON`, `ASM_SHAPE`, `ASM_MEMORY`. After each of these the
+/// step's slot is as it was, so a push that is refused, or is popped, is a dry run. The step has to be one of the
+/// agent's storage.
+pub fn push(
+    alloc: Global,
+    agent: &mut Slot,
+    step: &mut Slot,
+    instrs: &[u8],
+    out: &mut [u8],
+    written: &mut usize,
+) -> i32
+    ensures codes { IsOneOf (ASM_DONE ∷ ASM_CLASH ∷ ASM_MEMORY ∷ ASM_EMPTY ∷ ASM_SMALL ∷ ASM_MANY
+        ∷ ASM_NOT_JSON ∷ ASM_SHAPE ∷ ASM_LARGE ∷ ASM_MOVED ∷ ASM_DEEP ∷ []) result }
+    ensures grown { result ≡ ASM_DONE → HoldBoth (content_of agent.old) (content_of step.old)
+        (λ a s. HoldsStep (content_of step.new) (HasPushed instrs.now a s)) }
+    ensures told { IsOneOf (ASM_CLASH ∷ ASM_MANY ∷ ASM_LARGE ∷ ASM_DEEP ∷ []) result →
+        HoldBoth (content_of agent.old) (content_of step.old)
+        (λ a s. IsWritten (IsNotPushed instrs.now a s result) out.new written.new) }
+    ensures small { result ≡ ASM_SMALL → HoldBoth (content_of agent.old) (content_of step.old)
+        (λ a s. IsTooLong (λ text. (code : ℤ) × IsNotPushed instrs.now a s code text)
+        (length out.old) written.new) }
+    ensures not_json { result ≡ ASM_NOT_JSON → IsNoJson instrs.now }
+    ensures shape { result ≡ ASM_SHAPE → IsOtherJson IsMoveForm instrs.now }
+    ensures empty { result ≡ ASM_EMPTY → LacksOne (content_of agent.old) (content_of step.old) }
+    ensures kept { content_of agent.new ≡ content_of agent.old }
+    ensures stays { result ≢ ASM_DONE → content_of step.new ≡ content_of step.old }
+    ensures no_text { IsOneOf (ASM_DONE ∷ ASM_MEMORY ∷ ASM_EMPTY ∷ ASM_NOT_JSON ∷ ASM_SHAPE ∷ ASM_MOVED ∷ []) result →
+        written.new ≡ 0 }
+    ensures unwritten { IsOneOf (ASM_DONE ∷ ASM_MEMORY ∷ ASM_EMPTY ∷ ASM_SMALL ∷ ASM_NOT_JSON ∷ ASM_SHAPE
+        ∷ ASM_MOVED ∷ []) result → out.new ≡ out.old }
+{
+    *written = 0;
+    let Some(mut both) = take_both(alloc, agent, step) else {
+        return EMPTY;
+    };
+    let code = grow_in(
+        alloc,
+        &both.agent,
+        &mut both.step,
+        Way::Push,
+        instrs,
+        out,
+        written,
+    );
+    put_both(agent, step, both);
+    code
+}
+
+/// Extends the move that was pushed last by the move `[INSTR, ..]`: what is got or pushed later is seen through
+/// what it leaves, and a pop takes both away. Without a pushed move it is pushed.
+///
+/// The codes are those of `push`, but `ASM_DEEP`: the step is no deeper, however often it is extended.
+pub fn extend(
+    alloc: Global,
+    agent: &mut Slot,
+    step: &mut Slot,
+    instrs: &[u8],
+    out: &mut [u8],
+    written: &mut usize,
+) -> i32
+    ensures codes { IsOneOf (ASM_DONE ∷ ASM_CLASH ∷ ASM_MEMORY ∷ ASM_EMPTY ∷ ASM_SMALL ∷ ASM_MANY
+        ∷ ASM_NOT_JSON ∷ ASM_SHAPE ∷ ASM_LARGE ∷ ASM_MOVED ∷ []) result }
+    ensures grown { result ≡ ASM_DONE → HoldBoth (content_of agent.old) (content_of step.old)
+        (λ a s. HoldsStep (content_of step.new) (HasExtended instrs.now a s)) }
+    ensures told { IsOneOf (ASM_CLASH ∷ ASM_MANY ∷ ASM_LARGE ∷ []) result →
+        HoldBoth (content_of agent.old) (content_of step.old)
+        (λ a s. IsWritten (IsNotExtended instrs.now a s result) out.new written.new) }
+    ensures small { result ≡ ASM_SMALL → HoldBoth (content_of agent.old) (content_of step.old)
+        (λ a s. IsTooLong (λ text. (code : ℤ) × IsNotExtended instrs.now a s code text)
+        (length out.old) written.new) }
+    ensures not_json { result ≡ ASM_NOT_JSON → IsNoJson instrs.now }
+    ensures shape { result ≡ ASM_SHAPE → IsOtherJson IsMoveForm instrs.now }
+    ensures empty { result ≡ ASM_EMPTY → LacksOne (content_of agent.old) (content_of step.old) }
+    ensures kept { content_of agent.new ≡ content_of agent.old }
+    ensures stays { result ≢ ASM_DONE → content_of step.new ≡ content_of step.old }
+    ensures no_text { IsOneOf (ASM_DONE ∷ ASM_MEMORY ∷ ASM_EMPTY ∷ ASM_NOT_JSON ∷ ASM_SHAPE ∷ ASM_MOVED ∷ []) result →
+        written.new ≡ 0 }
+    ensures unwritten { IsOneOf (ASM_DONE ∷ ASM_MEMORY ∷ ASM_EMPTY ∷ ASM_SMALL ∷ ASM_NOT_JSON ∷ ASM_SHAPE
+        ∷ ASM_MOVED ∷ []) result → out.new ≡ out.old }
+{
+    *written = 0;
+    let Some(mut both) = take_both(alloc, agent, step) else {
+        return EMPTY;
+    };
+    let code = grow_in(
+        alloc,
+        &both.agent,
+        &mut both.step,
+        Way::Extend,
+        instrs,
+        out,
+        written,
+    );
+    put_both(agent, step, both);
+    code
+}

@@ -1,0 +1,268 @@
+//! Beginning a step, what is seen through its pushed moves, and taking the last one away.
+ghost use Rattle.std.specs.Prelude.{◌≡◌, ◌≢◌, ◌≤◌, ◌<◌, ◌↔◌, ◌∷◌, ◌++◌, [], List, length, string_bytes, OnOk, OnErr, IfOk, IfErr};
+ghost use Rattle.std.specs.Bool.{OnTrue, OnFalse};
+ghost use Rattle.asm_element.specs.Place.{Place};
+ghost use Rattle.asm_storage.specs.Storage.{IsSameAgent};
+ghost use Rattle.asm_step.specs.Places.{AreEach};
+ghost use Rattle.asm_slots.specs.Bytes.{AreLocations, IsNoJson, IsOtherJson};
+ghost use Rattle.asm_slots.specs.Calls.{SeesOn};
+ghost use Rattle.asm_slots.specs.Codes.{IsOneOf, ASM_DONE, ASM_MEMORY, ASM_EMPTY, ASM_SMALL, ASM_MANY, ASM_NONE};
+ghost use Rattle.asm_slots.specs.Codes.{ASM_TAKEN, ASM_NOT_JSON, ASM_SHAPE, ASM_MOVED};
+ghost use Rattle.asm_slots.specs.Own.{HasFollowed, HasLookedOn, values_text};
+ghost use Rattle.asm_slots.specs.Slots.{Goes, GoesStep, HoldBoth, HoldsNoAgent, HoldsNoStep, HoldsStep, LacksOne};
+ghost use Rattle.asm_slots.specs.Slots.{HasRoomForStep, IfHoldsStep, content_of};
+ghost use Rattle.asm_slots.specs.Steps.{HasGot, HasPopped, IsGotText, WouldGetMany, seen};
+ghost use Rattle.asm_slots.specs.Step.{begun};
+ghost use Rattle.asm_slots.specs.Written.{IsTooLong, IsWritten};
+
+use crate::codes::{DONE, EMPTY, MANY, MEMORY, MOVED, NONE, SHAPE, TAKEN, copied};
+use crate::content::Content;
+use crate::looking::text_of_values;
+use crate::owned_agent::OwnedAgent;
+use crate::owned_step::{OwnedStep, each_of};
+use crate::parsing::{code_of_text_error, locations_of};
+use crate::slot::Slot;
+use crate::take_and_put::{put_agent, put_both, put_step, take_agent, take_both, take_step};
+use asm_element::Location;
+use std::alloc::{AllocError, Global};
+
+// Whether the slot is empty or holds a step.
+fn has_room(alloc: Global, slot: &mut Slot) -> bool
+    ensures kept { content_of slot.new ≡ content_of slot.old }
+    ensures yes { OnTrue result (HasRoomForStep (content_of slot.old)) }
+    ensures no { OnFalse result (¬ HasRoomForStep (content_of slot.old)) }
+{
+    match take_step(alloc, slot) {
+        Some((shell, step)) => {
+            put_step(slot, shell, step);
+            true
+        }
+        None => !slot.is_full(),
+    }
+}
+
+// Puts a step at this number, of no moves, in the place of what the slot holds.
+fn put_begun(alloc: Global, slot: &mut Slot, number: u32) -> Result<(), AllocError>
+    ensures begun { OnOk result (HoldsStep (content_of slot.new) (λ s. s ≡ begun number)) }
+    ensures kept { OnErr result (content_of slot.new ≡ content_of slot.old) }
+{
+    let made = Box::new(alloc, Content::Step(OwnedStep::at(alloc, number)))?;
+    *slot = Slot::holding(made);
+    Ok(())
+}
+
+/// Begins a step of the agent in a slot that is empty or holds a step, which is then dropped: the agent looks on
+/// until it finds nothing more, its own state follows, and `number` is how many moves it has then seen.
+///
+/// Until the agent's next call that looks on, fires or learns, all that is got and pushed is seen at this number.
+/// `ASM_TAKEN`: the second slot holds something else. `ASM_EMPTY`: the first has no agent. `ASM_MEMORY`: the
+/// agent may have seen more. After these the step's slot is as it was, and `number` is 0.
+pub fn begin(alloc: Global, agent: &mut Slot, step: &mut Slot, number: &mut u32) -> i32
+    ensures codes { IsOneOf (ASM_DONE ∷ ASM_MEMORY ∷ ASM_EMPTY ∷ ASM_TAKEN ∷ []) result }
+    ensures followed { result ≡ ASM_DONE →
+        Goes (content_of agent.old) (content_of agent.new) (HasFollowed number.new) }
+    ensures begun { result ≡ ASM_DONE → HoldsStep (content_of step.new) (λ s. s ≡ begun number.new) }
+    ensures memory { result ≡ ASM_MEMORY → Goes (content_of agent.old) (content_of agent.new) HasLookedOn }
+    ensures same { IsOneOf (ASM_DONE ∷ ASM_MEMORY ∷ []) result →
+        Goes (content_of agent.old) (content_of agent.new) IsSameAgent }
+    ensures seen { IsOneOf (ASM_DONE ∷ ASM_MEMORY ∷ []) result →
+        Goes (content_of agent.old) (content_of agent.new) SeesOn }
+    ensures kept { IsOneOf (ASM_EMPTY ∷ ASM_TAKEN ∷ []) result → content_of agent.new ≡ content_of agent.old }
+    ensures stays { result ≢ ASM_DONE → content_of step.new ≡ content_of step.old }
+    ensures taken { (result ≡ ASM_TAKEN) ↔ ¬ HasRoomForStep (content_of step.old) }
+    ensures empty { result ≡ ASM_EMPTY → HoldsNoAgent (content_of agent.old) }
+    ensures none { result ≢ ASM_DONE → number.new ≡ 0 }
+{
+    *number = 0;
+    if !has_room(alloc, step) {
+        return TAKEN;
+    }
+    let Some((shell, inner)) = take_agent(alloc, agent) else {
+        return EMPTY;
+    };
+    let (inner, followed) = inner.follow(alloc);
+    put_agent(agent, shell, inner);
+    let Ok(seen) = followed else {
+        return MEMORY;
+    };
+    match put_begun(alloc, step, seen) {
+        Ok(()) => {
+            *number = seen;
+            DONE
+        }
+        Err(AllocError) => MEMORY,
+    }
+}
+
+/// How many moves are pushed, at most 64; 0 for a slot with no step.
+pub fn depth(alloc: Global, step: &mut Slot) -> u32
+    ensures kept { content_of step.new ≡ content_of step.old }
+    ensures value { IfHoldsStep (content_of step.old) (λ s. result ≡ length s.layers) }
+    ensures none { HoldsNoStep (content_of step.old) → result ≡ 0 }
+{
+    let Some((shell, taken)) = take_step(alloc, step) else {
+        return 0;
+    };
+    let depth = taken.step.depth() as u32;
+    put_step(step, shell, taken);
+    depth
+}
+
+/// Takes away the move that was pushed last, with those that extended it.
+///
+/// What was got stays got. `ASM_NONE`: none is pushed. `ASM_EMPTY`: the slot has no step. After these the slot is
+/// as it was.
+pub fn pop(alloc: Global, step: &mut Slot) -> i32
+    ensures codes { IsOneOf (ASM_DONE ∷ ASM_EMPTY ∷ ASM_NONE ∷ []) result }
+    ensures popped { result ≡ ASM_DONE → GoesStep (content_of step.old) (content_of step.new) HasPopped }
+    ensures none { result ≡ ASM_NONE → HoldsStep (content_of step.old) (λ s. s.layers ≡ []) }
+    ensures empty { result ≡ ASM_EMPTY → HoldsNoStep (content_of step.old) }
+    ensures kept { result ≢ ASM_DONE → content_of step.new ≡ content_of step.old }
+{
+    let Some((shell, mut taken)) = take_step(alloc, step) else {
+        return EMPTY;
+    };
+    let popped = taken.pop();
+    put_step(step, shell, taken);
+    if popped { DONE } else { NONE }
+}
+
+/// Why nothing is got.
+#[derive(Drop)]
+pub(crate) enum GetError {
+    Moved,
+    Many,
+    Shape,
+    Memory,
+}
+
+impl From<AllocError> for GetError {
+    ghost use Rattle.std.specs.Prelude.{◌≡◌};
+    ghost use Rattle.asm_slots.specs.declared.steps.GetError.TheVariants as get_error;
+
+    ghost from_gives = { λ _ e. e ≡ get_error.Memory };
+
+    fn from(_error: AllocError) -> GetError {
+        GetError::Memory
+    }
+}
+
+/// What is got: the text that tells it, and all that was got by then.
+#[derive(Drop)]
+pub(crate) struct Got {
+    pub(crate) text: String,
+    pub(crate) all: Vec<Location>,
+}
+
+// What is seen at the locations through the pushed moves, while the agent's own state stands at the step's number.
+fn got_at(
+    alloc: Global,
+    agent: &OwnedAgent,
+    step: &OwnedStep,
+    locations: &[Location],
+) -> Result<Got, GetError>
+    ensures text { IfOk result (λ g. string_bytes g.text
+        ≡ values_text step.now.number (seen agent.now step.now) locations.now) }
+    ensures all { IfOk result (λ g. AreEach (step.now.got ++ locations.now) g.all.items) }
+    ensures few { IfOk result (λ g. length g.all.items ≤ 256) }
+    ensures many { IfErr result (λ e. e ≡ GetError.Many → (ls : List Place)
+        × AreEach (step.now.got ++ locations.now) ls × (256 < length ls)) }
+    ensures shape { IfErr result (λ e. ¬ (e ≡ GetError.Shape)) }
+{
+    let state = agent.state();
+    if state.number() != step.number {
+        return Err(GetError::Moved);
+    }
+    let all = each_of(alloc, &step.got, locations)?;
+    if all.len() > 256 {
+        return Err(GetError::Many);
+    }
+    let text = text_of_values(alloc, step.number, &step.step.over(state), locations)?;
+    Ok(Got { text, all })
+}
+
+fn get_in(
+    alloc: Global,
+    agent: &OwnedAgent,
+    step: &mut OwnedStep,
+    locations: &[u8],
+    out: &mut [u8],
+    written: &mut usize,
+) -> i32
+    requires { written.old ≡ 0 }
+    ensures codes { IsOneOf (ASM_DONE ∷ ASM_MEMORY ∷ ASM_SMALL ∷ ASM_MANY
+        ∷ ASM_NOT_JSON ∷ ASM_SHAPE ∷ ASM_MOVED ∷ []) result }
+    ensures told { result ≡ ASM_DONE →
+        IsWritten (IsGotText locations.now agent.now step.old) out.new written.new }
+    ensures got { result ≡ ASM_DONE → HasGot locations.now step.old step.new }
+    ensures small { result ≡ ASM_SMALL →
+        IsTooLong (IsGotText locations.now agent.now step.old) (length out.old) written.new }
+    ensures many { result ≡ ASM_MANY → WouldGetMany locations.now step.old }
+    ensures not_json { result ≡ ASM_NOT_JSON → IsNoJson locations.now }
+    ensures shape { result ≡ ASM_SHAPE → IsOtherJson AreLocations locations.now }
+    ensures stays { result ≢ ASM_DONE → step.new ≡ step.old }
+    ensures no_text { IsOneOf (ASM_MEMORY ∷ ASM_MANY ∷ ASM_NOT_JSON ∷ ASM_SHAPE ∷ ASM_MOVED ∷ []) result →
+        written.new ≡ 0 }
+    ensures unwritten { result ≢ ASM_DONE → out.new ≡ out.old }
+{
+    let locations = match locations_of(alloc, locations) {
+        Ok(locations) => locations,
+        Err(error) => return code_of_text_error(error),
+    };
+    match got_at(alloc, agent, step, &locations) {
+        Ok(got) => {
+            let code = copied(got.text.as_bytes(), out, written);
+            if code == DONE {
+                step.got = got.all;
+            }
+            code
+        }
+        Err(GetError::Moved) => MOVED,
+        Err(GetError::Many) => MANY,
+        Err(GetError::Shape) => SHAPE,
+        Err(GetError::Memory) => MEMORY,
+    }
+}
+
+/// Writes `{"number":N,"values":[VALUE, ..]}`: what is seen at the locations `[LOC, ..]` through the pushed
+/// moves, with the step's number. Each location is got, and is named by the commit.
+///
+/// It makes no look and no receipt, and the agent's slot stays as it was. `ASM_MOVED`: the agent's own state
+/// stands no longer at the step's number. `ASM_MANY`: more than 256 locations would be got. `ASM_SMALL`:
+/// `written` is the room that it needs. `ASM_EMPTY`: the first slot has no agent, the second no step, or the two
+/// are one. `ASM_NOT_JSON`, `ASM_SHAPE`, `ASM_MEMORY`. After each of these the step's slot is as it was. The step
+/// has to be one of the agent's storage.
+pub fn get(
+    alloc: Global,
+    agent: &mut Slot,
+    step: &mut Slot,
+    locations: &[u8],
+    out: &mut [u8],
+    written: &mut usize,
+) -> i32
+    ensures codes { IsOneOf (ASM_DONE ∷ ASM_MEMORY ∷ ASM_EMPTY ∷ ASM_SMALL ∷ ASM_MANY
+        ∷ ASM_NOT_JSON ∷ ASM_SHAPE ∷ ASM_MOVED ∷ []) result }
+    ensures told { result ≡ ASM_DONE → HoldBoth (content_of agent.old) (content_of step.old)
+        (λ a s. IsWritten (IsGotText locations.now a s) out.new written.new) }
+    ensures got { result ≡ ASM_DONE →
+        GoesStep (content_of step.old) (content_of step.new) (HasGot locations.now) }
+    ensures small { result ≡ ASM_SMALL → HoldBoth (content_of agent.old) (content_of step.old)
+        (λ a s. IsTooLong (IsGotText locations.now a s) (length out.old) written.new) }
+    ensures many { result ≡ ASM_MANY → HoldsStep (content_of step.old) (WouldGetMany locations.now) }
+    ensures not_json { result ≡ ASM_NOT_JSON → IsNoJson locations.now }
+    ensures shape { result ≡ ASM_SHAPE → IsOtherJson AreLocations locations.now }
+    ensures empty { result ≡ ASM_EMPTY → LacksOne (content_of agent.old) (content_of step.old) }
+    ensures kept { content_of agent.new ≡ content_of agent.old }
+    ensures stays { result ≢ ASM_DONE → content_of step.new ≡ content_of step.old }
+    ensures no_text { IsOneOf (ASM_MEMORY ∷ ASM_EMPTY ∷ ASM_MANY ∷ ASM_NOT_JSON ∷ ASM_SHAPE ∷ ASM_MOVED ∷ []) result →
+        written.new ≡ 0 }
+    ensures unwritten { result ≢ ASM_DONE → out.new ≡ out.old }
+{
+    *written = 0;
+    let Some(mut both) = take_both(alloc, agent, step) else {
+        return EMPTY;
+    };
+    let code = get_in(alloc, &both.agent, &mut both.step, locations, out, written);
+    put_both(agent, step, both);
+    code
+}

@@ -1,0 +1,62 @@
+//! The trace of a journal.
+ghost use Rattle.std.specs.Prelude.{◌≡◌, ◌≢◌, ◌∷◌, [], length, string_bytes, IfOk, IfErr};
+ghost use Rattle.asm_journal.specs.Fault.{IsRefused};
+ghost use Rattle.asm_slots.specs.Codes.{IsOneOf, ASM_DONE, ASM_MEMORY, ASM_SMALL};
+ghost use Rattle.asm_slots.specs.Codes.{ASM_NOT_JSON, ASM_SHAPE, ASM_VERSION, ASM_CUT};
+ghost use Rattle.asm_slots.specs.Journals.{IsRefusal, IsTraceOf};
+ghost use Rattle.asm_slots.specs.Written.{IsTooLong, IsWritten};
+
+use crate::codes::copied;
+use crate::journals::code_of_error;
+use asm_aggregate::standard;
+use asm_journal::{JournalError, from_text};
+use asm_trace::trace_text;
+use std::alloc::{AllocError, Global};
+
+fn traced(alloc: Global, journal: &[u8]) -> Result<String, JournalError>
+    ensures ok { IfOk result (λ text. IsTraceOf journal.now (string_bytes text)) }
+    ensures err { IfErr result (IsRefused journal.now) }
+{
+    let history = from_text(alloc, journal)?;
+    match trace_text(alloc, &standard(), &history) {
+        Ok(text) => Ok(text),
+        Err(AllocError) => Err(JournalError::Memory),
+    }
+}
+
+/// Writes the trace of a journal, of version 1 or 2, legal or not: what each of its calls did.
+///
+/// `ASM_SMALL`: `written` is the room that it needs. `ASM_NOT_JSON` and `ASM_SHAPE`: a line is not JSON, or
+/// not that of a journal, and `line` is its number. `ASM_VERSION`, `ASM_CUT`, `ASM_MEMORY`. What a code
+/// doesn't set is 0.
+pub fn trace_journal(
+    alloc: Global,
+    journal: &[u8],
+    out: &mut [u8],
+    written: &mut usize,
+    line: &mut u64,
+) -> i32
+    ensures codes { IsOneOf (ASM_DONE ∷ ASM_MEMORY ∷ ASM_SMALL
+        ∷ ASM_NOT_JSON ∷ ASM_SHAPE ∷ ASM_VERSION ∷ ASM_CUT ∷ []) result }
+    ensures told { result ≡ ASM_DONE → IsWritten (IsTraceOf journal.now) out.new written.new }
+    ensures small { result ≡ ASM_SMALL →
+        IsTooLong (IsTraceOf journal.now) (length out.old) written.new }
+    ensures unwritten { result ≢ ASM_DONE → out.new ≡ out.old }
+    ensures refused { IsOneOf (ASM_NOT_JSON ∷ ASM_SHAPE ∷ ASM_VERSION ∷ ASM_CUT ∷ []) result →
+        IsRefusal journal.now result line.new }
+    ensures no_text { IsOneOf (ASM_MEMORY ∷ ASM_NOT_JSON ∷ ASM_SHAPE ∷ ASM_VERSION ∷ ASM_CUT ∷ []) result →
+        written.new ≡ 0 }
+    ensures no_line { IsOneOf (ASM_DONE ∷ ASM_MEMORY ∷ ASM_SMALL ∷ ASM_VERSION ∷ ASM_CUT ∷ []) result →
+        line.new ≡ 0 }
+{
+    *written = 0;
+    *line = 0;
+    match traced(alloc, journal) {
+        Ok(text) => copied(text.as_bytes(), out, written),
+        Err(error) => {
+            let (code, number) = code_of_error(error);
+            *line = number;
+            code
+        }
+    }
+}
