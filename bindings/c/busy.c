@@ -1,5 +1,6 @@
-/* A fire that loses 64 offers: while it is judged, which takes long, agents on two other threads fire.
- * Then all agents are given back and closed, or all slots released with what they hold. */
+/* A fire, and the commit of a step, that lose 64 offers: while they are judged, which takes long,
+ * agents on two other threads fire. Then all agents are given back and closed, or all slots
+ * released with what they hold. */
 #include "folugben.h"
 
 #include <inttypes.h>
@@ -14,8 +15,9 @@
 
 enum { OTHERS = 2, INSTRS = 4096, TRIES = 100, CAPACITY = 1000000 };
 
-static asm_slot storage, agents[OTHERS + 1];
+static asm_slot storage, agents[OTHERS + 1], step;
 static atomic_bool is_over;
+static char *move;
 
 static void require(bool holds, const char *what, int line) {
     if (!holds) {
@@ -41,21 +43,49 @@ static void *fire_short(void *agent) {
 }
 
 /* The text of a move that takes long to be judged. */
-static char *long_call(void) {
+static char *long_move(void) {
     char *text = malloc(INSTRS * 32 + 64);
     REQUIRE(text != NULL);
-    char *at = text + sprintf(text, "{\"fire\":[");
+    char *at = text + sprintf(text, "[");
     for (int i = 0; i < INSTRS; i++)
         at += sprintf(at, "%s[\"put\",[\"y\",%d],%d]", i ? "," : "", i, i);
-    sprintf(at, "],\"reads\":[[[\"y\",0],%d]]}", CAPACITY);
+    sprintf(at, "]");
     return text;
 }
 
+static int32_t fire_long(asm_slot *agent, asm_numbers *numbers) {
+    size_t room = strlen(move) + 64;
+    char *call = malloc(room);
+    REQUIRE(call != NULL);
+    snprintf(call, room, "{\"fire\":%s,\"reads\":[[[\"y\",0],%d]]}", move, CAPACITY);
+    int32_t code = asm_try_fire(agent, bytes(call), strlen(call), numbers);
+    free(call);
+    return code;
+}
+
+static void begin_step(asm_slot *agent) {
+    uint32_t number;
+    size_t written;
+    REQUIRE(asm_begin(agent, &step, &number) == ASM_DONE);
+    REQUIRE(asm_push(agent, &step, bytes(move), strlen(move), NULL, 0, &written) == ASM_DONE);
+}
+
+/* A step that was busy is committed again as it stands. */
+static int32_t commit_long(asm_slot *agent, asm_numbers *numbers) {
+    if (!step.full)
+        begin_step(agent);
+    int32_t code = asm_commit(agent, &step, numbers);
+    REQUIRE(step.full == (code != ASM_DONE) && asm_depth(&step) == step.full);
+    return code;
+}
+
+typedef int32_t fire(asm_slot *agent, asm_numbers *numbers);
+
 /* Whether the fire was busy; else it was fired, as its agent was quicker once. */
-static bool is_busy(asm_slot *agent, const char *call) {
+static bool is_busy(fire *call, asm_slot *agent) {
     asm_numbers numbers = {9, 9, 9};
     uint32_t seen = asm_seen(agent), won = asm_won(agent);
-    int32_t code = asm_try_fire(agent, bytes(call), strlen(call), &numbers);
+    int32_t code = call(agent, &numbers);
     if (code == ASM_DONE)
         return false;
     REQUIRE(code == ASM_BUSY && numbers.fired == 0);
@@ -64,20 +94,18 @@ static bool is_busy(asm_slot *agent, const char *call) {
     return true;
 }
 
-static void lose_64_offers(void) {
+static void lose_64_offers(fire *call) {
     pthread_t threads[OTHERS];
-    char *call = long_call();
     int tries = 0;
     is_over = false;
     for (int i = 0; i < OTHERS; i++)
         REQUIRE(!pthread_create(&threads[i], NULL, fire_short, &agents[i + 1]));
-    while (!is_busy(&agents[0], call))
+    while (!is_busy(call, &agents[0]))
         REQUIRE(++tries < TRIES);
     is_over = true;
     for (int i = 0; i < OTHERS; i++)
         REQUIRE(!pthread_join(threads[i], NULL));
-    REQUIRE(!is_busy(&agents[0], call));
-    free(call);
+    REQUIRE(!is_busy(call, &agents[0]));
 }
 
 /* The journal has no call that was busy. */
@@ -98,25 +126,31 @@ static void close_all(void) {
     asm_free(&storage);
 }
 
-/* Of moves that were fired, and of one that was offered in vain, nothing is left. */
+/* Of moves that were fired, of those that were offered in vain, and of one that was pushed alone,
+ * nothing is left. */
 static void release_all(void) {
     uint32_t number, moves;
+    begin_step(&agents[0]);
     REQUIRE(asm_moves(&storage, &moves) == ASM_DONE && moves >= asm_seen(&agents[0]));
     asm_free(&agents[0]);
     REQUIRE(asm_close(&storage, &number) == ASM_MISSING && number == 1);
     asm_free(&storage);
     for (int i = 1; i <= OTHERS; i++)
         asm_free(&agents[i]);
+    asm_free(&step);
 }
 
 int main(void) {
     const char *init = "[[[\"x\"],0]]";
+    move = long_move();
     for (int i = 0; i < 2; i++) {
         REQUIRE(asm_open(bytes(init), strlen(init), CAPACITY, &storage) == ASM_DONE);
         REQUIRE(asm_agents(&storage, agents, OTHERS + 1) == ASM_DONE);
-        lose_64_offers();
+        lose_64_offers(fire_long);
+        lose_64_offers(commit_long);
         i ? release_all() : close_all();
     }
+    free(move);
     puts("passed");
     return 0;
 }

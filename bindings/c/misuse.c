@@ -3,66 +3,45 @@
  * it isn't to change.
  *
  *     misuse [SEED [CALLS]] */
-#include "folugben.h"
+#include "misuse.h"
 
-#include <inttypes.h>
-#include <stdio.h>
-#include <stdlib.h>
-#include <string.h>
-
-enum { SLOTS = 12, STORAGES = 4096, NUMBERS = 12, MOVES = 8, ROOM = 4096 };
-
-#define REQUIRE(holds) require((holds), #holds, __LINE__)
-
-/* What a slot has to hold: nothing, a storage, or an agent with its number and a bit for each move
- * that it fired; of which storage. */
-typedef struct account {
-    enum { NOTHING, STORAGE, AGENT } kind;
-    unsigned storage, number, fired;
-    bool is_answered;
-} account;
-
-/* Of a storage: which agents were made, how many moves were fired, a bit for each of these of which an
- * agent that was given back has the receipt, and whether there is a journal. */
-typedef struct story {
-    bool made[NUMBERS], is_closed;
-    unsigned moves, told;
-} story;
-
-/* A text, and the codes that it gets as a state, as locations and as a move. */
-typedef struct text {
-    const char *bytes;
-    int32_t state, locations, move;
-} text;
+/* In the table of texts. */
+enum { D = ASM_DONE, S = ASM_SHAPE, N = ASM_NOT_JSON };
 
 static const text texts[] = {
-    {"[]", ASM_DONE, ASM_DONE, ASM_SHAPE},
-    {"[[[\"x\"],7]]", ASM_DONE, ASM_SHAPE, ASM_SHAPE},
-    {"[[\"x\"],[\"y\",1]]", ASM_SHAPE, ASM_DONE, ASM_SHAPE},
-    {"{\"fire\":[[\"inc\",[\"x\"],1]],\"reads\":[]}", ASM_SHAPE, ASM_SHAPE, ASM_DONE},
-    {"{\"fire\":[[\"put\",[\"y\",1],2]],\"reads\":[[[\"x\"],0]]}", ASM_SHAPE, ASM_SHAPE, ASM_DONE},
-    {"{\"read\":[]}", ASM_SHAPE, ASM_SHAPE, ASM_SHAPE},
-    {"\"x\"", ASM_SHAPE, ASM_SHAPE, ASM_SHAPE},
-    {"[[", ASM_NOT_JSON, ASM_NOT_JSON, ASM_NOT_JSON},
-    {"", ASM_NOT_JSON, ASM_NOT_JSON, ASM_NOT_JSON},
-    {"\xc3\x28", ASM_NOT_JSON, ASM_NOT_JSON, ASM_NOT_JSON},
-    {"{\"fire\":[],", ASM_NOT_JSON, ASM_NOT_JSON, ASM_NOT_JSON},
+    {"[]", D, D, S, D, D, -1, false, NO_CHANGE},
+    {"[[[\"x\"],7]]", D, S, S, D, S, 7, false, NO_CHANGE},
+    {"[[[\"x\"],0]]", D, S, S, D, S, 0, false, NO_CHANGE},
+    {"[[\"x\"],[\"y\",1]]", S, D, S, S, S, -1, true, NO_CHANGE},
+    {"{\"fire\":[[\"inc\",[\"x\"],1]],\"reads\":[]}", S, S, D, S, S, -1, false, RAISE_X},
+    {"{\"fire\":[[\"put\",[\"y\",1],2]],\"reads\":[[[\"x\"],0]]}", S, S, D, S, S, 0, false, PUT_Y},
+    {"[[\"inc\",[\"x\"],1]]", S, S, S, S, D, -1, false, RAISE_X},
+    {"[[\"put\",[\"y\",1],2]]", S, S, S, S, D, -1, false, PUT_Y},
+    {"{\"read\":[]}", S, S, S, S, S, -1, false, NO_CHANGE},
+    {"\"x\"", S, S, S, S, S, -1, false, NO_CHANGE},
+    {"[[", N, N, N, N, N, -1, false, NO_CHANGE},
+    {"", N, N, N, N, N, -1, false, NO_CHANGE},
+    {"\xc3\x28", N, N, N, N, N, -1, false, NO_CHANGE},
+    {"{\"fire\":[],", N, N, N, N, N, -1, false, NO_CHANGE},
 };
 
-static asm_slot slots[SLOTS];
-static account accounts[SLOTS];
-static story stories[STORAGES];
-static unsigned opened, last_seed;
+asm_slot slots[SLOTS];
+account accounts[SLOTS];
+story stories[STORAGES];
+unsigned opened;
+
+static unsigned last_seed;
 static unsigned long call_number;
 
-static void require(bool holds, const char *what, int line) {
+void require(bool holds, const char *what, const char *file, int line) {
     if (!holds) {
-        fprintf(stderr, "line %d, seed %u, call %lu: %s\n", line, last_seed, call_number, what);
+        fprintf(stderr, "%s: line %d, seed %u, call %lu: %s\n", file, line, last_seed, call_number,
+                what);
         exit(1);
     }
 }
 
-static unsigned below(unsigned bound) {
+unsigned below(unsigned bound) {
     static uint64_t state;
     if (state == 0)
         state = last_seed * UINT64_C(0x9E3779B97F4A7C15) + 1;
@@ -72,12 +51,43 @@ static unsigned below(unsigned bound) {
     return (unsigned)((state >> 20) % bound);
 }
 
-static const text *any_text(void) { return &texts[below(sizeof texts / sizeof *texts)]; }
+const text *any_text(void) { return &texts[below(sizeof texts / sizeof *texts)]; }
 
-/* The bytes of the text; null where there are none. */
-static const uint8_t *bytes(const text *t) { return *t->bytes ? (const uint8_t *)t->bytes : NULL; }
+const uint8_t *bytes(const text *t) { return *t->bytes ? (const uint8_t *)t->bytes : NULL; }
 
-static void is_now(unsigned at, account now) { accounts[at] = now; }
+world *latest(story *s) { return &s->worlds[s->moves]; }
+
+bool goes_on(const text *move, world *w) {
+    if (move->does == RAISE_X && w->x < 0)
+        return false;
+    w->x += move->does == RAISE_X;
+    w->y = move->does == PUT_Y ? 2 : w->y;
+    return true;
+}
+
+void was_fired(account *agent, world after) {
+    story *s = &stories[agent->storage];
+    agent->fired |= 1u << s->moves++;
+    *latest(s) = after;
+}
+
+void storage_is_made(unsigned at, unsigned capacity, world opening) {
+    accounts[at] = (account){.kind = STORAGE, .storage = opened};
+    stories[opened] = (story){.capacity = capacity, .worlds = {opening}};
+    opened++;
+}
+
+void stands_from(unsigned at, unsigned least) {
+    uint8_t out[ROOM];
+    unsigned number = 0;
+    size_t written;
+    REQUIRE(asm_peek(&slots[at], (const uint8_t *)"[]", 2, out, sizeof out - 1, &written) ==
+            ASM_DONE);
+    out[written] = 0;
+    REQUIRE(sscanf((const char *)out, "{\"number\":%u,\"values\":[]}", &number) == 1);
+    REQUIRE(least <= number && number <= stories[accounts[at].storage].moves);
+    accounts[at].stood = number;
+}
 
 static void opens(unsigned at) {
     const text *t = any_text();
@@ -90,7 +100,7 @@ static void opens(unsigned at) {
         return;
     REQUIRE(asm_open(bytes(t), strlen(t->bytes), capacity, &slots[at]) == wanted);
     if (wanted == ASM_DONE)
-        is_now(at, (account){STORAGE, opened++, 0, 0, false});
+        storage_is_made(at, capacity, (world){t->x, -1, 0, 0});
 }
 
 /* ASM_NUMBER where an agent with one of so many numbers from this one up was made. */
@@ -103,7 +113,7 @@ static int32_t was_made(unsigned storage, unsigned number, unsigned count) {
 
 static void agent_is_made(unsigned at, unsigned storage, unsigned number) {
     stories[storage].made[number] = true;
-    is_now(at, (account){AGENT, storage, number, 0, false});
+    accounts[at] = (account){.kind = AGENT, .storage = storage, .number = number};
 }
 
 static void makes_agent(unsigned of, unsigned at) {
@@ -134,26 +144,44 @@ static void makes_agents(unsigned of, unsigned at) {
 
 static void reads(unsigned at) {
     const text *t = any_text();
-    int32_t wanted = accounts[at].kind != AGENT ? ASM_EMPTY : t->locations;
+    account *a = &accounts[at];
+    int32_t wanted = a->kind != AGENT ? ASM_EMPTY : t->locations;
     REQUIRE(asm_read(&slots[at], bytes(t), strlen(t->bytes)) == wanted);
-    accounts[at].is_answered |= wanted == ASM_DONE;
+    a->is_answered |= wanted == ASM_DONE;
+    if (wanted == ASM_DONE)
+        a->stood = stories[a->storage].moves;
+}
+
+/* What a fire of the move is answered on the latest world, which then is the one after it. */
+static int32_t fire_answer(const text *t, const story *s, world *w) {
+    if (t->x >= 0 && w->x_at > (unsigned)t->x)
+        return ASM_STALE;
+    if (!goes_on(t, w))
+        return ASM_CLASH;
+    if (s->moves == s->capacity)
+        return ASM_FULL;
+    w->x_at = t->does == RAISE_X ? s->moves + 1 : w->x_at;
+    w->y_at = t->does == PUT_Y ? s->moves + 1 : w->y_at;
+    return ASM_DONE;
 }
 
 static void fires(unsigned at) {
     const text *t = any_text();
+    account *a = &accounts[at];
+    story *s = &stories[a->storage];
     asm_numbers numbers = {9, 9, 9};
-    int32_t code = asm_try_fire(&slots[at], bytes(t), strlen(t->bytes), &numbers);
-    bool is_answer = code == ASM_DONE || code == ASM_STALE || code == ASM_CLASH || code == ASM_FULL;
-    if (accounts[at].kind == AGENT && t->move == ASM_DONE)
-        REQUIRE(is_answer);
-    else
-        REQUIRE(code == (accounts[at].kind != AGENT ? ASM_EMPTY : t->move));
-    story *s = &stories[accounts[at].storage];
-    REQUIRE(numbers.fired == (code == ASM_DONE ? s->moves + 1 : 0));
+    world w = *latest(s);
+    bool is_answer = a->kind == AGENT && t->fire == ASM_DONE;
+    int32_t wanted = a->kind != AGENT ? ASM_EMPTY : is_answer ? fire_answer(t, s, &w) : t->fire;
+    REQUIRE(asm_try_fire(&slots[at], bytes(t), strlen(t->bytes), &numbers) == wanted);
+    REQUIRE(numbers.fired == (wanted == ASM_DONE ? s->moves + 1 : 0));
     REQUIRE(numbers.from == 0 && numbers.to == 0);
-    if (code == ASM_DONE)
-        accounts[at].fired |= 1u << s->moves++;
-    accounts[at].is_answered |= is_answer;
+    if (!is_answer)
+        return;
+    a->is_answered = true;
+    if (wanted == ASM_DONE)
+        was_fired(a, w);
+    stands_from(at, a->stood);
 }
 
 static void answers(unsigned at) {
@@ -184,15 +212,15 @@ static void counts(unsigned at) {
 }
 
 static void gives(unsigned to, unsigned at) {
-    const account a = accounts[at], s = accounts[to];
-    int32_t wanted = s.kind != STORAGE || a.kind != AGENT ? ASM_EMPTY
-                     : s.storage != a.storage             ? ASM_OTHER
-                                                          : ASM_DONE;
+    const account *a = &accounts[at], *of = &accounts[to];
+    int32_t wanted = of->kind != STORAGE || a->kind != AGENT ? ASM_EMPTY
+                     : of->storage != a->storage             ? ASM_OTHER
+                                                             : ASM_DONE;
     REQUIRE(asm_give(&slots[to], &slots[at]) == wanted);
     if (wanted == ASM_DONE) {
-        stories[a.storage].told |= a.fired;
-        stories[a.storage].is_closed = false;
-        is_now(at, (account){NOTHING, 0, 0, 0, false});
+        stories[a->storage].told |= a->fired;
+        stories[a->storage].is_closed = false;
+        accounts[at] = (account){.kind = NOTHING};
     }
 }
 
@@ -205,7 +233,10 @@ static void closes(unsigned at) {
     int32_t wanted = accounts[at].kind != STORAGE ? ASM_EMPTY : missing ? ASM_MISSING : ASM_DONE;
     REQUIRE(asm_close(&slots[at], &number) == wanted);
     REQUIRE(number == (wanted == ASM_MISSING ? missing : 0));
-    s->is_closed |= wanted == ASM_DONE;
+    if (wanted == ASM_DONE) {
+        s->is_closed = true;
+        s->closed = s->moves;
+    }
 }
 
 static void counts_moves(unsigned at) {
@@ -222,7 +253,7 @@ static void explains(void) {
     size_t written = 9, room = below(2) ? sizeof out : 0;
     int32_t form = (int32_t)below(6) - 1;
     int32_t found = form == ASM_FORM_LOCATIONS ? t->locations
-                    : form == ASM_FORM_MOVE    ? t->move
+                    : form == ASM_FORM_MOVE    ? t->fire
                     : form == ASM_FORM_STATE   ? t->state
                                                : ASM_SHAPE;
     int32_t wanted = form < 0 || form > ASM_FORM_EVENT ? ASM_RANGE
@@ -265,12 +296,16 @@ static void writes(unsigned at) {
 static void frees(unsigned at) {
     asm_free(&slots[at]);
     REQUIRE(slots[at].at == NULL);
-    is_now(at, (account){NOTHING, 0, 0, 0, false});
+    accounts[at] = (account){.kind = NOTHING};
 }
 
 /* One call on any slots, the same one for two of them at times. */
 static void calls_any(void) {
     unsigned at = below(SLOTS), other = below(6) ? below(SLOTS) : at;
+    if (below(3)) {
+        calls_any_step(at, other);
+        return;
+    }
     switch (below(13)) {
     case 0:
         opens(at);
@@ -317,8 +352,15 @@ int main(int argc, char **argv) {
     unsigned long calls = argc > 2 ? strtoul(argv[2], NULL, 10) : 100000;
     for (call_number = 0; call_number < calls; call_number++) {
         calls_any();
-        for (unsigned i = 0; i < SLOTS; i++)
+        for (unsigned i = 0; i < SLOTS; i++) {
             REQUIRE(slots[i].full == (accounts[i].kind != NOTHING));
+            REQUIRE(asm_depth(&slots[i]) == accounts[i].depth);
+            if (accounts[i].kind == AGENT) {
+                unsigned stood = accounts[i].stood;
+                stands_from(i, stood);
+                REQUIRE(accounts[i].stood == stood);
+            }
+        }
     }
     for (unsigned i = 0; i < SLOTS; i++)
         frees(i);

@@ -1,26 +1,27 @@
 /* One run of all calls on one thread, in which each call that has no memory is made again. It
- * prints the journal, so that runs with an allocation refused can be compared with one without:
+ * prints the journals, so that runs with an allocation refused can be compared with one without:
  *
  *     tools/refuse/run retry
  *
  * With an argument it tells besides how many calls had no memory. */
-#include "folugben.h"
-
-#include <inttypes.h>
-#include <stdio.h>
-#include <stdlib.h>
-#include <string.h>
+#include "tests.h"
 
 enum { ROOM = 4096 };
 
 static unsigned refused;
 
-#define REQUIRE(holds) require((holds), #holds, __LINE__)
-
 /* The code of the call, which is made once more where there was no memory. */
-#define AGAIN(call) again((call)) ? (call) : last_code
+#define AGAIN(call) (again((call)) ? (call) : last_code)
+
+/* The same with a call on the step, which is as it was where there was no memory. */
+#define ON_STEP(call) (again((call)) && is_as_it_was() ? (call) : last_code)
 
 static int32_t last_code;
+static asm_slot storage, agents[3], step;
+
+/* The depth of the step and what is seen through it, where its call began. */
+static uint32_t depth;
+static const char *seen;
 
 static bool again(int32_t code) {
     last_code = code;
@@ -29,67 +30,185 @@ static bool again(int32_t code) {
     return code == ASM_MEMORY;
 }
 
-static void require(bool holds, const char *what, int line) {
-    if (!holds) {
-        fprintf(stderr, "line %d: %s\n", line, what);
-        exit(1);
-    }
+/* Whether the buffer has this text. */
+static bool has(const uint8_t *out, size_t written, const char *wanted) {
+    return written == strlen(wanted) && !memcmp(out, json(wanted), written);
 }
-
-static const uint8_t *bytes(const char *text) { return (const uint8_t *)text; }
 
 static bool answers(asm_slot *agent, const char *wanted) {
     uint8_t out[ROOM];
     size_t written;
-    return (AGAIN(asm_answer(agent, out, sizeof out, &written))) == ASM_DONE &&
-           written == strlen(wanted) && !memcmp(out, wanted, written);
+    return AGAIN(asm_answer(agent, out, sizeof out, &written)) == ASM_DONE &&
+           has(out, written, wanted);
 }
 
-static void play(asm_slot *storage, asm_slot *agents) {
-    const char *locations = "[[\"x\"],[\"s\"]]";
-    const char *move =
-        "{\"fire\":[[\"put\",[\"x\"],8],[\"add\",[\"s\"],3]],\"reads\":[[[\"x\"],0]]}";
+/* The locations were got at the step's beginning. */
+static bool is_as_it_was(void) {
+    uint8_t out[ROOM];
+    size_t written;
+    REQUIRE(step.full && asm_depth(&step) == depth);
+    REQUIRE(AGAIN(asm_get(&agents[0], &step, TEXT("[['x'],['s']]"), out, sizeof out, &written)) ==
+            ASM_DONE);
+    REQUIRE(has(out, written, seen));
+    return true;
+}
+
+static void open_all(void) {
+    const char *init = "[[['x'],7],[['s'],{'set':[1,'two']}]]";
+    REQUIRE(AGAIN(asm_open(TEXT(init), 8, &storage)) == ASM_DONE);
+    REQUIRE(AGAIN(asm_agents(&storage, agents, 3)) == ASM_DONE);
+}
+
+static void play(void) {
+    const char *locations = "[['x'],['s']]";
+    const char *move = "{'fire':[['put',['x'],8],['add',['s'],3]],'reads':[[['x'],0]]}";
     asm_numbers numbers;
-    REQUIRE((AGAIN(asm_read(&agents[0], bytes(locations), strlen(locations)))) == ASM_DONE);
-    REQUIRE(answers(&agents[0], "{\"number\":0,\"values\":[7,{\"set\":[1,\"two\"]}]}"));
-    REQUIRE((AGAIN(asm_try_fire(&agents[0], bytes(move), strlen(move), &numbers))) == ASM_DONE);
+    REQUIRE(AGAIN(asm_read(&agents[0], TEXT(locations))) == ASM_DONE);
+    REQUIRE(answers(&agents[0], "{'number':0,'values':[7,{'set':[1,'two']}]}"));
+    REQUIRE(AGAIN(asm_try_fire(&agents[0], TEXT(move), &numbers)) == ASM_DONE);
     REQUIRE(numbers.fired == 1 && asm_won(&agents[0]) == 1);
-    REQUIRE(answers(&agents[0], "{\"fired\":1}"));
-    REQUIRE((AGAIN(asm_try_fire(&agents[1], bytes(move), strlen(move), &numbers))) == ASM_STALE);
+    REQUIRE(answers(&agents[0], "{'fired':1}"));
+    REQUIRE(AGAIN(asm_try_fire(&agents[1], TEXT(move), &numbers)) == ASM_STALE);
     REQUIRE(numbers.fired == 0 && asm_won(&agents[1]) == 0);
-    REQUIRE(answers(&agents[1], "{\"stale\":[\"x\"]}"));
-    REQUIRE((AGAIN(asm_learn(&agents[2], &agents[0]))) == ASM_DONE);
-    REQUIRE((AGAIN(asm_read(&agents[2], bytes(locations), strlen(locations)))) == ASM_DONE);
-    REQUIRE(answers(&agents[2], "{\"number\":1,\"values\":[8,{\"set\":[1,3,\"two\"]}]}"));
-    REQUIRE((AGAIN(asm_give(storage, &agents[2]))) == ASM_DONE);
-    REQUIRE((AGAIN(asm_give(storage, &agents[0]))) == ASM_DONE);
-    REQUIRE((AGAIN(asm_give(storage, &agents[1]))) == ASM_DONE);
+    REQUIRE(answers(&agents[1], "{'stale':['x']}"));
+    REQUIRE(AGAIN(asm_learn(&agents[2], &agents[0])) == ASM_DONE);
+    REQUIRE(AGAIN(asm_read(&agents[2], TEXT(locations))) == ASM_DONE);
+    REQUIRE(answers(&agents[2], "{'number':1,'values':[8,{'set':[1,3,'two']}]}"));
+}
+
+/* Looks at the agent's own state, which follows the one move, and makes no receipt. */
+static void look(asm_slot *agent) {
+    uint8_t out[ROOM];
+    size_t written;
+    uint32_t number;
+    REQUIRE(AGAIN(asm_follow(agent, &number)) == ASM_DONE && number == 1);
+    REQUIRE(AGAIN(asm_peek(agent, TEXT("[['x']]"), out, sizeof out, &written)) == ASM_DONE);
+    REQUIRE(has(out, written, "{'number':1,'values':[8]}"));
+    REQUIRE(AGAIN(asm_state(agent, &number, out, sizeof out, &written)) == ASM_DONE);
+    REQUIRE(number == 1 && has(out, written, "[[['s'],{'set':[1,3,'two']}],[['x'],8]]"));
+    REQUIRE(AGAIN(asm_scan(agent, TEXT("x"), &number, out, sizeof out, &written)) == ASM_DONE);
+    REQUIRE(number == 1 && has(out, written, "[[['x'],8]]"));
+    REQUIRE(AGAIN(asm_stands(agent, TEXT("[[['s'],1]]"), out, sizeof out, &written)) == ASM_DONE);
+    REQUIRE(AGAIN(asm_stands(agent, TEXT("[[['x'],0],[['s'],0]]"), out, sizeof out, &written)) ==
+            ASM_STALE);
+    REQUIRE(has(out, written, "{'stale':['s']}"));
+}
+
+static void begin(void) {
+    uint8_t out[ROOM];
+    size_t written;
+    uint32_t number;
+    REQUIRE(AGAIN(asm_begin(&agents[0], &step, &number)) == ASM_DONE && number == 1);
+    depth = 0;
+    seen = "{'number':1,'values':[8,{'set':[1,3,'two']}]}";
+    REQUIRE(AGAIN(asm_get(&agents[0], &step, TEXT("[['x'],['s']]"), out, sizeof out, &written)) ==
+            ASM_DONE);
+    REQUIRE(has(out, written, seen) && asm_depth(&step) == 0);
+}
+
+static void push(const char *move, const char *left) {
+    uint8_t out[ROOM];
+    size_t written;
+    REQUIRE(ON_STEP(asm_push(&agents[0], &step, TEXT(move), out, sizeof out, &written)) ==
+            ASM_DONE);
+    depth++;
+    seen = left;
+    is_as_it_was();
+}
+
+static void run_step(void) {
+    const char *bad = "[['add',['x'],1]]", *more = "[['inc',['x'],2],['put',['y'],'why']]";
+    uint8_t out[ROOM];
+    size_t written;
+    asm_numbers numbers;
+    begin();
+    push("[['put',['x'],20]]", "{'number':1,'values':[20,{'set':[1,3,'two']}]}");
+    push("[['remove',['s'],'two']]", "{'number':1,'values':[20,{'set':[1,3]}]}");
+    REQUIRE(ON_STEP(asm_extend(&agents[0], &step, TEXT(more), out, sizeof out, &written)) ==
+            ASM_DONE);
+    seen = "{'number':1,'values':[22,{'set':[1,3]}]}";
+    is_as_it_was();
+    REQUIRE(ON_STEP(asm_push(&agents[0], &step, TEXT(bad), out, sizeof out, &written)) ==
+            ASM_CLASH);
+    REQUIRE(has(out, written, "{'clash':[['x'],'Kind']}"));
+    REQUIRE(ON_STEP(asm_extend(&agents[0], &step, TEXT(bad), out, sizeof out, &written)) ==
+            ASM_CLASH);
+    REQUIRE(ON_STEP(asm_get_all(&agents[0], &step, TEXT("y"), out, sizeof out, &written)) ==
+            ASM_DONE);
+    REQUIRE(has(out, written, "[[['y'],'why']]"));
+    push("[['inc',['x'],1]]", "{'number':1,'values':[23,{'set':[1,3]}]}");
+    REQUIRE(AGAIN(asm_pop(&step)) == ASM_DONE);
+    depth--;
+    seen = "{'number':1,'values':[22,{'set':[1,3]}]}";
+    REQUIRE(ON_STEP(asm_commit(&agents[0], &step, &numbers)) == ASM_DONE);
+    REQUIRE(numbers.fired == 2 && !step.full && asm_won(&agents[0]) == 2);
+}
+
+static void compute(void) {
+    const char *put = "[['put',['x'],1]]", *raise = "[['inc',['x'],2]]";
+    uint8_t out[ROOM];
+    size_t written;
+    REQUIRE(AGAIN(asm_aggregate(TEXT("[[['x'],1]]"), TEXT(raise), out, sizeof out, &written)) ==
+            ASM_DONE);
+    REQUIRE(has(out, written, "[[['x'],3]]"));
+    REQUIRE(AGAIN(asm_aggregate(TEXT("[]"), TEXT(raise), out, sizeof out, &written)) == ASM_CLASH);
+    REQUIRE(has(out, written, "{'clash':[['x'],'Kind']}"));
+    REQUIRE(AGAIN(asm_compose(TEXT(put), TEXT(raise), out, sizeof out, &written)) == ASM_DONE);
+    REQUIRE(has(out, written, "[['put',['x'],3]]"));
+    REQUIRE(AGAIN(asm_compose(TEXT("[['bagremove',['b'],1,4294967295]]"),
+                              TEXT("[['bagremove',['b'],1,1]]"), out, sizeof out, &written)) ==
+            ASM_LARGE);
+    REQUIRE(has(out, written, "{'large':['b']}"));
+    REQUIRE(AGAIN(asm_explain(ASM_FORM_LOCATIONS, TEXT("[7]"), out, sizeof out, &written)) ==
+            ASM_DONE);
+    REQUIRE(
+        has(out, written, "location 1: a location is an array of a name and at most 8 arguments"));
+}
+
+/* Closes the storage of so many agents, checks its journal and prints it. */
+static void close_all(asm_slot *of, size_t count, uint64_t calls, uint32_t moves,
+                      const char *wanted) {
+    static uint8_t journal[ROOM], state[ROOM];
+    size_t len, written;
+    uint64_t found, line;
+    uint32_t number;
+    for (size_t i = count; i > 0; i--)
+        REQUIRE(AGAIN(asm_give(of, &agents[i - 1])) == ASM_DONE);
+    REQUIRE(AGAIN(asm_moves(of, &number)) == ASM_DONE && number == moves);
+    REQUIRE(AGAIN(asm_close(of, &number)) == ASM_DONE && number == 0);
+    REQUIRE(AGAIN(asm_journal(of, journal, sizeof journal, &len)) == ASM_DONE);
+    REQUIRE(AGAIN(asm_check(journal, len, &found, &number)) == ASM_DONE);
+    REQUIRE(found == calls && number == moves);
+    REQUIRE(AGAIN(asm_replay(journal, len, state, sizeof state, &written, &line)) == ASM_DONE);
+    REQUIRE(has(state, written, wanted));
+    REQUIRE(fwrite(journal, 1, len, stdout) == len && !fflush(stdout));
+}
+
+/* The run goes on in a storage that opens with what the first left. */
+static void go_on(const char *left) {
+    asm_slot next = {0}, was = storage;
+    if (again(asm_next(&storage, 4, &next))) {
+        REQUIRE(!next.full && is_same(storage, was));
+        last_code = asm_next(&storage, 4, &next);
+    }
+    REQUIRE(last_code == ASM_DONE);
+    asm_free(&storage);
+    REQUIRE(AGAIN(asm_agent(&next, 0, &agents[0])) == ASM_DONE);
+    REQUIRE(AGAIN(asm_read(&agents[0], TEXT("[['x'],['y']]"))) == ASM_DONE);
+    REQUIRE(answers(&agents[0], "{'number':0,'values':[22,'why']}"));
+    close_all(&next, 1, 1, 0, left);
+    asm_free(&next);
 }
 
 int main(int argc, char **argv) {
-    static uint8_t journal[ROOM], state[ROOM];
-    const char *init = "[[[\"x\"],7],[[\"s\"],{\"set\":[1,\"two\"]}]]";
-    const char *said = "location 1: a location is an array of a name and at most 8 arguments";
-    const char *left = "[[[\"s\"],{\"set\":[1,3,\"two\"]}],[[\"x\"],8]]";
-    asm_slot storage = {0}, agents[3] = {{0}, {0}, {0}};
-    size_t len, written;
-    uint64_t calls, line;
-    uint32_t number;
-    REQUIRE((AGAIN(asm_open(bytes(init), strlen(init), 8, &storage))) == ASM_DONE);
-    REQUIRE((AGAIN(asm_agents(&storage, agents, 3))) == ASM_DONE);
-    play(&storage, agents);
-    REQUIRE((AGAIN(asm_moves(&storage, &number))) == ASM_DONE && number == 1);
-    REQUIRE((AGAIN(asm_close(&storage, &number))) == ASM_DONE && number == 0);
-    REQUIRE((AGAIN(asm_journal(&storage, journal, sizeof journal, &len))) == ASM_DONE);
-    REQUIRE((AGAIN(asm_check(journal, len, &calls, &number))) == ASM_DONE && calls == 4 &&
-            number == 1);
-    REQUIRE((AGAIN(asm_replay(journal, len, state, sizeof state, &written, &line))) == ASM_DONE);
-    REQUIRE(written == strlen(left) && !memcmp(state, left, written));
-    REQUIRE((AGAIN(asm_explain(ASM_FORM_LOCATIONS, bytes(init), strlen(init), state, sizeof state,
-                               &written))) == ASM_DONE);
-    REQUIRE(written == strlen(said) && !memcmp(state, said, written));
-    asm_free(&storage);
-    REQUIRE(fwrite(journal, 1, len, stdout) == len && !fflush(stdout));
+    const char *left = "[[['s'],{'set':[1,3]}],[['x'],22],[['y'],'why']]";
+    open_all();
+    play();
+    look(&agents[1]);
+    run_step();
+    compute();
+    close_all(&storage, 3, 5, 2, left);
+    go_on(left);
     if (argc > 1)
         printf("%s %u\n", argv[1], refused);
     return 0;

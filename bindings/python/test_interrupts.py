@@ -5,7 +5,7 @@ import unittest
 from collections.abc import Callable
 from unittest import mock
 
-from folugben import Nested, Storage, _storage
+from folugben import Nested, Storage, _agent
 from threads import in_threads
 
 
@@ -81,12 +81,18 @@ class Interrupts(unittest.TestCase):
         self.assertEqual(in_threads(lambda _: other.learn(self.agent), 1), ([], True))
 
     def test_no_call_comes_between_a_read_and_its_answer(self):
-        answer, other, dropped = _storage.lib.asm_answer, self.storage.agent(1), [self.storage.agent(2)]
-        slot = dropped[0]._slot
+        answer, other, dropped = _agent.lib.asm_answer, self.storage.agent(1), [self.storage.agent(2)]
+        slot, step = dropped[0]._slot, self.agent.step()
 
         def between(*arguments):
             for call in (self.agent.answer, self.agent.give, self.agent.free, self.agent.__exit__, self.storage.free):
                 self.assertRaises(Nested, call)
+            for call in (self.agent.step, self.agent.follow, self.agent.state, self.storage.next):
+                self.assertRaises(Nested, call)
+            for call in (step.pop, step.fire, step.free):
+                self.assertRaises(Nested, call)
+            self.assertRaises(Nested, step.get, [["other"]])
+            self.assertRaises(Nested, step.push, [])
             self.assertRaises(Nested, self.agent.read, [["other"]])
             self.assertRaises(Nested, self.agent.fire, [])
             # These would wait for a lock of this thread if another one were at the same call.
@@ -96,9 +102,10 @@ class Interrupts(unittest.TestCase):
             dropped.clear()
             return answer(*arguments)
 
-        with mock.patch.object(_storage.lib, "asm_answer", between):
+        with mock.patch.object(_agent.lib, "asm_answer", between):
             self.assertEqual(self.agent.read([["own"]]), (0, [1]))
         self.assertFalse(slot.full or dropped)
+        self.assertEqual((step.get([["own"]]), step.depth), ([1], 0))
         self.assert_fit()
 
 

@@ -5,9 +5,10 @@ import com.sun.jna.Memory;
 import java.util.Objects;
 
 /**
- * An agent of a storage, which reads locations and fires moves. Texts are JSON in the forms of
- * docs/FORMATS.md; one with a lone surrogate is refused by an IllegalArgumentException. Any thread
- * may call it. Nothing is released by the garbage collector; call close().
+ * An agent of a storage, which reads locations and fires moves, most easily by a {@link Step}.
+ * Texts are JSON in the forms of docs/FORMATS.md; one with a lone surrogate is refused by an
+ * IllegalArgumentException. Any thread may call it. Nothing is released by the garbage collector;
+ * call close().
  */
 public final class Agent implements AutoCloseable {
     private static final Object LEARNING = new Object();
@@ -22,20 +23,28 @@ public final class Agent implements AutoCloseable {
     }
 
     /**
-     * What became of a fire. `answer` is the text {"stale":LOC} or {"clash":[LOC,CAUSE]} of a fire
-     * that was answered so, and else null.
+     * What became of a fire, or of reads that were looked at again. `answer` is the text
+     * {"stale":LOC} or {"clash":[LOC,CAUSE]} of what was answered so, and else null.
      */
     public record Reply(int code, int move, int from, int to, String answer) {
-        /** Whether the move was fired; `move` is then its number. */
+        /** Whether a move was fired; `move` is then its number, from 1 up. */
         public boolean isFired() {
-            return code == FolugbenException.DONE;
+            return code == FolugbenException.DONE && move != 0;
+        }
+
+        /** Whether a named location was written since it was read. */
+        public boolean isStale() {
+            return code == FolugbenException.STALE;
         }
 
         /** Whether a named location was written since it was read, or 64 offers were lost. */
         public boolean shouldRetry() {
-            return code == FolugbenException.STALE || code == FolugbenException.BUSY;
+            return isStale() || code == FolugbenException.BUSY;
         }
     }
+
+    /** A state [PAIR, ..], or a part of it, after so many moves. */
+    public record State(int number, String pairs) {}
 
     /** Reads the locations [LOC, ..]; the answer is {"number":N,"values":[VALUE, ..]}. */
     public String read(String locations) {
@@ -58,13 +67,107 @@ public final class Agent implements AutoCloseable {
         int[] numbers = new int[3];
         synchronized (slot) {
             int code = Calls.asm_try_fire(slot, call, call.length, numbers);
-            String answer = null;
-            switch (code) {
-                case FolugbenException.STALE, FolugbenException.CLASH -> answer = answer();
-                case FolugbenException.FULL, FolugbenException.BUSY -> {}
-                default -> FolugbenException.expectRead(code, Storage.Form.MOVE, call);
-            }
-            return new Reply(code, numbers[0], numbers[1], numbers[2], answer);
+            if (code == FolugbenException.NOT_JSON || code == FolugbenException.SHAPE)
+                FolugbenException.expectRead(code, Storage.Form.MOVE, call);
+            return reply(code, numbers);
+        }
+    }
+
+    /** What became of a fire with this code, on which the agent's lock is still held. */
+    Reply reply(int code, int[] numbers) {
+        String answer = null;
+        switch (code) {
+            case FolugbenException.STALE, FolugbenException.CLASH -> answer = answer();
+            case FolugbenException.FULL, FolugbenException.BUSY -> {}
+            default -> FolugbenException.expect(code);
+        }
+        return new Reply(code, numbers[0], numbers[1], numbers[2], answer);
+    }
+
+    /**
+     * Begins a step on the agent's own state, which follows all moves that are found first. Several
+     * steps may be under way, as long as the state doesn't move on.
+     */
+    public Step step() {
+        synchronized (slot) {
+            return new Step(this);
+        }
+    }
+
+    /**
+     * Has the agent's own state follow all moves that are found; how many it has then seen. That
+     * state moves on only here and in read, fire, stands and step, and as a step is fired. No
+     * receipt is made: a look isn't in the journal.
+     */
+    public int follow() {
+        int[] number = new int[1];
+        synchronized (slot) {
+            FolugbenException.expect(Calls.asm_follow(slot, number));
+        }
+        return number[0];
+    }
+
+    /**
+     * The values of the locations [LOC, ..], any number of them, in the agent's own state, as
+     * {"number":N,"values":[VALUE, ..]}. It makes neither a look nor a receipt; a fire may name
+     * each location with this number.
+     */
+    public String peek(String locations) {
+        byte[] call = Texts.utf8(locations, "locations");
+        synchronized (slot) {
+            Calls.Told told = Calls.told(
+                    (out, room, written)
+                            -> Calls.asm_peek(slot, call, call.length, out, room, written),
+                    Calls.ROOM);
+            FolugbenException.expectRead(told.code(), Storage.Form.LOCATIONS, call);
+            return told.text();
+        }
+    }
+
+    /** The agent's own state, in ascending order of locations, without a look or a receipt. */
+    public State state() {
+        int[] number = new int[1];
+        synchronized (slot) {
+            String pairs = Calls.text((out, room, written)
+                                              -> Calls.asm_state(slot, number, out, room, written),
+                    Calls.ROOM);
+            return new State(number[0], pairs);
+        }
+    }
+
+    /**
+     * The same with the locations of one function name alone. A fire that names each that was found
+     * doesn't notice that a further one is written later.
+     */
+    public State scan(String name) {
+        byte[] bytes = Texts.utf8(name, "name");
+        int[] number = new int[1];
+        synchronized (slot) {
+            String pairs = Calls.text(
+                    (out, room, written)
+                            -> Calls.asm_scan(
+                                    slot, bytes, bytes.length, number, out, room, written),
+                    Calls.ROOM);
+            return new State(number[0], pairs);
+        }
+    }
+
+    /**
+     * Looks on, as follow does, and tells whether the named reads [NAMED, ..], at most 256, still
+     * stand: the reply is DONE, or STALE for the least location that was written since. A fire may
+     * still be refused, by a move that comes in between.
+     */
+    public Reply stands(String reads) {
+        byte[] call = Texts.utf8(reads, "reads");
+        synchronized (slot) {
+            Calls.Told told = Calls.told(
+                    (out, room, written)
+                            -> Calls.asm_stands(slot, call, call.length, out, room, written),
+                    Calls.ROOM);
+            if (told.code() == FolugbenException.STALE)
+                return new Reply(told.code(), 0, 0, 0, told.text());
+            FolugbenException.expectReads(told.code(), reads);
+            return new Reply(told.code(), 0, 0, 0, null);
         }
     }
 

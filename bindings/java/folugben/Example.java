@@ -7,14 +7,18 @@ import java.util.regex.Matcher;
 import java.util.regex.Pattern;
 
 /**
- * Eight agents on threads add to one count; their journal is closed, checked and replayed. With an
- * argument the journal is written to that file.
+ * A bank: eight agents on threads transfer money between accounts, each transfer by the two moves
+ * of a step, of which the second sees what the first left. The sum stays, and the journal is legal.
+ * With an argument the journal is written to that file.
  */
 public final class Example {
     static final int AGENTS = 8;
-    static final int TIMES = 500;
-    static final Pattern READ =
-            Pattern.compile("\\{\"number\":(\\d+),\"values\":\\[(-?\\d+)\\]\\}");
+    static final int ACCOUNTS = 5;
+    static final int TIMES = 200;
+    static final int OPENING = 100;
+    static final Pattern NUMBER =
+            Pattern.compile("\\{\"number\":(\\d+),\"values\":\\[(\\d+)\\]\\}");
+    static final Pattern ACCOUNT = Pattern.compile("\\[\\[\"account\",\\d+\\],(\\d+)\\]");
 
     private Example() {}
 
@@ -23,26 +27,65 @@ public final class Example {
             throw new IllegalStateException("not so: " + what);
     }
 
-    /** Adds 1 to the count so many times. */
+    static String account(int number) {
+        return "[\"account\"," + number + "]";
+    }
+
+    /** What the step sees at the account. */
+    static long balance(Step step, String account) {
+        Matcher told = NUMBER.matcher(step.get("[" + account + "]"));
+        require(told.matches() && told.group(1).equals("" + step.number()), "a number is seen");
+        return Long.parseLong(told.group(2));
+    }
+
+    static void pushBalance(Step step, String account, long balance) {
+        step.push("[[\"put\"," + account + "," + balance + "]]");
+    }
+
+    /** Transfers the amount, or what is there of it; whether no other agent was quicker. */
+    static boolean transfer(Agent agent, String from, String to, long amount) {
+        try (Step step = agent.step()) {
+            long there = balance(step, from);
+            long moved = Math.min(amount, there);
+            pushBalance(step, from, there - moved);
+            pushBalance(step, to, balance(step, to) + moved);
+            Agent.Reply reply = step.fire();
+            require(reply.isFired() || reply.shouldRetry(), "it is fired, or to be tried again");
+            return reply.isFired();
+        }
+    }
+
     static void work(Agent agent, int own) {
         for (int done = 0; done < TIMES;) {
-            Matcher read = READ.matcher(agent.read("[[\"count\"]]"));
-            require(read.matches(), "a number was read");
-            long count = Long.parseLong(read.group(2));
-            Agent.Reply reply = agent.fire("[[\"put\",[\"count\"]," + (count + 1)
-                            + "],[\"put\",[\"own\"," + own + "]," + (done + 1) + "]]",
-                    "[[[\"count\"]," + read.group(1) + "]]");
-            if (reply.shouldRetry())
-                continue;
-            require(reply.isFired() && reply.move() == count + 1,
-                    "the move after those that were read");
-            done++;
+            // Sometimes from an account to itself.
+            String from = account((own + done) % ACCOUNTS);
+            String to = account((own + 3 * done) % ACCOUNTS);
+            if (transfer(agent, from, to, 1 + done % 70))
+                done++;
         }
+    }
+
+    /** The sum of the accounts among the pairs of a state. */
+    static long sum(String pairs) {
+        long sum = 0;
+        Matcher account = ACCOUNT.matcher(pairs);
+        for (int i = 0; i < ACCOUNTS; i++) {
+            require(account.find(), "all accounts are there");
+            sum += Long.parseLong(account.group(1));
+        }
+        return sum;
+    }
+
+    static String opening() {
+        StringBuilder pairs = new StringBuilder();
+        for (int i = 0; i < ACCOUNTS; i++)
+            pairs.append(i > 0 ? "," : "").append("[" + account(i) + "," + OPENING + "]");
+        return "[" + pairs + "]";
     }
 
     /** The journal of eight threads, checked. */
     static String play() throws InterruptedException {
-        try (Storage storage = new Storage("[[[\"count\"],0]]", AGENTS * TIMES)) {
+        try (Storage storage = new Storage(opening(), AGENTS * TIMES)) {
             Agent[] agents = new Agent[AGENTS];
             Thread[] threads = new Thread[AGENTS];
             for (int i = 0; i < AGENTS; i++) {
@@ -52,25 +95,15 @@ public final class Example {
             }
             for (Thread thread : threads) thread.start();
             for (Thread thread : threads) thread.join();
-            StringBuilder state = new StringBuilder("[[[\"count\"]," + AGENTS * TIMES + "]");
-            try (Agent reader = storage.agent(AGENTS)) {
-                for (Agent agent : agents) reader.learn(agent);
-                for (int i = 0; i < AGENTS; i++) {
-                    Matcher own = READ.matcher(reader.read("[[\"own\"," + i + "]]"));
-                    require(own.matches() && own.group(1).equals("" + AGENTS * TIMES),
-                            "all moves are seen");
-                    state.append(",[[\"own\"," + i + "]," + own.group(2) + "]");
-                }
-                reader.give();
-            }
-            for (int i = AGENTS; i > 0; i--) {
-                require(agents[i - 1].won() == TIMES, "each agent fired so many moves");
-                agents[i - 1].give();
+            require(agents[0].follow() == AGENTS * TIMES, "all moves are seen");
+            require(sum(agents[0].scan("account").pairs()) == ACCOUNTS * OPENING, "the sum stays");
+            for (Agent agent : agents) {
+                require(agent.won() == TIMES, "each agent fired so many moves");
+                agent.give();
             }
             String journal = storage.closeJournal();
             require(Storage.check(journal).moves() == AGENTS * TIMES, "the journal has all moves");
-            require(Storage.replay(journal).equals(state + "]"),
-                    "it leaves the state that was read last");
+            require(sum(Storage.replay(journal)) == ACCOUNTS * OPENING, "they leave the sum");
             return journal;
         }
     }

@@ -25,14 +25,22 @@ public final class FolugbenException extends RuntimeException {
     public static final int VERSION = 18;
     public static final int CUT = 19;
     public static final int LARGE = 20;
+    public static final int MOVED = 21;
+    public static final int DEEP = 22;
 
     private final int code;
     private final long number;
+    private final String answer;
 
-    private FolugbenException(int code, long number, String said, String where) {
+    private FolugbenException(int code, long number, String said, String where, String answer) {
         super(message(code, said) + (where.isEmpty() ? "" : " (" + where + ")"));
         this.code = code;
         this.number = number;
+        this.answer = answer;
+    }
+
+    private FolugbenException(int code, long number, String said, String where) {
+        this(code, number, said, where, null);
     }
 
     /** What the code means, with what is said of the text that is refused. */
@@ -53,6 +61,14 @@ public final class FolugbenException extends RuntimeException {
      */
     public long number() {
         return number;
+    }
+
+    /**
+     * The text {"clash":[LOC,CAUSE]} of a CLASH, or {"large":LOC} of a LARGE, of a move that wasn't
+     * pushed, aggregated or composed; else null.
+     */
+    public String answer() {
+        return answer;
     }
 
     /** What the number of a code counts; null where a code has none. */
@@ -95,12 +111,69 @@ public final class FolugbenException extends RuntimeException {
 
     /** What is expected of the code of a call that was passed a text of this form. */
     static void expectRead(int code, Storage.Form form, byte[] text) {
-        expect(code, code == NOT_JSON || code == SHAPE ? Calls.explain(form, text) : "");
+        expect(code, isMisread(code) ? Calls.explain(form, text) : "");
+    }
+
+    private static boolean isMisread(int code) {
+        return code == NOT_JSON || code == SHAPE;
+    }
+
+    /** What is expected of the code of a call that was passed a move [INSTR, ..]. */
+    static void expectMove(int code, String move, String name) {
+        expectPart(code, move, withoutReads(move), name);
+    }
+
+    /** What is expected of the code of a call that was passed named reads [NAMED, ..]. */
+    static void expectReads(int code, String reads) {
+        expectPart(code, reads, "{\"fire\":[],\"reads\":" + reads + "}", "");
+    }
+
+    /** What is expected of the code of a call on a state and a move, in this order. */
+    static void expectStateAndMove(int code, String state, String move) {
+        String said = isMisread(code) ? explain(Storage.Form.STATE, state) : "";
+        if (!said.isEmpty())
+            throw new FolugbenException(code, 0, said, "state");
+        expectMove(code, move, "move");
+    }
+
+    /** What is expected of the code of a call on two moves, in this order. */
+    static void expectMoves(int code, String first, String second) {
+        if (isMisread(code) && !explain(Storage.Form.MOVE, withoutReads(first)).isEmpty())
+            expectMove(code, first, "first");
+        expectMove(code, second, "second");
+    }
+
+    private static String withoutReads(String move) {
+        return "{\"fire\":" + move + ",\"reads\":[]}";
+    }
+
+    private static String explain(Storage.Form form, String text) {
+        return Calls.explain(form, Texts.utf8(text, "text"));
+    }
+
+    /**
+     * A part of a move's text, if it is JSON, is explained within the whole; the byte at which it
+     * isn't is one of its own.
+     */
+    private static void expectPart(int code, String part, String whole, String name) {
+        if (!isMisread(code)) {
+            expect(code);
+            return;
+        }
+        String said = code == NOT_JSON ? explain(Storage.Form.LOCATIONS, part)
+                                       : explain(Storage.Form.MOVE, whole);
+        throw new FolugbenException(code, 0, said, name);
+    }
+
+    /** What is expected of a call that may tell why a move can't be made. */
+    static void expectNoObjection(Calls.Told told) {
+        if (told.code() == CLASH || told.code() == LARGE)
+            throw new FolugbenException(told.code(), 0, told.text(), "", told.text());
     }
 
     /** What is expected of the code of a call on a journal, with the number of a call or a line. */
     static void expectJournal(int code, byte[] journal, long number) {
-        boolean isLine = (code == NOT_JSON || code == SHAPE) && number > 1;
+        boolean isLine = isMisread(code) && number > 1;
         String said = isLine ? Calls.explain(Storage.Form.EVENT, Texts.line(journal, number)) : "";
         expect(code, said, number);
     }

@@ -14,6 +14,8 @@ public final class Storage implements AutoCloseable {
     /** The storage's slot, and the lock of the calls on it. */
     private final Memory slot = Calls.slot();
 
+    private Storage() {}
+
     /** A storage with the opening state [PAIR, ..], for 1 to 1,048,576 moves. */
     public Storage(String init, int capacity) {
         byte[] state = Texts.utf8(init, "init");
@@ -61,6 +63,21 @@ public final class Storage implements AutoCloseable {
                                       -> Calls.asm_journal(slot, out, room, written),
                     Calls.ROOM);
         }
+    }
+
+    /**
+     * A storage for 1 to 1,048,576 moves that goes on where this one, whose journal was closed,
+     * ended: it opens with the state that the journal's moves leave, and its agents start anew. The
+     * journals of both, one after the other, tell one run.
+     *
+     * @throws FolugbenException NONE if no journal was closed since an agent was given back
+     */
+    public Storage next(int capacity) {
+        Storage next = new Storage();
+        synchronized (slot) {
+            FolugbenException.expect(Calls.asm_next(slot, capacity, next.slot));
+        }
+        return next;
     }
 
     /** Releases it. Its agents go on, and can't be given back any more. */

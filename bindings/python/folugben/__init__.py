@@ -10,15 +10,25 @@ others into a journal:
             agent.fire([["put", ["count"], count + 1]], [[["count"], number]])
         journal = storage.close_journal()
 
-Any thread may call an Agent or a Storage: each has a lock, so that no slot is in two calls at the same time. ctypes releases
-the interpreter's lock while a call runs, so agents in different threads do run at the same time. Of the header's calls only
-asm_agents has no method here: call `Storage.agent` for each number. A storage makes one agent of each number.
+An engine's agent works in steps. All that a step gets is of one state; what it pushes is seen by what comes after that, and
+is fired as one move, which alone stands in the journal:
+
+    with agent.step() as step:
+        (count,) = step.get([["count"]])
+        step.push([["put", ["count"], count + 1]])
+        step.push([["put", ["double"], 2 * step.get([["count"]])[0]]])
+        step.fire()
+
+Any thread may call a Storage, an Agent or a Step: each has a lock, a Step that of its agent, so that no slot is in two
+calls at the same time. ctypes releases the interpreter's lock while a call runs, so agents in different threads do run at
+the same time. Of the header's calls only asm_agents has no method here: call `Storage.agent` for each number. A storage
+makes one agent of each number.
 
 The journal tells every move: where an agent that fired was freed and not given back, `close_journal` raises `Missing` for
 good. A `with` gives its agent back. The error of a refused text says where and why, as `explain` does.
 
-Signal handlers and finalizers should call neither: where one interrupts a call of its own thread, on whichever agent or
-storage, its calls raise `Nested` and do nothing. A handler does better to set a flag. An exception that it lets through ends
+Signal handlers and finalizers should call none of these: where one interrupts a call of its own thread, on whichever of
+them, its calls raise `Nested` and do nothing. A handler does better to set a flag. An exception that it lets through ends
 the call which it interrupted, though the library may have answered that one: `Agent.answer` tells.
 
 The storage tells true from 1 and false from 0, but in Python True == 1 and False == 0, and equal keys are one. So don't
@@ -26,16 +36,20 @@ hold elements in Python's sets or as keys of its dicts: {True, 1} has one item, 
 here, has two. Likewise ["f", True] and ["f", 1] are two locations, and a value that was read as true equals 1; compare by
 `is True` where both may occur.
 """
-from ._errors import BadJournal, Busy, Clash, Error, Full, Missing, Stale, error_text, explain
+from ._agent import Agent
+from ._errors import BadJournal, Busy, Clash, Deep, Error, Full, Large, Many, Missing, Moved, Over, Stale
+from ._errors import error_text, explain
+from ._functions import aggregate, check, compose, replay, version
 from ._held import Nested
-from ._library import BUSY, CLASH, CUT, DONE, EMPTY, EVENT, FULL, ILLEGAL, LARGE, LOCATIONS, MANY, MEMORY, MISSING, MOVE
-from ._library import NONE, NOT_JSON, NUMBER, OTHER, RANGE, SHAPE, SMALL, STALE, STATE, TAKEN, VERSION
-from ._storage import Agent, Storage, check, replay, version
+from ._library import BUSY, CLASH, CUT, DEEP, DONE, EMPTY, EVENT, FULL, ILLEGAL, LARGE, LOCATIONS, MANY, MEMORY, MISSING
+from ._library import MOVE, MOVED, NONE, NOT_JSON, NUMBER, OTHER, RANGE, SHAPE, SMALL, STALE, STATE, TAKEN, VERSION
+from ._step import Step
+from ._storage import Storage
 
 __all__ = [
-    "Agent", "BadJournal", "Busy", "Clash", "Error", "Full", "Missing", "Nested", "Stale", "Storage", "check", "error_text",
-    "explain", "replay", "version",
+    "Agent", "BadJournal", "Busy", "Clash", "Deep", "Error", "Full", "Large", "Many", "Missing", "Moved", "Nested", "Over",
+    "Stale", "Step", "Storage", "aggregate", "check", "compose", "error_text", "explain", "replay", "version",
     "EVENT", "LOCATIONS", "MOVE", "STATE",
-    "BUSY", "CLASH", "CUT", "DONE", "EMPTY", "FULL", "ILLEGAL", "LARGE", "MANY", "MEMORY", "MISSING", "NONE", "NOT_JSON",
-    "NUMBER", "OTHER", "RANGE", "SHAPE", "SMALL", "STALE", "TAKEN", "VERSION",
+    "BUSY", "CLASH", "CUT", "DEEP", "DONE", "EMPTY", "FULL", "ILLEGAL", "LARGE", "MANY", "MEMORY", "MISSING", "MOVED",
+    "NONE", "NOT_JSON", "NUMBER", "OTHER", "RANGE", "SHAPE", "SMALL", "STALE", "TAKEN", "VERSION",
 ]

@@ -1,8 +1,10 @@
-"""The exceptions of calls that weren't answered, or whose move wasn't fired."""
+"""The exceptions of calls that weren't answered, or whose move wasn't fired or pushed."""
+import json
 from collections.abc import Iterable
 from typing import Any
 
-from ._library import BUSY, DONE, ILLEGAL, MEMORY, MISSING, NOT_JSON, RANGE, SHAPE, Buffer, lib
+from ._library import BUSY, CLASH, DEEP, DONE, FULL, ILLEGAL, LARGE, MANY, MEMORY, MISSING, MOVE, MOVED
+from ._library import NOT_JSON, RANGE, SHAPE, STALE, Buffer, lib
 
 # What the numbers of an error mean, for the codes that have some.
 NUMBERS = {
@@ -12,6 +14,10 @@ NUMBERS = {
     NOT_JSON: "line {}",
     SHAPE: "line {}",
 }
+
+# A MOVE of which the instructions, or the named reads, are a part.
+INSTRUCTIONS = b'{"fire":%b,"reads":[]}'
+READS = b'{"fire":[],"reads":%b}'
 
 
 def error_text(code: int) -> str:
@@ -24,7 +30,7 @@ def error_text(code: int) -> str:
 class Error(Exception):
     """A call that wasn't answered, with its code, and its numbers where the code has some.
 
-    Of a text that was refused `said` tells where and why, as `explain` does.
+    Of a text that was refused `said` tells where and why, as `explain` does; of a move that was, at which location.
     """
 
     def __init__(self, code: int, numbers: Iterable[int] = (), said: str = "") -> None:
@@ -54,12 +60,37 @@ class Clash(Error):
     cause: str
 
 
+class Large(Error):
+    """An amount or a sum of composed updates is too large, at the location `at`; or a journal has too many calls."""
+
+    at: list[Any] | None = None
+
+
 class Full(Error):
     """As many moves were fired as the capacity."""
 
 
 class Busy(Error):
     """64 offers were lost; `numbers` are how many moves had been seen at the start and at the end."""
+
+
+class Many(Error):
+    """More than 256 locations are read or named, or a composed move has more than 4,096 instructions."""
+
+
+class Deep(Error):
+    """64 moves are pushed already."""
+
+
+class Moved(Error):
+    """The agent's own state has moved on since the step began: begin another step."""
+
+
+class Over(Error):
+    """The step is over: it was fired, or freed as at the end of its `with`."""
+
+    def __str__(self) -> str:
+        return "the step is over: it was fired, or freed as at the end of its `with`"
 
 
 class Missing(Error):
@@ -70,12 +101,34 @@ class BadJournal(Error):
     """The journal is illegal, or is none; `numbers` has the number of the call or of the line, if there is one."""
 
 
-def expect(code: int, kind: type[Error] = Error, numbers: Iterable[int] = (), said: str = "") -> None:
-    """Raises what the code says, unless it is DONE."""
+# The exceptions of codes that have one of their own.
+KINDS: dict[int, type[Error]] = {
+    STALE: Stale, CLASH: Clash, FULL: Full, BUSY: Busy, MANY: Many, MISSING: Missing, LARGE: Large, MOVED: Moved, DEEP: Deep,
+}
+
+
+def expect(code: int, kind: type[Error] | None = None, numbers: Iterable[int] = (), said: str = "") -> None:
+    """Raises what the code says, as an exception of this kind or of its own, unless it is DONE."""
     if code == MEMORY:
         raise MemoryError
     if code != DONE:
-        raise kind(code, numbers, said)
+        raise (kind or KINDS.get(code, Error))(code, numbers, said)
+
+
+def refusal(code: int, told: Any) -> Stale | Clash | Large:
+    """The exception of a code whose text tells a location, and of a clash the cause."""
+    if code == STALE:
+        stale = Stale(code, said=json.dumps(told["stale"]))
+        stale.at = told["stale"]
+        return stale
+    if code == LARGE:
+        large = Large(code, said=json.dumps(told["large"]))
+        large.at = told["large"]
+        return large
+    at, cause = told["clash"]
+    clash = Clash(code, said=f"{json.dumps(at)}, {cause}")
+    clash.at, clash.cause = at, cause
+    return clash
 
 
 def explain(form: int, text: bytes) -> str:
@@ -92,3 +145,9 @@ def expect_read(code: int, form: int, text: bytes) -> None:
     if code in (NOT_JSON, SHAPE):
         expect(code, said=explain(form, text))
     expect(code)
+
+
+def expect_part(code: int, move: bytes, part: bytes) -> None:
+    """The same of a text that is a part of a MOVE: INSTRUCTIONS or READS."""
+    # Where it isn't JSON, the byte is told, counted from its own beginning.
+    expect_read(code, MOVE, move % part if code == SHAPE else part)

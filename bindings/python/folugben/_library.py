@@ -6,19 +6,19 @@ from collections.abc import Callable
 from typing import Any
 
 # The version of the library that this package was written for.
-WRITTEN_FOR = 1000
+WRITTEN_FOR = 2000
 # Where ./build_c puts the library.
 BUILT = pathlib.Path(__file__).resolve().parents[2] / "out" / "libfolugben.so"
 
 DONE, STALE, CLASH, MEMORY, FULL, EMPTY, RANGE, SMALL, BUSY, MANY, NONE = range(11)
-TAKEN, NUMBER, MISSING, OTHER, ILLEGAL, NOT_JSON, SHAPE, VERSION, CUT, LARGE = range(11, 21)
+TAKEN, NUMBER, MISSING, OTHER, ILLEGAL, NOT_JSON, SHAPE, VERSION, CUT, LARGE, MOVED, DEEP = range(11, 23)
 
 # The forms of texts that `explain` knows.
 LOCATIONS, MOVE, STATE, EVENT = range(4)
 
 
 class Slot(ctypes.Structure):
-    """Room for a storage or an agent."""
+    """Room for a storage, an agent or a step."""
 
     _fields_ = [("full", ctypes.c_bool), ("at", ctypes.c_void_p)]
 
@@ -45,6 +45,7 @@ def load() -> ctypes.CDLL:
         raise ImportError(f"{path()} has version {library.asm_version()}, and this package was written for {WRITTEN_FOR}")
     text, size, slot = ctypes.c_char_p, ctypes.c_size_t, ctypes.POINTER(Slot)
     code, u32, u64, written = ctypes.c_int32, ctypes.c_uint32, ctypes.c_uint64, ctypes.POINTER(ctypes.c_size_t)
+    number = ctypes.POINTER(u32)
     calls: dict[str, tuple[Any, list[Any]]] = {
         "asm_error_text": (code, [code, text, size, written]),
         "asm_open": (code, [text, size, u32, slot]),
@@ -53,16 +54,32 @@ def load() -> ctypes.CDLL:
         "asm_try_fire": (code, [slot, text, size, ctypes.POINTER(Numbers)]),
         "asm_answer": (code, [slot, text, size, written]),
         "asm_learn": (code, [slot, slot]),
+        "asm_follow": (code, [slot, number]),
+        "asm_peek": (code, [slot, text, size, text, size, written]),
+        "asm_state": (code, [slot, number, text, size, written]),
+        "asm_scan": (code, [slot, text, size, number, text, size, written]),
+        "asm_stands": (code, [slot, text, size, text, size, written]),
+        "asm_begin": (code, [slot, slot, number]),
+        "asm_get": (code, [slot, slot, text, size, text, size, written]),
+        "asm_get_all": (code, [slot, slot, text, size, text, size, written]),
+        "asm_push": (code, [slot, slot, text, size, text, size, written]),
+        "asm_extend": (code, [slot, slot, text, size, text, size, written]),
+        "asm_pop": (code, [slot]),
+        "asm_depth": (u32, [slot]),
+        "asm_commit": (code, [slot, slot, ctypes.POINTER(Numbers)]),
         "asm_seen": (u32, [slot]),
         "asm_won": (u32, [slot]),
         "asm_misses": (u64, [slot]),
-        "asm_moves": (code, [slot, ctypes.POINTER(u32)]),
+        "asm_moves": (code, [slot, number]),
         "asm_give": (code, [slot, slot]),
-        "asm_close": (code, [slot, ctypes.POINTER(u32)]),
+        "asm_close": (code, [slot, number]),
         "asm_journal": (code, [slot, text, size, written]),
+        "asm_next": (code, [slot, u32, slot]),
         "asm_free": (None, [slot]),
-        "asm_check": (code, [text, size, ctypes.POINTER(u64), ctypes.POINTER(u32)]),
+        "asm_check": (code, [text, size, ctypes.POINTER(u64), number]),
         "asm_replay": (code, [text, size, text, size, written, ctypes.POINTER(u64)]),
+        "asm_aggregate": (code, [text, size, text, size, text, size, written]),
+        "asm_compose": (code, [text, size, text, size, text, size, written]),
         "asm_explain": (code, [code, text, size, text, size, written]),
     }
     for name, (result, arguments) in calls.items():

@@ -1,0 +1,244 @@
+/* Looks at an agent's own state, which make no receipt; whether reads still stand; and a run that
+ * goes on in a storage of its own. */
+#include "tests.h"
+
+static const char *opening = "[[['s'],{'set':[1]}],[['x'],7],[['y',1],'one'],[['y',2],'two']]";
+
+static asm_slot storage, agents[3];
+
+static void begin_all(void) {
+    open_with(opening, 8, &storage);
+    REQUIRE(asm_agents(&storage, agents, 3) == ASM_DONE);
+}
+
+static void end_all(void) {
+    asm_free(&storage);
+    for (size_t i = 0; i < 3; i++)
+        asm_free(&agents[i]);
+}
+
+static void follows_to(asm_slot *agent, uint32_t wanted) {
+    uint32_t number = 9;
+    REQUIRE(asm_follow(agent, &number) == ASM_DONE);
+    REQUIRE(number == wanted && asm_seen(agent) == wanted);
+}
+
+/* A state is seen to stand where the agent last looked, whatever others fire. */
+static void own_states(void) {
+    uint32_t number = 9;
+    begin_all();
+    TELLS(ASM_DONE, "{'number':0,'values':[7,null,{'set':[1]}]}",
+          asm_peek(&agents[0], TEXT("[['x'],['z'],['s']]"), OUT));
+    fire(&agents[1], "[['inc',['x'],1],['put',['y',1],null]]");
+    fire(&agents[1], "[['put',['z'],{'bag':[['e',2]]}]]");
+    TELLS(ASM_DONE, "{'number':0,'values':[7]}", asm_peek(&agents[0], TEXT("[['x']]"), OUT));
+    TELLS(ASM_DONE, opening, asm_state(&agents[0], &number, OUT));
+    REQUIRE(number == 0 && asm_seen(&agents[0]) == 0 && asm_misses(&agents[0]) == 0);
+    follows_to(&agents[0], 2);
+    REQUIRE(asm_misses(&agents[0]) == 1 && asm_won(&agents[0]) == 0);
+    TELLS(ASM_DONE, "{'number':2,'values':[8,null]}",
+          asm_peek(&agents[0], TEXT("[['x'],['y',1]]"), OUT));
+    TELLS(ASM_DONE, "[[['s'],{'set':[1]}],[['x'],8],[['y',2],'two'],[['z'],{'bag':[['e',2]]}]]",
+          asm_state(&agents[0], &number, OUT));
+    REQUIRE(number == 2);
+    TELLS(ASM_DONE, "[[['y',2],'two']]", asm_scan(&agents[0], TEXT("y"), &number, OUT));
+    REQUIRE(number == 2);
+    ANSWERS(ASM_NONE, asm_answer(&agents[0], OUT));
+    end_all();
+}
+
+/* What is told of the number with each code; the locations of a peek have no limit. */
+static void scans_and_peeks(void) {
+    static char many[LONGEST];
+    uint32_t number = 9;
+    size_t written, room = 0;
+    begin_all();
+    follows_to(&agents[0], 0);
+    fire(&agents[1], "[]");
+    follows_to(&agents[0], 1);
+    TELLS(ASM_DONE, "[]", asm_scan(&agents[0], TEXT("z"), &number, OUT));
+    TELLS(ASM_DONE, "[]", asm_scan(&agents[0], NULL, 0, &number, OUT));
+    REQUIRE(number == 1);
+    TELLS(ASM_DONE, "[]", asm_scan(&agents[0], TEXT("['y',1]"), &number, OUT));
+    number = 9;
+    REQUIRE(asm_scan(&agents[0], TEXT("y"), &number, NULL, 0, &written) == ASM_SMALL);
+    REQUIRE(number == 1 && written == strlen("[[['y',1],'one'],[['y',2],'two']]"));
+    number = 9;
+    REQUIRE(asm_state(&agents[0], &number, NULL, 0, &written) == ASM_SMALL);
+    REQUIRE(number == 1 && written == strlen(opening));
+    number = 9;
+    ANSWERS(ASM_SHAPE, asm_scan(&agents[0], TEXT("y\xff"), &number, OUT));
+    REQUIRE(number == 0);
+    ANSWERS(ASM_SHAPE, asm_scan(&agents[0], TEXT("\xed\xa0\xbd"), &number, OUT));
+    ANSWERS(ASM_NOT_JSON, asm_peek(&agents[0], TEXT("[['x']"), OUT));
+    ANSWERS(ASM_NOT_JSON, asm_peek(&agents[0], NULL, 0, OUT));
+    ANSWERS(ASM_SHAPE, asm_peek(&agents[0], TEXT("[['x'],7]"), OUT));
+    ANSWERS(ASM_SHAPE, asm_peek(&agents[0], TEXT("['x']"), OUT));
+    char *at = many + sprintf(many, "[");
+    for (int i = 0; i < 300; i++)
+        at += sprintf(at, "%s['y',%d]", i ? "," : "", i);
+    sprintf(at, "]");
+    REQUIRE(asm_peek(&agents[0], TEXT(many), NULL, 0, &room) == ASM_SMALL);
+    REQUIRE(room == strlen("{'number':1,'values':['one','two']}") + 298 * strlen("null,"));
+    TELLS(ASM_DONE, "{'number':1,'values':[]}", asm_peek(&agents[0], TEXT("[]"), OUT));
+    end_all();
+}
+
+/* The reads of 256 locations and one more, each named with the number 0. */
+static const char *reads_of(int count) {
+    static char text[2 * LONGEST];
+    char *at = text + sprintf(text, "[");
+    for (int i = 0; i < count; i++)
+        at += sprintf(at, "%s[[\"y\",%d],0]", i ? "," : "", i);
+    sprintf(at, "]");
+    return text;
+}
+
+static void standing_reads(void) {
+    const char *both = "[[['y',1],0],[['x'],0]]";
+    begin_all();
+    ANSWERS(ASM_DONE, asm_stands(&agents[0], TEXT(both), OUT));
+    fire(&agents[1], "[['put',['s'],7]]");
+    ANSWERS(ASM_DONE, asm_stands(&agents[0], TEXT(both), OUT));
+    REQUIRE(asm_seen(&agents[0]) == 1);
+    TELLS(ASM_DONE, "{'number':1,'values':[7]}", asm_peek(&agents[0], TEXT("[['s']]"), OUT));
+    fire(&agents[1], "[['put',['y',1],'one']]");
+    TELLS(ASM_STALE, "{'stale':['y',1]}", asm_stands(&agents[0], TEXT(both), OUT));
+    fire(&agents[1], "[['inc',['x'],0]]");
+    TELLS(ASM_STALE, "{'stale':['x']}", asm_stands(&agents[0], TEXT(both), OUT));
+    REQUIRE(asm_seen(&agents[0]) == 3);
+    ANSWERS(ASM_DONE, asm_stands(&agents[0], TEXT("[[['x'],3],[['y',1],2]]"), OUT));
+    TELLS(ASM_STALE, "{'stale':['x']}", asm_stands(&agents[0], TEXT("[[['x'],2]]"), OUT));
+    ANSWERS(ASM_DONE, asm_stands(&agents[0], TEXT("[]"), OUT));
+    TELLS(ASM_STALE, "{'stale':['y',1]}",
+          asm_stands(&agents[0], bytes(reads_of(256)), strlen(reads_of(256)), OUT));
+    ANSWERS(ASM_MANY, asm_stands(&agents[0], bytes(reads_of(257)), strlen(reads_of(257)), OUT));
+    ANSWERS(ASM_NOT_JSON, asm_stands(&agents[0], NULL, 0, OUT));
+    ANSWERS(ASM_NOT_JSON, asm_stands(&agents[0], TEXT("[[['x'],]]"), OUT));
+    ANSWERS(ASM_SHAPE, asm_stands(&agents[0], TEXT("[['x']]"), OUT));
+    ANSWERS(ASM_SHAPE, asm_stands(&agents[0], TEXT("[[['x'],-1]]"), OUT));
+    ANSWERS(ASM_NONE, asm_answer(&agents[0], OUT));
+    end_all();
+}
+
+/* A fire may name what was peeked, and is refused where it was written since. */
+static void fires_on_looks(void) {
+    asm_numbers numbers;
+    begin_all();
+    fire(&agents[1], "[['put',['x'],8]]");
+    TELLS(ASM_DONE, "{'number':0,'values':[7]}", asm_peek(&agents[0], TEXT("[['x']]"), OUT));
+    REQUIRE(asm_try_fire(&agents[0], TEXT("{'fire':[],'reads':[[['x'],0]]}"), &numbers) ==
+            ASM_STALE);
+    TELLS(ASM_DONE, "{'number':1,'values':[8]}", asm_peek(&agents[0], TEXT("[['x']]"), OUT));
+    REQUIRE(asm_try_fire(&agents[0], TEXT("{'fire':[],'reads':[[['x'],1]]}"), &numbers) ==
+            ASM_DONE);
+    REQUIRE(numbers.fired == 2);
+    REQUIRE(asm_learn(&agents[2], &agents[0]) == ASM_DONE && asm_seen(&agents[2]) == 2);
+    TELLS(ASM_DONE, "{'number':0,'values':[7]}", asm_peek(&agents[2], TEXT("[['x']]"), OUT));
+    follows_to(&agents[2], 2);
+    TELLS(ASM_DONE, "{'number':2,'values':[8]}", asm_peek(&agents[2], TEXT("[['x']]"), OUT));
+    /* Looks are in no journal. */
+    for (size_t i = 0; i < 3; i++)
+        REQUIRE(asm_give(&storage, &agents[i]) == ASM_DONE);
+    char *journal = journal_of(&storage);
+    is_legal(journal, 3, 2);
+    free(journal);
+    end_all();
+}
+
+static void refused_next(asm_slot *next, uint32_t capacity, int32_t wanted) {
+    asm_slot was[2] = {storage, *next};
+    REQUIRE(asm_next(&storage, capacity, next) == wanted);
+    REQUIRE(is_same(storage, was[0]) && is_same(*next, was[1]));
+}
+
+/* Each code of asm_next; the slots are as they were. */
+static void refused_nexts(void) {
+    asm_slot next = {0}, step = {0};
+    uint32_t number;
+    refused_next(&next, 4, ASM_EMPTY);
+    begin_all();
+    REQUIRE(asm_begin(&agents[0], &step, &number) == ASM_DONE);
+    refused_next(&next, 4, ASM_NONE);
+    refused_next(&next, 0, ASM_NONE);
+    refused_next(&agents[0], 4, ASM_TAKEN);
+    refused_next(&step, 4, ASM_TAKEN);
+    refused_next(&storage, 4, ASM_TAKEN);
+    REQUIRE(asm_next(&agents[0], 4, &next) == ASM_EMPTY && !next.full && agents[0].full);
+    REQUIRE(asm_next(&step, 4, &next) == ASM_EMPTY && !next.full && step.full);
+    REQUIRE(asm_next(&next, 4, &next) == ASM_EMPTY && !next.full);
+    REQUIRE(asm_close(&storage, &number) == ASM_DONE);
+    refused_next(&next, 0, ASM_RANGE);
+    refused_next(&next, 1048577, ASM_RANGE);
+    REQUIRE(asm_give(&storage, &agents[0]) == ASM_DONE);
+    refused_next(&next, 4, ASM_NONE);
+    REQUIRE(asm_close(&storage, &number) == ASM_DONE);
+    REQUIRE(asm_next(&storage, 1048576, &next) == ASM_DONE && next.full && storage.full);
+    refused_next(&next, 4, ASM_TAKEN);
+    asm_free(&next);
+    asm_free(&step);
+    end_all();
+}
+
+/* The journal's header has this opening state. */
+static bool opens_with(const char *journal, const char *state) {
+    char wanted[LONGEST];
+    snprintf(wanted, sizeof wanted, "\"init\":%s,\"version\":2}\n", json(state));
+    const char *at = strstr(journal, wanted);
+    return at && at + strlen(wanted) == strchr(journal, '\n') + 1;
+}
+
+/* One run in three storages: each opens with what the one before left, and its agents have the same
+ * numbers. The first is released before the others fire. */
+static void a_run_goes_on(void) {
+    const char *left[] = {"[[['x'],1]]", "[[['x'],2]]", "[[['x'],3]]"};
+    asm_slot stores[3] = {{0}, {0}, {0}}, agent = {0};
+    uint64_t line;
+    uint32_t moves = 9;
+    open_with("[[['x'],0]]", 1, &stores[0]);
+    for (int i = 0; i < 3; i++) {
+        REQUIRE(asm_moves(&stores[i], &moves) == ASM_DONE && moves == 0);
+        REQUIRE(asm_agent(&stores[i], 0, &agent) == ASM_DONE);
+        fire(&agent, "[['inc',['x'],1]]");
+        asm_numbers numbers;
+        REQUIRE(asm_try_fire(&agent, TEXT("{'fire':[],'reads':[]}"), &numbers) == ASM_FULL);
+        REQUIRE(asm_give(&stores[i], &agent) == ASM_DONE);
+        char *journal = journal_of(&stores[i]);
+        is_legal(journal, 2, 1);
+        REQUIRE(opens_with(journal, i ? left[i - 1] : "[[['x'],0]]"));
+        TELLS(ASM_DONE, left[i], asm_replay(bytes(journal), strlen(journal), OUT, &line));
+        if (i < 2)
+            REQUIRE(asm_next(&stores[i], 1, &stores[i + 1]) == ASM_DONE);
+        asm_free(&stores[i]);
+        free(journal);
+    }
+}
+
+/* What was fired after a journal was closed is in no storage that goes on from it. */
+static void moves_after_the_journal(void) {
+    asm_slot next = {0}, agent = {0};
+    uint32_t number = 9;
+    begin_all();
+    fire(&agents[0], "[['put',['x'],1]]");
+    REQUIRE(asm_give(&storage, &agents[0]) == ASM_DONE);
+    REQUIRE(asm_close(&storage, &number) == ASM_DONE);
+    fire(&agents[1], "[['put',['x'],2]]");
+    REQUIRE(asm_next(&storage, 8, &next) == ASM_DONE);
+    REQUIRE(asm_agent(&next, 0, &agent) == ASM_DONE);
+    TELLS(ASM_DONE, "{'number':0,'values':[1]}", asm_peek(&agent, TEXT("[['x']]"), OUT));
+    asm_free(&agent);
+    asm_free(&next);
+    end_all();
+}
+
+int main(void) {
+    own_states();
+    scans_and_peeks();
+    standing_reads();
+    fires_on_looks();
+    refused_nexts();
+    a_run_goes_on();
+    moves_after_the_journal();
+    puts("passed");
+    return 0;
+}

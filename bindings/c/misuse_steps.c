@@ -1,0 +1,366 @@
+/* The calls of misuse on steps, of an agent's looks, and on moves without an agent. */
+#include "misuse.h"
+
+/* A code, and the text that is written with it where there is room for it, if one is. */
+typedef struct told {
+    int32_t code;
+    const char *text;
+} told;
+
+typedef struct buffer {
+    uint8_t out[ROOM];
+    size_t room, written;
+} buffer;
+
+static buffer any_buffer(void) {
+    return (buffer){.room = below(3) ? ROOM : below(12), .written = 9};
+}
+
+#define OUT(buffer) (buffer).room ? (buffer).out : NULL, (buffer).room, &(buffer).written
+
+/* Requires of a call the foretold code and text; false where the text didn't fit. */
+static bool is_written(int32_t code, told wanted, const buffer *b) {
+    size_t length = wanted.text ? strlen(wanted.text) : 0;
+    REQUIRE(b->written == length);
+    REQUIRE(code == (length > b->room ? ASM_SMALL : wanted.code));
+    REQUIRE(code == ASM_SMALL || !length || !memcmp(b->out, wanted.text, length));
+    return code != ASM_SMALL;
+}
+
+/* The text of the two values. */
+static const char *values(unsigned number, const text *locations, world w) {
+    static char out[ROOM];
+    char x[16] = "null", y[16] = "null";
+    if (w.x >= 0)
+        snprintf(x, sizeof x, "%d", w.x);
+    if (w.y >= 0)
+        snprintf(y, sizeof y, "%d", w.y);
+    if (!locations->asks)
+        x[0] = y[0] = 0;
+    snprintf(out, sizeof out, "{\"number\":%u,\"values\":[%s%s%s]}", number, x,
+             locations->asks ? "," : "", y);
+    return out;
+}
+
+/* The text of the state, or of the part of it with one of the names. */
+static const char *pairs(world w, bool has_x, bool has_y) {
+    static char out[ROOM];
+    char x[32] = "", y[32] = "";
+    has_x &= w.x >= 0;
+    has_y &= w.y >= 0;
+    if (has_x)
+        snprintf(x, sizeof x, "[[\"x\"],%d]", w.x);
+    if (has_y)
+        snprintf(y, sizeof y, "[[\"y\",1],%d]", w.y);
+    snprintf(out, sizeof out, "[%s%s%s]", x, has_x && has_y ? "," : "", y);
+    return out;
+}
+
+static const char *const names[] = {"x", "y", "", "xy", "z\xff", "\"x\""};
+enum { NAMES = sizeof names / sizeof *names, BAD_NAME = 4 };
+
+static world own_world(const account *agent) {
+    return stories[agent->storage].worlds[agent->stood];
+}
+
+static void follows(unsigned at) {
+    account *a = &accounts[at];
+    uint32_t number = 9, moves = a->kind == AGENT ? stories[a->storage].moves : 0;
+    REQUIRE(asm_follow(&slots[at], &number) == (a->kind == AGENT ? ASM_DONE : ASM_EMPTY));
+    REQUIRE(number == moves);
+    if (a->kind == AGENT)
+        a->stood = moves;
+}
+
+static void peeks(unsigned at) {
+    const text *t = any_text();
+    const account *a = &accounts[at];
+    buffer b = any_buffer();
+    told wanted = {a->kind != AGENT ? ASM_EMPTY : t->locations, NULL};
+    if (wanted.code == ASM_DONE)
+        wanted.text = values(a->stood, t, own_world(a));
+    is_written(asm_peek(&slots[at], bytes(t), strlen(t->bytes), OUT(b)), wanted, &b);
+}
+
+static void looks_at_state(unsigned at) {
+    const account *a = &accounts[at];
+    buffer b = any_buffer();
+    uint32_t number = 9;
+    told wanted = {a->kind != AGENT ? ASM_EMPTY : ASM_DONE, NULL};
+    if (wanted.code == ASM_DONE)
+        wanted.text = pairs(own_world(a), true, true);
+    is_written(asm_state(&slots[at], &number, OUT(b)), wanted, &b);
+    REQUIRE(number == (wanted.text ? a->stood : 0));
+}
+
+static void scans(unsigned at) {
+    const account *a = &accounts[at];
+    unsigned name = below(NAMES);
+    buffer b = any_buffer();
+    uint32_t number = 9;
+    told wanted = {a->kind != AGENT ? ASM_EMPTY : name == BAD_NAME ? ASM_SHAPE : ASM_DONE, NULL};
+    if (wanted.code == ASM_DONE)
+        wanted.text = pairs(own_world(a), name == 0, name == 1);
+    is_written(asm_scan(&slots[at], *names[name] ? (const uint8_t *)names[name] : NULL,
+                        strlen(names[name]), &number, OUT(b)),
+               wanted, &b);
+    REQUIRE(number == (wanted.text ? a->stood : 0));
+}
+
+static void stands(unsigned at) {
+    const text *t = any_text();
+    account *a = &accounts[at];
+    buffer b = any_buffer();
+    bool is_looked = a->kind == AGENT && t->reads == ASM_DONE;
+    told wanted = {a->kind != AGENT ? ASM_EMPTY : t->reads, NULL};
+    if (is_looked)
+        a->stood = stories[a->storage].moves;
+    if (is_looked && t->x >= 0 && own_world(a).x_at > (unsigned)t->x)
+        wanted = (told){ASM_STALE, "{\"stale\":[\"x\"]}"};
+    is_written(asm_stands(&slots[at], bytes(t), strlen(t->bytes), OUT(b)), wanted, &b);
+}
+
+static void begins(unsigned at, unsigned of_step) {
+    account *a = &accounts[at], *s = &accounts[of_step];
+    uint32_t number = 9;
+    int32_t wanted = s->kind == STORAGE || s->kind == AGENT ? ASM_TAKEN
+                     : a->kind != AGENT                     ? ASM_EMPTY
+                                                            : ASM_DONE;
+    REQUIRE(asm_begin(&slots[at], &slots[of_step], &number) == wanted);
+    REQUIRE(number == (wanted == ASM_DONE ? stories[a->storage].moves : 0));
+    if (wanted != ASM_DONE)
+        return;
+    a->stood = number;
+    *s = (account){.kind = STEP, .storage = a->storage, .stood = number};
+}
+
+/* The code that tells whether the slots have an agent and a step. */
+static int32_t both(const account *a, const account *s) {
+    return a->kind != AGENT || s->kind != STEP ? ASM_EMPTY : ASM_DONE;
+}
+
+/* The last layer of the step; of one without moves, what is below it. */
+static layer top_of(const account *s) {
+    if (s->depth > 0)
+        return s->layers[s->depth - 1];
+    return (layer){.seen = stories[s->storage].worlds[s->stood]};
+}
+
+/* The code, as far as it doesn't rest on what is seen. */
+static int32_t step_code(const account *a, const account *s, int32_t read) {
+    int32_t code = both(a, s);
+    return code ? code : read ? read : a->stood != s->stood ? ASM_MOVED : ASM_DONE;
+}
+
+static void gets(unsigned at, unsigned of_step) {
+    const text *t = any_text();
+    const account *a = &accounts[at];
+    account *s = &accounts[of_step];
+    buffer b = any_buffer();
+    told wanted = {step_code(a, s, t->locations), NULL};
+    if (wanted.code == ASM_DONE)
+        wanted.text = values(s->stood, t, top_of(s).seen);
+    int32_t code = asm_get(&slots[at], &slots[of_step], bytes(t), strlen(t->bytes), OUT(b));
+    if (is_written(code, wanted, &b) && wanted.text) {
+        s->has_got_x |= t->asks;
+        s->has_got_y |= t->asks;
+    }
+}
+
+static void gets_all(unsigned at, unsigned of_step) {
+    const account *a = &accounts[at];
+    account *s = &accounts[of_step];
+    unsigned name = below(NAMES);
+    buffer b = any_buffer();
+    told wanted = {step_code(a, s, name == BAD_NAME ? ASM_SHAPE : ASM_DONE), NULL};
+    if (wanted.code == ASM_DONE)
+        wanted.text = pairs(top_of(s).seen, name == 0, name == 1);
+    int32_t code =
+        asm_get_all(&slots[at], &slots[of_step], *names[name] ? (const uint8_t *)names[name] : NULL,
+                    strlen(names[name]), OUT(b));
+    if (is_written(code, wanted, &b) && wanted.text) {
+        s->has_got_x |= name == 0 && top_of(s).seen.x >= 0;
+        s->has_got_y |= name == 1 && top_of(s).seen.y >= 0;
+    }
+}
+
+static void grows(unsigned at, unsigned of_step, bool is_push) {
+    const text *t = any_text();
+    const account *a = &accounts[at];
+    account *s = &accounts[of_step];
+    buffer b = any_buffer();
+    told wanted = {step_code(a, s, t->move), NULL};
+    layer next = {0};
+    if (wanted.code == ASM_DONE) {
+        next = top_of(s);
+        next.raises += t->does == RAISE_X;
+        next.puts |= t->does == PUT_Y;
+        if (is_push && s->depth == DEEPEST)
+            wanted.code = ASM_DEEP;
+        else if (!goes_on(t, &next.seen))
+            wanted = (told){ASM_CLASH, "{\"clash\":[[\"x\"],\"Kind\"]}"};
+    }
+    int32_t code = (is_push ? asm_push : asm_extend)(&slots[at], &slots[of_step], bytes(t),
+                                                     strlen(t->bytes), OUT(b));
+    if (is_written(code, wanted, &b) && wanted.code == ASM_DONE) {
+        s->depth += is_push || s->depth == 0;
+        s->layers[s->depth - 1] = next;
+    }
+}
+
+static void pops(unsigned at) {
+    account *s = &accounts[at];
+    int32_t wanted = s->kind != STEP ? ASM_EMPTY : s->depth == 0 ? ASM_NONE : ASM_DONE;
+    REQUIRE(asm_pop(&slots[at]) == wanted);
+    s->depth -= wanted == ASM_DONE;
+}
+
+/* What the commit is answered on the latest world, which then is the one after it. */
+static int32_t commit_answer(const account *s, const story *of, world *w) {
+    layer top = top_of(s);
+    if ((s->has_got_x || top.raises > 0) && w->x_at > s->stood)
+        return ASM_STALE;
+    if (s->has_got_y && w->y_at > s->stood)
+        return ASM_STALE;
+    if (of->moves == of->capacity)
+        return ASM_FULL;
+    w->x += (int)top.raises;
+    w->x_at = top.raises ? of->moves + 1 : w->x_at;
+    w->y = top.puts ? 2 : w->y;
+    w->y_at = top.puts ? of->moves + 1 : w->y_at;
+    return ASM_DONE;
+}
+
+static void commits(unsigned at, unsigned of_step) {
+    account *a = &accounts[at], *s = &accounts[of_step];
+    story *of = &stories[a->storage];
+    asm_numbers numbers = {9, 9, 9};
+    world w = *latest(of);
+    int32_t wanted = both(a, s);
+    if (wanted == ASM_DONE)
+        wanted = commit_answer(s, of, &w);
+    REQUIRE(asm_commit(&slots[at], &slots[of_step], &numbers) == wanted);
+    REQUIRE(numbers.fired == (wanted == ASM_DONE ? of->moves + 1 : 0));
+    REQUIRE(numbers.from == 0 && numbers.to == 0);
+    if (wanted == ASM_EMPTY)
+        return;
+    a->is_answered = true;
+    if (wanted == ASM_DONE) {
+        was_fired(a, w);
+        *s = (account){.kind = NOTHING};
+    }
+    stands_from(at, a->stood);
+}
+
+static void goes_on_in(unsigned at, unsigned next) {
+    uint32_t capacity = below(4) ? 1 + below(MOVES) : below(2) * 1048577;
+    const account *a = &accounts[at];
+    int32_t wanted = accounts[next].kind                   ? ASM_TAKEN
+                     : a->kind != STORAGE                  ? ASM_EMPTY
+                     : !stories[a->storage].is_closed      ? ASM_NONE
+                     : capacity == 0 || capacity > 1048576 ? ASM_RANGE
+                                                           : ASM_DONE;
+    if (wanted == ASM_DONE && opened == STORAGES)
+        return;
+    REQUIRE(asm_next(&slots[at], capacity, &slots[next]) == wanted);
+    if (wanted == ASM_DONE) {
+        const story *s = &stories[a->storage];
+        world opening = s->worlds[s->closed];
+        opening.x_at = opening.y_at = 0;
+        storage_is_made(next, capacity, opening);
+    }
+}
+
+static void aggregates(void) {
+    const text *state = any_text(), *t = any_text();
+    world w = {state->x, -1, 0, 0};
+    buffer b = any_buffer();
+    told wanted = {state->state ? state->state : t->move, NULL};
+    if (wanted.code == ASM_DONE && !goes_on(t, &w))
+        wanted = (told){ASM_CLASH, "{\"clash\":[[\"x\"],\"Kind\"]}"};
+    else if (wanted.code == ASM_DONE)
+        wanted.text = pairs(w, t->does == RAISE_X, t->does == PUT_Y);
+    is_written(
+        asm_aggregate(bytes(state), strlen(state->bytes), bytes(t), strlen(t->bytes), OUT(b)),
+        wanted, &b);
+}
+
+static void composes(void) {
+    const text *first = any_text(), *second = any_text();
+    int raises = (first->does == RAISE_X) + (second->does == RAISE_X);
+    bool puts = first->does == PUT_Y || second->does == PUT_Y;
+    char raise[32] = "", both_do[ROOM];
+    buffer b = any_buffer();
+    told wanted = {first->move ? first->move : second->move, NULL};
+    if (raises)
+        snprintf(raise, sizeof raise, "[\"inc\",[\"x\"],%d]", raises);
+    snprintf(both_do, sizeof both_do, "[%s%s%s]", raise, raises && puts ? "," : "",
+             puts ? "[\"put\",[\"y\",1],2]" : "");
+    if (wanted.code == ASM_DONE)
+        wanted.text = both_do;
+    is_written(asm_compose(bytes(first), strlen(first->bytes), bytes(second), strlen(second->bytes),
+                           OUT(b)),
+               wanted, &b);
+}
+
+/* A step with an agent of another storage is no call that has a meaning. */
+static bool have_meaning(unsigned at, unsigned of_step) {
+    const account *a = &accounts[at], *s = &accounts[of_step];
+    return both(a, s) == ASM_EMPTY || a->storage == s->storage;
+}
+
+/* A slot with a step of the agent's storage, if there is one; at times the slot itself. */
+static unsigned fitting(unsigned at, unsigned of_step) {
+    for (unsigned i = below(4) ? 0 : SLOTS; i < SLOTS; i++)
+        if (accounts[i].kind == STEP && accounts[i].storage == accounts[at].storage)
+            return i;
+    return of_step;
+}
+
+static void calls_any_of_both(unsigned at, unsigned other) {
+    unsigned call = below(16), of_step = fitting(at, other);
+    if (!have_meaning(at, of_step))
+        return;
+    if (call < 4)
+        gets(at, of_step);
+    else if (call < 6)
+        gets_all(at, of_step);
+    else if (call < 14)
+        /* At times more often than a step is deep. */
+        for (unsigned i = below(16) ? 1 : 300; i > 0; i--)
+            grows(at, of_step, call < 10 ? below(8) : !below(8));
+    else
+        commits(at, of_step);
+}
+
+void calls_any_step(unsigned at, unsigned other) {
+    switch (below(16)) {
+    case 0:
+        follows(at);
+        break;
+    case 1:
+        peeks(at);
+        looks_at_state(at);
+        scans(at);
+        break;
+    case 2:
+        stands(at);
+        break;
+    case 3:
+    case 4:
+        begins(at, other);
+        break;
+    case 5:
+        pops(at);
+        break;
+    case 6:
+        goes_on_in(at, other);
+        break;
+    case 7:
+        aggregates();
+        composes();
+        break;
+    default:
+        calls_any_of_both(at, other);
+    }
+}

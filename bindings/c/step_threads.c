@@ -1,0 +1,153 @@
+/* Eight agents, each on a thread of its own, move amounts between shared accounts by steps, and
+ * count them on counters that they share. What a step rests on and another agent writes makes it
+ * stale, so that nothing is lost: the sums are right in each of two storages, of which the second
+ * goes on where the first ended, and both journals are legal. */
+#include "tests.h"
+
+#include <pthread.h>
+
+enum { AGENTS = 8, ACCOUNTS = 4, STORAGES = 2 };
+
+#ifndef TIMES
+#define TIMES 200
+#endif
+
+typedef struct worker {
+    pthread_t thread;
+    asm_slot agent;
+    unsigned number, stale, busy;
+} worker;
+
+static worker workers[AGENTS];
+
+static void grow(worker *w, asm_slot *step, bool is_push, const char *move) {
+    if (is_push)
+        ANSWERS(ASM_DONE, asm_push(&w->agent, step, TEXT(move), OUT));
+    else
+        ANSWERS(ASM_DONE, asm_extend(&w->agent, step, TEXT(move), OUT));
+}
+
+/* What the step sees of the account. */
+static long seen(worker *w, asm_slot *step, unsigned account, uint32_t number) {
+    char text[LONGEST];
+    uint32_t at;
+    long amount;
+    size_t written;
+    snprintf(text, sizeof text, "[['account',%u]]", account);
+    REQUIRE(asm_get(&w->agent, step, TEXT(text), (uint8_t *)text, sizeof text - 1, &written) ==
+            ASM_DONE);
+    text[written] = 0;
+    REQUIRE(sscanf(text, "{\"number\":%" SCNu32 ",\"values\":[%ld]}", &at, &amount) == 2);
+    REQUIRE(at == number);
+    return amount;
+}
+
+/* Moves an amount from one account to another by two moves of one step, and counts it; whether it
+ * was fired. */
+static bool transfer(worker *w, asm_slot *step, unsigned turn) {
+    unsigned from = (w->number + turn) % ACCOUNTS, to = (from + 1 + turn % 3) % ACCOUNTS;
+    char move[256];
+    uint32_t number;
+    asm_numbers numbers;
+    REQUIRE(asm_begin(&w->agent, step, &number) == ASM_DONE);
+    long left = seen(w, step, from, number);
+    snprintf(move, sizeof move, "[['put',['account',%u],%ld]]", from, left - 5);
+    grow(w, step, true, move);
+    REQUIRE(seen(w, step, from, number) == left - 5);
+    snprintf(move, sizeof move, "[['inc',['account',%u],5]]", to);
+    grow(w, step, true, move);
+    snprintf(move, sizeof move, "[['add',['seen',%u],%u],['inc',['count'],1]]", w->number, turn);
+    grow(w, step, false, move);
+    int32_t code = asm_commit(&w->agent, step, &numbers);
+    w->stale += code == ASM_STALE;
+    w->busy += code == ASM_BUSY;
+    REQUIRE(code == ASM_DONE || code == ASM_STALE || code == ASM_BUSY);
+    REQUIRE(code != ASM_DONE || (numbers.fired > number && !step->full));
+    REQUIRE(code == ASM_DONE || (step->full && asm_depth(step) == 2));
+    return code == ASM_DONE;
+}
+
+static void *work(void *argument) {
+    worker *w = argument;
+    asm_slot step = {0};
+    for (unsigned turn = 0; turn < TIMES;)
+        turn += transfer(w, &step, turn);
+    REQUIRE(!step.full && asm_won(&w->agent) == TIMES);
+    return NULL;
+}
+
+static void run_threads(asm_slot *storage) {
+    for (unsigned i = 0; i < AGENTS; i++) {
+        workers[i] = (worker){.number = i};
+        REQUIRE(asm_agent(storage, i, &workers[i].agent) == ASM_DONE);
+    }
+    for (size_t i = 0; i < AGENTS; i++)
+        REQUIRE(!pthread_create(&workers[i].thread, NULL, work, &workers[i]));
+    for (size_t i = 0; i < AGENTS; i++)
+        REQUIRE(!pthread_join(workers[i].thread, NULL));
+}
+
+static void give_all(asm_slot *storage) {
+    for (size_t i = 0; i < AGENTS; i++) {
+        fprintf(stderr, "agent %zu: stale %u, busy %u\n", i, workers[i].stale, workers[i].busy);
+        REQUIRE(asm_give(storage, &workers[i].agent) == ASM_DONE);
+    }
+}
+
+/* The accounts' sum, and the count, in the state that the journal leaves. */
+static void sums(const char *journal, long count) {
+    char *state = malloc(strlen(journal));
+    size_t written;
+    uint64_t line;
+    long sum = 0, amount;
+    REQUIRE(state != NULL);
+    REQUIRE(asm_replay(bytes(journal), strlen(journal), (uint8_t *)state, strlen(journal), &written,
+                       &line) == ASM_DONE);
+    state[written] = 0;
+    const char *at = state;
+    for (unsigned i = 0; i < ACCOUNTS; i++) {
+        REQUIRE((at = strstr(at, "[\"account\",")) != NULL);
+        REQUIRE(sscanf(at, "[\"account\",%*u],%ld", &amount) == 1);
+        sum += amount;
+        at += strlen("[\"account\",");
+    }
+    REQUIRE(sum == ACCOUNTS * 1000 && strstr(at, "[\"account\",") == NULL);
+    REQUIRE((at = strstr(state, "[\"count\"],")) != NULL);
+    REQUIRE(sscanf(at, "[\"count\"],%ld", &amount) == 1 && amount == count);
+    free(state);
+}
+
+static void open_first(asm_slot *storage) {
+    char init[LONGEST];
+    size_t at = (size_t)snprintf(init, sizeof init, "[[['count'],0]");
+    for (unsigned i = 0; i < ACCOUNTS; i++)
+        at += (size_t)snprintf(init + at, sizeof init - at, ",[['account',%u],1000]", i);
+    for (unsigned i = 0; i < AGENTS; i++)
+        at += (size_t)snprintf(init + at, sizeof init - at, ",[['seen',%u],{'set':[]}]", i);
+    snprintf(init + at, sizeof init - at, "]");
+    open_with(init, AGENTS * TIMES, storage);
+}
+
+int main(void) {
+    static asm_slot storages[STORAGES];
+    uint64_t calls;
+    uint32_t moves;
+    for (int round = 0; round < STORAGES; round++) {
+        asm_slot *storage = &storages[round];
+        if (round == 0)
+            open_first(storage);
+        else
+            REQUIRE(asm_next(&storages[round - 1], AGENTS * TIMES, storage) == ASM_DONE);
+        run_threads(storage);
+        give_all(storage);
+        char *journal = journal_of(storage);
+        REQUIRE(asm_check(bytes(journal), strlen(journal), &calls, &moves) == ASM_DONE);
+        REQUIRE(moves == AGENTS * TIMES && calls >= moves);
+        sums(journal, (long)(round + 1) * AGENTS * TIMES);
+        free(journal);
+    }
+    for (int round = 0; round < STORAGES; round++)
+        asm_free(&storages[round]);
+    puts("passed");
+    return 0;
+}

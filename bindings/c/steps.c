@@ -1,0 +1,354 @@
+/* Steps: what is got and pushed, and what each refusal leaves as it was; without commits. */
+#include "tests.h"
+
+static const char *opening =
+    "[[['b'],{'bag':[['e',2]]}],[['s'],{'set':[1]}],[['x'],7],[['y',1],'one'],[['y',2],'two']]";
+
+static asm_slot storage, agents[2], step;
+
+static void begin_all(void) {
+    uint32_t number = 9;
+    open_with(opening, 8, &storage);
+    REQUIRE(asm_agents(&storage, agents, 2) == ASM_DONE);
+    REQUIRE(asm_begin(&agents[0], &step, &number) == ASM_DONE && number == 0 && step.full);
+}
+
+static void end_all(void) {
+    asm_free(&storage);
+    asm_free(&agents[0]);
+    asm_free(&agents[1]);
+    asm_free(&step);
+}
+
+static int32_t push(const char *instructions) {
+    uint8_t out[64];
+    size_t written;
+    return asm_push(&agents[0], &step, TEXT(instructions), out, sizeof out, &written);
+}
+
+static int32_t extend(const char *instructions) {
+    uint8_t out[64];
+    size_t written;
+    return asm_extend(&agents[0], &step, TEXT(instructions), out, sizeof out, &written);
+}
+
+/* What is seen of a step whose agent stands at its number, and of the agent. */
+typedef struct picture {
+    uint8_t seen[LONGEST], state[LONGEST];
+    uint32_t depth, number, moves;
+    uint64_t misses;
+    asm_slot agent, step;
+} picture;
+
+/* The locations are got by it; so they have to be before. */
+static picture look(void) {
+    picture p;
+    size_t written;
+    memset(&p, 0, sizeof p);
+    REQUIRE(asm_get(&agents[0], &step, TEXT("[['b'],['s'],['x'],['y',1],['z']]"), p.seen, LONGEST,
+                    &written) == ASM_DONE);
+    REQUIRE(asm_state(&agents[0], &p.number, p.state, LONGEST, &written) == ASM_DONE);
+    p.depth = asm_depth(&step);
+    p.moves = asm_seen(&agents[0]);
+    p.misses = asm_misses(&agents[0]);
+    return p;
+}
+
+/* The calls leave the step, its slot and the agent as they were. */
+#define KEEPS(calls)                                                                               \
+    do {                                                                                           \
+        picture before = look();                                                                   \
+        asm_slot slots[2] = {agents[0], step};                                                     \
+        calls;                                                                                     \
+        REQUIRE(is_same(agents[0], slots[0]) && is_same(step, slots[1]));                          \
+        picture after = look();                                                                    \
+        REQUIRE(!memcmp(&before, &after, sizeof before));                                          \
+    } while (0)
+
+/* Each call of a step on two slots of which one holds nothing of its kind, or which are one. */
+static void on_nothing(asm_slot *agent, asm_slot *of_step) {
+    asm_slot was[2] = {*agent, *of_step};
+    asm_numbers numbers = {9, 9, 9};
+    ANSWERS(ASM_EMPTY, asm_get(agent, of_step, TEXT("[]"), OUT));
+    ANSWERS(ASM_EMPTY, asm_get(agent, of_step, NULL, 0, OUT));
+    ANSWERS(ASM_EMPTY, asm_get_all(agent, of_step, TEXT("y"), OUT));
+    ANSWERS(ASM_EMPTY, asm_push(agent, of_step, TEXT("[]"), OUT));
+    ANSWERS(ASM_EMPTY, asm_extend(agent, of_step, TEXT("[]"), OUT));
+    REQUIRE(asm_commit(agent, of_step, &numbers) == ASM_EMPTY);
+    REQUIRE(numbers.fired == 0 && numbers.from == 0 && numbers.to == 0);
+    REQUIRE(is_same(*agent, was[0]) && is_same(*of_step, was[1]));
+}
+
+/* Each call of an agent alone on a slot without an agent. */
+static void on_no_agent(asm_slot *slot) {
+    asm_slot was = *slot;
+    uint32_t number = 9;
+    REQUIRE(asm_follow(slot, &number) == ASM_EMPTY && number == 0);
+    ANSWERS(ASM_EMPTY, asm_peek(slot, TEXT("[]"), OUT));
+    number = 9;
+    ANSWERS(ASM_EMPTY, asm_state(slot, &number, OUT));
+    REQUIRE(number == 0);
+    number = 9;
+    ANSWERS(ASM_EMPTY, asm_scan(slot, TEXT("y"), &number, OUT));
+    REQUIRE(number == 0);
+    ANSWERS(ASM_EMPTY, asm_stands(slot, TEXT("[]"), OUT));
+    REQUIRE(is_same(*slot, was));
+}
+
+/* A step begins in a slot that is empty or holds one, and no other slot is changed. */
+static void begins(asm_slot *agent, asm_slot *of_step, int32_t wanted) {
+    asm_slot was[2] = {*agent, *of_step};
+    uint32_t number = 9;
+    REQUIRE(asm_begin(agent, of_step, &number) == wanted && number == 0);
+    REQUIRE(is_same(*agent, was[0]));
+    REQUIRE(wanted == ASM_DONE || is_same(*of_step, was[1]));
+}
+
+static void other_slots(void) {
+    asm_slot empty = {0};
+    begin_all();
+    asm_slot *slots[] = {&empty, &storage, &agents[0], &step};
+    for (size_t i = 0; i < 4; i++) {
+        for (size_t k = 0; k < 4; k++)
+            if (i != 2 || k != 3)
+                on_nothing(slots[i], slots[k]);
+        if (i != 2)
+            on_no_agent(slots[i]);
+        REQUIRE(asm_depth(slots[i]) == 0);
+        REQUIRE(asm_pop(slots[i]) == (i == 3 ? ASM_NONE : ASM_EMPTY));
+        for (size_t k = 1; k < 3; k++)
+            begins(slots[i], slots[k], ASM_TAKEN);
+        if (i != 2) {
+            begins(slots[i], &empty, ASM_EMPTY);
+            begins(slots[i], &step, ASM_EMPTY);
+        }
+    }
+    begins(&agents[0], &step, ASM_DONE);
+    begins(&agents[0], &empty, ASM_DONE);
+    REQUIRE(empty.full && step.full && empty.at != step.at);
+    asm_free(&empty);
+    end_all();
+    on_nothing(&agents[0], &step);
+    on_no_agent(&agents[0]);
+}
+
+/* The calls of storages and agents on a slot with a step. */
+static void step_for_another(void) {
+    asm_slot none = {0};
+    asm_numbers numbers = {9, 9, 9};
+    uint32_t number = 9;
+    begin_all();
+    asm_slot was = step;
+    REQUIRE(asm_open(TEXT("[]"), 4, &step) == ASM_TAKEN);
+    REQUIRE(asm_agent(&storage, 7, &step) == ASM_TAKEN && asm_agent(&step, 7, &none) == ASM_EMPTY);
+    REQUIRE(asm_agents(&storage, &step, 1) == ASM_TAKEN);
+    REQUIRE(asm_read(&step, TEXT("[]")) == ASM_EMPTY);
+    REQUIRE(asm_try_fire(&step, TEXT("{'fire':[],'reads':[]}"), &numbers) == ASM_EMPTY);
+    ANSWERS(ASM_EMPTY, asm_answer(&step, OUT));
+    REQUIRE(asm_learn(&agents[0], &step) == ASM_EMPTY && asm_learn(&step, &agents[0]) == ASM_EMPTY);
+    REQUIRE(asm_seen(&step) == 0 && asm_won(&step) == 0 && asm_misses(&step) == 0);
+    REQUIRE(asm_give(&storage, &step) == ASM_EMPTY && asm_give(&step, &agents[0]) == ASM_EMPTY);
+    REQUIRE(asm_moves(&step, &number) == ASM_EMPTY && asm_close(&step, &number) == ASM_EMPTY);
+    ANSWERS(ASM_EMPTY, asm_journal(&step, OUT));
+    REQUIRE(is_same(step, was) && !none.full);
+    end_all();
+}
+
+/* So many locations ["y",N], from a number on. */
+static const char *places(int from, int count) {
+    static char text[2 * LONGEST];
+    char *at = text + sprintf(text, "[");
+    for (int i = from; i < from + count; i++)
+        at += sprintf(at, "%s[\"y\",%d]", i > from ? "," : "", i);
+    sprintf(at, "]");
+    return text;
+}
+
+static int32_t get_places(int from, int count, size_t room) {
+    static uint8_t out[4 * LONGEST];
+    const char *text = places(from, count);
+    size_t written;
+    return asm_get(&agents[0], &step, bytes(text), strlen(text), out, room, &written);
+}
+
+static void gets(void) {
+    begin_all();
+    TELLS(ASM_DONE, "{'number':0,'values':[7,null,7,{'set':[1]}]}",
+          asm_get(&agents[0], &step, TEXT("[['x'],['z'],['x'],['s']]"), OUT));
+    TELLS(ASM_DONE, "{'number':0,'values':[]}", asm_get(&agents[0], &step, TEXT("[]"), OUT));
+    KEEPS({
+        ANSWERS(ASM_NOT_JSON, asm_get(&agents[0], &step, NULL, 0, OUT));
+        ANSWERS(ASM_NOT_JSON, asm_get(&agents[0], &step, TEXT("[['x']"), OUT));
+        ANSWERS(ASM_SHAPE, asm_get(&agents[0], &step, TEXT("['x']"), OUT));
+        ANSWERS(ASM_SHAPE, asm_get(&agents[0], &step, TEXT("[['1']]"), OUT));
+        ANSWERS(ASM_SHAPE, asm_get_all(&agents[0], &step, TEXT("y\xc3"), OUT));
+    });
+    /* Five are got by now. Neither what is refused nor what doesn't fit is. */
+    REQUIRE(get_places(2, 250, 4 * LONGEST) == ASM_DONE);
+    REQUIRE(get_places(252, 1, 0) == ASM_SMALL);
+    KEEPS(REQUIRE(get_places(252, 2, 4 * LONGEST) == ASM_MANY));
+    REQUIRE(get_places(253, 1, 4 * LONGEST) == ASM_DONE);
+    REQUIRE(get_places(252, 1, 4 * LONGEST) == ASM_MANY);
+    REQUIRE(get_places(2, 250, 4 * LONGEST) == ASM_DONE);
+    TELLS(ASM_DONE, "[[['y',1],'one'],[['y',2],'two']]",
+          asm_get_all(&agents[0], &step, TEXT("y"), OUT));
+    begins(&agents[0], &step, ASM_DONE);
+    REQUIRE(get_places(0, 257, 4 * LONGEST) == ASM_MANY);
+    REQUIRE(get_places(0, 256, 4 * LONGEST) == ASM_DONE);
+    end_all();
+}
+
+/* All locations with a name are seen through the pushed moves, and got. */
+static void gets_all(void) {
+    static char move[4 * LONGEST];
+    begin_all();
+    TELLS(ASM_DONE, "[[['y',1],'one'],[['y',2],'two']]",
+          asm_get_all(&agents[0], &step, TEXT("y"), OUT));
+    TELLS(ASM_DONE, "[]", asm_get_all(&agents[0], &step, TEXT("nothing"), OUT));
+    TELLS(ASM_DONE, "[]", asm_get_all(&agents[0], &step, NULL, 0, OUT));
+    REQUIRE(push("[['put',['y',2],null],['put',['y',0],0],['put',['z'],1]]") == ASM_DONE);
+    TELLS(ASM_DONE, "[[['y',0],0],[['y',1],'one']]",
+          asm_get_all(&agents[0], &step, TEXT("y"), OUT));
+    REQUIRE(push("[['put',['y',2],2],['put',['y',1],null]]") == ASM_DONE);
+    TELLS(ASM_DONE, "[[['y',0],0],[['y',2],2]]", asm_get_all(&agents[0], &step, TEXT("y"), OUT));
+    REQUIRE(asm_pop(&step) == ASM_DONE && asm_pop(&step) == ASM_DONE);
+    begins(&agents[0], &step, ASM_DONE);
+    look();
+    char *at = move + sprintf(move, "[");
+    for (int i = 0; i < 257; i++)
+        at += sprintf(at, "%s[\"put\",[\"w\",%d],1]", i ? "," : "", i);
+    sprintf(at, "]");
+    ANSWERS(ASM_DONE, asm_push(&agents[0], &step, bytes(move), strlen(move), OUT));
+    KEEPS(ANSWERS(ASM_MANY, asm_get_all(&agents[0], &step, TEXT("w"), OUT)));
+    REQUIRE(get_places(2, 251, 4 * LONGEST) == ASM_DONE);
+    REQUIRE(get_places(253, 1, 4 * LONGEST) == ASM_MANY);
+    end_all();
+}
+
+/* Each push sees those before it; a pop takes the last one away with what extends it. */
+static void pushes(void) {
+    const char *x = "[['x']]";
+    begin_all();
+    REQUIRE(asm_pop(&step) == ASM_NONE);
+    ANSWERS(ASM_DONE, asm_push(&agents[0], &step, TEXT("[['put',['x'],10]]"), OUT));
+    ANSWERS(ASM_DONE, asm_extend(&agents[0], &step, TEXT("[['inc',['x'],5]]"), OUT));
+    REQUIRE(asm_depth(&step) == 1);
+    TELLS(ASM_DONE, "{'number':0,'values':[15]}", asm_get(&agents[0], &step, TEXT(x), OUT));
+    REQUIRE(push("[['inc',['x'],-1],['put',['z'],null]]") == ASM_DONE && asm_depth(&step) == 2);
+    REQUIRE(extend("[['inc',['x'],-1],['add',['s'],2]]") == ASM_DONE && asm_depth(&step) == 2);
+    TELLS(ASM_DONE, "{'number':0,'values':[13,{'set':[1,2]}]}",
+          asm_get(&agents[0], &step, TEXT("[['x'],['s']]"), OUT));
+    REQUIRE(asm_pop(&step) == ASM_DONE && asm_depth(&step) == 1);
+    TELLS(ASM_DONE, "{'number':0,'values':[15,{'set':[1]}]}",
+          asm_get(&agents[0], &step, TEXT("[['x'],['s']]"), OUT));
+    REQUIRE(asm_pop(&step) == ASM_DONE && asm_depth(&step) == 0 && asm_pop(&step) == ASM_NONE);
+    TELLS(ASM_DONE, "{'number':0,'values':[7]}", asm_get(&agents[0], &step, TEXT(x), OUT));
+    /* Without a pushed move an extension is one. */
+    REQUIRE(extend("[]") == ASM_DONE && asm_depth(&step) == 1);
+    REQUIRE(asm_seen(&agents[0]) == 0 && asm_won(&agents[0]) == 0);
+    ANSWERS(ASM_NONE, asm_answer(&agents[0], OUT));
+    end_all();
+}
+
+typedef int32_t grow(asm_slot *, asm_slot *, const uint8_t *, size_t, uint8_t *, size_t, size_t *);
+
+/* Each refusal of a push and of an extension, at a depth; the step is as it was. */
+static void refused(grow *call) {
+    asm_slot *agent = &agents[0];
+    KEEPS({
+        TELLS(ASM_CLASH, "{'clash':[['x'],'Two']}",
+              call(agent, &step, TEXT("[['put',['x'],1],['put',['x'],2]]"), OUT));
+        TELLS(ASM_CLASH, "{'clash':[['x'],'Kind']}",
+              call(agent, &step, TEXT("[['put',['z'],1],['add',['x'],1]]"), OUT));
+        TELLS(ASM_CLASH, "{'clash':[['b'],'Short']}",
+              call(agent, &step, TEXT("[['bagremove',['b'],'e',4294967295]]"), OUT));
+        TELLS(ASM_CLASH, "{'clash':[['x'],'Large']}",
+              call(agent, &step, TEXT("[['inc',['x'],9223372036854775807]]"), OUT));
+        ANSWERS(ASM_NOT_JSON, call(agent, &step, NULL, 0, OUT));
+        ANSWERS(ASM_NOT_JSON, call(agent, &step, TEXT("[["), OUT));
+        ANSWERS(ASM_SHAPE, call(agent, &step, TEXT("[['put',['x']]]"), OUT));
+        ANSWERS(ASM_SHAPE, call(agent, &step, TEXT("{'fire':[],'reads':[]}"), OUT));
+    });
+}
+
+static void refusals(void) {
+    begin_all();
+    look();
+    refused(asm_push);
+    refused(asm_extend);
+    REQUIRE(push("[['inc',['x'],1],['put',['z'],0]]") == ASM_DONE);
+    refused(asm_push);
+    refused(asm_extend);
+    REQUIRE(extend("[['bagadd',['b'],'e',1]]") == ASM_DONE && push("[]") == ASM_DONE);
+    refused(asm_push);
+    refused(asm_extend);
+    /* A dry run: a push that is popped. */
+    KEEPS({
+        REQUIRE(push("[['add',['s'],9],['put',['z'],9]]") == ASM_DONE);
+        REQUIRE(asm_pop(&step) == ASM_DONE);
+    });
+    end_all();
+}
+
+static void depths(void) {
+    begin_all();
+    look();
+    for (uint32_t i = 0; i < 64; i++)
+        REQUIRE(asm_depth(&step) == i && push("[['inc',['x'],1]]") == ASM_DONE);
+    KEEPS({
+        ANSWERS(ASM_DEEP, asm_push(&agents[0], &step, TEXT("[['inc',['x'],1]]"), OUT));
+        ANSWERS(ASM_DEEP, asm_push(&agents[0], &step, TEXT("[]"), OUT));
+    });
+    REQUIRE(extend("[['inc',['x'],1]]") == ASM_DONE && asm_depth(&step) == 64);
+    TELLS(ASM_DONE, "{'number':0,'values':[72]}", asm_get(&agents[0], &step, TEXT("[['x']]"), OUT));
+    REQUIRE(asm_pop(&step) == ASM_DONE && asm_depth(&step) == 63);
+    REQUIRE(push("[['put',['x'],0]]") == ASM_DONE);
+    for (int i = 0; i < 1000; i++)
+        REQUIRE(extend("[['inc',['x'],1]]") == ASM_DONE);
+    TELLS(ASM_DONE, "{'number':0,'values':[1000]}",
+          asm_get(&agents[0], &step, TEXT("[['x']]"), OUT));
+    REQUIRE(asm_depth(&step) == 64);
+    for (uint32_t i = 64; i > 0; i--)
+        REQUIRE(asm_depth(&step) == i && asm_pop(&step) == ASM_DONE);
+    end_all();
+}
+
+/* A move that puts to so many locations. */
+static const char *puts_to(int count) {
+    static char text[32 * LONGEST];
+    char *at = text + sprintf(text, "[");
+    for (int i = 0; i < count; i++)
+        at += sprintf(at, "%s[\"put\",[\"w\",%d],1]", i ? "," : "", i);
+    sprintf(at, "]");
+    return text;
+}
+
+/* The one move has 4,096 instructions at most, in one push or in all. */
+static void many_instructions(void) {
+    begin_all();
+    look();
+    const char *all = puts_to(4096);
+    ANSWERS(ASM_DONE, asm_push(&agents[0], &step, bytes(all), strlen(all), OUT));
+    KEEPS({
+        ANSWERS(ASM_MANY, asm_push(&agents[0], &step, TEXT("[['put',['z'],1]]"), OUT));
+        ANSWERS(ASM_MANY, asm_extend(&agents[0], &step, TEXT("[['put',['z'],1]]"), OUT));
+    });
+    REQUIRE(push("[['put',['w',7],2]]") == ASM_DONE && asm_pop(&step) == ASM_DONE);
+    REQUIRE(asm_pop(&step) == ASM_DONE && push("[['put',['z'],1]]") == ASM_DONE);
+    all = puts_to(4097);
+    KEEPS(ANSWERS(ASM_SHAPE, asm_push(&agents[0], &step, bytes(all), strlen(all), OUT)));
+    end_all();
+}
+
+int main(void) {
+    other_slots();
+    step_for_another();
+    gets();
+    gets_all();
+    pushes();
+    refusals();
+    depths();
+    many_instructions();
+    puts("passed");
+    return 0;
+}

@@ -1,0 +1,40 @@
+package folugben;
+
+/** What the tests have in common. */
+final class Checks {
+    private Checks() {}
+
+    static void equal(Object told, Object wanted) {
+        if (!told.equals(wanted))
+            throw new IllegalStateException("told " + told + ", wanted " + wanted);
+    }
+
+    static FolugbenException refused(int code, Runnable call) {
+        try {
+            call.run();
+        } catch (FolugbenException error) {
+            equal(error.code(), code);
+            return error;
+        }
+        throw new IllegalStateException("not refused: code " + code);
+    }
+
+    /** The call is refused with this number, which the message tells too, as what it counts. */
+    static void refusedAt(int code, long number, String told, Runnable call) {
+        FolugbenException error = refused(code, call);
+        equal(error.number(), number);
+        equal(error.getMessage(), FolugbenException.errorText(code) + told);
+    }
+
+    /** The call throws an exception of this class, which tells this. */
+    static void thrown(Class<? extends RuntimeException> kind, String told, Runnable call) {
+        try {
+            call.run();
+        } catch (RuntimeException error) {
+            equal(error.getClass(), kind);
+            equal(error.getMessage(), told);
+            return;
+        }
+        throw new IllegalStateException("not thrown: " + told);
+    }
+}

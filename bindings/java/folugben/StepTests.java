@@ -1,0 +1,261 @@
+package folugben;
+
+import static folugben.Checks.equal;
+import static folugben.Checks.refused;
+import static folugben.Checks.refusedAt;
+
+/** Tests of looks, steps, moves without an agent, and runs that go on. */
+final class StepTests {
+    private static final String TWICE = "[[\"put\",[\"x\"],{\"set\":[1,1]}]]";
+    private static final String INIT = "[[[\"s\"],{\"set\":[1]}],[[\"x\"],7],[[\"y\",1],\"one\"]]";
+
+    private StepTests() {}
+
+    static String inc(String name, long amount) {
+        return "[[\"inc\",[\"" + name + "\"]," + amount + "]]";
+    }
+
+    static String put(String name, String value) {
+        return "[[\"put\",[\"" + name + "\"]," + value + "]]";
+    }
+
+    static String seen(int number, String values) {
+        return "{\"number\":" + number + ",\"values\":[" + values + "]}";
+    }
+
+    static void looks() {
+        try (Storage storage = new Storage(INIT, 8); Agent agent = storage.agent(0);
+                Agent rival = storage.agent(1)) {
+            rival.fire(inc("x", 1), "[]");
+            equal(agent.peek("[[\"x\"],[\"z\"]]"), seen(0, "7,null"));
+            equal(agent.state(), new Agent.State(0, INIT));
+            equal(agent.seen(), 0);
+            equal(agent.follow(), 1);
+            equal(agent.peek("[[\"x\"]]"), seen(1, "8"));
+            equal(agent.scan("x"), new Agent.State(1, "[[[\"x\"],8]]"));
+            equal(agent.scan("y"), new Agent.State(1, "[[[\"y\",1],\"one\"]]"));
+            equal(agent.scan(""), new Agent.State(1, "[]"));
+            equal(agent.stands("[[[\"x\"],1]]"), new Agent.Reply(0, 0, 0, 0, null));
+            equal(agent.stands("[[[\"x\"],1]]").isFired(), false);
+            rival.fire(put("z", "1"), "[]");
+            Agent.Reply stale = agent.stands("[[[\"z\"],1],[[\"x\"],0]]");
+            equal(stale, new Agent.Reply(FolugbenException.STALE, 0, 0, 0, "{\"stale\":[\"x\"]}"));
+            equal(stale.isStale() && stale.shouldRetry(), true);
+            equal(agent.state().number(), 2);
+            refused(FolugbenException.NONE, agent::answer);
+            refusedAt(FolugbenException.NOT_JSON, 0, " at byte 2", () -> agent.peek("[nul]"));
+            refusedAt(FolugbenException.NOT_JSON, 0, " at byte 2", () -> agent.stands("[nul]"));
+            refused(FolugbenException.SHAPE, () -> agent.stands("[[\"x\"]]"));
+            refused(FolugbenException.SHAPE, () -> agent.peek("7"));
+            agent.give();
+            refused(FolugbenException.EMPTY, agent::follow);
+            refused(FolugbenException.EMPTY, agent::state);
+            refused(FolugbenException.EMPTY, agent::step);
+            refused(FolugbenException.EMPTY, () -> agent.scan("x"));
+        }
+    }
+
+    static void steps() {
+        try (Storage storage = new Storage(INIT, 8); Agent agent = storage.agent(0)) {
+            Step step = agent.step();
+            equal(step.number(), 0);
+            equal(step.get("[[\"x\"]]"), seen(0, "7"));
+            step.push(put("x", "10"));
+            step.extend(inc("x", 5));
+            equal(step.depth(), 1);
+            step.push("[[\"put\",[\"y\",2],\"two\"],[\"add\",[\"s\"],2]]");
+            equal(step.scan("y"), "[[[\"y\",1],\"one\"],[[\"y\",2],\"two\"]]");
+            equal(step.get("[[\"x\"],[\"s\"]]"), seen(0, "15,{\"set\":[1,2]}"));
+            step.push(put("x", "0"));
+            step.pop();
+            equal(step.depth(), 2);
+            equal(step.fire(), new Agent.Reply(0, 1, 0, 0, null));
+            equal(agent.answer(), "{\"fired\":1}");
+            equal(step.depth(), 0);
+            refused(FolugbenException.EMPTY, step::fire);
+            refused(FolugbenException.EMPTY, step::pop);
+            refused(FolugbenException.EMPTY, () -> step.get("[]"));
+            step.close();
+            step.close();
+            try (Step abandoned = agent.step()) {
+                equal(abandoned.number(), 1);
+                abandoned.push(put("x", "1"));
+            }
+            agent.give();
+            String journal = storage.closeJournal();
+            equal(Storage.check(journal), new Storage.Checked(1, 1));
+            String named = "[[\"s\"],0],[[\"x\"],0],[[\"y\",1],0],[[\"y\",2],0]";
+            equal(journal.endsWith("\"reads\":[" + named + "]},\"reply\":{\"fired\":1}}\n"), true);
+        }
+    }
+
+    /** The call is refused with this code and this answer, which the message tells too. */
+    static void told(int code, String answer, Runnable call) {
+        FolugbenException error = refused(code, call);
+        equal(error.answer(), answer);
+        equal(error.getMessage(), FolugbenException.errorText(code) + ": " + answer);
+    }
+
+    /** The same of a call on a step, which is as it was. */
+    static void objection(Step step, int code, String answer, Runnable call) {
+        int depth = step.depth();
+        String seen = step.get("[[\"x\"],[\"s\"]]");
+        told(code, answer, call);
+        equal(step.depth(), depth);
+        equal(step.get("[[\"x\"],[\"s\"]]"), seen);
+    }
+
+    static void refusals() {
+        String clash = "{\"clash\":[[\"s\"],\"Kind\"]}";
+        String nested = "[[\"add\",[\"s\"],1],[\"put\",[\"s\"],{\"set\":[{\"set\":[]}]}]]";
+        try (Storage storage = new Storage(INIT, 8); Agent agent = storage.agent(0);
+                Step step = agent.step()) {
+            refused(FolugbenException.NONE, step::pop);
+            objection(step, FolugbenException.CLASH, clash, () -> step.push(inc("s", 1)));
+            step.push(inc("x", 1));
+            objection(step, FolugbenException.CLASH, clash, () -> step.push(inc("s", 1)));
+            objection(step, FolugbenException.CLASH, clash, () -> step.extend(inc("s", 1)));
+            refusedAt(FolugbenException.SHAPE, 0, ": instruction 2: a set can't hold a set",
+                    () -> step.push(nested));
+            refusedAt(FolugbenException.NOT_JSON, 0, " at byte 3", () -> step.extend("[[nul]]"));
+            refused(FolugbenException.NOT_JSON, () -> step.push("[],\"reads\":[]"));
+            refused(FolugbenException.NOT_JSON, () -> step.get("[["));
+            refused(FolugbenException.SHAPE, () -> step.get("[7]"));
+            for (int i = 1; i < 64; i++) step.push(inc("x", 1));
+            equal(refused(FolugbenException.DEEP, () -> step.push("[]")).answer() == null, true);
+            for (int i = 0; i < 1000; i++) step.extend(inc("x", 1));
+            equal(step.get("[[\"x\"]]"), seen(0, "1071"));
+            equal(step.depth(), 64);
+            StringBuilder many = new StringBuilder("[[\"w\",0]");
+            for (int i = 1; i < 256; i++) many.append(",[\"w\"," + i + "]");
+            refused(FolugbenException.MANY, () -> step.get(many + "]"));
+            try (Step another = agent.step()) {
+                another.get(many + "]");
+                another.push(inc("x", 1));
+                refused(FolugbenException.MANY, another::fire);
+                another.pop();
+                equal(another.fire().move(), 1);
+            }
+        }
+    }
+
+    /** What rivals fire makes a step stale, or has its agent move on. */
+    static void rivals() {
+        try (Storage storage = new Storage(INIT, 4); Agent agent = storage.agent(0);
+                Agent rival = storage.agent(1)) {
+            Step step = agent.step();
+            step.push(inc("x", 1));
+            rival.fire(put("x", "70"), "[]");
+            equal(step.get("[[\"x\"]]"), seen(0, "8"));
+            equal(step.fire(), new Agent.Reply(
+                                       FolugbenException.STALE, 0, 0, 0, "{\"stale\":[\"x\"]}"));
+            equal(step.depth(), 1);
+            refused(FolugbenException.MOVED, () -> step.get("[]"));
+            refused(FolugbenException.MOVED, () -> step.push("[]"));
+            refused(FolugbenException.MOVED, () -> step.scan("x"));
+            step.close();
+            try (Step other = agent.step()) {
+                equal(other.number(), 1);
+                rival.fire(put("z", "1"), "[]");
+                other.push(inc("x", 1));
+                agent.follow();
+                refused(FolugbenException.MOVED, () -> other.extend("[]"));
+                equal(other.fire().move(), 3);
+            }
+            try (Step last = agent.step()) {
+                last.push(inc("x", 1));
+                rival.fire("[]", "[]");
+                equal(last.fire(), new Agent.Reply(FolugbenException.FULL, 0, 0, 0, null));
+                equal(last.depth(), 1);
+            }
+        }
+    }
+
+    static void moves() {
+        String two = "[[\"put\",[\"x\"],1],[\"put\",[\"x\"],2]]";
+        String clash = "{\"clash\":[[\"x\"],\"Two\"]}";
+        equal(Moves.aggregate("[[[\"x\"],1]]", inc("x", 2)), "[[[\"x\"],3]]");
+        equal(Moves.aggregate("[]", put("x", "null")), "[[[\"x\"],null]]");
+        equal(Moves.compose(put("x", "1"), inc("x", 2)), put("x", "3"));
+        String all = "[[\"bagremove\",[\"b\"],1,4294967295]]";
+        String one = "[[\"bagremove\",[\"b\"],1,1]]";
+        told(FolugbenException.CLASH, clash, () -> Moves.aggregate("[]", two));
+        told(FolugbenException.CLASH, clash, () -> Moves.compose("[]", two));
+        told(FolugbenException.LARGE, "{\"large\":[\"b\"]}", () -> Moves.compose(all, one));
+        refusedAt(FolugbenException.SHAPE, 0, ": a location stands twice (state)",
+                () -> Moves.aggregate("[[[\"x\"],1],[[\"x\"],2]]", "7"));
+        refusedAt(FolugbenException.NOT_JSON, 0, " at byte 3 (move)",
+                () -> Moves.aggregate("[]", "[[nul]]"));
+        refusedAt(FolugbenException.NOT_JSON, 0, " at byte 3 (first)",
+                () -> Moves.compose("[[nul]]", "7"));
+        refusedAt(FolugbenException.NOT_JSON, 0, " (second)", () -> Moves.compose("7", "[["));
+        String twice = ": instruction 1: an element stands twice in a set";
+        refusedAt(FolugbenException.SHAPE, 0, twice + " (first)",
+                () -> Moves.compose(TWICE, "[nul]"));
+        refusedAt(FolugbenException.SHAPE, 0, twice + " (second)",
+                () -> Moves.compose("[]", TWICE));
+        refusedAt(FolugbenException.SHAPE, 0, twice + " (move)",
+                () -> Moves.aggregate("[]", TWICE));
+    }
+
+    /** A run goes on in a storage that opens with what the one before left. */
+    static void goingOn() {
+        Storage storage = new Storage(INIT, 1);
+        refused(FolugbenException.NONE, () -> storage.next(1));
+        try (Agent agent = storage.agent(0)) {
+            agent.fire(inc("x", 1), "[]");
+            agent.give();
+        }
+        String left = Storage.replay(storage.closeJournal());
+        refused(FolugbenException.RANGE, () -> storage.next(0));
+        try (Storage next = storage.next(1); Agent agent = next.agent(0)) {
+            storage.close();
+            refused(FolugbenException.EMPTY, () -> storage.next(1));
+            equal(agent.state(), new Agent.State(0, left));
+            equal(agent.fire(inc("x", 1), "[]").move(), 1);
+            agent.give();
+            String journal = next.closeJournal();
+            equal(Storage.check(journal), new Storage.Checked(1, 1));
+            equal(Storage.replay(journal), left.replace("[[\"x\"],8]", "[[\"x\"],9]"));
+        }
+    }
+
+    /** Threads that call one step and its agent at the same time wait for each other. */
+    static void sharedByThreads() throws InterruptedException {
+        try (Storage storage = new Storage(INIT, 8); Agent agent = storage.agent(0);
+                Step step = agent.step()) {
+            Thread[] threads = new Thread[4];
+            for (int i = 0; i < threads.length; i++) {
+                threads[i] = new Thread(() -> {
+                    for (int round = 0; round < 200; round++) {
+                        step.extend(inc("x", 1));
+                        step.get("[[\"x\"]]");
+                        agent.peek("[[\"x\"]]");
+                        step.depth();
+                    }
+                });
+            }
+            for (Thread thread : threads) thread.start();
+            for (Thread thread : threads) thread.join();
+            equal(step.get("[[\"x\"]]"), seen(0, "807"));
+            equal(step.fire().isFired(), true);
+        }
+    }
+
+    static void all() throws InterruptedException {
+        looks();
+        System.out.println("looks");
+        steps();
+        System.out.println("steps");
+        refusals();
+        System.out.println("refusals");
+        rivals();
+        System.out.println("rivals");
+        moves();
+        System.out.println("moves");
+        goingOn();
+        System.out.println("going on");
+        sharedByThreads();
+        System.out.println("shared by threads");
+    }
+}

@@ -1,0 +1,290 @@
+"""Tests of storages, agents and journals: python3 test.py runs all tests."""
+import copy
+import os
+import pickle
+import unittest
+from unittest import mock
+
+import folugben
+from folugben import Agent, BadJournal, Busy, Clash, Error, Full, Missing, Stale, Storage, check, replay
+from folugben import _agent, _functions, _library, _storage
+from threads import in_threads
+
+COUNT = [["count"]]
+
+
+def add_one(agent: Agent) -> int:
+    """Adds 1 to the count, however often another agent is quicker."""
+    while True:
+        number, (count,) = agent.read(COUNT)
+        try:
+            return agent.fire([["put", ["count"], count + 1]], [[["count"], number]])
+        except (Stale, Busy):
+            pass
+
+
+class Agents(unittest.TestCase):
+    def setUp(self):
+        self.storage = Storage([[["count"], 0]], 2)
+        self.addCleanup(self.storage.free)
+
+    def code_of(self, call, *arguments):
+        with self.assertRaises(Error) as caught:
+            call(*arguments)
+        return caught.exception.code
+
+    def test_a_read_and_a_fire(self):
+        agent = self.storage.agent(0)
+        self.assertEqual(agent.read(COUNT), (0, [0]))
+        self.assertEqual(agent.fire([["put", ["count"], 1]], [[["count"], 0]]), 1)
+        self.assertEqual(agent.answer(), {"fired": 1})
+        self.assertEqual((agent.seen, agent.won), (1, 1))
+
+    def test_a_stale_fire_fires_nothing(self):
+        first, second = self.storage.agent(0), self.storage.agent(1)
+        first.fire([["put", ["count"], 1]])
+        with self.assertRaises(Stale) as caught:
+            second.fire([["put", ["count"], 9]], [[["count"], 0]])
+        self.assertEqual(caught.exception.at, ["count"])
+        self.assertEqual(str(caught.exception), folugben.error_text(folugben.STALE) + ': ["count"]')
+        self.assertEqual(second.read(COUNT), (1, [1]))
+
+    def test_a_clash_has_a_cause(self):
+        with self.assertRaises(Clash) as caught:
+            self.storage.agent(0).fire([["put", ["x"], 1], ["put", ["x"], 2]])
+        for clash in (caught.exception, pickle.loads(pickle.dumps(caught.exception))):
+            self.assertEqual((clash.at, clash.cause), (["x"], "Two"))
+            self.assertEqual(str(clash), folugben.error_text(folugben.CLASH) + ': ["x"], Two')
+
+    def test_a_full_storage(self):
+        agent = self.storage.agent(0)
+        agent.fire([])
+        agent.fire([])
+        self.assertRaises(Full, agent.fire, [])
+
+    def test_a_missing_agent(self):
+        first, second = self.storage.agent(0), self.storage.agent(1)
+        first.fire([])
+        second.read(COUNT)
+        second.give()
+        with self.assertRaises(Missing) as caught:
+            self.storage.close_journal()
+        self.assertEqual(caught.exception.numbers, (1,))
+        self.assertEqual(str(caught.exception), folugben.error_text(folugben.MISSING) + " (move 1)")
+        first.give()
+        journal = self.storage.close_journal()
+        self.assertEqual(check(journal), (2, 1))
+        self.assertEqual(replay(journal), [[["count"], 0]])
+
+    def test_a_with_gives_the_agent_back(self):
+        with self.storage.agent(3) as agent:
+            agent.fire([["put", ["count"], "ü"]])
+        self.assertEqual(replay(self.storage.close_journal()), [[["count"], "ü"]])
+
+    def test_a_with_that_an_exception_ends_gives_the_agent_back(self):
+        reader = self.storage.agent(1)
+        with self.assertRaises(KeyError), self.storage.agent(0) as agent:
+            agent.fire([["put", ["count"], 5]])
+            raise KeyError
+        self.assertEqual(reader.read(COUNT), (1, [5]))
+        reader.give()
+        self.assertEqual(check(self.storage.close_journal()), (2, 1))
+
+    def test_a_with_whose_agent_cannot_be_given_back(self):
+        agent = self.storage.agent(0)
+        self.storage.free()
+        with self.assertRaises(Error) as caught, agent:
+            raise KeyError
+        self.assertEqual(caught.exception.code, folugben.EMPTY)
+        self.assertIsInstance(caught.exception.__context__, KeyError)
+        self.assertEqual(agent.read(COUNT), (0, [0]))
+        agent.free()
+        with agent:
+            pass
+
+    def test_a_number_is_made_once(self):
+        self.storage.agent(0).give()
+        self.storage.agent(1).free()
+        for number in (0, 1):
+            self.assertEqual(self.code_of(self.storage.agent, number), folugben.NUMBER)
+        self.assertEqual(self.storage.agent(2).read(COUNT), (0, [0]))
+
+    def test_the_moves_of_an_agent_that_was_freed_are_missing(self):
+        first, lost = self.storage.agent(0), self.storage.agent(1)
+        self.assertEqual(self.storage.moves(), 0)
+        first.fire([])
+        lost.fire([])
+        lost.free()
+        self.assertEqual(self.storage.moves(), 2)
+        for wanted in (1, 2):
+            with self.assertRaises(Missing) as caught:
+                self.storage.close_journal()
+            self.assertEqual(caught.exception.numbers, (wanted,))
+            if first._slot.full:
+                first.give()
+        self.storage.free()
+        self.assertEqual(self.code_of(self.storage.moves), folugben.EMPTY)
+
+    def test_no_copy_shares_a_slot(self):
+        agent = self.storage.agent(0)
+        agent.fire([])
+        for held in (self.storage, agent):
+            for copied in (copy.copy, copy.deepcopy, pickle.dumps):
+                with self.assertRaises(TypeError) as caught:
+                    copied(held)
+                self.assertEqual(str(caught.exception), f"cannot copy or pickle '{type(held).__name__}' object")
+        agent.give()
+        self.assertEqual(check(self.storage.close_journal()), (1, 1))
+
+    def test_true_is_not_1(self):
+        both = {"set": [True, 1]}
+        storage = Storage([[["f", True], "a"], [["f", 1], "b"], [["g"], both]])
+        self.assertEqual(storage.agent(0).read([["f", True], ["f", 1], ["g"]]), (0, ["a", "b", both]))
+        self.assertEqual(len({True, 1}), 1)
+
+    def test_texts_longer_than_the_first_buffer(self):
+        agent = self.storage.agent(0)
+        agent.fire([["put", ["count"], "x" * 5000]])
+        self.assertEqual(agent.read(COUNT), (1, ["x" * 5000]))
+        self.assertEqual(agent.read([["y"]]), (1, [None]))
+        agent.give()
+        self.assertEqual(replay(self.storage.close_journal()), [[["count"], "x" * 5000]])
+
+    def test_a_buffer_is_kept_and_a_journal_replayed_once(self):
+        agent = self.storage.agent(0)
+        agent.fire([["put", ["count"], "x" * 5000]])
+        lib = mock.Mock(wraps=_library.lib)
+        with mock.patch.object(_agent, "lib", lib), mock.patch.object(_storage, "lib", lib):
+            for _ in range(3):
+                agent.read(COUNT)
+            self.assertEqual(lib.asm_answer.call_count, 4)
+            agent.give()
+            journal = self.storage.close_journal()
+            self.assertEqual(lib.asm_journal.call_count, 2)
+        with mock.patch.object(_functions, "lib", mock.Mock(wraps=_library.lib)) as lib:
+            self.assertEqual(replay(journal), [[["count"], "x" * 5000]])
+            self.assertEqual(lib.asm_replay.call_count, 1)
+
+    def test_threads_that_make_and_give_agents_of_one_storage(self):
+        # A large state makes the calls that close long, so that others begin meanwhile.
+        state = [[["count"], 0]] + [[["own", k], k] for k in range(2000)]
+
+        def work(own):
+            for turn in range(own, 240, 8):
+                with storage.agent(turn) as agent:
+                    add_one(agent)
+                try:
+                    storage.close_journal()
+                except Missing:
+                    pass
+
+        with Storage(state, 240) as storage:
+            self.assertEqual(in_threads(work, 8), ([], True))
+            journal = storage.close_journal()
+        self.assertEqual(check(journal)[1], 240)
+        self.assertEqual(replay(journal), [[["count"], 240]] + state[1:])
+
+    def test_agents_that_learn_of_each_other_at_once(self):
+        agents = [self.storage.agent(0), self.storage.agent(1)]
+
+        def work(own):
+            for _ in range(2000):
+                agents[own].learn(agents[1 - own])
+
+        self.assertEqual(in_threads(work, 2), ([], True))
+
+    def test_numbers_that_have_no_32_bits(self):
+        for number in (2**32, 2**32 + 1, 2**64 + 1, -1):
+            self.assertEqual(self.code_of(self.storage.agent, number), folugben.RANGE)
+            self.assertEqual(self.code_of(Storage, (), number), folugben.RANGE)
+        self.assertRaises(TypeError, self.storage.agent, 0.5)
+        self.assertEqual(folugben.error_text(2**32), folugben.error_text(23))
+
+    def test_codes(self):
+        agent, other = self.storage.agent(0), Storage()
+        self.addCleanup(other.free)
+        self.assertEqual(self.code_of(Storage, (), 0), folugben.RANGE)
+        self.assertEqual(self.code_of(Storage, [1]), folugben.SHAPE)
+        self.assertEqual(self.code_of(self.storage.agent, 256), folugben.RANGE)
+        self.assertEqual(self.code_of(agent.read, COUNT * 257), folugben.MANY)
+        self.assertEqual(self.code_of(agent.read, [["1"]]), folugben.SHAPE)
+        self.assertEqual(self.code_of(agent.answer), folugben.NONE)
+        self.assertEqual(self.code_of(other.give, agent), folugben.OTHER)
+        self.assertEqual(self.code_of(agent.learn, other.agent(1)), folugben.OTHER)
+        self.assertEqual(self.code_of(agent.learn, agent), folugben.EMPTY)
+        agent.give()
+        self.assertEqual(self.code_of(agent.read, COUNT), folugben.EMPTY)
+
+    def test_journals(self):
+        with self.storage.agent(0) as agent:
+            agent.fire([])
+        journal = self.storage.close_journal()
+        event = "an event is an object with the members agent, call and reply"
+        instruction = "instruction 1: an instruction is an array of a word, a location and operands"
+        for text, code, numbers, behind in [
+            (b"", folugben.CUT, (), ""),
+            (b"{\n", folugben.NOT_JSON, (1,), " (line 1)"),
+            (b"{}\n", folugben.SHAPE, (1,), " (line 1)"),
+            (journal + b"7\n", folugben.SHAPE, (3,), f": {event} (line 3)"),
+            (journal + journal.split(b"\n")[1] + b"\n", folugben.SHAPE, (3,), " (line 3)"),
+            (journal.replace(b'"agent"', b'"Agent"'), folugben.SHAPE, (2,), f": {event} (line 2)"),
+            (journal.replace(b'"fire":[]', b'"fire":[7]'), folugben.SHAPE, (2,), f": {instruction} (line 2)"),
+            (journal[:-1], folugben.CUT, (), ""),
+            (journal.replace(b'"version":2', b'"version":3'), folugben.VERSION, (), ""),
+            (journal.replace(b'"fired":1', b'"fired":2'), folugben.ILLEGAL, (0,), " (call 0, counted from 0)"),
+        ]:
+            with self.assertRaises(BadJournal) as caught:
+                check(text)
+            error = caught.exception
+            self.assertEqual((error.code, error.numbers), (code, numbers), text)
+            self.assertEqual(str(error), folugben.error_text(code) + behind)
+
+    def test_an_error_is_told_in_words(self):
+        busy = Busy(folugben.BUSY, (3, 67))
+        told = "64 offers were lost (the agent had seen 3 moves at the start of the call and 67 at its end)"
+        self.assertEqual(str(busy), told)
+        self.assertEqual(str(pickle.loads(pickle.dumps(busy))), told)
+        self.assertEqual(str(Error(folugben.NOT_JSON)), "not JSON")
+
+    def test_a_refused_text_says_where(self):
+        agent = self.storage.agent(0)
+        nested = [["add", ["s"], 1], ["inc", ["x"], 2], ["put", ["s"], {"set": [{"set": []}]}]]
+        shape = "JSON of another shape: "
+        for said, call, *arguments in [
+            (shape + "pair 1: a pair is an array of a location and its value", Storage, [1]),
+            ("not JSON at byte 9", Storage, [[["x"], float("nan")]]),
+            (shape + "location 2: a location can't hold a bag", agent.read, [["x"], ["y", {"bag": []}]]),
+            (shape + "instruction 3: a set can't hold a set", agent.fire, nested),
+            (shape + "4,097 instructions, at most 4,096", agent.fire, [["put", ["x"], 1]] * 4097),
+            (shape + "read 2: a read is an array of a location and a number", agent.fire, [], [[["x"], 0], ["x"]]),
+        ]:
+            with self.assertRaises(Error) as caught:
+                call(*arguments)
+            self.assertEqual(str(caught.exception), said)
+            self.assertEqual(str(pickle.loads(pickle.dumps(caught.exception))), said)
+
+    def test_texts_are_explained(self):
+        self.assertEqual(folugben.explain(folugben.LOCATIONS, b'[["x"]]'), "")
+        self.assertEqual(folugben.explain(folugben.MOVE, b'[["x"]'), "not JSON: cut off after byte 6")
+        for form in (-1, 4, 2**32):
+            self.assertEqual(self.code_of(folugben.explain, form, b"[]"), folugben.RANGE)
+
+    def test_texts_of_codes(self):
+        texts = [folugben.error_text(code) for code in range(24)]
+        self.assertEqual(len(set(texts)), 24)
+        self.assertEqual(folugben.error_text(-1), texts[23])
+        self.assertEqual(folugben.version(), 2000)
+
+    def test_a_library_of_another_version_is_refused(self):
+        with mock.patch.object(_library, "WRITTEN_FOR", 1000), self.assertRaises(ImportError) as caught:
+            _library.load()
+        self.assertIn("has version 2000, and this package was written for 1000", str(caught.exception))
+
+    def test_an_empty_path_is_none(self):
+        for path, found in (("", str(_library.BUILT)), ("/a/b.so", "/a/b.so")):
+            with mock.patch.dict(os.environ, FOLUGBEN_LIBRARY=path):
+                self.assertEqual(_library.path(), found)
+
+
+if __name__ == "__main__":
+    unittest.main()

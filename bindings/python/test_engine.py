@@ -1,0 +1,152 @@
+"""Tests of the engine's rules and machines, and of the page on it: python3 test.py runs all tests."""
+import pathlib
+import re
+import unittest
+
+import engine
+from checkout import ROOT
+from engine import bank, crossing, philosophers
+from engine.agents import run, states
+from engine.rules import Add, Choose, Forall, If, Instruction, Iterate, Let, Par, Remove, Seq, Update
+from folugben import Clash, Stale, Storage, check
+from threads import in_threads
+
+COUNT = ["count"]
+INIT = [[COUNT, 3], [["s"], {"set": [1]}], [["f", 1], "a"], [["f", 2], "b"], [["f", 3], "a"]]
+
+
+def count(see):
+    return see(COUNT)
+
+
+def raised(by=1):
+    return Update(COUNT, lambda see: see(COUNT) + by)
+
+
+class Rules(unittest.TestCase):
+    def setUp(self):
+        self.storage = Storage(INIT)
+        self.addCleanup(self.storage.free)
+        self.agent, self.rival = self.storage.agent(0), self.storage.agent(1)
+
+    def played(self, rule, *places):
+        """The values at the locations once the rule has fired."""
+        with self.agent.step() as step:
+            rule.play(step)
+            step.fire()
+        self.agent.follow()
+        return self.agent.peek(places)[1]
+
+    def test_par_sees_one_state(self):
+        swap = Par(Update(["f", 1], lambda see: see(["f", 2])), Update(["f", 2], lambda see: see(["f", 1])))
+        self.assertEqual(self.played(Par(swap, Add(["s"], count), Remove(["s"], 1)), ["f", 1], ["f", 2], ["s"]),
+                         ["b", "a", {"set": [3]}])
+
+    def test_seq_sees_what_was_done(self):
+        rule = Seq(raised(), raised(), Update(["g"], count))
+        self.assertEqual(self.played(rule, COUNT, ["g"]), [5, 5])
+
+    def test_if_and_let(self):
+        rule = Par(
+            If(lambda see: see(COUNT) == 3, Update(["yes"], 1), Update(["no"], 1)),
+            If(False, Update(["no"], 1)),
+            Let(count, lambda three: Update(["let"], three + 1)),
+        )
+        self.assertEqual(self.played(rule, ["yes"], ["no"], ["let"]), [1, None, 4])
+
+    def test_iterate_ends_without_updates(self):
+        rule = Seq(Update(["sum"], 0), Iterate(Let(count, lambda rest: If(rest > 0, Par(
+            raised(-1), Update(["sum"], lambda see: see(["sum"]) + rest),
+        )))))
+        self.assertEqual(self.played(rule, COUNT, ["sum"]), [0, 6])
+
+    def test_choose_and_forall(self):
+        def is_a(_, value):
+            return value == "a"
+
+        def mark(name):
+            return lambda at, _: Update([name, at[1]], True)
+
+        rule = Par(
+            Choose("f", is_a, mark("chosen")), Forall("f", is_a, mark("all")),
+            Choose("f", lambda *_: False, mark("none"), otherwise=Update(["otherwise"], 1)),
+            Choose("f", lambda *_: False, mark("none")),
+        )
+        self.assertEqual(self.played(rule, ["all", 1], ["all", 2], ["all", 3], ["otherwise"]), [True, None, True, 1])
+        self.assertEqual(self.agent.scan("none")[1], [])
+        ((chosen, _),) = self.agent.scan("chosen")[1]
+        self.assertIn(chosen, [["chosen", 1], ["chosen", 3]])
+
+    def test_rules_in_sequence_beside_others_are_dry_runs(self):
+        inner = Seq(raised(), Iterate(If(lambda see: see(COUNT) < 9, raised(2))), Update(["inner"], count))
+        rule = Par(inner, Update(["beside"], count), Seq(raised(0), Update(["beside", 2], count)))
+        with self.assertRaises(Clash) as caught, self.agent.step() as step:
+            rule.play(step)
+        self.assertEqual((caught.exception.at, caught.exception.cause), (COUNT, "Two"))
+        rule = Par(inner, Update(["beside"], count))
+        self.assertEqual(self.played(rule, COUNT, ["inner"], ["beside"]), [10, 10, 3])
+
+    def test_a_dry_run_is_rested_on(self):
+        # In sequence these come to nothing, but on a number alone.
+        rule = Par(Seq(Instruction("inc", COUNT, 1), Instruction("inc", COUNT, -1)), Update(["g"], 1))
+        with self.agent.step() as step:
+            rule.play(step)
+            self.rival.fire([["put", COUNT, "no number"]])
+            with self.assertRaises(Stale) as caught:
+                step.fire()
+        self.assertEqual(caught.exception.at, COUNT)
+
+    def test_a_clash_in_a_sequence_is_told(self):
+        for rule in (Seq(Par(raised(), Update(COUNT, 9)), raised()), Par(Seq(Update(["s"], 1), Add(["s"], 2)))):
+            with self.assertRaises(Clash), self.agent.step() as step:
+                rule.play(step)
+
+
+class Machines(unittest.TestCase):
+    def test_machines(self):
+        moves = {philosophers: 200, bank: 80, crossing: None}
+        for machine, fired in moves.items():
+            with self.subTest(machine.__name__):
+                journal = run(machine.INIT, machine.PROGRAMS)
+                _, number = check(journal)
+                self.assertIn(fired, (number, None))
+                self.assertTrue(all(map(machine.holds, states(journal))))
+
+    def test_the_conditions_can_fail(self):
+        for machine, state in [
+            (philosophers, [[["eating"], {"set": [0, 1]}]]),
+            (philosophers, [[["eating"], {"set": [0, 4]}]]),
+            (bank, [*bank.INIT[1:], [["account", 0], 101]]),
+            (crossing, [[["gate"], "open"], [["train", 2], "crossing"], [["train", 0], "away"]]),
+        ]:
+            with Storage(state) as storage, storage.agent(0) as agent:
+                self.assertFalse(machine.holds(agent), state)
+
+    def test_each_state_is_visited(self):
+        journal = run([[COUNT, 0]], [(raised(), lambda agent: agent.won == 20)] * 4)
+        self.assertEqual([agent.peek([COUNT])[1] for agent in states(journal)], [[k] for k in range(81)])
+
+    def test_an_error_of_one_program_ends_all(self):
+        def work(_):
+            waits = If(False, raised()), lambda agent: False
+            with self.assertRaises(Clash):
+                run([], [waits, (Par(Update(COUNT, 1), Update(COUNT, 2)), lambda agent: False), waits])
+
+        self.assertEqual(in_threads(work, 1), ([], True))
+
+
+class Page(unittest.TestCase):
+    def test_the_page_shows_the_code(self):
+        page = (ROOT / "docs" / "ENGINE.md").read_text()
+        first, *blocks = re.findall(r"```python\n(.*?)\n```", page, re.DOTALL)
+        code = [file.read_text() for file in pathlib.Path(engine.__file__).parent.glob("*.py")]
+        for part in "\n\n\n".join(blocks).split("\n\n\n"):
+            self.assertEqual(sum(part in file for file in code), 1, part)
+        with Storage(INIT) as storage, storage.agent(0) as agent:
+            exec(first, {"agent": agent})
+            agent.follow()
+            self.assertEqual(agent.peek([COUNT, ["double"]]), (1, [4, 8]))
+
+
+if __name__ == "__main__":
+    unittest.main()

@@ -1,0 +1,175 @@
+"""Tests of an agent's own state and of storages that go on: python3 test.py runs all tests."""
+import json
+import unittest
+
+import folugben
+from folugben import Error, Many, Stale, Storage, check, replay
+from threads import in_threads
+
+COUNT = [["count"]]
+STATE = [[["count"], 0], [["f", 1], "one"], [["f", True], {"set": [1, True]}], [["g"], "ü"]]
+
+
+class Looks(unittest.TestCase):
+    def setUp(self):
+        self.storage = Storage(STATE, 100)
+        self.addCleanup(self.storage.free)
+        self.agent, self.rival = self.storage.agent(0), self.storage.agent(1)
+
+    def code_of(self, call, *arguments):
+        with self.assertRaises(Error) as caught:
+            call(*arguments)
+        return caught.exception.code
+
+    def test_the_own_state_moves_on_in_a_look(self):
+        self.rival.fire([["put", ["count"], 1]])
+        self.assertEqual(self.agent.peek(COUNT), (0, [0]))
+        self.assertEqual(self.agent.follow(), 1)
+        self.assertEqual(self.agent.peek([["count"], ["f", True], ["none"]]), (1, [1, {"set": [True, 1]}, None]))
+        self.rival.fire([["put", ["count"], 2]])
+        self.assertEqual(self.agent.peek([]), (1, []))
+        self.assertEqual(self.agent.read(COUNT), (2, [2]))
+        self.assertEqual(self.agent.peek(COUNT), (2, [2]))
+        self.assertEqual(self.agent.fire([["put", ["count"], 3]], [[["count"], 2]]), 3)
+        self.assertEqual((self.agent.seen, self.agent.follow()), (3, 3))
+        self.assertEqual(self.agent.peek(COUNT), (3, [3]))
+
+    def test_the_whole_state_and_one_name(self):
+        ascending = [[["count"], 0], [["f", True], {"set": [True, 1]}], [["f", 1], "one"], [["g"], "ü"]]
+        number, pairs = self.agent.state()
+        self.assertEqual((number, repr(pairs)), (0, repr(ascending)))
+        self.assertEqual(repr(self.agent.scan("f")), repr((0, ascending[1:3])))
+        for name in ("none", "", "no name", "f\0", "ü"):
+            self.assertEqual(self.agent.scan(name), (0, []))
+        self.rival.fire([["put", ["f", 1], None], ["put", ["f", 2], 2**63 - 1]])
+        self.assertEqual(self.agent.follow(), 1)
+        self.assertEqual(repr(self.agent.scan("f")), repr((1, [ascending[1], [["f", 2], 2**63 - 1]])))
+        self.assertEqual(self.agent.state(), (1, [ascending[0], ascending[1], [["f", 2], 2**63 - 1], ascending[3]]))
+
+    def test_what_was_peeked_at_is_named(self):
+        number, (count,) = self.agent.peek(COUNT)
+        self.rival.fire([["put", ["g"], 1]])
+        self.assertEqual(self.agent.fire([["put", ["count"], count + 1]], [[["count"], number]]), 2)
+        self.rival.fire([["put", ["count"], 7]])
+        with self.assertRaises(Stale) as caught:
+            self.agent.fire([["put", ["g"], 2]], [[at, 2] for at, _ in self.agent.state()[1]])
+        self.assertEqual(caught.exception.at, ["count"])
+
+    def test_whether_reads_still_stand(self):
+        reads = [[["g"], 0], [["count"], 0], [["f", 1], 0]]
+        self.assertIsNone(self.agent.stands(reads))
+        self.assertIsNone(self.agent.stands([]))
+        self.rival.fire([["put", ["g"], 1], ["put", ["f", 1], 2]])
+        self.assertEqual(self.agent.stands(iter(reads)), ["f", 1])
+        self.assertEqual(self.agent.peek([["g"]]), (1, [1]))
+        self.assertIsNone(self.agent.stands([[["g"], 1], [["f", True], 0]]))
+
+    def test_looks_leave_no_receipt(self):
+        for _ in range(50):
+            self.agent.follow()
+            self.agent.peek(COUNT)
+            self.agent.state()
+            self.agent.scan("f")
+            self.agent.stands([[["count"], 0]])
+        self.agent.give()
+        self.rival.give()
+        self.assertEqual(check(self.storage.close_journal()), (0, 0))
+
+    def test_texts_longer_than_the_buffer(self):
+        long = "x" * 5000
+        self.rival.fire([["put", ["h", k], long] for k in range(20)])
+        self.assertEqual(self.agent.follow(), 1)
+        self.assertEqual(self.agent.peek([["h", 3]]), (1, [long]))
+        self.assertEqual(self.agent.scan("h"), (1, [[["h", k], long] for k in range(20)]))
+        self.assertEqual(len(self.agent.state()[1]), 24)
+        self.assertEqual(self.agent.peek(COUNT * 1000), (1, [0] * 1000))
+
+    def test_codes(self):
+        shape = "JSON of another shape: "
+        for said, call, *arguments in [
+            (shape + "location 2: a location can't hold a bag", self.agent.peek, [["x"], ["y", {"bag": []}]]),
+            (shape + "read 2: a read is an array of a location and a number", self.agent.stands, [[["x"], 0], ["x"]]),
+            ("not JSON at byte 9", self.agent.stands, [[["x"], float("nan")]]),
+        ]:
+            with self.subTest(said), self.assertRaises(Error) as caught:
+                call(*arguments)
+            self.assertEqual(str(caught.exception), said)
+        self.assertRaises(Many, self.agent.stands, [[["x"], 0]] * 257)
+        self.assertRaises(UnicodeEncodeError, self.agent.scan, "\ud800")
+        self.agent.give()
+        for call, *arguments in [
+            (self.agent.follow,), (self.agent.state,), (self.agent.peek, COUNT), (self.agent.scan, "f"),
+            (self.agent.stands, []),
+        ]:
+            self.assertEqual(self.code_of(call, *arguments), folugben.EMPTY)
+
+
+class Next(unittest.TestCase):
+    def test_a_storage_goes_on_where_another_ended(self):
+        with Storage(STATE, 2) as first:
+            with self.assertRaises(Error) as caught:
+                first.next()
+            self.assertEqual(caught.exception.code, folugben.NONE)
+            with first.agent(0) as agent:
+                agent.fire([["put", ["count"], 5], ["add", ["f", True], "more"]])
+                agent.fire([["put", ["g"], None]])
+                self.assertRaises(folugben.Full, agent.fire, [])
+            journal = first.close_journal()
+            second = first.next(3)
+            self.assertEqual(first.close_journal(), journal)
+        # It needs the first one no more, and its agents have their numbers anew.
+        with second:
+            with second.agent(0) as agent:
+                self.assertEqual(agent.read([["count"], ["f", 1], ["g"]]), (0, [5, "one", None]))
+                for number in (1, 2, 3):
+                    self.assertEqual(agent.fire([["put", ["count"], number]]), number)
+                self.assertRaises(folugben.Full, agent.fire, [])
+            later = second.close_journal()
+        self.assertEqual((check(journal), check(later)), ((3, 2), (5, 3)))
+        header = json.loads(later.splitlines()[0])
+        self.assertEqual(repr(header["init"]), repr(replay(journal)))
+        self.assertEqual(header["capacity"], 3)
+
+    def test_numbers_and_slots(self):
+        storage = Storage()
+        with storage.agent(0):
+            pass
+        storage.close_journal()
+        for capacity in (0, 2**20 + 1, 2**32 + 1, -1):
+            with self.assertRaises(Error) as caught:
+                storage.next(capacity)
+            self.assertEqual(caught.exception.code, folugben.RANGE)
+        self.assertRaises(TypeError, storage.next, 0.5)
+        with storage.next() as following:
+            self.assertIsInstance(following, Storage)
+        for again in (storage, following):
+            again.free()
+            with self.assertRaises(Error) as caught:
+                again.next()
+            self.assertEqual(caught.exception.code, folugben.EMPTY)
+
+    def test_a_run_of_several_storages_in_threads(self):
+        def work(own):
+            with storage.agent(own) as agent:
+                for _ in range(20):
+                    while True:
+                        number, (count,) = agent.read(COUNT)
+                        try:
+                            agent.fire([["put", ["count"], count + 1]], [[["count"], number]])
+                            break
+                        except (folugben.Stale, folugben.Busy):
+                            pass
+
+        storage, journals = Storage([[["count"], 0]], 160), []
+        for _ in range(3):
+            self.assertEqual(in_threads(work, 8), ([], True))
+            journals.append(storage.close_journal())
+            storage = storage.next(160)
+        inits = [json.loads(journal.splitlines()[0])["init"] for journal in journals]
+        self.assertEqual(inits, [[[["count"], count]] for count in (0, 160, 320)])
+        self.assertEqual([check(journal)[1] for journal in journals], [160] * 3)
+        self.assertEqual(storage.agent(0).read(COUNT), (0, [480]))
+
+
+if __name__ == "__main__":
+    unittest.main()

@@ -1,0 +1,299 @@
+"""Tests of steps: python3 test.py runs all tests."""
+import copy
+import json
+import pathlib
+import pickle
+import unittest
+from unittest import mock
+
+import folugben
+from folugben import Clash, Deep, Error, Full, Many, Moved, Over, Stale, Storage, _library, _step, check, replay
+
+COUNT = [["count"]]
+
+
+def put(value, *at):
+    return [["put", list(at or ["count"]), value]]
+
+
+def memory():
+    """How many bytes this process has in memory."""
+    return int(pathlib.Path("/proc/self/statm").read_text().split()[1]) * 4096
+
+
+class Steps(unittest.TestCase):
+    def setUp(self):
+        init = [[["count"], 0], [["bag"], {"bag": [["e", 1]]}], [["f", 1], 1], [["f", 2], 2]]
+        self.storage = Storage(init, 50)
+        self.addCleanup(self.storage.free)
+        self.agent, self.rival = self.storage.agent(0), self.storage.agent(1)
+
+    def assert_over(self, step):
+        for call, *arguments in [
+            (step.get, COUNT), (step.scan, "f"), (step.push, []), (step.extend, []), (step.pop,), (step.fire,),
+        ]:
+            with self.assertRaises(Over) as caught:
+                call(*arguments)
+            self.assertEqual(caught.exception.code, folugben.EMPTY)
+            self.assertEqual(str(caught.exception), "the step is over: it was fired, or freed as at the end of its `with`")
+        self.assertEqual(step.depth, 0)
+        step.free()
+
+    def test_one_move_does_what_the_pushed_ones_do_in_turn(self):
+        self.rival.fire([])
+        with self.agent.step() as step:
+            self.assertEqual((step.number, step.depth), (1, 0))
+            self.assertEqual(step.get([["count"], ["none"]]), [0, None])
+            step.push(put(7))
+            step.push([["inc", ["count"], 1], ["put", ["f", 3], True]])
+            self.assertEqual((step.get(COUNT), step.depth), ([8], 2))
+            self.assertEqual(repr(step.scan("f")), repr([[["f", 1], 1], [["f", 2], 2], [["f", 3], True]]))
+            step.extend([["inc", ["count"], 1], ["put", ["f", 1], None]])
+            self.assertEqual((step.get(COUNT), step.depth), ([9], 2))
+            self.assertEqual(step.scan("f"), [[["f", 2], 2], [["f", 3], True]])
+            self.assertEqual(self.agent.peek(COUNT), (1, [0]))
+            self.assertEqual(step.fire(), 2)
+            self.assertEqual(self.agent.answer(), {"fired": 2})
+            self.assertEqual(step.number, 1)
+            self.assert_over(step)
+        self.assertEqual(self.rival.read([["count"], ["f", 1], ["f", 3]]), (2, [9, None, True]))
+
+    def test_a_pop_takes_the_last_move_and_its_extensions_away(self):
+        with self.agent.step() as step:
+            step.extend(put(1))
+            step.push(put(2))
+            step.extend(put(3))
+            self.assertEqual((step.get(COUNT), step.depth), ([3], 2))
+            step.pop()
+            self.assertEqual((step.get(COUNT), step.depth), ([1], 1))
+            step.pop()
+            self.assertEqual((step.get(COUNT), step.depth), ([0], 0))
+            with self.assertRaises(Error) as caught:
+                step.pop()
+            self.assertEqual(caught.exception.code, folugben.NONE)
+            self.assertEqual(step.fire(), 1)
+        self.assertEqual(self.rival.read(COUNT), (1, [0]))
+
+    def test_a_step_that_is_not_fired_leaves_nothing(self):
+        with self.assertRaises(KeyError), self.agent.step() as step:
+            step.get(COUNT)
+            step.push(put(1))
+            raise KeyError
+        self.assert_over(step)
+        self.assertEqual(self.rival.read(COUNT), (0, [0]))
+        self.agent.give()
+        self.rival.give()
+        self.assertEqual(check(self.storage.close_journal()), (1, 0))
+
+    def test_gets_and_a_fire_leave_one_receipt(self):
+        with self.agent.step() as step:
+            for at in (["count"], ["bag"], ["f", 1], ["f", 2], ["none"]):
+                step.get([at])
+            step.push(put(1))
+            step.fire()
+        self.agent.give()
+        self.rival.give()
+        journal = self.storage.close_journal()
+        self.assertEqual(check(journal), (1, 1))
+        (event,) = map(json.loads, journal.splitlines()[1:])
+        reads = [[["bag"], 0], [["count"], 0], [["f", 1], 0], [["f", 2], 0], [["none"], 0]]
+        self.assertEqual(event["call"], {"fire": put(1), "reads": reads})
+
+    def test_a_rival_makes_it_stale_and_the_state_goes_on(self):
+        step = self.agent.step()
+        step.get([["f", 1], ["count"]])
+        step.push(put(1))
+        self.rival.fire(put(5))
+        # The own state stands still until the fire.
+        self.assertEqual(step.get(COUNT), [1])
+        with self.assertRaises(Stale) as caught:
+            step.fire()
+        self.assertEqual(caught.exception.at, ["count"])
+        self.assertEqual(self.agent.answer(), {"stale": ["count"]})
+        for call, *arguments in [(step.get, COUNT), (step.scan, "f"), (step.push, []), (step.extend, [])]:
+            self.assertRaises(Moved, call, *arguments)
+        self.assertRaises(Stale, step.fire)
+        self.assertEqual(step.depth, 1)
+        with self.agent.step() as again:
+            self.assertEqual((again.number, again.get(COUNT)), (1, [5]))
+            again.push(put(6))
+            self.assertEqual(again.fire(), 2)
+        step.free()
+        self.assert_over(step)
+
+    def test_what_was_not_got_does_not_matter(self):
+        with self.agent.step() as step:
+            step.push(put(1))
+            step.get(COUNT)
+            step.pop()
+            step.push(put("g", "g"))
+            self.rival.fire([["put", ["g"], 1], ["put", ["f", 1], 7]])
+            self.assertEqual(step.fire(), 2)
+
+    def test_partial_updates_are_named(self):
+        # In sequence they come to nothing, but on a bag and on a number alone.
+        for at, moves in [
+            (["bag"], [[["bagadd", ["bag"], "e", 1]], [["bagremove", ["bag"], "e", 1]]]),
+            (["count"], [[["inc", ["count"], 1]], [["inc", ["count"], -1]]]),
+        ]:
+            with self.agent.step() as step:
+                for move in moves:
+                    step.push(move)
+                self.rival.fire(put("text", *at))
+                with self.assertRaises(Stale) as caught:
+                    step.fire()
+                self.assertEqual(caught.exception.at, at)
+
+    def test_scanned_locations_are_got(self):
+        with self.agent.step() as step:
+            self.assertEqual(step.scan("f"), [[["f", 1], 1], [["f", 2], 2]])
+            self.rival.fire(put(3, "f", 3))
+            self.assertEqual(step.fire(), 2)
+        with self.agent.step() as step:
+            step.scan("f")
+            self.rival.fire(put(4, "f", 3))
+            with self.assertRaises(Stale) as caught:
+                step.fire()
+            self.assertEqual(caught.exception.at, ["f", 3])
+
+    def test_a_clash_leaves_the_step_as_it_was(self):
+        with self.agent.step() as step:
+            step.push(put("text"))
+            for grow in (step.push, step.extend):
+                with self.assertRaises(Clash) as caught:
+                    grow([["put", ["f", 1], 9], ["inc", ["count"], 1]])
+                self.assertEqual((caught.exception.at, caught.exception.cause), (["count"], "Kind"))
+            self.assertEqual((step.get([["count"], ["f", 1]]), step.depth), (["text", 1], 1))
+            self.assertEqual(step.fire(), 1)
+        self.assertEqual(self.rival.read([["count"], ["f", 1]]), (1, ["text", 1]))
+
+    def test_a_full_storage(self):
+        with Storage([], 1) as storage, storage.agent(0) as agent:
+            agent.fire([])
+            with agent.step() as step:
+                step.push(put(1))
+                self.assertRaises(Full, step.fire)
+                self.assertEqual(step.get(COUNT), [1])
+
+    def test_64_moves_are_pushed_and_any_number_extends(self):
+        with self.agent.step() as step:
+            for k in range(64):
+                step.push(put(k))
+            self.assertRaises(Deep, step.push, put(64))
+            for k in range(1000):
+                step.extend([["inc", ["count"], 1]])
+            self.assertEqual((step.depth, step.get(COUNT)), (64, [1063]))
+            self.assertEqual(step.fire(), 1)
+        self.assertEqual(self.rival.read(COUNT), (1, [1063]))
+
+    def test_limits(self):
+        with self.agent.step() as step:
+            step.get([["x", k] for k in range(256)])
+            step.get([["x", 7]] * 300)
+            self.assertRaises(Many, step.get, [["y"]])
+            self.assertRaises(Many, step.scan, "f")
+            self.assertEqual(step.scan("none"), [])
+            step.push([["inc", ["count"], 1]])
+            self.assertRaises(Many, step.fire)
+            step.pop()
+            step.push([["put", ["y", k], k] for k in range(4096)])
+            for grow in (step.push, step.extend):
+                self.assertRaises(Many, grow, put(1, "z"))
+            step.extend(put(1, "y", 5))
+            self.assertEqual(step.fire(), 1)
+
+    def test_refused_texts(self):
+        shape = "JSON of another shape: "
+        with self.agent.step() as step:
+            for said, call, *arguments in [
+                (shape + "location 2: a location can't hold a bag", step.get, [["x"], ["y", {"bag": []}]]),
+                (shape + "instruction 2: a set can't hold a set", step.push, put(1) + put({"set": [{"set": []}]})),
+                (shape + "4,097 instructions, at most 4,096", step.extend, put(1) * 4097),
+                ("not JSON at byte 19", step.push, put(float("nan"))),
+            ]:
+                with self.subTest(said), self.assertRaises(Error) as caught:
+                    call(*arguments)
+                self.assertEqual(str(caught.exception), said)
+            self.assertRaises(UnicodeEncodeError, step.scan, "\ud800")
+            self.assertEqual(step.depth, 0)
+
+    def test_numbers_and_long_texts(self):
+        long, least = "x" * 5000, -(2**63)
+        with self.agent.step() as step:
+            step.push(put(long) + put(least, "g") + put(True, "h", 1) + put(1, "h", True))
+            self.assertEqual(step.get([["count"], ["g"]]), [long, least])
+            self.assertEqual(repr(step.scan("h")), repr([[["h", True], 1], [["h", 1], True]]))
+            self.assertEqual(step.scan("count"), [[["count"], long]])
+            step.fire()
+        with self.agent.step() as step:
+            step.get([["count"]])
+            step.push(put(long, "g"))
+            self.rival.fire(put(0))
+            self.assertRaises(Stale, step.fire)
+
+    def test_two_steps_of_one_agent(self):
+        first, second = self.agent.step(), self.agent.step()
+        first.push(put(1))
+        second.push([["put", ["g"], first.get(COUNT)[0]]])
+        self.assertEqual(second.get([["count"], ["g"]]), [0, 1])
+        self.assertEqual(second.fire(), 1)
+        self.assertEqual(self.agent.follow(), 1)
+        self.assertRaises(Moved, first.get, COUNT)
+        self.assertEqual(first.fire(), 2)
+        self.assertEqual(self.rival.read([["count"], ["g"]]), (2, [1, 1]))
+
+    def test_an_agent_that_was_given_back_has_no_step(self):
+        step = self.agent.step()
+        self.agent.give()
+        for call, *arguments in [(step.get, COUNT), (step.push, []), (step.fire,), (self.agent.step,)]:
+            with self.assertRaises(Error) as caught:
+                call(*arguments)
+            self.assertEqual((type(caught.exception), caught.exception.code), (Error, folugben.EMPTY))
+        self.assertEqual(step.depth, 0)
+        step.free()
+
+    def test_no_copy_shares_a_slot(self):
+        with self.agent.step() as step:
+            for copied in (copy.copy, copy.deepcopy, pickle.dumps):
+                with self.assertRaises(TypeError) as caught:
+                    copied(step)
+                self.assertEqual(str(caught.exception), "cannot copy or pickle 'Step' object")
+
+    def test_a_step_that_is_dropped_is_freed(self):
+        with mock.patch.object(folugben._held, "lib", mock.Mock(wraps=_library.lib)) as lib:
+            step = self.agent.step()
+            del step
+            self.assertEqual(lib.asm_free.call_count, 1)
+
+    def test_an_amount_that_is_too_large_has_a_location(self):
+        # No step of the agent's own storage leads to it, so the library's answer is made up.
+        def push(agent, step, move, size, out, room, written):
+            out[:17] = b'{"large":["bag"]}'
+            written.value = 17
+            return folugben.LARGE
+
+        with self.agent.step() as step, mock.patch.object(_step.lib, "asm_push", push):
+            with self.assertRaises(folugben.Large) as caught:
+                step.push([])
+            self.assertEqual(caught.exception.at, ["bag"])
+
+    def test_gets_take_no_memory(self):
+        places = [["f", 1], ["f", 2], ["count"], ["bag"], ["x" * 64, "y" * 64]]
+        with self.agent.step() as step:
+            def work(times):
+                for _ in range(times):
+                    step.get(places)
+                    step.push([["inc", ["count"], 1], ["put", ["x" * 64, "y" * 64], "z" * 64]])
+                    step.pop()
+
+            work(2000)
+            before = memory()
+            work(40_000)
+            self.assertLess(memory() - before, 2**20)
+        self.agent.give()
+        self.rival.give()
+        self.assertEqual(check(self.storage.close_journal()), (0, 0))
+
+
+if __name__ == "__main__":
+    unittest.main()
