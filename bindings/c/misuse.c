@@ -264,7 +264,7 @@ static void explains(void) {
     REQUIRE((written > 0) == (wanted != ASM_RANGE && found != ASM_DONE));
 }
 
-/* Checks and replays a journal that is cut off, or has one bit that is another. */
+/* Checks, replays and traces a journal that is cut off, or has one bit that is another. */
 static void judges(uint8_t *journal, size_t len) {
     uint8_t state[ROOM];
     size_t cut = below(2) ? len : below((unsigned)len), written;
@@ -279,6 +279,8 @@ static void judges(uint8_t *journal, size_t len) {
         REQUIRE(left == ASM_DONE || left == ASM_SMALL);
     else
         REQUIRE(left == code && written == 0 && (line == calls));
+    REQUIRE(asm_trace(journal, cut, state, 0, &written, &line) ==
+            (code == ASM_DONE || code == ASM_ILLEGAL ? ASM_SMALL : code));
 }
 
 static void writes(unsigned at) {

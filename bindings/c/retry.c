@@ -181,6 +181,7 @@ static void close_all(asm_slot *of, size_t count, uint64_t calls, uint32_t moves
     REQUIRE(found == calls && number == moves);
     REQUIRE(AGAIN(asm_replay(journal, len, state, sizeof state, &written, &line)) == ASM_DONE);
     REQUIRE(has(state, written, wanted));
+    REQUIRE(AGAIN(asm_trace(journal, len, state, 0, &written, &line)) == ASM_SMALL && written > len);
     REQUIRE(fwrite(journal, 1, len, stdout) == len && !fflush(stdout));
 }
 

@@ -158,6 +158,7 @@ static void no_bytes(void) {
     REQUIRE(asm_journal(&storage, NULL, 0, &written) == ASM_SMALL && written > 0);
     REQUIRE(asm_check(NULL, 0, &calls, &number) == ASM_CUT);
     REQUIRE(asm_replay(NULL, 0, NULL, 0, &written, &line) == ASM_CUT && written == 0 && line == 0);
+    REQUIRE(asm_trace(NULL, 0, NULL, 0, &written, &line) == ASM_CUT && written == 0 && line == 0);
     REQUIRE(asm_error_text(0, NULL, 0, &written) == ASM_SMALL && written == 4);
     REQUIRE(asm_explain(ASM_FORM_STATE, NULL, 0, NULL, 0, &written) == ASM_SMALL && written > 0);
     asm_free(&storage);
@@ -195,6 +196,7 @@ static void garbage(void) {
         REQUIRE(code == ASM_CUT || code == ASM_NOT_JSON || code == ASM_SHAPE);
         REQUIRE(asm_replay(bytes(texts[i]), len, NULL, 0, &written, &line) == code &&
                 line == calls);
+        REQUIRE(asm_trace(bytes(texts[i]), len, NULL, 0, &written, &line) == code && line == calls);
     }
     char deep[400];
     memset(deep, '[', sizeof deep - 1);
@@ -311,6 +313,7 @@ static void ends(void) {
         int32_t code = asm_check(text, cut, &calls, &number);
         REQUIRE(code == ASM_CUT || code == ASM_NOT_JSON);
         REQUIRE(asm_replay(text, cut, state, ROOM, &written, &line) == code);
+        REQUIRE(asm_trace(text, cut, state, ROOM, &written, &line) == code);
     }
     for (size_t at = 0; at < len; at++) {
         text[at] ^= 1;

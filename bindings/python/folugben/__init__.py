@@ -39,7 +39,7 @@ here, has two. Likewise ["f", True] and ["f", 1] are two locations, and a value 
 from ._agent import Agent
 from ._errors import BadJournal, Busy, Clash, Deep, Error, Full, Large, Many, Missing, Moved, Over, Stale
 from ._errors import error_text, explain
-from ._functions import aggregate, check, compose, replay, version
+from ._functions import aggregate, check, compose, replay, trace, version
 from ._held import Nested
 from ._library import BUSY, CLASH, CUT, DEEP, DONE, EMPTY, EVENT, FULL, ILLEGAL, LARGE, LOCATIONS, MANY, MEMORY, MISSING
 from ._library import MOVE, MOVED, NONE, NOT_JSON, NUMBER, OTHER, RANGE, SHAPE, SMALL, STALE, STATE, TAKEN, VERSION
@@ -48,7 +48,7 @@ from ._storage import Storage
 
 __all__ = [
     "Agent", "BadJournal", "Busy", "Clash", "Deep", "Error", "Full", "Large", "Many", "Missing", "Moved", "Nested", "Over",
-    "Stale", "Step", "Storage", "aggregate", "check", "compose", "error_text", "explain", "replay", "version",
+    "Stale", "Step", "Storage", "aggregate", "check", "compose", "error_text", "explain", "replay", "trace", "version",
     "EVENT", "LOCATIONS", "MOVE", "STATE",
     "BUSY", "CLASH", "CUT", "DEEP", "DONE", "EMPTY", "FULL", "ILLEGAL", "LARGE", "MANY", "MEMORY", "MISSING", "MOVED",
     "NONE", "NOT_JSON", "NUMBER", "OTHER", "RANGE", "SHAPE", "SMALL", "STALE", "TAKEN", "VERSION",

@@ -1,6 +1,6 @@
 """What is told of journals and of moves, without a storage."""
 import ctypes
-from collections.abc import Iterable, Sequence
+from collections.abc import Iterable, Iterator, Sequence
 from typing import Any
 
 from ._errors import INSTRUCTIONS, BadJournal, expect, expect_part, expect_read, explain, refusal
@@ -37,6 +37,19 @@ def replay(journal: bytes) -> list[Any]:
     _expect_journal(code, journal, line.value)
     pairs: list[Any] = decoded(state)
     return pairs
+
+
+def trace(journal: bytes) -> Iterator[dict[str, Any]]:
+    """What each call of a journal did, whether it is legal or not: the objects of its trace, the header first.
+
+    An event has `right` where a storage of one thread gives another answer, and `updates` where its move was fired: the page
+    on formats has them. `BadJournal` where it is no journal, before the first object.
+    """
+    line = ctypes.c_uint64()
+    # A trace is seldom twice as long as its journal, and where a buffer is too small all is traced again.
+    code, lines = Buffer(2 * len(journal)).text(lib.asm_trace, journal, len(journal), after=(line,))
+    _expect_journal(code, journal, line.value)
+    return map(decoded, lines.split(b"\n")[:-1])
 
 
 def aggregate(state: Iterable[Form], instructions: Sequence[Form]) -> list[Any]:

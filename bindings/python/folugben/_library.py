@@ -78,6 +78,7 @@ def load() -> ctypes.CDLL:
         "asm_free": (None, [slot]),
         "asm_check": (code, [text, size, ctypes.POINTER(u64), number]),
         "asm_replay": (code, [text, size, text, size, written, ctypes.POINTER(u64)]),
+        "asm_trace": (code, [text, size, text, size, written, ctypes.POINTER(u64)]),
         "asm_aggregate": (code, [text, size, text, size, text, size, written]),
         "asm_compose": (code, [text, size, text, size, text, size, written]),
         "asm_explain": (code, [code, text, size, text, size, written]),

@@ -4,6 +4,7 @@ use crate::give_and_close::{asm_close, asm_give, asm_journal, asm_moves};
 use crate::journals::{asm_check, asm_replay};
 use crate::opening::asm_free;
 use crate::test_slots::{agent, close, fire, give, read, store, two};
+use crate::tracing::asm_trace;
 use asm_slots::Slot;
 use std::alloc::Global;
 use std::test::Fail;
@@ -133,6 +134,14 @@ fn replayed(alloc: Global, text: &[u8], out: &mut [u8]) -> (i32, usize, u64) {
     (code, written, line)
 }
 
+// The code of the trace, the length and the line.
+fn traced(alloc: Global, text: &[u8], out: &mut [u8]) -> (i32, usize, u64) {
+    let mut written = 9;
+    let mut line = 9;
+    let code = asm_trace(alloc, text, out, &mut written, &mut line);
+    (code, written, line)
+}
+
 #[test]
 fn a_journal_is_checked_and_replayed(rt: HostRuntime) {
     let alloc = rt.alloc();
@@ -196,6 +205,7 @@ fn what_is_no_journal(rt: HostRuntime) {
     for row in NO_JOURNALS.iter() {
         assert!(rt; checked(alloc, row.text) == (row.code, row.line, 0));
         assert!(rt; replayed(alloc, row.text, &mut [0]) == (row.code, 0, row.line));
+        assert!(rt; traced(alloc, row.text, &mut [0]) == (row.code, 0, row.line));
     }
 }
 
@@ -208,6 +218,21 @@ fn a_journal_that_is_not_legal(rt: HostRuntime) {
     let alloc = rt.alloc();
     assert!(rt; checked(alloc, ILLEGAL) == (15, 1, 0));
     assert!(rt; replayed(alloc, ILLEGAL, &mut [0, 0]) == (0, 2, 0));
+}
+
+const TRACE: &[u8] = b"{\"agents\":1,\"capacity\":2,\"events\":2,\"init\":[],\"trace\":1}\n\
+        {\"agent\":0,\"call\":{\"fire\":[],\"reads\":[]},\"event\":0,\"reply\":{\"fired\":1},\"updates\":[]}\n\
+        {\"agent\":0,\"call\":{\"read\":[]},\"event\":1,\"reply\":{\"number\":0,\"values\":[]},\
+        \"right\":{\"number\":1,\"values\":[]}}\n";
+
+#[test]
+fn a_trace_tells_the_right_answer(rt: HostRuntime) {
+    let alloc = rt.alloc();
+    let len = TRACE.len();
+    let mut out = [0u8; 300];
+    assert!(rt; traced(alloc, ILLEGAL, &mut out) == (0, len, 0));
+    assert!(rt; out.get(..len) == Some(TRACE));
+    assert!(rt; traced(alloc, ILLEGAL, &mut [0]) == (7, len, 0));
 }
 
 struct CodeText {
