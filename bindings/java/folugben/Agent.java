@@ -2,13 +2,15 @@ package folugben;
 
 import com.sun.jna.Memory;
 
+import java.util.List;
 import java.util.Objects;
+import java.util.SortedMap;
 
 /**
  * An agent of a storage, which reads locations and fires moves, most easily by a {@link Step}.
- * Texts are JSON in the forms of docs/FORMATS.md; one with a lone surrogate is refused by an
- * IllegalArgumentException. Any thread may call it. Nothing is released by the garbage collector;
- * call close().
+ * Calls take and give objects, or texts: JSON in the forms of docs/FORMATS.md, of which one with a
+ * lone surrogate is refused by an IllegalArgumentException. Any thread may call it. Nothing is
+ * released by the garbage collector; call close().
  */
 public final class Agent implements AutoCloseable {
     private static final Object LEARNING = new Object();
@@ -41,10 +43,37 @@ public final class Agent implements AutoCloseable {
         public boolean shouldRetry() {
             return isStale() || code == FolugbenException.BUSY;
         }
+
+        /** The least location that is stale or clashes; else null. */
+        public Location at() {
+            return answer == null ? null : JsonReader.objection(answer).at();
+        }
+
+        /** Why the updates clash; else null. */
+        public Cause cause() {
+            return answer == null ? null : JsonReader.objection(answer).cause();
+        }
+
+        /**
+         * The number of the move that was fired, from 1 up; 0 of reads that stand.
+         *
+         * @throws FolugbenException as a {@link StaleException}, {@link ClashException}, {@link
+         *         FullException} or {@link BusyException} where it is another reply
+         */
+        public int orThrow() {
+            if (code != FolugbenException.DONE)
+                throw FolugbenException.of(this);
+            return move;
+        }
     }
 
     /** A state [PAIR, ..], or a part of it, after so many moves. */
-    public record State(int number, String pairs) {}
+    public record State(int number, String pairs) {
+        /** Its locations that aren't empty with their values, in ascending order. */
+        public SortedMap<Location, Value> values() {
+            return JsonReader.state(pairs);
+        }
+    }
 
     /** Reads the locations [LOC, ..]; the answer is {"number":N,"values":[VALUE, ..]}. */
     public String read(String locations) {
@@ -54,6 +83,26 @@ public final class Agent implements AutoCloseable {
                     Calls.asm_read(slot, call, call.length), Storage.Form.LOCATIONS, call);
             return answer();
         }
+    }
+
+    /**
+     * Reads the locations, at most 256.
+     *
+     * @throws FolugbenException as a {@link ManyException} if there are more
+     */
+    public Reading read(List<Location> locations) {
+        return JsonReader.reading(read(JsonWriter.locations(locations)), locations);
+    }
+
+    /**
+     * Fires the instructions, at most 4,096, which rest on the reads, at most 256. The reply may be
+     * thrown by its {@link Reply#orThrow}.
+     *
+     * @throws FolugbenException as a {@link ManyException} if there are more reads; SHAPE if there
+     *         are more instructions
+     */
+    public Reply fire(List<? extends Instruction> instructions, List<Named> reads) {
+        return fire(JsonWriter.move(instructions, "instructions"), JsonWriter.reads(reads));
     }
 
     /**
@@ -124,6 +173,11 @@ public final class Agent implements AutoCloseable {
         }
     }
 
+    /** The same of any number of locations as objects. */
+    public Reading peek(List<Location> locations) {
+        return JsonReader.reading(peek(JsonWriter.locations(locations)), locations);
+    }
+
     /** The agent's own state, in ascending order of locations, without a look or a receipt. */
     public State state() {
         int[] number = new int[1];
@@ -169,6 +223,15 @@ public final class Agent implements AutoCloseable {
             FolugbenException.expectReads(told.code(), reads);
             return new Reply(told.code(), 0, 0, 0, null);
         }
+    }
+
+    /**
+     * The same of reads as objects.
+     *
+     * @throws FolugbenException as a {@link ManyException} if there are more than 256
+     */
+    public Reply stands(List<Named> reads) {
+        return stands(JsonWriter.reads(reads));
     }
 
     /** The answer to the last answered call, of whichever thread. */

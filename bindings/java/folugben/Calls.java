@@ -99,6 +99,9 @@ final class Calls {
     static native int asm_replay(
             byte[] journal, long len, byte[] out, long room, long[] written, long[] line);
 
+    static native int asm_trace(
+            byte[] journal, long len, byte[] out, long room, long[] written, long[] line);
+
     static native int asm_aggregate(byte[] state, long stateLen, byte[] move, long moveLen,
             byte[] out, long room, long[] written);
 

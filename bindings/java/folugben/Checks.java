@@ -32,9 +32,14 @@ final class Checks {
             call.run();
         } catch (RuntimeException error) {
             equal(error.getClass(), kind);
-            equal(error.getMessage(), told);
+            equal("" + error.getMessage(), "" + told);
             return;
         }
         throw new IllegalStateException("not thrown: " + told);
+    }
+
+    /** The call is refused by an IllegalArgumentException, which tells this. */
+    static void refusedValue(String told, Runnable call) {
+        thrown(IllegalArgumentException.class, told, call);
     }
 }

@@ -3,8 +3,8 @@ package folugben;
 import java.nio.charset.StandardCharsets;
 import java.nio.file.Files;
 import java.nio.file.Path;
-import java.util.regex.Matcher;
-import java.util.regex.Pattern;
+import java.util.Map;
+import java.util.TreeMap;
 
 /**
  * A bank: eight agents on threads transfer money between accounts, each transfer by the two moves
@@ -16,9 +16,6 @@ public final class Example {
     static final int ACCOUNTS = 5;
     static final int TIMES = 200;
     static final int OPENING = 100;
-    static final Pattern NUMBER =
-            Pattern.compile("\\{\"number\":(\\d+),\"values\":\\[(\\d+)\\]\\}");
-    static final Pattern ACCOUNT = Pattern.compile("\\[\\[\"account\",\\d+\\],(\\d+)\\]");
 
     private Example() {}
 
@@ -27,28 +24,17 @@ public final class Example {
             throw new IllegalStateException("not so: " + what);
     }
 
-    static String account(int number) {
-        return "[\"account\"," + number + "]";
-    }
-
-    /** What the step sees at the account. */
-    static long balance(Step step, String account) {
-        Matcher told = NUMBER.matcher(step.get("[" + account + "]"));
-        require(told.matches() && told.group(1).equals("" + step.number()), "a number is seen");
-        return Long.parseLong(told.group(2));
-    }
-
-    static void pushBalance(Step step, String account, long balance) {
-        step.push("[[\"put\"," + account + "," + balance + "]]");
+    static Location account(int number) {
+        return Location.of("account", number);
     }
 
     /** Transfers the amount, or what is there of it; whether no other agent was quicker. */
-    static boolean transfer(Agent agent, String from, String to, long amount) {
+    static boolean transfer(Agent agent, Location from, Location to, long amount) {
         try (Step step = agent.step()) {
-            long there = balance(step, from);
+            long there = step.get(from).asLong();
             long moved = Math.min(amount, there);
-            pushBalance(step, from, there - moved);
-            pushBalance(step, to, balance(step, to) + moved);
+            step.push(Instruction.put(from, there - moved));
+            step.push(Instruction.put(to, step.get(to).asLong() + moved));
             Agent.Reply reply = step.fire();
             require(reply.isFired() || reply.shouldRetry(), "it is fired, or to be tried again");
             return reply.isFired();
@@ -58,34 +44,28 @@ public final class Example {
     static void work(Agent agent, int own) {
         for (int done = 0; done < TIMES;) {
             // Sometimes from an account to itself.
-            String from = account((own + done) % ACCOUNTS);
-            String to = account((own + 3 * done) % ACCOUNTS);
+            Location from = account((own + done) % ACCOUNTS);
+            Location to = account((own + 3 * done) % ACCOUNTS);
             if (transfer(agent, from, to, 1 + done % 70))
                 done++;
         }
     }
 
-    /** The sum of the accounts among the pairs of a state. */
-    static long sum(String pairs) {
-        long sum = 0;
-        Matcher account = ACCOUNT.matcher(pairs);
-        for (int i = 0; i < ACCOUNTS; i++) {
-            require(account.find(), "all accounts are there");
-            sum += Long.parseLong(account.group(1));
-        }
-        return sum;
+    /** The sum of the accounts, which are all that the state has. */
+    static long sum(Map<Location, Value> state) {
+        require(state.size() == ACCOUNTS, "all accounts are there");
+        return state.values().stream().mapToLong(Value::asLong).sum();
     }
 
-    static String opening() {
-        StringBuilder pairs = new StringBuilder();
-        for (int i = 0; i < ACCOUNTS; i++)
-            pairs.append(i > 0 ? "," : "").append("[" + account(i) + "," + OPENING + "]");
-        return "[" + pairs + "]";
+    static Map<Location, Integer> opening() {
+        Map<Location, Integer> state = new TreeMap<>();
+        for (int i = 0; i < ACCOUNTS; i++) state.put(account(i), OPENING);
+        return state;
     }
 
     /** The journal of eight threads, checked. */
     static String play() throws InterruptedException {
-        try (Storage storage = new Storage(opening(), AGENTS * TIMES)) {
+        try (Storage storage = Storage.open(opening(), AGENTS * TIMES)) {
             Agent[] agents = new Agent[AGENTS];
             Thread[] threads = new Thread[AGENTS];
             for (int i = 0; i < AGENTS; i++) {
@@ -96,14 +76,14 @@ public final class Example {
             for (Thread thread : threads) thread.start();
             for (Thread thread : threads) thread.join();
             require(agents[0].follow() == AGENTS * TIMES, "all moves are seen");
-            require(sum(agents[0].scan("account").pairs()) == ACCOUNTS * OPENING, "the sum stays");
+            require(sum(agents[0].scan("account").values()) == ACCOUNTS * OPENING, "the sum stays");
             for (Agent agent : agents) {
                 require(agent.won() == TIMES, "each agent fired so many moves");
                 agent.give();
             }
             String journal = storage.closeJournal();
             require(Storage.check(journal).moves() == AGENTS * TIMES, "the journal has all moves");
-            require(sum(Storage.replay(journal)) == ACCOUNTS * OPENING, "they leave the sum");
+            require(sum(Storage.replayed(journal)) == ACCOUNTS * OPENING, "they leave the sum");
             return journal;
         }
     }

@@ -1,7 +1,12 @@
 package folugben;
 
-/** A call that wasn't answered, with its code of include/folugben.h and its numbers. */
-public final class FolugbenException extends RuntimeException {
+/**
+ * A call that wasn't answered, or a reply that is thrown, with its code of include/folugben.h and
+ * its numbers. Some codes have a class of their own, which tells more.
+ */
+public sealed class FolugbenException extends RuntimeException
+        permits BusyException, ClashException, DeepException, FullException, LargeException,
+                ManyException, MovedException, StaleException {
     private static final long serialVersionUID = 1;
 
     public static final int DONE = 0;
@@ -32,15 +37,33 @@ public final class FolugbenException extends RuntimeException {
     private final long number;
     private final String answer;
 
-    private FolugbenException(int code, long number, String said, String where, String answer) {
+    FolugbenException(int code, long number, String said, String where, String answer) {
         super(message(code, said) + (where.isEmpty() ? "" : " (" + where + ")"));
         this.code = code;
         this.number = number;
         this.answer = answer;
     }
 
-    private FolugbenException(int code, long number, String said, String where) {
-        this(code, number, said, where, null);
+    /** The exception of a code without an answer, of its own class where it has one. */
+    private static FolugbenException of(int code, long number, String said, String where) {
+        return switch (code) {
+            case MANY -> new ManyException();
+            case DEEP -> new DeepException();
+            case MOVED -> new MovedException();
+            case LARGE -> new LargeException(said, null);
+            default -> new FolugbenException(code, number, said, where, null);
+        };
+    }
+
+    /** The exception of a reply. */
+    static FolugbenException of(Agent.Reply reply) {
+        return switch (reply.code()) {
+            case STALE -> new StaleException(reply.answer());
+            case CLASH -> new ClashException(reply.answer());
+            case FULL -> new FullException();
+            case BUSY -> new BusyException(reply.from(), reply.to());
+            default -> of(reply.code(), 0, "", "");
+        };
     }
 
     /** What the code means, with what is said of the text that is refused. */
@@ -64,8 +87,8 @@ public final class FolugbenException extends RuntimeException {
     }
 
     /**
-     * The text {"clash":[LOC,CAUSE]} of a CLASH, or {"large":LOC} of a LARGE, of a move that wasn't
-     * pushed, aggregated or composed; else null.
+     * The text {"clash":[LOC,CAUSE]} of a CLASH, {"large":LOC} of a LARGE of a move that wasn't
+     * pushed or composed, or {"stale":LOC} of a STALE; else null.
      */
     public String answer() {
         return answer;
@@ -105,8 +128,8 @@ public final class FolugbenException extends RuntimeException {
             return;
         String name = numbers.length > 0 ? numberName(code) : null;
         if (name == null)
-            throw new FolugbenException(code, 0, said, "");
-        throw new FolugbenException(code, numbers[0], said, name + " " + numbers[0]);
+            throw of(code, 0, said, "");
+        throw of(code, numbers[0], said, name + " " + numbers[0]);
     }
 
     /** What is expected of the code of a call that was passed a text of this form. */
@@ -132,7 +155,7 @@ public final class FolugbenException extends RuntimeException {
     static void expectStateAndMove(int code, String state, String move) {
         String said = isMisread(code) ? explain(Storage.Form.STATE, state) : "";
         if (!said.isEmpty())
-            throw new FolugbenException(code, 0, said, "state");
+            throw of(code, 0, said, "state");
         expectMove(code, move, "move");
     }
 
@@ -162,13 +185,15 @@ public final class FolugbenException extends RuntimeException {
         }
         String said = code == NOT_JSON ? explain(Storage.Form.LOCATIONS, part)
                                        : explain(Storage.Form.MOVE, whole);
-        throw new FolugbenException(code, 0, said, name);
+        throw of(code, 0, said, name);
     }
 
     /** What is expected of a call that may tell why a move can't be made. */
     static void expectNoObjection(Calls.Told told) {
-        if (told.code() == CLASH || told.code() == LARGE)
-            throw new FolugbenException(told.code(), 0, told.text(), "", told.text());
+        if (told.code() == CLASH)
+            throw new ClashException(told.text());
+        if (told.code() == LARGE)
+            throw new LargeException(told.text(), told.text());
     }
 
     /** What is expected of the code of a call on a journal, with the number of a call or a line. */
@@ -180,6 +205,6 @@ public final class FolugbenException extends RuntimeException {
 
     /** The exception for an argument that isn't one value of JSON. */
     static FolugbenException notJson(String argument) {
-        return new FolugbenException(NOT_JSON, 0, "", argument);
+        return of(NOT_JSON, 0, "", argument);
     }
 }

@@ -1,8 +1,13 @@
 package folugben;
 
+import java.util.List;
+import java.util.Map;
+import java.util.SortedMap;
+
 /**
- * What moves come to without an agent. Texts are JSON in the forms of docs/FORMATS.md; one with a
- * lone surrogate is refused by an IllegalArgumentException. A FolugbenException for a text that
+ * What moves come to without an agent. Calls take and give objects, or texts: JSON in the forms of
+ * docs/FORMATS.md, of which one with a lone surrogate is refused by an IllegalArgumentException. A
+ * FolugbenException for a text that
  * can't be read names its argument.
  */
 public final class Moves {
@@ -30,6 +35,21 @@ public final class Moves {
     }
 
     /**
+     * The updates of the move on the state, whose values are such as {@link Value#of} takes: the
+     * locations that it writes with their new values, in ascending order, undef where it leaves one
+     * empty.
+     *
+     * @throws IllegalArgumentException as Value.of
+     * @throws FolugbenException as a {@link ClashException}, for the least location that clashes;
+     *         SHAPE if the move has more than 4,096 instructions
+     */
+    public static SortedMap<Location, Value> aggregate(
+            Map<Location, ?> state, List<? extends Instruction> move) {
+        return JsonReader.state(
+                aggregate(JsonWriter.state(state, "state"), JsonWriter.move(move, "move")));
+    }
+
+    /**
      * One move [INSTR, ..] that does what the first move [INSTR, ..] and then the second do: on a
      * state on which the first fires, it fires as the two in turn, or clashes as the second does
      * then.
@@ -48,5 +68,17 @@ public final class Moves {
         FolugbenException.expectNoObjection(told);
         FolugbenException.expectMoves(told.code(), first, second);
         return told.text();
+    }
+
+    /**
+     * One move that does what the first and then the second do.
+     *
+     * @throws FolugbenException as a {@link ClashException}, {@link LargeException} or {@link
+     *         ManyException}, as compose of texts; SHAPE if one has more than 4,096 instructions
+     */
+    public static List<Instruction> compose(
+            List<? extends Instruction> first, List<? extends Instruction> second) {
+        return JsonReader.move(
+                compose(JsonWriter.move(first, "first"), JsonWriter.move(second, "second")));
     }
 }

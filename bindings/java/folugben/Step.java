@@ -2,17 +2,23 @@ package folugben;
 
 import com.sun.jna.Memory;
 
+import java.util.List;
+import java.util.SortedMap;
+
 /**
  * What an engine does between a look and a fire: it gets values and pushes moves in any order, all
  * of which see one state, and fires one move that does what the pushed ones do in turn. {@link
- * Agent#step} begins a step. Texts are JSON in the forms of docs/FORMATS.md; one with a lone
- * surrogate is refused by an IllegalArgumentException. Any thread may call it; each call but {@link
- * #pop}, {@link #depth} and {@link #close} waits for the agent's calls that are under way.
+ * Agent#step} begins a step. Calls take and give objects, or texts: JSON in the forms of
+ * docs/FORMATS.md, of which one with a lone surrogate is refused by an IllegalArgumentException.
+ * Any thread may call it; each call but {@link #pop}, {@link #depth} and {@link #close} waits for
+ * the agent's calls that are under way.
  *
  * <pre>{@code
  * try (Step step = agent.step()) {
- *     step.push("[[\"put\",[\"x\"],1]]");
- *     step.push("[[\"inc\",[\"x\"],1]]"); // sees 1
+ *     Location count = Location.of("count"), twice = Location.of("double");
+ *     long there = step.get(count).asLong();
+ *     step.push(Instruction.put(count, there + 1));
+ *     step.push(Instruction.put(twice, 2 * step.get(count).asLong())); // 2 * (there + 1)
  *     if (step.fire().shouldRetry()) ..  // begin another step
  * }
  * }</pre>
@@ -73,6 +79,21 @@ public final class Step implements AutoCloseable {
     }
 
     /**
+     * What is seen through the pushed moves at the locations, in their order. They are got.
+     *
+     * @throws FolugbenException as a {@link MovedException}; as a {@link ManyException} if more
+     *         than 256 would be got
+     */
+    public List<Value> get(List<Location> locations) {
+        return JsonReader.reading(get(JsonWriter.locations(locations)), locations).values();
+    }
+
+    /** The same of one location. */
+    public Value get(Location location) {
+        return get(List.of(location)).get(0);
+    }
+
+    /**
      * What is seen through the pushed moves at all locations with a function name, as [PAIR, ..].
      * Those that are found are got; that a further one is written later isn't noticed.
      *
@@ -82,6 +103,11 @@ public final class Step implements AutoCloseable {
         Calls.Told told = told(Calls::asm_get_all, Texts.utf8(name, "name"));
         FolugbenException.expect(told.code());
         return told.text();
+    }
+
+    /** The same as objects: the locations with their values, in ascending order. */
+    public SortedMap<Location, Value> getAll(String name) {
+        return JsonReader.state(scan(name));
     }
 
     /**
@@ -97,6 +123,22 @@ public final class Step implements AutoCloseable {
     }
 
     /**
+     * Pushes the move.
+     *
+     * @throws FolugbenException as a {@link ClashException}, {@link MovedException}, {@link
+     *         DeepException} or {@link ManyException}, as push of a text; SHAPE if the move has
+     *         more than 4,096 instructions
+     */
+    public void push(List<? extends Instruction> move) {
+        push(JsonWriter.move(move, "move"));
+    }
+
+    /** The same of a move of these instructions. */
+    public void push(Instruction... move) {
+        push(List.of(move));
+    }
+
+    /**
      * Has the move [INSTR, ..] join the one that was pushed last, with which it is popped: a loop
      * of a thousand rounds is one move deep. Without a pushed move it is pushed.
      *
@@ -104,6 +146,20 @@ public final class Step implements AutoCloseable {
      */
     public void extend(String move) {
         grow(Calls::asm_extend, move);
+    }
+
+    /**
+     * Has the move join the one that was pushed last.
+     *
+     * @throws FolugbenException as push, but never a DeepException
+     */
+    public void extend(List<? extends Instruction> move) {
+        extend(JsonWriter.move(move, "move"));
+    }
+
+    /** The same of a move of these instructions. */
+    public void extend(Instruction... move) {
+        extend(List.of(move));
     }
 
     private void grow(Call call, String move) {
@@ -133,7 +189,8 @@ public final class Step implements AutoCloseable {
     /**
      * Fires one move that does what the pushed moves do in turn, unless something was written since
      * the step began that was got or that a pushed partial update changes. Where it fires, the step
-     * is over; else it stays until it is closed.
+     * is over; else it stays until it is closed. That it is stale, or clashes, is a reply, which
+     * {@link Agent.Reply#orThrow} throws.
      *
      * @throws FolugbenException MANY if more than 256 locations would be named
      */

@@ -2,13 +2,17 @@ package folugben;
 
 import com.sun.jna.Memory;
 
+import java.util.List;
+import java.util.Map;
 import java.util.Objects;
+import java.util.SortedMap;
 
 /**
- * A storage of which agents read and fire in threads. Texts are JSON in the forms of
- * docs/FORMATS.md; one with a lone surrogate is refused by an IllegalArgumentException. Any thread
- * may call it. Nothing is released by the garbage collector; call close(). Of the header's calls
- * only asm_agents has no method here: call agent(number) for each number.
+ * A storage of which agents read and fire in threads. Calls take and give objects, or texts: JSON
+ * in the forms of docs/FORMATS.md, of which one with a lone surrogate is refused by an
+ * IllegalArgumentException. Any thread may call it. Nothing is released by the garbage collector;
+ * call close(). Of the header's calls only asm_agents has no method here: call agent(number) for
+ * each number.
  */
 public final class Storage implements AutoCloseable {
     /** The storage's slot, and the lock of the calls on it. */
@@ -21,6 +25,25 @@ public final class Storage implements AutoCloseable {
         byte[] state = Texts.utf8(init, "init");
         FolugbenException.expectRead(
                 Calls.asm_open(state, state.length, capacity, slot), Form.STATE, state);
+    }
+
+    /**
+     * A storage with the opening state, for 1 to 1,048,576 moves. The values are such as {@link
+     * Value#of} takes; undef leaves a location empty.
+     *
+     * @throws IllegalArgumentException as Value.of
+     */
+    public static Storage open(Map<Location, ?> init, int capacity) {
+        return new Storage(JsonWriter.state(init, "init"), capacity);
+    }
+
+    /**
+     * The same of the opening state in any order.
+     *
+     * @throws FolugbenException SHAPE if a location stands twice
+     */
+    public static Storage open(List<Pair> init, int capacity) {
+        return new Storage(JsonWriter.state(init, "init"), capacity);
     }
 
     /** An agent with this number, 0 to 255, of which none was made before. */
@@ -101,18 +124,39 @@ public final class Storage implements AutoCloseable {
         return new Checked(calls[0], moves[0]);
     }
 
-    /** The state [PAIR, ..] that the moves of a journal leave. */
-    public static String replay(String journal) {
+    private interface JournalCall {
+        int answer(
+                byte[] journal, long len, byte[] out, long room, long[] written, long[] line);
+    }
+
+    // What a call writes of a journal: all is done again where the room was too small.
+    private static String told(String journal, int times, JournalCall call) {
         byte[] text = Texts.utf8(journal, "journal");
         long[] line = new long[1];
-        // A state is shorter than its journal, and all is replayed again where the room is too
-        // small.
         return Calls.text((out, room, written) -> {
-            int code = Calls.asm_replay(text, text.length, out, room, written, line);
+            int code = call.answer(text, text.length, out, room, written, line);
             if (code != FolugbenException.SMALL)
                 FolugbenException.expectJournal(code, text, line[0]);
             return code;
-        }, text.length);
+        }, times * text.length);
+    }
+
+    /** The state [PAIR, ..] that the moves of a journal leave. */
+    public static String replay(String journal) {
+        return told(journal, 1, Calls::asm_replay);
+    }
+
+    /**
+     * What each call of a journal did, whether it is legal or not: the lines of its trace, the
+     * header first, each a JSON object. The page on formats has them.
+     */
+    public static List<String> trace(String journal) {
+        return told(journal, 2, Calls::asm_trace).lines().toList();
+    }
+
+    /** The same as objects: the locations that aren't empty with their values, in order. */
+    public static SortedMap<Location, Value> replayed(String journal) {
+        return JsonReader.state(replay(journal));
     }
 
     /** The forms of texts that explain knows: of a journal the lines behind the first are events. */

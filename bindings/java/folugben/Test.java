@@ -5,6 +5,8 @@ import static folugben.Checks.refused;
 import static folugben.Checks.refusedAt;
 import static folugben.Checks.thrown;
 
+import java.util.List;
+
 /** Tests of the Java classes: each prints its name, and the first that fails ends the program. */
 public final class Test {
     private Test() {}
@@ -64,6 +66,12 @@ public final class Test {
         refusedAt(FolugbenException.SHAPE, 2, event + " (line 2)",
                 () -> Storage.replay(journal.replace("\"agent\"", "\"Agent\"")));
         refusedAt(FolugbenException.NOT_JSON, 1, " (line 1)", () -> Storage.replay("{\n"));
+        refusedAt(FolugbenException.NOT_JSON, 1, " (line 1)", () -> Storage.trace("{\n"));
+        List<String> trace = Storage.trace(journal.replace("\"fired\":1", "\"fired\":2"));
+        equal(trace.size(), 2);
+        equal(trace.get(0).endsWith("\"trace\":1}"), true);
+        String told = "\"right\":{\"fired\":1},\"updates\":[";
+        equal(trace.get(1).contains(told), true);
         refusedAt(FolugbenException.NOT_JSON, 0, ": cut off after byte 1", () -> new Storage("[", 1));
         storage.close();
         refused(FolugbenException.EMPTY, () -> storage.agent(1));
@@ -102,25 +110,25 @@ public final class Test {
         try (Storage storage = new Storage("[]", 8); Agent agent = storage.agent(0)) {
             Class<? extends RuntimeException> kind = NullPointerException.class;
             thrown(kind, "init", () -> new Storage(null, 8));
-            thrown(kind, "locations", () -> agent.read(null));
+            thrown(kind, "locations", () -> agent.read((String) null));
             thrown(kind, "instructions", () -> agent.fire(null, "[]"));
             thrown(kind, "reads", () -> agent.fire("[]", null));
             thrown(kind, "other", () -> agent.learn(null));
             thrown(kind, "agent", () -> storage.give(null));
             thrown(kind, "journal", () -> Storage.check(null));
             thrown(kind, "journal", () -> Storage.replay(null));
-            thrown(kind, "locations", () -> agent.peek(null));
+            thrown(kind, "locations", () -> agent.peek((String) null));
             thrown(kind, "name", () -> agent.scan(null));
-            thrown(kind, "reads", () -> agent.stands(null));
+            thrown(kind, "reads", () -> agent.stands((String) null));
             thrown(kind, "state", () -> Moves.aggregate(null, "[]"));
             thrown(kind, "move", () -> Moves.aggregate("[]", null));
             thrown(kind, "first", () -> Moves.compose(null, "[]"));
             thrown(kind, "second", () -> Moves.compose("[]", null));
             try (Step step = agent.step()) {
-                thrown(kind, "locations", () -> step.get(null));
+                thrown(kind, "locations", () -> step.get((String) null));
                 thrown(kind, "name", () -> step.scan(null));
-                thrown(kind, "move", () -> step.push(null));
-                thrown(kind, "move", () -> step.extend(null));
+                thrown(kind, "move", () -> step.push((String) null));
+                thrown(kind, "move", () -> step.extend((String) null));
             }
         }
     }
@@ -198,7 +206,10 @@ public final class Test {
         libraryNames();
         System.out.println("library names");
         TextTests.all();
+        ValueTests.all();
+        ObjectTests.all();
         StepTests.all();
+        KindTests.all();
         Example.play();
         System.out.println("threads");
     }

@@ -32,7 +32,7 @@ final class Texts {
     }
 
     /** The text, if it has no lone surrogate: getBytes would put a question mark in its place. */
-    private static String unicode(String text, String name) {
+    static String unicode(String text, String name) {
         Objects.requireNonNull(text, name);
         for (int at = 0; at < text.length(); at++) {
             if (!Character.isSurrogate(text.charAt(at)))

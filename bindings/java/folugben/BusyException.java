@@ -1,0 +1,28 @@
+package folugben;
+
+/** 64 offers were lost to other agents, though none wrote what is named; nothing was fired. */
+public final class BusyException extends FolugbenException {
+    private static final long serialVersionUID = 1;
+
+    private final int from;
+    private final int to;
+
+    BusyException(int from, int to) {
+        super(BUSY, 0, "",
+                "the agent had seen " + from + " moves at the start of the call and " + to
+                        + " at its end",
+                null);
+        this.from = from;
+        this.to = to;
+    }
+
+    /** How many moves the agent had seen at the start of the call. */
+    public int from() {
+        return from;
+    }
+
+    /** How many at its end. */
+    public int to() {
+        return to;
+    }
+}

@@ -1,0 +1,10 @@
+package folugben;
+
+/** 64 moves are pushed already. */
+public final class DeepException extends FolugbenException {
+    private static final long serialVersionUID = 1;
+
+    DeepException() {
+        super(DEEP, 0, "", "", null);
+    }
+}

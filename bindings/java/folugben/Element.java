@@ -1,0 +1,119 @@
+package folugben;
+
+import java.util.Arrays;
+import java.util.List;
+import java.util.Objects;
+
+/**
+ * A plain value: undef, a boolean, a whole number, a text or a list of such. Arguments of
+ * locations, items of lists, and what sets and bags hold are elements.
+ *
+ * <p>Elements ascend as in a journal: undef, false, true, numbers by value, texts by their bytes in
+ * UTF-8, lists, a shorter one before a longer one and of equal length by their items.
+ */
+public sealed interface Element extends Value, Comparable<Element> {
+    /** The most items of a list. */
+    int MAX_ITEMS = 4096;
+
+    /** The greatest depth of a list. */
+    int MAX_DEPTH = 8;
+
+    /** No value: JSON's null. All are equal. */
+    record Undef() implements Element {
+        @Override
+        public String toString() {
+            return "undef";
+        }
+    }
+
+    /** True or false. */
+    record Bool(boolean value) implements Element {
+        @Override
+        public String toString() {
+            return "" + value;
+        }
+    }
+
+    /** A whole number of 64 bits. */
+    record Num(long value) implements Element {
+        @Override
+        public String toString() {
+            return "" + value;
+        }
+    }
+
+    /** A text, without lone surrogates. */
+    record Text(String value) implements Element {
+        public Text {
+            Texts.unicode(value, "a text");
+        }
+
+        @Override
+        public String toString() {
+            return json();
+        }
+    }
+
+    /** A list of at most 4,096 items, which is at most 8 deep. */
+    record ListOf(List<Element> items) implements Element {
+        public ListOf {
+            if (items.size() > MAX_ITEMS)
+                throw new IllegalArgumentException(
+                        "a list of " + items.size() + " items, at most " + MAX_ITEMS);
+            items = List.copyOf(items);
+            if (deepest(items) >= MAX_DEPTH)
+                throw Words.isTooDeep();
+        }
+
+        private static int deepest(List<Element> items) {
+            int deepest = 0;
+            for (Element item : items) deepest = Math.max(deepest, item.depth());
+            return deepest;
+        }
+
+        @Override
+        public int depth() {
+            return 1 + deepest(items);
+        }
+
+        @Override
+        public String toString() {
+            return items.toString();
+        }
+    }
+
+    /** 0; of a list 1 more than the greatest depth of its items. */
+    default int depth() {
+        return 0;
+    }
+
+    /** What a location has that has nothing. */
+    static Element undef() {
+        return new Undef();
+    }
+
+    /**
+     * An element; of null {@link #undef}; of a Boolean a truth; of a Byte, Short, Integer or Long a
+     * number; of a String a text; of a List a list of its items, of which the same holds.
+     *
+     * @throws IllegalArgumentException for what is no element, such as a set or a double; for a
+     *         text with a lone surrogate; for a list of more than 4,096 items, or more than 8 deep
+     */
+    static Element of(Object value) {
+        return Elements.of(value, 0);
+    }
+
+    /**
+     * A list of these, each of which is an element as {@link #of} takes it.
+     *
+     * @throws IllegalArgumentException as of
+     */
+    static Element list(Object... items) {
+        return of(Arrays.asList(Objects.requireNonNull(items, "items")));
+    }
+
+    @Override
+    default int compareTo(Element other) {
+        return Elements.compare(this, other);
+    }
+}

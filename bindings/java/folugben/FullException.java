@@ -1,0 +1,10 @@
+package folugben;
+
+/** As many moves were fired as the capacity; nothing was fired. */
+public final class FullException extends FolugbenException {
+    private static final long serialVersionUID = 1;
+
+    FullException() {
+        super(FULL, 0, "", "", null);
+    }
+}

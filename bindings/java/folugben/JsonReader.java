@@ -1,0 +1,267 @@
+package folugben;
+
+import com.fasterxml.jackson.core.JsonFactory;
+import com.fasterxml.jackson.core.JsonParser;
+import com.fasterxml.jackson.core.JsonProcessingException;
+import com.fasterxml.jackson.core.JsonToken;
+
+import java.io.IOException;
+import java.io.UncheckedIOException;
+import java.util.ArrayList;
+import java.util.Collections;
+import java.util.List;
+import java.util.Map;
+import java.util.SortedMap;
+import java.util.TreeMap;
+
+/**
+ * Reads the forms of docs/FORMATS.md: what the storage writes, and texts of a caller, which have
+ * the keys of an object once and in the order in which the storage writes them.
+ */
+final class JsonReader {
+    private static final JsonFactory FACTORY = new JsonFactory();
+
+    private final JsonParser in;
+
+    private JsonReader(JsonParser in) {
+        this.in = in;
+    }
+
+    /** What is read, which begins at the token on which the parser stands and ends on its last. */
+    interface Form<T> {
+        T read(JsonReader reader) throws IOException;
+    }
+
+    /** What the text is read as; an exception says that it is no such thing. */
+    static <T> T parsed(String text, String kind, Form<T> form) {
+        try (JsonParser in = FACTORY.createParser(Texts.unicode(text, kind))) {
+            if (in.nextToken() == null)
+                throw new IllegalArgumentException("no " + kind + ": an empty text");
+            JsonReader reader = new JsonReader(in);
+            T told = form.read(reader);
+            reader.expect(in.nextToken() == null, "more than one value");
+            return told;
+        } catch (JsonProcessingException error) {
+            throw new IllegalArgumentException(
+                    "no " + kind + ": " + error.getOriginalMessage(), error);
+        } catch (IOException error) {
+            throw new UncheckedIOException(error);
+        }
+    }
+
+    /** The locations and values of a state, in ascending order. */
+    static SortedMap<Location, Value> state(String pairs) {
+        return parsed(pairs, "state", reader -> {
+            SortedMap<Location, Value> state = new TreeMap<>();
+            reader.list(JsonReader::pair).forEach(
+                    pair -> state.put(pair.location(), pair.value()));
+            return Collections.unmodifiableSortedMap(state);
+        });
+    }
+
+    static List<Instruction> move(String move) {
+        return parsed(move, "move", reader -> reader.list(JsonReader::instruction));
+    }
+
+    /** The reading {"number":N,"values":[VALUE, ..]} of the locations. */
+    static Reading reading(String answer, List<Location> locations) {
+        return parsed(answer, "reading", reader -> {
+            reader.key("number");
+            int number = Math.toIntExact(reader.number());
+            reader.nextKey("values");
+            List<Value> values = reader.list(JsonReader::value);
+            reader.end(JsonToken.END_OBJECT);
+            return new Reading(number, locations, values);
+        });
+    }
+
+    /** What {"stale":LOC}, {"large":LOC} or {"clash":[LOC,CAUSE]} tells. */
+    record Objection(Location at, Cause cause) {}
+
+    static Objection objection(String answer) {
+        return parsed(answer, "answer", JsonReader::objection);
+    }
+
+    private Objection objection() throws IOException {
+        expect(in.currentToken() == JsonToken.START_OBJECT, "no object");
+        in.nextToken();
+        boolean isClash = "clash".equals(in.currentName());
+        in.nextToken();
+        if (!isClash)
+            return new Objection(ended(location(), JsonToken.END_OBJECT), null);
+        begin(JsonToken.START_ARRAY, "no clash");
+        Location at = location();
+        in.nextToken();
+        Cause cause = Cause.of(in.getText());
+        end(JsonToken.END_ARRAY);
+        return new Objection(at, ended(cause, JsonToken.END_OBJECT));
+    }
+
+    Value value() throws IOException {
+        if (in.currentToken() != JsonToken.START_OBJECT)
+            return plain();
+        return switch (key()) {
+            case "list" -> ended(items(1), JsonToken.END_OBJECT);
+            case "set" -> ended(set(), JsonToken.END_OBJECT);
+            case "bag" -> ended(bag(), JsonToken.END_OBJECT);
+            default -> throw shape("no value");
+        };
+    }
+
+    private Element element() throws IOException {
+        return element(1);
+    }
+
+    /** An element, of which a list is so deep within the lists around it. */
+    private Element element(int depth) throws IOException {
+        if (in.currentToken() != JsonToken.START_OBJECT)
+            return plain();
+        key("list");
+        return ended(items(depth), JsonToken.END_OBJECT);
+    }
+
+    private Element items(int depth) throws IOException {
+        if (depth > Element.MAX_DEPTH)
+            throw shape("lists nest at most " + Element.MAX_DEPTH + " deep");
+        return new Element.ListOf(list(reader -> reader.element(depth + 1)));
+    }
+
+    private Element plain() throws IOException {
+        JsonToken token = in.currentToken();
+        expect(token.isScalarValue(), "no element");
+        return switch (token) {
+            case VALUE_NULL -> Element.undef();
+            case VALUE_TRUE -> new Element.Bool(true);
+            case VALUE_FALSE -> new Element.Bool(false);
+            case VALUE_STRING -> new Element.Text(in.getText());
+            default -> new Element.Num(number());
+        };
+    }
+
+    /** A whole number of 64 bits. */
+    private long number() throws IOException {
+        expect(in.currentToken() == JsonToken.VALUE_NUMBER_INT, "no whole number");
+        String digits = in.getText();
+        expect(!digits.equals("-0"), "-0 is no whole number");
+        try {
+            // getLongValue of Jackson 2.14.1 refuses numbers of 19 digits.
+            return Long.parseLong(digits);
+        } catch (NumberFormatException error) {
+            throw new IllegalArgumentException("a number out of range: " + digits, error);
+        }
+    }
+
+    private Value set() throws IOException {
+        return Value.set(list(JsonReader::element).toArray());
+    }
+
+    private Value bag() throws IOException {
+        SortedMap<Element, Long> counts = new TreeMap<>();
+        for (Map.Entry<Element, Long> entry : list(JsonReader::count))
+            if (counts.put(entry.getKey(), entry.getValue()) != null)
+                throw Words.isTwice("bag", entry.getKey());
+        return new Value.BagOf(counts);
+    }
+
+    private Map.Entry<Element, Long> count() throws IOException {
+        begin(JsonToken.START_ARRAY, "no element with its count");
+        Element element = element();
+        in.nextToken();
+        return ended(Map.entry(element, number()), JsonToken.END_ARRAY);
+    }
+
+    Location location() throws IOException {
+        begin(JsonToken.START_ARRAY, "no location");
+        String name = string();
+        List<Element> arguments = new ArrayList<>();
+        while (in.nextToken() != JsonToken.END_ARRAY) arguments.add(element());
+        return new Location(name, arguments);
+    }
+
+    private Pair pair() throws IOException {
+        begin(JsonToken.START_ARRAY, "no pair");
+        Location location = location();
+        in.nextToken();
+        return ended(new Pair(location, value()), JsonToken.END_ARRAY);
+    }
+
+    Instruction instruction() throws IOException {
+        begin(JsonToken.START_ARRAY, "no instruction");
+        String word = string();
+        in.nextToken();
+        Location at = location();
+        in.nextToken();
+        return ended(switch (word) {
+            case "put" -> new Instruction.Put(at, value());
+            case "add" -> new Instruction.Add(at, element());
+            case "remove" -> new Instruction.Remove(at, element());
+            case "bagadd" -> new Instruction.BagAdd(at, element(), nextNumber());
+            case "bagremove" -> new Instruction.BagRemove(at, element(), nextNumber());
+            case "inc" -> new Instruction.Inc(at, number());
+            default -> throw shape("no instruction");
+        }, JsonToken.END_ARRAY);
+    }
+
+    private long nextNumber() throws IOException {
+        in.nextToken();
+        return number();
+    }
+
+    private String string() throws IOException {
+        expect(in.currentToken() == JsonToken.VALUE_STRING, "no string");
+        return in.getText();
+    }
+
+    /** The items of an array. */
+    private <T> List<T> list(Form<? extends T> form) throws IOException {
+        expect(in.currentToken() == JsonToken.START_ARRAY, "no array");
+        List<T> items = new ArrayList<>();
+        while (in.nextToken() != JsonToken.END_ARRAY) items.add(form.read(this));
+        return items;
+    }
+
+    /** The first key of an object; the parser then stands on its value. */
+    private String key() throws IOException {
+        begin(JsonToken.START_OBJECT, "no object");
+        expect(in.currentToken() == JsonToken.FIELD_NAME, "an empty object");
+        String key = in.currentName();
+        in.nextToken();
+        return key;
+    }
+
+    private void key(String wanted) throws IOException {
+        expect(key().equals(wanted), "no " + wanted);
+    }
+
+    private void nextKey(String wanted) throws IOException {
+        expect(in.nextToken() == JsonToken.FIELD_NAME && in.currentName().equals(wanted),
+                "no " + wanted);
+        in.nextToken();
+    }
+
+    /** Goes on from the token that is expected. */
+    private void begin(JsonToken token, String what) throws IOException {
+        expect(in.currentToken() == token, what);
+        in.nextToken();
+    }
+
+    /** Goes on to the token that is expected. */
+    private void end(JsonToken token) throws IOException {
+        expect(in.nextToken() == token, "more than is expected");
+    }
+
+    private <T> T ended(T told, JsonToken token) throws IOException {
+        end(token);
+        return told;
+    }
+
+    private void expect(boolean holds, String what) throws IOException {
+        if (!holds)
+            throw shape(what);
+    }
+
+    private IllegalArgumentException shape(String what) {
+        return new IllegalArgumentException(
+                what + " at character " + in.getTokenLocation().getCharOffset());
+    }
+}

@@ -1,0 +1,20 @@
+package folugben;
+
+import java.util.Objects;
+
+/**
+ * A location with the number of moves after which it was read: a move that names it is fired only
+ * if it wasn't written since.
+ */
+public record Named(Location location, int number) {
+    public Named {
+        Objects.requireNonNull(location, "location");
+        if (number < 0)
+            throw new IllegalArgumentException("a number of moves is 0 or more, and not " + number);
+    }
+
+    @Override
+    public String toString() {
+        return location + " at " + number;
+    }
+}

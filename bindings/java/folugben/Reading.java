@@ -1,0 +1,31 @@
+package folugben;
+
+import java.util.List;
+
+/** The values of locations, in the order in which these were passed, after so many moves. */
+public record Reading(int number, List<Location> locations, List<Value> values) {
+    public Reading {
+        locations = List.copyOf(locations);
+        values = List.copyOf(values);
+        if (locations.size() != values.size())
+            throw new IllegalArgumentException(
+                    locations.size() + " locations have " + values.size() + " values");
+    }
+
+    /**
+     * The value of the location.
+     *
+     * @throws IllegalArgumentException if it wasn't read
+     */
+    public Value value(Location location) {
+        int at = locations.indexOf(location);
+        if (at < 0)
+            throw new IllegalArgumentException("not read: " + location);
+        return values.get(at);
+    }
+
+    /** The locations with the number: what a fire names that rests on all of them. */
+    public List<Named> named() {
+        return locations.stream().map(location -> new Named(location, number)).toList();
+    }
+}

@@ -1,0 +1,15 @@
+package folugben;
+
+/** A named location was written since it was read; nothing was fired. */
+public final class StaleException extends FolugbenException {
+    private static final long serialVersionUID = 1;
+
+    StaleException(String answer) {
+        super(STALE, 0, answer, "", answer);
+    }
+
+    /** The least such location. */
+    public Location at() {
+        return JsonReader.objection(answer()).at();
+    }
+}

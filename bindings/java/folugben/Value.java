@@ -1,0 +1,185 @@
+package folugben;
+
+import java.util.Collection;
+import java.util.Collections;
+import java.util.List;
+import java.util.Map;
+import java.util.Objects;
+import java.util.Set;
+import java.util.SortedMap;
+import java.util.SortedSet;
+import java.util.TreeMap;
+import java.util.TreeSet;
+
+/**
+ * What a location has: an element, a set or a bag. Values are immutable, and equal if they have the
+ * same content, in whichever order a set or a bag was given. Each is one of the records {@link
+ * Element.Undef}, {@link Element.Bool}, {@link Element.Num}, {@link Element.Text}, {@link
+ * Element.ListOf}, {@link SetOf} and {@link BagOf}.
+ *
+ * <p>The factories take plain objects, and throw an IllegalArgumentException for one that is no
+ * value, or is beyond a limit of docs/FORMATS.md.
+ */
+public sealed interface Value permits Element, Value.SetOf, Value.BagOf {
+    /** The greatest count or amount. */
+    long MAX_COUNT = 4_294_967_295L;
+
+    /** A set, whose elements are kept in ascending order. */
+    record SetOf(Set<Element> elements) implements Value {
+        public SetOf {
+            SortedSet<Element> kept = new TreeSet<>();
+            kept.addAll(Objects.requireNonNull(elements, "elements"));
+            elements = Collections.unmodifiableSortedSet(kept);
+        }
+
+        @Override
+        public String toString() {
+            return "set " + Words.braced(elements);
+        }
+    }
+
+    /** A bag: how often each element is there, 1 to 4294967295 times, in ascending order. */
+    record BagOf(Map<Element, Long> counts) implements Value {
+        public BagOf {
+            SortedMap<Element, Long> kept = new TreeMap<>();
+            Objects.requireNonNull(counts, "counts")
+                    .forEach((element, count) -> kept.put(element, inRange(count)));
+            counts = Collections.unmodifiableSortedMap(kept);
+        }
+
+        /** How often the element is there; 0 if it isn't. */
+        public long count(Element element) {
+            return counts.getOrDefault(element, 0L);
+        }
+
+        @Override
+        public String toString() {
+            return "bag " + Words.counted(counts);
+        }
+
+        /** The count or the amount, if it is in range. */
+        static long inRange(long count) {
+            if (count < 1 || count > MAX_COUNT)
+                throw new IllegalArgumentException(
+                        "an amount or a count is 1 to 4294967295, and not " + count);
+            return count;
+        }
+    }
+
+    /**
+     * A value; of a java.util.Set a set of its elements; of a Map a bag, in which each key is as
+     * often as its Integer or Long says; else the element {@link Element#of}.
+     *
+     * @throws IllegalArgumentException for what is no value; if an element stands twice; for a
+     *         count that isn't 1 to 4294967295; or as Element.of
+     */
+    static Value of(Object value) {
+        if (value instanceof Value made)
+            return made;
+        if (value instanceof Set<?> elements)
+            return setOf(elements);
+        if (value instanceof Map<?, ?> counts)
+            return bag(counts);
+        return Element.of(value);
+    }
+
+    /**
+     * A set of these, each of which is an element as {@link Element#of} takes it.
+     *
+     * @throws IllegalArgumentException if an element stands twice, or as Element.of
+     */
+    static Value set(Object... elements) {
+        return setOf(Elements.each(elements, "elements"));
+    }
+
+    private static Value setOf(Collection<?> elements) {
+        SortedSet<Element> kept = new TreeSet<>();
+        for (Object element : elements)
+            if (!kept.add(Element.of(element)))
+                throw Words.isTwice("set", element);
+        return new SetOf(kept);
+    }
+
+    /**
+     * A bag, in which each key, an element as {@link Element#of} takes it, is as often as its
+     * Integer or Long says.
+     *
+     * @throws IllegalArgumentException for a count that isn't 1 to 4294967295 or no such object; if
+     *         an element stands twice, as 1 and 1L are one; or as Element.of
+     */
+    static Value bag(Map<?, ?> counts) {
+        SortedMap<Element, Long> kept = new TreeMap<>();
+        counts.forEach((key, count) -> {
+            if (!(count instanceof Integer || count instanceof Long))
+                throw new IllegalArgumentException("a count is an Integer or a Long: " + count);
+            if (kept.put(Element.of(key), ((Number) count).longValue()) != null)
+                throw Words.isTwice("bag", key);
+        });
+        return new BagOf(kept);
+    }
+
+    /**
+     * The value of a text.
+     *
+     * @throws IllegalArgumentException if it is none
+     */
+    static Value parse(String text) {
+        return JsonReader.parsed(text, "value", JsonReader::value);
+    }
+
+    /** Its text, as the storage writes it. */
+    default String json() {
+        return JsonWriter.text(this);
+    }
+
+    /** Whether it is undef, as a location that has nothing is. */
+    default boolean isUndef() {
+        return this instanceof Element.Undef;
+    }
+
+    /**
+     * Its number.
+     *
+     * @throws IllegalStateException if it is something else, as of each of these calls
+     */
+    default long asLong() {
+        if (this instanceof Element.Num num)
+            return num.value();
+        throw Words.isNo("number", this);
+    }
+
+    /** Its text, without quotes. */
+    default String asText() {
+        if (this instanceof Element.Text text)
+            return text.value();
+        throw Words.isNo("text", this);
+    }
+
+    /** Its truth. */
+    default boolean asBoolean() {
+        if (this instanceof Element.Bool bool)
+            return bool.value();
+        throw Words.isNo("boolean", this);
+    }
+
+    /** The items of the list. */
+    default List<Element> asList() {
+        if (this instanceof Element.ListOf list)
+            return list.items();
+        throw Words.isNo("list", this);
+    }
+
+    /** The elements of the set, in ascending order. */
+    default Set<Element> asSet() {
+        if (this instanceof SetOf set)
+            return set.elements();
+        throw Words.isNo("set", this);
+    }
+
+    /** The elements of the bag with their counts, in ascending order. */
+    default Map<Element, Long> asBag() {
+        if (this instanceof BagOf bag)
+            return bag.counts();
+        throw Words.isNo("bag", this);
+    }
+}
