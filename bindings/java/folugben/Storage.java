@@ -159,7 +159,7 @@ public final class Storage implements AutoCloseable {
         return JsonReader.state(replay(journal));
     }
 
-    /** The forms of texts that explain knows: of a journal the lines behind the first are events. */
+    /** The forms that explain knows; of a journal, the lines behind the first are events. */
     public enum Form { LOCATIONS, MOVE, STATE, EVENT }
 
     /** Where and why a text isn't of a form; empty for a text that is. */

@@ -72,7 +72,8 @@ public final class Test {
         equal(trace.get(0).endsWith("\"trace\":1}"), true);
         String told = "\"right\":{\"fired\":1},\"updates\":[";
         equal(trace.get(1).contains(told), true);
-        refusedAt(FolugbenException.NOT_JSON, 0, ": cut off after byte 1", () -> new Storage("[", 1));
+        refusedAt(FolugbenException.NOT_JSON, 0, ": cut off after byte 1",
+                () -> new Storage("[", 1));
         storage.close();
         refused(FolugbenException.EMPTY, () -> storage.agent(1));
         other.close();
