@@ -1,6 +1,7 @@
 """Tests of storages, agents and journals: python3 test.py runs all tests."""
 import copy
 import os
+import pathlib
 import pickle
 import unittest
 from unittest import mock
@@ -274,6 +275,8 @@ class Agents(unittest.TestCase):
         self.assertEqual(len(set(texts)), 24)
         self.assertEqual(folugben.error_text(-1), texts[23])
         self.assertEqual(folugben.version(), 2000)
+        major, minor, patch = map(int, folugben.__version__.split("."))
+        self.assertEqual(folugben.version(), 1_000_000 * major + 1_000 * minor + patch)
 
     def test_a_library_of_another_version_is_refused(self):
         with mock.patch.object(_library, "WRITTEN_FOR", 1000), self.assertRaises(ImportError) as caught:
@@ -281,9 +284,10 @@ class Agents(unittest.TestCase):
         self.assertIn("has version 2000, and this package was written for 1000", str(caught.exception))
 
     def test_an_empty_path_is_none(self):
-        for path, found in (("", str(_library.BUILT)), ("/a/b.so", "/a/b.so")):
-            with mock.patch.dict(os.environ, FOLUGBEN_LIBRARY=path):
-                self.assertEqual(_library.path(), found)
+        there, none = pathlib.Path(__file__), pathlib.Path("/none")
+        for path, inside, found in (("", none, _library.BUILT), ("", there, there), ("/a/b.so", there, "/a/b.so")):
+            with mock.patch.dict(os.environ, FOLUGBEN_LIBRARY=path), mock.patch.object(_library, "INSIDE", inside):
+                self.assertEqual(_library.path(), str(found))
 
 
 if __name__ == "__main__":

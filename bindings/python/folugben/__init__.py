@@ -46,6 +46,8 @@ from ._library import MOVE, MOVED, NONE, NOT_JSON, NUMBER, OTHER, RANGE, SHAPE, 
 from ._step import Step
 from ._storage import Storage
 
+__version__ = "0.2.0"
+
 __all__ = [
     "Agent", "BadJournal", "Busy", "Clash", "Deep", "Error", "Full", "Large", "Many", "Missing", "Moved", "Nested", "Over",
     "Stale", "Step", "Storage", "aggregate", "check", "compose", "error_text", "explain", "replay", "trace", "version",

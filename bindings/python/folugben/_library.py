@@ -7,7 +7,8 @@ from typing import Any
 
 # The version of the library that this package was written for.
 WRITTEN_FOR = 2000
-# Where ./build_c puts the library.
+# Where the library is in a package that is installed, and where ./build_c puts it.
+INSIDE = pathlib.Path(__file__).resolve().with_name("libfolugben.so")
 BUILT = pathlib.Path(__file__).resolve().parents[2] / "out" / "libfolugben.so"
 
 DONE, STALE, CLASH, MEMORY, FULL, EMPTY, RANGE, SMALL, BUSY, MANY, NONE = range(11)
@@ -33,8 +34,8 @@ class Numbers(ctypes.Structure):
 
 
 def path() -> str:
-    """Where the library is: as FOLUGBEN_LIBRARY says, unless that is empty."""
-    return os.environ.get("FOLUGBEN_LIBRARY") or str(BUILT)
+    """Where the library is: as FOLUGBEN_LIBRARY says, unless that is empty; else in the package, or where ./build_c puts it."""
+    return os.environ.get("FOLUGBEN_LIBRARY") or str(INSIDE if INSIDE.exists() else BUILT)
 
 
 def load() -> ctypes.CDLL:
