@@ -1,0 +1,129 @@
+/* The works by the library, with texts. */
+#include "bench.h"
+#include "folugben.h"
+
+#include <string.h>
+
+enum { ROOM = 256, INIT = 32 * LOCATIONS };
+
+typedef struct agent {
+    /* A slot of its own line of the processor's cache. */
+    _Alignas(128) asm_slot slot;
+    asm_slot step, idle;
+} agent;
+
+static asm_slot storage;
+static agent agents[THREADS];
+/* [LOC] for each location. */
+static char places[LOCATIONS][16];
+
+static const uint8_t *bytes(const char *text) { return (const uint8_t *)text; }
+
+static void open_storage(unsigned moves) {
+    char init[INIT];
+    uint32_t number;
+    size_t at = 0;
+    for (unsigned i = 0; i < LOCATIONS; i++) {
+        snprintf(places[i], sizeof places[i], "[[\"x\",%u]]", i);
+        at += (size_t)snprintf(init + at, INIT - at, "%c[[\"x\",%u],0]", i == 0 ? '[' : ',', i);
+    }
+    at += (size_t)snprintf(init + at, INIT - at, "]");
+    REQUIRE(asm_open(bytes(init), at, moves, &storage) == ASM_DONE);
+    for (unsigned i = 0; i < THREADS; i++) {
+        REQUIRE(asm_agent(&storage, i, &agents[i].slot) == ASM_DONE);
+        REQUIRE(asm_begin(&agents[i].slot, &agents[i].idle, &number) == ASM_DONE);
+    }
+}
+
+/* The number and the value of the text {"number":N,"values":[VALUE]}. */
+static uint32_t number_of(const char *text, long *value) {
+    char *end;
+    unsigned long number = strtoul(text + strlen("{\"number\":"), &end, 10);
+    *value = strtol(end + strlen(",\"values\":["), NULL, 10);
+    return (uint32_t)number;
+}
+
+static bool is_fired(int32_t code) {
+    REQUIRE(code == ASM_DONE || code == ASM_STALE || code == ASM_BUSY);
+    return code == ASM_DONE;
+}
+
+static bool read_fire(unsigned thread, unsigned location) {
+    asm_slot *slot = &agents[thread].slot;
+    char text[ROOM];
+    size_t length;
+    long value;
+    asm_numbers numbers;
+    REQUIRE(asm_read(slot, bytes(places[location]), strlen(places[location])) == ASM_DONE);
+    REQUIRE(asm_answer(slot, (uint8_t *)text, ROOM - 1, &length) == ASM_DONE);
+    text[length] = 0;
+    uint32_t number = number_of(text, &value);
+    int written = snprintf(
+        text, ROOM, "{\"fire\":[[\"put\",[\"x\",%u],%ld]],\"reads\":[[[\"x\",%u],%" PRIu32 "]]}",
+        location, value + 1, location, number);
+    return is_fired(asm_try_fire(slot, bytes(text), (size_t)written, &numbers));
+}
+
+static void push_put(agent *a, asm_slot *step, unsigned location, long value) {
+    char text[ROOM];
+    size_t length;
+    int written = snprintf(text, ROOM, "[[\"put\",[\"x\",%u],%ld]]", location, value);
+    REQUIRE(asm_push(&a->slot, step, bytes(text), (size_t)written, (uint8_t *)text + written,
+                     ROOM - (size_t)written, &length) == ASM_DONE);
+}
+
+/* What the step sees at the location. */
+static long got(agent *a, asm_slot *step, unsigned location) {
+    char text[ROOM];
+    size_t length;
+    long value;
+    REQUIRE(asm_get(&a->slot, step, bytes(places[location]), strlen(places[location]),
+                    (uint8_t *)text, ROOM - 1, &length) == ASM_DONE);
+    text[length] = 0;
+    number_of(text, &value);
+    return value;
+}
+
+static bool whole_step(unsigned thread, unsigned location) {
+    agent *a = &agents[thread];
+    uint32_t number;
+    asm_numbers numbers;
+    REQUIRE(asm_begin(&a->slot, &a->step, &number) == ASM_DONE);
+    push_put(a, &a->step, location, got(a, &a->step, location) + 1);
+    return is_fired(asm_commit(&a->slot, &a->step, &numbers));
+}
+
+static bool peek(unsigned thread, unsigned location) {
+    char text[ROOM];
+    size_t length;
+    long value;
+    REQUIRE(asm_peek(&agents[thread].slot, bytes(places[location]), strlen(places[location]),
+                     (uint8_t *)text, ROOM - 1, &length) == ASM_DONE);
+    text[length] = 0;
+    number_of(text, &value);
+    return true;
+}
+
+static bool push_pop(unsigned thread, unsigned location) {
+    agent *a = &agents[thread];
+    push_put(a, &a->idle, location, 7);
+    REQUIRE(asm_pop(&a->idle) == ASM_DONE);
+    return true;
+}
+
+static int64_t close_storage(void) {
+    int64_t sum = 0;
+    uint32_t number;
+    REQUIRE(asm_begin(&agents[0].slot, &agents[0].step, &number) == ASM_DONE);
+    for (unsigned i = 0; i < LOCATIONS; i++)
+        sum += got(&agents[0], &agents[0].step, i);
+    for (unsigned i = 0; i < THREADS; i++) {
+        asm_free(&agents[i].step);
+        asm_free(&agents[i].idle);
+        asm_free(&agents[i].slot);
+    }
+    asm_free(&storage);
+    return sum;
+}
+
+const side ours = {open_storage, {read_fire, whole_step, peek, push_pop}, close_storage};

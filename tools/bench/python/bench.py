@@ -1,0 +1,143 @@
+"""Takes steps by the library and by the twin in turn, and writes a line for each crowd of threads.
+
+    python3 bench.py [--quick]
+
+A line has the crowd's name, and the medians of the nanoseconds that one step took, for all threads together: the library's and
+the twin's by the clock, and both of processor time.
+"""
+import gc
+import statistics
+import sys
+import threading
+import time
+from typing import NamedTuple, Protocol
+
+from folugben import Agent, Busy, Stale, Storage
+from twin import Location, Moved, Twin
+
+THREADS, LOCATIONS, LEAST, MOST = 4, 64, 5, 9
+# The twin's rounds have so many times as many steps, so that they are as long.
+TWIN_TIMES = 8
+
+
+class Side(Protocol):
+    """One that takes steps: the library or the twin. It is opened for so many moves, with 0 at each location."""
+
+    def step(self, thread: int, location: int) -> bool:
+        """Adds 1 at the location by a get and a push; whether it fired: else it was stale, and is to be taken again."""
+
+    def close(self) -> int:
+        """The sum of all locations; the storage is released."""
+
+
+class Ours:
+    def __init__(self, moves: int) -> None:
+        self._storage = Storage([[["x", k], 0] for k in range(LOCATIONS)], moves)
+        self._agents: list[Agent] = [self._storage.agent(k) for k in range(THREADS)]
+
+    def step(self, thread: int, location: int) -> bool:
+        with self._agents[thread].step() as step:
+            (value,) = step.get([["x", location]])
+            step.push([["put", ["x", location], value + 1]])
+            try:
+                step.fire()
+            except (Stale, Busy):
+                return False
+        return True
+
+    def close(self) -> int:
+        with self._agents[0].step() as step:
+            values = step.get([["x", k] for k in range(LOCATIONS)])
+        for agent in self._agents:
+            agent.free()
+        self._storage.free()
+        return sum(values)
+
+
+class Theirs:
+    def __init__(self, moves: int) -> None:
+        self._twin = Twin({("x", k): 0 for k in range(LOCATIONS)})
+
+    def step(self, thread: int, location: int) -> bool:
+        step, place = self._twin.step(thread), ("x", location)
+        try:
+            (value,) = step.get([place])
+        except Moved:
+            return False
+        step.push({place: value + 1})
+        return step.fire()
+
+    def close(self) -> int:
+        places: list[Location] = [("x", k) for k in range(LOCATIONS)]
+        assert len(self._twin.history) >= self._twin.number
+        return sum(self._twin.step(0).get(places))
+
+
+class Crowd(NamedTuple):
+    name: str
+    threads: int
+    shares: bool
+
+
+CROWDS = [
+    Crowd("1 thread", 1, False),
+    Crowd("4 threads, a location each", THREADS, False),
+    Crowd("4 threads, one location", THREADS, True),
+]
+
+
+def work(side: Side, thread: int, location: int, steps: int) -> None:
+    while steps > 0:
+        steps -= side.step(thread, location)
+
+
+class Taken(NamedTuple):
+    """What one step took, in nanoseconds."""
+
+    clock: float
+    processor: float
+
+
+def timed(side: Side, crowd: Crowd, steps: int) -> Taken:
+    """Takes so many steps, which the threads share out among them."""
+    threads = [
+        threading.Thread(target=work, args=(side, k, 0 if crowd.shares else k, steps // crowd.threads))
+        for k in range(crowd.threads)
+    ]
+    begin, used = time.perf_counter_ns(), time.process_time_ns()
+    for thread in threads:
+        thread.start()
+    for thread in threads:
+        thread.join()
+    return Taken((time.perf_counter_ns() - begin) / steps, (time.process_time_ns() - used) / steps)
+
+
+def round_of(kind: type[Ours] | type[Theirs], crowd: Crowd, steps: int) -> Taken:
+    """A round on a storage of its own, whose locations have to tell each step."""
+    side = kind(steps)
+    gc.collect()
+    taken = timed(side, crowd, steps)
+    if (found := side.close()) != steps:
+        raise SystemExit(f"{found} of {steps} steps are in the state")
+    return taken
+
+
+def measure(crowd: Crowd, steps: int, seconds: float) -> None:
+    mine: list[Taken] = []
+    its: list[Taken] = []
+    end = time.monotonic() + seconds
+    while len(mine) < LEAST or len(mine) < MOST and time.monotonic() < end:
+        mine.append(round_of(Ours, crowd, steps))
+        its.append(round_of(Theirs, crowd, TWIN_TIMES * steps))
+    columns = [[taken[k] for taken in side] for k in range(2) for side in (mine, its)]
+    print(f"Python: step; {crowd.name}", *(f"{statistics.median(column):.0f}" for column in columns), sep="\t", flush=True)
+
+
+def main() -> None:
+    is_quick = sys.argv[1:] == ["--quick"]
+    for crowd in CROWDS:
+        measure(crowd, 800 if is_quick else 4000, 0.2 if is_quick else 1.2)
+
+
+if __name__ == "__main__":
+    main()
