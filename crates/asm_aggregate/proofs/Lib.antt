@@ -4,6 +4,7 @@ mod CountSteps
 mod Arranged
 mod Parted
 mod Walked
+pub mod OnlyPut
 pub mod Exits
 pub mod BagTables
 mod BagRecount

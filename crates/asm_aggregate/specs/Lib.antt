@@ -8,6 +8,7 @@ pub mod CountMeaning
 pub mod PairMeaning
 pub mod Bundle
 pub mod Stretch
+pub mod OnlyPut
 pub mod Compose
 pub mod Steps
 pub mod Sums

@@ -3,6 +3,7 @@ ghost use Rattle.asm_aggregate.specs.Bundle.{IsWritten, IsAdmission, bundle_resu
 
 use crate::aggregation::clash_at;
 use crate::groups::Bundle;
+use crate::puts::only_put;
 use crate::stretches::{Stretches, ascending};
 use asm_element::Location;
 use asm_update::{AggError, Aggregator, Cause, Instructions, Lookup, ResultError};
@@ -44,6 +45,9 @@ pub fn admit<A: Aggregator, L: Lookup>(
 ) -> Result<(), AggError>
     ensures { IsAdmission (A.meaning aggregator.now).part (L.value_at lookup.now) instructions.now result }
 {
+    if only_put(instructions).is_some() {
+        return Ok(());
+    }
     let list = ascending(alloc, instructions)?;
     let mut stretches = Stretches::of(list.as_slice());
     while let Some(stretch) = stretches.next() {

@@ -22,6 +22,6 @@ pub use form::{
 };
 pub use output::write_text;
 pub use reading::from_text;
-pub use replaying::{next_storage, replay};
+pub use replaying::{next_storage, replay, replay_over};
 pub use texts::{answer_text, move_text, state_text, updates_text};
 pub use writing::{push_line, to_text};

@@ -14,7 +14,7 @@ ghost use Rattle.asm_journal.specs.Next.{next_machine};
 use asm_aggregate::aggregate;
 use asm_element::Location;
 use asm_state::one_change;
-use asm_storage::{History, Storage, StorageError};
+use asm_storage::{Event, History, Storage, StorageError};
 use asm_update::{AggError, Aggregator, Group, Instructions, PlainState, ResultError, UpdateSet};
 use std::alloc::{AllocError, Global};
 
@@ -79,10 +79,31 @@ fn fire_or_keep<A: Aggregator>(
     }
 }
 
+/// The state that events leave: the opening state, which moves in, with their moves fired in order. A move that clashes
+/// changes nothing.
+///
+/// `AllocError` comes only where memory was refused.
+pub fn replay_over<A: Aggregator>(
+    alloc: Global,
+    aggregator: &A,
+    init: PlainState,
+    events: &[Event],
+) -> Result<PlainState, AllocError>
+    ensures { IfOk result (λ state. state ≡ state_of (A.meaning aggregator.now).part init (fired_moves events.now)) }
+{
+    let mut state = init;
+    for event in events {
+        if let Some(instructions) = event.fired_move() {
+            fire_or_keep(alloc, aggregator, &mut state, instructions)?;
+        }
+    }
+    Ok(state)
+}
+
 /// The state that a history leaves: its opening state, with its moves fired in order. A move that clashes changes
 /// nothing.
 ///
-/// `AllocError` comes only where memory was refused.
+/// It copies the opening state. `AllocError` comes only where memory was refused.
 pub fn replay<A: Aggregator>(
     alloc: Global,
     aggregator: &A,
@@ -91,13 +112,8 @@ pub fn replay<A: Aggregator>(
     ensures { IfOk result (λ state. state ≡ state_of (A.meaning aggregator.now).part
         history.now.init (fired_moves history.now.events)) }
 {
-    let mut state = history.init.copy(alloc)?;
-    for event in history.events.as_slice() {
-        if let Some(instructions) = event.fired_move() {
-            fire_or_keep(alloc, aggregator, &mut state, instructions)?;
-        }
-    }
-    Ok(state)
+    let init = history.init.copy(alloc)?;
+    replay_over(alloc, aggregator, init, history.events.as_slice())
 }
 
 /// A storage that goes on where a history ended, for at most `capacity` moves, from 1 to 1,048,576: it opens with the

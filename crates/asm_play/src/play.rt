@@ -143,8 +143,8 @@ fn opened(alloc: Global, script: &Script, capacity: u32) -> Result<Storage<Stand
     if capacity == 0 || CAPACITY_LIMIT < capacity {
         return Err(RunError::BadCapacity);
     }
-    let init = script.init().copy(alloc)?;
-    match Storage::new(alloc, chosen(), init, capacity) {
+    let init = script.share_init()?;
+    match Storage::over(alloc, chosen(), init, capacity) {
         Ok(storage) => Ok(storage),
         Err(_) => Err(RunError::Memory),
     }

@@ -1,5 +1,6 @@
 //! How a script is read from its text.
 ghost use Rattle.std.specs.Prelude.{◌≡◌, [], IfOk, IfErr, false};
+ghost use Rattle.std.specs.Arc.{arc_value};
 ghost use Rattle.std.specs.List.{list_any};
 ghost use Rattle.serde_json.specs.View.{view};
 ghost use Rattle.asm_journal.specs.Shape.{IsParsed as ReadsForm};
@@ -15,6 +16,7 @@ use asm_journal::{FromJson, Listed, two_members};
 use asm_update::PlainState;
 use serde_json::Value as Json;
 use std::alloc::{AllocError, Global};
+use std::sync::Arc;
 
 /// A script as it is written, before its limits are checked.
 #[derive(Drop)]
@@ -116,6 +118,16 @@ fn steps_of(
     Ok(Items::new(steps))
 }
 
+/// The opening state, for storages to share.
+fn shared(alloc: Global, init: PlainState) -> Result<Arc<PlainState>, AllocError>
+    ensures { IfOk result (λ s. arc_value s ≡ init) }
+{
+    match Arc::new(alloc, init) {
+        Ok(shared) => Ok(shared),
+        Err(_) => Err(AllocError),
+    }
+}
+
 /// The script that is written, where it is within the limits.
 fn script_of(alloc: Global, written: UncheckedScript) -> Result<Script, ScriptError>
     ensures ok { IfOk result (IsPlanOf written) }
@@ -130,6 +142,7 @@ fn script_of(alloc: Global, written: UncheckedScript) -> Result<Script, ScriptEr
     for steps in agents {
         done.push(steps_of(alloc, steps)?)?;
     }
+    let init = shared(alloc, init)?;
     match Script::of(init, Items::new(done)) {
         Some(script) => Ok(script),
         None => unreachable!(),

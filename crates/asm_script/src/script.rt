@@ -1,5 +1,6 @@
 //! Scripts, which say what the agents of a machine do, and why a text is not a script.
-ghost use Rattle.std.specs.Prelude.{◌≡◌, ◌↔◌, ◌<◌, ◌≤◌, length, IfSome, IsNone};
+ghost use Rattle.std.specs.Prelude.{◌≡◌, ◌↔◌, ◌<◌, ◌≤◌, length, IfOk, IfSome, IsNone};
+ghost use Rattle.std.specs.Arc.{arc_value};
 ghost use Rattle.asm_script.specs.declared.script.ScriptError.TheVariants as script_error;
 
 use crate::step::Step;
@@ -7,6 +8,7 @@ use asm_element::Items;
 use asm_update::PlainState;
 use std::alloc::{AllocError, AllocFailed};
 use std::marker::Model;
+use std::sync::Arc;
 use thiserror::Error;
 
 /// The most agents of a script.
@@ -66,11 +68,13 @@ impl<T: Drop> From<AllocFailed<T>> for ScriptError {
 /// An opening state, and the steps of at most 256 agents. Contracts see both.
 #[derive(Debug, Drop)]
 pub struct Script {
-    init: PlainState,
+    // Storages that it opens share it.
+    init: Arc<PlainState>,
     agents: Items<Items<Step>>,
 }
 
 impl Model for Script {
+    ghost use Rattle.std.specs.Arc.{arc_value};
     ghost use Rattle.std.specs.Prelude.{length, ◌≤◌};
     ghost use Rattle.std.specs.Coded.{coded_list};
     ghost use Rattle.asm_update.specs.contracts.plain_state.PlainState.{the_row as state_row};
@@ -81,15 +85,15 @@ impl Model for Script {
 
     ghost coded = { plan_code state_row.coded instruction_row.coded };
 
-    ghost view = { λ s. record { init = s.init; agents = s.agents } };
+    ghost view = { λ s. record { init = arc_value s.init; agents = s.agents } };
 
     ghost invariant = { λ s. length s.agents ≤ 256 };
 }
 
 impl Script {
     /// The script with this opening state and these agents' steps; `None` where there are more than 256 agents.
-    pub(crate) fn of(init: PlainState, agents: Items<Items<Step>>) -> Option<Script>
-        ensures script { IfSome result (λ s. s ≡ record { init = init; agents = agents }) }
+    pub(crate) fn of(init: Arc<PlainState>, agents: Items<Items<Step>>) -> Option<Script>
+        ensures script { IfSome result (λ s. s ≡ record { init = arc_value init; agents = agents }) }
         ensures many { IsNone result ↔ (256 < length agents) }
     {
         if agents.as_slice().len() > AGENTS_LIMIT {
@@ -103,6 +107,15 @@ impl Script {
         ensures { result.now ≡ self.now.init }
     {
         &self.init
+    }
+
+    /// A share of the opening state, for a storage that opens with it.
+    ///
+    /// It takes no memory: `AllocError` comes only where more would share it than can be counted.
+    pub fn share_init(&self) -> Result<Arc<PlainState>, AllocError>
+        ensures { IfOk result (λ init. arc_value init ≡ self.now.init) }
+    {
+        Arc::try_clone(&self.init)
     }
 
     /// The steps of each agent, which stand at the agent's number.

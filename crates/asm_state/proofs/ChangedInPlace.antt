@@ -1,4 +1,4 @@
--- A state whose entry at one location was changed in place, as it follows a move that changes that location alone.
+-- A state of which one entry was changed in place or put, as it follows a move that changes that location alone.
 use Rattle.std.proofs.Common.{◌≡◌, ℕ, ◌+◌, Bool, true, false, cond, refl, sym, ap, ◌∙◌, arith}
 use Rattle.std.specs.Prelude.{Some, None, Err}
 use Rattle.std.specs.FinMap as map
@@ -14,6 +14,8 @@ use Rattle.asm_state.specs.Change.{IsChanged, IsOneChange}
 use Rattle.asm_state.specs.Follow.{written_by, entry_after, IsFollowed}
 use Rattle.asm_state.specs.View.{Entries, StateView, AreSettled, value_at}
 use Rattle.asm_state.proofs.Followed.{followed_fired, followed_clashed}
+use Rattle.asm_aggregate.specs.OnlyPut.{only_put}
+use Rattle.asm_aggregate.proofs.OnlyPut.{only_put_updates}
 use Rattle.asm_state.proofs.InPlace.{actions, nothing, alone, updates_here, clash_here}
 use Rattle.asm_state.proofs.Settled.{settled_after}
 
@@ -64,3 +66,18 @@ module _ (part : Part) (old : StateView) (l : Place) (group : Parts) where
       followed_clashed part old new M (record { at = l; cause = cause })
       (clash_here part (value_at old) l M some only cause (given M one ∙ gave))
       (ap (λ (s : StateView). s.number) is) (ap (λ (s : StateView). s.base) is) (ap (λ (s : StateView). s.entries) is)
+
+-- a put leaves its value, whatever was there
+module _ (old : StateView) (l : Place) (v : Value) (entries : Entries)
+    (is : entries ≡ map.insert old.entries l (written_by (old.number + 1) v)) where
+  put_each : (q : Place) → map.get entries q ≡ entry_after (old.number + 1) (map.get (alone l v) q) (map.get old.entries q)
+  put_each q = ap (λ (es : Entries). map.get es q) is ∙ entry_here (old.number + 1) v l q old.entries
+
+  pub put_settled : AreSettled old.entries → AreSettled entries
+  put_settled settled = settled_after (old.number + 1) (alone l v) old.entries entries (omega arith) settled put_each
+
+  pub put_followed : (part : Part) (M : Move) → only_put M ≡ Some (l, v) →
+      IsFollowed part old M (record { number = old.number + 1; base = old.base; entries = entries })
+  put_followed part M put =
+      followed_fired part old (record { number = old.number + 1; base = old.base; entries = entries }) M
+      (alone l v) (only_put_updates part (value_at old) M l v put) refl refl put_each

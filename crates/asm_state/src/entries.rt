@@ -253,6 +253,22 @@ impl Entries {
         }
     }
 
+    /// Writes a copy of the value at the location in the move with this number. After an error nothing is changed.
+    pub(crate) fn put_value(
+        &mut self,
+        alloc: Global,
+        at: &Location,
+        writer: u32,
+        value: &Value,
+    ) -> Result<(), AllocError>
+        ensures ok { OnOk result (self.new ≡ map.insert self.old at.now (written_by writer value.now)) }
+        ensures err { OnErr result (self.new ≡ self.old) }
+    {
+        let written = WrittenValue::by(writer, value.copy(alloc)?);
+        self.write_at(alloc, at, written)?;
+        Ok(())
+    }
+
     /// Takes the last write of a location back, which takes no memory.
     fn take_back(&mut self, at: &Location, before: Option<WrittenValue>)
         ensures { (old : view.Entries) (w : WrittenValue) → before ≡ map.get old at.now →

@@ -1,5 +1,5 @@
 ghost use Rattle.std.specs.Prelude.{◌≡◌, ◌+◌, ◌-◌, ◌<◌, ◌^◌, ◌++◌, ◌∷◌, [], List, false, nat_lt};
-ghost use Rattle.std.specs.Prelude.{IfOk, IfSome, OnOk, OnErr};
+ghost use Rattle.std.specs.Prelude.{Some, IfOk, IfSome, OnOk, OnErr};
 ghost use Rattle.std.specs.Arc.{arc_value};
 ghost use Rattle.std.specs.FinMap as map;
 ghost use Rattle.std.specs.Option.{option_copied};
@@ -7,6 +7,7 @@ ghost use Rattle.asm_element.specs.Place.{Place};
 ghost use Rattle.asm_update.specs.Fire.{Part};
 ghost use Rattle.asm_update.specs.Move.{Move};
 ghost use Rattle.asm_update.specs.State as plain;
+ghost use Rattle.asm_aggregate.specs.OnlyPut.{only_put};
 ghost use Rattle.asm_state.specs.Change.{IsOneChange};
 ghost use Rattle.asm_state.specs.View.{value_at, writer_at, holds_undef};
 ghost use Rattle.asm_state.specs.Follow.{entry_after, IsFollowed};
@@ -18,7 +19,7 @@ use crate::entries::{Entries, WrittenValue};
 use crate::in_place::one_change;
 use crate::named::Named;
 use crate::verdict::{Objection, Verdict};
-use asm_aggregate::{admit, aggregate};
+use asm_aggregate::{admit, aggregate, only_put};
 use asm_element::{Location, Value};
 use asm_update::{
     AggError, Aggregator, Group, Instructions, Lookup, PlainState, ResultError, UpdateSet,
@@ -221,8 +222,39 @@ impl State {
     {
         match one_change(alloc, instructions)? {
             Some((at, group)) => self.follow_at(alloc, aggregator, at, &group),
+            None => self.follow_rest(alloc, aggregator, instructions),
+        }
+    }
+
+    // Follows a move in any way but as a change of one location.
+    fn follow_rest<A: Aggregator>(
+        &mut self,
+        alloc: Global,
+        aggregator: &A,
+        instructions: &Instructions,
+    ) -> Result<(), AllocError>
+        requires { self.old.number < 4294967295 }
+        ensures followed { OnOk result (
+            IsFollowed (A.meaning aggregator.now).part self.old instructions.now self.new) }
+        ensures err { OnErr result (self.new ≡ self.old) }
+    {
+        match only_put(instructions) {
+            Some((at, value)) => self.follow_put(alloc, at, value),
             None => self.follow_all(alloc, aggregator, instructions),
         }
+    }
+
+    // Follows a move that puts the value at the location.
+    fn follow_put(&mut self, alloc: Global, at: &Location, value: &Value) -> Result<(), AllocError>
+        requires { self.old.number < 4294967295 }
+        ensures followed { OnOk result ((part : Part) (M : Move) → only_put M ≡ Some (at.now, value.now) →
+            IsFollowed part self.old M self.new) }
+        ensures err { OnErr result (self.new ≡ self.old) }
+    {
+        let number = self.number + 1;
+        self.entries.put_value(alloc, at, number, value)?;
+        self.number = number;
+        Ok(())
     }
 
     // Follows a move that changes one location alone, by its group there.

@@ -1,6 +1,6 @@
 -- What is true of an agent's part stays true when it sees more, and when its state follows one more move.
 use Rattle.std.proofs.Common.{◌≡◌, ℕ, ◌+◌, ◌-◌, ◌^◌, ◌≤◌, min, List, [], ◌∷◌, ◌++◌, length, take, Option, Some, None}
-use Rattle.std.proofs.Common.{IfSome, IfNone, Bor, slice_get, add-one, append-nil, append_assoc, arith, refl, ap, sym, ◌∙◌, subst}
+use Rattle.std.proofs.Common.{IfSome, IfNone, Bor, slice_get, add-one, append-nil, arith, refl, ap, sym, ◌∙◌, subst}
 use Rattle.std.proofs.lemmas.List.{take_all, length-map}
 use Rattle.std.proofs.lemmas.Option.{slice_get_within}
 use Rattle.std.proofs.lemmas.List.Elements.{All-from_recursion}

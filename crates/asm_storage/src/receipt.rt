@@ -3,6 +3,7 @@ ghost use Rattle.asm_storage.specs.Agents.{is_fired, event_of};
 
 use crate::call::{Answer, Call, Reply};
 use crate::history::Event;
+use asm_element::{Items, Location, Value};
 use asm_update::Instructions;
 use std::alloc::{AllocError, Global};
 
@@ -34,6 +35,14 @@ impl Receipt {
         match (&self.call, &self.answer) {
             (Call::Fire { .. }, Answer::Fire(Reply::Fired(_))) => true,
             _ => false,
+        }
+    }
+
+    /// The locations and the values of a read, so that a later one may share them.
+    pub(crate) fn lists_of_read(&self) -> Option<(&Items<Location>, &Items<Value>)> {
+        match (&self.call, &self.answer) {
+            (Call::Read(places), Answer::Read { values, .. }) => Some((places, values)),
+            _ => None,
         }
     }
 

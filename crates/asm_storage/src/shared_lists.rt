@@ -21,11 +21,8 @@ pub(crate) fn same_list<T: Clone>(items: &Items<T>) -> Result<Items<T>, AllocErr
     items.clone()
 }
 
-/// The same locations, in memory of their own.
-pub(crate) fn copied_places(
-    alloc: Global,
-    places: &[Location],
-) -> Result<Items<Location>, AllocError>
+// The same locations, in memory of their own.
+fn copied_places(alloc: Global, places: &[Location]) -> Result<Items<Location>, AllocError>
     ensures { IfOk result (λ copy. copy ≡ places.now) }
 {
     let mut items = Vec::with_capacity(alloc, places.len())?;
@@ -34,6 +31,20 @@ pub(crate) fn copied_places(
         items.push(copy)?;
     }
     shared_list(alloc, items)
+}
+
+/// The same locations: the earlier list, where it has them, or else a copy.
+pub(crate) fn places_again(
+    alloc: Global,
+    places: &[Location],
+    earlier: Option<&Items<Location>>,
+) -> Result<Items<Location>, AllocError>
+    ensures { IfOk result (λ list. list ≡ places.now) }
+{
+    match earlier {
+        Some(list) if list.as_slice() == places => same_list(list),
+        _ => copied_places(alloc, places),
+    }
 }
 
 /// The same named reads, in memory of their own.

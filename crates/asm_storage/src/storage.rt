@@ -1,4 +1,5 @@
 ghost use Rattle.std.specs.Prelude.{◌≡◌, ◌+◌, ◌<◌, ◌≤◌, ◌↔◌, ◌⊎◌, [], map, length, IfOk, IsErrOf};
+ghost use Rattle.std.specs.Arc.{arc_value};
 ghost use Rattle.std.specs.Bool.{OnTrue};
 ghost use Rattle.std.specs.List.{range_with_len};
 ghost use Rattle.asm_storage.specs.declared.error.StorageError.TheVariants as storage_error;
@@ -44,6 +45,18 @@ impl<A: Aggregator + Sync + Drop> Model for Storage<A> {
     ghost view = { λ s. record { row = s.row; agg = s.aggregator; init = arc_value s.init } };
 }
 
+// A row for so many moves.
+fn new_row(alloc: Global, capacity: u32) -> Result<Row<Entry>, StorageError>
+    ensures capacity { IfOk result (λ r. length r ≡ capacity) }
+    ensures bad { IsErrOf result storage_error.BadCapacity ↔ ((capacity ≡ 0) ⊎ (1048576 < capacity)) }
+{
+    match Row::new(alloc, capacity) {
+        Ok(row) => Ok(row),
+        Err(RowError::BadCapacity) => Err(StorageError::BadCapacity),
+        Err(RowError::Memory) => Err(StorageError::Memory),
+    }
+}
+
 impl<A: Aggregator + Sync + Drop> Storage<A> {
     /// A storage for at most `capacity` moves, from 1 to 1,048,576.
     ///
@@ -62,15 +75,31 @@ impl<A: Aggregator + Sync + Drop> Storage<A> {
         ensures capacity { IfOk result (λ s. length s.row ≡ capacity) }
         ensures bad { IsErrOf result storage_error.BadCapacity ↔ ((capacity ≡ 0) ⊎ (1048576 < capacity)) }
     {
-        let row = match Row::new(alloc, capacity) {
-            Ok(row) => row,
-            Err(RowError::BadCapacity) => return Err(StorageError::BadCapacity),
-            Err(RowError::Memory) => return Err(StorageError::Memory),
-        };
+        let row = new_row(alloc, capacity)?;
         let init = match Arc::new(alloc, init) {
             Ok(init) => init,
             Err(_) => return Err(StorageError::Memory),
         };
+        Ok(Storage {
+            row,
+            aggregator,
+            init,
+        })
+    }
+
+    /// As `new`, over an opening state that the caller keeps a share of: no value is copied.
+    pub fn over(
+        alloc: Global,
+        aggregator: A,
+        init: Arc<PlainState>,
+        capacity: u32,
+    ) -> Result<Storage<A>, StorageError>
+        ensures aggregator { IfOk result (λ s. s.agg ≡ aggregator) }
+        ensures init { IfOk result (λ s. s.init ≡ arc_value init) }
+        ensures capacity { IfOk result (λ s. length s.row ≡ capacity) }
+        ensures bad { IsErrOf result storage_error.BadCapacity ↔ ((capacity ≡ 0) ⊎ (1048576 < capacity)) }
+    {
+        let row = new_row(alloc, capacity)?;
         Ok(Storage {
             row,
             aggregator,

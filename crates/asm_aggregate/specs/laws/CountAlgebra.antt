@@ -1,6 +1,6 @@
 -- Sums of increments.
 use Rattle.std.proofs.Common.{◌≡◌, ◌≢◌, ℕ, suc, ℤ, pos, negsuc, ◌+ℤ◌, ◌-ℤ◌, Bool, true, false, cond}
-use Rattle.std.proofs.Common.{List, [], ◌∷◌, ◌++◌, map, refl, sym, ap, ◌∙◌, arith}
+use Rattle.std.proofs.Common.{List, [], ◌∷◌, map, refl, sym, ap, ◌∙◌, arith}
 use Rattle.std.specs.Prelude.{Option, None, Some, unwrap_or, is_some, IsPermutation, int_lt, FitsSigned, sum_by}
 use Rattle.std.specs.Cmp.{signed_Decides}
 use Rattle.std.specs.Int.{w64}

@@ -17,7 +17,7 @@ use Rattle.asm_element.specs.Element as element
 use Rattle.asm_element.specs.Element.{element_cmp, element_cmp_total, element_cmp-IsAntisymmetric, element_eq-equiv}
 use Rattle.asm_element.specs.declared.element.Element.{Element}
 use Rattle.asm_element.specs.Tests.{itself, neither, or_false, or_true, or_swap}
-use Rattle.asm_element.specs.Set.{ElementSet, empty, contains, remove, elements, from_list, same_set}
+use Rattle.asm_element.specs.Set.{ElementSet, empty, contains, elements, from_list, same_set}
 use Rattle.asm_update.specs.Action.{is_of, AllProper, IsProper}
 use Rattle.asm_update.specs.declared.action.Action.{Action}
 use Rattle.asm_update.specs.declared.action.Action.TheVariants.{SetAdd, SetRemove}

@@ -34,6 +34,7 @@ fn push_receipts<'a>(
     ensures { OnOk result (map id_and_receipt all.new.items ≡
         map id_and_receipt all.old.items ++ map (with_id agent) receipts.now) }
 {
+    all.reserve(receipts.len())?;
     for receipt in receipts {
         all.push(AgentReceipt { agent, receipt })?;
     }
@@ -63,7 +64,7 @@ pub(crate) fn merge<A: Aggregator + Sync + Drop>(
 {
     let mut all = all_receipts(alloc, agents)?;
     all.sort_by_key(|kept| kept.key())?;
-    let mut events = Vec::new(alloc);
+    let mut events = Vec::with_capacity(alloc, all.len())?;
     for kept in &all {
         let event = kept.receipt.event(alloc, kept.agent)?;
         events.push(event)?;

@@ -1,4 +1,5 @@
 ghost use Rattle.std.specs.Prelude.{◌≡◌, ◌≤◌, map, length, take, IfOk, OnOk, OnErr};
+ghost use Rattle.std.specs.Bool.{OnTrue};
 ghost use mathlib.Core.List.{IsPrefix};
 ghost use Rattle.asm_update.specs.State.{val};
 ghost use Rattle.asm_storage.specs.declared.call.Call.TheVariants as call;
@@ -12,7 +13,7 @@ use crate::call::{Answer, Call};
 use crate::part::AgentPart;
 use crate::reading::Reading;
 use crate::receipt::Receipt;
-use crate::shared_lists::{copied_places, same_list, shared_list};
+use crate::shared_lists::{places_again, same_list, shared_list};
 use crate::storage::Storage;
 use asm_element::{Element, Items, Location, Value};
 use asm_state::{Named, Objection};
@@ -29,8 +30,33 @@ fn value_or_undef<L: Lookup>(alloc: Global, lookup: &L, at: &Location) -> Result
     }
 }
 
-// The values of the locations, in their order.
-fn values_at<L: Lookup>(
+// Whether the location has the value.
+fn has_value<L: Lookup>(lookup: &L, at: &Location, value: &Value) -> bool
+    ensures { OnTrue result (value.now ≡ L.value_at lookup.now at.now) }
+{
+    match lookup.get(at) {
+        Some(held) => held == value,
+        None => value.is_undef(),
+    }
+}
+
+// Whether the locations have the values, in their order.
+fn have_values<L: Lookup>(lookup: &L, places: &[Location], values: &[Value]) -> bool
+    ensures { OnTrue result (values.now ≡ map (L.value_at lookup.now) places.now) }
+{
+    if values.len() != places.len() {
+        return false;
+    }
+    for (i, place) in places.iter().enumerate() {
+        if !has_value(lookup, place, &values[i]) {
+            return false;
+        }
+    }
+    true
+}
+
+// Copies of the values of the locations, in their order.
+fn copied_values<L: Lookup>(
     alloc: Global,
     lookup: &L,
     places: &[Location],
@@ -45,7 +71,31 @@ fn values_at<L: Lookup>(
     shared_list(alloc, values)
 }
 
+// The values of the locations, in their order: the earlier list, where they are as they were, or else copies.
+fn values_again<L: Lookup>(
+    alloc: Global,
+    lookup: &L,
+    places: &[Location],
+    earlier: Option<&Items<Value>>,
+) -> Result<Items<Value>, AllocError>
+    ensures { IfOk result (λ values. values ≡ map (L.value_at lookup.now) places.now) }
+{
+    match earlier {
+        Some(list) if have_values(lookup, places, list.as_slice()) => same_list(list),
+        _ => copied_values(alloc, lookup, places),
+    }
+}
+
 impl AgentPart {
+    // The lists of the last read, if it is one of the last two calls: a read that is answered the same shares them.
+    fn last_read(&self) -> Option<(&Items<Location>, &Items<Value>)> {
+        let (last, before) = self.receipts.split_last()?;
+        match last.lists_of_read() {
+            Some(lists) => Some(lists),
+            None => before.last()?.lists_of_read(),
+        }
+    }
+
     // The values of the locations after the moves that the state has followed.
     fn values_held<A: Aggregator + Sync + Drop>(
         &self,
@@ -60,7 +110,8 @@ impl AgentPart {
             (take self.now.state.number (moves_seen self.now.progress.seen)))) places.now) }
     {
         let _ = storage;
-        values_at(alloc, &self.state, places)
+        let earlier = self.last_read().map(|(_places, values)| values);
+        values_again(alloc, &self.state, places, earlier)
     }
 
     /// The locations with their values after the moves that the state has followed, without a look or a receipt.
@@ -75,7 +126,8 @@ impl AgentPart {
         ensures number { IfOk result (λ r. r.number ≡ self.now.state.number) }
     {
         let values = self.values_held(alloc, storage, places)?;
-        let places = copied_places(alloc, places)?;
+        let earlier = self.last_read().map(|(places, _values)| places);
+        let places = places_again(alloc, places, earlier)?;
         let number = self.state.number();
         Ok(Reading {
             number,

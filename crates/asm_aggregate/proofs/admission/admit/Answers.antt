@@ -3,7 +3,12 @@ use Rattle.std.specs.FinMap as finite
 use Rattle.asm_aggregate.specs.Stretch.{IsArranged, referred}
 use Rattle.asm_aggregate.proofs.Parted.{fewer}
 use Rattle.asm_aggregate.proofs.Walked.{walk_starts, first_written, walk_admits, walk_rejects, walk_ends}
+use Rattle.asm_aggregate.proofs.OnlyPut.{has_updates}
 use Rattle.asm_aggregate.proofs.admission.admit.Goals as goal
+
+pub returns-then-is_some : goal.returns-then-is_some
+returns-then-is_some g c =
+    has_updates _ _ c.args.instructions.now c.only_put.result c.only_put.ensures.some (sym c.is_some.ensures ∙ c.if-is_some.true)
 
 pub loop-stretch-init : goal.loop-stretch-init
 loop-stretch-init g c = (

@@ -1,6 +1,7 @@
 use Rattle.std.proofs.Common.{◌≤◌, ◌<◌, length, ◌++◌, ◌∷◌, [], refl, sym, ap, subst, ◌∙◌, arith}
 use Rattle.std.proofs.lemmas.List.{nil_from_length}
 use Rattle.std.proofs.lemmas.Result.{err_from_is_err_and}
+use Rattle.std.specs.Arc.{arc_value}
 use Rattle.std.specs.List.{flat_map}
 use Rattle.asm_script.specs.Script.{agent_faults, IsFirst}
 use Rattle.asm_script.proofs.Faults.{one_done, none_left, none_more, first_more, few_agents, many_agents}
@@ -47,5 +48,6 @@ returns-clause-ok c =
     let all = none_left c.loop-steps.done.items agents _ l.0 none in
     let few : length agents ≤ 256 = omega (arith, ap length c.into_vec-agents.ensures) in (
       few_agents agents few ∙ ap (flat_map agent_faults) (sym all) ∙ l.1,
-      c.in-Some-of.ensures.script ∙ ap (λ ss. record { init = c.args.written.init; agents = ss }) (c.new.ensures ∙ all),
+      c.in-Some-of.ensures.script ∙ ap (λ ss. record { init = arc_value c.in_ok-init.init; agents = ss }) (c.new.ensures ∙ all)
+          ∙ ap (λ init. record { init = init; agents = agents }) c.in_ok-init.ensures,
     )

@@ -28,8 +28,8 @@ returns-in-Some-clause-number g c =
 
 pub returns-in-None-clause-ok : goal.returns-in-None-clause-ok
 returns-in-None-clause-ok g c =
-    on_ok_weaker c.follow_all.result
+    on_ok_weaker c.follow_rest.result
     (λ followed init q stands.
-    stands_more (g.A.Aggregator.meaning c.args.aggregator.now).part init q c.args.self.now c.follow_all.new.self
+    stands_more (g.A.Aggregator.meaning c.args.aggregator.now).part init q c.args.self.now c.follow_rest.new.self
     c.args.instructions.now stands followed)
-    c.follow_all.ensures.followed
+    c.follow_rest.ensures.followed

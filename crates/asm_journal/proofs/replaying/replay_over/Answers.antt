@@ -7,16 +7,16 @@ use Rattle.asm_state.specs.Stands.{after_move}
 use Rattle.asm_state.proofs.Writers.{state_of-push}
 use Rattle.asm_storage.specs.History.{fired_moves}
 use Rattle.asm_storage.proofs.Moves.{fired_moves-push_fired, fired_moves-push_quiet}
-use Rattle.asm_journal.proofs.replaying.replay.Goals as goal
-use Rattle.asm_journal.proofs.replaying.replay.Goals.{in-Some+in_ok-fire_or_keep, in_default}
+use Rattle.asm_journal.proofs.replaying.replay_over.Goals as goal
+use Rattle.asm_journal.proofs.replaying.replay_over.Goals.{in-Some+in_ok-fire_or_keep, in_default}
 
 pub loop-event-preserved : goal.loop-event-preserved
 loop-event-preserved g c =
     let part = (g.A.Aggregator.meaning c.args.aggregator.now).part in
-    let items = c.as_slice-event-items.result.now in
+    let items = c.args.events.now in
     let i = c.loop-event.event-index in
     let e = c.event-item.result in
-    let init = c.args.history.now.init in
+    let init = c.args.init in
     let before = take i items in
     let more = take_more items i e c.loop-event-test.true ∙ ap (λ x. take i items ++ x ∷ []) (sym c.event-item.is) in
     let after = ap (λ h. state_of part init (fired_moves h)) more in
