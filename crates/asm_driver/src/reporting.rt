@@ -5,12 +5,13 @@ ghost use Rattle.serde_json.specs.Written.{has_float, compact_text};
 ghost use Rattle.asm_journal.specs.Element.{location_json_of};
 ghost use Rattle.asm_play.specs.Standard.{standard_part};
 ghost use Rattle.asm_driver.specs.Report.{state_lines, outcome_line};
-ghost use Rattle.asm_driver.specs.Report.{agent_lines, outcome_lines, reason, report_of};
+ghost use Rattle.asm_driver.specs.Report.{agent_lines, moves_line, outcome_lines, reason, report_of};
 
 use asm_element::{Items, Location};
-use asm_journal::{location_json, pair_json, replay, word_of_cause};
+use asm_journal::{location_json, pair_json, replay, replay_over, word_of_cause};
 use asm_play::aggregator::chosen;
 use asm_play::{Outcome, Played};
+use asm_storage::History;
 use asm_update::{Aggregator, PlainState};
 use serde_json::Value as Json;
 use std::alloc::{AllocError, Global};
@@ -135,11 +136,35 @@ pub fn report_by<A: Aggregator>(
 ) -> Result<String, AllocError>
     ensures { IfOk result (λ text. string_bytes text ≡ report_of (A.meaning aggregator.now).part played.now) }
 {
-    let mut text = String::new(alloc);
     let state = replay(alloc, aggregator, &played.history)?;
-    push_state(alloc, &mut text, &state)?;
     let moves = played.history.moves();
+    lines_of(alloc, &state, moves, played.outcomes.as_slice())
+}
+
+/// As `report`, of a play that moves in, so that its opening state isn't copied.
+pub(crate) fn report_of_owned(alloc: Global, played: Played) -> Result<String, AllocError>
+    ensures { IfOk result (λ text. string_bytes text ≡ report_of standard_part played) }
+{
+    let moves = played.history.moves();
+    let Played { history, outcomes } = played;
+    let History { init, events, .. } = history;
+    let state = replay_over(alloc, &chosen(), init, events.as_slice())?;
+    lines_of(alloc, &state, moves, outcomes.as_slice())
+}
+
+// The lines of a report, for a final state.
+fn lines_of(
+    alloc: Global,
+    state: &PlainState,
+    moves: u32,
+    outcomes: &[Items<Outcome>],
+) -> Result<String, AllocError>
+    ensures { IfOk result (λ text. string_bytes text ≡
+        state_lines state.now ++ moves_line moves ++ outcome_lines outcomes.now) }
+{
+    let mut text = String::new(alloc);
+    push_state(alloc, &mut text, state)?;
     text.push_str(format!(in alloc; "moves {moves}\n")?.as_str())?;
-    push_outcomes(alloc, &mut text, played.outcomes.as_slice())?;
+    push_outcomes(alloc, &mut text, outcomes)?;
     Ok(text)
 }

@@ -38,6 +38,8 @@ mod plain_histories;
 #[cfg(test)]
 mod plain_moves;
 #[cfg(test)]
+mod reads_again;
+#[cfg(test)]
 mod reads_on_threads;
 #[cfg(test)]
 mod telling;

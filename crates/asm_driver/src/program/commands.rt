@@ -6,7 +6,7 @@ ghost use Rattle.asm_driver.specs.Commands.{legality_line, legality_status, IsDo
 
 use crate::program::refusal::Refusal;
 use crate::program::words::Request;
-use crate::reporting::report;
+use crate::reporting::report_of_owned;
 use asm_journal::{Legality, check, from_text, to_text};
 use asm_play::aggregator::chosen;
 use asm_play::{Open, Played, run_script};
@@ -24,12 +24,12 @@ pub(crate) struct Ending {
 }
 
 /// The text for a played script: its journal if that was asked for, and otherwise its report.
-fn played_text(alloc: Global, played: &Played, journal: bool) -> Result<String, Refusal>
-    ensures ok { IfOk result (λ text. string_bytes text ≡ text_of_played journal played.now) }
-    ensures err { IfErr result (IsNoText journal played.now) }
+fn played_text(alloc: Global, played: Played, journal: bool) -> Result<String, Refusal>
+    ensures ok { IfOk result (λ text. string_bytes text ≡ text_of_played journal played) }
+    ensures err { IfErr result (IsNoText journal played) }
 {
     if !journal {
-        return Ok(report(alloc, played)?);
+        return Ok(report_of_owned(alloc, played)?);
     }
     if !played.history.fits() {
         return Err(Refusal::Unfit);
@@ -50,7 +50,7 @@ fn run<T: Threads + Wait + Sync>(
 {
     let script = parse_script(alloc, bytes)?;
     let played = run_script(rt, alloc, &script, capacity, &Open)?;
-    played_text(alloc, &played, journal)
+    played_text(alloc, played, journal)
 }
 
 /// The line and the status of a check.
