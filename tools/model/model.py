@@ -3,7 +3,7 @@
 
 It takes the program's words, reads its standard input, and ends with its status: `run [--capacity N] [--journal]`,
 `check`, `rewrite` and `trace`. It plays one agent after the other, and so refuses, with status 70, a script of several agents
-whose output may depend on the order of their moves. It has no text of help.
+whose output may depend on the order of their moves. It tells neither help nor a version.
 """
 
 import re

@@ -9,12 +9,12 @@ use Rattle.clap.specs.Words.{Row, Text, Kinds, IsAmong, one_of, subcommand_of}
 use Rattle.clap.specs.declared.error.kind.ErrorKind.{ErrorKind}
 use Rattle.clap.specs.declared.error.kind.ErrorKind.TheVariants as kind
 use Rattle.asm_driver.specs.Words.{Words, program, faults, program_with, run_with, Asks, AsksFor, IsNoCommand}
-use Rattle.asm_driver.specs.Words.{IsRefusal, IsMadeOf}
-use Rattle.asm_driver.specs.Words.{Gives, RefusesWords, Helps, Answers}
+use Rattle.asm_driver.specs.Words.{IsRefusal, IsMadeOf, IsTold, HasMistake}
+use Rattle.asm_driver.specs.Words.{Gives, RefusesWords, Helps, TellsVersion, Answers}
 use Rattle.asm_driver.specs.declared.program.words.Request.{Request}
 use Rattle.asm_driver.specs.declared.program.words.Request.TheVariants.{Run, Check, Rewrite, Trace}
 use Rattle.asm_driver.specs.declared.program.words.WordsError.{WordsError}
-use Rattle.asm_driver.specs.declared.program.words.WordsError.TheVariants.{Help, Bad, Memory}
+use Rattle.asm_driver.specs.declared.program.words.WordsError.TheVariants.{Help, Version, Bad, Memory}
 
 -- an error of clap that may come at these words
 pub refused : (words : Words) (k : ErrorKind) (e : WordsError) → (k ≡ kind.OutOfMemory) ⊎ IsAmong k (faults words) →
@@ -22,6 +22,9 @@ pub refused : (words : Words) (k : ErrorKind) (e : WordsError) → (k ≡ kind.O
 refused words k (Help text) (inl memory) is = let e : kind.OutOfMemory ≡ kind.DisplayHelp = sym memory
     ∙ is in absurd (cc (e))
 refused words k (Help text) (inr among) is = subst (λ x. IsAmong x (faults words)) is among
+refused words k Version (inl memory) is = let e : kind.OutOfMemory ≡ kind.DisplayVersion = sym memory
+    ∙ is in absurd (cc (e))
+refused words k Version (inr among) is = subst (λ x. IsAmong x (faults words)) is among
 refused words k Bad (inl memory) is = absurd (is.0 memory)
 refused words k Bad (inr among) is = inl (k, among, is.1)
 refused words k Memory among is = tt
@@ -117,35 +120,68 @@ gives : (example words : Words) (n : Request) (r : Result Request WordsError) �
 gives example words n (Ok m) is ok err e = is.asks m (subst (λ w. Asks (subcommand_of program w) m) e ok.1)
 gives example words n (Err (Help text)) is ok err e = absurd
     (none_among _ _ is.taken (subst (λ w. IsAmong kind.DisplayHelp (faults w)) e err))
+gives example words n (Err Version) is ok err e = absurd
+    (none_among _ _ is.taken (subst (λ w. IsAmong kind.DisplayVersion (faults w)) e err))
 gives example words n (Err Bad) is ok (inl found) e = absurd
     (none_among _ _ is.taken (subst (λ w. IsAmong found.0 (faults w)) e found.1))
 gives example words n (Err Bad) is ok (inr other) e = absurd
     (is.known (subst (λ w. IsNoCommand (subcommand_of program w)) e other.1))
 gives example words n (Err Memory) is ok err e = refl
 
+-- the kinds tell neither help nor the version
+abbrev TellsNothing : Kinds → Type 0
+TellsNothing ks = ¬ IsAmong kind.DisplayHelp ks × ¬ IsAmong kind.DisplayVersion ks
+
+-- a kind that clap may find at the words is among those that it may find at the example
+found_at : (example words : Words) (k : ErrorKind) (ks : Kinds) → faults example ≡ ks → words ≡ example →
+    IsAmong k (faults words) → IsAmong k ks
+found_at example words k ks is e among = subst (IsAmong k) is (subst (λ w. IsAmong k (faults w)) e among)
+
+-- clap doesn't take words at which it finds something
+not_taken : (example words : Words) (k : ErrorKind) (ks : Kinds) → faults example ≡ k ∷ ks → words ≡ example →
+    faults words ≡ [] → ⊥
+not_taken example words k ks is e taken = let none : k ∷ ks ≡ [] = sym is
+    ∙ subst (λ w. faults w ≡ []) e taken in cc (none)
+
 refuses : (example words : Words) (k : ErrorKind) (ks : Kinds) (r : Result Request WordsError) →
-    faults example ≡ k ∷ ks → ¬ IsAmong kind.DisplayHelp (k ∷ ks) → IfOk r (AsksFor words) →
+    faults example ≡ k ∷ ks → TellsNothing (k ∷ ks) → IfOk r (AsksFor words) →
     IfErr r (IsRefusal words) → words ≡ example → RefusesWords r
-refuses example words k ks (Ok m) is without ok err e = let none : k ∷ ks ≡ [] = sym is
-    ∙ subst (λ w. faults w ≡ []) e ok.0 in absurd (cc (none))
+refuses example words k ks (Ok m) is without ok err e = absurd (not_taken example words k ks is e ok.0)
 refuses example words k ks (Err (Help text)) is without ok err e = absurd
-    (without (subst (IsAmong kind.DisplayHelp) is (subst (λ w. IsAmong kind.DisplayHelp (faults w)) e err)))
+    (without.0 (found_at example words kind.DisplayHelp (k ∷ ks) is e err))
+refuses example words k ks (Err Version) is without ok err e = absurd
+    (without.1 (found_at example words kind.DisplayVersion (k ∷ ks) is e err))
 refuses example words k ks (Err Bad) is without ok err e = tt
 refuses example words k ks (Err Memory) is without ok err e = tt
 
+not_among : (k x : ErrorKind) → ¬ (k ≡ x) → ¬ IsAmong k (x ∷ [])
+not_among k x without (inl h) = without h
+not_among k x without (inr h) = h
+
+-- words at which clap finds only what is told have no mistake
+no_mistake : (example words : Words) (k : ErrorKind) → IsTold k → faults example ≡ k ∷ [] → words ≡ example →
+    HasMistake words → ⊥
+no_mistake example words k told is e (inl found) = not_among found.0 k (λ h. found.2 (subst IsTold (sym h) told))
+    (found_at example words found.0 (k ∷ []) is e found.1)
+no_mistake example words k told is e (inr other) = not_taken example words k [] is e other.0
+
 helps : (example words : Words) (r : Result Request WordsError) → faults example ≡ kind.DisplayHelp ∷ [] →
     IfOk r (AsksFor words) → IfErr r (IsRefusal words) → words ≡ example → Helps r
-helps example words (Ok m) is ok err e = let none : kind.DisplayHelp ∷ [] ≡ [] = sym is
-    ∙ subst (λ w. faults w ≡ []) e ok.0 in absurd (cc (none))
+helps example words (Ok m) is ok err e = absurd (not_taken example words kind.DisplayHelp [] is e ok.0)
 helps example words (Err (Help text)) is ok err e = tt
-helps example words (Err Bad) is ok (inl found) e = absurd
-    (only found.0 found.2 (subst (IsAmong found.0) is (subst (λ w. IsAmong found.0 (faults w)) e found.1))) where
-      only : (k : ErrorKind) → ¬ (k ≡ kind.DisplayHelp) → IsAmong k (kind.DisplayHelp ∷ []) → ⊥
-      only k without (inl h) = without h
-      only k without (inr h) = h
-helps example words (Err Bad) is ok (inr other) e = let none : kind.DisplayHelp ∷ [] ≡ [] = sym is
-    ∙ subst (λ w. faults w ≡ []) e other.0 in absurd (cc (none))
+helps example words (Err Version) is ok err e = absurd
+    (not_among _ _ (λ h. cc (h)) (found_at example words kind.DisplayVersion (kind.DisplayHelp ∷ []) is e err))
+helps example words (Err Bad) is ok err e = absurd (no_mistake example words kind.DisplayHelp (inl refl) is e err)
 helps example words (Err Memory) is ok err e = tt
+
+tells : (example words : Words) (r : Result Request WordsError) → faults example ≡ kind.DisplayVersion ∷ [] →
+    IfOk r (AsksFor words) → IfErr r (IsRefusal words) → words ≡ example → TellsVersion r
+tells example words (Ok m) is ok err e = absurd (not_taken example words kind.DisplayVersion [] is e ok.0)
+tells example words (Err (Help text)) is ok err e = absurd
+    (not_among _ _ (λ h. cc (h)) (found_at example words kind.DisplayHelp (kind.DisplayVersion ∷ []) is e err))
+tells example words (Err Version) is ok err e = tt
+tells example words (Err Bad) is ok err e = absurd (no_mistake example words kind.DisplayVersion (inr refl) is e err)
+tells example words (Err Memory) is ok err e = tt
 
 default : IsExample (run_with []) (Run 4096 false)
 unfolding clap_on_literals faults
@@ -235,9 +271,8 @@ traced = record {
   known = λ h. h.3 refl;
 }
 
-no_help : (k : ErrorKind) → ¬ (kind.DisplayHelp ≡ k) → ¬ IsAmong kind.DisplayHelp (k ∷ [])
-no_help k without (inl h) = without h
-no_help k without (inr h) = h
+tells_nothing : (k : ErrorKind) → ¬ (kind.DisplayHelp ≡ k) → ¬ (kind.DisplayVersion ≡ k) → TellsNothing (k ∷ [])
+tells_nothing k help version = (not_among kind.DisplayHelp k help, not_among kind.DisplayVersion k version)
 
 above : faults (run_with (codes "--capacity" ∷ codes "1048577" ∷ [])) ≡ kind.ValueValidation ∷ []
 unfolding clap_on_literals faults
@@ -259,10 +294,17 @@ other_command : faults (program_with (codes "play" ∷ [])) ≡ kind.UnknownArgu
 unfolding clap_on_literals faults
 other_command = refl
 
-neither_helps : ¬ IsAmong kind.DisplayHelp (kind.UnknownArgument ∷ kind.InvalidSubcommand ∷ [])
-neither_helps (inl h) = cc h
-neither_helps (inr (inl h)) = cc h
-neither_helps (inr (inr h)) = h
+neither : (k : ErrorKind) → ¬ (k ≡ kind.UnknownArgument) → ¬ (k ≡ kind.InvalidSubcommand) →
+    ¬ IsAmong k (kind.UnknownArgument ∷ kind.InvalidSubcommand ∷ [])
+neither k unknown invalid (inl h) = unknown h
+neither k unknown invalid (inr (inl h)) = invalid h
+neither k unknown invalid (inr (inr h)) = h
+
+neither_tells : TellsNothing (kind.UnknownArgument ∷ kind.InvalidSubcommand ∷ [])
+neither_tells = (
+  neither kind.DisplayHelp (λ e. cc (e)) (λ e. cc (e)),
+  neither kind.DisplayVersion (λ e. cc (e)) (λ e. cc (e)),
+)
 
 check_further : faults (program_with (codes "check" ∷ codes "more" ∷ [])) ≡ kind.UnknownArgument ∷ []
 unfolding clap_on_literals faults
@@ -296,6 +338,18 @@ trace_help : faults (program_with (codes "trace" ∷ codes "--help" ∷ [])) ≡
 unfolding clap_on_literals faults
 trace_help = refl
 
+version : faults (program_with (codes "--version" ∷ [])) ≡ kind.DisplayVersion ∷ []
+unfolding clap_on_literals faults
+version = refl
+
+short_version : faults (program_with (codes "-V" ∷ [])) ≡ kind.DisplayVersion ∷ []
+unfolding clap_on_literals faults
+short_version = refl
+
+run_version : faults (run_with (codes "--version" ∷ [])) ≡ kind.UnknownArgument ∷ []
+unfolding clap_on_literals faults
+run_version = refl
+
 pub answers : (words : Words) (r : Result Request WordsError) → IfOk r (AsksFor words) → IfErr r (IsRefusal words) →
     Answers words r
 answers words r ok err = record {
@@ -306,22 +360,25 @@ answers words r ok err = record {
   leading_zero = gives _ words _ r leading_zero ok err;
   joined = gives _ words _ r joined ok err;
   greatest = gives _ words _ r greatest ok err;
-  above = refuses _ words _ _ r above (no_help _ (λ e. cc (e))) ok err;
-  zero = refuses _ words _ _ r zero (no_help _ (λ e. cc (e))) ok err;
-  further = refuses _ words _ _ r further (no_help _ (λ e. cc (e))) ok err;
-  none = refuses _ words _ _ r none (no_help _ (λ e. cc (e))) ok err;
-  other = refuses _ words _ _ r other_command neither_helps ok err;
+  above = refuses _ words _ _ r above (tells_nothing _ (λ e. cc (e)) (λ e. cc (e))) ok err;
+  zero = refuses _ words _ _ r zero (tells_nothing _ (λ e. cc (e)) (λ e. cc (e))) ok err;
+  further = refuses _ words _ _ r further (tells_nothing _ (λ e. cc (e)) (λ e. cc (e))) ok err;
+  none = refuses _ words _ _ r none (tells_nothing _ (λ e. cc (e)) (λ e. cc (e))) ok err;
+  other = refuses _ words _ _ r other_command neither_tells ok err;
   check = gives _ words _ r checked ok err;
-  check_further = refuses _ words _ _ r check_further (no_help _ (λ e. cc (e))) ok err;
+  check_further = refuses _ words _ _ r check_further (tells_nothing _ (λ e. cc (e)) (λ e. cc (e))) ok err;
   rewrite = gives _ words _ r rewritten ok err;
-  rewrite_further = refuses _ words _ _ r rewrite_further (no_help _ (λ e. cc (e))) ok err;
+  rewrite_further = refuses _ words _ _ r rewrite_further (tells_nothing _ (λ e. cc (e)) (λ e. cc (e))) ok err;
   trace = gives _ words _ r traced ok err;
-  trace_further = refuses _ words _ _ r trace_further (no_help _ (λ e. cc (e))) ok err;
+  trace_further = refuses _ words _ _ r trace_further (tells_nothing _ (λ e. cc (e)) (λ e. cc (e))) ok err;
   help = helps _ words r help ok err;
   run_help = helps _ words r run_help ok err;
   check_help = helps _ words r check_help ok err;
   rewrite_help = helps _ words r rewrite_help ok err;
   trace_help = helps _ words r trace_help ok err;
+  version = tells _ words r version ok err;
+  short_version = tells _ words r short_version ok err;
+  run_version = refuses _ words _ _ r run_version (tells_nothing _ (λ e. cc (e)) (λ e. cc (e))) ok err;
 }
 
 -- what the matches ask for, or a mistake where their command isn't one of the program's

@@ -1,11 +1,12 @@
 -- How a run of the program ends: its status, and the text that it writes.
-use Rattle.std.specs.Prelude.{◌≡◌, ◌⊎◌, ℕ, Bool, true, false, [], List, Result, Ok, Err}
+use Rattle.std.specs.Prelude.{◌≡◌, ◌⊎◌, ℕ, Bool, true, false, [], List, Result, Ok, Err, codes, string_bytes}
 use Rattle.std.specs.Io.KnownBytes.{Appends}
 use Rattle.std.specs.declared.io.ErrorKind.{ErrorKind}
 use Rattle.std.specs.declared.io.ErrorKind.TheVariants.{InvalidData}
 use Rattle.asm_driver.specs.Input.{Known, ReadsAll, TakesTooMany, TakesSome}
 use Rattle.asm_driver.specs.Output.{AppendsSome}
-use Rattle.asm_driver.specs.Words.{Words, AsksFor, AsksForHelp, HasMistake, faults}
+use Rattle.asm_driver.specs.Words.{Words, AsksFor, AsksForHelp, AsksForVersion, HasMistake, faults}
+use Rattle.asm_driver.specs.Report.{line}
 use Rattle.asm_driver.specs.Commands.{IsDone, IsNotDone}
 use Rattle.asm_driver.specs.Refusal.{refusal_line, refusal_status, has_number}
 use Rattle.asm_driver.specs.declared.program.commands.Ending.{Ending}
@@ -40,10 +41,18 @@ abbrev pub IsAsked : Words → Input → ℕ → List ℕ → Type 0
 IsAsked words i status text =
     (bytes : List ℕ) × (request : Request) × IsWhole i bytes × AsksFor words request × IsDone bytes request status text
 
--- what the words ask for; or help that is asked for, before anything is read
+-- the line that tells the version
+abbrev pub version_line : List ℕ
+version_line = line (codes "asm_driver 0.2.0")
+
+-- the text is help that the words ask for, or the line of the version that they ask for
+abbrev pub IsToldOf : Words → List ℕ → Type 0
+IsToldOf words text = AsksForHelp words ⊎ (AsksForVersion words × (text ≡ version_line))
+
+-- what the words ask for; or help or the version that is asked for, before anything is read
 abbrev pub IsAnswer : Words → Input → ℕ → List ℕ → Type 0
 IsAnswer words i status text =
-    IsAsked words i status text ⊎ ((status ≡ 0) × AsksForHelp words × IsUnread i)
+    IsAsked words i status text ⊎ ((status ≡ 0) × IsToldOf words text × IsUnread i)
 
 -- why the words are refused
 abbrev pub IsWordsRefusal : Words → Refusal → Type 0
@@ -65,9 +74,15 @@ IsNoAnswer words i r =
     ⊎ ((faults words ≡ []) × IsNoInput i r)
     ⊎ ((bytes : List ℕ) × (request : Request) × IsWhole i bytes × AsksFor words request × IsNotDone bytes request r)
 
--- what is made of an error of the words: help that is asked for is an answer
+-- the line of the version is answered, for which there has to be memory
+abbrev pub IsVersion : Result Ending Refusal → Type 0
+IsVersion (Ok e) = (e.status ≡ 0) × (string_bytes e.text ≡ version_line)
+IsVersion (Err r) = r ≡ refusal.Memory
+
+-- what is made of an error of the words: help and the version that are asked for are answers
 abbrev pub IsAnswerTo : WordsError → Result Ending Refusal → Type 0
 IsAnswerTo (words.Help text) r = r ≡ Ok (record { status = 0; text = text })
+IsAnswerTo words.Version r = IsVersion r
 IsAnswerTo words.Bad r = r ≡ Err refusal.Words
 IsAnswerTo words.Memory r = r ≡ Err refusal.Memory
 

@@ -11,7 +11,7 @@ use Rattle.clap.specs.declared.error.kind.ErrorKind.TheVariants as kind
 use Rattle.asm_driver.specs.declared.program.words.Request.{Request}
 use Rattle.asm_driver.specs.declared.program.words.Request.TheVariants.{Run, Check, Rewrite, Trace}
 use Rattle.asm_driver.specs.declared.program.words.WordsError.{WordsError}
-use Rattle.asm_driver.specs.declared.program.words.WordsError.TheVariants.{Help, Bad, Memory}
+use Rattle.asm_driver.specs.declared.program.words.WordsError.TheVariants.{Help, Version, Bad, Memory}
 
 -- --capacity N, with N from 1 to 1,048,576, and 4,096 where it isn't given
 abbrev pub capacity : Rule
@@ -47,18 +47,19 @@ trace = new_app (codes "trace")
 abbrev pub with_journals : App → App
 with_journals a = with_subcommand (with_subcommand (with_subcommand a check.top) rewrite.top) trace.top
 
--- the commands run, check, rewrite and trace, of which one must be given
+-- the commands run, check, rewrite and trace, of which one must be given unless help or the version is asked for
 abbrev pub program : App
 program =
     let named = new_app (codes "asm_driver") in
-    let required = record named { top = record named.top { subcommand_required = true } } in
+    let required = record named { top = record named.top { has_version = true; subcommand_required = true } } in
     with_journals (with_subcommand required run.top)
 
 -- the words, each with its bytes
 abbrev pub Words : Type 0
 Words = List Text
 
--- what clap may find: the kinds of fault, help that is asked for among them; none where it takes the words
+-- what clap may find: the kinds of fault, help and the version that are asked for among them; none where it takes the
+-- words
 unfoldable pub faults : Words → Kinds
 faults words = fault_of program words
 
@@ -97,6 +98,14 @@ AsksFor words r = (faults words ≡ []) × Asks (subcommand_of program words) r
 abbrev pub AsksForHelp : Words → Type 0
 AsksForHelp words = IsAmong kind.DisplayHelp (faults words)
 
+-- the words ask for the version
+abbrev pub AsksForVersion : Words → Type 0
+AsksForVersion words = IsAmong kind.DisplayVersion (faults words)
+
+-- what clap found is no mistake: help or the version is told
+abbrev pub IsTold : ErrorKind → Type 0
+IsTold k = (k ≡ kind.DisplayHelp) ⊎ (k ≡ kind.DisplayVersion)
+
 -- there is another command, or none
 abbrev pub IsNoCommand : Option (Text × List Row) → Type 0
 IsNoCommand None = Unit {0}
@@ -106,19 +115,22 @@ IsNoCommand (Some p) =
 -- the words have a mistake: one that clap may find, or clap takes them and there is no command of the program's
 abbrev pub HasMistake : Words → Type 0
 HasMistake words =
-    ((k : ErrorKind) × IsAmong k (faults words) × ¬ (k ≡ kind.DisplayHelp))
+    ((k : ErrorKind) × IsAmong k (faults words) × ¬ IsTold k)
     ⊎ ((faults words ≡ []) × IsNoCommand (subcommand_of program words))
 
 -- why the words are refused; an allocation failure tells nothing
 abbrev pub IsRefusal : Words → WordsError → Type 0
 IsRefusal words (Help text) = AsksForHelp words
+IsRefusal words Version = AsksForVersion words
 IsRefusal words Bad = HasMistake words
 IsRefusal words Memory = Unit {0}
 
--- what is made of an error of clap: its text where help was asked for, for which there has to be memory
+-- what is made of an error of clap: its text where help was asked for, for which there has to be memory; the version
+-- takes none
 abbrev pub IsMadeOf : ErrorKind → WordsError → Type 0
 IsMadeOf k (Help text) = k ≡ kind.DisplayHelp
-IsMadeOf k Bad = ¬ (k ≡ kind.OutOfMemory) × ¬ (k ≡ kind.DisplayHelp)
+IsMadeOf k Version = k ≡ kind.DisplayVersion
+IsMadeOf k Bad = ¬ (k ≡ kind.OutOfMemory) × ¬ IsTold k
 IsMadeOf k Memory = (k ≡ kind.OutOfMemory) ⊎ (k ≡ kind.DisplayHelp)
 
 -- ---- words that are written out
@@ -140,6 +152,7 @@ Gives wanted (Err e) = e ≡ Memory
 abbrev pub RefusesWords : Result Request WordsError → Type 0
 RefusesWords (Ok r) = ⊥
 RefusesWords (Err (Help text)) = ⊥
+RefusesWords (Err Version) = ⊥
 RefusesWords (Err Bad) = Unit {0}
 RefusesWords (Err Memory) = Unit {0}
 
@@ -147,8 +160,17 @@ RefusesWords (Err Memory) = Unit {0}
 abbrev pub Helps : Result Request WordsError → Type 0
 Helps (Ok r) = ⊥
 Helps (Err (Help text)) = Unit {0}
+Helps (Err Version) = ⊥
 Helps (Err Bad) = ⊥
 Helps (Err Memory) = Unit {0}
+
+-- the version is told, unless memory is refused
+abbrev pub TellsVersion : Result Request WordsError → Type 0
+TellsVersion (Ok r) = ⊥
+TellsVersion (Err (Help text)) = ⊥
+TellsVersion (Err Version) = Unit {0}
+TellsVersion (Err Bad) = ⊥
+TellsVersion (Err Memory) = Unit {0}
 
 -- what is answered to some words
 pub record Answers (words : Words) (r : Result Request WordsError) : Type 0 where
@@ -175,3 +197,6 @@ pub record Answers (words : Words) (r : Result Request WordsError) : Type 0 wher
   pub check_help : words ≡ program_with (codes "check" ∷ codes "--help" ∷ []) → Helps r
   pub rewrite_help : words ≡ program_with (codes "rewrite" ∷ codes "--help" ∷ []) → Helps r
   pub trace_help : words ≡ program_with (codes "trace" ∷ codes "--help" ∷ []) → Helps r
+  pub version : words ≡ program_with (codes "--version" ∷ []) → TellsVersion r
+  pub short_version : words ≡ program_with (codes "-V" ∷ []) → TellsVersion r
+  pub run_version : words ≡ run_with (codes "--version" ∷ []) → RefusesWords r

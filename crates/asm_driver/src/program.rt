@@ -4,7 +4,7 @@ ghost use Rattle.std.specs.IoError.{error_kind};
 ghost use Rattle.asm_driver.specs.Input.{TakesUpTo};
 ghost use Rattle.asm_driver.specs.Refusal.{has_number};
 ghost use Rattle.asm_driver.specs.Words.{faults};
-ghost use Rattle.asm_driver.specs.Run.{IsAnswer, IsNoAnswer, IsAnswerTo, Writes, Refuses};
+ghost use Rattle.asm_driver.specs.Run.{IsAnswer, IsNoAnswer, IsAnswerTo, version_line, Writes, Refuses};
 ghost use Rattle.asm_driver.specs.Run.{Runs, RunsOver, HasFailed, RefusesKind, IsRefusalOfKind};
 
 mod commands;
@@ -18,18 +18,29 @@ use crate::ports::source::{NotedReader, Source};
 use crate::program::commands::{Ending, carry_out};
 use crate::program::refusal::Refusal;
 use crate::program::words::{WordsError, read_words};
-use std::alloc::Global;
+use std::alloc::{AllocError, Global};
 use std::io;
 use std::io::{ErrorKind, Read, Write};
 use std::sync::Wait;
 use std::thread::Threads;
 
-// A request for help is not a refusal.
-fn answer_to(error: WordsError) -> Result<Ending, Refusal>
+// The line that tells the version.
+fn version_text(alloc: Global) -> Result<String, AllocError>
+    ensures { IfOk result (λ text. string_bytes text ≡ version_line) }
+{
+    format!(in alloc; "asm_driver 0.2.0\n")
+}
+
+// A request for help or the version is not a refusal.
+fn answer_to(alloc: Global, error: WordsError) -> Result<Ending, Refusal>
     ensures { IsAnswerTo error result }
 {
     match error {
         WordsError::Help(text) => Ok(Ending { status: 0, text }),
+        WordsError::Version => Ok(Ending {
+            status: 0,
+            text: version_text(alloc)?,
+        }),
         WordsError::Bad => Err(Refusal::Words),
         WordsError::Memory => Err(Refusal::Memory),
     }
@@ -53,7 +64,7 @@ fn answer<T: Threads + Wait + Sync, S: Source>(
 {
     let request = match read_words(alloc, words) {
         Ok(request) => request,
-        Err(error) => return answer_to(error),
+        Err(error) => return answer_to(alloc, error),
     };
     let bytes = read_input(alloc, input)?;
     carry_out(rt, alloc, request, bytes.as_slice())
@@ -141,7 +152,8 @@ pub fn run_noted<T: Threads + Wait + Sync, S: Source, K: Sink>(
 /// is written with status 0, or with `--journal` the journal of the calls. With `check` it is a journal, and
 /// `legal CALLS MOVES` is written with status 0, or `illegal CALL` with status 1. With `rewrite` it is a
 /// journal too, whether legal or not, and the journal of the same history is written with status 0; so is its
-/// trace with `trace`. Help that is asked for has status 0.
+/// trace with `trace`. Help that is asked for has status 0, and so has the line `asm_driver 0.2.0` where the words ask
+/// for the version.
 ///
 /// Otherwise one line tells why: status 1 for a fired move without a receipt, 2 for words, a size, a script
 /// or a journal that is refused, 3 for an allocation failure or a thread that couldn't be started, 4 for a failed

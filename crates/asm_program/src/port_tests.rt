@@ -218,6 +218,7 @@ fn nothing_is_read_before_the_words_are_good(rt: HostRuntime) -> Result<(), Fail
     let spaces = (1, Some(ErrorKind::Other));
     assert!(rt; reads_of(&rt, rt.alloc(), "play", spaces)? == (0, 2));
     assert!(rt; reads_of(&rt, rt.alloc(), "--help", spaces)? == (0, 0));
+    assert!(rt; reads_of(&rt, rt.alloc(), "--version", spaces)? == (0, 0));
     Ok(())
 }
 

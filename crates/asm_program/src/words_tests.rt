@@ -1,4 +1,4 @@
-//! Words that are refused, and those that ask for help.
+//! Words that are refused, and those that ask for help or the version.
 use crate::running::{ONE_PUT, ends};
 use asm_driver::run_given;
 use std::alloc::{AllocError, Global};
@@ -8,7 +8,7 @@ use std::sync::Wait;
 use std::test::Fail;
 use std::thread::Threads;
 
-static REFUSED: [&[&str]; 15] = [
+static REFUSED: [&[&str]; 16] = [
     &["asm_driver"],
     &["asm_driver", "play"],
     &["asm_driver", "check", "more"],
@@ -24,6 +24,7 @@ static REFUSED: [&[&str]; 15] = [
     &["asm_driver", "run", "--capacity", "0"],
     &["asm_driver", "run", "--capacity", "1048577"],
     &["asm_driver", "run", "more"],
+    &["asm_driver", "run", "--version"],
 ];
 
 #[test]
@@ -47,7 +48,8 @@ Commands:
   help     Print this message or the help of the given subcommand(s)
 
 Options:
-  -h, --help  Print help
+  -h, --help     Print help
+  -V, --version  Print version
 "#;
 
 const RUN_HELP: &str = r#"Plays a script, which is read from standard input, and writes the report
@@ -103,6 +105,16 @@ static HELPS: [(&[&str], &str); 9] = [
 fn help_is_no_mistake(rt: HostRuntime) -> Result<(), Fail> {
     for (words, want) in HELPS.iter() {
         assert!(rt; ends(&rt, rt.alloc(), words, "", (0, *want))?, "{want}");
+    }
+    Ok(())
+}
+
+static VERSIONS: [&[&str]; 2] = [&["asm_driver", "--version"], &["asm_driver", "-V"]];
+
+#[test]
+fn the_version_is_told(rt: HostRuntime) -> Result<(), Fail> {
+    for words in VERSIONS.iter() {
+        assert!(rt; ends(&rt, rt.alloc(), words, "", (0, "asm_driver 0.2.0\n"))?);
     }
     Ok(())
 }

@@ -27,6 +27,8 @@ pub enum Request {
 pub enum WordsError {
     /// Help was asked for: its text.
     Help(String),
+    /// The version was asked for.
+    Version,
     /// The program does not take these words.
     Bad,
     /// Memory was refused.
@@ -86,6 +88,7 @@ fn program_command<'a>(alloc: Global) -> Result<Command<'a>, AllocError>
         .about(
             "Plays the steps of an abstract state machine's agents on one storage, and checks, rewrites and traces journals",
         )
+        .version("0.2.0")
         .subcommand_required(true);
     with_journals(alloc, named.subcommand(run)?)
 }
@@ -130,7 +133,7 @@ fn asked(matches: &ArgMatches<'_>) -> Option<Request>
     }
 }
 
-// Help that was asked for is no mistake.
+// To ask for help or the version is no mistake.
 fn refusal(alloc: Global, error: &Error) -> WordsError
     ensures { IsMadeOf (kind_of error.now) result }
 {
@@ -140,14 +143,15 @@ fn refusal(alloc: Global, error: &Error) -> WordsError
             Ok(text) => WordsError::Help(text),
             Err(_) => WordsError::Memory,
         },
+        ErrorKind::DisplayVersion => WordsError::Version,
         _ => WordsError::Bad,
     }
 }
 
 /// What the words ask for. They begin with the program's name.
 ///
-/// `Help` is returned where they ask for help, and `Bad` where they are not the program's name, a command and
-/// its options. Words that `clap` takes are refused only if memory was refused.
+/// `Help` is returned where they ask for help, `Version` where they ask for the version, and `Bad` where they are not
+/// the program's name, a command and its options. Words that `clap` takes are refused only if memory was refused.
 pub fn read_words(alloc: Global, words: &[String]) -> Result<Request, WordsError>
     ensures asked { IfOk result (AsksFor (map string_bytes words.now)) }
     ensures refused { IfErr result (IsRefusal (map string_bytes words.now)) }

@@ -5,8 +5,15 @@ use Rattle.clap.specs.Words.{App, app_of, new_app, with_rule, with_subcommand}
 use Rattle.asm_driver.specs.Words.{capacity, run, with_journals}
 use Rattle.asm_driver.proofs.program.words.program_command.Goals as goal
 
+abbrev versioned : App → App
+versioned a = record a { top = record a.top { has_version = true } }
+
 abbrev required : App → App
 required a = record a { top = record a.top { subcommand_required = true } }
+
+-- the program's name and settings, before its commands
+abbrev wanted : App
+wanted = required (versioned (new_app (codes "asm_driver")))
 
 pub returns : goal.returns
 returns c =
@@ -15,10 +22,11 @@ returns c =
     ∙ ap₂ with_rule (ap app_of_fields c.about.ensures ∙ c.new.ensures.app) c.capacity_option.ensures.rule in
     let run_is : app_of c.in_ok-run.run' ≡ run =
     c.in_ok-run.ensures.shape c.journal_option.ensures.local ∙ ap₂ with_rule first_is c.journal_option.ensures.rule in
-    let named_is : app_of c.subcommand_required-named.result ≡ required (new_app (codes "asm_driver")) =
-    ap app_of_fields c.subcommand_required-named.ensures
-    ∙ ap required (ap app_of_fields c.about-2.ensures ∙ c.new-2.ensures.app) in
-    let one_is : app_of c.in_ok-subcommand.field-0 ≡ with_subcommand (required (new_app (codes "asm_driver"))) run.top =
+    let versioned_is : app_of c.version.result ≡ versioned (new_app (codes "asm_driver")) =
+    ap app_of_fields c.version.ensures ∙ ap versioned (ap app_of_fields c.about-2.ensures ∙ c.new-2.ensures.app) in
+    let named_is : app_of c.subcommand_required-named.result ≡ wanted =
+    ap app_of_fields c.subcommand_required-named.ensures ∙ ap required versioned_is in
+    let one_is : app_of c.in_ok-subcommand.field-0 ≡ with_subcommand wanted run.top =
     c.in_ok-subcommand.ensures.shape (search rules) ∙ ap₂ with_subcommand named_is (ap (λ (a : App). a.top) run_is) in
     record {
       app = IfOk-weaker c.with_journals.result _ _ (λ m h. h ∙ ap with_journals one_is) c.with_journals.ensures.app;
