@@ -121,7 +121,8 @@ enum asm_code {
     ASM_MEMORY = 3,    /* out of memory; nothing was fired or lost */
     ASM_FULL = 4,      /* as many moves were fired as the capacity; nothing was fired */
     ASM_EMPTY = 5,     /* a slot holds nothing of the kind that is wanted, or is passed twice */
-    ASM_RANGE = 6,     /* the capacity, a number, the count of slots or a form is out of range */
+    ASM_RANGE = 6,     /* the capacity, a number, a count, a form, a verb, a kind or an amount is out of
+                          range */
     ASM_SMALL = 7,     /* the buffer is too small, and `*written` is the room that is needed */
     ASM_BUSY = 8,      /* 64 offers were lost to other agents; nothing was fired */
     ASM_MANY = 9,      /* more than 256 locations; or a move of more than 4,096 instructions */
@@ -148,8 +149,8 @@ int32_t asm_error_text(int32_t code, uint8_t *out, size_t room, size_t *written)
 /* The version of the library. */
 uint32_t asm_version(void);
 
-/* Room for a storage, an agent or a step. Zeros hold nothing. `full` may be read between calls;
- * write neither. */
+/* Room for a storage, an agent, a step, a location or a move. Zeros hold nothing. `full` may be read
+ * between calls; write neither. */
 typedef struct asm_slot {
     bool full;
     void *at;
@@ -279,6 +280,73 @@ uint32_t asm_depth(asm_slot *step);
  * empty; with any other code it stays, until asm_begin or asm_free. ASM_MANY: more than 256 locations
  * would be named. */
 int32_t asm_commit(asm_slot *agent, asm_slot *step, asm_numbers *numbers);
+
+/* WITHOUT TEXT: calls that do what asm_peek, asm_get, asm_push and asm_extend do, with a location
+ * that is prepared once, and with a move that is gathered in a slot. No JSON is made or read, but for
+ * the value of a list, a set or a bag. */
+
+/* What a value is, or an operand. */
+enum asm_kind {
+    ASM_KIND_UNDEF = 0,
+    ASM_KIND_BOOL = 1, /* the number is 0 or 1 */
+    ASM_KIND_NUM = 2,
+    ASM_KIND_TEXT = 3, /* the bytes are its UTF-8, without quotes */
+    ASM_KIND_LIST = 4, /* the bytes are the VALUE */
+    ASM_KIND_SET = 5,  /* the bytes are the VALUE */
+    ASM_KIND_BAG = 6   /* the bytes are the VALUE */
+};
+
+/* What an instruction does, as INSTR has it. */
+enum asm_verb {
+    ASM_PUT = 0,
+    ASM_ADD = 1,
+    ASM_REMOVE = 2,
+    ASM_BAGADD = 3,
+    ASM_BAGREMOVE = 4,
+    ASM_INC = 5
+};
+
+/* A value but for its bytes. The number is that of ASM_KIND_NUM, and 0 or 1 of ASM_KIND_BOOL; of any
+ * other kind it is 0. */
+typedef struct asm_value {
+    int32_t kind; /* an asm_kind */
+    int64_t number;
+} asm_value;
+
+/* Prepares the location LOC in an empty slot, for agents and steps of any storage. asm_free releases
+ * it. ASM_TAKEN, ASM_NOT_JSON, ASM_SHAPE, ASM_MEMORY. */
+int32_t asm_location(const uint8_t *location, size_t len, asm_slot *at);
+
+/* Tells the value at a prepared location in the agent's own state, which stands at `*number` moves.
+ * The bytes of the value, if it is of a kind that has some, are written to the buffer. `*number` and
+ * `*value` are 0 with each code but ASM_DONE. ASM_EMPTY (one of the slots), ASM_SMALL, ASM_MEMORY. */
+int32_t asm_peek_at(asm_slot *agent, asm_slot *at, uint32_t *number, asm_value *value, uint8_t *out,
+                    size_t room, size_t *written);
+
+/* Tells what is seen through the pushed moves at a prepared location, as asm_peek_at does. The
+ * location is got, and asm_commit names it. `*value` is 0 with each code but ASM_DONE. ASM_MOVED:
+ * begin again. ASM_MANY: more than 256 would be got. ASM_EMPTY (one of the slots), ASM_SMALL,
+ * ASM_MEMORY. */
+int32_t asm_get_at(asm_slot *agent, asm_slot *step, asm_slot *at, asm_value *value, uint8_t *out,
+                   size_t room, size_t *written);
+
+/* Puts an instruction at a prepared location behind those of the move in a slot; an empty slot holds
+ * the move of this instruction then. The operand is of ASM_KIND_UNDEF, ASM_KIND_BOOL, ASM_KIND_NUM or
+ * ASM_KIND_TEXT: its kind, its number (as in asm_value) and its bytes, of which only a text has any.
+ * `amount` is 1 or above for ASM_BAGADD and ASM_BAGREMOVE, and 0 for any other verb. ASM_INC takes a
+ * number alone. ASM_TAKEN (`move` holds something else than a move), ASM_EMPTY (`at`), ASM_RANGE (the
+ * verb, the kind, the number or the bytes of this kind, the amount), ASM_SHAPE (the bytes of a text
+ * aren't UTF-8), ASM_MANY (the move has 4,096 instructions), ASM_MEMORY; the first of these that
+ * holds is answered. */
+int32_t asm_instruct(asm_slot *move, asm_slot *at, int32_t verb, int32_t kind, int64_t number,
+                     const uint8_t *bytes, size_t len, uint32_t amount);
+
+/* As asm_push and asm_extend, with the move in a slot, which stays there until asm_free. ASM_EMPTY:
+ * one of the slots; an empty one has no move, not one of no instructions. */
+int32_t asm_push_move(asm_slot *agent, asm_slot *step, asm_slot *move, uint8_t *out, size_t room,
+                      size_t *written);
+int32_t asm_extend_move(asm_slot *agent, asm_slot *step, asm_slot *move, uint8_t *out, size_t room,
+                        size_t *written);
 
 /* How many moves the agent has seen, how many it fired, and how many of its looks found no further
  * move; 0 for a slot without an agent. */
