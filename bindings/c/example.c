@@ -16,9 +16,10 @@ enum { AGENTS = 8, ROOM = 1024 };
 #define TIMES 500
 #endif
 
-/* One agent, with what became of its fires. */
+/* One agent with its step, the move that it gathers and the locations that it writes, and with what
+ * became of its fires. */
 typedef struct worker {
-    asm_slot agent;
+    asm_slot agent, step, move, count, own, seen;
     unsigned number, fired, stale, busy;
 } worker;
 
@@ -53,24 +54,32 @@ static void read_text(asm_slot *agent, const char *locations, char *out, size_t 
     out[written] = 0;
 }
 
-/* Adds 1 to the count, unless another agent was quicker. */
+/* Puts an instruction with a number into the move. */
+static void instruct(worker *w, asm_slot *at, int32_t verb, int64_t number) {
+    expect(asm_instruct(&w->move, at, verb, ASM_KIND_NUM, number, NULL, 0, 0), ASM_DONE,
+           "asm_instruct");
+}
+
+/* Adds 1 to the count, unless another agent was quicker: a step without text. */
 static void add_one(worker *w) {
-    char text[ROOM];
-    unsigned read_at;
-    long count;
+    uint32_t number;
+    size_t written;
+    asm_value count;
     asm_numbers numbers;
-    read_text(&w->agent, "[[\"count\"]]", text, sizeof text);
-    require(sscanf(text, "{\"number\":%u,\"values\":[%ld]}", &read_at, &count) == 2,
-            "a number was read");
-    snprintf(
-        text, sizeof text,
-        "{\"fire\":[[\"put\",[\"count\"],%ld],[\"put\",[\"own\",%u],%u],[\"add\",[\"seen\"],%ld]],"
-        "\"reads\":[[[\"count\"],%u]]}",
-        count + 1, w->number, w->fired + 1, count, read_at);
-    int32_t code = asm_try_fire(&w->agent, bytes(text), strlen(text), &numbers);
+    expect(asm_begin(&w->agent, &w->step, &number), ASM_DONE, "asm_begin");
+    expect(asm_get_at(&w->agent, &w->step, &w->count, &count, NULL, 0, &written), ASM_DONE,
+           "asm_get_at");
+    require(count.kind == ASM_KIND_NUM, "the count is a number");
+    instruct(w, &w->count, ASM_PUT, count.number + 1);
+    instruct(w, &w->own, ASM_PUT, w->fired + 1);
+    instruct(w, &w->seen, ASM_ADD, count.number);
+    expect(asm_push_move(&w->agent, &w->step, &w->move, NULL, 0, &written), ASM_DONE,
+           "asm_push_move");
+    asm_free(&w->move);
+    int32_t code = asm_commit(&w->agent, &w->step, &numbers);
     switch (code) {
     case ASM_DONE:
-        require(numbers.fired == (uint32_t)count + 1, "the move after those that were read");
+        require(numbers.fired == count.number + 1, "the move after those that were read");
         w->fired++;
         break;
     case ASM_STALE:
@@ -81,8 +90,32 @@ static void add_one(worker *w) {
         w->busy++;
         break;
     default:
-        expect(code, ASM_DONE, "asm_try_fire");
+        expect(code, ASM_DONE, "asm_commit");
     }
+}
+
+static void prepare(const char *location, asm_slot *at) {
+    expect(asm_location(bytes(location), strlen(location), at), ASM_DONE, "asm_location");
+}
+
+/* Makes the agent with its locations. */
+static void make_worker(worker *w, unsigned number) {
+    char own[ROOM];
+    w->number = number;
+    expect(asm_agent(&storage, number, &w->agent), ASM_DONE, "asm_agent");
+    snprintf(own, sizeof own, "[\"own\",%u]", number);
+    prepare("[\"count\"]", &w->count);
+    prepare(own, &w->own);
+    prepare("[\"seen\"]", &w->seen);
+}
+
+/* Gives the agent back, and releases all else. */
+static void end_worker(worker *w) {
+    expect(asm_give(&storage, &w->agent), ASM_DONE, "asm_give");
+    asm_free(&w->step);
+    asm_free(&w->count);
+    asm_free(&w->own);
+    asm_free(&w->seen);
 }
 
 static void *work(void *argument) {
@@ -159,10 +192,8 @@ int main(int argc, char **argv) {
     const char *init = "[[[\"count\"],0],[[\"seen\"],{\"set\":[]}]]";
     char state[ROOM];
     expect(asm_open(bytes(init), strlen(init), AGENTS * TIMES, &storage), ASM_DONE, "asm_open");
-    for (unsigned i = 0; i < AGENTS; i++) {
-        workers[i].number = i;
-        expect(asm_agent(&storage, i, &workers[i].agent), ASM_DONE, "asm_agent");
-    }
+    for (unsigned i = 0; i < AGENTS; i++)
+        make_worker(&workers[i], i);
     run_threads();
     for (size_t i = 0; i < AGENTS; i++) {
         worker *w = &workers[i];
@@ -172,7 +203,7 @@ int main(int argc, char **argv) {
     }
     read_state(state, sizeof state);
     for (size_t i = AGENTS; i > 0; i--)
-        expect(asm_give(&storage, &workers[i - 1].agent), ASM_DONE, "asm_give");
+        end_worker(&workers[i - 1]);
 
     size_t len;
     uint64_t calls;

@@ -9,20 +9,22 @@
 enum { D = ASM_DONE, S = ASM_SHAPE, N = ASM_NOT_JSON };
 
 static const text texts[] = {
-    {"[]", D, D, S, D, D, -1, false, NO_CHANGE},
-    {"[[[\"x\"],7]]", D, S, S, D, S, 7, false, NO_CHANGE},
-    {"[[[\"x\"],0]]", D, S, S, D, S, 0, false, NO_CHANGE},
-    {"[[\"x\"],[\"y\",1]]", S, D, S, S, S, -1, true, NO_CHANGE},
-    {"{\"fire\":[[\"inc\",[\"x\"],1]],\"reads\":[]}", S, S, D, S, S, -1, false, RAISE_X},
-    {"{\"fire\":[[\"put\",[\"y\",1],2]],\"reads\":[[[\"x\"],0]]}", S, S, D, S, S, 0, false, PUT_Y},
-    {"[[\"inc\",[\"x\"],1]]", S, S, S, S, D, -1, false, RAISE_X},
-    {"[[\"put\",[\"y\",1],2]]", S, S, S, S, D, -1, false, PUT_Y},
-    {"{\"read\":[]}", S, S, S, S, S, -1, false, NO_CHANGE},
-    {"\"x\"", S, S, S, S, S, -1, false, NO_CHANGE},
-    {"[[", N, N, N, N, N, -1, false, NO_CHANGE},
-    {"", N, N, N, N, N, -1, false, NO_CHANGE},
-    {"\xc3\x28", N, N, N, N, N, -1, false, NO_CHANGE},
-    {"{\"fire\":[],", N, N, N, N, N, -1, false, NO_CHANGE},
+    {"[]", D, D, S, D, D, -1, false, NO_CHANGE, -1},
+    {"[[[\"x\"],7]]", D, S, S, D, S, 7, false, NO_CHANGE, -1},
+    {"[[[\"x\"],0]]", D, S, S, D, S, 0, false, NO_CHANGE, -1},
+    {"[[[\"s\"],{\"set\":[2]}],[[\"x\"],7]]", D, S, S, S, S, 7, false, NO_CHANGE, 2},
+    {"[[\"x\"],[\"y\",1]]", S, D, S, S, S, -1, true, NO_CHANGE, -1},
+    {"{\"fire\":[[\"inc\",[\"x\"],1]],\"reads\":[]}", S, S, D, S, S, -1, false, RAISE_X, -1},
+    {"{\"fire\":[[\"put\",[\"y\",1],2]],\"reads\":[[[\"x\"],0]]}", S, S, D, S, S, 0, false, PUT_Y,
+     -1},
+    {"[[\"inc\",[\"x\"],1]]", S, S, S, S, D, -1, false, RAISE_X, -1},
+    {"[[\"put\",[\"y\",1],2]]", S, S, S, S, D, -1, false, PUT_Y, -1},
+    {"{\"read\":[]}", S, S, S, S, S, -1, false, NO_CHANGE, -1},
+    {"\"x\"", S, S, S, S, S, -1, false, NO_CHANGE, -1},
+    {"[[", N, N, N, N, N, -1, false, NO_CHANGE, -1},
+    {"", N, N, N, N, N, -1, false, NO_CHANGE, -1},
+    {"\xc3\x28", N, N, N, N, N, -1, false, NO_CHANGE, -1},
+    {"{\"fire\":[],", N, N, N, N, N, -1, false, NO_CHANGE, -1},
 };
 
 asm_slot slots[SLOTS];
@@ -89,6 +91,8 @@ void stands_from(unsigned at, unsigned least) {
     accounts[at].stood = number;
 }
 
+world opening_world(const text *state) { return (world){.x = state->x, .y = -1, .s = state->s}; }
+
 static void opens(unsigned at) {
     const text *t = any_text();
     uint32_t capacity = below(4) ? 1 + below(MOVES) : below(2) * 1048577;
@@ -100,7 +104,7 @@ static void opens(unsigned at) {
         return;
     REQUIRE(asm_open(bytes(t), strlen(t->bytes), capacity, &slots[at]) == wanted);
     if (wanted == ASM_DONE)
-        storage_is_made(at, capacity, (world){t->x, -1, 0, 0});
+        storage_is_made(at, capacity, opening_world(t));
 }
 
 /* ASM_NUMBER where an agent with one of so many numbers from this one up was made. */
@@ -305,7 +309,7 @@ static void frees(unsigned at) {
 static void calls_any(void) {
     unsigned at = below(SLOTS), other = below(6) ? below(SLOTS) : at;
     if (below(3)) {
-        calls_any_step(at, other);
+        (below(3) ? calls_any_step : calls_any_plain)(at, other);
         return;
     }
     switch (below(13)) {

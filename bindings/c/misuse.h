@@ -13,29 +13,43 @@ enum { SLOTS = 12, STORAGES = 4096, NUMBERS = 12, MOVES = 8, ROOM = 4096, DEEPES
 
 #define REQUIRE(holds) require((holds), #holds, __FILE__, __LINE__)
 
-/* The values of the only two locations that are written, ["x"] and ["y",1], with the number of the
- * move that last wrote each; a value below 0 is none. */
+/* The locations that are written: ["s"], ["v"], ["x"] and ["y",1]. */
+enum { S_PLACE, V_PLACE, X_PLACE, Y_PLACE, PLACES };
+
+/* Their values, with the number of the move that last wrote each. That of s is a set of 1 and 2, by
+ * its bits; that of v is one of a table of values, of which the first is none; and each may be none
+ * by a value below 0. */
 typedef struct world {
-    int x, y;
-    unsigned x_at, y_at;
+    int x, y, s, v;
+    unsigned x_at, y_at, s_at, v_at;
 } world;
 
-/* What is seen through a pushed move with those before it, how often they raise x, and whether they
- * put y; of a step's locations the raised one is named. */
+/* What is seen through a pushed move with those before it, how often they raise x, whether they put
+ * y and v, and whether they change s; of a step's locations the raised and the changed are named.
+ */
 typedef struct layer {
     world seen;
     unsigned raises;
-    bool puts;
+    bool puts, puts_v, changes;
 } layer;
 
+/* What a move that is gathered does: how often it raises x, whether it puts y, which values it puts
+ * at v, by their bits, and whether it adds 1 to s and removes 2 from it. */
+typedef struct gathered {
+    unsigned raises, values;
+    bool puts, adds, removes;
+} gathered;
+
 /* What a slot has to hold: nothing, a storage, an agent with its number and a bit for each move
- * that it fired, or a step; of which storage. `stood` is the number of moves at which the agent's
- * own state stands, or at which the step began. */
+ * that it fired, a step, a location or a move; of which storage. `stood` is the number of moves at
+ * which the agent's own state stands, or at which the step began. */
 typedef struct account {
-    enum { NOTHING, STORAGE, AGENT, STEP } kind;
+    enum { NOTHING, STORAGE, AGENT, STEP, LOCATION, MOVE } kind;
     unsigned storage, number, fired, stood, depth;
-    bool is_answered, has_got_x, has_got_y;
+    bool is_answered, has_got[PLACES];
     layer layers[DEEPEST];
+    unsigned place;
+    gathered move;
 } account;
 
 /* Of a storage: which agents were made, how many moves were fired, a bit for each of these of which
@@ -49,14 +63,28 @@ typedef struct story {
 
 /* A text, the codes that it gets in each form, and what it says there: the value of x in a state,
  * or the number under which x is named, either of which is below 0 where there is none; whether it
- * asks for both locations; and what its move does. */
+ * asks for both locations; what its move does; and the value of s in a state. */
 typedef struct text {
     const char *bytes;
     int32_t state, locations, fire, reads, move;
     int x;
     bool asks;
     enum { NO_CHANGE, RAISE_X, PUT_Y } does;
+    int s;
 } text;
+
+/* A code, and the text that is written with it where there is room for it, if one is. */
+typedef struct told {
+    int32_t code;
+    const char *text;
+} told;
+
+typedef struct buffer {
+    uint8_t out[ROOM];
+    size_t room, written;
+} buffer;
+
+#define OUT(buffer) (buffer).room ? (buffer).out : NULL, (buffer).room, &(buffer).written
 
 extern asm_slot slots[SLOTS];
 extern account accounts[SLOTS];
@@ -85,6 +113,37 @@ void storage_is_made(unsigned at, unsigned capacity, world opening);
 /* Takes note of the number at which an agent's own state stands, this one at least: a fire may have
  * it move on, but needn't. */
 void stands_from(unsigned at, unsigned least);
+
+/* A state of these values, of which nothing was written. */
+world opening_world(const text *state);
+
+/* The text of the set of s, or of the value of v. */
+const char *text_of_s(world w);
+const char *text_of_v(world w);
+
+/* Any room. */
+buffer any_buffer(void);
+
+/* Requires of a call the foretold code and text; false where the text didn't fit. */
+bool is_written(int32_t code, told wanted, const buffer *b);
+
+/* The state at which the agent's own stands. */
+world own_world(const account *agent);
+
+/* The last layer of the step; of one without moves, what is below it. */
+layer top_of(const account *s);
+
+/* The code of a call with an agent and a step, as far as it doesn't rest on what is seen. */
+int32_t step_code(const account *a, const account *s, int32_t read);
+
+/* Whether the slots are no agent and step of two storages: such a call has no meaning. */
+bool have_meaning(unsigned at, unsigned of_step);
+
+/* A slot with a step of the agent's storage, if there is one; at times the slot itself. */
+unsigned fitting(unsigned at, unsigned of_step);
+
+/* One call without text. */
+void calls_any_plain(unsigned at, unsigned other);
 
 /* One call on a step or of an agent's looks, or on moves without an agent. */
 void calls_any_step(unsigned at, unsigned other);

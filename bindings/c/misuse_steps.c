@@ -1,25 +1,9 @@
 /* The calls of misuse on steps, of an agent's looks, and on moves without an agent. */
 #include "misuse.h"
 
-/* A code, and the text that is written with it where there is room for it, if one is. */
-typedef struct told {
-    int32_t code;
-    const char *text;
-} told;
+buffer any_buffer(void) { return (buffer){.room = below(3) ? ROOM : below(12), .written = 9}; }
 
-typedef struct buffer {
-    uint8_t out[ROOM];
-    size_t room, written;
-} buffer;
-
-static buffer any_buffer(void) {
-    return (buffer){.room = below(3) ? ROOM : below(12), .written = 9};
-}
-
-#define OUT(buffer) (buffer).room ? (buffer).out : NULL, (buffer).room, &(buffer).written
-
-/* Requires of a call the foretold code and text; false where the text didn't fit. */
-static bool is_written(int32_t code, told wanted, const buffer *b) {
+bool is_written(int32_t code, told wanted, const buffer *b) {
     size_t length = wanted.text ? strlen(wanted.text) : 0;
     REQUIRE(b->written == length);
     REQUIRE(code == (length > b->room ? ASM_SMALL : wanted.code));
@@ -43,25 +27,31 @@ static const char *values(unsigned number, const text *locations, world w) {
 }
 
 /* The text of the state, or of the part of it with one of the names. */
-static const char *pairs(world w, bool has_x, bool has_y) {
+static const char *pairs(world w, bool has_both, bool has_x, bool has_y) {
     static char out[ROOM];
-    char x[32] = "", y[32] = "";
-    has_x &= w.x >= 0;
-    has_y &= w.y >= 0;
-    if (has_x)
-        snprintf(x, sizeof x, "[[\"x\"],%d]", w.x);
-    if (has_y)
-        snprintf(y, sizeof y, "[[\"y\",1],%d]", w.y);
-    snprintf(out, sizeof out, "[%s%s%s]", x, has_x && has_y ? "," : "", y);
+    char parts[PLACES][64] = {"", "", "", ""};
+    size_t length = 1;
+    if (has_both && w.s >= 0)
+        snprintf(parts[0], sizeof *parts, "[[\"s\"],%s]", text_of_s(w));
+    if (has_both && w.v > 0)
+        snprintf(parts[1], sizeof *parts, "[[\"v\"],%s]", text_of_v(w));
+    if (has_x && w.x >= 0)
+        snprintf(parts[2], sizeof *parts, "[[\"x\"],%d]", w.x);
+    if (has_y && w.y >= 0)
+        snprintf(parts[3], sizeof *parts, "[[\"y\",1],%d]", w.y);
+    strcpy(out, "[");
+    for (unsigned i = 0; i < PLACES; i++)
+        if (*parts[i])
+            length += (size_t)snprintf(out + length, sizeof out - length, "%s%s",
+                                       length > 1 ? "," : "", parts[i]);
+    strcpy(out + length, "]");
     return out;
 }
 
 static const char *const names[] = {"x", "y", "", "xy", "z\xff", "\"x\""};
 enum { NAMES = sizeof names / sizeof *names, BAD_NAME = 4 };
 
-static world own_world(const account *agent) {
-    return stories[agent->storage].worlds[agent->stood];
-}
+world own_world(const account *agent) { return stories[agent->storage].worlds[agent->stood]; }
 
 static void follows(unsigned at) {
     account *a = &accounts[at];
@@ -88,7 +78,7 @@ static void looks_at_state(unsigned at) {
     uint32_t number = 9;
     told wanted = {a->kind != AGENT ? ASM_EMPTY : ASM_DONE, NULL};
     if (wanted.code == ASM_DONE)
-        wanted.text = pairs(own_world(a), true, true);
+        wanted.text = pairs(own_world(a), true, true, true);
     is_written(asm_state(&slots[at], &number, OUT(b)), wanted, &b);
     REQUIRE(number == (wanted.text ? a->stood : 0));
 }
@@ -100,7 +90,7 @@ static void scans(unsigned at) {
     uint32_t number = 9;
     told wanted = {a->kind != AGENT ? ASM_EMPTY : name == BAD_NAME ? ASM_SHAPE : ASM_DONE, NULL};
     if (wanted.code == ASM_DONE)
-        wanted.text = pairs(own_world(a), name == 0, name == 1);
+        wanted.text = pairs(own_world(a), false, name == 0, name == 1);
     is_written(asm_scan(&slots[at], *names[name] ? (const uint8_t *)names[name] : NULL,
                         strlen(names[name]), &number, OUT(b)),
                wanted, &b);
@@ -123,9 +113,9 @@ static void stands(unsigned at) {
 static void begins(unsigned at, unsigned of_step) {
     account *a = &accounts[at], *s = &accounts[of_step];
     uint32_t number = 9;
-    int32_t wanted = s->kind == STORAGE || s->kind == AGENT ? ASM_TAKEN
-                     : a->kind != AGENT                     ? ASM_EMPTY
-                                                            : ASM_DONE;
+    int32_t wanted = s->kind != NOTHING && s->kind != STEP ? ASM_TAKEN
+                     : a->kind != AGENT                    ? ASM_EMPTY
+                                                           : ASM_DONE;
     REQUIRE(asm_begin(&slots[at], &slots[of_step], &number) == wanted);
     REQUIRE(number == (wanted == ASM_DONE ? stories[a->storage].moves : 0));
     if (wanted != ASM_DONE)
@@ -139,15 +129,13 @@ static int32_t both(const account *a, const account *s) {
     return a->kind != AGENT || s->kind != STEP ? ASM_EMPTY : ASM_DONE;
 }
 
-/* The last layer of the step; of one without moves, what is below it. */
-static layer top_of(const account *s) {
+layer top_of(const account *s) {
     if (s->depth > 0)
         return s->layers[s->depth - 1];
     return (layer){.seen = stories[s->storage].worlds[s->stood]};
 }
 
-/* The code, as far as it doesn't rest on what is seen. */
-static int32_t step_code(const account *a, const account *s, int32_t read) {
+int32_t step_code(const account *a, const account *s, int32_t read) {
     int32_t code = both(a, s);
     return code ? code : read ? read : a->stood != s->stood ? ASM_MOVED : ASM_DONE;
 }
@@ -162,8 +150,8 @@ static void gets(unsigned at, unsigned of_step) {
         wanted.text = values(s->stood, t, top_of(s).seen);
     int32_t code = asm_get(&slots[at], &slots[of_step], bytes(t), strlen(t->bytes), OUT(b));
     if (is_written(code, wanted, &b) && wanted.text) {
-        s->has_got_x |= t->asks;
-        s->has_got_y |= t->asks;
+        s->has_got[X_PLACE] |= t->asks;
+        s->has_got[Y_PLACE] |= t->asks;
     }
 }
 
@@ -174,13 +162,13 @@ static void gets_all(unsigned at, unsigned of_step) {
     buffer b = any_buffer();
     told wanted = {step_code(a, s, name == BAD_NAME ? ASM_SHAPE : ASM_DONE), NULL};
     if (wanted.code == ASM_DONE)
-        wanted.text = pairs(top_of(s).seen, name == 0, name == 1);
+        wanted.text = pairs(top_of(s).seen, false, name == 0, name == 1);
     int32_t code =
         asm_get_all(&slots[at], &slots[of_step], *names[name] ? (const uint8_t *)names[name] : NULL,
                     strlen(names[name]), OUT(b));
     if (is_written(code, wanted, &b) && wanted.text) {
-        s->has_got_x |= name == 0 && top_of(s).seen.x >= 0;
-        s->has_got_y |= name == 1 && top_of(s).seen.y >= 0;
+        s->has_got[X_PLACE] |= name == 0 && top_of(s).seen.x >= 0;
+        s->has_got[Y_PLACE] |= name == 1 && top_of(s).seen.y >= 0;
     }
 }
 
@@ -218,12 +206,20 @@ static void pops(unsigned at) {
 /* What the commit is answered on the latest world, which then is the one after it. */
 static int32_t commit_answer(const account *s, const story *of, world *w) {
     layer top = top_of(s);
-    if ((s->has_got_x || top.raises > 0) && w->x_at > s->stood)
+    if ((s->has_got[X_PLACE] || top.raises > 0) && w->x_at > s->stood)
         return ASM_STALE;
-    if (s->has_got_y && w->y_at > s->stood)
+    if (s->has_got[Y_PLACE] && w->y_at > s->stood)
+        return ASM_STALE;
+    if ((s->has_got[S_PLACE] || top.changes) && w->s_at > s->stood)
+        return ASM_STALE;
+    if (s->has_got[V_PLACE] && w->v_at > s->stood)
         return ASM_STALE;
     if (of->moves == of->capacity)
         return ASM_FULL;
+    w->s = top.changes ? top.seen.s : w->s;
+    w->s_at = top.changes ? of->moves + 1 : w->s_at;
+    w->v = top.puts_v ? top.seen.v : w->v;
+    w->v_at = top.puts_v ? of->moves + 1 : w->v_at;
     w->x += (int)top.raises;
     w->x_at = top.raises ? of->moves + 1 : w->x_at;
     w->y = top.puts ? 2 : w->y;
@@ -266,20 +262,20 @@ static void goes_on_in(unsigned at, unsigned next) {
     if (wanted == ASM_DONE) {
         const story *s = &stories[a->storage];
         world opening = s->worlds[s->closed];
-        opening.x_at = opening.y_at = 0;
+        opening.x_at = opening.y_at = opening.s_at = opening.v_at = 0;
         storage_is_made(next, capacity, opening);
     }
 }
 
 static void aggregates(void) {
     const text *state = any_text(), *t = any_text();
-    world w = {state->x, -1, 0, 0};
+    world w = opening_world(state);
     buffer b = any_buffer();
     told wanted = {state->state ? state->state : t->move, NULL};
     if (wanted.code == ASM_DONE && !goes_on(t, &w))
         wanted = (told){ASM_CLASH, "{\"clash\":[[\"x\"],\"Kind\"]}"};
     else if (wanted.code == ASM_DONE)
-        wanted.text = pairs(w, t->does == RAISE_X, t->does == PUT_Y);
+        wanted.text = pairs(w, false, t->does == RAISE_X, t->does == PUT_Y);
     is_written(
         asm_aggregate(bytes(state), strlen(state->bytes), bytes(t), strlen(t->bytes), OUT(b)),
         wanted, &b);
@@ -303,14 +299,12 @@ static void composes(void) {
                wanted, &b);
 }
 
-/* A step with an agent of another storage is no call that has a meaning. */
-static bool have_meaning(unsigned at, unsigned of_step) {
+bool have_meaning(unsigned at, unsigned of_step) {
     const account *a = &accounts[at], *s = &accounts[of_step];
     return both(a, s) == ASM_EMPTY || a->storage == s->storage;
 }
 
-/* A slot with a step of the agent's storage, if there is one; at times the slot itself. */
-static unsigned fitting(unsigned at, unsigned of_step) {
+unsigned fitting(unsigned at, unsigned of_step) {
     for (unsigned i = below(4) ? 0 : SLOTS; i < SLOTS; i++)
         if (accounts[i].kind == STEP && accounts[i].storage == accounts[at].storage)
             return i;

@@ -17,7 +17,7 @@ static unsigned refused;
 #define ON_STEP(call) (again((call)) && is_as_it_was() ? (call) : last_code)
 
 static int32_t last_code;
-static asm_slot storage, agents[3], step;
+static asm_slot storage, agents[3], step, at[2], move;
 
 /* The depth of the step and what is seen through it, where its call began. */
 static uint32_t depth;
@@ -144,6 +144,62 @@ static void run_step(void) {
     REQUIRE(numbers.fired == 2 && !step.full && asm_won(&agents[0]) == 2);
 }
 
+/* What the step sees at the location: this number, or the text. */
+static void get_at(asm_slot *place, int32_t kind, int64_t number, const char *text) {
+    uint8_t out[ROOM];
+    size_t written;
+    asm_value value;
+    REQUIRE(ON_STEP(asm_get_at(&agents[0], &step, place, &value, out, sizeof out, &written)) ==
+            ASM_DONE);
+    REQUIRE(value.kind == kind && value.number == number && has(out, written, text));
+}
+
+/* Puts an instruction into the move, which is as it was where there was no memory. */
+static void instruct(asm_slot *place, int32_t verb, int32_t kind, int64_t number,
+                     const char *text) {
+    asm_slot was = move;
+    if (again(asm_instruct(&move, place, verb, kind, number, bytes(text), strlen(text), 0))) {
+        REQUIRE(is_same(move, was));
+        last_code = asm_instruct(&move, place, verb, kind, number, bytes(text), strlen(text), 0);
+    }
+    REQUIRE(last_code == ASM_DONE && move.full);
+}
+
+/* A step without text, which is abandoned. */
+static void run_plain(void) {
+    uint8_t out[ROOM];
+    size_t written;
+    uint32_t number;
+    asm_value value;
+    REQUIRE(AGAIN(asm_location(TEXT("['x']"), &at[0])) == ASM_DONE);
+    REQUIRE(AGAIN(asm_location(TEXT("['u','why']"), &at[1])) == ASM_DONE);
+    begin();
+    instruct(&at[0], ASM_INC, ASM_KIND_NUM, 2, "");
+    instruct(&at[1], ASM_PUT, ASM_KIND_TEXT, 0, "text");
+    get_at(&at[1], ASM_KIND_UNDEF, 0, "");
+    REQUIRE(ON_STEP(asm_push_move(&agents[0], &step, &move, out, sizeof out, &written)) ==
+            ASM_DONE);
+    depth = 1;
+    seen = "{'number':1,'values':[10,{'set':[1,3,'two']}]}";
+    is_as_it_was();
+    REQUIRE(ON_STEP(asm_extend_move(&agents[0], &step, &move, out, sizeof out, &written)) ==
+            ASM_DONE);
+    seen = "{'number':1,'values':[12,{'set':[1,3,'two']}]}";
+    get_at(&at[0], ASM_KIND_NUM, 12, "");
+    get_at(&at[1], ASM_KIND_TEXT, 0, "text");
+    instruct(&at[1], ASM_ADD, ASM_KIND_NUM, 1, "");
+    REQUIRE(ON_STEP(asm_push_move(&agents[0], &step, &move, out, sizeof out, &written)) ==
+            ASM_CLASH);
+    REQUIRE(has(out, written, "{'clash':[['u','why'],'Against']}"));
+    REQUIRE(AGAIN(asm_peek_at(&agents[0], &at[0], &number, &value, out, sizeof out, &written)) ==
+            ASM_DONE);
+    REQUIRE(number == 1 && value.kind == ASM_KIND_NUM && value.number == 8);
+    asm_free(&step);
+    asm_free(&move);
+    asm_free(&at[0]);
+    asm_free(&at[1]);
+}
+
 static void compute(void) {
     const char *put = "[['put',['x'],1]]", *raise = "[['inc',['x'],2]]";
     uint8_t out[ROOM];
@@ -206,6 +262,7 @@ int main(int argc, char **argv) {
     open_all();
     play();
     look(&agents[1]);
+    run_plain();
     run_step();
     compute();
     close_all(&storage, 3, 5, 2, left);

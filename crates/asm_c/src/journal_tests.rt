@@ -255,7 +255,7 @@ static CODE_TEXTS: [CodeText; 11] = [
     },
     CodeText {
         code: 6,
-        text: b"the capacity, the agent's number, the count of slots or the form is out of range",
+        text: b"a capacity, a number, a count, a form, a verb, a kind or an amount is out of range",
     },
     CodeText {
         code: 16,

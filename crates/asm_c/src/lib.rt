@@ -9,17 +9,23 @@ mod explaining;
 mod explaining_tests;
 mod getting_all;
 mod give_and_close;
+mod instructing;
 #[cfg(test)]
 mod journal_tests;
 mod journals;
 mod looking;
+mod looking_at;
 mod moves;
 #[cfg(test)]
 mod moves_tests;
 mod next_store;
 mod opening;
 mod own_state;
+#[cfg(test)]
+mod plain_tests;
+mod prepared;
 mod pushing;
+mod pushing_moves;
 mod read_and_fire;
 #[cfg(test)]
 mod read_and_fire_tests;

@@ -67,4 +67,4 @@ owned_step_is_sent : IsSend OwnedStep.the_row
 owned_step_is_sent = search (sendable, inside_step_is_sent) depth 20
 
 pub content_is_sent : IsSend Content.the_row
-content_is_sent = search (sendable, agent_is_sent, store_is_sent, owned_step_is_sent) depth 20
+content_is_sent = search (sendable, agent_is_sent, store_is_sent, owned_step_is_sent, location_is_sent, instructions_is_sent) depth 20

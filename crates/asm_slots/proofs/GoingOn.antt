@@ -15,6 +15,8 @@ pub goes_on : (o : Option Content) (s : StoreView) (text : List ℕ) (most : ℕ
 goes_on (Some (content.Store n)) s text most keeps h = (text, keeps, h)
 goes_on (Some (content.Agent a)) s text most keeps h = absurd h
 goes_on (Some (content.Step t)) s text most keeps h = absurd h
+goes_on (Some (content.Location l)) s text most keeps h = absurd h
+goes_on (Some (content.Move M)) s text most keeps h = absurd h
 goes_on (Some content.Nothing) s text most keeps h = absurd h
 goes_on None s text most keeps h = absurd h
 

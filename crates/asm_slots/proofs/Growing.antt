@@ -14,7 +14,7 @@ use Rattle.asm_slots.specs.Bytes.{ReadAsMove}
 use Rattle.asm_slots.specs.Written.{IsTooLong, IsWritten}
 use Rattle.asm_slots.specs.Standard.{Standard, standard, part}
 use Rattle.asm_slots.specs.Step.{StepView}
-use Rattle.asm_slots.specs.Steps.{HasPopped, IsGrown, IsLayered, IsNotGrown, IsPushError, TellsRefusal, below, grown}
+use Rattle.asm_slots.specs.Steps.{HasPopped, IsGrown, IsLayered, IsNotGrown, IsPushError, IsRefused, TellsRefusal, below, grown}
 use Rattle.asm_slots.specs.declared.owned_step.Way.{Way}
 use Rattle.asm_slots.specs.declared.owned_step.Way.TheVariants as ways
 use Rattle.asm_slots.proofs.OwnStates.{IsOwn, below_is}
@@ -66,31 +66,39 @@ is_grown_of way a s t inside ls M view own same layers answer step =
     (is_grown way a s inside ls M own same layers answer step)
 
 -- a move that wasn't taken changes no layer, and is told by its text
-module _ (way : Way) (bytes : List ℕ) (a : AgentAt Standard) (s : StateView) (t inside : StepView) (ls : List Layer) (M : Move)
-    (e : StepError) where
-  told_of : (code : ℤ) (text : List ℕ) → ReadAsMove bytes M → inside ≡ t → IsOwn a s → s.number ≡ inside.number →
+module _ (way : Way) (a : AgentAt Standard) (s : StateView) (t inside : StepView) (ls : List Layer) (M : Move) (e : StepError) where
+  told_of : (code : ℤ) (text : List ℕ) → inside ≡ t → IsOwn a s → s.number ≡ inside.number →
       (way ≡ ways.Extend → ¬ (e ≡ Deep)) → ls ≡ inside.layers →
-      IsAnswer standard (value_at s) inside.layers ls M (Err e) → TellsRefusal e code text →
-      IsNotGrown way bytes a t code text
-  told_of code text reads view own same deep kept answer told =
+      IsAnswer standard (value_at s) inside.layers ls M (Err e) → TellsRefusal e code text → IsRefused way M a t code text
+  told_of code text view own same deep kept answer told =
       let error = is_push_error way a s inside M e own same deep
       (subst (λ (x : List Layer). IsAnswer standard (value_at s) inside.layers x M (Err e)) kept answer) in
-      (M, e, reads, subst (λ (x : StepView). IsPushError way M a x e) view error, told)
+      (e, subst (λ (x : StepView). IsPushError way M a x e) view error, told)
 
-  pub not_grown : (code : ℤ) (out : List ℕ) (written : ℕ) → ReadAsMove bytes M → inside ≡ t → IsOwn a s → s.number ≡ inside.number →
+  pub is_refused : (code : ℤ) (out : List ℕ) (written : ℕ) → inside ≡ t → IsOwn a s → s.number ≡ inside.number →
       (way ≡ ways.Extend → ¬ (e ≡ Deep)) → ls ≡ inside.layers →
       IsAnswer standard (value_at s) inside.layers ls M (Err e) → IsWritten (TellsRefusal e code) out written →
-      IsWritten (IsNotGrown way bytes a t code) out written
-  not_grown code out written reads view own same deep kept answer (told, fits) =
-      (told_of code (slice_range out 0 written) reads view own same deep kept answer told, fits)
+      IsWritten (IsRefused way M a t code) out written
+  is_refused code out written view own same deep kept answer (told, fits) =
+      (told_of code (slice_range out 0 written) view own same deep kept answer told, fits)
 
-  pub not_grown_long : (room written : ℕ) → ReadAsMove bytes M → inside ≡ t → IsOwn a s → s.number ≡ inside.number →
+  pub is_refused_long : (room written : ℕ) → inside ≡ t → IsOwn a s → s.number ≡ inside.number →
       (way ≡ ways.Extend → ¬ (e ≡ Deep)) → ls ≡ inside.layers →
       IsAnswer standard (value_at s) inside.layers ls M (Err e) →
       IsTooLong (λ text. (code : ℤ) × TellsRefusal e code text) room written →
+      IsTooLong (λ text. (code : ℤ) × IsRefused way M a t code text) room written
+  is_refused_long room written view own same deep kept answer (text, (code, told), is, less) =
+      (text, (code, told_of code text view own same deep kept answer told), is, less)
+
+-- the same of a move that the bytes are JSON of
+module _ (way : Way) (bytes : List ℕ) (M : Move) (a : AgentAt Standard) (t : StepView) (reads : ReadAsMove bytes M) where
+  pub not_grown : (code : ℤ) (out : List ℕ) (written : ℕ) → IsWritten (IsRefused way M a t code) out written →
+      IsWritten (IsNotGrown way bytes a t code) out written
+  not_grown code out written (refused, fits) = ((M, reads, refused), fits)
+
+  pub not_grown_long : (room written : ℕ) → IsTooLong (λ text. (code : ℤ) × IsRefused way M a t code text) room written →
       IsTooLong (λ text. (code : ℤ) × IsNotGrown way bytes a t code text) room written
-  not_grown_long room written reads view own same deep kept answer (text, (code, told), is, less) =
-      (text, (code, told_of code text reads view own same deep kept answer told), is, less)
+  not_grown_long room written (text, (code, refused), is, less) = (text, (code, (M, reads, refused)), is, less)
 
 -- the topmost layer is gone, and the step is of the groups before the last one
 pub is_popped : (b : Bool) (old : StepView) (ls : List Layer) → OnTrue b ((y : Layer) × (old.layers ≡ ls ++ y ∷ [])) →

@@ -12,4 +12,5 @@ pub mod OwnStates
 pub mod Growing
 pub mod Commits
 pub mod Unwritten
+pub mod Noting
 pub mod Misread

@@ -25,7 +25,7 @@ ASM_FULL = pos 4
 abbrev pub ASM_EMPTY : ℤ
 ASM_EMPTY = pos 5
 
--- the capacity, an agent's number, the count of slots or a form is out of range
+-- a capacity, a number, a count, a form, a verb, a kind or an amount is out of range
 abbrev pub ASM_RANGE : ℤ
 ASM_RANGE = pos 6
 
@@ -107,7 +107,7 @@ texts =
     codes "out of memory" ∷
     codes "as many moves were fired as the capacity" ∷
     codes "a slot holds nothing of this kind, or is passed twice" ∷
-    codes "the capacity, the agent's number, the count of slots or the form is out of range" ∷
+    codes "a capacity, a number, a count, a form, a verb, a kind or an amount is out of range" ∷
     codes "the buffer is too small" ∷
     codes "64 offers were lost" ∷
     codes "more than 256 locations, or more than 4,096 instructions" ∷

@@ -19,3 +19,5 @@ pub mod Own
 pub mod Next
 pub mod Steps
 pub mod Committed
+pub mod Kinds
+pub mod Verbs

@@ -1,5 +1,5 @@
 -- What an agent's own state tells, which stands at one number of the moves that the agent has seen.
-use Rattle.std.specs.Prelude.{◌≡◌, ◌≤◌, if◌then◌else◌, nat_eq, ℕ, List, length, map, take, Some, None}
+use Rattle.std.specs.Prelude.{◌≡◌, ◌≤◌, if◌then◌else◌, nat_eq, ℕ, ℤ, List, length, map, take, Some, None}
 use Rattle.std.specs.Cmp.Lexicographic.{pointwise}
 use Rattle.serde_json.specs.Written.{compact_text}
 use Rattle.asm_element.specs.Place.{Place}
@@ -16,6 +16,7 @@ use Rattle.asm_journal.specs.Event.{answer_json_of, reply_json_of}
 use Rattle.asm_journal.specs.Text.{state_json_of}
 use Rattle.asm_slots.specs.Bytes.{ReadAsLocations, ReadAsReads}
 use Rattle.asm_slots.specs.Calls.{HasLooked}
+use Rattle.asm_slots.specs.Kinds.{IsTold, bytes_of}
 use Rattle.asm_slots.specs.Standard.{Standard, meaning, part}
 
 -- the state that the first so many moves leave, of those that the agent has seen
@@ -32,6 +33,14 @@ abbrev pub IsPeekOf : List ℕ → AgentAt Standard → List ℕ → Type 0
 IsPeekOf bytes a text =
     (locations : List Place) × (n : ℕ) × ReadAsLocations bytes locations × (n ≤ length a.account.seen)
     × (text ≡ values_text n (val (state_at a n)) locations)
+
+-- kind, number and bytes tell what the first so many moves leave at the location, of those that the agent has seen
+abbrev pub IsToldAt : Place → AgentAt Standard → ℕ → ℤ → ℤ → List ℕ → Type 0
+IsToldAt l a n kind number bytes = (n ≤ length a.account.seen) × IsTold (val (state_at a n) l) kind number bytes
+
+-- the bytes tell what some first moves leave at the location, of those that the agent has seen
+abbrev pub HasBytesAt : Place → AgentAt Standard → List ℕ → Type 0
+HasBytesAt l a bytes = (n : ℕ) × (n ≤ length a.account.seen) × (bytes ≡ bytes_of (val (state_at a n) l))
 
 -- the text is the JSON of a state without undef, which has these values
 abbrev pub IsTextOfState : Old → List ℕ → Type 0

@@ -1,5 +1,7 @@
 -- What slots hold.
-use Rattle.std.specs.Prelude.{◌≡◌, ◌<◌, ◌⊎◌, slice_index_or, ℕ, List, length, Option, None, Some}
+use Rattle.std.specs.Prelude.{◌≡◌, ◌<◌, ◌⊎◌, slice_index_or, ℕ, List, [], length, Option, None, Some}
+use Rattle.asm_element.specs.Place.{Place}
+use Rattle.asm_update.specs.Move.{Move}
 use Rattle.asm_storage.specs.Storage.{AgentAt, StorageView, at_start}
 use Rattle.asm_slots.specs.Standard.{Standard}
 use Rattle.asm_slots.specs.Step.{StepView}
@@ -76,6 +78,37 @@ HoldBoth _ step P = ⊥
 -- one of the two isn't there, the agent or the step
 abbrev pub LacksOne : Option Content → Option Content → Type 0
 LacksOne agent step = HoldsNoAgent agent ⊎ HoldsNoStep step
+
+-- the slot holds a location, and it is so
+abbrev pub HoldsLocation : Option Content → (Place → Type 0) → Type 0
+HoldsLocation (Some (content.Location l)) P = P l
+HoldsLocation _ P = ⊥
+
+-- the slot holds no location
+abbrev pub HoldsNoLocation : Option Content → Type 0
+HoldsNoLocation (Some (content.Location l)) = ⊥
+HoldsNoLocation _ = Unit {0}
+
+-- the slot holds a move, and it is so
+abbrev pub HoldsMove : Option Content → (Move → Type 0) → Type 0
+HoldsMove (Some (content.Move M)) P = P M
+HoldsMove _ P = ⊥
+
+-- the slot holds no move
+abbrev pub HoldsNoMove : Option Content → Type 0
+HoldsNoMove (Some (content.Move M)) = ⊥
+HoldsNoMove _ = Unit {0}
+
+-- the slot is empty or holds a move
+abbrev pub HasRoomForMove : Option Content → Type 0
+HasRoomForMove None = Unit {0}
+HasRoomForMove (Some (content.Move M)) = Unit {0}
+HasRoomForMove _ = ⊥
+
+-- the move that the slot holds; where it holds none, that of no instructions
+abbrev pub move_of : Option Content → Move
+move_of (Some (content.Move M)) = M
+move_of _ = []
 
 -- two agents are of one storage, where there are two
 abbrev pub AreOfOneStorage : Option Content → Option Content → Type 0

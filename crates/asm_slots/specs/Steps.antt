@@ -1,5 +1,5 @@
 -- What the calls do with the step in a slot.
-use Rattle.std.specs.Prelude.{◌≡◌, ◌≢◌, ◌≤◌, ◌<◌, ℕ, ℤ, List, [], ◌∷◌, ◌++◌, length, Ok, Err}
+use Rattle.std.specs.Prelude.{◌≡◌, ◌≢◌, ◌≤◌, ◌<◌, ℕ, ℤ, List, [], ◌∷◌, ◌++◌, length, Contains, Option, None, Some, Ok, Err}
 use Rattle.std.specs.FinMap as finite
 use Rattle.asm_element.specs.Place.{Place}
 use Rattle.asm_update.specs.Fire.{Old}
@@ -44,11 +44,27 @@ abbrev pub IsGotText : List ℕ → AgentAt Standard → StepView → List ℕ �
 IsGotText bytes a s text =
     (locations : List Place) × ReadAsLocations bytes locations × (text ≡ values_text s.number (seen a s) locations)
 
+-- the locations are got too
+abbrev pub HasGotEach : List Place → StepView → StepView → Type 0
+HasGotEach locations old new =
+    (new ≡ record old { got = new.got }) × AreEach (old.got ++ locations) new.got × (length new.got ≤ 256)
+
 -- the locations of these bytes are got too
 abbrev pub HasGot : List ℕ → StepView → StepView → Type 0
-HasGot bytes old new =
-    (locations : List Place) × ReadAsLocations bytes locations × (new ≡ record old { got = new.got })
-    × AreEach (old.got ++ locations) new.got × (length new.got ≤ 256)
+HasGot bytes old new = (locations : List Place) × ReadAsLocations bytes locations × HasGotEach locations old new
+
+-- the location is got too
+abbrev pub HasGotOne : Place → StepView → StepView → Type 0
+HasGotOne l = HasGotEach (l ∷ [])
+
+-- 256 locations are got, and this one isn't among them
+abbrev pub WouldGetOneMore : Place → StepView → Type 0
+WouldGetOneMore l s = (256 ≤ length s.got) × ¬ Contains s.got l
+
+-- the location is among the others; or it isn't, and this is a copy of it, for which there is room among 256
+abbrev pub IsCopyFor : List Place → Place → Option Place → Type 0
+IsCopyFor got l None = Contains got l
+IsCopyFor got l (Some copy) = (copy ≡ l) × (length got < 256)
 
 -- more than 256 would be got, with the locations of these bytes
 abbrev pub WouldGetMany : List ℕ → StepView → Type 0
@@ -111,10 +127,13 @@ TellsRefusal Many code text = (code ≡ ASM_MANY) × (text ≡ [])
 TellsRefusal Deep code text = (code ≡ ASM_DEEP) × (text ≡ [])
 TellsRefusal Memory code text = ⊥
 
+-- code and text tell why the move is neither pushed nor extends the last one
+abbrev pub IsRefused : Way → Move → AgentAt Standard → StepView → ℤ → List ℕ → Type 0
+IsRefused way M a s code text = (e : StepError) × IsPushError way M a s e × TellsRefusal e code text
+
 -- the bytes are JSON of a move, and code and text tell why it is neither pushed nor extends the last one
 abbrev pub IsNotGrown : Way → List ℕ → AgentAt Standard → StepView → ℤ → List ℕ → Type 0
-IsNotGrown way bytes a s code text =
-    (M : Move) × (e : StepError) × ReadAsMove bytes M × IsPushError way M a s e × TellsRefusal e code text
+IsNotGrown way bytes a s code text = (M : Move) × ReadAsMove bytes M × IsRefused way M a s code text
 
 -- the bytes are JSON of a move, which is pushed
 abbrev pub HasPushed : List ℕ → AgentAt Standard → StepView → StepView → Type 0

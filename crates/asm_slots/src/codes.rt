@@ -98,7 +98,8 @@ fn text_of_code(code: i32) -> &'static str
         MEMORY => "out of memory",
         FULL => "as many moves were fired as the capacity",
         EMPTY => "a slot holds nothing of this kind, or is passed twice",
-        RANGE => "the capacity, the agent's number, the count of slots or the form is out of range",
+        RANGE =>
+            "a capacity, a number, a count, a form, a verb, a kind or an amount is out of range",
         SMALL => "the buffer is too small",
         BUSY => "64 offers were lost",
         MANY => "more than 256 locations, or more than 4,096 instructions",

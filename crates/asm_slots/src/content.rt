@@ -2,6 +2,8 @@
 use crate::owned_agent::OwnedAgent;
 use crate::owned_step::OwnedStep;
 use crate::store::Store;
+use asm_element::Location;
+use asm_update::Instructions;
 
 /// The box is reused: it contains nothing while a call works on what was taken out.
 #[derive(Drop)]
@@ -10,4 +12,6 @@ pub enum Content {
     Store(Store),
     Agent(OwnedAgent),
     Step(OwnedStep),
+    Location(Location),
+    Move(Instructions),
 }

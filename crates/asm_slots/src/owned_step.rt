@@ -25,7 +25,7 @@ use std::marker::Model;
 pub struct OwnedStep {
     pub(crate) number: u32,
     pub(crate) step: Step,
-    // Each once, in ascending order.
+    // At most 256, each once, in ascending order.
     pub(crate) got: Vec<Location>,
 }
 
@@ -40,6 +40,12 @@ impl Model for OwnedStep {
     ghost coded = { step_code step_row.coded (coded_list location_row.coded) };
 
     ghost view = { λ s. record { number = s.number; layers = s.step; got = s.got.items } };
+
+    ghost use Rattle.std.specs.Prelude.{length, ◌≤◌};
+    ghost use Rattle.std.specs.List.Sorted.{IsStrictlySortedBy};
+    ghost use Rattle.asm_element.specs.Place.{location_cmp};
+
+    ghost invariant = { λ s. IsStrictlySortedBy location_cmp s.got.items × (length s.got.items ≤ 256) };
 }
 
 /// How a move is put onto a step.

@@ -5,8 +5,8 @@ ghost use Rattle.asm_slots.specs.Bytes.{IsNoJson, IsOtherJson};
 ghost use Rattle.asm_slots.specs.Codes.{IsOneOf, ASM_DONE, ASM_CLASH, ASM_MEMORY, ASM_EMPTY, ASM_SMALL};
 ghost use Rattle.asm_slots.specs.Codes.{ASM_MANY, ASM_NOT_JSON, ASM_SHAPE, ASM_LARGE, ASM_MOVED, ASM_DEEP};
 ghost use Rattle.asm_slots.specs.Slots.{HoldBoth, HoldsStep, LacksOne, content_of};
-ghost use Rattle.asm_slots.specs.Steps.{HasExtended, HasGrown, HasPushed, IsNotExtended, IsNotGrown, IsNotPushed};
-ghost use Rattle.asm_slots.specs.Steps.{TellsRefusal};
+ghost use Rattle.asm_slots.specs.Steps.{HasExtended, HasGrown, HasPushed, IsGrown, IsNotExtended, IsNotGrown};
+ghost use Rattle.asm_slots.specs.Steps.{IsNotPushed, IsRefused, TellsRefusal};
 ghost use Rattle.asm_slots.specs.Written.{IsTooLong, IsWritten};
 
 use crate::codes::{CLASH, DEEP, DONE, EMPTY, LARGE, MANY, MEMORY, MOVED, Told, written_as};
@@ -18,6 +18,7 @@ use crate::slot::Slot;
 use crate::take_and_put::{put_both, take_both};
 use asm_aggregate::standard;
 use asm_step::StepError;
+use asm_update::Instructions;
 use std::alloc::{AllocError, Global};
 
 fn told_refusal(alloc: Global, error: StepError) -> Result<Told, AllocError>
@@ -62,6 +63,39 @@ fn refuse(alloc: Global, error: StepError, out: &mut [u8], written: &mut usize) 
     }
 }
 
+/// Puts the move onto the step, while the agent's own state stands at the step's number.
+pub(crate) fn grow_by(
+    alloc: Global,
+    agent: &OwnedAgent,
+    step: &mut OwnedStep,
+    way: Way,
+    instrs: &Instructions,
+    out: &mut [u8],
+    written: &mut usize,
+) -> i32
+    requires { written.old ≡ 0 }
+    ensures codes { IsOneOf (ASM_DONE ∷ ASM_CLASH ∷ ASM_MEMORY ∷ ASM_SMALL ∷ ASM_MANY
+        ∷ ASM_LARGE ∷ ASM_MOVED ∷ ASM_DEEP ∷ []) result }
+    ensures grown { result ≡ ASM_DONE → IsGrown way instrs.now agent.now step.old step.new }
+    ensures told { IsOneOf (ASM_CLASH ∷ ASM_MANY ∷ ASM_LARGE ∷ ASM_DEEP ∷ []) result →
+        IsWritten (IsRefused way instrs.now agent.now step.old result) out.new written.new }
+    ensures small { result ≡ ASM_SMALL → IsTooLong
+        (λ text. (code : ℤ) × IsRefused way instrs.now agent.now step.old code text) (length out.old) written.new }
+    ensures stays { result ≢ ASM_DONE → step.new ≡ step.old }
+    ensures no_text { IsOneOf (ASM_DONE ∷ ASM_MEMORY ∷ ASM_MOVED ∷ []) result → written.new ≡ 0 }
+    ensures unwritten { IsOneOf (ASM_DONE ∷ ASM_MEMORY ∷ ASM_SMALL ∷ ASM_MOVED ∷ []) result → out.new ≡ out.old }
+{
+    let state = agent.state();
+    if state.number() != step.number {
+        return MOVED;
+    }
+    let error = match grow(alloc, &mut step.step, state, way, instrs) {
+        Ok(()) => return DONE,
+        Err(error) => error,
+    };
+    refuse(alloc, error, out, written)
+}
+
 fn grow_in(
     alloc: Global,
     agent: &OwnedAgent,
@@ -87,17 +121,9 @@ fn grow_in(
     ensures unwritten { IsOneOf (ASM_DONE ∷ ASM_MEMORY ∷ ASM_SMALL ∷ ASM_NOT_JSON ∷ ASM_SHAPE ∷ ASM_MOVED ∷ []) result →
         out.new ≡ out.old }
 {
-    let instrs = match move_of(alloc, instrs) {
-        Ok(instrs) => instrs,
-        Err(error) => return code_of_text_error(error),
-    };
-    let state = agent.state();
-    if state.number() != step.number {
-        return MOVED;
-    }
-    match grow(alloc, &mut step.step, state, way, &instrs) {
-        Ok(()) => DONE,
-        Err(error) => refuse(alloc, error, out, written),
+    match move_of(alloc, instrs) {
+        Ok(instrs) => grow_by(alloc, agent, step, way, &instrs, out, written),
+        Err(error) => code_of_text_error(error),
     }
 }
 

@@ -1,7 +1,7 @@
-//! Taking agents, storages and steps out of slots, and putting them back.
+//! Taking agents, storages, steps and moves out of slots, and putting them back.
 ghost use Rattle.std.specs.Prelude.{◌≡◌, IfNone, IfSome, None, Some};
 ghost use denote.Param.Send.{IsSend};
-ghost use Rattle.asm_slots.specs.Slots.{HoldsNoAgent, HoldsNoStep, HoldsNoStore, LacksOne, content_of};
+ghost use Rattle.asm_slots.specs.Slots.{HoldsNoAgent, HoldsNoMove, HoldsNoStep, HoldsNoStore, LacksOne, content_of};
 ghost use Rattle.asm_slots.specs.contracts.content.Content.{the_row as content_row};
 ghost use Rattle.asm_slots.specs.declared.content.Content.TheVariants as content;
 
@@ -10,6 +10,7 @@ use crate::owned_agent::OwnedAgent;
 use crate::owned_step::OwnedStep;
 use crate::slot::Slot;
 use crate::store::Store;
+use asm_update::Instructions;
 use std::alloc::Global;
 
 /// The agent of the slot and its box, taken out of it.
@@ -84,6 +85,31 @@ pub(crate) fn put_step(slot: &mut Slot, mut shell: Box<Content>, step: OwnedStep
     ensures { content_of slot.new ≡ Some (content.Step step) }
 {
     *shell = Content::Step(step);
+    *slot = Slot::holding(shell);
+}
+
+/// The move of the slot and its box, taken out of it.
+pub(crate) fn take_move(alloc: Global, slot: &mut Slot) -> Option<(Box<Content>, Instructions)>
+    ensures some { IfSome result (λ p. content_of slot.old ≡ Some (content.Move p.1)) }
+    ensures none { IfNone result (content_of slot.new ≡ content_of slot.old) }
+    ensures other { IfNone result (HoldsNoMove (content_of slot.old)) }
+{
+    let mut shell = std::mem::replace(slot, Slot::empty(alloc)).into_box()?;
+    match std::mem::replace(&mut *shell, Content::Nothing) {
+        Content::Move(instrs) => Some((shell, instrs)),
+        other => {
+            *shell = other;
+            *slot = Slot::holding(shell);
+            None
+        }
+    }
+}
+
+/// Puts the move into the slot, in its box.
+pub(crate) fn put_move(slot: &mut Slot, mut shell: Box<Content>, instrs: Instructions)
+    ensures { content_of slot.new ≡ Some (content.Move instrs) }
+{
+    *shell = Content::Move(instrs);
     *slot = Slot::holding(shell);
 }
 

@@ -30,7 +30,9 @@ typedef struct row {
 static const row rows[] = {
     {"read, answer, fire", READ_FIRE, true, 20000, 16},
     {"step: begin, get, push, commit", STEP, true, 20000, 16},
+    {"step without text", PLAIN_STEP, true, 20000, 16},
     {"peek", PEEK, false, 40000, 32},
+    {"peek_at", PLAIN_PEEK, false, 200000, 8},
     {"push and pop", PUSH_POP, false, 30000, 200},
 };
 

@@ -11,8 +11,9 @@
 enum { THREADS = 4, LOCATIONS = 64 };
 
 /* READ_FIRE: read, answer, and a fire of one put that names what was read. STEP: begin, get, push
- * of one put, commit. PUSH_POP: a push on a step that was begun before, and its pop. */
-enum work { READ_FIRE, STEP, PEEK, PUSH_POP, WORKS };
+ * of one put, commit. PUSH_POP: a push on a step that was begun before, and its pop. The PLAIN ones
+ * are the same without text. */
+enum work { READ_FIRE, STEP, PLAIN_STEP, PEEK, PLAIN_PEEK, PUSH_POP, WORKS };
 
 /* Does the work once, as the agent of the thread, at the location with this number; whether it was
  * done: else something was stale, and it is to be done again. A work that fires adds 1 there. */

@@ -1,4 +1,4 @@
-/* The works by the library, with texts. */
+/* The works by the library. */
 #include "bench.h"
 #include "folugben.h"
 
@@ -9,7 +9,7 @@ enum { ROOM = 256, INIT = 32 * LOCATIONS };
 typedef struct agent {
     /* A slot of its own line of the processor's cache. */
     _Alignas(128) asm_slot slot;
-    asm_slot step, idle;
+    asm_slot step, idle, move, at[LOCATIONS];
 } agent;
 
 static asm_slot storage;
@@ -32,6 +32,10 @@ static void open_storage(unsigned moves) {
     for (unsigned i = 0; i < THREADS; i++) {
         REQUIRE(asm_agent(&storage, i, &agents[i].slot) == ASM_DONE);
         REQUIRE(asm_begin(&agents[i].slot, &agents[i].idle, &number) == ASM_DONE);
+        /* What is passed is the one location of [LOC]. */
+        for (unsigned k = 0; k < LOCATIONS; k++)
+            REQUIRE(asm_location(bytes(places[k] + 1), strlen(places[k]) - 2, &agents[i].at[k]) ==
+                    ASM_DONE);
     }
 }
 
@@ -93,6 +97,31 @@ static bool whole_step(unsigned thread, unsigned location) {
     return is_fired(asm_commit(&a->slot, &a->step, &numbers));
 }
 
+static bool plain_step(unsigned thread, unsigned location) {
+    agent *a = &agents[thread];
+    asm_slot *at = &a->at[location];
+    uint32_t number;
+    size_t length;
+    asm_value value;
+    asm_numbers numbers;
+    REQUIRE(asm_begin(&a->slot, &a->step, &number) == ASM_DONE);
+    REQUIRE(asm_get_at(&a->slot, &a->step, at, &value, NULL, 0, &length) == ASM_DONE);
+    REQUIRE(asm_instruct(&a->move, at, ASM_PUT, ASM_KIND_NUM, value.number + 1, NULL, 0, 0) ==
+            ASM_DONE);
+    REQUIRE(asm_push_move(&a->slot, &a->step, &a->move, NULL, 0, &length) == ASM_DONE);
+    asm_free(&a->move);
+    return is_fired(asm_commit(&a->slot, &a->step, &numbers));
+}
+
+static bool plain_peek(unsigned thread, unsigned location) {
+    agent *a = &agents[thread];
+    uint32_t number;
+    size_t length;
+    asm_value value;
+    REQUIRE(asm_peek_at(&a->slot, &a->at[location], &number, &value, NULL, 0, &length) == ASM_DONE);
+    return true;
+}
+
 static bool peek(unsigned thread, unsigned location) {
     char text[ROOM];
     size_t length;
@@ -120,10 +149,13 @@ static int64_t close_storage(void) {
     for (unsigned i = 0; i < THREADS; i++) {
         asm_free(&agents[i].step);
         asm_free(&agents[i].idle);
+        for (unsigned k = 0; k < LOCATIONS; k++)
+            asm_free(&agents[i].at[k]);
         asm_free(&agents[i].slot);
     }
     asm_free(&storage);
     return sum;
 }
 
-const side ours = {open_storage, {read_fire, whole_step, peek, push_pop}, close_storage};
+const side ours = {
+    open_storage, {read_fire, whole_step, plain_step, peek, plain_peek, push_pop}, close_storage};

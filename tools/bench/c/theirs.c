@@ -68,4 +68,5 @@ static int64_t close_storage(void) {
     return sum;
 }
 
-const side theirs = {open_storage, {read_fire, whole_step, peek, push_pop}, close_storage};
+const side theirs = {
+    open_storage, {read_fire, whole_step, whole_step, peek, peek, push_pop}, close_storage};

@@ -1,38 +1,21 @@
 use Rattle.std.proofs.Common.{◌∷◌, [], ℤ, sym, subst, w32, ◌∙◌}
 use Rattle.std.proofs.Math.Facts.{to_z-of_z}
 use Rattle.asm_slots.specs.Codes.{IsOneOf, ASM_CLASH, ASM_MANY, ASM_LARGE, ASM_DEEP}
-use Rattle.asm_slots.specs.Step.{StepView}
 use Rattle.asm_slots.specs.Steps.{IsNotGrown}
 use Rattle.asm_slots.specs.Written.{IsWritten}
-use Rattle.asm_slots.proofs.Growing.{is_grown_of, not_grown, not_grown_long}
+use Rattle.asm_slots.proofs.Growing.{not_grown, not_grown_long}
 use Rattle.asm_slots.proofs.pushing.grow_in.Goals as goal
 
-pub returns-in-Ok-grow-clause-grown : goal.returns-in-Ok-grow-clause-grown
-returns-in-Ok-grow-clause-grown c _ =
-    let inside : StepView = record { number = c.step.inside.number; layers = c.step.inside.step; got = c.step.inside.got.items } in (
-      c.in-Ok.instrs,
-      c.in-Ok.ensures.ok,
-      is_grown_of c.args.way c.args.agent.now c.state-state.result.now c.args.step.now inside c.grow.new.step c.in-Ok.instrs
-          c.step.view_is c.state-state.ensures (sym c.number.ensures ∙ c.if-number-step.false) c.in-Ok-grow.ensures.layers
-          c.in-Ok-grow.ensures.answer c.in-Ok-grow.ensures.step,
-    )
+pub returns-in-Ok-clause-told : goal.returns-in-Ok-clause-told
+returns-in-Ok-clause-told c one =
+    let same = to_z-of_z {w = w32} (record { sfits = c.grow_by.type_inv }) in
+    subst (λ (code : ℤ). IsWritten (IsNotGrown c.args.way c.args.instrs.now c.args.agent.now c.args.step.now code) c.grow_by.new.out c.grow_by.new.written) (sym same)
+    (not_grown c.args.way c.args.instrs.now c.in-Ok.instrs c.args.agent.now c.args.step.now c.in-Ok.ensures.ok c.grow_by.result
+    c.grow_by.new.out c.grow_by.new.written
+    (c.grow_by.ensures.told (subst (IsOneOf (ASM_CLASH ∷ ASM_MANY ∷ ASM_LARGE ∷ ASM_DEEP ∷ [])) same one)))
 
-pub returns-clause-told : goal.returns-clause-told
-returns-clause-told c one =
-    let inside : StepView = record { number = c.step.inside.number; layers = c.step.inside.step; got = c.step.inside.got.items } in
-    let same = to_z-of_z {w = w32} (record { sfits = c.refuse.type_inv }) in
-    subst (λ (code : ℤ). IsWritten (IsNotGrown c.args.way c.args.instrs.now c.args.agent.now c.args.step.now code) c.refuse.new.out c.refuse.new.written) (sym same)
-    (not_grown c.args.way c.args.instrs.now c.args.agent.now c.state-state.result.now c.args.step.now inside c.grow.new.step
-    c.in-Ok.instrs c.in-Err-grow.error c.refuse.result c.refuse.new.out c.refuse.new.written c.in-Ok.ensures.ok c.step.view_is
-    c.state-state.ensures (sym c.number.ensures ∙ c.if-number-step.false) c.in-Err-grow.ensures.deep c.in-Err-grow.ensures.err
-    c.in-Err-grow.ensures.answer
-    (c.refuse.ensures.told (subst (IsOneOf (ASM_CLASH ∷ ASM_MANY ∷ ASM_LARGE ∷ ASM_DEEP ∷ [])) same one)))
-
-pub returns-clause-small : goal.returns-clause-small
-returns-clause-small c small =
-    let inside : StepView = record { number = c.step.inside.number; layers = c.step.inside.step; got = c.step.inside.got.items } in
-    let same = to_z-of_z {w = w32} (record { sfits = c.refuse.type_inv }) in
-    not_grown_long c.args.way c.args.instrs.now c.args.agent.now c.state-state.result.now c.args.step.now inside c.grow.new.step
-    c.in-Ok.instrs c.in-Err-grow.error _ c.refuse.new.written c.in-Ok.ensures.ok c.step.view_is
-    c.state-state.ensures (sym c.number.ensures ∙ c.if-number-step.false) c.in-Err-grow.ensures.deep c.in-Err-grow.ensures.err
-    c.in-Err-grow.ensures.answer (c.refuse.ensures.small (sym same ∙ small))
+pub returns-in-Ok-clause-small : goal.returns-in-Ok-clause-small
+returns-in-Ok-clause-small c small =
+    let same = to_z-of_z {w = w32} (record { sfits = c.grow_by.type_inv }) in
+    not_grown_long c.args.way c.args.instrs.now c.in-Ok.instrs c.args.agent.now c.args.step.now c.in-Ok.ensures.ok _
+    c.grow_by.new.written (c.grow_by.ensures.small (sym same ∙ small))

@@ -1,0 +1,220 @@
+/* The calls of misuse without text. */
+#include "misuse.h"
+
+/* The values of v, by their numbers: the first is none. */
+static const struct {
+    int32_t kind;
+    int64_t number;
+    const char *bytes, *json;
+} values[] = {
+    {ASM_KIND_UNDEF, 0, "", "null"},
+    {ASM_KIND_BOOL, 1, "", "true"},
+    {ASM_KIND_NUM, -5, "", "-5"},
+    {ASM_KIND_TEXT, 0, "t\xc3\xbc", "\"t\xc3\xbc\""},
+};
+enum { VALUES = sizeof values / sizeof *values };
+
+const char *text_of_v(world w) { return values[w.v].json; }
+
+const char *text_of_s(world w) {
+    static const char *const sets[] = {"{\"set\":[]}", "{\"set\":[1]}", "{\"set\":[2]}",
+                                       "{\"set\":[1,2]}"};
+    return sets[w.s];
+}
+
+static const struct {
+    const char *bytes;
+    int32_t code;
+    unsigned place;
+} locations[] = {
+    {"[\"s\"]", ASM_DONE, S_PLACE},  {"[\"v\"]", ASM_DONE, V_PLACE},
+    {" [\"x\"]", ASM_DONE, X_PLACE}, {"[\"y\",1]", ASM_DONE, Y_PLACE},
+    {"[[\"x\"]]", ASM_SHAPE, 0},     {"[\"x\"", ASM_NOT_JSON, 0},
+    {"", ASM_NOT_JSON, 0},
+};
+
+static void locates(unsigned at) {
+    unsigned i = below(sizeof locations / sizeof *locations);
+    const char *text = locations[i].bytes;
+    int32_t wanted = accounts[at].kind != NOTHING ? ASM_TAKEN : locations[i].code;
+    REQUIRE(asm_location(*text ? (const uint8_t *)text : NULL, strlen(text), &slots[at]) == wanted);
+    if (wanted == ASM_DONE)
+        accounts[at] = (account){.kind = LOCATION, .place = locations[i].place};
+}
+
+/* What is told of the value at the place: its kind, its number and its bytes. */
+static const char *parts_of(world w, unsigned place, asm_value *value) {
+    int number = place == X_PLACE ? w.x : w.y;
+    switch (place) {
+    case S_PLACE:
+        *value = (asm_value){w.s < 0 ? ASM_KIND_UNDEF : ASM_KIND_SET, 0};
+        return w.s < 0 ? "" : text_of_s(w);
+    case V_PLACE:
+        *value = (asm_value){values[w.v].kind, values[w.v].number};
+        return values[w.v].bytes;
+    default:
+        *value = (asm_value){number < 0 ? ASM_KIND_UNDEF : ASM_KIND_NUM, number < 0 ? 0 : number};
+        return "";
+    }
+}
+
+/* Requires the foretold code, bytes and value; false where the bytes didn't fit. */
+static bool is_value(int32_t code, told wanted, const buffer *b, asm_value value, asm_value told) {
+    bool fits = is_written(code, wanted, b);
+    if (!fits || wanted.code != ASM_DONE)
+        told = (asm_value){0, 0};
+    REQUIRE(value.kind == told.kind && value.number == told.number);
+    return fits;
+}
+
+static void peeks_at(unsigned at, unsigned of_place) {
+    const account *a = &accounts[at], *l = &accounts[of_place];
+    buffer b = any_buffer();
+    asm_value value = {9, 9}, told_value = {0, 0};
+    uint32_t number = 9;
+    told wanted = {a->kind != AGENT || l->kind != LOCATION ? ASM_EMPTY : ASM_DONE, NULL};
+    if (wanted.code == ASM_DONE)
+        wanted.text = parts_of(own_world(a), l->place, &told_value);
+    int32_t code = asm_peek_at(&slots[at], &slots[of_place], &number, &value, OUT(b));
+    bool fits = is_value(code, wanted, &b, value, told_value);
+    REQUIRE(number == (fits && wanted.code == ASM_DONE ? a->stood : 0));
+}
+
+static void gets_at(unsigned at, unsigned of_step, unsigned of_place) {
+    const account *a = &accounts[at], *l = &accounts[of_place];
+    account *s = &accounts[of_step];
+    buffer b = any_buffer();
+    asm_value value = {9, 9}, told_value = {0, 0};
+    told wanted = {l->kind != LOCATION ? ASM_EMPTY : step_code(a, s, ASM_DONE), NULL};
+    if (wanted.code == ASM_DONE)
+        wanted.text = parts_of(top_of(s).seen, l->place, &told_value);
+    int32_t code = asm_get_at(&slots[at], &slots[of_step], &slots[of_place], &value, OUT(b));
+    if (is_value(code, wanted, &b, value, told_value) && wanted.code == ASM_DONE)
+        s->has_got[l->place] = true;
+}
+
+/* Instructions: those that are done go with one place alone, and a put of v with one of its values.
+ */
+static const struct {
+    int32_t verb, kind;
+    int64_t number;
+    const char *bytes;
+    uint32_t amount;
+    int32_t code;
+    unsigned place, value;
+} instructions[] = {
+    {ASM_INC, ASM_KIND_NUM, 1, "", 0, ASM_DONE, X_PLACE, 0},
+    {ASM_PUT, ASM_KIND_NUM, 2, "", 0, ASM_DONE, Y_PLACE, 0},
+    {ASM_PUT, ASM_KIND_UNDEF, 0, "", 0, ASM_DONE, V_PLACE, 0},
+    {ASM_PUT, ASM_KIND_BOOL, 1, "", 0, ASM_DONE, V_PLACE, 1},
+    {ASM_PUT, ASM_KIND_NUM, -5, "", 0, ASM_DONE, V_PLACE, 2},
+    {ASM_PUT, ASM_KIND_TEXT, 0, "t\xc3\xbc", 0, ASM_DONE, V_PLACE, 3},
+    {ASM_ADD, ASM_KIND_NUM, 1, "", 0, ASM_DONE, S_PLACE, 0},
+    {ASM_REMOVE, ASM_KIND_NUM, 2, "", 0, ASM_DONE, S_PLACE, 0},
+    {ASM_PUT, ASM_KIND_TEXT, 0, "t\xc3", 0, ASM_SHAPE, PLACES, 0},
+    {ASM_PUT, ASM_KIND_LIST, 0, "", 0, ASM_RANGE, PLACES, 0},
+    {ASM_PUT, ASM_KIND_BOOL, 2, "", 0, ASM_RANGE, PLACES, 0},
+    {ASM_PUT, ASM_KIND_UNDEF, 0, "u", 0, ASM_RANGE, PLACES, 0},
+    {ASM_ADD, ASM_KIND_NUM, 1, "", 1, ASM_RANGE, PLACES, 0},
+    {ASM_BAGADD, ASM_KIND_NUM, 1, "", 0, ASM_RANGE, PLACES, 0},
+    {ASM_INC, ASM_KIND_UNDEF, 0, "", 0, ASM_RANGE, PLACES, 0},
+    {9, ASM_KIND_NUM, 1, "", 0, ASM_RANGE, PLACES, 0},
+};
+
+static void instructs(unsigned at, unsigned of_place) {
+    unsigned i = below(sizeof instructions / sizeof *instructions);
+    account *m = &accounts[at];
+    const account *l = &accounts[of_place];
+    const char *text = instructions[i].bytes;
+    int32_t wanted = m->kind != NOTHING && m->kind != MOVE ? ASM_TAKEN
+                     : l->kind != LOCATION                 ? ASM_EMPTY
+                                                           : instructions[i].code;
+    if (wanted == ASM_DONE && instructions[i].place != l->place)
+        return;
+    REQUIRE(asm_instruct(&slots[at], &slots[of_place], instructions[i].verb, instructions[i].kind,
+                         instructions[i].number, *text ? (const uint8_t *)text : NULL, strlen(text),
+                         instructions[i].amount) == wanted);
+    if (wanted != ASM_DONE)
+        return;
+    m->kind = MOVE;
+    m->move.raises += l->place == X_PLACE;
+    m->move.puts |= l->place == Y_PLACE;
+    m->move.values |= (l->place == V_PLACE) << instructions[i].value;
+    m->move.adds |= instructions[i].verb == ASM_ADD;
+    m->move.removes |= instructions[i].verb == ASM_REMOVE;
+}
+
+/* Does the move on what is seen: the text of a clash, if there is one. */
+static const char *is_done(const gathered *move, layer *on) {
+    world *w = &on->seen;
+    bool changes = move->adds || move->removes;
+    if (changes && w->s < 0)
+        return "{\"clash\":[[\"s\"],\"Kind\"]}";
+    if (move->values & (move->values - 1))
+        return "{\"clash\":[[\"v\"],\"Two\"]}";
+    if (move->raises && w->x < 0)
+        return "{\"clash\":[[\"x\"],\"Kind\"]}";
+    w->s = changes ? (w->s | (move->adds ? 1 : 0)) & ~(move->removes ? 2 : 0) : w->s;
+    for (int i = 0; i < VALUES; i++)
+        w->v = move->values >> i & 1 ? i : w->v;
+    w->x += (int)move->raises;
+    w->y = move->puts ? 2 : w->y;
+    on->raises += move->raises;
+    on->puts |= move->puts;
+    on->puts_v |= move->values > 0;
+    on->changes |= changes;
+    return NULL;
+}
+
+static void grows_by(unsigned at, unsigned of_step, unsigned of_move, bool is_push) {
+    const account *a = &accounts[at], *m = &accounts[of_move];
+    account *s = &accounts[of_step];
+    buffer b = any_buffer();
+    told wanted = {m->kind != MOVE ? ASM_EMPTY : step_code(a, s, ASM_DONE), NULL};
+    layer next = {0};
+    if (wanted.code == ASM_DONE) {
+        next = top_of(s);
+        if (is_push && s->depth == DEEPEST)
+            wanted.code = ASM_DEEP;
+        else if ((wanted.text = is_done(&m->move, &next)))
+            wanted.code = ASM_CLASH;
+    }
+    int32_t code = (is_push ? asm_push_move : asm_extend_move)(&slots[at], &slots[of_step],
+                                                               &slots[of_move], OUT(b));
+    if (is_written(code, wanted, &b) && wanted.code == ASM_DONE) {
+        s->depth += is_push || s->depth == 0;
+        s->layers[s->depth - 1] = next;
+    }
+}
+
+/* A slot of this kind, if there is one behind any; at times the slot itself. */
+static unsigned some(int kind, unsigned other) {
+    for (unsigned i = below(4) ? below(SLOTS) : SLOTS; i < SLOTS; i++)
+        if ((int)accounts[i].kind == kind)
+            return i;
+    return other;
+}
+
+void calls_any_plain(unsigned at, unsigned other) {
+    unsigned of_step = fitting(at, other);
+    switch (below(8)) {
+    case 0:
+        locates(at);
+        break;
+    case 1:
+        peeks_at(some(AGENT, at), some(LOCATION, other));
+        break;
+    case 2:
+    case 3:
+        instructs(some(MOVE, at), some(LOCATION, other));
+        break;
+    case 4:
+    case 5:
+        if (have_meaning(at, of_step))
+            gets_at(at, of_step, some(LOCATION, other));
+        break;
+    default:
+        if (have_meaning(at, of_step))
+            grows_by(at, of_step, some(MOVE, other), below(2));
+    }
+}

@@ -1,0 +1,339 @@
+/* Calls without text: values of each kind, instructions of each verb, and what each refusal leaves
+ * as it was. */
+#include "tests.h"
+
+static const char *opening =
+    "[[['b'],{'bag':[['e',2]]}],[['f'],false],[['l'],{'list':[1,'two']}],"
+    "[['n',1],-9223372036854775808],[['s'],{'set':[1]}],[['t'],'h\xc3\xbc'],[['w'],''],[['x'],7],"
+    "[['y'],true]]";
+
+/* The locations above in their order, and one that holds nothing. */
+enum { B, F, L, N, S, T, W, X, Y, U, PLACES };
+static const char *const places[PLACES] = {"['b']", "['f']", "['l']", "['n',1]", "['s']",
+                                           "['t']", "['w']", "['x']", "['y']",   "['u',null]"};
+
+static asm_slot storage, agents[2], step, move, at[PLACES];
+
+static void begin_all(void) {
+    uint32_t number = 9;
+    open_with(opening, 8, &storage);
+    REQUIRE(asm_agents(&storage, agents, 2) == ASM_DONE);
+    REQUIRE(asm_begin(&agents[0], &step, &number) == ASM_DONE && number == 0 && step.full);
+    for (size_t i = 0; i < PLACES; i++)
+        REQUIRE(asm_location(TEXT(places[i]), &at[i]) == ASM_DONE && at[i].full);
+}
+
+static void end_all(void) {
+    asm_free(&storage);
+    asm_free(&agents[0]);
+    asm_free(&agents[1]);
+    asm_free(&step);
+    asm_free(&move);
+    for (size_t i = 0; i < PLACES; i++)
+        asm_free(&at[i]);
+}
+
+static bool is_value(asm_value value, int32_t kind, int64_t number) {
+    return value.kind == kind && value.number == number;
+}
+
+/* With this room, the call tells the value, or the room that its text needs. */
+static void tells_in(size_t room, bool gets, size_t place, asm_value wanted, const char *text) {
+    asm_value value = {9, 9};
+    uint32_t number = 9;
+    size_t length = strlen(text), written = 99;
+    bool fits = room >= length;
+    uint8_t *out = buffer_of(room);
+    int32_t code = gets ? asm_get_at(&agents[0], &step, &at[place], &value, OUT)
+                        : asm_peek_at(&agents[0], &at[place], &number, &value, OUT);
+    REQUIRE(code == (fits ? ASM_DONE : ASM_SMALL) && written == length);
+    REQUIRE(fits ? !memcmp(out, json(text), length) : is_untouched(out, room));
+    REQUIRE(fits ? is_value(value, wanted.kind, wanted.number) : is_value(value, 0, 0));
+    REQUIRE(number == (gets ? 9 : 0));
+    free(out);
+}
+
+/* What is seen at the location through the step, or in the agent's own state at 0 moves. */
+static void tells(bool gets, size_t place, int32_t kind, int64_t number, const char *text) {
+    asm_slot was[3] = {agents[0], step, at[place]};
+    if (*text)
+        tells_in(strlen(text) - 1, gets, place, (asm_value){kind, number}, text);
+    tells_in(strlen(text), gets, place, (asm_value){kind, number}, text);
+    REQUIRE(is_same(agents[0], was[0]) && is_same(step, was[1]) && is_same(at[place], was[2]));
+}
+
+static void gets(size_t place, int32_t kind, int64_t number, const char *text) {
+    tells(true, place, kind, number, text);
+}
+
+static void each_kind(void) {
+    begin_all();
+    for (int is_got = 0; is_got < 2; is_got++) {
+        tells(is_got, B, ASM_KIND_BAG, 0, "{'bag':[['e',2]]}");
+        tells(is_got, F, ASM_KIND_BOOL, 0, "");
+        tells(is_got, L, ASM_KIND_LIST, 0, "{'list':[1,'two']}");
+        tells(is_got, N, ASM_KIND_NUM, INT64_MIN, "");
+        tells(is_got, S, ASM_KIND_SET, 0, "{'set':[1]}");
+        tells(is_got, T, ASM_KIND_TEXT, 0, "h\xc3\xbc");
+        tells(is_got, W, ASM_KIND_TEXT, 0, "");
+        tells(is_got, X, ASM_KIND_NUM, 7, "");
+        tells(is_got, Y, ASM_KIND_BOOL, 1, "");
+        tells(is_got, U, ASM_KIND_UNDEF, 0, "");
+    }
+    end_all();
+}
+
+/* Puts an instruction into the move. */
+static int32_t instruct(size_t place, int32_t verb, int32_t kind, int64_t number, const char *text,
+                        uint32_t amount) {
+    size_t length = strlen(text);
+    return asm_instruct(&move, &at[place], verb, kind, number, length ? bytes(text) : NULL, length,
+                        amount);
+}
+
+static void does(size_t place, int32_t verb, int32_t kind, int64_t number, const char *text,
+                 uint32_t amount) {
+    asm_slot was = move;
+    REQUIRE(instruct(place, verb, kind, number, text, amount) == ASM_DONE && move.full);
+    REQUIRE(!was.full || is_same(move, was));
+}
+
+static int32_t grows(bool is_push) {
+    asm_slot was[3] = {agents[0], step, move};
+    uint8_t out[8];
+    size_t written = 9;
+    int32_t code = (is_push ? asm_push_move : asm_extend_move)(&agents[0], &step, &move, out,
+                                                               sizeof out, &written);
+    REQUIRE(written == 0);
+    REQUIRE(is_same(agents[0], was[0]) && is_same(step, was[1]) && is_same(move, was[2]));
+    return code;
+}
+
+static void each_verb(void) {
+    begin_all();
+    does(T, ASM_PUT, ASM_KIND_TEXT, 0, "/\xc3\xbc", 0);
+    does(F, ASM_PUT, ASM_KIND_BOOL, 1, "", 0);
+    does(Y, ASM_PUT, ASM_KIND_BOOL, 0, "", 0);
+    does(W, ASM_PUT, ASM_KIND_UNDEF, 0, "", 0);
+    does(U, ASM_PUT, ASM_KIND_NUM, INT64_MAX, "", 0);
+    does(L, ASM_PUT, ASM_KIND_TEXT, 0, "", 0);
+    does(S, ASM_ADD, ASM_KIND_TEXT, 0, "two", 0);
+    does(S, ASM_REMOVE, ASM_KIND_NUM, 1, "", 0);
+    does(B, ASM_BAGADD, ASM_KIND_BOOL, 0, "", 4294967295);
+    does(B, ASM_BAGREMOVE, ASM_KIND_TEXT, 0, "e", 1);
+    does(X, ASM_INC, ASM_KIND_NUM, INT64_MIN, "", 0);
+    REQUIRE(grows(true) == ASM_DONE && asm_depth(&step) == 1);
+    gets(B, ASM_KIND_BAG, 0, "{'bag':[[false,4294967295],['e',1]]}");
+    gets(F, ASM_KIND_BOOL, 1, "");
+    gets(L, ASM_KIND_TEXT, 0, "");
+    gets(S, ASM_KIND_SET, 0, "{'set':['two']}");
+    gets(W, ASM_KIND_UNDEF, 0, "");
+    gets(X, ASM_KIND_NUM, INT64_MIN + 7, "");
+    gets(Y, ASM_KIND_BOOL, 0, "");
+    gets(U, ASM_KIND_NUM, INT64_MAX, "");
+    TELLS(ASM_DONE, "{'number':0,'values':['/\xc3\xbc']}",
+          asm_get(&agents[0], &step, TEXT("[['t']]"), OUT));
+    end_all();
+}
+
+/* A move stays in its slot: it is pushed again, extends, and grows without changing what it was
+ * pushed to. One that is dropped changes nothing either. */
+static void a_move_stays(void) {
+    asm_numbers numbers;
+    begin_all();
+    does(X, ASM_INC, ASM_KIND_NUM, 1, "", 0);
+    REQUIRE(grows(true) == ASM_DONE && grows(true) == ASM_DONE && grows(false) == ASM_DONE);
+    REQUIRE(asm_depth(&step) == 2);
+    gets(X, ASM_KIND_NUM, 10, "");
+    does(X, ASM_INC, ASM_KIND_NUM, 10, "", 0);
+    gets(X, ASM_KIND_NUM, 10, "");
+    REQUIRE(grows(true) == ASM_DONE);
+    gets(X, ASM_KIND_NUM, 21, "");
+    asm_free(&move);
+    REQUIRE(!move.full);
+    gets(X, ASM_KIND_NUM, 21, "");
+    REQUIRE(asm_pop(&step) == ASM_DONE && asm_pop(&step) == ASM_DONE);
+    gets(X, ASM_KIND_NUM, 8, "");
+    REQUIRE(asm_commit(&agents[0], &step, &numbers) == ASM_DONE && numbers.fired == 1);
+    ANSWERS(ASM_EMPTY, asm_get_at(&agents[0], &step, &at[X], &(asm_value){9, 9}, OUT));
+    TELLS(ASM_DONE, "{'fired':1}", asm_answer(&agents[0], OUT));
+    end_all();
+}
+
+/* What is got is named by the commit, and an agent whose state has moved on begins again. */
+static void what_is_got_is_named(void) {
+    asm_numbers numbers;
+    uint32_t number;
+    asm_value value = {9, 9};
+    begin_all();
+    gets(X, ASM_KIND_NUM, 7, "");
+    gets(X, ASM_KIND_NUM, 7, "");
+    fire(&agents[1], "[['put',['y'],null]]");
+    REQUIRE(asm_commit(&agents[0], &step, &numbers) == ASM_DONE && numbers.fired == 2);
+    REQUIRE(asm_begin(&agents[0], &step, &number) == ASM_DONE && number == 2);
+    gets(Y, ASM_KIND_UNDEF, 0, "");
+    gets(X, ASM_KIND_NUM, 7, "");
+    fire(&agents[1], "[['put',['y'],1]]");
+    REQUIRE(asm_commit(&agents[0], &step, &numbers) == ASM_STALE);
+    TELLS(ASM_DONE, "{'stale':['y']}", asm_answer(&agents[0], OUT));
+    REQUIRE(asm_follow(&agents[0], &number) == ASM_DONE && number == 3);
+    ANSWERS(ASM_MOVED, asm_get_at(&agents[0], &step, &at[X], &value, OUT));
+    REQUIRE(is_value(value, 0, 0));
+    does(X, ASM_INC, ASM_KIND_NUM, 1, "", 0);
+    REQUIRE(grows(true) == ASM_MOVED && grows(false) == ASM_MOVED);
+    value = (asm_value){9, 9};
+    ANSWERS(ASM_DONE, asm_peek_at(&agents[0], &at[Y], &number, &value, OUT));
+    REQUIRE(number == 3 && is_value(value, ASM_KIND_NUM, 1));
+    end_all();
+}
+
+/* Moves that clash are told by a text, and leave the step as it was. */
+static void clashes(void) {
+    begin_all();
+    does(Y, ASM_INC, ASM_KIND_NUM, 1, "", 0);
+    TELLS(ASM_CLASH, "{'clash':[['y'],'Kind']}", asm_push_move(&agents[0], &step, &move, OUT));
+    TELLS(ASM_CLASH, "{'clash':[['y'],'Kind']}", asm_extend_move(&agents[0], &step, &move, OUT));
+    REQUIRE(asm_depth(&step) == 0);
+    asm_free(&move);
+    does(Y, ASM_PUT, ASM_KIND_NUM, 1, "", 0);
+    for (int i = 0; i < 64; i++)
+        REQUIRE(grows(true) == ASM_DONE);
+    REQUIRE(grows(true) == ASM_DEEP && grows(false) == ASM_DONE && asm_depth(&step) == 64);
+    end_all();
+}
+
+static void refuses(int32_t verb, int32_t kind, int64_t number, const char *text, uint32_t amount) {
+    asm_slot was = move;
+    REQUIRE(instruct(X, verb, kind, number, text, amount) == ASM_RANGE && is_same(move, was));
+}
+
+/* Verbs, operands and amounts that there aren't, with a move that is empty and one that isn't. */
+static void out_of_range(void) {
+    begin_all();
+    for (int i = 0; i < 2; i++) {
+        refuses(-1, ASM_KIND_NUM, 1, "", 0);
+        refuses(6, ASM_KIND_NUM, 1, "", 0);
+        refuses(INT32_MIN, ASM_KIND_NUM, 1, "", 0);
+        refuses(ASM_PUT, -1, 0, "", 0);
+        refuses(ASM_PUT, ASM_KIND_LIST, 0, "{\"list\":[]}", 0);
+        refuses(ASM_PUT, ASM_KIND_SET, 0, "{\"set\":[]}", 0);
+        refuses(ASM_PUT, ASM_KIND_BAG, 0, "", 0);
+        refuses(ASM_PUT, 7, 0, "", 0);
+        refuses(ASM_PUT, ASM_KIND_UNDEF, 1, "", 0);
+        refuses(ASM_PUT, ASM_KIND_UNDEF, 0, "u", 0);
+        refuses(ASM_PUT, ASM_KIND_BOOL, 2, "", 0);
+        refuses(ASM_PUT, ASM_KIND_BOOL, -1, "", 0);
+        refuses(ASM_PUT, ASM_KIND_BOOL, 1, "1", 0);
+        refuses(ASM_PUT, ASM_KIND_NUM, 1, "1", 0);
+        refuses(ASM_PUT, ASM_KIND_TEXT, 1, "1", 0);
+        refuses(ASM_PUT, ASM_KIND_NUM, 1, "", 1);
+        refuses(ASM_ADD, ASM_KIND_NUM, 1, "", 4294967295);
+        refuses(ASM_REMOVE, ASM_KIND_NUM, 1, "", 1);
+        refuses(ASM_BAGADD, ASM_KIND_NUM, 1, "", 0);
+        refuses(ASM_BAGREMOVE, ASM_KIND_NUM, 1, "", 0);
+        refuses(ASM_INC, ASM_KIND_NUM, 1, "", 1);
+        refuses(ASM_INC, ASM_KIND_BOOL, 1, "", 0);
+        refuses(ASM_INC, ASM_KIND_TEXT, 0, "\xff", 0);
+        refuses(ASM_PUT, ASM_KIND_TEXT, 1, "\xff", 0);
+        REQUIRE(instruct(X, ASM_PUT, ASM_KIND_TEXT, 0, "a\xff", 0) == ASM_SHAPE);
+        REQUIRE(instruct(X, ASM_BAGADD, ASM_KIND_TEXT, 0, "\xc3", 1) == ASM_SHAPE);
+        REQUIRE(move.full == (i == 1));
+        if (i == 0)
+            does(X, ASM_INC, ASM_KIND_NUM, 1, "", 0);
+    }
+    REQUIRE(grows(true) == ASM_DONE);
+    gets(X, ASM_KIND_NUM, 8, "");
+    end_all();
+}
+
+/* A move of 4,096 instructions has no room for another, and one of 256 locations that were got for
+ * a further one. */
+static void full(void) {
+    char place[32];
+    asm_slot other = {0};
+    asm_value value;
+    begin_all();
+    for (int i = 0; i < 4096; i++)
+        does(X, ASM_INC, ASM_KIND_NUM, 1, "", 0);
+    REQUIRE(instruct(X, ASM_INC, ASM_KIND_NUM, 1, "", 0) == ASM_MANY);
+    REQUIRE(instruct(X, ASM_INC, ASM_KIND_NUM, 1, "", 1) == ASM_RANGE);
+    REQUIRE(grows(true) == ASM_DONE);
+    gets(X, ASM_KIND_NUM, 4103, "");
+    for (int i = 255; i > 0; i--) {
+        snprintf(place, sizeof place, "['z',%d]", i);
+        REQUIRE(asm_location(TEXT(place), &other) == ASM_DONE);
+        ANSWERS(ASM_DONE, asm_get_at(&agents[0], &step, &other, &value, OUT));
+        ANSWERS(ASM_DONE, asm_get_at(&agents[0], &step, &other, &value, OUT));
+        REQUIRE(is_value(value, ASM_KIND_UNDEF, 0));
+        asm_free(&other);
+    }
+    value = (asm_value){9, 9};
+    ANSWERS(ASM_MANY, asm_get_at(&agents[0], &step, &at[T], &value, OUT));
+    REQUIRE(is_value(value, 0, 0));
+    ANSWERS(ASM_MANY, asm_get(&agents[0], &step, TEXT("[['y']]"), OUT));
+    gets(X, ASM_KIND_NUM, 4103, "");
+    end_all();
+}
+
+/* Each call on three slots of which one holds nothing of its kind, or of which two are one. */
+static void on_nothing(asm_slot *agent, asm_slot *of_step, asm_slot *third) {
+    asm_slot was[3] = {*agent, *of_step, *third};
+    asm_value value = {9, 9};
+    uint32_t number = 9;
+    if (agent != &agents[0] || of_step != &step || third != &at[X])
+        ANSWERS(ASM_EMPTY, asm_get_at(agent, of_step, third, &value, OUT));
+    if (agent != &agents[0] || of_step != &step || third != &move) {
+        ANSWERS(ASM_EMPTY, asm_push_move(agent, of_step, third, OUT));
+        ANSWERS(ASM_EMPTY, asm_extend_move(agent, of_step, third, OUT));
+    }
+    if (agent != &agents[0] || third != &at[X]) {
+        ANSWERS(ASM_EMPTY, asm_peek_at(agent, third, &number, &value, OUT));
+        REQUIRE(number == 0 && is_value(value, 0, 0));
+    }
+    if (agent->full && agent != &move)
+        REQUIRE(asm_instruct(agent, third, ASM_PUT, ASM_KIND_NUM, 1, NULL, 0, 0) == ASM_TAKEN);
+    else if (third != &at[X])
+        REQUIRE(asm_instruct(agent, third, ASM_PUT, ASM_KIND_NUM, 1, NULL, 0, 0) == ASM_EMPTY);
+    if (third->full)
+        REQUIRE(asm_location(TEXT("['x']"), third) == ASM_TAKEN);
+    REQUIRE(is_same(*agent, was[0]) && is_same(*of_step, was[1]) && is_same(*third, was[2]));
+}
+
+static void other_slots(void) {
+    asm_slot empty = {0};
+    uint32_t number = 9;
+    begin_all();
+    does(X, ASM_INC, ASM_KIND_NUM, 1, "", 0);
+    asm_slot *slots[] = {&empty, &storage, &agents[0], &step, &at[X], &move};
+    enum { COUNT = sizeof slots / sizeof *slots };
+    for (size_t i = 0; i < COUNT; i++)
+        for (size_t k = 0; k < COUNT; k++)
+            for (size_t m = 0; m < COUNT; m++)
+                on_nothing(slots[i], slots[k], slots[m]);
+    for (size_t i = 4; i < COUNT; i++) {
+        REQUIRE(asm_begin(&agents[0], slots[i], &number) == ASM_TAKEN && number == 0);
+        REQUIRE(asm_begin(slots[i], &step, &number) == ASM_EMPTY);
+        REQUIRE(asm_give(&storage, slots[i]) == ASM_EMPTY &&
+                asm_give(slots[i], &agents[0]) == ASM_EMPTY);
+        REQUIRE(asm_depth(slots[i]) == 0 && asm_pop(slots[i]) == ASM_EMPTY);
+    }
+    REQUIRE(asm_location(TEXT("['x'"), &empty) == ASM_NOT_JSON && !empty.full);
+    REQUIRE(asm_location(NULL, 0, &empty) == ASM_NOT_JSON && !empty.full);
+    REQUIRE(asm_location(TEXT("[['x']]"), &empty) == ASM_SHAPE && !empty.full);
+    REQUIRE(grows(true) == ASM_DONE);
+    gets(X, ASM_KIND_NUM, 8, "");
+    end_all();
+}
+
+int main(void) {
+    each_kind();
+    each_verb();
+    a_move_stays();
+    what_is_got_is_named();
+    clashes();
+    out_of_range();
+    full();
+    other_slots();
+    puts("passed");
+    return 0;
+}

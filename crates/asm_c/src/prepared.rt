@@ -1,0 +1,22 @@
+//! Preparing locations.
+ghost use Rattle.std.specs.Prelude.{◌≡◌, ◌≢◌, ◌↔◌, ◌∷◌, [], None};
+ghost use Rattle.asm_journal.specs.Element.{IsLocationForm};
+ghost use Rattle.asm_slots.specs.Bytes.{IsNoJson, IsOtherJson, ReadAsLocation};
+ghost use Rattle.asm_slots.specs.Codes.{IsOneOf, ASM_DONE, ASM_MEMORY, ASM_TAKEN, ASM_NOT_JSON, ASM_SHAPE};
+ghost use Rattle.asm_slots.specs.Slots.{HoldsLocation, content_of};
+
+use asm_slots::Slot;
+use std::alloc::Global;
+
+#[unsafe(no_mangle)]
+pub extern "C" fn asm_location(alloc: Global, location: &[u8], at: &mut Slot) -> i32
+    ensures codes { IsOneOf (ASM_DONE ∷ ASM_MEMORY ∷ ASM_TAKEN ∷ ASM_NOT_JSON ∷ ASM_SHAPE ∷ []) result }
+    ensures prepared { result ≡ ASM_DONE → HoldsLocation (content_of at.new) (ReadAsLocation location.now) }
+    ensures empty { result ≡ ASM_DONE → content_of at.old ≡ None }
+    ensures refused { result ≢ ASM_DONE → content_of at.new ≡ content_of at.old }
+    ensures not_json { result ≡ ASM_NOT_JSON → IsNoJson location.now }
+    ensures shape { result ≡ ASM_SHAPE → IsOtherJson IsLocationForm location.now }
+    ensures taken { (result ≡ ASM_TAKEN) ↔ (content_of at.old ≢ None) }
+{
+    asm_slots::prepare(alloc, location, at)
+}

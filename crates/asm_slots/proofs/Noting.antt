@@ -1,0 +1,66 @@
+-- A location that is got besides others.
+use Rattle.std.proofs.Common.{◌≡◌, ◌≤◌, ◌<◌, ◌∙◌, ℕ, zero, suc, true, false, List, [], ◌∷◌, ◌++◌, Contains, Option, None, Some, IsOk, length, get_or, arith, inl, inr, ⊎_elim, refl, subst, sym, ap}
+use Rattle.std.specs.List.{HoldsAt, AllWithin}
+use Rattle.std.specs.List.Retain.{IsFiltered, DiffersFromLast}
+use Rattle.std.specs.List.Sorted.{IsPermutation, IsSorted, IsStrictlySortedBy}
+use Rattle.std.specs.Ordering.{eq_by_cmp}
+use Rattle.std.proofs.lemmas.Bool.{false≢true}
+use Rattle.std.proofs.lemmas.List.Elements.{Contains-append_cases, Contains-append_left}
+use Rattle.asm_element.specs.Place.{Place, location_cmp, location_cmp_total, same_location}
+use Rattle.asm_element.specs.declared.element.Element.{Element}
+use Rattle.std.specs.Cmp.{eq_by_cmp_equiv}
+use Rattle.asm_step.proofs.Agreeing.{each_from}
+use Rattle.asm_step.specs.Places.{AreEach}
+use Rattle.asm_slots.specs.Steps.{IsCopyFor}
+
+-- nothing is got in ascending order
+pub none_ascend : IsStrictlySortedBy location_cmp []
+unfolding IsStrictlySortedBy
+none_ascend = tt
+
+-- one of the list
+only : (l k : Place) → Contains (l ∷ []) k → l ≡ k
+only l k (zero, lt, is) = is
+only l k (suc n, lt, is) = absurd (omega (arith, lt))
+
+-- a location that is there already
+pub each_there : (ls : List Place) (l : Place) → IsStrictlySortedBy location_cmp ls → Contains ls l → AreEach (ls ++ l ∷ []) ls
+each_there ls l ascending there = record {
+  ascending = ascending;
+  same = λ k. (
+    λ has. Contains-append_left ls (l ∷ []) k has,
+    λ has.
+        ⊎_elim (λ first. first) (λ last. subst (Contains ls) (only l k last) there)
+        (Contains-append_cases ls (l ∷ []) k has),
+  );
+}
+
+-- a location that equals one of the list is there
+pub found : (ls : List Place) (l : Place) (k : ℕ) → k < length ls →
+    HoldsAt (λ y. eq_by_cmp location_cmp y l ≡ true) ls k → Contains ls l
+found ls l k lt is = (k, lt, same_location (get_or ls k l) l (is l))
+
+-- a location that equals none of the list isn't there
+pub not_found : (ls : List Place) (l : Place) → AllWithin (λ y. eq_by_cmp location_cmp y l ≡ false) ls 0 (length ls) →
+    ¬ Contains ls l
+not_found ls l none (k, lt, is) =
+    let tied : eq_by_cmp location_cmp l l ≡ true = (eq_by_cmp_equiv location_cmp_total).refl l in
+    let apart : eq_by_cmp location_cmp l l ≡ false =
+    subst (λ (x : Place). eq_by_cmp location_cmp x l ≡ false) is (none k l (omega arith) lt) in
+    absurd (false≢true (sym apart ∙ tied))
+
+-- a copy that is put behind the list, which is sorted then
+pub noted : (old put ordered new : List Place) (l copy : Place) → copy ≡ l → put ≡ old ++ copy ∷ [] → IsPermutation put ordered →
+    IsSorted location_cmp ordered → IsFiltered (DiffersFromLast (eq_by_cmp location_cmp)) [] ordered new →
+    AreEach (old ++ l ∷ []) new
+noted old put ordered new l copy same items moved sorted kept =
+    subst (λ (ls : List Place). AreEach ls new) (items ∙ ap (λ (x : Place). old ++ x ∷ []) same)
+    (each_from put ordered new moved sorted kept)
+
+-- what is noted in a list, to which room was added meanwhile
+pub noted_in : (old mid new : List Place) (l : Place) (copy : Option Place) → mid ≡ old → IsCopyFor old l copy →
+    ((k : Place) → IsCopyFor mid k copy → AreEach (mid ++ k ∷ []) new) → ((k : Place) → IsCopyFor mid k copy → length new ≤ 256) →
+    AreEach (old ++ l ∷ []) new × (length new ≤ 256)
+noted_in old mid new l copy same is each few =
+    let here : IsCopyFor mid l copy = subst (λ (ls : List Place). IsCopyFor ls l copy) (sym same) is in
+    (subst (λ (ls : List Place). AreEach (ls ++ l ∷ []) new) same (each l here), few l here)

@@ -1,0 +1,127 @@
+-- Values by kind, number and bytes, and instructions by numbers.
+use Rattle.std.specs.Prelude.{◌≡◌, ◌≢◌, ◌≤◌, ℕ, ℤ, pos, true, List, [], ◌∷◌, ◌++◌}
+use Rattle.serde_json.specs.Written.{compact_text}
+use Rattle.asm_element.specs.Place.{Place}
+use Rattle.asm_element.specs.declared.element.Element.{Element}
+use Rattle.asm_element.specs.declared.element.Element.TheVariants.{Undef, Bool as Truth, Num, Text, List as Inner}
+use Rattle.asm_element.specs.declared.value.Value.{Value}
+use Rattle.asm_element.specs.declared.value.Value.TheVariants.{Plain, Set, Bag}
+use Rattle.asm_update.specs.Action as action
+use Rattle.asm_update.specs.declared.action.Action.{Action}
+use Rattle.asm_update.specs.declared.action.Action.TheVariants.{Regular, SetAdd, SetRemove, BagAdd, BagRemove, Increment}
+use Rattle.asm_update.specs.Move.{Move}
+use Rattle.asm_journal.specs.Value.{value_json_of}
+
+-- undef
+abbrev pub ASM_KIND_UNDEF : ℤ
+ASM_KIND_UNDEF = pos 0
+
+-- a truth value
+abbrev pub ASM_KIND_BOOL : ℤ
+ASM_KIND_BOOL = pos 1
+
+-- a number
+abbrev pub ASM_KIND_NUM : ℤ
+ASM_KIND_NUM = pos 2
+
+-- a text
+abbrev pub ASM_KIND_TEXT : ℤ
+ASM_KIND_TEXT = pos 3
+
+-- a list
+abbrev pub ASM_KIND_LIST : ℤ
+ASM_KIND_LIST = pos 4
+
+-- a set
+abbrev pub ASM_KIND_SET : ℤ
+ASM_KIND_SET = pos 5
+
+-- a bag
+abbrev pub ASM_KIND_BAG : ℤ
+ASM_KIND_BAG = pos 6
+
+-- the kind of a value
+abbrev pub kind_of : Value → ℤ
+kind_of (Plain Undef) = ASM_KIND_UNDEF
+kind_of (Plain (Truth b)) = ASM_KIND_BOOL
+kind_of (Plain (Num n)) = ASM_KIND_NUM
+kind_of (Plain (Text s)) = ASM_KIND_TEXT
+kind_of (Plain (Inner ds)) = ASM_KIND_LIST
+kind_of (Set s) = ASM_KIND_SET
+kind_of (Bag b) = ASM_KIND_BAG
+
+-- the number of a number, and 1 of true; of anything else 0
+abbrev pub number_of : Value → ℤ
+number_of (Plain (Truth true)) = pos 1
+number_of (Plain (Num n)) = n
+number_of _ = pos 0
+
+-- the bytes of a text, and the JSON of a list, a set or a bag; anything else has none
+abbrev pub bytes_of : Value → List ℕ
+bytes_of (Plain (Text s)) = s
+bytes_of (Plain (Inner ds)) = compact_text (value_json_of (Plain (Inner ds)))
+bytes_of (Set s) = compact_text (value_json_of (Set s))
+bytes_of (Bag b) = compact_text (value_json_of (Bag b))
+bytes_of _ = []
+
+-- kind, number and bytes tell the value
+abbrev pub IsTold : Value → ℤ → ℤ → List ℕ → Type 0
+IsTold v kind number bytes = (kind ≡ kind_of v) × (number ≡ number_of v) × (bytes ≡ bytes_of v)
+
+-- kind, number and bytes tell the element, which is no list
+abbrev pub IsOperand : ℤ → ℤ → List ℕ → Element → Type 0
+IsOperand kind number bytes e = IsTold (Plain e) kind number bytes × (kind ≢ ASM_KIND_LIST)
+
+-- a value is put
+abbrev pub ASM_PUT : ℤ
+ASM_PUT = pos 0
+
+-- an element is added to a set
+abbrev pub ASM_ADD : ℤ
+ASM_ADD = pos 1
+
+-- an element is removed from a set
+abbrev pub ASM_REMOVE : ℤ
+ASM_REMOVE = pos 2
+
+-- so many of an element are added to a bag
+abbrev pub ASM_BAGADD : ℤ
+ASM_BAGADD = pos 3
+
+-- so many of an element are removed from a bag
+abbrev pub ASM_BAGREMOVE : ℤ
+ASM_BAGREMOVE = pos 4
+
+-- a number is added to a counter
+abbrev pub ASM_INC : ℤ
+ASM_INC = pos 5
+
+-- what an action does
+abbrev pub verb_of : Action → ℤ
+verb_of (Regular v) = ASM_PUT
+verb_of (SetAdd e) = ASM_ADD
+verb_of (SetRemove e) = ASM_REMOVE
+verb_of (BagAdd e n) = ASM_BAGADD
+verb_of (BagRemove e n) = ASM_BAGREMOVE
+verb_of (Increment n) = ASM_INC
+
+-- how many are added to a bag or removed from one, 1 or above; 0 of any other action
+abbrev pub IsAmount : Action → ℕ → Type 0
+IsAmount (BagAdd e n) amount = (amount ≡ n) × (1 ≤ n)
+IsAmount (BagRemove e n) amount = (amount ≡ n) × (1 ≤ n)
+IsAmount _ amount = amount ≡ 0
+
+-- the action has this verb and this amount, and is of one element, which kind, number and bytes tell
+abbrev pub IsAction : ℤ → ℤ → ℤ → List ℕ → ℕ → Action → Type 0
+IsAction verb kind number bytes amount a =
+    (verb ≡ verb_of a) × IsAmount a amount
+    × ((e : Element) × (action.content_of a ≡ Plain e) × IsOperand kind number bytes e)
+
+-- no action is meant
+abbrev pub IsNoAction : ℤ → ℤ → ℤ → List ℕ → ℕ → Type 0
+IsNoAction verb kind number bytes amount = (a : Action) → ¬ IsAction verb kind number bytes amount a
+
+-- the move has one instruction more, behind its others: the action that these tell, at the location
+abbrev pub IsInstructed : Place → ℤ → ℤ → ℤ → List ℕ → ℕ → Move → Move → Type 0
+IsInstructed l verb kind number bytes amount old new =
+    (a : Action) × IsAction verb kind number bytes amount a × (new ≡ old ++ record { at = l; action = a } ∷ [])

@@ -1,0 +1,189 @@
+//! What is seen through the pushed moves of a step at a prepared location, which is got.
+ghost use Rattle.std.specs.Prelude.{◌≡◌, ◌≢◌, ◌⊎◌, ◌≤◌, ◌<◌, ◌∷◌, ◌++◌, [], pos, length, Contains};
+ghost use Rattle.std.specs.Prelude.{IfErr, IfOk, IsSome, Some, vec_len};
+ghost use Rattle.std.specs.Vec.{vec_capacity};
+ghost use Rattle.std.specs.List.Sorted.{IsStrictlySortedBy};
+ghost use Rattle.asm_element.specs.Place.{Place, location_cmp};
+ghost use Rattle.asm_step.specs.Places.{AreEach};
+ghost use Rattle.asm_slots.specs.Codes.{IsOneOf, ASM_DONE, ASM_MEMORY, ASM_EMPTY, ASM_SMALL, ASM_MANY, ASM_MOVED};
+ghost use Rattle.asm_slots.specs.Kinds.{IsTold, bytes_of};
+ghost use Rattle.asm_slots.specs.Slots.{HoldBoth, HoldsLocation, HoldsNoLocation, HoldsStep};
+ghost use Rattle.asm_slots.specs.Slots.{GoesStep, LacksOne, content_of};
+ghost use Rattle.asm_slots.specs.Steps.{HasGotOne, IsCopyFor, WouldGetOneMore, seen};
+ghost use Rattle.asm_slots.specs.Written.{IsTooLong, IsWritten};
+
+use crate::codes::{DONE, EMPTY, MANY, MEMORY, MOVED};
+use crate::content::Content;
+use crate::owned_agent::OwnedAgent;
+use crate::owned_step::OwnedStep;
+use crate::prepared::{location_in, put_shell, take_shell};
+use crate::slot::Slot;
+use crate::steps::GetError;
+use crate::take_and_put::{put_both, take_both};
+use crate::value_head::{ValueHead, tell_at};
+use asm_element::Location;
+use std::alloc::Global;
+
+// A copy of the location, unless it is among the others, and room for it among them.
+fn copy_for(
+    alloc: Global,
+    got: &mut Vec<Location>,
+    at: &Location,
+) -> Result<Option<Location>, GetError>
+    ensures kept { got.new.items ≡ got.old.items }
+    ensures copy { IfOk result (IsCopyFor got.old.items at.now) }
+    ensures room { IfOk result (λ copy. IsSome copy → vec_len got.new < vec_capacity got.new) }
+    ensures many { IfErr result (λ e. e ≡ GetError.Many →
+        (256 ≤ length got.old.items) × ¬ Contains got.old.items at.now) }
+{
+    if got.contains(at) {
+        return Ok(None);
+    }
+    if got.len() >= 256 {
+        return Err(GetError::Many);
+    }
+    let copy = at.copy(alloc)?;
+    got.reserve(1)?;
+    Ok(Some(copy))
+}
+
+// Puts the copy, if there is one, in its place among the others.
+fn note(got: &mut Vec<Location>, copy: Option<Location>)
+    requires ascending { IsStrictlySortedBy location_cmp got.old.items }
+    requires few { length got.old.items ≤ 256 }
+    requires room { IsSome copy → vec_len got.old < vec_capacity got.old }
+    ensures noted { (l : Place) → IsCopyFor got.old.items l copy → AreEach (got.old.items ++ l ∷ []) got.new.items }
+    ensures few { (l : Place) → IsCopyFor got.old.items l copy → length got.new.items ≤ 256 }
+{
+    let Some(copy) = copy else {
+        return;
+    };
+    got.push(copy).unwrap();
+    got.sort_unstable();
+    got.dedup();
+}
+
+fn get_one(
+    alloc: Global,
+    agent: &OwnedAgent,
+    step: &mut OwnedStep,
+    at: &Location,
+    value: &mut ValueHead,
+    out: &mut [u8],
+    written: &mut usize,
+) -> i32
+    requires { written.old ≡ 0 }
+    ensures codes { IsOneOf (ASM_DONE ∷ ASM_MEMORY ∷ ASM_SMALL ∷ ASM_MANY ∷ ASM_MOVED ∷ []) result }
+    ensures told { result ≡ ASM_DONE → IsWritten
+        (IsTold (seen agent.now step.old at.now) value.new.kind value.new.number) out.new written.new }
+    ensures got { result ≡ ASM_DONE → HasGotOne at.now step.old step.new }
+    ensures small { result ≡ ASM_SMALL →
+        IsTooLong (λ bytes. bytes ≡ bytes_of (seen agent.now step.old at.now)) (length out.old) written.new }
+    ensures many { result ≡ ASM_MANY → WouldGetOneMore at.now step.old }
+    ensures stays { result ≢ ASM_DONE → step.new ≡ step.old }
+    ensures no_text { IsOneOf (ASM_MEMORY ∷ ASM_MANY ∷ ASM_MOVED ∷ []) result → written.new ≡ 0 }
+    ensures no_value { result ≢ ASM_DONE → value.new ≡ value.old }
+    ensures unwritten { result ≢ ASM_DONE → out.new ≡ out.old }
+{
+    let state = agent.state();
+    if state.number() != step.number {
+        return MOVED;
+    }
+    let copy = match copy_for(alloc, &mut step.got, at) {
+        Ok(copy) => copy,
+        Err(GetError::Many) => return MANY,
+        Err(_) => return MEMORY,
+    };
+    let code = tell_at(alloc, &step.step.over(state), at, value, out, written);
+    if code == DONE {
+        note(&mut step.got, copy);
+    }
+    code
+}
+
+fn get_in_both(
+    alloc: Global,
+    agent: &mut Slot,
+    step: &mut Slot,
+    held: &Content,
+    value: &mut ValueHead,
+    out: &mut [u8],
+    written: &mut usize,
+) -> i32
+    requires { written.old ≡ 0 }
+    ensures codes { IsOneOf (ASM_DONE ∷ ASM_MEMORY ∷ ASM_EMPTY ∷ ASM_SMALL ∷ ASM_MANY ∷ ASM_MOVED ∷ []) result }
+    ensures told { result ≡ ASM_DONE → HoldsLocation (Some held.now)
+        (λ l. HoldBoth (content_of agent.old) (content_of step.old)
+        (λ a s. IsWritten (IsTold (seen a s l) value.new.kind value.new.number) out.new written.new)) }
+    ensures got { result ≡ ASM_DONE → HoldsLocation (Some held.now)
+        (λ l. GoesStep (content_of step.old) (content_of step.new) (HasGotOne l)) }
+    ensures small { result ≡ ASM_SMALL → HoldsLocation (Some held.now)
+        (λ l. HoldBoth (content_of agent.old) (content_of step.old)
+        (λ a s. IsTooLong (λ bytes. bytes ≡ bytes_of (seen a s l)) (length out.old) written.new)) }
+    ensures many { result ≡ ASM_MANY → HoldsLocation (Some held.now)
+        (λ l. HoldsStep (content_of step.old) (WouldGetOneMore l)) }
+    ensures empty { result ≡ ASM_EMPTY →
+        HoldsNoLocation (Some held.now) ⊎ LacksOne (content_of agent.old) (content_of step.old) }
+    ensures kept { content_of agent.new ≡ content_of agent.old }
+    ensures stays { result ≢ ASM_DONE → content_of step.new ≡ content_of step.old }
+    ensures no_text { IsOneOf (ASM_MEMORY ∷ ASM_EMPTY ∷ ASM_MANY ∷ ASM_MOVED ∷ []) result → written.new ≡ 0 }
+    ensures no_value { result ≢ ASM_DONE → value.new ≡ value.old }
+    ensures unwritten { result ≢ ASM_DONE → out.new ≡ out.old }
+{
+    let Some(at) = location_in(held) else {
+        return EMPTY;
+    };
+    let Some(mut both) = take_both(alloc, agent, step) else {
+        return EMPTY;
+    };
+    let code = get_one(alloc, &both.agent, &mut both.step, at, value, out, written);
+    put_both(agent, step, both);
+    code
+}
+
+/// Tells what is seen at the prepared location through the pushed moves. The bytes of a text, and the JSON of a
+/// list, a set or a bag, are written. The location is got, and is named by the commit.
+///
+/// It makes no look and no receipt, and the slots of the agent and the location stay as they were. `ASM_MOVED`: the
+/// agent's own state stands no longer at the step's number. `ASM_MANY`: 256 other locations are got. `ASM_SMALL`:
+/// `written` is the room that the bytes need. `ASM_EMPTY`: the first slot has no agent, the second no step, the
+/// third no location, or two of them are one. `ASM_MEMORY`. After each of these the step's slot is as it was, and
+/// `value` is 0. The step has to be one of the agent's storage.
+pub fn get_at(
+    alloc: Global,
+    agent: &mut Slot,
+    step: &mut Slot,
+    at: &mut Slot,
+    value: &mut ValueHead,
+    out: &mut [u8],
+    written: &mut usize,
+) -> i32
+    ensures codes { IsOneOf (ASM_DONE ∷ ASM_MEMORY ∷ ASM_EMPTY ∷ ASM_SMALL ∷ ASM_MANY ∷ ASM_MOVED ∷ []) result }
+    ensures told { result ≡ ASM_DONE → HoldsLocation (content_of at.old)
+        (λ l. HoldBoth (content_of agent.old) (content_of step.old)
+        (λ a s. IsWritten (IsTold (seen a s l) value.new.kind value.new.number) out.new written.new)) }
+    ensures got { result ≡ ASM_DONE → HoldsLocation (content_of at.old)
+        (λ l. GoesStep (content_of step.old) (content_of step.new) (HasGotOne l)) }
+    ensures small { result ≡ ASM_SMALL → HoldsLocation (content_of at.old)
+        (λ l. HoldBoth (content_of agent.old) (content_of step.old)
+        (λ a s. IsTooLong (λ bytes. bytes ≡ bytes_of (seen a s l)) (length out.old) written.new)) }
+    ensures many { result ≡ ASM_MANY → HoldsLocation (content_of at.old)
+        (λ l. HoldsStep (content_of step.old) (WouldGetOneMore l)) }
+    ensures empty { result ≡ ASM_EMPTY →
+        HoldsNoLocation (content_of at.old) ⊎ LacksOne (content_of agent.old) (content_of step.old) }
+    ensures kept { content_of agent.new ≡ content_of agent.old }
+    ensures held { content_of at.new ≡ content_of at.old }
+    ensures stays { result ≢ ASM_DONE → content_of step.new ≡ content_of step.old }
+    ensures no_text { IsOneOf (ASM_MEMORY ∷ ASM_EMPTY ∷ ASM_MANY ∷ ASM_MOVED ∷ []) result → written.new ≡ 0 }
+    ensures no_value { result ≢ ASM_DONE → (value.new.kind ≡ pos 0) × (value.new.number ≡ pos 0) }
+    ensures unwritten { result ≢ ASM_DONE → out.new ≡ out.old }
+{
+    *written = 0;
+    *value = ValueHead::none();
+    let Some(shell) = take_shell(alloc, at) else {
+        return EMPTY;
+    };
+    let code = get_in_both(alloc, agent, step, &shell, value, out, written);
+    put_shell(at, shell);
+    code
+}

@@ -1,0 +1,172 @@
+//! Moves that are gathered in slots, instruction by instruction.
+ghost use Rattle.std.specs.Prelude.{◌≡◌, ◌≢◌, ◌↔◌, ◌∷◌, ◌++◌, [], IsUtf8, OnErr, OnOk, length};
+ghost use Rattle.asm_element.specs.Place.{Place};
+ghost use Rattle.asm_update.specs.Move.{Move};
+ghost use Rattle.asm_update.specs.declared.action.Action.{Action};
+ghost use Rattle.asm_slots.specs.Codes.{IsOneOf, ASM_DONE, ASM_MEMORY, ASM_EMPTY, ASM_RANGE, ASM_MANY};
+ghost use Rattle.asm_slots.specs.Codes.{ASM_TAKEN, ASM_SHAPE};
+ghost use Rattle.asm_slots.specs.Kinds.{IsAction, IsInstructed, IsNoAction, ASM_KIND_TEXT};
+ghost use Rattle.asm_slots.specs.Slots.{HasRoomForMove, HoldsLocation, HoldsMove, HoldsNoLocation};
+ghost use Rattle.asm_slots.specs.Slots.{content_of, move_of};
+
+use crate::codes::{DONE, EMPTY, MANY, MEMORY, TAKEN};
+use crate::content::Content;
+use crate::operands::action_of;
+use crate::prepared::{location_in, put_shell, take_shell};
+use crate::slot::Slot;
+use crate::take_and_put::{put_move, take_move};
+use asm_element::Location;
+use asm_update::{Action, Instruction, Instructions, InstructionsError};
+use std::alloc::{AllocError, Global};
+
+// Puts the instruction of the action at the location behind the others.
+fn append(alloc: Global, gathered: &mut Instructions, at: &Location, action: Action) -> i32
+    ensures codes { IsOneOf (ASM_DONE ∷ ASM_MEMORY ∷ ASM_MANY ∷ []) result }
+    ensures done { result ≡ ASM_DONE →
+        gathered.new ≡ gathered.old ++ record { at = at.now; action = action } ∷ [] }
+    ensures many { result ≡ ASM_MANY → length gathered.old ≡ 4096 }
+    ensures kept { result ≢ ASM_DONE → gathered.new ≡ gathered.old }
+{
+    let Ok(at) = at.copy(alloc) else {
+        return MEMORY;
+    };
+    match gathered.push(Instruction { at, action }) {
+        Ok(()) => DONE,
+        Err(InstructionsError::ManyInstructions) => MANY,
+        Err(InstructionsError::Memory) => MEMORY,
+    }
+}
+
+fn instruct_at(
+    alloc: Global,
+    gathered: &mut Instructions,
+    at: &Location,
+    verb: i32,
+    kind: i32,
+    number: i64,
+    bytes: &[u8],
+    amount: u32,
+) -> i32
+    ensures codes { IsOneOf (ASM_DONE ∷ ASM_MEMORY ∷ ASM_RANGE ∷ ASM_MANY ∷ ASM_SHAPE ∷ []) result }
+    ensures done { result ≡ ASM_DONE →
+        IsInstructed at.now verb kind number bytes.now amount gathered.old gathered.new }
+    ensures range { result ≡ ASM_RANGE → IsNoAction verb kind number bytes.now amount }
+    ensures shape { result ≡ ASM_SHAPE → (kind ≡ ASM_KIND_TEXT) × ¬ IsUtf8 bytes.now }
+    ensures many { result ≡ ASM_MANY → length gathered.old ≡ 4096 }
+    ensures kept { result ≢ ASM_DONE → gathered.new ≡ gathered.old }
+{
+    match action_of(alloc, verb, kind, number, bytes, amount) {
+        Ok(action) => append(alloc, gathered, at, action),
+        Err(code) => code,
+    }
+}
+
+fn instruct_in(
+    alloc: Global,
+    gathered: &mut Instructions,
+    at: &mut Slot,
+    verb: i32,
+    kind: i32,
+    number: i64,
+    bytes: &[u8],
+    amount: u32,
+) -> i32
+    ensures codes { IsOneOf (ASM_DONE ∷ ASM_MEMORY ∷ ASM_EMPTY ∷ ASM_RANGE ∷ ASM_MANY ∷ ASM_SHAPE ∷ []) result }
+    ensures done { result ≡ ASM_DONE → HoldsLocation (content_of at.old)
+        (λ l. IsInstructed l verb kind number bytes.now amount gathered.old gathered.new) }
+    ensures empty { result ≡ ASM_EMPTY → HoldsNoLocation (content_of at.old) }
+    ensures range { result ≡ ASM_RANGE → IsNoAction verb kind number bytes.now amount }
+    ensures shape { result ≡ ASM_SHAPE → (kind ≡ ASM_KIND_TEXT) × ¬ IsUtf8 bytes.now }
+    ensures many { result ≡ ASM_MANY → length gathered.old ≡ 4096 }
+    ensures kept { result ≢ ASM_DONE → gathered.new ≡ gathered.old }
+    ensures held { content_of at.new ≡ content_of at.old }
+{
+    let Some(shell) = take_shell(alloc, at) else {
+        return EMPTY;
+    };
+    let code = match location_in(&shell) {
+        Some(at) => instruct_at(alloc, gathered, at, verb, kind, number, bytes, amount),
+        None => EMPTY,
+    };
+    put_shell(at, shell);
+    code
+}
+
+// Puts the move into an empty slot.
+fn hold(alloc: Global, slot: &mut Slot, gathered: Instructions) -> Result<(), AllocError>
+    ensures held { OnOk result (HoldsMove (content_of slot.new) (λ M. M ≡ gathered)) }
+    ensures kept { OnErr result (content_of slot.new ≡ content_of slot.old) }
+{
+    let made = Box::new(alloc, Content::Move(gathered))?;
+    *slot = Slot::holding(made);
+    Ok(())
+}
+
+fn instruct_first(
+    alloc: Global,
+    instrs: &mut Slot,
+    at: &mut Slot,
+    verb: i32,
+    kind: i32,
+    number: i64,
+    bytes: &[u8],
+    amount: u32,
+) -> i32
+    ensures codes { IsOneOf (ASM_DONE ∷ ASM_MEMORY ∷ ASM_EMPTY ∷ ASM_RANGE ∷ ASM_SHAPE ∷ []) result }
+    ensures done { result ≡ ASM_DONE → HoldsLocation (content_of at.old) (λ l. HoldsMove (content_of instrs.new)
+        (IsInstructed l verb kind number bytes.now amount [])) }
+    ensures empty { result ≡ ASM_EMPTY → HoldsNoLocation (content_of at.old) }
+    ensures range { result ≡ ASM_RANGE → IsNoAction verb kind number bytes.now amount }
+    ensures shape { result ≡ ASM_SHAPE → (kind ≡ ASM_KIND_TEXT) × ¬ IsUtf8 bytes.now }
+    ensures kept { result ≢ ASM_DONE → content_of instrs.new ≡ content_of instrs.old }
+    ensures held { content_of at.new ≡ content_of at.old }
+{
+    let mut gathered = Instructions::new(alloc);
+    let code = instruct_in(alloc, &mut gathered, at, verb, kind, number, bytes, amount);
+    if code != DONE {
+        return code;
+    }
+    match hold(alloc, instrs, gathered) {
+        Ok(()) => DONE,
+        Err(AllocError) => MEMORY,
+    }
+}
+
+/// Puts an instruction at the prepared location behind those of the move in a slot; an empty slot holds the move of
+/// this instruction then.
+///
+/// The operand is an element but a list, which kind, number and bytes tell. `ASM_TAKEN`: the first slot holds
+/// something else than a move. `ASM_EMPTY`: the second has no location, or the two are one. `ASM_RANGE`: there is no
+/// such verb, no such operand of it, or no such amount. `ASM_SHAPE`: the bytes of a text aren't UTF-8. `ASM_MANY`:
+/// the move has 4,096 instructions. `ASM_MEMORY`. After each of these both slots are as they were.
+pub fn instruct(
+    alloc: Global,
+    instrs: &mut Slot,
+    at: &mut Slot,
+    verb: i32,
+    kind: i32,
+    number: i64,
+    bytes: &[u8],
+    amount: u32,
+) -> i32
+    ensures codes { IsOneOf (ASM_DONE ∷ ASM_MEMORY ∷ ASM_EMPTY ∷ ASM_RANGE ∷ ASM_MANY ∷ ASM_TAKEN ∷ ASM_SHAPE ∷ []) result }
+    ensures done { result ≡ ASM_DONE → HoldsLocation (content_of at.old) (λ l. HoldsMove (content_of instrs.new)
+        (IsInstructed l verb kind number bytes.now amount (move_of (content_of instrs.old)))) }
+    ensures taken { (result ≡ ASM_TAKEN) ↔ ¬ HasRoomForMove (content_of instrs.old) }
+    ensures empty { result ≡ ASM_EMPTY → HoldsNoLocation (content_of at.old) }
+    ensures range { result ≡ ASM_RANGE → IsNoAction verb kind number bytes.now amount }
+    ensures shape { result ≡ ASM_SHAPE → (kind ≡ ASM_KIND_TEXT) × ¬ IsUtf8 bytes.now }
+    ensures many { result ≡ ASM_MANY → length (move_of (content_of instrs.old)) ≡ 4096 }
+    ensures kept { result ≢ ASM_DONE → content_of instrs.new ≡ content_of instrs.old }
+    ensures held { content_of at.new ≡ content_of at.old }
+{
+    if !instrs.is_full() {
+        return instruct_first(alloc, instrs, at, verb, kind, number, bytes, amount);
+    }
+    let Some((shell, mut gathered)) = take_move(alloc, instrs) else {
+        return TAKEN;
+    };
+    let code = instruct_in(alloc, &mut gathered, at, verb, kind, number, bytes, amount);
+    put_move(instrs, shell, gathered);
+    code
+}

@@ -1,0 +1,179 @@
+//! Values told by kind, number and bytes.
+ghost use Rattle.std.specs.Prelude.{◌≡◌, ◌≢◌, ◌⊎◌, ◌∷◌, [], pos, IfNone, IfOk, IfSome, length, string_bytes};
+ghost use Rattle.serde_json.specs.Written.{compact_text};
+ghost use Rattle.asm_element.specs.declared.value.Value.TheVariants as values;
+ghost use Rattle.asm_journal.specs.Value.{value_json_of};
+ghost use Rattle.asm_slots.specs.Codes.{IsOneOf, ASM_DONE, ASM_MEMORY, ASM_SMALL};
+ghost use Rattle.asm_slots.specs.Kinds.{IsTold, bytes_of, kind_of, number_of};
+ghost use Rattle.asm_slots.specs.Written.{IsTooLong, IsWritten};
+
+use crate::codes::{DONE, MEMORY, copied};
+use asm_element::{Element, Location, Value};
+use asm_journal::value_json;
+use asm_update::Lookup;
+use std::alloc::{AllocError, Global};
+
+pub(crate) const UNDEF: i32 = 0;
+
+pub(crate) const BOOL: i32 = 1;
+
+pub(crate) const NUM: i32 = 2;
+
+pub(crate) const TEXT: i32 = 3;
+
+const LIST: i32 = 4;
+
+const SET: i32 = 5;
+
+const BAG: i32 = 6;
+
+/// A value but for its bytes: what it is, with its number where it is a number, or 1 where it is true.
+#[repr(C)]
+#[derive(Drop)]
+pub struct ValueHead {
+    /// What the value is.
+    pub kind: i32,
+    /// The number, 1 for true, and 0 for any other value.
+    pub number: i64,
+}
+
+impl ValueHead {
+    pub(crate) fn none() -> ValueHead
+        ensures kind { result.kind ≡ pos 0 }
+        ensures number { result.number ≡ pos 0 }
+    {
+        ValueHead { kind: 0, number: 0 }
+    }
+
+    fn of_element(element: &Element) -> ValueHead
+        ensures kind { result.kind ≡ kind_of (values.Plain element.now) }
+        ensures number { result.number ≡ number_of (values.Plain element.now) }
+    {
+        let (kind, number) = match element {
+            Element::Undef => (UNDEF, 0),
+            Element::Bool(truth) => (BOOL, *truth as i64),
+            Element::Num(number) => (NUM, *number),
+            Element::Text(_) => (TEXT, 0),
+            Element::List(_) => (LIST, 0),
+        };
+        ValueHead { kind, number }
+    }
+
+    fn of(value: &Value) -> ValueHead
+        ensures kind { result.kind ≡ kind_of value.now }
+        ensures number { result.number ≡ number_of value.now }
+    {
+        match value {
+            Value::Plain(element) => ValueHead::of_element(element),
+            Value::Set(_) => ValueHead {
+                kind: SET,
+                number: 0,
+            },
+            Value::Bag(_) => ValueHead {
+                kind: BAG,
+                number: 0,
+            },
+        }
+    }
+}
+
+// The bytes of an element but a list.
+fn bytes_of_element(element: &Element) -> Option<&[u8]>
+    ensures some { IfSome result (λ bytes. bytes.now ≡ bytes_of (values.Plain element.now)) }
+    ensures none { IfNone result (bytes_of (values.Plain element.now)
+        ≡ compact_text (value_json_of (values.Plain element.now))) }
+{
+    match element {
+        Element::Text(text) => Some(text.as_str().as_bytes()),
+        Element::List(_) => None,
+        _ => Some(&[]),
+    }
+}
+
+// The bytes of the value where they lie in it; its JSON has to be written where they don't.
+fn bytes_in(value: &Value) -> Option<&[u8]>
+    ensures some { IfSome result (λ bytes. bytes.now ≡ bytes_of value.now) }
+    ensures none { IfNone result (bytes_of value.now ≡ compact_text (value_json_of value.now)) }
+{
+    match value {
+        Value::Plain(element) => bytes_of_element(element),
+        Value::Set(_) | Value::Bag(_) => None,
+    }
+}
+
+fn json_text(alloc: Global, value: &Value) -> Result<String, AllocError>
+    ensures { IfOk result (λ text. string_bytes text ≡ compact_text (value_json_of value.now)) }
+{
+    value_json(alloc, value)?.to_string(alloc)
+}
+
+// Writes the bytes of the value.
+fn write_bytes(alloc: Global, value: &Value, out: &mut [u8], written: &mut usize) -> i32
+    requires { written.old ≡ 0 }
+    ensures codes { IsOneOf (ASM_DONE ∷ ASM_MEMORY ∷ ASM_SMALL ∷ []) result }
+    ensures told { result ≡ ASM_DONE → IsWritten (λ bytes. bytes ≡ bytes_of value.now) out.new written.new }
+    ensures small { result ≡ ASM_SMALL →
+        IsTooLong (λ bytes. bytes ≡ bytes_of value.now) (length out.old) written.new }
+    ensures no_text { result ≡ ASM_MEMORY → written.new ≡ 0 }
+    ensures unwritten { result ≢ ASM_DONE → out.new ≡ out.old }
+{
+    if let Some(bytes) = bytes_in(value) {
+        return copied(bytes, out, written);
+    }
+    match json_text(alloc, value) {
+        Ok(text) => copied(text.as_bytes(), out, written),
+        Err(AllocError) => MEMORY,
+    }
+}
+
+fn tell_value(
+    alloc: Global,
+    value: &Value,
+    head: &mut ValueHead,
+    out: &mut [u8],
+    written: &mut usize,
+) -> i32
+    requires { written.old ≡ 0 }
+    ensures codes { IsOneOf (ASM_DONE ∷ ASM_MEMORY ∷ ASM_SMALL ∷ []) result }
+    ensures told { result ≡ ASM_DONE →
+        IsWritten (IsTold value.now head.new.kind head.new.number) out.new written.new }
+    ensures small { result ≡ ASM_SMALL →
+        IsTooLong (λ bytes. bytes ≡ bytes_of value.now) (length out.old) written.new }
+    ensures no_text { result ≡ ASM_MEMORY → written.new ≡ 0 }
+    ensures no_value { result ≢ ASM_DONE → head.new ≡ head.old }
+    ensures unwritten { result ≢ ASM_DONE → out.new ≡ out.old }
+{
+    let code = write_bytes(alloc, value, out, written);
+    if code == DONE {
+        *head = ValueHead::of(value);
+    }
+    code
+}
+
+/// Tells the value that is seen at the location, undef where there is none.
+pub(crate) fn tell_at<L: Lookup>(
+    alloc: Global,
+    seen: &L,
+    at: &Location,
+    head: &mut ValueHead,
+    out: &mut [u8],
+    written: &mut usize,
+) -> i32
+    requires { written.old ≡ 0 }
+    ensures codes { IsOneOf (ASM_DONE ∷ ASM_MEMORY ∷ ASM_SMALL ∷ []) result }
+    ensures told { result ≡ ASM_DONE → IsWritten
+        (IsTold (L.value_at seen.now at.now) head.new.kind head.new.number) out.new written.new }
+    ensures small { result ≡ ASM_SMALL →
+        IsTooLong (λ bytes. bytes ≡ bytes_of (L.value_at seen.now at.now)) (length out.old) written.new }
+    ensures no_text { result ≡ ASM_MEMORY → written.new ≡ 0 }
+    ensures no_value { result ≢ ASM_DONE → head.new ≡ head.old }
+    ensures unwritten { result ≢ ASM_DONE → out.new ≡ out.old }
+{
+    match seen.get(at) {
+        Some(value) => tell_value(alloc, value, head, out, written),
+        None => {
+            *head = ValueHead::none();
+            DONE
+        }
+    }
+}
