@@ -204,7 +204,7 @@ fn first_wrong(alloc: Global, rows: &[Row]) -> Option<usize> {
 
 #[test]
 fn a_step_without_text_is_one_move(rt: HostRuntime) {
-    assert!(rt; first_wrong(rt.alloc(), &STEP) == None);
+    assert_eq!(rt; first_wrong(rt.alloc(), &STEP), None);
 }
 
 #[test]

@@ -135,6 +135,22 @@ IsRefused way M a s code text = (e : StepError) × IsPushError way M a s e × Te
 abbrev pub IsNotGrown : Way → List ℕ → AgentAt Standard → StepView → ℤ → List ℕ → Type 0
 IsNotGrown way bytes a s code text = (M : Move) × ReadAsMove bytes M × IsRefused way M a s code text
 
+-- the move is pushed
+abbrev pub IsPushed : Move → AgentAt Standard → StepView → StepView → Type 0
+IsPushed = IsGrown ways.Push
+
+-- code and text tell why the move isn't pushed
+abbrev pub IsPushRefused : Move → AgentAt Standard → StepView → ℤ → List ℕ → Type 0
+IsPushRefused = IsRefused ways.Push
+
+-- the move extends the one that was pushed last
+abbrev pub IsExtended : Move → AgentAt Standard → StepView → StepView → Type 0
+IsExtended = IsGrown ways.Extend
+
+-- code and text tell why the move doesn't extend the one that was pushed last
+abbrev pub IsExtensionRefused : Move → AgentAt Standard → StepView → ℤ → List ℕ → Type 0
+IsExtensionRefused = IsRefused ways.Extend
+
 -- the bytes are JSON of a move, which is pushed
 abbrev pub HasPushed : List ℕ → AgentAt Standard → StepView → StepView → Type 0
 HasPushed = HasGrown ways.Push

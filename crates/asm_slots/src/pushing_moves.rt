@@ -3,9 +3,9 @@ ghost use Rattle.std.specs.Prelude.{◌≡◌, ◌≢◌, ◌⊎◌, ◌∷◌, 
 ghost use Rattle.asm_slots.specs.Codes.{IsOneOf, ASM_DONE, ASM_CLASH, ASM_MEMORY, ASM_EMPTY, ASM_SMALL};
 ghost use Rattle.asm_slots.specs.Codes.{ASM_MANY, ASM_LARGE, ASM_MOVED, ASM_DEEP};
 ghost use Rattle.asm_slots.specs.Slots.{HoldBoth, HoldsMove, HoldsNoMove, HoldsStep, LacksOne, content_of};
-ghost use Rattle.asm_slots.specs.Steps.{IsGrown, IsRefused};
+ghost use Rattle.asm_slots.specs.Steps.{IsExtended, IsExtensionRefused, IsGrown, IsPushRefused};
+ghost use Rattle.asm_slots.specs.Steps.{IsPushed, IsRefused};
 ghost use Rattle.asm_slots.specs.Written.{IsTooLong, IsWritten};
-ghost use Rattle.asm_slots.specs.declared.owned_step.Way.TheVariants as ways;
 
 use crate::codes::EMPTY;
 use crate::content::Content;
@@ -81,13 +81,13 @@ pub fn push_move(
         ∷ ASM_LARGE ∷ ASM_MOVED ∷ ASM_DEEP ∷ []) result }
     ensures grown { result ≡ ASM_DONE → HoldsMove (content_of instrs.old)
         (λ M. HoldBoth (content_of agent.old) (content_of step.old)
-        (λ a s. HoldsStep (content_of step.new) (IsGrown ways.Push M a s))) }
+        (λ a s. HoldsStep (content_of step.new) (IsPushed M a s))) }
     ensures told { IsOneOf (ASM_CLASH ∷ ASM_MANY ∷ ASM_LARGE ∷ ASM_DEEP ∷ []) result →
         HoldsMove (content_of instrs.old) (λ M. HoldBoth (content_of agent.old) (content_of step.old)
-        (λ a s. IsWritten (IsRefused ways.Push M a s result) out.new written.new)) }
+        (λ a s. IsWritten (IsPushRefused M a s result) out.new written.new)) }
     ensures small { result ≡ ASM_SMALL → HoldsMove (content_of instrs.old)
         (λ M. HoldBoth (content_of agent.old) (content_of step.old)
-        (λ a s. IsTooLong (λ text. (code : ℤ) × IsRefused ways.Push M a s code text) (length out.old) written.new)) }
+        (λ a s. IsTooLong (λ text. (code : ℤ) × IsPushRefused M a s code text) (length out.old) written.new)) }
     ensures empty { result ≡ ASM_EMPTY →
         HoldsNoMove (content_of instrs.old) ⊎ LacksOne (content_of agent.old) (content_of step.old) }
     ensures kept { content_of agent.new ≡ content_of agent.old }
@@ -122,13 +122,13 @@ pub fn extend_move(
         ∷ ASM_LARGE ∷ ASM_MOVED ∷ []) result }
     ensures grown { result ≡ ASM_DONE → HoldsMove (content_of instrs.old)
         (λ M. HoldBoth (content_of agent.old) (content_of step.old)
-        (λ a s. HoldsStep (content_of step.new) (IsGrown ways.Extend M a s))) }
+        (λ a s. HoldsStep (content_of step.new) (IsExtended M a s))) }
     ensures told { IsOneOf (ASM_CLASH ∷ ASM_MANY ∷ ASM_LARGE ∷ []) result →
         HoldsMove (content_of instrs.old) (λ M. HoldBoth (content_of agent.old) (content_of step.old)
-        (λ a s. IsWritten (IsRefused ways.Extend M a s result) out.new written.new)) }
+        (λ a s. IsWritten (IsExtensionRefused M a s result) out.new written.new)) }
     ensures small { result ≡ ASM_SMALL → HoldsMove (content_of instrs.old)
         (λ M. HoldBoth (content_of agent.old) (content_of step.old)
-        (λ a s. IsTooLong (λ text. (code : ℤ) × IsRefused ways.Extend M a s code text) (length out.old) written.new)) }
+        (λ a s. IsTooLong (λ text. (code : ℤ) × IsExtensionRefused M a s code text) (length out.old) written.new)) }
     ensures empty { result ≡ ASM_EMPTY →
         HoldsNoMove (content_of instrs.old) ⊎ LacksOne (content_of agent.old) (content_of step.old) }
     ensures kept { content_of agent.new ≡ content_of agent.old }
