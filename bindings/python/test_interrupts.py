@@ -1,11 +1,12 @@
 """Tests of calls that signal handlers and finalizers make in the midst of others: python3 test.py runs them too."""
 import signal
+import sys
 import time
 import unittest
 from collections.abc import Callable
 from unittest import mock
 
-from folugben import Nested, Storage, _agent
+from folugben import Full, Location, Move, Nested, Storage, _agent
 from threads import in_threads
 
 
@@ -79,6 +80,63 @@ class Interrupts(unittest.TestCase):
         self.interrupted(handler, work)
         self.assert_fit()
         self.assertEqual(in_threads(lambda _: other.learn(self.agent), 1), ([], True))
+
+    def test_a_handler_that_raises_amid_a_step_leaves_all_fit_for_use(self):
+        ready, raised, full = False, 0, 0
+
+        def handler():
+            nonlocal ready
+            if ready:
+                ready = False
+                raise Alarm
+
+        def step(own):
+            with agent.step() as step:
+                step.push(move.clear().put(at, step.get(at)).put(at, agent.peek(at)[1]))
+                try:
+                    step.try_fire()
+                except Full:
+                    return 1
+            return 0
+
+        def work():
+            nonlocal ready, raised, full
+            try:
+                ready = True
+                full += step(0)
+                ready = False
+            except Alarm:
+                raised += 1
+            return raised > 300 and full > 0
+
+        storage, at, move = Storage([[["own"], 1]], 1), Location(["own"]), Move()
+        agent = storage.agent(0)
+        # A step that is dropped may be interrupted too, and what its finalizer raises is told to nobody.
+        with mock.patch.object(sys, "unraisablehook", lambda _: None):
+            self.interrupted(handler, work)
+        self.assertEqual(in_threads(step, 1), ([], True))
+        self.assertEqual((step(0), len(move), agent.seen), (1, 2, 1))
+        self.assert_fit()
+
+    def test_a_handler_takes_no_value_of_the_call_that_it_interrupts(self):
+        refused, answered = [], []
+        own, other, step, move = Location(["own"]), Location(["other"]), self.agent.step(), Move()
+
+        def handler():
+            for call in (lambda: step.get(other), lambda: self.agent.peek(other)[1], lambda: len(move.clear().put(other, 3))):
+                try:
+                    answered.append(call())
+                except Nested as error:
+                    refused.append(error)
+
+        def work():
+            self.assertEqual(step.get(own), 1)
+            self.assertEqual(self.agent.peek(own), (0, 1))
+            return len(refused) > 100 and len(answered) > 10
+
+        self.interrupted(handler, work)
+        self.assertLessEqual(set(answered), {1, 2})
+        self.assert_fit()
 
     def test_no_call_comes_between_a_read_and_its_answer(self):
         answer, other, dropped = _agent.lib.asm_answer, self.storage.agent(1), [self.storage.agent(2)]

@@ -269,7 +269,7 @@ class Steps(unittest.TestCase):
         # No step of the agent's own storage leads to it, so the library's answer is made up.
         def push(agent, step, move, size, out, room, written):
             out[:17] = b'{"large":["bag"]}'
-            written.value = 17
+            written._obj.value = 17
             return folugben.LARGE
 
         with self.agent.step() as step, mock.patch.object(_step.lib, "asm_push", push):

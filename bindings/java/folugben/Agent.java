@@ -1,7 +1,5 @@
 package folugben;
 
-import com.sun.jna.Memory;
-
 import java.util.List;
 import java.util.Objects;
 import java.util.SortedMap;
@@ -15,9 +13,10 @@ import java.util.SortedMap;
 public final class Agent implements AutoCloseable {
     private static final Object LEARNING = new Object();
 
-    /** The agent's slot, and the lock of the calls on it. */
-    final Memory slot = Calls.slot();
+    /** The agent's slot, and the lock of the calls on it and on its steps. */
+    final AgentSlot slot = new AgentSlot();
 
+    private final Room room = slot.room;
     private final Storage storage;
 
     Agent(Storage storage) {
@@ -79,8 +78,9 @@ public final class Agent implements AutoCloseable {
     public String read(String locations) {
         byte[] call = Texts.utf8(locations, "locations");
         synchronized (slot) {
-            FolugbenException.expectRead(
-                    Calls.asm_read(slot, call, call.length), Storage.Form.LOCATIONS, call);
+            int code = room.make(call,
+                    (text, out, length, written) -> Calls.asm_read(slot.at, text, call.length));
+            FolugbenException.expectRead(code, Storage.Form.LOCATIONS, call);
             return answer();
         }
     }
@@ -113,24 +113,28 @@ public final class Agent implements AutoCloseable {
     public Reply fire(String instructions, String reads) {
         byte[] call = Texts.utf8("{\"fire\":" + Texts.oneValue(instructions, "instructions")
                         + ",\"reads\":" + Texts.oneValue(reads, "reads") + "}", "the move");
-        int[] numbers = new int[3];
         synchronized (slot) {
-            int code = Calls.asm_try_fire(slot, call, call.length, numbers);
+            int code = room.make(call,
+                    (text, out, length, written)
+                            -> Calls.asm_try_fire(slot.at, text, call.length, room.numbers()));
             if (code == FolugbenException.NOT_JSON || code == FolugbenException.SHAPE)
                 FolugbenException.expectRead(code, Storage.Form.MOVE, call);
-            return reply(code, numbers);
+            return reply(code);
         }
     }
 
     /** What became of a fire with this code, on which the agent's lock is still held. */
-    Reply reply(int code, int[] numbers) {
+    Reply reply(int code) {
+        int move = room.number(0);
+        int from = room.number(1);
+        int to = room.number(2);
         String answer = null;
         switch (code) {
             case FolugbenException.STALE, FolugbenException.CLASH -> answer = answer();
             case FolugbenException.FULL, FolugbenException.BUSY -> {}
             default -> FolugbenException.expect(code);
         }
-        return new Reply(code, numbers[0], numbers[1], numbers[2], answer);
+        return new Reply(code, move, from, to, answer);
     }
 
     /**
@@ -149,11 +153,10 @@ public final class Agent implements AutoCloseable {
      * receipt is made: a look isn't in the journal.
      */
     public int follow() {
-        int[] number = new int[1];
         synchronized (slot) {
-            FolugbenException.expect(Calls.asm_follow(slot, number));
+            FolugbenException.expect(Calls.asm_follow(slot.at, room.numbers()));
+            return room.number(0);
         }
-        return number[0];
     }
 
     /**
@@ -164,10 +167,10 @@ public final class Agent implements AutoCloseable {
     public String peek(String locations) {
         byte[] call = Texts.utf8(locations, "locations");
         synchronized (slot) {
-            Calls.Told told = Calls.told(
-                    (out, room, written)
-                            -> Calls.asm_peek(slot, call, call.length, out, room, written),
-                    Calls.ROOM);
+            Calls.Told told = room.told(call,
+                    (text, out, length, written)
+                            -> Calls.asm_peek(
+                                    slot.at, text, call.length, out, length, written));
             FolugbenException.expectRead(told.code(), Storage.Form.LOCATIONS, call);
             return told.text();
         }
@@ -178,14 +181,47 @@ public final class Agent implements AutoCloseable {
         return JsonReader.reading(peek(JsonWriter.locations(locations)), locations);
     }
 
+    /** The value of a prepared location after so many moves. */
+    public record Peeked(int number, Value value) {}
+
+    /** The same of a prepared location. */
+    public Peeked peek(PreparedLocation location) {
+        synchronized (slot) {
+            look(location);
+            return new Peeked(room.number(0), room.told());
+        }
+    }
+
+    /**
+     * The number there, of which no object is made.
+     *
+     * @throws IllegalStateException if the value is no number
+     */
+    public long peekNumber(PreparedLocation location) {
+        synchronized (slot) {
+            look(location);
+            return room.kind() == Room.NUM ? room.number() : room.told().asLong();
+        }
+    }
+
+    private void look(PreparedLocation location) {
+        Objects.requireNonNull(location, "location");
+        synchronized (location.slot) {
+            location.expect(room.make(
+                    (text, out, length, written)
+                            -> Calls.asm_peek_at(slot.at, location.slot.at, room.numbers(),
+                                    room.value(), out, length, written)));
+        }
+    }
+
     /** The agent's own state, in ascending order of locations, without a look or a receipt. */
     public State state() {
-        int[] number = new int[1];
         synchronized (slot) {
-            String pairs = Calls.text((out, room, written)
-                                              -> Calls.asm_state(slot, number, out, room, written),
-                    Calls.ROOM);
-            return new State(number[0], pairs);
+            Calls.Told told = room.told(
+                    (text, out, length, written)
+                            -> Calls.asm_state(slot.at, room.numbers(), out, length, written));
+            FolugbenException.expect(told.code());
+            return new State(room.number(0), told.text());
         }
     }
 
@@ -195,14 +231,13 @@ public final class Agent implements AutoCloseable {
      */
     public State scan(String name) {
         byte[] bytes = Texts.utf8(name, "name");
-        int[] number = new int[1];
         synchronized (slot) {
-            String pairs = Calls.text(
-                    (out, room, written)
-                            -> Calls.asm_scan(
-                                    slot, bytes, bytes.length, number, out, room, written),
-                    Calls.ROOM);
-            return new State(number[0], pairs);
+            Calls.Told told = room.told(bytes,
+                    (text, out, length, written)
+                            -> Calls.asm_scan(slot.at, text, bytes.length, room.numbers(), out,
+                                    length, written));
+            FolugbenException.expect(told.code());
+            return new State(room.number(0), told.text());
         }
     }
 
@@ -214,10 +249,10 @@ public final class Agent implements AutoCloseable {
     public Reply stands(String reads) {
         byte[] call = Texts.utf8(reads, "reads");
         synchronized (slot) {
-            Calls.Told told = Calls.told(
-                    (out, room, written)
-                            -> Calls.asm_stands(slot, call, call.length, out, room, written),
-                    Calls.ROOM);
+            Calls.Told told = room.told(call,
+                    (text, out, length, written)
+                            -> Calls.asm_stands(
+                                    slot.at, text, call.length, out, length, written));
             if (told.code() == FolugbenException.STALE)
                 return new Reply(told.code(), 0, 0, 0, told.text());
             FolugbenException.expectReads(told.code(), reads);
@@ -237,8 +272,11 @@ public final class Agent implements AutoCloseable {
     /** The answer to the last answered call, of whichever thread. */
     public String answer() {
         synchronized (slot) {
-            return Calls.text(
-                    (out, room, written) -> Calls.asm_answer(slot, out, room, written), Calls.ROOM);
+            Calls.Told told = room.told(
+                    (text, out, length, written)
+                            -> Calls.asm_answer(slot.at, out, length, written));
+            FolugbenException.expect(told.code());
+            return told.text();
         }
     }
 
@@ -250,7 +288,7 @@ public final class Agent implements AutoCloseable {
         synchronized (LEARNING) {
             synchronized (slot) {
                 synchronized (other.slot) {
-                    FolugbenException.expect(Calls.asm_learn(slot, other.slot));
+                    FolugbenException.expect(Calls.asm_learn(slot.at, other.slot.at));
                 }
             }
         }
@@ -259,21 +297,21 @@ public final class Agent implements AutoCloseable {
     /** How many moves it has seen. */
     public int seen() {
         synchronized (slot) {
-            return Calls.asm_seen(slot);
+            return Calls.asm_seen(slot.at);
         }
     }
 
     /** How many moves it fired. */
     public int won() {
         synchronized (slot) {
-            return Calls.asm_won(slot);
+            return Calls.asm_won(slot.at);
         }
     }
 
     /** How many of its looks found no further move. */
     public long misses() {
         synchronized (slot) {
-            return Calls.asm_misses(slot);
+            return Calls.asm_misses(slot.at);
         }
     }
 
@@ -289,7 +327,7 @@ public final class Agent implements AutoCloseable {
     @Override
     public void close() {
         synchronized (slot) {
-            Calls.asm_free(slot);
+            Calls.asm_free(slot.at);
         }
     }
 }

@@ -1,12 +1,14 @@
 package folugben;
 
-import com.sun.jna.Memory;
 import com.sun.jna.Native;
-import com.sun.jna.Pointer;
 
 import java.nio.charset.StandardCharsets;
 
-/** The calls of include/folugben.h. A slot is 16 bytes of memory, and a size_t a long. */
+/**
+ * The calls of include/folugben.h. A slot is passed as its address, by one who holds its lock, and
+ * so are bytes and numbers in a {@link Room}, as an engine makes these calls at each step: JNA
+ * takes longer for an object, and makes a copy of an array. A size_t is a long.
+ */
 final class Calls {
     /** The version of the library that these classes were written for. */
     static final int WRITTEN_FOR = 2000;
@@ -30,69 +32,88 @@ final class Calls {
 
     static native int asm_error_text(int code, byte[] out, long room, long[] written);
 
-    static native int asm_open(byte[] init, long len, int capacity, Pointer storage);
+    static native int asm_open(byte[] init, long len, int capacity, long storage);
 
-    static native int asm_agent(Pointer storage, int number, Pointer agent);
+    static native int asm_agent(long storage, int number, long agent);
 
-    static native int asm_read(Pointer agent, byte[] locations, long len);
+    static native int asm_read(long agent, long locations, long len);
 
-    static native int asm_try_fire(Pointer agent, byte[] call, long len, int[] numbers);
+    static native int asm_try_fire(long agent, long call, long len, long numbers);
 
-    static native int asm_answer(Pointer agent, byte[] out, long room, long[] written);
+    static native int asm_answer(long agent, long out, long room, long written);
 
-    static native int asm_learn(Pointer agent, Pointer other);
+    static native int asm_learn(long agent, long other);
 
-    static native int asm_follow(Pointer agent, int[] number);
+    static native int asm_follow(long agent, long number);
 
     static native int asm_peek(
-            Pointer agent, byte[] locations, long len, byte[] out, long room, long[] written);
+            long agent, long locations, long len, long out, long room, long written);
 
-    static native int asm_state(
-            Pointer agent, int[] number, byte[] out, long room, long[] written);
+    static native int asm_state(long agent, long number, long out, long room, long written);
 
-    static native int asm_scan(Pointer agent, byte[] name, long len, int[] number, byte[] out,
-            long room, long[] written);
+    static native int asm_scan(
+            long agent, long name, long len, long number, long out, long room, long written);
 
     static native int asm_stands(
-            Pointer agent, byte[] reads, long len, byte[] out, long room, long[] written);
+            long agent, long reads, long len, long out, long room, long written);
 
-    static native int asm_begin(Pointer agent, Pointer step, int[] number);
+    static native int asm_begin(long agent, long step, long number);
 
-    static native int asm_get(Pointer agent, Pointer step, byte[] locations, long len, byte[] out,
-            long room, long[] written);
+    static native int asm_get(
+            long agent, long step, long locations, long len, long out, long room, long written);
 
-    static native int asm_get_all(Pointer agent, Pointer step, byte[] name, long len, byte[] out,
-            long room, long[] written);
+    static native int asm_get_all(
+            long agent, long step, long name, long len, long out, long room, long written);
 
-    static native int asm_push(Pointer agent, Pointer step, byte[] move, long len, byte[] out,
-            long room, long[] written);
+    static native int asm_push(
+            long agent, long step, long move, long len, long out, long room, long written);
 
-    static native int asm_extend(Pointer agent, Pointer step, byte[] move, long len, byte[] out,
-            long room, long[] written);
+    static native int asm_extend(
+            long agent, long step, long move, long len, long out, long room, long written);
 
-    static native int asm_pop(Pointer step);
+    static native int asm_pop(long step);
 
-    static native int asm_depth(Pointer step);
+    static native int asm_depth(long step);
 
-    static native int asm_commit(Pointer agent, Pointer step, int[] numbers);
+    static native int asm_commit(long agent, long step, long numbers);
 
-    static native int asm_seen(Pointer agent);
+    static native int asm_location(byte[] location, long len, long at);
 
-    static native int asm_won(Pointer agent);
+    static native int asm_peek_at(
+            long agent, long at, long number, long value, long out, long room, long written);
 
-    static native long asm_misses(Pointer agent);
+    static native int asm_get_at(
+            long agent, long step, long at, long value, long out, long room, long written);
 
-    static native int asm_moves(Pointer storage, int[] moves);
+    static native int asm_instruct(
+            long move, long at, int verb, int kind, long number, long bytes, long len, int amount);
 
-    static native int asm_give(Pointer storage, Pointer agent);
+    static native int asm_instruct(long move, long at, int verb, int kind, long number,
+            byte[] bytes, long len, int amount);
 
-    static native int asm_close(Pointer storage, int[] number);
+    static native int asm_push_move(
+            long agent, long step, long move, long out, long room, long written);
 
-    static native int asm_journal(Pointer storage, byte[] out, long room, long[] written);
+    static native int asm_extend_move(
+            long agent, long step, long move, long out, long room, long written);
 
-    static native int asm_next(Pointer storage, int capacity, Pointer next);
+    static native int asm_seen(long agent);
 
-    static native void asm_free(Pointer slot);
+    static native int asm_won(long agent);
+
+    static native long asm_misses(long agent);
+
+    static native int asm_moves(long storage, int[] moves);
+
+    static native int asm_give(long storage, long agent);
+
+    static native int asm_close(long storage, int[] number);
+
+    static native int asm_journal(long storage, byte[] out, long room, long[] written);
+
+    static native int asm_next(long storage, int capacity, long next);
+
+    static native void asm_free(long slot);
 
     static native int asm_check(byte[] journal, long len, long[] calls, int[] moves);
 
@@ -123,13 +144,6 @@ final class Calls {
         if (version != WRITTEN_FOR)
             throw new UnsatisfiedLinkError("libfolugben has version " + version
                     + ", and these classes were written for " + WRITTEN_FOR);
-    }
-
-    /** An empty slot. */
-    static Memory slot() {
-        Memory slot = new Memory(16);
-        slot.clear();
-        return slot;
     }
 
     /** A call that writes a text into a buffer. */

@@ -166,6 +166,16 @@ public sealed class FolugbenException extends RuntimeException
         expectMove(code, second, "second");
     }
 
+    /** What is expected of the code of a call that was passed a location LOC. */
+    static void expectLocation(int code, String location) {
+        if (isMisread(code))
+            throw of(code, 0,
+                    explain(Storage.Form.LOCATIONS,
+                            code == NOT_JSON ? location : "[" + location + "]"),
+                    "");
+        expect(code);
+    }
+
     private static String withoutReads(String move) {
         return "{\"fire\":" + move + ",\"reads\":[]}";
     }
@@ -201,6 +211,11 @@ public sealed class FolugbenException extends RuntimeException
         boolean isLine = isMisread(code) && number > 1;
         String said = isLine ? Calls.explain(Storage.Form.EVENT, Texts.line(journal, number)) : "";
         expect(code, said, number);
+    }
+
+    /** The exception for what is closed. */
+    static FolugbenException closed(String what) {
+        return of(EMPTY, 0, "", what);
     }
 
     /** The exception for an argument that isn't one value of JSON. */

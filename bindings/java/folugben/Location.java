@@ -46,6 +46,11 @@ public record Location(String name, List<Element> arguments) implements Comparab
         return JsonReader.parsed(text, "location", JsonReader::location);
     }
 
+    /** Prepares it for calls that neither write its text nor read it. */
+    public PreparedLocation prepare() {
+        return new PreparedLocation(json());
+    }
+
     /** Its text, as the storage writes it. */
     public String json() {
         return JsonWriter.text(this);

@@ -1,8 +1,7 @@
 package folugben;
 
-import com.sun.jna.Memory;
-
 import java.util.List;
+import java.util.Objects;
 import java.util.SortedMap;
 
 /**
@@ -10,8 +9,7 @@ import java.util.SortedMap;
  * of which see one state, and fires one move that does what the pushed ones do in turn. {@link
  * Agent#step} begins a step. Calls take and give objects, or texts: JSON in the forms of
  * docs/FORMATS.md, of which one with a lone surrogate is refused by an IllegalArgumentException.
- * Any thread may call it; each call but {@link #pop}, {@link #depth} and {@link #close} waits for
- * the agent's calls that are under way.
+ * Any thread may call it; each call waits for the agent's calls that are under way.
  *
  * <pre>{@code
  * try (Step step = agent.step()) {
@@ -28,19 +26,37 @@ import java.util.SortedMap;
  * another step. Nothing is released by the garbage collector; call close().
  */
 public final class Step implements AutoCloseable {
+    private static final byte[] NO_INSTRUCTIONS = {'[', ']'};
+
     private final Agent agent;
-
-    /** The step's slot, and the lock of the calls on it, which is taken after the agent's. */
-    private final Memory slot = Calls.slot();
-
+    private final Room room;
     private final int number;
 
-    /** To be called with the agent's lock. */
+    /** The step's slot; null once the step is over, as the agent then has it for another. */
+    private Slot slot;
+
+    /** To be called with the agent's lock, as all that uses the slot. */
     Step(Agent agent) {
-        int[] number = new int[1];
         this.agent = agent;
-        FolugbenException.expect(Calls.asm_begin(agent.slot, slot, number));
-        this.number = number[0];
+        room = agent.slot.room;
+        slot = agent.slot.takeStep();
+        int code = Calls.asm_begin(agent.slot.at, slot.at, room.numbers());
+        if (code != FolugbenException.DONE)
+            end();
+        FolugbenException.expect(code);
+        number = room.number(0);
+    }
+
+    private void end() {
+        agent.slot.giveStep(slot);
+        slot = null;
+    }
+
+    /** The slot of a step that isn't over. */
+    private Slot slot() {
+        if (slot == null)
+            FolugbenException.expect(FolugbenException.EMPTY);
+        return slot;
     }
 
     /** The number of moves that its state is after. */
@@ -50,18 +66,17 @@ public final class Step implements AutoCloseable {
 
     /** A call on an agent and a step that is passed a text and tells one. */
     private interface Call {
-        int call(Memory agent, Memory step, byte[] text, long len, byte[] out, long room,
-                long[] written);
+        int call(long agent, long step, long text, long len, long out, long room,
+                long written);
     }
 
     private Calls.Told told(Call call, byte[] text) {
         synchronized (agent.slot) {
-            synchronized (slot) {
-                return Calls.told((out, room, written)
-                                          -> call.call(agent.slot, slot, text, text.length, out,
-                                                  room, written),
-                        Calls.ROOM);
-            }
+            long step = slot().at;
+            return room.told(text,
+                    (at, out, length, written)
+                            -> call.call(
+                                    agent.slot.at, step, at, text.length, out, length, written));
         }
     }
 
@@ -91,6 +106,68 @@ public final class Step implements AutoCloseable {
     /** The same of one location. */
     public Value get(Location location) {
         return get(List.of(location)).get(0);
+    }
+
+    /**
+     * The same of a prepared location.
+     *
+     * @throws FolugbenException as a {@link MovedException} or {@link ManyException}, as get of
+     *         others
+     */
+    public Value get(PreparedLocation location) {
+        synchronized (agent.slot) {
+            take(location);
+            return room.told();
+        }
+    }
+
+    /**
+     * The number there, of which no object is made. The location is got, also where the value is
+     * another one.
+     *
+     * @throws IllegalStateException if the value is no number
+     */
+    public long getNumber(PreparedLocation location) {
+        synchronized (agent.slot) {
+            take(location);
+            return room.kind() == Room.NUM ? room.number() : room.told().asLong();
+        }
+    }
+
+    /**
+     * The truth there, as getNumber tells a number.
+     *
+     * @throws IllegalStateException if the value is no boolean
+     */
+    public boolean getBoolean(PreparedLocation location) {
+        synchronized (agent.slot) {
+            take(location);
+            return room.kind() == Room.BOOL ? room.number() != 0 : room.told().asBoolean();
+        }
+    }
+
+    /**
+     * The text there, as getNumber tells a number.
+     *
+     * @throws IllegalStateException if the value is no text
+     */
+    public String getText(PreparedLocation location) {
+        synchronized (agent.slot) {
+            take(location);
+            return room.kind() == Room.STRING ? room.text() : room.told().asText();
+        }
+    }
+
+    /** Gets the value into the agent's room, whose lock is held. */
+    private void take(PreparedLocation location) {
+        Objects.requireNonNull(location, "location");
+        long step = slot().at;
+        synchronized (location.slot) {
+            location.expect(room.make(
+                    (text, out, length, written)
+                            -> Calls.asm_get_at(agent.slot.at, step, location.slot.at,
+                                    room.value(), out, length, written)));
+        }
     }
 
     /**
@@ -139,6 +216,15 @@ public final class Step implements AutoCloseable {
     }
 
     /**
+     * The same of a move that was gathered, which stays as it is.
+     *
+     * @throws FolugbenException as push of others; EMPTY if the move is closed
+     */
+    public void push(Move move) {
+        grow(Calls::asm_push_move, Calls::asm_push, move);
+    }
+
+    /**
      * Has the move [INSTR, ..] join the one that was pushed last, with which it is popped: a loop
      * of a thousand rounds is one move deep. Without a pushed move it is pushed.
      *
@@ -162,10 +248,43 @@ public final class Step implements AutoCloseable {
         extend(List.of(move));
     }
 
+    /**
+     * The same of a move that was gathered, which stays as it is.
+     *
+     * @throws FolugbenException as push of such a move, but never a DeepException
+     */
+    public void extend(Move move) {
+        grow(Calls::asm_extend_move, Calls::asm_extend, move);
+    }
+
     private void grow(Call call, String move) {
         Calls.Told told = told(call, Texts.utf8(move, "move"));
         FolugbenException.expectNoObjection(told);
         FolugbenException.expectMove(told.code(), move, "");
+    }
+
+    /** A call on an agent, a step and a move that tells a text. */
+    private interface MoveCall {
+        int call(long agent, long step, long move, long out, long room, long written);
+    }
+
+    /** Of no instructions there is no move in a slot: their text is pushed. */
+    private void grow(MoveCall call, Call textCall, Move move) {
+        Objects.requireNonNull(move, "move");
+        Calls.Told told;
+        synchronized (agent.slot) {
+            long step = slot().at;
+            synchronized (move.slot) {
+                move.expectOpen();
+                told = move.size() == 0
+                        ? told(textCall, NO_INSTRUCTIONS)
+                        : room.told((text, out, length, written)
+                                            -> call.call(agent.slot.at, step, move.slot.at, out,
+                                                    length, written));
+            }
+        }
+        FolugbenException.expectNoObjection(told);
+        FolugbenException.expect(told.code());
     }
 
     /**
@@ -174,15 +293,15 @@ public final class Step implements AutoCloseable {
      * @throws FolugbenException NONE if no move is pushed
      */
     public void pop() {
-        synchronized (slot) {
-            FolugbenException.expect(Calls.asm_pop(slot));
+        synchronized (agent.slot) {
+            FolugbenException.expect(Calls.asm_pop(slot().at));
         }
     }
 
     /** How many moves are pushed, at most 64. */
     public int depth() {
-        synchronized (slot) {
-            return Calls.asm_depth(slot);
+        synchronized (agent.slot) {
+            return slot == null ? 0 : Calls.asm_depth(slot.at);
         }
     }
 
@@ -195,20 +314,44 @@ public final class Step implements AutoCloseable {
      * @throws FolugbenException MANY if more than 256 locations would be named
      */
     public Agent.Reply fire() {
-        int[] numbers = new int[3];
         synchronized (agent.slot) {
-            synchronized (slot) {
-                int code = Calls.asm_commit(agent.slot, slot, numbers);
-                return agent.reply(code, numbers);
-            }
+            return agent.reply(commit());
         }
+    }
+
+    /**
+     * As fire, where it is enough to know that the step has to be begun again: the number of the
+     * move that was fired, from 1 up, or 0 where it was stale or lost 64 offers.
+     *
+     * @throws FolugbenException as a {@link ClashException}, {@link FullException} or {@link
+     *         ManyException}
+     */
+    public int tryFire() {
+        synchronized (agent.slot) {
+            int code = commit();
+            return switch (code) {
+                case FolugbenException.DONE -> room.number(0);
+                case FolugbenException.STALE, FolugbenException.BUSY -> 0;
+                default -> agent.reply(code).orThrow();
+            };
+        }
+    }
+
+    private int commit() {
+        int code = Calls.asm_commit(agent.slot.at, slot().at, room.numbers());
+        if (code == FolugbenException.DONE)
+            end();
+        return code;
     }
 
     /** Abandons the step, unless it is over. */
     @Override
     public void close() {
-        synchronized (slot) {
-            Calls.asm_free(slot);
+        synchronized (agent.slot) {
+            if (slot != null) {
+                Calls.asm_free(slot.at);
+                end();
+            }
         }
     }
 }

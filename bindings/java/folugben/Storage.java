@@ -1,7 +1,5 @@
 package folugben;
 
-import com.sun.jna.Memory;
-
 import java.util.List;
 import java.util.Map;
 import java.util.Objects;
@@ -16,15 +14,17 @@ import java.util.SortedMap;
  */
 public final class Storage implements AutoCloseable {
     /** The storage's slot, and the lock of the calls on it. */
-    private final Memory slot = Calls.slot();
+    private final Slot slot = new Slot();
 
     private Storage() {}
 
     /** A storage with the opening state [PAIR, ..], for 1 to 1,048,576 moves. */
     public Storage(String init, int capacity) {
         byte[] state = Texts.utf8(init, "init");
-        FolugbenException.expectRead(
-                Calls.asm_open(state, state.length, capacity, slot), Form.STATE, state);
+        synchronized (slot) {
+            int code = Calls.asm_open(state, state.length, capacity, slot.at);
+            FolugbenException.expectRead(code, Form.STATE, state);
+        }
     }
 
     /**
@@ -50,7 +50,9 @@ public final class Storage implements AutoCloseable {
     public Agent agent(int number) {
         Agent agent = new Agent(this);
         synchronized (slot) {
-            FolugbenException.expect(Calls.asm_agent(slot, number, agent.slot));
+            synchronized (agent.slot) {
+                FolugbenException.expect(Calls.asm_agent(slot.at, number, agent.slot.at));
+            }
         }
         return agent;
     }
@@ -59,7 +61,7 @@ public final class Storage implements AutoCloseable {
     public int moves() {
         int[] moves = new int[1];
         synchronized (slot) {
-            FolugbenException.expect(Calls.asm_moves(slot, moves));
+            FolugbenException.expect(Calls.asm_moves(slot.at, moves));
         }
         return moves[0];
     }
@@ -69,7 +71,7 @@ public final class Storage implements AutoCloseable {
         Objects.requireNonNull(agent, "agent");
         synchronized (slot) {
             synchronized (agent.slot) {
-                FolugbenException.expect(Calls.asm_give(slot, agent.slot));
+                FolugbenException.expect(Calls.asm_give(slot.at, agent.slot.at));
             }
         }
     }
@@ -81,9 +83,9 @@ public final class Storage implements AutoCloseable {
     public String closeJournal() {
         int[] missing = new int[1];
         synchronized (slot) {
-            FolugbenException.expect(Calls.asm_close(slot, missing), missing[0]);
+            FolugbenException.expect(Calls.asm_close(slot.at, missing), missing[0]);
             return Calls.text((out, room, written)
-                                      -> Calls.asm_journal(slot, out, room, written),
+                                      -> Calls.asm_journal(slot.at, out, room, written),
                     Calls.ROOM);
         }
     }
@@ -98,7 +100,9 @@ public final class Storage implements AutoCloseable {
     public Storage next(int capacity) {
         Storage next = new Storage();
         synchronized (slot) {
-            FolugbenException.expect(Calls.asm_next(slot, capacity, next.slot));
+            synchronized (next.slot) {
+                FolugbenException.expect(Calls.asm_next(slot.at, capacity, next.slot.at));
+            }
         }
         return next;
     }
@@ -107,7 +111,7 @@ public final class Storage implements AutoCloseable {
     @Override
     public void close() {
         synchronized (slot) {
-            Calls.asm_free(slot);
+            Calls.asm_free(slot.at);
         }
     }
 

@@ -211,6 +211,7 @@ public final class Test {
         ObjectTests.all();
         StepTests.all();
         KindTests.all();
+        PlainTests.all();
         Example.play();
         System.out.println("threads");
     }

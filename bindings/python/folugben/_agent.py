@@ -1,13 +1,14 @@
 """The agents of a storage."""
 import ctypes
 from collections.abc import Callable, Iterable, Sequence
-from typing import TYPE_CHECKING, Any
+from typing import TYPE_CHECKING, Any, overload
 
 from ._errors import READS, Busy, expect, expect_part, expect_read, refusal
-from ._held import Held, one_call
-from ._library import BUSY, CLASH, LOCATIONS, MOVE, STALE, Buffer, Numbers, Slot, lib
+from ._held import Held, here, marked, nested, one_call
+from ._library import BUSY, CLASH, DONE, LOCATIONS, MOVE, SMALL, STALE, Buffer, Numbers, Slot, lib, quick
+from ._location import Location
 from ._step import Step
-from ._texts import Form, decoded, encoded, unsigned
+from ._texts import Form, decoded, encoded, told_value, unsigned
 
 if TYPE_CHECKING:
     from ._storage import Storage
@@ -26,7 +27,9 @@ class Agent(Held):
 
     def __init__(self, storage: "Storage", number: int) -> None:
         super().__init__()
-        self._storage, self._buffer = storage, Buffer()
+        # What its calls and those of its steps tell.
+        self._storage, self._buffer, self._number, self._numbers = storage, Buffer(), ctypes.c_uint32(), Numbers()
+        self._number_at, self._numbers_at = ctypes.byref(self._number), ctypes.byref(self._numbers)
         self._begin(unsigned(number))
 
     @one_call
@@ -60,7 +63,7 @@ class Agent(Held):
 
     @one_call
     def _fire(self, call: bytes) -> int:
-        numbers = Numbers()
+        numbers = self._numbers
         with self._lock:
             return self._fired(lib.asm_try_fire(self._slot, call, len(call), numbers), numbers, call)
 
@@ -99,14 +102,42 @@ class Agent(Held):
             expect(lib.asm_follow(self._slot, number))
         return number.value
 
-    def peek(self, places: Sequence[Form]) -> tuple[int, list[Any]]:
-        """The number of moves at which its own state stands, and the values of the locations there, of however many."""
-        return self._peek(encoded(places))
+    @overload
+    def peek(self, places: Location) -> tuple[int, Any]: ...
+
+    @overload
+    def peek(self, places: Sequence[Form]) -> tuple[int, list[Any]]: ...
+
+    def peek(self, places: Location | Sequence[Form]) -> tuple[int, Any]:
+        """The number of moves at which its own state stands, and the values of the locations there, of however many.
+
+        Of a `Location` it is the value alone.
+        """
+        if not isinstance(places, Location):
+            return self._peek(encoded(places))
+        mark = here.mark or marked()
+        if mark.in_call:
+            raise nested()
+        try:
+            mark.in_call = True
+            with self._lock, places._lock:
+                number, told = self._number_at, self._buffer
+                while True:
+                    code = quick.asm_peek_at(
+                        self._at, places._at, number, told.value_at, told.out, told.room, told.written_at
+                    )
+                    if code == DONE:
+                        return self._number.value, told_value(told)
+                    if code != SMALL:
+                        places._expect_on(code)
+                    told.grow()
+        finally:
+            mark.in_call = False
 
     @one_call
     def _peek(self, places: bytes) -> tuple[int, list[Any]]:
         with self._lock:
-            code, text = self._buffer.text(lib.asm_peek, self._slot, places, len(places))
+            code, text = self._buffer.told(places, lib.asm_peek, self._at)
         expect_read(code, LOCATIONS, places)
         answer = decoded(text)
         return answer["number"], answer["values"]

@@ -1,4 +1,5 @@
 """What holds a slot of the library, and the guard round each call on one."""
+import ctypes
 import functools
 import threading
 from collections.abc import Callable
@@ -14,32 +15,54 @@ class Nested(RuntimeError):
     """A call by a signal handler or a finalizer, in the midst of another call of its thread; nothing was done."""
 
 
+class Mark:
+    """Whether a thread is in a call."""
+
+    __slots__ = ("in_call",)
+
+    def __init__(self) -> None:
+        self.in_call = False
+
+
 class _Here(threading.local):
-    """Whether this thread is in a call."""
+    """This thread's mark, once it has one."""
 
-    in_call = False
+    mark: Mark | None = None
 
 
-_here = _Here()
+here = _Here()
+
+
+def marked() -> Mark:
+    """The mark of a thread that had none."""
+    here.mark = mark = Mark()
+    return mark
+
+
+def nested() -> Nested:
+    """What a call in the midst of another one raises."""
+    return Nested("this thread is in another call, which a signal handler or a finalizer has interrupted")
 
 
 def one_call(method: Callable[_P, _R]) -> Callable[_P, _R]:
     """A method that is one call: its thread makes no other before it ends.
 
     Python runs signal handlers and finalizers between any two steps of a method. Their calls could take away the answer
-    that the method is about to ask for, or wait for a lock that their own thread holds.
+    that the method is about to ask for, or wait for a lock that their own thread holds. The methods that an engine calls
+    most often have the same lines themselves, as this takes longer than what they do.
     """
 
     @functools.wraps(method)
     def call(*arguments: _P.args, **named: _P.kwargs) -> _R:
-        if _here.in_call:
-            raise Nested("this thread is in another call, which a signal handler or a finalizer has interrupted")
+        mark = here.mark or marked()
+        if mark.in_call:
+            raise nested()
         # A handler may raise at any step, so the mark is set where it is sure to be taken back.
         try:
-            _here.in_call = True
+            mark.in_call = True
             return method(*arguments, **named)
         finally:
-            _here.in_call = False
+            mark.in_call = False
 
     return call
 
@@ -53,7 +76,12 @@ class Held:
 
     def __init__(self) -> None:
         # An agent that is to learn of itself takes its lock twice.
-        self._lock, self._slot = threading.RLock(), Slot()
+        self._hold(threading.RLock())
+
+    def _hold(self, lock: threading.RLock) -> None:
+        """Has an empty slot, and this lock for it."""
+        self._lock, self._slot = lock, Slot()
+        self._at = ctypes.byref(self._slot)
 
     @one_call
     def free(self) -> None:
@@ -73,5 +101,6 @@ class Held:
 
     def __del__(self) -> None:
         # Nothing else has it any more, so there is no need for its lock, nor for the end of a call that this interrupts.
-        if getattr(self, "_slot", None) is not None and lib is not None:
-            lib.asm_free(self._slot)
+        slot = getattr(self, "_slot", None)
+        if slot is not None and slot.full and lib is not None:
+            lib.asm_free(slot)

@@ -1,4 +1,4 @@
-"""libfolugben.so by ctypes: its calls, their codes, and the texts that they write."""
+"""libfolugben.so by ctypes: its calls, their codes, and what they write."""
 import ctypes
 import os
 import pathlib
@@ -14,12 +14,21 @@ BUILT = pathlib.Path(__file__).resolve().parents[2] / "out" / "libfolugben.so"
 DONE, STALE, CLASH, MEMORY, FULL, EMPTY, RANGE, SMALL, BUSY, MANY, NONE = range(11)
 TAKEN, NUMBER, MISSING, OTHER, ILLEGAL, NOT_JSON, SHAPE, VERSION, CUT, LARGE, MOVED, DEEP = range(11, 23)
 
+# The calls of steps are made so often that what they are passed is made once, and passed on as it is: they have no argtypes.
+STEPS = ["asm_peek", "asm_begin", "asm_get", "asm_push", "asm_extend"]
+QUICK = ["asm_peek_at", "asm_get_at", "asm_instruct", "asm_push_move", "asm_extend_move", "asm_commit", "asm_free"]
+
 # The forms of texts that `explain` knows.
 LOCATIONS, MOVE, STATE, EVENT = range(4)
 
+# The kinds of values in calls without text: those above TEXT come as texts of JSON.
+UNDEF, BOOL, NUM, TEXT = range(4)
+# What an instruction does.
+PUT, ADD, REMOVE, BAGADD, BAGREMOVE, INC = range(6)
+
 
 class Slot(ctypes.Structure):
-    """Room for a storage, an agent or a step."""
+    """Room for a storage, an agent, a step, a location or a move."""
 
     _fields_ = [("full", ctypes.c_bool), ("at", ctypes.c_void_p)]
 
@@ -31,6 +40,14 @@ class Numbers(ctypes.Structure):
     from_: int
     to: int
     _fields_ = [("fired", ctypes.c_uint32), ("from_", ctypes.c_uint32), ("to", ctypes.c_uint32)]
+
+
+class Value(ctypes.Structure):
+    """A value but for its bytes."""
+
+    kind: int
+    number: int
+    _fields_ = [("kind", ctypes.c_int32), ("number", ctypes.c_int64)]
 
 
 def path() -> str:
@@ -56,18 +73,12 @@ def load() -> ctypes.CDLL:
         "asm_answer": (code, [slot, text, size, written]),
         "asm_learn": (code, [slot, slot]),
         "asm_follow": (code, [slot, number]),
-        "asm_peek": (code, [slot, text, size, text, size, written]),
         "asm_state": (code, [slot, number, text, size, written]),
         "asm_scan": (code, [slot, text, size, number, text, size, written]),
         "asm_stands": (code, [slot, text, size, text, size, written]),
-        "asm_begin": (code, [slot, slot, number]),
-        "asm_get": (code, [slot, slot, text, size, text, size, written]),
         "asm_get_all": (code, [slot, slot, text, size, text, size, written]),
-        "asm_push": (code, [slot, slot, text, size, text, size, written]),
-        "asm_extend": (code, [slot, slot, text, size, text, size, written]),
         "asm_pop": (code, [slot]),
         "asm_depth": (u32, [slot]),
-        "asm_commit": (code, [slot, slot, ctypes.POINTER(Numbers)]),
         "asm_seen": (u32, [slot]),
         "asm_won": (u32, [slot]),
         "asm_misses": (u64, [slot]),
@@ -76,6 +87,7 @@ def load() -> ctypes.CDLL:
         "asm_close": (code, [slot, number]),
         "asm_journal": (code, [slot, text, size, written]),
         "asm_next": (code, [slot, u32, slot]),
+        "asm_location": (code, [text, size, slot]),
         "asm_free": (None, [slot]),
         "asm_check": (code, [text, size, ctypes.POINTER(u64), number]),
         "asm_replay": (code, [text, size, text, size, written, ctypes.POINTER(u64)]),
@@ -87,23 +99,58 @@ def load() -> ctypes.CDLL:
     for name, (result, arguments) in calls.items():
         call = getattr(library, name)
         call.restype, call.argtypes = result, arguments
+    for name in STEPS:
+        getattr(library, name).restype = code
+    return library
+
+
+def load_quick() -> ctypes.PyDLL:
+    """The same library for the calls that keep the interpreter's lock, as to release it takes longer than they do."""
+    library = ctypes.PyDLL(path())
+    for name in QUICK:
+        getattr(library, name).restype = ctypes.c_int32
     return library
 
 
 lib = load()
+quick = load_quick()
 
 
 class Buffer:
-    """Room for the texts that calls write; it is kept from call to call, and for one call at a time."""
+    """Room for what calls write; it is kept from call to call, and for one call at a time."""
 
     def __init__(self, room: int = 512) -> None:
-        self._out: Any = ctypes.create_string_buffer(room)
-        self._written = ctypes.c_size_t()
+        self._length, self._written, self.value = ctypes.c_size_t(), ctypes.c_size_t(), Value()
+        # What the calls of a step are passed, with `out` and `room`.
+        self.written_at, self.value_at = ctypes.byref(self._written), ctypes.byref(self.value)
+        self._take(room)
+
+    def _take(self, room: int) -> None:
+        self.out: Any = ctypes.create_string_buffer(room)
+        self.room = ctypes.c_size_t(room)
+
+    def grow(self) -> None:
+        """Has at least as much room as the last call needed."""
+        self._take(max(self._written.value, 2 * len(self.out)))
+
+    def written(self) -> bytes:
+        """What the last call wrote."""
+        told: bytes = self.out[: self._written.value]
+        return told
 
     def text(self, call: Callable[..., int], *before: Any, after: tuple[Any, ...] = ()) -> tuple[int, bytes]:
         """The code of a call, and what it wrote; the buffer grows where it is too small."""
         while True:
-            code = call(*before, self._out, len(self._out), self._written, *after)
+            code = call(*before, self.out, len(self.out), self._written, *after)
             if code != SMALL:
-                return code, self._out[: self._written.value]
-            self._out = ctypes.create_string_buffer(max(self._written.value, 2 * len(self._out)))
+                return code, self.written()
+            self.grow()
+
+    def told(self, text: bytes, call: Callable[..., int], *slots: Any) -> tuple[int, bytes]:
+        """The same of a call of a step on these slots that is passed a text."""
+        self._length.value = len(text)
+        while True:
+            code = call(*slots, text, self._length, self.out, self.room, self.written_at)
+            if code != SMALL:
+                return code, self.written()
+            self.grow()

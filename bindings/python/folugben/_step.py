@@ -1,12 +1,13 @@
 """The steps of agents."""
-import ctypes
 from collections.abc import Callable, Sequence
-from typing import TYPE_CHECKING, Any
+from typing import TYPE_CHECKING, Any, overload
 
 from ._errors import INSTRUCTIONS, Over, expect, expect_part, expect_read, refusal
-from ._held import Held, one_call
-from ._library import CLASH, EMPTY, LARGE, LOCATIONS, Numbers, lib
-from ._texts import Form, decoded, encoded
+from ._held import Held, here, marked, nested, one_call
+from ._library import BUSY, CLASH, DONE, EMPTY, LARGE, LOCATIONS, SMALL, STALE, lib, quick
+from ._location import Location
+from ._move import Move
+from ._texts import Form, decoded, encoded, told_value
 
 if TYPE_CHECKING:
     from ._agent import Agent
@@ -22,20 +23,34 @@ class Step(Held):
     The step is over once it is fired, and at the end of its `with` in any case; `get`, `scan`, `push`, `extend`, `pop` and
     `fire` then raise `Over`. One that isn't fired leaves no trace. Where the agent's own state has moved on since, in a call
     of the agent or in another step, a get, a scan or a push raises `Moved`; begin another step.
+
+    To get a `Location` and to push a `Move` takes a part of the time that lists take: no text is written or read.
     """
 
     def __init__(self, agent: "Agent") -> None:
-        super().__init__()
         # Each call is on both slots, so one lock does.
-        self._agent, self._lock = agent, agent._lock
-        self._number = self._begin()
+        self._hold(agent._lock)
+        self._agent, self._is_fired = agent, False
+        mark = here.mark or marked()
+        if mark.in_call:
+            raise nested()
+        try:
+            mark.in_call = True
+            with self._lock:
+                code = lib.asm_begin(agent._at, self._at, agent._number_at)
+                if code != DONE:
+                    expect(code)
+                self._number: int = agent._number.value
+        finally:
+            mark.in_call = False
 
-    @one_call
-    def _begin(self) -> int:
-        number = ctypes.c_uint32()
-        with self._lock:
-            expect(lib.asm_begin(self._agent._slot, self._slot, number))
-        return number.value
+    def __exit__(self, *_: object) -> None:
+        if not self._is_fired:
+            self.free()
+
+    def __del__(self) -> None:
+        if not getattr(self, "_is_fired", True):
+            super().__del__()
 
     @property
     def number(self) -> int:
@@ -52,12 +67,37 @@ class Step(Held):
         with self._lock:
             return int(lib.asm_depth(self._slot))
 
-    def get(self, places: Sequence[Form]) -> list[Any]:
-        """The values of the locations, as they are seen through the pushed moves.
+    @overload
+    def get(self, places: Location) -> Any: ...
+
+    @overload
+    def get(self, places: Sequence[Form]) -> list[Any]: ...
+
+    def get(self, places: Location | Sequence[Form]) -> Any:
+        """The values of the locations, as they are seen through the pushed moves; of a `Location` its value.
 
         The fire names each location that was got, at most 256 in all, else `Many`.
         """
-        return self._get(encoded(places))
+        if not isinstance(places, Location):
+            return self._get(encoded(places))
+        mark = here.mark or marked()
+        if mark.in_call:
+            raise nested()
+        try:
+            mark.in_call = True
+            with self._lock, places._lock:
+                agent = self._agent
+                at, told = agent._at, agent._buffer
+                while True:
+                    code = quick.asm_get_at(at, self._at, places._at, told.value_at, told.out, told.room, told.written_at)
+                    if code == DONE:
+                        return told_value(told)
+                    if code != SMALL:
+                        self._expect_on(code)
+                        places._expect_on(code)
+                    told.grow()
+        finally:
+            mark.in_call = False
 
     @one_call
     def _get(self, places: bytes) -> list[Any]:
@@ -82,20 +122,26 @@ class Step(Held):
         pairs: list[list[Any]] = decoded(told)
         return pairs
 
-    def push(self, instructions: Sequence[Form]) -> None:
+    def push(self, instructions: Sequence[Form] | Move) -> None:
         """Pushes a move, which is fired with the others.
 
         `Clash`, with the location and the cause: its updates clash on what is seen. `Many`: all that is pushed would come
         to more than 4,096 instructions. `Deep`: 64 moves are pushed. A push that is refused, or popped, is a dry run.
         """
-        self._grow(lib.asm_push, encoded(instructions))
+        if isinstance(instructions, Move):
+            self._grow_by(quick.asm_push_move, lib.asm_push, instructions)
+        else:
+            self._grow(lib.asm_push, encoded(instructions))
 
-    def extend(self, instructions: Sequence[Form]) -> None:
+    def extend(self, instructions: Sequence[Form] | Move) -> None:
         """The same, but the move joins the one that was pushed last, and is popped with it. Without one it is pushed.
 
         A loop of a thousand rounds is one move deep, so it never raises `Deep`.
         """
-        self._grow(lib.asm_extend, encoded(instructions))
+        if isinstance(instructions, Move):
+            self._grow_by(quick.asm_extend_move, lib.asm_extend, instructions)
+        else:
+            self._grow(lib.asm_extend, encoded(instructions))
 
     @one_call
     def _grow(self, call: Callable[..., int], move: bytes) -> None:
@@ -104,6 +150,27 @@ class Step(Held):
         if code in (CLASH, LARGE):
             raise refusal(code, decoded(told))
         expect_part(code, INSTRUCTIONS, move)
+
+    def _grow_by(self, call: Callable[..., int], text_call: Callable[..., int], move: Move) -> None:
+        mark = here.mark or marked()
+        if mark.in_call:
+            raise nested()
+        try:
+            mark.in_call = True
+            with self._lock, move._lock:
+                agent = self._agent
+                at, told = agent._at, agent._buffer
+                while move._is_full():
+                    code = call(at, self._at, move._at, told.out, told.room, told.written_at)
+                    if code == DONE:
+                        return
+                    if code != SMALL:
+                        self._expect_pushed(code, told.written())
+                    told.grow()
+                # A slot holds no move of no instructions.
+                self._expect_pushed(*self._told(text_call, b"[]"))
+        finally:
+            mark.in_call = False
 
     @one_call
     def pop(self) -> None:
@@ -115,21 +182,40 @@ class Step(Held):
             self._expect_on(code := lib.asm_pop(self._slot))
             expect(code)
 
-    @one_call
     def fire(self) -> int:
         """Fires one move that does what the pushed moves do in turn. The number of the move; the step is over then.
 
         It names, at the step's number, each location that was got or that a pushed partial update changes. It raises what
         a fire of the agent does, `Stale`, `Clash`, `Full` and `Busy`, and `Many` where it would name more than 256.
         """
-        numbers = Numbers()
-        with self._lock:
-            self._expect_on(code := lib.asm_commit(self._agent._slot, self._slot, numbers))
-            return self._agent._fired(code, numbers, b"")
+        return self._fire(())
+
+    def try_fire(self) -> int:
+        """The same, but 0 where the step is to be begun again, as it is `Stale` or `Busy`: that makes no exception."""
+        return self._fire((STALE, BUSY))
+
+    def _fire(self, vain: tuple[int, ...]) -> int:
+        mark = here.mark or marked()
+        if mark.in_call:
+            raise nested()
+        try:
+            mark.in_call = True
+            with self._lock:
+                agent = self._agent
+                code = quick.asm_commit(agent._at, self._at, agent._numbers_at)
+                if code == DONE:
+                    self._is_fired = True
+                    return agent._numbers.fired
+                if code in vain:
+                    return 0
+                self._expect_on(code)
+                return agent._fired(code, agent._numbers, b"")
+        finally:
+            mark.in_call = False
 
     def _told(self, call: Callable[..., int], text: bytes) -> tuple[int, bytes]:
         """The code of a call on the agent and the step, and what it wrote."""
-        code, told = self._agent._buffer.text(call, self._agent._slot, self._slot, text, len(text))
+        code, told = self._agent._buffer.told(text, call, self._agent._at, self._at)
         self._expect_on(code)
         return code, told
 
@@ -137,3 +223,10 @@ class Step(Held):
         """Raises `Over` for a code that is answered as the step is over."""
         if code == EMPTY and not self._slot.full:
             raise Over(code)
+
+    def _expect_pushed(self, code: int, told: bytes) -> None:
+        """Raises what the code of a push of a gathered move says, and what it told, unless it is DONE."""
+        self._expect_on(code)
+        if code in (CLASH, LARGE):
+            raise refusal(code, decoded(told))
+        expect(code)

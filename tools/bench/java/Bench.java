@@ -6,10 +6,10 @@ import java.lang.management.ManagementFactory;
 import java.util.Arrays;
 
 /**
- * Takes steps by the library and by the twin in turn, and writes a line for each crowd of threads:
- * its name, and the medians of the nanoseconds that one step took, for all threads together: the
- * library's and the twin's by the clock, and both of processor time. With the word --quick it takes
- * fewer.
+ * Takes steps by the library and by the twin in turn, with texts and without, and writes a line for
+ * each crowd of threads: its name, and the medians of the nanoseconds that one step took, for all
+ * threads together: the library's and the twin's by the clock, and both of processor time. With the
+ * word --quick it takes fewer.
  */
 final class Bench {
     static final int THREADS = 4;
@@ -94,9 +94,8 @@ final class Bench {
         return (times[(count - 1) / 2] + times[count / 2]) / 2;
     }
 
-    private static void measure(Crowd crowd, int steps, double seconds)
+    private static void measure(String name, Side ours, Crowd crowd, int steps, double seconds)
             throws InterruptedException {
-        Side ours = new Ours();
         Side theirs = new Theirs();
         double[][] times = new double[4][MOST];
         int count = 0;
@@ -113,13 +112,16 @@ final class Bench {
             times[2][count] = mine.processor();
             times[3][count] = its.processor();
         }
-        StringBuilder line = new StringBuilder("Java: step; " + crowd.name());
+        StringBuilder line = new StringBuilder("Java: " + name + "; " + crowd.name());
         for (double[] each : times) line.append("\t").append(Math.round(median(each, count)));
         System.out.println(line);
     }
 
     public static void main(String[] words) throws InterruptedException {
         boolean isQuick = words.length > 0 && words[0].equals("--quick");
-        for (Crowd crowd : CROWDS) measure(crowd, isQuick ? 4000 : 20000, isQuick ? 0.3 : 1.5);
+        int steps = isQuick ? 4000 : 20000;
+        double seconds = isQuick ? 0.3 : 1.5;
+        for (Crowd crowd : CROWDS) measure("step", new Ours(), crowd, steps, seconds);
+        for (Crowd crowd : CROWDS) measure("step without text", new Plain(), crowd, steps, seconds);
     }
 }

@@ -2,7 +2,7 @@ import folugben.Agent;
 import folugben.Step;
 import folugben.Storage;
 
-/** The step by the library. */
+/** The step by the library, with texts. */
 final class Ours implements Side {
     private Storage storage;
     private final Agent[] agents = new Agent[Bench.THREADS];

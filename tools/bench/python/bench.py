@@ -1,4 +1,4 @@
-"""Takes steps by the library and by the twin in turn, and writes a line for each crowd of threads.
+"""Takes steps by the library and by the twin in turn, with texts and without, and writes a line for each crowd of threads.
 
     python3 bench.py [--quick]
 
@@ -12,7 +12,8 @@ import threading
 import time
 from typing import NamedTuple, Protocol
 
-from folugben import Agent, Busy, Stale, Storage
+from folugben import Agent, Busy, Move, Stale, Storage
+from folugben import Location as Prepared
 from twin import Location, Moved, Twin
 
 THREADS, LOCATIONS, LEAST, MOST = 4, 64, 5, 9
@@ -31,6 +32,8 @@ class Side(Protocol):
 
 
 class Ours:
+    """The library, with lists."""
+
     def __init__(self, moves: int) -> None:
         self._storage = Storage([[["x", k], 0] for k in range(LOCATIONS)], moves)
         self._agents: list[Agent] = [self._storage.agent(k) for k in range(THREADS)]
@@ -52,6 +55,21 @@ class Ours:
             agent.free()
         self._storage.free()
         return sum(values)
+
+
+class Plain(Ours):
+    """The library without text: each thread has its locations and its move."""
+
+    def __init__(self, moves: int) -> None:
+        super().__init__(moves)
+        self._places = [[Prepared(["x", k]) for k in range(LOCATIONS)] for _ in range(THREADS)]
+        self._moves = [Move() for _ in range(THREADS)]
+
+    def step(self, thread: int, location: int) -> bool:
+        at = self._places[thread][location]
+        with self._agents[thread].step() as step:
+            step.push(self._moves[thread].clear().put(at, step.get(at) + 1))
+            return step.try_fire() != 0
 
 
 class Theirs:
@@ -122,21 +140,23 @@ def round_of(kind: type[Ours] | type[Theirs], crowd: Crowd, steps: int) -> Taken
     return taken
 
 
-def measure(crowd: Crowd, steps: int, seconds: float) -> None:
+def measure(name: str, ours: type[Ours], crowd: Crowd, steps: int, seconds: float) -> None:
     mine: list[Taken] = []
     its: list[Taken] = []
     end = time.monotonic() + seconds
     while len(mine) < LEAST or len(mine) < MOST and time.monotonic() < end:
-        mine.append(round_of(Ours, crowd, steps))
+        mine.append(round_of(ours, crowd, steps))
         its.append(round_of(Theirs, crowd, TWIN_TIMES * steps))
     columns = [[taken[k] for taken in side] for k in range(2) for side in (mine, its)]
-    print(f"Python: step; {crowd.name}", *(f"{statistics.median(column):.0f}" for column in columns), sep="\t", flush=True)
+    print(f"Python: {name}; {crowd.name}", *(f"{statistics.median(column):.0f}" for column in columns), sep="\t", flush=True)
 
 
 def main() -> None:
     is_quick = sys.argv[1:] == ["--quick"]
-    for crowd in CROWDS:
-        measure(crowd, 800 if is_quick else 4000, 0.2 if is_quick else 1.2)
+    steps, seconds = (800, 0.2) if is_quick else (4000, 1.2)
+    for name, ours in (("step", Ours), ("step without text", Plain)):
+        for crowd in CROWDS:
+            measure(name, ours, crowd, steps, seconds)
 
 
 if __name__ == "__main__":

@@ -1,0 +1,228 @@
+package folugben;
+
+import java.util.Objects;
+
+/**
+ * A move that is gathered instruction by instruction at prepared locations, and pushed by {@link
+ * Step#push(Move)}: its text is neither written nor read. It keeps its instructions until {@link
+ * #clear}, and may be pushed any number of times, in steps of any storage.
+ *
+ * <p>An operand is undef, a boolean, a whole number or a text, and no list, set or bag, of which a
+ * put is pushed as an {@link Instruction}. Any thread may use it, in one call at a time. Nothing is
+ * released by the garbage collector; call close().
+ *
+ * <pre>{@code
+ * try (PreparedLocation count = Location.of("count").prepare(); Move move = new Move()) {
+ *     try (Step step = agent.step()) {
+ *         step.push(move.clear().put(count, step.getNumber(count) + 1));
+ *         if (step.fire().shouldRetry()) ..  // begin another step
+ *     }
+ * }
+ * }</pre>
+ */
+public final class Move implements AutoCloseable {
+    private static final int PUT = 0;
+    private static final int ADD = 1;
+    private static final int REMOVE = 2;
+    private static final int BAG_ADD = 3;
+    private static final int BAG_REMOVE = 4;
+    private static final int INC = 5;
+
+    /** Its slot, and the lock of the calls on it, which is taken after an agent's. */
+    final Slot slot = new Slot();
+
+    private int size;
+    private boolean isClosed;
+
+    /** A move of no instructions. */
+    public Move() {}
+
+    /** How many instructions it has. */
+    public int size() {
+        synchronized (slot) {
+            return size;
+        }
+    }
+
+    /** Drops its instructions. */
+    public Move clear() {
+        synchronized (slot) {
+            expectOpen();
+            Calls.asm_free(slot.at);
+            size = 0;
+        }
+        return this;
+    }
+
+    /** Releases it. */
+    @Override
+    public void close() {
+        synchronized (slot) {
+            Calls.asm_free(slot.at);
+            size = 0;
+            isClosed = true;
+        }
+    }
+
+    /** To be called with its lock. */
+    void expectOpen() {
+        if (isClosed)
+            throw FolugbenException.closed("move");
+    }
+
+    /** Puts a number. */
+    public Move put(PreparedLocation at, long number) {
+        return number(at, PUT, number, 0);
+    }
+
+    /** Puts a truth. */
+    public Move put(PreparedLocation at, boolean truth) {
+        return truth(at, PUT, truth, 0);
+    }
+
+    /** Puts a text. */
+    public Move put(PreparedLocation at, String text) {
+        return text(at, PUT, text, 0);
+    }
+
+    /** Puts an element that is no list; undef leaves the location empty. */
+    public Move put(PreparedLocation at, Element element) {
+        return element(at, PUT, element, 0);
+    }
+
+    /** Adds a number to a set. */
+    public Move add(PreparedLocation at, long number) {
+        return number(at, ADD, number, 0);
+    }
+
+    /** Adds a truth to a set. */
+    public Move add(PreparedLocation at, boolean truth) {
+        return truth(at, ADD, truth, 0);
+    }
+
+    /** Adds a text to a set. */
+    public Move add(PreparedLocation at, String text) {
+        return text(at, ADD, text, 0);
+    }
+
+    /** Adds an element that is no list to a set. */
+    public Move add(PreparedLocation at, Element element) {
+        return element(at, ADD, element, 0);
+    }
+
+    /** Removes a number from a set. */
+    public Move remove(PreparedLocation at, long number) {
+        return number(at, REMOVE, number, 0);
+    }
+
+    /** Removes a truth from a set. */
+    public Move remove(PreparedLocation at, boolean truth) {
+        return truth(at, REMOVE, truth, 0);
+    }
+
+    /** Removes a text from a set. */
+    public Move remove(PreparedLocation at, String text) {
+        return text(at, REMOVE, text, 0);
+    }
+
+    /** Removes an element that is no list from a set. */
+    public Move remove(PreparedLocation at, Element element) {
+        return element(at, REMOVE, element, 0);
+    }
+
+    /**
+     * Adds a number to a bag so many times.
+     *
+     * @throws IllegalArgumentException for an amount that isn't 1 to 4294967295, as of all of these
+     */
+    public Move bagAdd(PreparedLocation at, long number, long amount) {
+        return number(at, BAG_ADD, number, Value.BagOf.inRange(amount));
+    }
+
+    /** Adds a truth to a bag so many times. */
+    public Move bagAdd(PreparedLocation at, boolean truth, long amount) {
+        return truth(at, BAG_ADD, truth, Value.BagOf.inRange(amount));
+    }
+
+    /** Adds a text to a bag so many times. */
+    public Move bagAdd(PreparedLocation at, String text, long amount) {
+        return text(at, BAG_ADD, text, Value.BagOf.inRange(amount));
+    }
+
+    /** Adds an element that is no list to a bag so many times. */
+    public Move bagAdd(PreparedLocation at, Element element, long amount) {
+        return element(at, BAG_ADD, element, Value.BagOf.inRange(amount));
+    }
+
+    /** Removes a number from a bag so many times. */
+    public Move bagRemove(PreparedLocation at, long number, long amount) {
+        return number(at, BAG_REMOVE, number, Value.BagOf.inRange(amount));
+    }
+
+    /** Removes a truth from a bag so many times. */
+    public Move bagRemove(PreparedLocation at, boolean truth, long amount) {
+        return truth(at, BAG_REMOVE, truth, Value.BagOf.inRange(amount));
+    }
+
+    /** Removes a text from a bag so many times. */
+    public Move bagRemove(PreparedLocation at, String text, long amount) {
+        return text(at, BAG_REMOVE, text, Value.BagOf.inRange(amount));
+    }
+
+    /** Removes an element that is no list from a bag so many times. */
+    public Move bagRemove(PreparedLocation at, Element element, long amount) {
+        return element(at, BAG_REMOVE, element, Value.BagOf.inRange(amount));
+    }
+
+    /** Raises a number, by 0 or less too. */
+    public Move inc(PreparedLocation at, long by) {
+        return number(at, INC, by, 0);
+    }
+
+    private Move number(PreparedLocation at, int verb, long number, long amount) {
+        return plain(at, verb, Room.NUM, number, amount);
+    }
+
+    private Move truth(PreparedLocation at, int verb, boolean truth, long amount) {
+        return plain(at, verb, Room.BOOL, truth ? 1 : 0, amount);
+    }
+
+    private Move element(PreparedLocation at, int verb, Element element, long amount) {
+        if (Objects.requireNonNull(element, "element") instanceof Element.Num num)
+            return number(at, verb, num.value(), amount);
+        if (element instanceof Element.Bool bool)
+            return truth(at, verb, bool.value(), amount);
+        if (element instanceof Element.Text text)
+            return text(at, verb, text.value(), amount);
+        if (element instanceof Element.Undef)
+            return plain(at, verb, Room.UNDEF, 0, amount);
+        throw new IllegalArgumentException("a list is no operand here: push an Instruction");
+    }
+
+    private Move plain(PreparedLocation at, int verb, int kind, long number, long amount) {
+        Objects.requireNonNull(at, "location");
+        synchronized (slot) {
+            expectOpen();
+            synchronized (at.slot) {
+                at.expect(Calls.asm_instruct(
+                        slot.at, at.slot.at, verb, kind, number, 0, 0, (int) amount));
+            }
+            size++;
+        }
+        return this;
+    }
+
+    private Move text(PreparedLocation at, int verb, String text, long amount) {
+        Objects.requireNonNull(at, "location");
+        byte[] bytes = Texts.utf8(text, "text");
+        synchronized (slot) {
+            expectOpen();
+            synchronized (at.slot) {
+                at.expect(Calls.asm_instruct(slot.at, at.slot.at, verb, Room.STRING, 0, bytes,
+                        bytes.length, (int) amount));
+            }
+            size++;
+        }
+        return this;
+    }
+}

@@ -1,0 +1,368 @@
+package folugben;
+
+import static folugben.Checks.equal;
+import static folugben.Checks.refused;
+import static folugben.Checks.refusedAt;
+import static folugben.Checks.refusedValue;
+import static folugben.Checks.thrown;
+
+import java.util.List;
+import java.util.Map;
+import java.util.function.Consumer;
+
+/** Tests of the calls without text: prepared locations, and moves that are gathered. */
+final class PlainTests {
+    private static final int ROUNDS = 400;
+    private static final Location X = Location.of("x");
+    private static final Location S = Location.of("s", "a\"b", List.of(1));
+
+    private PlainTests() {}
+
+    /** Each value is told as it is with texts, by each call. */
+    static void values() {
+        for (int round = 0; round < ROUNDS; round++) {
+            Randoms random = new Randoms(round);
+            Map<Location, Value> state = random.state();
+            Location other = random.anyLocation();
+            try (Storage storage = Storage.open(state, 8); Agent agent = storage.agent(0);
+                    Step step = agent.step()) {
+                for (Location location : state.keySet()) same(agent, step, location);
+                same(agent, step, other);
+            }
+        }
+        for (int length : new int[] {0, 1, 500, 1100, 100_000}) {
+            Value text = Element.of("\u00e4\n\u0000".repeat(length));
+            Value set = Value.set(text, 1);
+            try (Storage storage = Storage.open(Map.of(X, text, S, set), 8);
+                    Agent agent = storage.agent(0); Step step = agent.step()) {
+                same(agent, step, X);
+                same(agent, step, S);
+            }
+        }
+    }
+
+    private static void same(Agent agent, Step step, Location location) {
+        try (PreparedLocation at = location.prepare()) {
+            equal(at.location(), location);
+            equal(at.toString(), location.toString());
+            Value value = step.get(location);
+            equal(step.get(at), value);
+            equal(agent.peek(at), new Agent.Peeked(0, value));
+            if (value instanceof Element.Num num) {
+                equal(step.getNumber(at), num.value());
+                equal(agent.peekNumber(at), num.value());
+            } else {
+                isNo("number", value, () -> step.getNumber(at));
+                isNo("number", value, () -> agent.peekNumber(at));
+            }
+            if (value instanceof Element.Bool bool)
+                equal(step.getBoolean(at), bool.value());
+            else
+                isNo("boolean", value, () -> step.getBoolean(at));
+            if (value instanceof Element.Text text)
+                equal(step.getText(at), text.value());
+            else
+                isNo("text", value, () -> step.getText(at));
+        }
+    }
+
+    private static void isNo(String kind, Value value, Runnable call) {
+        thrown(IllegalStateException.class, "no " + kind + ": " + value, call);
+    }
+
+    /** Gathers the instruction, its operand as an element or as what that holds. */
+    private static void gather(Move move, Instruction instruction, boolean asElement) {
+        try (PreparedLocation at = instruction.location().prepare()) {
+            if (instruction instanceof Instruction.Put put)
+                operand((Element) put.value(), asElement, it -> move.put(at, it),
+                        it -> move.put(at, it), it -> move.put(at, it), it -> move.put(at, it));
+            else if (instruction instanceof Instruction.Add add)
+                operand(add.element(), asElement, it -> move.add(at, it), it -> move.add(at, it),
+                        it -> move.add(at, it), it -> move.add(at, it));
+            else if (instruction instanceof Instruction.Remove remove)
+                operand(remove.element(), asElement, it -> move.remove(at, it),
+                        it -> move.remove(at, it), it -> move.remove(at, it),
+                        it -> move.remove(at, it));
+            else if (instruction instanceof Instruction.BagAdd add)
+                operand(add.element(), asElement, it -> move.bagAdd(at, it, add.amount()),
+                        it -> move.bagAdd(at, it, add.amount()),
+                        it -> move.bagAdd(at, it, add.amount()),
+                        it -> move.bagAdd(at, it, add.amount()));
+            else if (instruction instanceof Instruction.BagRemove remove)
+                operand(remove.element(), asElement, it -> move.bagRemove(at, it, remove.amount()),
+                        it -> move.bagRemove(at, it, remove.amount()),
+                        it -> move.bagRemove(at, it, remove.amount()),
+                        it -> move.bagRemove(at, it, remove.amount()));
+            else if (instruction instanceof Instruction.Inc inc)
+                move.inc(at, inc.by());
+        }
+    }
+
+    private static void operand(Element element, boolean asElement, Consumer<Element> any,
+            Consumer<Long> number, Consumer<Boolean> truth, Consumer<String> text) {
+        if (!asElement && element instanceof Element.Num num)
+            number.accept(num.value());
+        else if (!asElement && element instanceof Element.Bool bool)
+            truth.accept(bool.value());
+        else if (!asElement && element instanceof Element.Text string)
+            text.accept(string.value());
+        else
+            any.accept(element);
+    }
+
+    private static Value operand(Instruction instruction) {
+        if (instruction instanceof Instruction.Put put)
+            return put.value();
+        if (instruction instanceof Instruction.Add add)
+            return add.element();
+        if (instruction instanceof Instruction.Remove remove)
+            return remove.element();
+        if (instruction instanceof Instruction.BagAdd add)
+            return add.element();
+        if (instruction instanceof Instruction.BagRemove remove)
+            return remove.element();
+        return Element.undef();
+    }
+
+    /** Whether a move that is gathered can have it. */
+    private static boolean isPlain(Instruction instruction) {
+        Value operand = operand(instruction);
+        return operand instanceof Element && !(operand instanceof Element.ListOf);
+    }
+
+    /** A move that is gathered does what the same does as objects, clashes included. */
+    static void moves() {
+        int[] count = new int[2];
+        for (int round = 0; round < 4 * ROUNDS; round++) {
+            Randoms random = new Randoms(round);
+            Map<Location, Value> state = random.state();
+            List<Instruction> all = random.move().stream().filter(PlainTests::isPlain).toList();
+            try (Storage storage = Storage.open(state, 8); Agent agent = storage.agent(0);
+                    Step step = agent.step(); Step other = agent.step(); Move move = new Move()) {
+                for (Instruction one : all) gather(move, one, round % 2 == 0);
+                equal(move.size(), all.size());
+                for (int times = 0; times < 2; times++) {
+                    count[0] += all.size();
+                    count[1] += sameMove(step, other, move, all, times == 0) ? 1 : 0;
+                }
+                equal(step.fire().move(), 1);
+                agent.give();
+                String journal = storage.closeJournal();
+                equal(Storage.check(journal), new Storage.Checked(1, 1));
+            }
+        }
+        equal(count[0] > 1000 && count[1] > 100, true);
+    }
+
+    /** Pushes or extends both ways; whether it clashed. */
+    private static boolean sameMove(
+            Step step, Step other, Move move, List<Instruction> all, boolean isPush) {
+        String wanted = null;
+        try {
+            if (isPush)
+                other.push(all);
+            else
+                other.extend(all);
+        } catch (ClashException error) {
+            wanted = error.answer();
+        }
+        String told = null;
+        try {
+            if (isPush)
+                step.push(move);
+            else
+                step.extend(move);
+        } catch (ClashException error) {
+            told = error.answer();
+        }
+        equal("" + told, "" + wanted);
+        equal(step.depth(), other.depth());
+        for (Instruction one : all) equal(step.get(one.location()), other.get(one.location()));
+        return told != null;
+    }
+
+    static void limits() {
+        try (Storage storage = Storage.open(Map.of(X, 1), 8); Agent agent = storage.agent(0);
+                Step step = agent.step(); PreparedLocation x = X.prepare();
+                Move move = new Move()) {
+            for (int i = 0; i < 4096; i++) move.put(x, 1);
+            refused(FolugbenException.MANY, () -> move.put(x, 1));
+            refused(FolugbenException.MANY, () -> move.put(x, "1"));
+            equal(move.size(), 4096);
+            step.push(move);
+            move.clear().inc(x, Long.MAX_VALUE);
+            equal(refused(FolugbenException.CLASH, () -> step.extend(move)).answer(),
+                    "{\"clash\":[[\"x\"],\"Large\"]}");
+            equal(move.clear().size(), 0);
+            for (int i = 1; i < 64; i++) step.push(move);
+            equal(step.depth(), 64);
+            refused(FolugbenException.DEEP, () -> step.push(move));
+            step.extend(move);
+            move.put(x, 7);
+            refused(FolugbenException.DEEP, () -> step.push(move));
+            step.extend(move);
+            equal(step.getNumber(x), 7L);
+            for (int i = 1; i < 256; i++)
+                try (PreparedLocation w = Location.of("w", i).prepare()) {
+                    equal(step.get(w).isUndef(), true);
+                }
+            try (PreparedLocation w = Location.of("w", 0).prepare()) {
+                refused(FolugbenException.MANY, () -> step.get(w));
+                refused(FolugbenException.MANY, () -> step.getNumber(w));
+                equal(agent.peek(w).value().isUndef(), true);
+            }
+            equal(step.tryFire(), 1);
+        }
+    }
+
+    /** What the classes refuse before the library is asked. */
+    static void operands() {
+        try (PreparedLocation x = X.prepare(); Move move = new Move()) {
+            move.put(x, 1);
+            for (long amount : new long[] {0, -1, Value.MAX_COUNT + 1, Long.MAX_VALUE}) {
+                String told = "an amount or a count is 1 to 4294967295, and not " + amount;
+                refusedValue(told, () -> move.bagAdd(x, 1, amount));
+                refusedValue(told, () -> move.bagRemove(x, "", amount));
+            }
+            String list = "a list is no operand here: push an Instruction";
+            refusedValue(list, () -> move.put(x, Element.list(1)));
+            refusedValue(list, () -> move.bagRemove(x, Element.list(), 1));
+            refusedValue("text has a lone surrogate at index 1", () -> move.put(x, "a\ud83d"));
+            Class<? extends RuntimeException> kind = NullPointerException.class;
+            thrown(kind, "location", () -> move.put(null, 1));
+            thrown(kind, "location", () -> move.add(null, "text"));
+            thrown(kind, "text", () -> move.add(x, (String) null));
+            thrown(kind, "element", () -> move.remove(x, (Element) null));
+            equal(move.size(), 1);
+        }
+        refusedAt(FolugbenException.NOT_JSON, 0, " at byte 2", () -> new PreparedLocation("[nul]"));
+        refusedAt(FolugbenException.SHAPE, 0,
+                ": location 1: a location is an array of a name and at most 8 arguments",
+                () -> new PreparedLocation("7"));
+        refused(FolugbenException.NOT_JSON, () -> new PreparedLocation("[\"x\"],[\"y\"]"));
+        thrown(NullPointerException.class, "location", () -> new PreparedLocation(null));
+    }
+
+    /** Handles that are closed, or whose step or agent is over. */
+    static void closed() {
+        try (Storage storage = Storage.open(Map.of(X, 1), 8); Agent agent = storage.agent(0);
+                Agent rival = storage.agent(1)) {
+            PreparedLocation x = X.prepare();
+            Move move = new Move().put(x, 5);
+            Step step = agent.step();
+            rival.fire(List.of(Instruction.put(X, 2)), List.of());
+            agent.follow();
+            refused(FolugbenException.MOVED, () -> step.get(x));
+            refused(FolugbenException.MOVED, () -> step.push(move));
+            refused(FolugbenException.MOVED, () -> step.extend(move));
+            equal(step.tryFire(), 2);
+            refused(FolugbenException.EMPTY, () -> step.get(x));
+            refused(FolugbenException.EMPTY, () -> step.push(move));
+            refused(FolugbenException.EMPTY, step::tryFire);
+            Step next = agent.step();
+            x.close();
+            x.close();
+            String told = FolugbenException.errorText(FolugbenException.EMPTY) + " (";
+            for (Runnable call : List.<Runnable>of(() -> next.get(x), () -> next.getNumber(x),
+                         () -> agent.peek(x), () -> agent.peekNumber(x), () -> move.put(x, 1),
+                         () -> move.put(x, "text")))
+                equal(refused(FolugbenException.EMPTY, call).getMessage(), told + "location)");
+            next.push(move);
+            equal(next.get(X), Element.of(5));
+            move.close();
+            move.close();
+            try (PreparedLocation y = Location.of("y").prepare()) {
+                for (Runnable call : List.<Runnable>of(() -> next.push(move),
+                             () -> next.extend(move), () -> move.put(y, 1), move::clear))
+                    equal(refused(FolugbenException.EMPTY, call).getMessage(), told + "move)");
+                equal(move.size(), 0);
+                equal(next.depth(), 1);
+                agent.give();
+                refused(FolugbenException.EMPTY, () -> next.get(y));
+                refused(FolugbenException.EMPTY, () -> agent.peek(y));
+                refused(FolugbenException.EMPTY, next::tryFire);
+                next.close();
+            }
+        }
+    }
+
+    /** What tryFire tells of each reply. */
+    static void fires() {
+        try (Storage storage = Storage.open(Map.of(X, 1), 2); Agent agent = storage.agent(0);
+                Agent rival = storage.agent(1); PreparedLocation x = X.prepare();
+                Move move = new Move()) {
+            try (Step step = agent.step()) {
+                step.push(move.inc(x, 1));
+                rival.fire(List.of(Instruction.put(X, Value.set())), List.of());
+                equal(step.tryFire(), 0);
+                equal(agent.answer(), "{\"stale\":[\"x\"]}");
+                equal(step.tryFire(), 0);
+            }
+            try (Step step = agent.step()) {
+                refused(FolugbenException.CLASH, () -> step.push(move));
+                step.push(move.clear().put(x, "all"));
+                equal(step.tryFire(), 2);
+            }
+            try (Step step = agent.step()) {
+                equal(step.getText(x), "all");
+                refused(FolugbenException.FULL, step::tryFire);
+            }
+        }
+    }
+
+    /** Threads with agents of their own that use one location and one move wait for each other. */
+    static void sharedByThreads() throws InterruptedException {
+        try (Storage storage = Storage.open(Map.of(X, 0), 4000); PreparedLocation x = X.prepare();
+                Move move = new Move()) {
+            Thread[] threads = new Thread[4];
+            long[] fired = new long[threads.length];
+            for (int i = 0; i < threads.length; i++) {
+                int own = i;
+                threads[i] = new Thread(() -> {
+                    try (Agent agent = storage.agent(own)) {
+                        while (fired[own] < 500)
+                            try (Step step = agent.step(); Move raise = new Move()) {
+                                long seen = step.getNumber(x);
+                                step.push(raise.put(x, seen + 1));
+                                if (move.size() < 500)
+                                    move.inc(x, 1);
+                                agent.peekNumber(x);
+                                if (step.tryFire() != 0)
+                                    fired[own]++;
+                            }
+                        agent.give();
+                    }
+                });
+            }
+            for (Thread thread : threads) thread.start();
+            for (Thread thread : threads) thread.join();
+            try (Agent agent = storage.agent(9); Step step = agent.step()) {
+                equal(step.getNumber(x), 2000L);
+                int size = move.size();
+                equal(size >= 500 && size <= 503, true);
+                step.push(move);
+                equal(step.getNumber(x), 2000L + size);
+                equal(step.tryFire(), 2001);
+                agent.give();
+            }
+            equal(Storage.check(storage.closeJournal()).moves(), 2001);
+        }
+    }
+
+    static void all() throws InterruptedException {
+        values();
+        System.out.println("plain values");
+        moves();
+        System.out.println("gathered moves");
+        limits();
+        System.out.println("plain limits");
+        operands();
+        System.out.println("operands");
+        closed();
+        System.out.println("closed handles");
+        fires();
+        System.out.println("fires");
+        sharedByThreads();
+        System.out.println("plain calls shared by threads");
+    }
+}

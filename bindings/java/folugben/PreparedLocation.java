@@ -1,0 +1,58 @@
+package folugben;
+
+/**
+ * A location that is prepared once, for any number of calls of the agents and steps of any storage:
+ * they neither write its text nor read it. {@link Location#prepare} prepares one.
+ *
+ * <p>Any thread may use it, in one call at a time: where several threads are to go on beside each
+ * other, prepare one for each of them. Nothing is released by the garbage collector; call close().
+ */
+public final class PreparedLocation implements AutoCloseable {
+    /** Its slot, and the lock of the calls on it, which is taken after an agent's and a move's. */
+    final Slot slot = new Slot();
+
+    private final String text;
+
+    /**
+     * Prepares the location LOC, a text.
+     *
+     * @throws FolugbenException NOT_JSON or SHAPE for a text that is no location
+     */
+    public PreparedLocation(String location) {
+        byte[] bytes = Texts.utf8(location, "location");
+        synchronized (slot) {
+            int code = Calls.asm_location(bytes, bytes.length, slot.at);
+            FolugbenException.expectLocation(code, location);
+        }
+        text = location;
+    }
+
+    /** What is expected of the code of a call on it and on other slots. */
+    void expect(int code) {
+        if (code == FolugbenException.EMPTY)
+            synchronized (slot) {
+                if (!slot.isFull())
+                    throw FolugbenException.closed("location");
+            }
+        FolugbenException.expect(code);
+    }
+
+    /** The location. */
+    public Location location() {
+        return Location.parse(text);
+    }
+
+    /** Such as x, or account(1, "a"). */
+    @Override
+    public String toString() {
+        return location().toString();
+    }
+
+    /** Releases it. Moves that have instructions there keep these. */
+    @Override
+    public void close() {
+        synchronized (slot) {
+            Calls.asm_free(slot.at);
+        }
+    }
+}

@@ -1,0 +1,133 @@
+package folugben;
+
+import com.sun.jna.Native;
+import com.sun.jna.Pointer;
+
+import java.nio.ByteBuffer;
+import java.nio.ByteOrder;
+import java.nio.charset.StandardCharsets;
+
+/**
+ * Native memory for what an agent's calls are passed and what they tell. It is kept from call to
+ * call, grows to the longest text, and is for one call at a time. Of an array, JNA would make a
+ * copy for each call.
+ */
+final class Room {
+    /** Where calls write the length of a text, numbers, and a value's kind and number. */
+    private static final int WRITTEN = 0;
+    private static final int NUMBERS = 8;
+    private static final int KIND = 24;
+    private static final int NUMBER = 32;
+    /** Where the text begins that a call is passed; behind it is the room for what it writes. */
+    private static final int TEXT = 40;
+
+    /** The kinds of values that calls without text tell. */
+    static final int UNDEF = 0;
+    static final int BOOL = 1;
+    static final int NUM = 2;
+    static final int STRING = 3;
+
+    private static final byte[] NO_TEXT = {};
+    private static final int MOST = Integer.MAX_VALUE - 8;
+
+    private ByteBuffer bytes;
+    private long at;
+    /** Where a call's text begins. */
+    private int begin = TEXT;
+
+    Room() {
+        take(TEXT + 2 * Calls.ROOM);
+    }
+
+    private void reserve(long size) {
+        if (size <= bytes.capacity())
+            return;
+        if (size > MOST)
+            throw new OutOfMemoryError("texts of " + size + " bytes");
+        take((int) Math.min(MOST, Math.max(size, 2L * bytes.capacity())));
+    }
+
+    private void take(int size) {
+        bytes = ByteBuffer.allocateDirect(size).order(ByteOrder.nativeOrder());
+        at = Pointer.nativeValue(Native.getDirectBufferPointer(bytes));
+    }
+
+    /** A call that is passed a text and writes one. */
+    interface Call {
+        int make(long text, long out, long room, long written);
+    }
+
+    /** The code of the call, which is made again where the room for its text was too small. */
+    int make(byte[] text, Call call) {
+        begin = TEXT + text.length;
+        for (long size = (long) begin + Calls.ROOM;; size = begin + bytes.getLong(WRITTEN)) {
+            reserve(size);
+            bytes.put(TEXT, text);
+            int code = call.make(at + TEXT, at + begin, bytes.capacity() - begin, at + WRITTEN);
+            if (code != FolugbenException.SMALL)
+                return code;
+        }
+    }
+
+    /** The same of a call that is passed no text. */
+    int make(Call call) {
+        return make(NO_TEXT, call);
+    }
+
+    /** What such a call told. */
+    Calls.Told told(byte[] text, Call call) {
+        int code = make(text, call);
+        return new Calls.Told(code, text());
+    }
+
+    /** The same of a call that is passed no text. */
+    Calls.Told told(Call call) {
+        return told(NO_TEXT, call);
+    }
+
+    /** The text that the last call wrote, which is said to write one. */
+    String text() {
+        int length = (int) bytes.getLong(WRITTEN);
+        if (length == 0)
+            return "";
+        byte[] text = new byte[length];
+        bytes.get(begin, text);
+        return new String(text, StandardCharsets.UTF_8);
+    }
+
+    /** The address of three numbers of 32 bits. */
+    long numbers() {
+        return at + NUMBERS;
+    }
+
+    /** The number that the last call wrote there, as the first, the second or the third one. */
+    int number(int index) {
+        return bytes.getInt(NUMBERS + Integer.BYTES * index);
+    }
+
+    /** The address of a value. */
+    long value() {
+        return at + KIND;
+    }
+
+    /** The kind of the value that the last call wrote there. */
+    int kind() {
+        return bytes.getInt(KIND);
+    }
+
+    /** Its number. */
+    long number() {
+        return bytes.getLong(NUMBER);
+    }
+
+    /** The value itself. */
+    Value told() {
+        return switch (kind()) {
+            case UNDEF -> Element.undef();
+            case BOOL -> new Element.Bool(number() != 0);
+            case NUM -> new Element.Num(number());
+            case STRING -> new Element.Text(text());
+            default -> Value.parse(text());
+        };
+    }
+}

@@ -1,0 +1,123 @@
+"""Moves that are gathered."""
+import ctypes
+from typing import Self
+
+from ._errors import Error
+from ._held import Held, here, marked, nested, one_call
+from ._library import ADD, BAGADD, BAGREMOVE, BOOL, DONE, EMPTY, INC, NUM, PUT, RANGE, REMOVE, TEXT, UNDEF, quick
+from ._location import Location
+
+# What an instruction takes: undef, a truth, a number or a text.
+Plain = bool | int | str | None
+LEAST, MOST = -(2**63), 2**63 - 1
+
+
+class Move(Held):
+    """A move that is gathered instruction by instruction at prepared locations, and pushed by a step without any text.
+
+    It keeps its instructions until `clear`, and may be pushed any number of times, in steps of any storage. Its values are
+    None, True, False, whole numbers and texts; an instruction with a list, a set or a bag is pushed in a list of instructions.
+
+        move.clear().put(count, step.get(count) + 1).inc(total, 1)
+        step.push(move)
+    """
+
+    def __init__(self) -> None:
+        super().__init__()
+        self._size, self._is_freed = 0, False
+        self._number, self._length = ctypes.c_int64(), ctypes.c_size_t()
+
+    def __len__(self) -> int:
+        return self._size
+
+    def put(self, at: Location, value: Plain) -> Self:
+        """Puts a value; None leaves the location empty."""
+        return self._instruct(at, PUT, value)
+
+    def add(self, at: Location, element: Plain) -> Self:
+        """Adds an element to a set."""
+        return self._instruct(at, ADD, element)
+
+    def remove(self, at: Location, element: Plain) -> Self:
+        """Removes an element from a set."""
+        return self._instruct(at, REMOVE, element)
+
+    def bagadd(self, at: Location, element: Plain, amount: int) -> Self:
+        """Adds an element to a bag, 1 to 4,294,967,295 times."""
+        return self._instruct(at, BAGADD, element, amount_of(amount))
+
+    def bagremove(self, at: Location, element: Plain, amount: int) -> Self:
+        """Removes an element from a bag, 1 to 4,294,967,295 times."""
+        return self._instruct(at, BAGREMOVE, element, amount_of(amount))
+
+    def inc(self, at: Location, by: int) -> Self:
+        """Raises a number, by 0 or less too."""
+        return self._instruct(at, INC, by)
+
+    def _instruct(self, at: Location, verb: int, value: Plain, amount: int = 0) -> Self:
+        kind, number, text = operand(value)
+        mark = here.mark or marked()
+        if mark.in_call:
+            raise nested()
+        try:
+            mark.in_call = True
+            with self._lock, at._lock:
+                self._expect_held()
+                self._number.value, self._length.value = number, len(text)
+                code = quick.asm_instruct(self._at, at._at, verb, kind, self._number, text, self._length, amount)
+                if code != DONE:
+                    at._expect_on(code)
+                self._size += 1
+        finally:
+            mark.in_call = False
+        return self
+
+    @one_call
+    def clear(self) -> Self:
+        """Drops its instructions."""
+        with self._lock:
+            self._expect_held()
+            self._drop()
+        return self
+
+    @one_call
+    def free(self) -> None:
+        """Releases it; it may be called again."""
+        with self._lock:
+            self._drop()
+            self._is_freed = True
+
+    def _drop(self) -> None:
+        quick.asm_free(self._at)
+        self._size = 0
+
+    def _is_full(self) -> bool:
+        """Whether it has instructions."""
+        self._expect_held()
+        return self._size > 0
+
+    def _expect_held(self) -> None:
+        if self._is_freed:
+            raise Error(EMPTY, said="the move was freed")
+
+
+def operand(value: Plain) -> tuple[int, int, bytes]:
+    """The kind, the number and the text of a value."""
+    if isinstance(value, int):
+        if isinstance(value, bool):
+            return BOOL, int(value), b""
+        if not LEAST <= value <= MOST:
+            raise Error(RANGE)
+        return NUM, value, b""
+    if isinstance(value, str):
+        return TEXT, 0, value.encode()
+    if value is None:
+        return UNDEF, 0, b""
+    raise TypeError(f"a gathered instruction takes None, a bool, an int or a str, and not {type(value).__name__!r}")
+
+
+def amount_of(amount: int) -> int:
+    """The amount, which ctypes would cut to 32 bits."""
+    if not 1 <= amount < 2**32:
+        raise Error(RANGE)
+    return amount

@@ -1,0 +1,274 @@
+"""Tests of calls without text, prepared locations and gathered moves: python3 test.py runs them too."""
+import copy
+import json
+import pickle
+import random
+import unittest
+from unittest import mock
+
+import folugben
+from folugben import Clash, Deep, Error, Full, Location, Many, Move, Moved, Nested, Over, Stale, Storage, _library, check
+from threads import in_threads
+
+VALUES = [
+    None, True, False, 0, 1, -1, 2**63 - 1, -(2**63), "", "a", 'ä"\\\n\x00\x1f\U0001f600', "x" * 511, "x" * 512, "x" * 5000,
+    {"list": []}, {"list": [None, True, 1, "b", {"list": ["c"]}]}, {"set": []}, {"set": [None, True, 1, "ü"]}, {"bag": []},
+    {"bag": [[True, 1], [1, 2**32 - 1]]}, {"set": [f"{k:0100}" for k in range(200)]},
+]
+PLAIN = [value for value in VALUES if not isinstance(value, dict)]
+SET, BAG = {"set": [None, True, 1, "a"]}, {"bag": [[None, 5], [True, 5], [1, 5], ["a", 5]]}
+
+
+def gather(move, places, instruction):
+    """Gathers an instruction of a list, and prepares its location where there is none."""
+    word, place, *operands = instruction
+    key = json.dumps(place)
+    if key not in places:
+        places[key] = Location(place)
+    getattr(move, word)(places[key], *operands)
+
+
+class Plain(unittest.TestCase):
+    def setUp(self):
+        self.storage = Storage([[["v", k], value] for k, value in enumerate(VALUES) if value is not None], 50)
+        self.addCleanup(self.storage.free)
+        self.agent, self.rival = self.storage.agent(0), self.storage.agent(1)
+
+    def code_of(self, call, *arguments):
+        """The code of the error that the call raises, and what it says."""
+        with self.assertRaises(Error) as caught:
+            call(*arguments)
+        return caught.exception.code, caught.exception.said
+
+    def test_each_value_is_told_as_with_texts(self):
+        self.rival.fire([])
+        with self.agent.step() as step:
+            for k, value in enumerate(VALUES):
+                with Location(["v", k]) as at:
+                    self.assertEqual((at.place, repr(at)), (["v", k], f"Location(['v', {k}])"))
+                    (wanted,) = step.get([["v", k]])
+                    for told in (step.get(at), self.agent.peek(at)[1], wanted):
+                        self.assertEqual(repr(told), repr(value))
+                    self.assertEqual(self.agent.peek(at)[0], 1)
+            self.assertIsNone(step.get(Location(["none", {"list": ["ä"]}])))
+
+    def test_a_gathered_move_does_what_a_list_does(self):
+        rng, clashes, places = random.Random(7), 0, {}
+        words = {"s": ["add", "remove"], "b": ["bagadd", "bagremove"], "n": ["inc"]}
+
+        def instruction():
+            name = rng.choice("sbnp")
+            word = rng.choice([*words.get(name, []), "put"]) if rng.random() < 0.9 else rng.choice(sum(words.values(), []))
+            value = rng.choice([0, 1, -1, 2**62]) if word == "inc" else rng.choice(PLAIN)
+            return [word, [name, rng.randrange(2)], value, *([rng.choice([1, 2, 2**32 - 1])] if word[:3] == "bag" else [])]
+
+        init = [[[name, k], value] for k in range(2) for name, value in (("s", SET), ("b", BAG), ("n", 1), ("p", "a"))]
+        for round in range(500):
+            storage = Storage(init, 4)
+            agent, other = storage.agent(0), storage.agent(1)
+            step, wanted, move = agent.step(), other.step(), Move()
+            for calls in ((step.push, wanted.push), (step.extend, wanted.extend)) * 2:
+                instructions = [instruction() for _ in range(rng.randrange(3))]
+                for one in instructions:
+                    gather(move, places, one)
+                self.assertEqual(len(move), len(instructions))
+                told = []
+                for call, pushed in zip(calls, (move, instructions)):
+                    try:
+                        told.append(call(pushed))
+                    except Clash as error:
+                        told.append((error.at, error.cause))
+                self.assertEqual(*told)
+                clashes += told[0] is not None
+                self.assertEqual(step.depth, wanted.depth)
+                for name in "sbnp":
+                    self.assertEqual(repr(step.scan(name)), repr(wanted.scan(name)))
+                move.clear()
+            step.fire()
+            agent.give()
+            other.give()
+            self.assertEqual(check(storage.close_journal()), (1, 1))
+        self.assertGreater(clashes, 100)
+
+    def test_a_move_is_kept_and_gathered_further(self):
+        count = Location(["count"])
+        with Move() as move, self.agent.step() as step:
+            step.push(move)
+            self.assertEqual((len(move), step.depth), (0, 1))
+            self.assertIs(move.put(count, 1), move)
+            step.extend(move)
+            step.push(move.clear().inc(count, 2).inc(count, 3))
+            step.push(move)
+            self.assertEqual((len(move), step.depth, step.get(count)), (2, 3, 11))
+            step.pop()
+            self.assertEqual((step.get(count), step.fire()), (6, 1))
+            with self.rival.step() as later:
+                later.push(move)
+                self.assertEqual((later.get(count), later.try_fire()), (11, 2))
+
+    def test_limits(self):
+        at = Location(["count"])
+        with self.agent.step() as step:
+            move = Move()
+            for _ in range(64):
+                step.push(move)
+            self.assertRaises(Deep, step.push, move)
+            self.assertRaises(Deep, step.push, move.put(at, 1))
+            step.extend(move)
+            self.assertEqual((step.get(at), step.depth), (1, 64))
+            for k in range(255):
+                step.get(Location(["w", k]))
+            self.assertRaises(Many, step.get, Location(["w"]))
+            self.assertEqual(self.agent.peek(Location(["w"])), (0, None))
+            move.clear()
+            for _ in range(4096):
+                move.put(at, 1)
+            self.assertRaises(Many, move.put, at, 1)
+            self.assertEqual(len(move), 4096)
+            step.extend(move)
+
+    def test_operands_that_are_none(self):
+        at, move = Location(["count"]), Move()
+        move.put(at, 1)
+        for value in (1.5, [], {"list": []}, {"set": []}, b"", object()):
+            for call in (move.put, move.add, move.remove, move.inc):
+                self.assertRaises(TypeError, call, at, value)
+            self.assertRaises(TypeError, move.bagadd, at, value, 1)
+        self.assertRaises(UnicodeEncodeError, move.put, at, "\ud83d")
+        for number in (2**63, -(2**63) - 1, 10**30):
+            for call in (move.put, move.add, move.inc):
+                self.assertEqual(self.code_of(call, at, number)[0], folugben.RANGE)
+        for amount in (0, -1, 2**32, 2**40):
+            for call in (move.bagadd, move.bagremove):
+                self.assertEqual(self.code_of(call, at, 1, amount)[0], folugben.RANGE)
+        self.assertRaises(TypeError, move.bagadd, at, 1, "1")
+        for value in (True, None, "1"):
+            self.assertEqual(self.code_of(move.inc, at, value)[0], folugben.RANGE)
+        self.assertRaises(AttributeError, move.put, ["count"], 1)
+        self.assertEqual(len(move), 1)
+
+    def test_a_text_that_is_no_location_says_why(self):
+        code, said = self.code_of(Location, 7)
+        self.assertEqual(code, folugben.SHAPE)
+        self.assertEqual(said, "location 1: a location is an array of a name and at most 8 arguments")
+        self.assertEqual(self.code_of(Location, ["1x"])[0], folugben.SHAPE)
+        self.assertEqual(self.code_of(Location, ["x", 2**63])[0], folugben.SHAPE)
+        self.assertEqual(self.code_of(Location, ["x", float("nan")])[0], folugben.NOT_JSON)
+
+    def test_what_is_over_or_freed_or_moved_on(self):
+        at, move = Location(["count"]), Move()
+        move.put(at, 1)
+        step = self.agent.step()
+        self.rival.fire([])
+        self.agent.follow()
+        for call, argument in ((step.get, at), (step.push, move), (step.extend, move)):
+            self.assertRaises(Moved, call, argument)
+        self.assertEqual(step.fire(), 2)
+        for call, argument in ((step.get, at), (step.push, move), (step.extend, move)):
+            self.assertRaises(Over, call, argument)
+        self.assertRaises(Over, step.try_fire)
+        step = self.agent.step()
+        at.free()
+        at.free()
+        for call, *arguments in ((step.get, at), (self.agent.peek, at), (move.put, at, 1), (move.inc, at, 1)):
+            self.assertEqual(self.code_of(call, *arguments), (folugben.EMPTY, "the location was freed"))
+        self.assertEqual(len(move), 1)
+        step.push(move)
+        self.assertEqual(step.get([["count"]]), [1])
+        move.free()
+        move.free()
+        for call, *arguments in ((step.push, move), (step.extend, move), (move.clear,), (move.put, Location(["x"]), 1)):
+            self.assertEqual(self.code_of(call, *arguments), (folugben.EMPTY, "the move was freed"))
+        self.assertEqual(step.depth, 1)
+        self.agent.give()
+        for call, *arguments in ((step.get, Location(["x"])), (self.agent.peek, Location(["x"])), (step.try_fire,)):
+            self.assertEqual(self.code_of(call, *arguments), (folugben.EMPTY, ""))
+
+    def test_a_fire_that_may_be_in_vain(self):
+        count, move = Location(["count"]), Move()
+        with self.agent.step() as step:
+            step.get(count)
+            self.rival.fire([["put", ["count"], 5]])
+            self.assertEqual((step.try_fire(), self.agent.answer()), (0, {"stale": ["count"]}))
+            self.assertRaises(Stale, step.fire)
+        move.inc(count, 1)
+        while (fired := self.increased(move)) < 50:
+            pass
+        self.assertEqual(fired, 50)
+        with self.agent.step() as step:
+            self.assertEqual(step.get(count), 54)
+            self.assertRaises(Full, step.try_fire)
+
+    def increased(self, move):
+        with self.agent.step() as step:
+            step.push(move)
+            return step.try_fire()
+
+    def test_no_copy_shares_a_slot_and_what_is_dropped_is_freed(self):
+        for held in (Location(["x"]), Move()):
+            for copied in (copy.copy, copy.deepcopy, pickle.dumps):
+                with self.assertRaises(TypeError) as caught:
+                    copied(held)
+                self.assertEqual(str(caught.exception), f"cannot copy or pickle '{type(held).__name__}' object")
+        at = Location(["x"])
+        move = Move().put(at, 1)
+        with mock.patch.object(folugben._held, "lib", mock.Mock(wraps=_library.lib)) as lib:
+            del at
+            self.assertEqual(lib.asm_free.call_count, 1)
+            del move
+            self.assertEqual(lib.asm_free.call_count, 2)
+
+    def test_threads_that_share_a_location_and_a_move(self):
+        at, other, shared = Location(["count"]), Location(["other"]), Move()
+        storage = Storage([[["count"], 0], [["other"], 0]], 1000)
+
+        def work(own):
+            with storage.agent(own) as agent:
+                move, fired = Move(), 0
+                while fired < 100:
+                    with agent.step() as step:
+                        step.push(move.clear().put(at, step.get(at) + 1))
+                        agent.peek(at)
+                        fired += step.try_fire() != 0
+                        shared.inc(other, 1)
+                        if len(shared) > 1000:
+                            shared.clear()
+
+        self.assertEqual(in_threads(work, 8), ([], True))
+        with storage.agent(9) as agent, agent.step() as step:
+            step.push(shared)
+            self.assertEqual((step.get(at), step.get(other), step.fire()), (800, len(shared), 801))
+        self.assertEqual(check(storage.close_journal())[1], 801)
+
+    def test_a_handler_that_interrupts_a_plain_call_is_refused(self):
+        at, move = Location(["count"]), Move()
+        move.put(at, 1)
+        step, other = self.agent.step(), self.agent.step()
+        get, instruct, push, commit = (getattr(_library.quick, name) for name in (
+            "asm_get_at", "asm_instruct", "asm_push_move", "asm_commit"))
+
+        def between(call):
+            def made(*arguments):
+                for nested, *words in [
+                    (other.get, at), (self.agent.peek, at), (move.put, at, 2), (move.clear,), (other.push, move), (at.free,),
+                    (other.extend, move), (other.fire,), (other.try_fire,), (self.agent.step,), (move.free,), (Move().free,),
+                    (self.rival.step,), (self.storage.moves,),
+                ]:
+                    self.assertRaises(Nested, nested, *words)
+                return call(*arguments)
+
+            return made
+
+        quick = mock.Mock(wraps=_library.quick)
+        quick.asm_get_at, quick.asm_instruct = between(get), between(instruct)
+        quick.asm_push_move, quick.asm_commit = between(push), between(commit)
+        with mock.patch.object(folugben._step, "quick", quick), mock.patch.object(folugben._move, "quick", quick):
+            self.assertIsNone(step.get(at))
+            step.push(move.inc(at, 3).clear().put(at, 4))
+            self.assertEqual(step.get(at), 4)
+            self.assertEqual(step.fire(), 1)
+        self.assertEqual((step.depth, other.depth, len(move)), (0, 0, 1))
+
+
+if __name__ == "__main__":
+    unittest.main()
