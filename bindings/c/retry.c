@@ -190,7 +190,7 @@ static void run_plain(void) {
     instruct(&at[1], ASM_ADD, ASM_KIND_NUM, 1, "");
     REQUIRE(ON_STEP(asm_push_move(&agents[0], &step, &move, out, sizeof out, &written)) ==
             ASM_CLASH);
-    REQUIRE(has(out, written, "{'clash':[['u','why'],'Against']}"));
+    REQUIRE(has(out, written, "{'clash':[['u','why'],'Kind']}"));
     REQUIRE(AGAIN(asm_peek_at(&agents[0], &at[0], &number, &value, out, sizeof out, &written)) ==
             ASM_DONE);
     REQUIRE(number == 1 && value.kind == ASM_KIND_NUM && value.number == 8);
