@@ -1,8 +1,11 @@
 package folugben;
 
+import com.sun.jna.Library;
 import com.sun.jna.Native;
+import com.sun.jna.NativeLibrary;
 
 import java.nio.charset.StandardCharsets;
+import java.util.Map;
 
 /**
  * The calls of include/folugben.h. A slot is passed as its address, by one who holds its lock, and
@@ -16,8 +19,12 @@ final class Calls {
     static final int ROOM = 512;
 
     static {
-        Native.register(Calls.class, libraryName());
+        Class<?> own = Calls.class;
+        NativeLibrary library = NativeLibrary.getInstance(
+                libraryName(), Map.of(Library.OPTION_CLASSLOADER, own.getClassLoader()));
+        Native.register(own, library);
         expectVersion(asm_version());
+        Quick.bind(own, library);
     }
 
     private Calls() {}

@@ -176,6 +176,13 @@ public final class Test {
         }
     }
 
+    /** Whether calls go past JNA, where it is said what is wanted. */
+    static void quick() {
+        String wanted = System.getProperty("folugben.quick");
+        if (wanted != null)
+            equal(Quick.isThere(), Boolean.valueOf(wanted));
+    }
+
     static void libraryNames() {
         String key = "folugben.library";
         String was = System.getProperty(key);
@@ -204,6 +211,8 @@ public final class Test {
         System.out.println("rooms");
         monitors();
         System.out.println("monitors");
+        quick();
+        System.out.println("quick");
         libraryNames();
         System.out.println("library names");
         TextTests.all();

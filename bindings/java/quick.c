@@ -1,0 +1,97 @@
+/* The calls of an engine's step, for Java without JNA, which takes longer for each than the call itself. folugben_bind has
+ * the methods of the class Calls be these functions, which pass their words on to the library. */
+#include <jni.h>
+#include <stddef.h>
+#include <stdint.h>
+
+#include "folugben.h"
+
+#define AT(word) ((void *)(intptr_t)(word))
+#define OWN __attribute__((unused)) JNIEnv *env, __attribute__((unused)) jclass calls
+#define TEXTS jlong out, jlong room, jlong written
+#define TEXTS_AT AT(out), (size_t)room, AT(written)
+
+typedef int32_t text_call(asm_slot *, asm_slot *, const uint8_t *, size_t, uint8_t *, size_t, size_t *);
+typedef int32_t move_call(asm_slot *, asm_slot *, asm_slot *, uint8_t *, size_t, size_t *);
+
+/* Where the library's calls are. */
+static struct {
+    int32_t (*begin)(asm_slot *, asm_slot *, uint32_t *);
+    text_call *get, *push, *extend;
+    int32_t (*commit)(asm_slot *, asm_slot *, asm_numbers *);
+    int32_t (*peek_at)(asm_slot *, asm_slot *, uint32_t *, asm_value *, uint8_t *, size_t, size_t *);
+    int32_t (*get_at)(asm_slot *, asm_slot *, asm_slot *, asm_value *, uint8_t *, size_t, size_t *);
+    int32_t (*instruct)(asm_slot *, asm_slot *, int32_t, int32_t, int64_t, const uint8_t *, size_t, uint32_t);
+    move_call *push_move, *extend_move;
+    void (*free)(asm_slot *);
+} library;
+
+static jint JNICALL begin(OWN, jlong agent, jlong step, jlong number) {
+    return library.begin(AT(agent), AT(step), AT(number));
+}
+
+#define TEXT_CALL(name)                                                                   \
+    static jint JNICALL name(OWN, jlong agent, jlong step, jlong text, jlong len, TEXTS) { \
+        return library.name(AT(agent), AT(step), AT(text), (size_t)len, TEXTS_AT);        \
+    }
+TEXT_CALL(get)
+TEXT_CALL(push)
+TEXT_CALL(extend)
+
+static jint JNICALL commit(OWN, jlong agent, jlong step, jlong numbers) {
+    return library.commit(AT(agent), AT(step), AT(numbers));
+}
+
+static jint JNICALL peek_at(OWN, jlong agent, jlong at, jlong number, jlong value, TEXTS) {
+    return library.peek_at(AT(agent), AT(at), AT(number), AT(value), TEXTS_AT);
+}
+
+static jint JNICALL get_at(OWN, jlong agent, jlong step, jlong at, jlong value, TEXTS) {
+    return library.get_at(AT(agent), AT(step), AT(at), AT(value), TEXTS_AT);
+}
+
+static jint JNICALL instruct(OWN, jlong move, jlong at, jint verb, jint kind, jlong number, jlong bytes, jlong len,
+                             jint amount) {
+    return library.instruct(AT(move), AT(at), verb, kind, number, AT(bytes), (size_t)len, (uint32_t)amount);
+}
+
+#define MOVE_CALL(name)                                                        \
+    static jint JNICALL name(OWN, jlong agent, jlong step, jlong move, TEXTS) { \
+        return library.name(AT(agent), AT(step), AT(move), TEXTS_AT);          \
+    }
+MOVE_CALL(push_move)
+MOVE_CALL(extend_move)
+
+static void JNICALL release(OWN, jlong slot) { library.free(AT(slot)); }
+
+/* A method, what it is to be, and where the address of the library's call is kept. */
+static const struct {
+    JNINativeMethod method;
+    void *call;
+} bound[] = {
+    {{"asm_begin", "(JJJ)I", (void *)begin}, &library.begin},
+    {{"asm_get", "(JJJJJJJ)I", (void *)get}, &library.get},
+    {{"asm_push", "(JJJJJJJ)I", (void *)push}, &library.push},
+    {{"asm_extend", "(JJJJJJJ)I", (void *)extend}, &library.extend},
+    {{"asm_commit", "(JJJ)I", (void *)commit}, &library.commit},
+    {{"asm_peek_at", "(JJJJJJJ)I", (void *)peek_at}, &library.peek_at},
+    {{"asm_get_at", "(JJJJJJJ)I", (void *)get_at}, &library.get_at},
+    {{"asm_instruct", "(JJIIJJJI)I", (void *)instruct}, &library.instruct},
+    {{"asm_push_move", "(JJJJJJ)I", (void *)push_move}, &library.push_move},
+    {{"asm_extend_move", "(JJJJJJ)I", (void *)extend_move}, &library.extend_move},
+    {{"asm_free", "(J)V", (void *)release}, &library.free},
+};
+
+/* The version of the header, as asm_version tells that of the library. */
+JNIEXPORT int32_t folugben_quick_version(void) { return FOLUGBEN_VERSION; }
+
+/* The name of a method that can be bound, from 0 up; null behind the last. */
+JNIEXPORT const char *folugben_bindable(int32_t index) {
+    return (size_t)index < sizeof bound / sizeof *bound ? bound[index].method.name : NULL;
+}
+
+/* Binds the method to the library's call at this address; 0 where that was done, else an exception is thrown. */
+JNIEXPORT int32_t folugben_bind(JNIEnv *env, jclass calls, int32_t index, void *call) {
+    *(void **)bound[index].call = call;
+    return (*env)->RegisterNatives(env, calls, &bound[index].method, 1);
+}
