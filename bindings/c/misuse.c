@@ -299,7 +299,7 @@ static void writes(unsigned at) {
         judges(journal, written);
 }
 
-static void frees(unsigned at) {
+void frees(unsigned at) {
     asm_free(&slots[at]);
     REQUIRE(slots[at].at == NULL);
     accounts[at] = (account){.kind = NOTHING};
@@ -355,7 +355,7 @@ static void calls_any(void) {
 
 int main(int argc, char **argv) {
     last_seed = argc > 1 ? (unsigned)strtoul(argv[1], NULL, 10) : 1;
-    unsigned long calls = argc > 2 ? strtoul(argv[2], NULL, 10) : 100000;
+    unsigned long calls = argc > 2 ? strtoul(argv[2], NULL, 10) : 200000;
     for (call_number = 0; call_number < calls; call_number++) {
         calls_any();
         for (unsigned i = 0; i < SLOTS; i++) {

@@ -142,6 +142,12 @@ bool have_meaning(unsigned at, unsigned of_step);
 /* A slot with a step of the agent's storage, if there is one; at times the slot itself. */
 unsigned fitting(unsigned at, unsigned of_step);
 
+/* Releases what the slot holds. */
+void frees(unsigned at);
+
+/* Commits the step with the agent. */
+void commits(unsigned at, unsigned of_step);
+
 /* One call without text. */
 void calls_any_plain(unsigned at, unsigned other);
 

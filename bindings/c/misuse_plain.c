@@ -187,26 +187,41 @@ static void grows_by(unsigned at, unsigned of_step, unsigned of_move, bool is_pu
     }
 }
 
-/* A slot of this kind, if there is one behind any; at times the slot itself. */
-static unsigned some(int kind, unsigned other) {
-    for (unsigned i = below(4) ? below(SLOTS) : SLOTS; i < SLOTS; i++)
-        if ((int)accounts[i].kind == kind)
-            return i;
+/* A slot of this kind, if there is one; at times the slot itself. */
+static unsigned some(unsigned kind, unsigned other) {
+    unsigned from = below(SLOTS), tries = below(8) ? SLOTS : 0;
+    for (unsigned i = from; i < from + tries; i++)
+        if (accounts[i % SLOTS].kind == kind)
+            return i % SLOTS;
     return other;
+}
+
+/* Grows a step, at times more often than it is deep; and at times ends its move, or the step. */
+static void grows_any(unsigned at, unsigned of_step, unsigned of_move) {
+    if (!have_meaning(at, of_step))
+        return;
+    for (unsigned i = below(16) ? 1 : 200; i > 0; i--)
+        grows_by(at, of_step, of_move, below(8));
+    if (accounts[of_move].kind == MOVE && !below(3))
+        frees(of_move);
+    if (!below(16))
+        commits(at, of_step);
 }
 
 void calls_any_plain(unsigned at, unsigned other) {
     unsigned of_step = fitting(at, other);
+    at = below(4) ? some(AGENT, at) : at;
+    of_step = below(4) ? fitting(at, of_step) : of_step;
     switch (below(8)) {
     case 0:
-        locates(at);
+        locates(other);
         break;
     case 1:
         peeks_at(some(AGENT, at), some(LOCATION, other));
         break;
     case 2:
     case 3:
-        instructs(some(MOVE, at), some(LOCATION, other));
+        instructs(some(MOVE, other), some(LOCATION, at));
         break;
     case 4:
     case 5:
@@ -214,7 +229,6 @@ void calls_any_plain(unsigned at, unsigned other) {
             gets_at(at, of_step, some(LOCATION, other));
         break;
     default:
-        if (have_meaning(at, of_step))
-            grows_by(at, of_step, some(MOVE, other), below(2));
+        grows_any(at, of_step, some(MOVE, other));
     }
 }

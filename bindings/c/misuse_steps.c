@@ -227,7 +227,7 @@ static int32_t commit_answer(const account *s, const story *of, world *w) {
     return ASM_DONE;
 }
 
-static void commits(unsigned at, unsigned of_step) {
+void commits(unsigned at, unsigned of_step) {
     account *a = &accounts[at], *s = &accounts[of_step];
     story *of = &stories[a->storage];
     asm_numbers numbers = {9, 9, 9};
