@@ -337,7 +337,7 @@ int32_t asm_get_at(asm_slot *agent, asm_slot *step, asm_slot *at, asm_value *val
  * number alone. ASM_TAKEN (`move` holds something else than a move), ASM_EMPTY (`at`), ASM_RANGE (the
  * verb, the kind, the number or the bytes of this kind, the amount), ASM_SHAPE (the bytes of a text
  * aren't UTF-8), ASM_MANY (the move has 4,096 instructions), ASM_MEMORY; the first of these that
- * holds is answered. */
+ * holds is answered, but that ASM_MEMORY may come before ASM_MANY. */
 int32_t asm_instruct(asm_slot *move, asm_slot *at, int32_t verb, int32_t kind, int64_t number,
                      const uint8_t *bytes, size_t len, uint32_t amount);
 
