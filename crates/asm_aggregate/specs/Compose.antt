@@ -9,6 +9,7 @@ use Rattle.asm_element.specs.Place.{Place}
 use Rattle.asm_element.specs.Value.{undef}
 use Rattle.asm_update.specs.Aggregator.{Meaning, Joined, NoJoin, Refused, TooLarge, after}
 use Rattle.asm_update.specs.Fire.{Part, GroupResult, fire, sequence, locations}
+use Rattle.asm_update.specs.Limits.{instructions_limit}
 use Rattle.asm_update.specs.Move.{Move, actions_at}
 use Rattle.asm_update.specs.State.{State, IsProper}
 use Rattle.asm_update.specs.declared.action.Action.{Action}
@@ -76,10 +77,10 @@ composition a M N = in_turn (map (λ l. (l, composed_at a M N l)) (locations (M 
 
 -- the answer is the composition, or its refusal; a list of more than 4,096 is too long; an allocation failure tells nothing
 abbrev pub IsComposition : Meaning → Move → Move → Result Move ComposeError → Type 0
-IsComposition a M N (Ok C) = (composition a M N ≡ Ok C) × (length C ≤ 4096)
+IsComposition a M N (Ok C) = (composition a M N ≡ Ok C) × (length C ≤ instructions_limit)
 IsComposition a M N (Err (compose_error.Clash c)) = composition a M N ≡ Err (c.at, Refused c.cause)
 IsComposition a M N (Err (compose_error.Large l)) = composition a M N ≡ Err (l, TooLarge)
-IsComposition a M N (Err compose_error.ManyInstructions) = (C : Move) × (composition a M N ≡ Ok C) × (4096 < length C)
+IsComposition a M N (Err compose_error.ManyInstructions) = (C : Move) × (composition a M N ≡ Ok C) × (instructions_limit < length C)
 IsComposition a M N (Err compose_error.Memory) = Unit {0}
 
 -- on each proper state that the first move fires on, the third does what the second does after it, clashes included
@@ -108,8 +109,8 @@ IsComposedList a M N (Err compose_error.Memory) = Unit {0}
 
 -- the answer is the list, or that it is too long
 abbrev pub IsLimited : Move → Result Move ComposeError → Type 0
-IsLimited list (Ok C) = (C ≡ list) × (length list ≤ 4096)
-IsLimited list (Err compose_error.ManyInstructions) = 4096 < length list
+IsLimited list (Ok C) = (C ≡ list) × (length list ≤ instructions_limit)
+IsLimited list (Err compose_error.ManyInstructions) = instructions_limit < length list
 IsLimited list (Err compose_error.Memory) = Unit {0}
 IsLimited list (Err _) = ⊥
 

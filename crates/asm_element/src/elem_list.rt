@@ -1,6 +1,7 @@
 ghost use Rattle.std.specs.Prelude.{◌≡◌, ◌↔◌, ◌<◌, ◌≤◌, IfOk, IsTrue, All, vec_len};
 ghost use Rattle.std.specs.Cmp.{partial_equiv_from_equiv, eq_by_cmp_equiv};
 ghost use Rattle.std.specs.Ordering.{eq_by_cmp};
+ghost use Rattle.asm_element.specs.Limits.{items_limit, depth_limit};
 ghost use Rattle.asm_element.specs.Datum as datum;
 ghost use Rattle.asm_element.specs.View.{datum as datum_of, sequence, elements};
 ghost use Rattle.asm_element.specs.Element.{IsProper};
@@ -67,7 +68,7 @@ impl Model for ElemList {
 /// How deep lists nest in an element.
 fn depth_of(element: &Element) -> u32
     ensures depth { result ≡ datum.depth (datum_of element.now) }
-    ensures bound { result ≤ 8 }
+    ensures bound { result ≤ depth_limit }
 {
     match element {
         Element::List(list) => list.depth(),
@@ -82,9 +83,9 @@ impl ElemList {
     /// would nest more than 8 deep. After an error the items are dropped.
     pub fn new(items: Vec<Element>) -> Result<ElemList, ListError>
         ensures ok { IfOk result (λ l. l ≡ sequence items.items) }
-        ensures many_items { (result ≡ Err ListError.ManyItems) ↔ (4096 < vec_len items) }
+        ensures many_items { (result ≡ Err ListError.ManyItems) ↔ (items_limit < vec_len items) }
         ensures too_deep { (result ≡ Err ListError.TooDeep)
-            ↔ ((vec_len items ≤ 4096) × (8 < datum.depth (datum.list (sequence items.items)))) }
+            ↔ ((vec_len items ≤ items_limit) × (depth_limit < datum.depth (datum.list (sequence items.items)))) }
     {
         if items.len() > ITEMS_LIMIT {
             return Err(ListError::ManyItems);
@@ -103,7 +104,7 @@ impl ElemList {
     /// The items, from the first to the last: at most 4,096, each one that a program can hold.
     pub fn items(&self) -> &[Element]
         ensures items { result.now ≡ elements self.now }
-        ensures few { datum.len self.now ≤ 4096 }
+        ensures few { datum.len self.now ≤ items_limit }
         ensures proper { All IsProper (elements self.now) }
     {
         self.items.as_slice()
@@ -112,7 +113,7 @@ impl ElemList {
     /// How deep lists nest, this one counted: 1 to 8.
     pub fn depth(&self) -> u32
         ensures depth { result ≡ datum.depth (datum.list self.now) }
-        ensures bound { result ≤ 8 }
+        ensures bound { result ≤ depth_limit }
     {
         self.depth
     }

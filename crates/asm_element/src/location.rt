@@ -2,6 +2,7 @@ ghost use Rattle.std.specs.Prelude.{◌≡◌, ◌↔◌, ◌<◌, ◌≤◌, If
 ghost use Rattle.std.specs.List.{list_all};
 ghost use Rattle.std.specs.Cmp.{partial_order_from_total, partial_equiv_from_equiv, eq_by_cmp_equiv};
 ghost use Rattle.std.specs.Ordering.{as_partial_cmp, eq_by_cmp};
+ghost use Rattle.asm_element.specs.Limits.{args_limit};
 ghost use Rattle.asm_element.specs.Place as place;
 
 use crate::element::Element;
@@ -98,7 +99,7 @@ impl Location {
         ensures bad_name { (result ≡ Err LocationError.BadName)
             ↔ (is_name (string_bytes name) ≡ false) }
         ensures many_args { (result ≡ Err LocationError.ManyArgs)
-            ↔ (IsTrue (is_name (string_bytes name)) × (8 < vec_len args)) }
+            ↔ (IsTrue (is_name (string_bytes name)) × (args_limit < vec_len args)) }
     {
         if !is_name(name.as_str()) {
             return Err(LocationError::BadName);
@@ -123,7 +124,7 @@ impl Location {
     /// The arguments from left to right: at most 8, each one that a program can hold.
     pub fn args(&self) -> &[Element]
         ensures args { result.now ≡ self.now.args }
-        ensures few { length self.now.args ≤ 8 }
+        ensures few { length self.now.args ≤ args_limit }
         ensures proper { All IsProper self.now.args }
     {
         self.args.as_slice()

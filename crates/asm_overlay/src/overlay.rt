@@ -1,5 +1,6 @@
 ghost use Rattle.std.specs.Prelude.{◌≡◌, ◌<◌, ◌≤◌, ◌++◌, ◌∷◌, ◌↔◌, ◌⊎◌, [], length};
 ghost use Rattle.std.specs.Prelude.{OnOk, OnErr, IfErr, IfSome, IfNone, IsErrOf};
+ghost use Rattle.asm_overlay.specs.Limits.{frames_limit};
 ghost use Rattle.asm_overlay.specs.Frames.{topmost};
 ghost use Rattle.asm_overlay.specs.Seen.{held_value};
 
@@ -44,6 +45,7 @@ pub struct Overlay {
 impl Model for Overlay {
     ghost use Rattle.std.specs.Prelude.{length, ◌≤◌};
     ghost use Rattle.std.specs.Coded.{coded_list};
+    ghost use Rattle.asm_overlay.specs.Limits.{frames_limit};
     ghost use Rattle.asm_overlay.specs.Frames.{Frames};
     ghost use Rattle.asm_update.specs.contracts.update_set.UpdateSet.{the_row as frame_row};
 
@@ -53,7 +55,7 @@ impl Model for Overlay {
 
     ghost view = { λ o. o.frames.items };
 
-    ghost invariant = { λ o. length o.frames.items ≤ 64 };
+    ghost invariant = { λ o. length o.frames.items ≤ frames_limit };
 }
 
 impl Overlay {
@@ -73,8 +75,8 @@ impl Overlay {
     pub fn push(&mut self, frame: UpdateSet) -> Result<(), OverlayError>
         ensures ok { OnOk result (self.new ≡ self.old ++ frame ∷ []) }
         ensures err { OnErr result (self.new ≡ self.old) }
-        ensures deep { IsErrOf result (OverlayError.Deep frame) ↔ (length self.old ≡ 64) }
-        ensures memory { IsErrOf result (OverlayError.Memory frame) → length self.old < 64 }
+        ensures deep { IsErrOf result (OverlayError.Deep frame) ↔ (length self.old ≡ frames_limit) }
+        ensures memory { IsErrOf result (OverlayError.Memory frame) → length self.old < frames_limit }
         ensures handed_back { IfErr result (λ e.
             (e ≡ OverlayError.Deep frame) ⊎ (e ≡ OverlayError.Memory frame)) }
     {
@@ -98,7 +100,7 @@ impl Overlay {
     /// How many frames there are, at most 64.
     pub fn depth(&self) -> usize
         ensures value { result ≡ length self.now }
-        ensures within { length self.now ≤ 64 }
+        ensures within { length self.now ≤ frames_limit }
     {
         self.frames.len()
     }

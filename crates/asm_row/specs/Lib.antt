@@ -1,4 +1,5 @@
 pub mod KnownPrefix
+pub mod Limits
 pub mod Mark
 pub mod Offer
 pub mod Row

@@ -16,5 +16,5 @@ mod seat;
 
 pub use mark::Mark;
 pub use progress::Progress;
-pub use row::{Row, RowError};
+pub use row::{CAPACITY_LIMIT, Row, RowError};
 pub use seat::{Offer, Seat};

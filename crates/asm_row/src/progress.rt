@@ -2,12 +2,10 @@ ghost use Rattle.std.specs.Prelude.{◌≡◌, ◌+◌, ◌-◌, ◌^◌, ◌<�
 ghost use Rattle.std.specs.Prelude.{IfOk, IfErr, IsOk, IfSome, IfNone, IsNone, IsSome, MatchBool};
 ghost use mathlib.Core.List.{IsPrefix};
 ghost use Rattle.std.specs.declared.option.Option.TheVariants.{None, Some};
-ghost use Rattle.asm_row.specs.Offer.{IfWon, IfLost};
 
 use crate::known_prefix::KnownPrefix;
 use crate::mark::Mark;
 use crate::row::Row;
-use crate::seat::Offer;
 use once_cell::race::Note;
 use std::alloc::{AllocError, Global};
 use std::marker::Model;
@@ -143,16 +141,6 @@ impl<T> Progress<T> {
         }
     }
 
-    // A mark, for which no memory is needed.
-    pub(crate) fn to_mark(&self) -> Mark<T>
-        ensures { result ≡ record { row = self.now.row; seen = self.now.seen } }
-    {
-        Mark {
-            len: self.seen_len,
-            prefix: self.prefix.copy(),
-        }
-    }
-
     /// A mark of what was seen, which another seat or progress of the row can learn.
     ///
     /// The answer is always `Ok`: a mark takes no memory of its own.
@@ -162,7 +150,10 @@ impl<T> Progress<T> {
             mark ≡ record { row = self.now.row; seen = self.now.seen }) }
     {
         let _ = alloc;
-        Ok(self.to_mark())
+        Ok(Mark {
+            len: self.seen_len,
+            prefix: self.prefix.copy(),
+        })
     }
 
     /// Takes in what a mark of the same row holds, without a look at the row.
@@ -185,29 +176,8 @@ impl<T> Progress<T> {
 }
 
 impl<T: Drop> Progress<T> {
-    /// Offers `value` for the first cell that was not seen: one set where the cell is empty.
-    ///
-    /// Either way one entry more was then seen, the one that stands in the cell: on `Won` the passed
-    /// one, and `won` grows by one; on `Lost` the returned one, and `value` is dropped. Contracts
-    /// speak of the seen cells alone; tests show that a lost value is put into no other cell. `try_offer`
-    /// gives a lost value back.
-    pub fn offer<'r>(&mut self, row: &'r Row<T>, value: Box<T>) -> Offer<'r, T>
-        requires own { row.now ≡ self.old.row }
-        requires room { length self.old.seen < length self.old.row }
-        ensures row { self.new.row ≡ self.old.row }
-        ensures won { IfWon result
-            (self.new ≡ record self.old { seen = self.old.seen ++ value.value ∷ []; won = self.old.won + 1 }) }
-        ensures lost { IfLost result (λ entry.
-            self.new ≡ record self.old { seen = self.old.seen ++ entry.now ∷ [] }) }
-    {
-        let k = self.seen_len;
-        match self.try_offer(row, value) {
-            Ok(()) => Offer::Won,
-            Err(_) => Offer::Lost(self.at(row, k)),
-        }
-    }
-
-    /// Offers `value` for the first cell that was not seen, and gives it back where another entry stands there.
+    /// Offers `value` for the first cell that was not seen: one set where the cell is empty. Where another entry
+    /// stands there, it gives `value` back.
     ///
     /// Either way one entry more was then seen, the one that stands in the cell. On `Ok` that is the
     /// passed one, and `won` grows by one. `Err` has the same box, which may be offered again, for the

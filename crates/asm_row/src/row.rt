@@ -1,5 +1,6 @@
 ghost use Rattle.std.specs.Prelude.{◌≡◌, ◌<◌, ◌≤◌, ◌↔◌, ◌⊎◌, [], length, slice_get, IfOk, IsOk, IsErrOf};
 ghost use Rattle.once_cell.specs.Once.{cell_name};
+ghost use Rattle.asm_row.specs.Limits.{capacity_limit};
 ghost use Rattle.asm_row.specs.declared.row.RowError.TheVariants.{Memory};
 
 use crate::progress::Progress;
@@ -9,7 +10,8 @@ use std::alloc::{AllocError, Global};
 use std::marker::Model;
 use thiserror::Error;
 
-const MAX_CAPACITY: u32 = 1_048_576;
+/// The greatest capacity of a row.
+pub const CAPACITY_LIMIT: u32 = 1_048_576;
 
 /// Why a row was not made.
 #[derive(Debug, Drop, PartialEq, Eq, Error)]
@@ -44,13 +46,14 @@ pub struct Row<T> {
 
 impl<T> Model for Row<T> {
     ghost use Rattle.std.specs.Prelude.{ℕ, List, ◌<◌, ◌≤◌, length};
+    ghost use Rattle.asm_row.specs.Limits.{capacity_limit};
     ghost use Rattle.asm_row.specs.Row.{cell_names};
 
     ghost Value = { List ℕ };
 
     ghost view = { λ r. cell_names r.cells.items };
 
-    ghost invariant = { λ r. (0 < length r.cells.items) × (length r.cells.items ≤ 1048576) };
+    ghost invariant = { λ r. (0 < length r.cells.items) × (length r.cells.items ≤ capacity_limit) };
 }
 
 impl<T: Drop> Row<T> {
@@ -61,15 +64,14 @@ impl<T: Drop> Row<T> {
     #[tactic(auto, using(crate::proofs::Cells::names))]
     pub fn new(alloc: Global, capacity: u32) -> Result<Row<T>, RowError>
         ensures ok { IfOk result (λ row. length row ≡ capacity) }
-        ensures bad { IsErrOf result RowError.BadCapacity ↔ ((capacity ≡ 0) ⊎ (1048576 < capacity)) }
+        ensures bad { IsErrOf result RowError.BadCapacity ↔ ((capacity ≡ 0) ⊎ (capacity_limit < capacity)) }
     {
-        if capacity == 0 || capacity > MAX_CAPACITY {
+        if capacity == 0 || capacity > CAPACITY_LIMIT {
             return Err(RowError::BadCapacity);
         }
-        let mut cells = Vec::with_capacity(alloc, capacity as usize)?;
-        for _ in 0..capacity {
-            cells.push(OnceBox::new(alloc)).unwrap();
-        }
+        let capacity = capacity as usize;
+        let mut cells = Vec::with_capacity(alloc, capacity)?;
+        cells.resize_with(capacity, || OnceBox::new(alloc))?;
         Ok(Row { cells })
     }
 }
@@ -79,7 +81,7 @@ impl<T> Row<T> {
     #[tactic(auto, using(crate::proofs::Cells::names))]
     pub fn capacity(&self) -> u32
         ensures value { result ≡ length self.now }
-        ensures within { (0 < length self.now) × (length self.now ≤ 1048576) }
+        ensures within { (0 < length self.now) × (length self.now ≤ capacity_limit) }
     {
         self.cells.len() as u32
     }

@@ -1,5 +1,5 @@
-ghost use Rattle.std.specs.Prelude.{◌≡◌, ◌+◌, ◌-◌, ◌^◌, ◌<◌, ◌≤◌, ◌∷◌, ◌++◌, [], length, map, max, min};
-ghost use Rattle.std.specs.Prelude.{slice_get, All, Contains, IfOk, IsOk, IfSome, IfNone, IsNone, MatchBool};
+ghost use Rattle.std.specs.Prelude.{◌≡◌, ◌+◌, ◌-◌, ◌^◌, ◌<◌, ◌≤◌, ◌∷◌, ◌++◌, [], length, max, min};
+ghost use Rattle.std.specs.Prelude.{slice_get, IfOk, IsOk, IfSome, IfNone, IsNone, MatchBool};
 ghost use mathlib.Core.List.{IsPrefix};
 ghost use Rattle.asm_row.specs.Offer.{IfWon, IfLost};
 
@@ -133,28 +133,6 @@ impl<'r, T> Seat<'r, T> {
     {
         self.progress.learn(mark)
     }
-
-    fn to_mark(&self) -> Mark<T>
-        ensures { result ≡ record { row = self.now.row; seen = self.now.seen } }
-    {
-        self.progress.to_mark()
-    }
-
-    /// Takes in what each of the seats of the same row has seen, by their marks.
-    ///
-    /// This is the law of a row: its seats have seen prefixes of one list. Afterwards this seat has seen the
-    /// longest of them. Wins and misses stay as they are.
-    pub fn learn_all(&mut self, seats: &[Seat<'_, T>])
-        requires { All (λ seat. seat.row ≡ self.old.row) seats.now }
-        ensures kept { self.new ≡ record self.old { seen = self.new.seen } }
-        ensures mine { IsPrefix self.old.seen self.new.seen }
-        ensures theirs { All (λ seat. IsPrefix seat.seen self.new.seen) seats.now }
-        ensures longest { Contains (self.old.seen ∷ map (λ seat. seat.seen) seats.now) self.new.seen }
-    {
-        for seat in seats {
-            self.learn(&seat.to_mark());
-        }
-    }
 }
 
 impl<'r, T: Drop> Seat<'r, T> {
@@ -171,6 +149,10 @@ impl<'r, T: Drop> Seat<'r, T> {
         ensures lost { IfLost result (λ entry.
             self.new ≡ record self.old { seen = self.old.seen ++ entry.now ∷ [] }) }
     {
-        self.progress.offer(self.row, value)
+        let last = self.progress.seen_len();
+        match self.progress.try_offer(self.row, value) {
+            Ok(()) => Offer::Won,
+            Err(_) => Offer::Lost(self.progress.at(self.row, last)),
+        }
     }
 }

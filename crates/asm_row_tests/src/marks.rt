@@ -2,7 +2,7 @@
 ghost use Rattle.std.specs.Prelude.{◌≡◌, []};
 
 use crate::seats::{offers, shows};
-use asm_row::{Offer, Progress, Row, Seat};
+use asm_row::{Progress, Row, Seat};
 use std::alloc::{AllocError, Global};
 use std::test::Fail;
 
@@ -67,9 +67,10 @@ fn offers_beside(
         return Ok(false);
     }
     let entry = Box::new(alloc, entry)?;
-    Ok(match progress.offer(row, entry) {
-        Offer::Won => standing.is_none(),
-        Offer::Lost(other) => standing == Some(*other),
+    let last = progress.seen_len();
+    Ok(match progress.try_offer(row, entry) {
+        Ok(()) => standing.is_none(),
+        Err(_) => standing == Some(*progress.at(row, last)),
     })
 }
 

@@ -1,5 +1,5 @@
 //! Seats, marks and progress in several threads, which agree on the entries.
-ghost use Rattle.std.specs.Prelude.{◌≡◌, All, IfOk};
+ghost use Rattle.std.specs.Prelude.{◌≡◌, IfOk};
 
 use asm_row::{Mark, Offer, Progress, Row, Seat};
 use std::alloc::{AllocError, Global};
@@ -94,19 +94,6 @@ fn learner_of_marks<'r>(
     Ok(seat)
 }
 
-// A seat that has learnt from each.
-fn learner_of_seats<'r>(
-    alloc: Global,
-    row: &'r Row<u32>,
-    seats: &[Seat<'_, u32>],
-) -> Result<Seat<'r, u32>, AllocError>
-    requires { All (λ seat. seat.row ≡ row.now) seats.now }
-{
-    let mut seat = row.seat(alloc)?;
-    seat.learn_all(seats);
-    Ok(seat)
-}
-
 // Whether each entry is the one that the first thread offered for its place, or that the second did.
 fn is_by_either(seat: &Seat<'_, u32>) -> bool {
     for k in 0..seat.seen_len() {
@@ -119,16 +106,8 @@ fn is_by_either(seat: &Seat<'_, u32>) -> bool {
 }
 
 fn agree_by_marks(one: &Seat<'_, u32>, two: &Seat<'_, u32>, learner: &Seat<'_, u32>) -> bool {
-    learner.is_full() && is_by_either(learner) && agree(learner, one) && agree(learner, two)
-}
-
-fn agree_by_seats(seats: &[Seat<'_, u32>], learner: &Seat<'_, u32>) -> bool {
-    for seat in seats {
-        if !agree(learner, seat) {
-            return false;
-        }
-    }
-    learner.won() == 0
+    let is_whole = learner.is_full() && learner.won() == 0 && is_by_either(learner);
+    is_whole && agree(learner, one) && agree(learner, two)
 }
 
 // Whether a seat that learns the marks of both agrees with each at every place.
@@ -145,49 +124,6 @@ fn learner_of_marks_agrees(
     Ok(agree_by_marks(one, two, &learner))
 }
 
-// Whether a seat that learns from each agrees with each at every place.
-fn learner_of_seats_agrees(
-    alloc: Global,
-    row: &Row<u32>,
-    seats: &[Seat<'_, u32>],
-) -> Result<bool, AllocError>
-    requires { All (λ seat. seat.row ≡ row.now) seats.now }
-{
-    let learner = learner_of_seats(alloc, row, seats)?;
-    Ok(agree_by_seats(seats, &learner))
-}
-
-fn both<'r>(
-    alloc: Global,
-    row: &'r Row<u32>,
-    one: Seat<'r, u32>,
-    two: Seat<'r, u32>,
-) -> Result<Vec<Seat<'r, u32>>, AllocError>
-    requires one { one.row ≡ row.now }
-    requires two { two.row ≡ row.now }
-    ensures { IfOk result (λ seats. All (λ seat. seat.row ≡ row.now) seats.items) }
-{
-    let mut seats = Vec::with_capacity(alloc, 2)?;
-    seats.push_reserved(one);
-    seats.push_reserved(two);
-    Ok(seats)
-}
-
-// Whether a seat that learns the marks of both, and one that learns from both, agree with each at every place.
-fn learners_agree<'r>(
-    alloc: Global,
-    row: &'r Row<u32>,
-    one: Seat<'r, u32>,
-    two: Seat<'r, u32>,
-) -> Result<bool, AllocError>
-    requires one { one.row ≡ row.now }
-    requires two { two.row ≡ row.now }
-{
-    let by_marks = learner_of_marks_agrees(alloc, row, &one, &two)?;
-    let seats = both(alloc, row, one, two)?;
-    Ok(by_marks && learner_of_seats_agrees(alloc, row, &seats)?)
-}
-
 #[test]
 fn seats_of_two_threads_agree(rt: HostRuntime) -> Result<(), Fail> {
     let alloc = rt.alloc();
@@ -196,7 +132,7 @@ fn seats_of_two_threads_agree(rt: HostRuntime) -> Result<(), Fail> {
     let (one, two) = fill_by_two_threads(&rt, alloc, &row, &wins)?;
     assert!(rt; wins.load(SeqCst) == 100);
     assert!(rt; one.won().checked_add(two.won()) == Some(100));
-    assert!(rt; learners_agree(alloc, &row, one, two)?);
+    assert!(rt; learner_of_marks_agrees(alloc, &row, &one, &two)?);
     Ok(())
 }
 

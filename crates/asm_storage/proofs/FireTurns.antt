@@ -23,6 +23,7 @@ use Rattle.asm_storage.specs.History.{fired_move}
 use Rattle.asm_storage.specs.Machine.{reply_to}
 use Rattle.asm_storage.specs.Offering.{IsOffering}
 use Rattle.asm_storage.specs.Part.{agent_of, HasFired, IsLost, IsPartOf, IsTurn, LooksOn, offers_in, misses_in}
+use Rattle.asm_storage.specs.Limits.{offers_limit}
 use Rattle.asm_storage.specs.Storage.{AgentAt, StorageView, machine_of, has_looked, has_seen, has_fired, with_receipt}
 use Rattle.asm_storage.specs.Storage.{last_look, IsReplyOf, Missed}
 use Rattle.asm_row.proofs.Prefixes.{IsPrefix-trans}
@@ -207,7 +208,7 @@ module _ {A : Type 0} (old mid new : AgentAt A) (n : ℕ) (lost : HasOffered old
   }
 
   -- the offers of a call of whose turns n were lost and the next one was answered
-  pub offers_answered : (r : Reply) → n < 64 → HasOffered mid new (offers_in (Ok (Some r))) (misses_in new (Ok (Some r))) →
+  pub offers_answered : (r : Reply) → n < offers_limit → HasOffered mid new (offers_in (Ok (Some r))) (misses_in new (Ok (Some r))) →
       MadeOffers old new (Ok r) (n + offers_in (Ok (Some r)))
   offers_answered (reply.Fired k) lt more = (omega arith, omega (arith, lt), offered_then 1 1 more)
   offers_answered (reply.Stale l) lt more = (omega (arith, lt), quiet more)
@@ -215,7 +216,7 @@ module _ {A : Type 0} (old mid new : AgentAt A) (n : ℕ) (lost : HasOffered old
   offers_answered reply.Full lt more = (omega (arith, lt), quiet more)
 
   -- and of one in whose next turn memory was refused
-  pub offers_refused : n < 64 → HasOffered mid new 0 (last_look new) →
+  pub offers_refused : n < offers_limit → HasOffered mid new 0 (last_look new) →
       MadeOffers old new (Err fire_error.Memory) (n + 0)
   offers_refused lt more = (omega (arith, lt), quiet more)
 

@@ -1,5 +1,5 @@
 -- The calls of an agent: a reading, an agent after an answered call, and how many offers and looks the call made.
-use Rattle.std.specs.Prelude.{◌≡◌, ℕ, zero, suc, ◌+◌, ◌-◌, ◌≤◌, List, length, take, Option, Result, Ok, Err}
+use Rattle.std.specs.Prelude.{◌≡◌, ℕ, zero, suc, ◌+◌, ◌-◌, ◌≤◌, ◌<◌, List, length, take, Option, Result, Ok, Err}
 use Rattle.std.specs.Prelude.{refl}
 use Rattle.std.specs.Coded.{Coded, code_by, coded×, coded_ℕ, coded_list}
 use mathlib.Core.List.{IsPrefix}
@@ -21,6 +21,7 @@ use Rattle.asm_storage.specs.declared.error.ReadError.{ReadError}
 use Rattle.asm_storage.specs.declared.error.ReadError.TheVariants as read_error
 use Rattle.asm_storage.specs.declared.receipt.Entry.{Entry}
 use Rattle.asm_storage.specs.declared.receipt.Receipt.{Receipt}
+use Rattle.asm_storage.specs.Limits.{offers_limit}
 use Rattle.asm_storage.specs.Machine.{reply_to}
 use Rattle.asm_storage.specs.History.{IsCoherentAt}
 use Rattle.asm_storage.specs.Agents.{moves_seen}
@@ -112,11 +113,11 @@ pub record HasOffered {A : Type 0} (old new : AgentAt A) (offers looks : ℕ) : 
 -- how many offers a fire made: the last one won, or 64 were lost, or fewer were lost before the last look;
 -- each offer follows one look that found nothing
 abbrev pub MadeOffers : {A : Type 0} → AgentAt A → AgentAt A → Result Reply FireError → ℕ → Type 0
-MadeOffers old new (Ok (reply.Fired k)) n = (1 ≤ n) × (n ≤ 64) × HasOffered old new n n
-MadeOffers old new (Ok r) n = (n ≤ 63) × HasOffered old new n (n + last_look new)
+MadeOffers old new (Ok (reply.Fired k)) n = (1 ≤ n) × (n ≤ offers_limit) × HasOffered old new n n
+MadeOffers old new (Ok r) n = (n < offers_limit) × HasOffered old new n (n + last_look new)
 MadeOffers old new (Err fire_error.ManyReads) n = (n ≡ 0) × (new ≡ old)
-MadeOffers old new (Err (fire_error.Busy from to)) n = (n ≡ 64) × HasOffered old new n n
-MadeOffers old new (Err fire_error.Memory) n = (n ≤ 63) × HasOffered old new n (n + last_look new)
+MadeOffers old new (Err (fire_error.Busy from to)) n = (n ≡ offers_limit) × HasOffered old new n n
+MadeOffers old new (Err fire_error.Memory) n = (n < offers_limit) × HasOffered old new n (n + last_look new)
 
 -- `Busy` tells what had been seen at the call's start and at its end
 abbrev pub IsBusy : {A : Type 0} → AgentAt A → AgentAt A → FireError → Type 0

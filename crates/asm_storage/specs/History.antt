@@ -13,6 +13,8 @@ use Rattle.asm_storage.specs.declared.call.Answer.{Answer}
 use Rattle.asm_storage.specs.declared.call.Answer.TheVariants as answer
 use Rattle.asm_storage.specs.declared.history.Event.{Event}
 use Rattle.asm_storage.specs.declared.history.History.{History}
+use Rattle.asm_row.specs.Limits.{capacity_limit}
+use Rattle.asm_storage.specs.Limits.{agents_limit, reads_limit, events_limit}
 use Rattle.asm_storage.specs.Machine.{Machine, machine_state, reply_to}
 use Rattle.asm_storage.specs.Proper.{IsProper}
 
@@ -88,8 +90,8 @@ count_up from (suc count) = from ∷ count_up (from + 1) count
 
 -- at most 256 locations or named reads, and an answer to such a call; a read has a value for each location
 abbrev pub CallFits : Call → Answer → Type 0
-CallFits (call.Read places) (answer.Read number values) = (length places ≤ 256) × (length values ≡ length places)
-CallFits (call.Fire reads instrs) (answer.Fire r) = length reads ≤ 256
+CallFits (call.Read places) (answer.Read number values) = (length places ≤ reads_limit) × (length values ≡ length places)
+CallFits (call.Fire reads instrs) (answer.Fire r) = length reads ≤ reads_limit
 CallFits _ _ = ⊥
 
 -- the event is one of so many agents, and its call and answer fit
@@ -99,10 +101,10 @@ pub record EventFits (agents : ℕ) (e : Event) : Type 0 where
 
 -- the history is within the limits of a journal
 pub record Fits (h : History) : Type 0 where
-  pub agents : h.agents ≤ 256
+  pub agents : h.agents ≤ agents_limit
   pub some : 1 ≤ h.capacity
-  pub capacity : h.capacity ≤ 1048576
-  pub few : length h.events ≤ 4294967295
+  pub capacity : h.capacity ≤ capacity_limit
+  pub few : length h.events ≤ events_limit
   pub events : All (EventFits h.agents) h.events
   -- what it holds is what a program can hold, so each list in it has at most 4,096 items and nests at most 8 deep
   pub proper : IsProper h

@@ -1,6 +1,7 @@
 pub mod Agents
 pub mod Calls
 pub mod History
+pub mod Limits
 pub mod Machine
 pub mod Offering
 pub mod Part

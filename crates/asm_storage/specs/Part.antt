@@ -17,6 +17,7 @@ use Rattle.asm_storage.specs.declared.call.Reply.{Reply}
 use Rattle.asm_storage.specs.declared.call.Reply.TheVariants as reply
 use Rattle.asm_storage.specs.declared.part.AgentPart.{AgentPart}
 use Rattle.asm_storage.specs.declared.receipt.Entry.{Entry}
+use Rattle.asm_storage.specs.Limits.{agents_limit}
 use Rattle.asm_storage.specs.Machine.{Machine, reply_to}
 use Rattle.asm_storage.specs.History.{fired_move}
 use Rattle.asm_storage.specs.Agents.{AgentView, IsAgent, moves_seen}
@@ -39,7 +40,7 @@ pub record IsFollowing (m : Machine) (seen : List Entry) (s : StateView) : Type 
 -- the part is of an agent of the storage
 pub record IsPartOf {A : Type 0} (meaning : A → Meaning) (s : StorageView A) (p : AgentPart) : Type 0 where
   pub row : p.progress.row ≡ s.row
-  pub few : p.id < 256
+  pub few : p.id < agents_limit
   pub counted : p.progress.misses ≤ 2 ^ 64 - 1
   pub agent : IsAgent (machine_of meaning s) (account_of p)
   pub following : IsFollowing (machine_of meaning s) p.progress.seen p.state

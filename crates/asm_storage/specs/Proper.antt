@@ -3,6 +3,7 @@ use Rattle.std.specs.Prelude.{◌<◌, ◌≤◌, ◌^◌, length, All}
 use Rattle.asm_element.specs.Place as place
 use Rattle.asm_element.specs.Value as value
 use Rattle.asm_update.specs.Action.{IsProperInstruction}
+use Rattle.asm_update.specs.Limits.{instructions_limit}
 use Rattle.asm_update.specs.Move.{Move}
 use Rattle.asm_update.specs.State as state
 use Rattle.asm_state.specs.declared.named.Named.{Named}
@@ -21,7 +22,7 @@ IsProperNamed r = place.IsProper r.at × (r.number < 2 ^ 32)
 
 -- at most 4,096 instructions, each of them proper
 abbrev pub IsProperMove : Move → Type 0
-IsProperMove M = All IsProperInstruction M × (length M ≤ 4096)
+IsProperMove M = All IsProperInstruction M × (length M ≤ instructions_limit)
 
 -- what it asks for is proper
 abbrev pub IsProperCall : Call → Type 0

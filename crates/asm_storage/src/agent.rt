@@ -6,11 +6,13 @@ ghost use Rattle.asm_storage.specs.declared.error.FireError.TheVariants.{Busy, M
 ghost use Rattle.asm_storage.specs.declared.error.ReadError.TheVariants.{ManyLocations};
 ghost use Rattle.asm_storage.specs.Agents.{IsAgent, is_fired};
 ghost use Rattle.asm_storage.specs.Calls.{HasLookedFor, IsAnswered, IsBusy, IsCoherentReply, IsPeek, IsRead, IsStaleRead, MadeOffers, Ran};
+ghost use Rattle.asm_storage.specs.Limits.{agents_limit, offers_limit, reads_limit};
 ghost use Rattle.asm_storage.specs.Part.{agent_of, IsFollowing, IsPartOf};
 ghost use Rattle.asm_storage.specs.Storage.{machine_of, has_seen, has_looked, last_look, IsSameAgent, Missed};
 
 use crate::call::Reply;
 use crate::error::{FireError, ReadError};
+use crate::limits::READS_LIMIT;
 use crate::part::AgentPart;
 use crate::reading::Reading;
 use crate::receipt::{Entry, Receipt};
@@ -76,7 +78,7 @@ impl<'s, A: Aggregator + Sync + Drop> Agent<'s, A> {
     /// Its number among the agents of one call of `Storage::agents`, below 256.
     pub fn id(&self) -> u32
         ensures id { result ≡ self.now.account.id }
-        ensures few { result < 256 }
+        ensures few { result < agents_limit }
     {
         self.part.id
     }
@@ -199,9 +201,9 @@ impl<'s, A: Aggregator + Sync + Drop> Agent<'s, A> {
         ensures seen { IsPrefix self.old.account.seen self.new.account.seen }
         ensures kept { self.new ≡ has_looked self.old self.new.account.seen self.new.misses }
         ensures unread { IfErr result (HasLookedFor self.old self.new) }
-        ensures many { IsErrOf result ManyLocations ↔ (256 < length named.now) }
+        ensures many { IsErrOf result ManyLocations ↔ (reads_limit < length named.now) }
     {
-        if named.len() > 256 {
+        if named.len() > READS_LIMIT {
             return Err(ReadError::ManyLocations);
         }
         let storage = self.storage;
@@ -223,9 +225,9 @@ impl<'s, A: Aggregator + Sync + Drop> Agent<'s, A> {
         ensures seen { IsPrefix self.old.account.seen self.new.account.seen }
         ensures refused { OnErr result (self.new ≡ has_looked self.old self.new.account.seen self.new.misses) }
         ensures unread { IfErr result (HasLookedFor self.old self.new) }
-        ensures many { IsErrOf result ManyLocations ↔ (256 < length places.now) }
+        ensures many { IsErrOf result ManyLocations ↔ (reads_limit < length places.now) }
     {
-        if places.len() > 256 {
+        if places.len() > READS_LIMIT {
             return Err(ReadError::ManyLocations);
         }
         let storage = self.storage;
@@ -262,16 +264,16 @@ impl<'s, A: Aggregator + Sync + Drop> Agent<'s, A> {
         ensures seen { IsPrefix self.old.account.seen self.new.account.seen }
         ensures refused { OnErr result (self.new ≡ has_looked self.old self.new.account.seen self.new.misses) }
         ensures busy { IfErr result (IsBusy self.old self.new) }
-        ensures many { IsErrOf result ManyReads ↔ (256 < length reads.now) }
+        ensures many { IsErrOf result ManyReads ↔ (reads_limit < length reads.now) }
         // One at least before a fired move, counted up to 2^64 - 1, and 64 at most.
         ensures missed { (k : ℕ) → result ≡ Ok (Fired k) → min (self.old.misses + 1) (2 ^ 64 - 1) ≤ self.new.misses }
-        ensures few { self.new.misses ≤ self.old.misses + 64 }
-        ensures lost { (from to : ℕ) → result ≡ Err (Busy from to) → from + 64 ≤ to }
+        ensures few { self.new.misses ≤ self.old.misses + offers_limit }
+        ensures lost { (from to : ℕ) → result ≡ Err (Busy from to) → from + offers_limit ≤ to }
         ensures callable { F.IsAlwaysCallable between.new }
         ensures offers { (n : ℕ) × MadeOffers self.old self.new result n ×
             Ran (λ f g. F.step f tt g) between.old n between.new }
     {
-        if reads.len() > 256 {
+        if reads.len() > READS_LIMIT {
             return Err(FireError::ManyReads);
         }
         let storage = self.storage;
@@ -292,11 +294,11 @@ impl<'s, A: Aggregator + Sync + Drop> Agent<'s, A> {
         ensures seen { IsPrefix self.old.account.seen self.new.account.seen }
         ensures refused { OnErr result (self.new ≡ has_looked self.old self.new.account.seen self.new.misses) }
         ensures busy { IfErr result (IsBusy self.old self.new) }
-        ensures many { IsErrOf result ManyReads ↔ (256 < length reads.now) }
+        ensures many { IsErrOf result ManyReads ↔ (reads_limit < length reads.now) }
         // One at least before a fired move, counted up to 2^64 - 1, and 64 at most.
         ensures missed { (k : ℕ) → result ≡ Ok (Fired k) → min (self.old.misses + 1) (2 ^ 64 - 1) ≤ self.new.misses }
-        ensures few { self.new.misses ≤ self.old.misses + 64 }
-        ensures lost { (from to : ℕ) → result ≡ Err (Busy from to) → from + 64 ≤ to }
+        ensures few { self.new.misses ≤ self.old.misses + offers_limit }
+        ensures lost { (from to : ℕ) → result ≡ Err (Busy from to) → from + offers_limit ≤ to }
         ensures offers { (n : ℕ) × MadeOffers self.old self.new result n }
     {
         self.try_fire_with(alloc, reads, instrs, &mut || {})

@@ -3,7 +3,9 @@ ghost use Rattle.std.specs.Option.{option_copied};
 ghost use Rattle.asm_storage.specs.History.{move_of, fired_moves, EventFits, CallFits, Fits};
 
 use crate::call::{Answer, Call, Reply};
+use crate::limits::{AGENTS_LIMIT, EVENTS_LIMIT, READS_LIMIT};
 use asm_element::Items;
+use asm_row::CAPACITY_LIMIT;
 use asm_update::{Instructions, PlainState};
 
 /// An answered call, with the agent that made it.
@@ -35,9 +37,9 @@ impl Event {
         match (&self.call, &self.answer) {
             (Call::Read(places), Answer::Read { values, .. }) => {
                 let places = places.as_slice().len();
-                places <= 256 && values.as_slice().len() == places
+                places <= READS_LIMIT && values.as_slice().len() == places
             }
-            (Call::Fire { reads, .. }, Answer::Fire(_)) => reads.as_slice().len() <= 256,
+            (Call::Fire { reads, .. }, Answer::Fire(_)) => reads.as_slice().len() <= READS_LIMIT,
             _ => false,
         }
     }
@@ -87,10 +89,10 @@ impl History {
     {
         self.proper();
         let events = self.events.as_slice();
-        self.agents <= 256
+        self.agents <= AGENTS_LIMIT
             && 1 <= self.capacity
-            && self.capacity <= 1_048_576
-            && events.len() as u64 <= 4_294_967_295
+            && self.capacity <= CAPACITY_LIMIT
+            && events.len() as u64 <= EVENTS_LIMIT
             && all_fit(events, self.agents)
     }
 }

@@ -2,6 +2,7 @@ ghost use Rattle.std.specs.Prelude.{◌≡◌, ◌+◌, ◌<◌, ◌≤◌, nat_
 ghost use Rattle.std.specs.Bool.{OnTrue, OnFalse};
 ghost use mathlib.Core.List.{IsPrefix};
 ghost use Rattle.asm_storage.specs.Storage.{at_start, has_seen, last_look, Missed};
+ghost use Rattle.asm_storage.specs.Limits.{agents_limit};
 ghost use Rattle.asm_storage.specs.Part.{agent_of, IsPartOf, LooksOn};
 
 mod fire;
@@ -52,7 +53,7 @@ impl AgentPart {
         storage: &Storage<A>,
         id: u32,
     ) -> Result<AgentPart, AllocError>
-        requires { id < 256 }
+        requires { id < agents_limit }
         ensures agent { IfOk result (λ p. agent_of storage.now p ≡ at_start storage.now id) }
         ensures part { IfOk result (IsPartOf A.meaning storage.now) }
     {

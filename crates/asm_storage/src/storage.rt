@@ -4,12 +4,15 @@ ghost use Rattle.std.specs.Bool.{OnTrue};
 ghost use Rattle.std.specs.List.{range_with_len};
 ghost use Rattle.asm_storage.specs.declared.error.StorageError.TheVariants as storage_error;
 ghost use Rattle.asm_storage.specs.declared.error.AgentsError.TheVariants as agents_error;
+ghost use Rattle.asm_row.specs.Limits.{capacity_limit};
 ghost use Rattle.asm_update.specs.Fire.{Part};
 ghost use Rattle.asm_state.specs.Stands.{Stands};
+ghost use Rattle.asm_storage.specs.Limits.{agents_limit};
 ghost use Rattle.asm_storage.specs.Storage.{at_start};
 
 use crate::agent::Agent;
 use crate::error::{AgentsError, StorageError};
+use crate::limits::AGENTS_LIMIT;
 use crate::part::AgentPart;
 use crate::receipt::Entry;
 use asm_row::{Progress, Row, RowError};
@@ -48,7 +51,7 @@ impl<A: Aggregator + Sync + Drop> Model for Storage<A> {
 // A row for so many moves.
 fn new_row(alloc: Global, capacity: u32) -> Result<Row<Entry>, StorageError>
     ensures capacity { IfOk result (λ r. length r ≡ capacity) }
-    ensures bad { IsErrOf result storage_error.BadCapacity ↔ ((capacity ≡ 0) ⊎ (1048576 < capacity)) }
+    ensures bad { IsErrOf result storage_error.BadCapacity ↔ ((capacity ≡ 0) ⊎ (capacity_limit < capacity)) }
 {
     match Row::new(alloc, capacity) {
         Ok(row) => Ok(row),
@@ -73,7 +76,7 @@ impl<A: Aggregator + Sync + Drop> Storage<A> {
         ensures aggregator { IfOk result (λ s. s.agg ≡ aggregator) }
         ensures init { IfOk result (λ s. s.init ≡ init) }
         ensures capacity { IfOk result (λ s. length s.row ≡ capacity) }
-        ensures bad { IsErrOf result storage_error.BadCapacity ↔ ((capacity ≡ 0) ⊎ (1048576 < capacity)) }
+        ensures bad { IsErrOf result storage_error.BadCapacity ↔ ((capacity ≡ 0) ⊎ (capacity_limit < capacity)) }
     {
         let row = new_row(alloc, capacity)?;
         let init = match Arc::new(alloc, init) {
@@ -97,7 +100,7 @@ impl<A: Aggregator + Sync + Drop> Storage<A> {
         ensures aggregator { IfOk result (λ s. s.agg ≡ aggregator) }
         ensures init { IfOk result (λ s. s.init ≡ arc_value init) }
         ensures capacity { IfOk result (λ s. length s.row ≡ capacity) }
-        ensures bad { IsErrOf result storage_error.BadCapacity ↔ ((capacity ≡ 0) ⊎ (1048576 < capacity)) }
+        ensures bad { IsErrOf result storage_error.BadCapacity ↔ ((capacity ≡ 0) ⊎ (capacity_limit < capacity)) }
     {
         let row = new_row(alloc, capacity)?;
         Ok(Storage {
@@ -114,9 +117,9 @@ impl<A: Aggregator + Sync + Drop> Storage<A> {
     /// `Memory` only where memory was refused.
     pub fn agents(&self, alloc: Global, n: u32) -> Result<Vec<Agent<'_, A>>, AgentsError>
         ensures made { IfOk result (λ agents. agents.items ≡ map (at_start self.now) (range_with_len 0 n)) }
-        ensures bad { IsErrOf result agents_error.BadAgents ↔ ((n ≡ 0) ⊎ (256 < n)) }
+        ensures bad { IsErrOf result agents_error.BadAgents ↔ ((n ≡ 0) ⊎ (agents_limit < n)) }
     {
-        if n == 0 || n > 256 {
+        if n == 0 || n > AGENTS_LIMIT {
             return Err(AgentsError::BadAgents);
         }
         let mut agents = Vec::new(alloc);
@@ -132,7 +135,7 @@ impl<A: Aggregator + Sync + Drop> Storage<A> {
     /// Agents that are closed together must have different numbers. That the call adds no move to the row
     /// is tested. `AllocError` comes only where memory was refused.
     pub fn agent_at(&self, alloc: Global, id: u32) -> Result<Agent<'_, A>, AllocError>
-        requires { id < 256 }
+        requires { id < agents_limit }
         ensures { IfOk result (λ a. a ≡ at_start self.now id) }
     {
         let part = AgentPart::at_start(alloc, self, id)?;

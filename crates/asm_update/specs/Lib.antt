@@ -1,3 +1,4 @@
+pub mod Limits
 pub mod Action
 pub mod State
 pub mod Move

@@ -4,6 +4,7 @@ ghost use Rattle.std.specs.Arc.{arc_value};
 ghost use Rattle.std.specs.Slice.Iter.{iter_rest};
 ghost use Rattle.std.specs.Cmp.{partial_equiv_from_equiv};
 ghost use Rattle.asm_update.specs.Action.{IsProperInstruction};
+ghost use Rattle.asm_update.specs.Limits.{instructions_limit};
 ghost use Rattle.asm_update.specs.Move as move_spec;
 ghost use Rattle.asm_update.specs.Equal.{move_eq, move_eq-equiv};
 ghost use Rattle.asm_update.specs.declared.instructions.InstructionsError.TheVariants as instructions_error;
@@ -59,6 +60,7 @@ pub struct Instructions {
 
 impl Model for Instructions {
     ghost use Rattle.std.specs.Prelude.{List, length, ◌≤◌, All};
+    ghost use Rattle.asm_update.specs.Limits.{instructions_limit};
     ghost use Rattle.asm_update.specs.Shared.{shared_items};
     ghost use Rattle.asm_update.specs.Action.{IsProperInstruction};
     ghost use Rattle.asm_update.specs.declared.action.Instruction.{Instruction};
@@ -71,7 +73,7 @@ impl Model for Instructions {
 
     ghost view = { λ m. shared_items m.items };
 
-    ghost invariant = { λ m. (length (shared_items m.items) ≤ 4096) × All IsProperInstruction (shared_items m.items) };
+    ghost invariant = { λ m. (length (shared_items m.items) ≤ instructions_limit) × All IsProperInstruction (shared_items m.items) };
 }
 
 // Puts the instruction behind a list, which is copied first where it has another owner.
@@ -101,7 +103,7 @@ impl Instructions {
         items: Vec<Instruction>,
     ) -> Result<Instructions, InstructionsError>
         ensures ok { IfOk result (λ list. list ≡ items.items) }
-        ensures many { (result ≡ Err InstructionsError.ManyInstructions) ↔ (4096 < vec_len items) }
+        ensures many { (result ≡ Err InstructionsError.ManyInstructions) ↔ (instructions_limit < vec_len items) }
     {
         if items.len() > INSTRUCTIONS_LIMIT {
             return Err(InstructionsError::ManyInstructions);
@@ -114,7 +116,7 @@ impl Instructions {
     /// How many instructions there are, at most 4,096.
     pub fn len(&self) -> usize
         ensures len { result ≡ length self.now }
-        ensures few { length self.now ≤ 4096 }
+        ensures few { length self.now ≤ instructions_limit }
     {
         let _ = &self.items;
         self.as_slice().len()
@@ -133,7 +135,7 @@ impl Instructions {
     /// and `Memory` only where memory was refused. After an error the list is unchanged.
     pub fn push(&mut self, instruction: Instruction) -> Result<(), InstructionsError>
         ensures ok { OnOk result (self.new ≡ self.old ++ instruction ∷ []) }
-        ensures many { (result ≡ Err InstructionsError.ManyInstructions) ↔ (length self.old ≡ 4096) }
+        ensures many { (result ≡ Err InstructionsError.ManyInstructions) ↔ (length self.old ≡ instructions_limit) }
         ensures err { OnErr result (self.new ≡ self.old) }
     {
         if self.len() == INSTRUCTIONS_LIMIT {

@@ -15,6 +15,7 @@ ghost use Rattle.asm_storage.specs.Part.{offers_in, misses_in};
 
 use crate::call::{Answer, Call, Reply};
 use crate::error::FireError;
+use crate::limits::OFFERS_LIMIT;
 use crate::part::AgentPart;
 use crate::part::judging::{is_plain, judged, judged_plain};
 use crate::part::offering::{Offering, fire_call};
@@ -268,7 +269,7 @@ impl AgentPart {
     {
         let from = self.progress.seen_len();
         let mut pending = None;
-        for lost in 0..64u32 {
+        for lost in 0..OFFERS_LIMIT {
             match self.turn(alloc, storage, reads, instrs, &mut pending, between)? {
                 Some(reply) => return Ok(reply),
                 None => {}

@@ -1,0 +1,18 @@
+-- The numbers that bound agents and their calls. Source: this project's profile.
+use Rattle.std.specs.Prelude.{ℕ}
+
+-- the most agents of a storage: their numbers are below it
+abbrev pub agents_limit : ℕ
+agents_limit = 256
+
+-- the most locations of a read, and the most named reads of a fire
+abbrev pub reads_limit : ℕ
+reads_limit = 256
+
+-- the most offers of a fire
+abbrev pub offers_limit : ℕ
+offers_limit = 64
+
+-- the most events of a journal
+abbrev pub events_limit : ℕ
+events_limit = 4294967295
