@@ -8,6 +8,8 @@ use Rattle.clap.proofs.OnLiterals.{clap_on_literals}
 use Rattle.clap.specs.Words.{Row, Text, Kinds, IsAmong, one_of, subcommand_of}
 use Rattle.clap.specs.declared.error.kind.ErrorKind.{ErrorKind}
 use Rattle.clap.specs.declared.error.kind.ErrorKind.TheVariants as kind
+use Rattle.asm_row.specs.Limits.{capacity_limit}
+use Rattle.asm_driver.specs.Limits.{default_capacity}
 use Rattle.asm_driver.specs.Words.{Words, program, faults, program_with, run_with, Asks, AsksFor, IsNoCommand}
 use Rattle.asm_driver.specs.Words.{IsRefusal, IsMadeOf, IsTold, HasMistake}
 use Rattle.asm_driver.specs.Words.{Gives, RefusesWords, Helps, TellsVersion, Answers}
@@ -183,7 +185,7 @@ tells example words (Err Version) is ok err e = tt
 tells example words (Err Bad) is ok err e = absurd (no_mistake example words kind.DisplayVersion (inr refl) is e err)
 tells example words (Err Memory) is ok err e = tt
 
-default : IsExample (run_with []) (Run 4096 false)
+default : IsExample (run_with []) (Run default_capacity false)
 unfolding clap_on_literals faults
 default = record {
   taken = refl;
@@ -192,7 +194,7 @@ default = record {
   known = λ h. h.0 refl;
 }
 
-journal : IsExample (run_with (codes "--journal" ∷ [])) (Run 4096 true)
+journal : IsExample (run_with (codes "--journal" ∷ [])) (Run default_capacity true)
 unfolding clap_on_literals faults
 journal = record {
   taken = refl;
@@ -237,7 +239,7 @@ joined = record {
   known = λ h. h.0 refl;
 }
 
-greatest : IsExample (run_with (codes "--capacity" ∷ codes "1048576" ∷ [])) (Run 1048576 false)
+greatest : IsExample (run_with (codes "--capacity" ∷ codes "1048576" ∷ [])) (Run capacity_limit false)
 unfolding clap_on_literals faults
 greatest = record {
   taken = refl;

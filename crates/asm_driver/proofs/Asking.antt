@@ -11,20 +11,21 @@ use Rattle.clap.specs.declared.parser.matches.ArgMatches.{ArgMatches}
 use Rattle.clap.specs.declared.parser.matches.ArgMatches.TheViews.{out-ArgMatches, out-SubCommand}
 use Rattle.clap.specs.declared.parser.matches.Found.{Found}
 use Rattle.clap.proofs.WalkLemmas.{one_text-rows}
+use Rattle.asm_driver.specs.Limits.{default_capacity}
 use Rattle.asm_driver.specs.Words.{AsksCapacity, AsksJournal}
 
 -- the number that was read is the one that the digits write
 digits : {E : Type 0} (gives : Text → Result ℕ E → Type 0) (t : Text) (found : Option ℕ)
     → ((r : Result ℕ E) → gives t r → ParsesUnsigned 32 10 t r) → ReadsOne gives t found
     → IsNumeral 10 (without_leading_plus t) → digits_value 10 (without_leading_plus t) < 2 ^ 32
-    → unwrap_or found 4096 ≡ digits_value 10 (without_leading_plus t)
+    → unwrap_or found default_capacity ≡ digits_value 10 (without_leading_plus t)
 digits gives t (Some n) reads read numeral small = (reads (Ok n) read).1
 digits gives t None reads read numeral small = absurd (reads (Err read.0) read.1 (numeral, small))
 
 pub capacity_asked : {E : Type 0} (gives : Text → Result ℕ E → Type 0) (f : Found) (found : Option ℕ)
     → ((t : Text) (r : Result ℕ E) → gives t r → ParsesUnsigned 32 10 t r)
     → ((t : Text) → one_text f (codes "capacity") ≡ Some t → ReadsOne gives t found)
-    → AsksCapacity (rows_of f) (unwrap_or found 4096)
+    → AsksCapacity (rows_of f) (unwrap_or found default_capacity)
 capacity_asked gives f found reads number = λ t e numeral small.
     digits gives t found (reads t) (number t (one_text-rows f (codes "capacity") ∙ e)) numeral small
 

@@ -1,3 +1,4 @@
+pub mod Limits
 pub mod Report
 pub mod Input
 pub mod Output

@@ -8,6 +8,8 @@ use Rattle.clap.specs.declared.builder.action.ArgAction.TheVariants.{Set, SetTru
 use Rattle.clap.specs.declared.builder.value_parser.ValueParser.TheVariants.{Signed}
 use Rattle.clap.specs.declared.error.kind.ErrorKind.{ErrorKind}
 use Rattle.clap.specs.declared.error.kind.ErrorKind.TheVariants as kind
+use Rattle.asm_row.specs.Limits.{capacity_limit}
+use Rattle.asm_driver.specs.Limits.{default_capacity}
 use Rattle.asm_driver.specs.declared.program.words.Request.{Request}
 use Rattle.asm_driver.specs.declared.program.words.Request.TheVariants.{Run, Check, Rewrite, Trace}
 use Rattle.asm_driver.specs.declared.program.words.WordsError.{WordsError}
@@ -18,7 +20,7 @@ abbrev pub capacity : Rule
 capacity = record (new_rule (codes "capacity")) {
   long = Some (codes "capacity");
   action = Some Set;
-  parser = Some (Signed (pos 1) (pos 1048576));
+  parser = Some (Signed (pos 1) (pos capacity_limit));
   defaults = codes "4096" ∷ [];
   value_names = 1;
 }
@@ -174,13 +176,13 @@ TellsVersion (Err Memory) = Unit {0}
 
 -- what is answered to some words
 pub record Answers (words : Words) (r : Result Request WordsError) : Type 0 where
-  pub default : words ≡ run_with [] → Gives (Run 4096 false) r
-  pub journal : words ≡ run_with (codes "--journal" ∷ []) → Gives (Run 4096 true) r
+  pub default : words ≡ run_with [] → Gives (Run default_capacity false) r
+  pub journal : words ≡ run_with (codes "--journal" ∷ []) → Gives (Run default_capacity true) r
   pub both : words ≡ run_with (codes "--journal" ∷ codes "--capacity" ∷ codes "8" ∷ []) → Gives (Run 8 true) r
   pub plus : words ≡ run_with (codes "--capacity" ∷ codes "+8" ∷ []) → Gives (Run 8 false) r
   pub leading_zero : words ≡ run_with (codes "--capacity" ∷ codes "08" ∷ []) → Gives (Run 8 false) r
   pub joined : words ≡ run_with (codes "--capacity=8" ∷ []) → Gives (Run 8 false) r
-  pub greatest : words ≡ run_with (codes "--capacity" ∷ codes "1048576" ∷ []) → Gives (Run 1048576 false) r
+  pub greatest : words ≡ run_with (codes "--capacity" ∷ codes "1048576" ∷ []) → Gives (Run capacity_limit false) r
   pub above : words ≡ run_with (codes "--capacity" ∷ codes "1048577" ∷ []) → RefusesWords r
   pub zero : words ≡ run_with (codes "--capacity" ∷ codes "0" ∷ []) → RefusesWords r
   pub further : words ≡ run_with (codes "more" ∷ []) → RefusesWords r

@@ -3,10 +3,12 @@ use Rattle.std.specs.Prelude.{◌≡◌, ◌≤◌, ◌<◌, ◌⊎◌, List, le
 use Rattle.asm_element.specs.Place.{Place}
 use Rattle.asm_update.specs.Aggregator.{Meaning, NoJoin, Refused, TooLarge}
 use Rattle.asm_update.specs.Fire.{Part, Old, fire, IsUpdateSet, IsLeastClash}
+use Rattle.asm_update.specs.Limits.{instructions_limit}
 use Rattle.asm_update.specs.Move.{Move}
 use Rattle.asm_update.specs.State.{State, Updates}
 use Rattle.asm_aggregate.specs.Compose.{composition}
 use Rattle.asm_overlay.specs.Frames.{under, seen_through}
+use Rattle.asm_overlay.specs.Limits.{frames_limit}
 use Rattle.asm_step.specs.Layers.{frames_of, one_move}
 use Rattle.asm_step.specs.declared.error.StepError.{StepError}
 use Rattle.asm_step.specs.declared.error.StepError.TheVariants.{Clash, Large, Many, Deep, Memory}
@@ -24,11 +26,11 @@ HasUpdates part old s M = (U : Updates) × IsUpdateSet part (seen_through (frame
 -- the answer is what the step's moves and then the move compose to, of at most 4,096 instructions, or why they don't. A
 -- first move isn't too long. A refusal of memory tells nothing
 abbrev pub IsFollowedBy : Meaning → Option Move → Move → Result Move StepError → Type 0
-IsFollowedBy a o M (Ok C) = (composed_after a o M ≡ Ok C) × (length C ≤ 4096)
+IsFollowedBy a o M (Ok C) = (composed_after a o M ≡ Ok C) × (length C ≤ instructions_limit)
 IsFollowedBy a o M (Err (Clash clash)) = composed_after a o M ≡ Err (clash.at, Refused clash.cause)
 IsFollowedBy a o M (Err (Large l)) = composed_after a o M ≡ Err (l, TooLarge)
 IsFollowedBy a None M (Err Many) = ⊥
-IsFollowedBy a o M (Err Many) = (C : Move) × (composed_after a o M ≡ Ok C) × (4096 < length C)
+IsFollowedBy a o M (Err Many) = (C : Move) × (composed_after a o M ≡ Ok C) × (instructions_limit < length C)
 IsFollowedBy a o M (Err Deep) = ⊥
 IsFollowedBy a o M (Err Memory) = Unit {0}
 
@@ -40,7 +42,7 @@ IsAnswer a old s new M (Ok _) =
 IsAnswer a old s new M (Err (Clash clash)) =
     IsLeastClash a.part (seen_through (frames_of s) old) M clash
     ⊎ (HasUpdates a.part old s M × IsFollowedBy a (one_move s) M (Err (Clash clash)))
-IsAnswer a old s new M (Err Deep) = length s ≡ 64
+IsAnswer a old s new M (Err Deep) = length s ≡ frames_limit
 IsAnswer a old s new M (Err Memory) = Unit {0}
 IsAnswer a old s new M (Err e) = HasUpdates a.part old s M × IsFollowedBy a (one_move s) M (Err e)
 

@@ -7,6 +7,7 @@ ghost use Rattle.asm_update.specs.Fire.{Part, Old, fire};
 ghost use Rattle.asm_update.specs.Move.{Move};
 ghost use Rattle.asm_update.specs.State.{State, IsProper, val};
 ghost use Rattle.asm_overlay.specs.Frames.{under, seen_through, topmost};
+ghost use Rattle.asm_overlay.specs.Limits.{frames_limit};
 ghost use Rattle.asm_step.specs.Answer.{IsAnswer, IsAnswerOn, IsFollowedBy, IsLastOn};
 ghost use Rattle.asm_step.specs.InTurn.{fire_all, all_but_last, Agrees, DoesAll};
 ghost use Rattle.asm_step.specs.Layers.{frames_of, top_of, one_move, all_moves, partial_places_of, extended, IsStepOf};
@@ -39,6 +40,7 @@ pub struct Step {
 impl Model for Step {
     ghost use Rattle.std.specs.Prelude.{◌≡◌, ◌≤◌, [], List, length};
     ghost use Rattle.std.specs.Coded.{coded_list};
+    ghost use Rattle.asm_overlay.specs.Limits.{frames_limit};
     ghost use Rattle.asm_step.specs.declared.layer.Layer.{Layer};
     ghost use Rattle.asm_step.specs.contracts.layer.Layer.{the_row as layer_row};
 
@@ -48,7 +50,7 @@ impl Model for Step {
 
     ghost view = { λ s. s.layers.items };
 
-    ghost invariant = { λ s. (length s.layers.items ≤ 64) × (s.none ≡ []) };
+    ghost invariant = { λ s. (length s.layers.items ≤ frames_limit) × (s.none ≡ []) };
 }
 
 impl Step {
@@ -66,7 +68,7 @@ impl Step {
     /// How many moves are pushed, at most 64; those that extend one don't count.
     pub fn depth(&self) -> usize
         ensures value { result ≡ length self.now }
-        ensures within { length self.now ≤ 64 }
+        ensures within { length self.now ≤ frames_limit }
     {
         self.layers.len()
     }
@@ -143,7 +145,7 @@ impl Step {
             IsProper B → Agrees B (L.value_at below.now) (all_moves groups ++ instructions.now ∷ []) →
             IsAnswerOn (A.meaning aggregator.now).part B self.old self.new instructions.now result }
         ensures err { OnErr result (self.new ≡ self.old) }
-        ensures deep { IsErrOf result StepError.Deep ↔ (length self.old ≡ 64) }
+        ensures deep { IsErrOf result StepError.Deep ↔ (length self.old ≡ frames_limit) }
     {
         if self.layers.len() >= FRAMES_LIMIT {
             return Err(StepError::Deep);

@@ -9,6 +9,9 @@ use std::alloc::{AllocError, Global};
 /// The most bytes that are read.
 pub const INPUT_LIMIT: usize = 16_777_216;
 
+// How many bytes are asked for at once.
+const CHUNK: usize = 4096;
+
 /// Why there is no input.
 #[derive(Clone, Copy, Debug, PartialEq, Eq)]
 pub enum InputError {
@@ -52,7 +55,7 @@ pub fn read_input<S: Source>(alloc: Global, input: &mut S) -> Result<Vec<u8>, In
     ensures noted { S.failed input.new ≡ is_fault result }
 {
     let mut bytes = Vec::new(alloc);
-    let mut buffer = [0u8; 4096];
+    let mut buffer = [0u8; CHUNK];
     loop {
         let room = buffer.len().min(INPUT_LIMIT + 1 - bytes.len());
         let part = &mut buffer[..room];

@@ -5,9 +5,13 @@ ghost use Rattle.clap.specs.Words.{subcommand_rows_of};
 ghost use Rattle.asm_driver.specs.Words.{capacity as capacity_rule, journal as journal_rule, with_journals, program, faults};
 ghost use Rattle.asm_driver.specs.Words.{Asks, AsksRun, AsksFor, IsNoCommand, IsMadeOf, IsRefusal, Answers};
 
+use asm_row::CAPACITY_LIMIT;
 use clap::error::ErrorKind;
 use clap::{Arg, ArgAction, ArgMatches, Command, Error, value_parser};
 use std::alloc::{AllocError, Global};
+
+// The capacity where none is given, as the option's default says it in digits.
+const DEFAULT_CAPACITY: u32 = 4096;
 
 /// What the words ask for.
 #[derive(Clone, Copy, Debug, PartialEq, Eq)]
@@ -42,7 +46,7 @@ fn capacity_option<'a>(alloc: Global) -> Arg<'a>
     Arg::new(alloc, "capacity")
         .long("capacity")
         .action(ArgAction::Set)
-        .value_parser(value_parser!(u32).range(1..=1_048_576))
+        .value_parser(value_parser!(u32).range(1..=i64::from(CAPACITY_LIMIT)))
         .default_value("4096")
         .value_name("N")
         .help("How many moves may be fired, from 1 to 1048576")
@@ -106,7 +110,7 @@ fn run_asked(options: &ArgMatches<'_>) -> Request
     ensures { AsksRun (rows_of (found_of options.now)) result }
 {
     Request::Run {
-        capacity: options.get_one::<u32>("capacity").unwrap_or(4096),
+        capacity: options.get_one::<u32>("capacity").unwrap_or(DEFAULT_CAPACITY),
         journal: options.get_flag("journal"),
     }
 }
