@@ -21,7 +21,7 @@ use Rattle.asm_state.proofs.Crossing as states
 use Rattle.asm_state.specs.contracts.named.Named as Named
 use Rattle.asm_update.proofs.Crossing.{instructions_is_sent, instructions_is_shared, state_is_sent, state_is_shared}
 use Rattle.asm_update.specs.declared.aggregator.Aggregator
-use Rattle.asm_storage.specs.contracts.receipt.Entry as Entry
+use Rattle.asm_storage.specs.contracts.entry.Entry as Entry
 use Rattle.asm_storage.specs.contracts.receipt.Receipt as Receipt
 use Rattle.asm_storage.specs.contracts.call.Call as Call
 use Rattle.asm_storage.specs.contracts.call.Reply as Reply

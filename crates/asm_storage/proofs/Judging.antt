@@ -14,7 +14,7 @@ use Rattle.asm_storage.specs.declared.call.Call.TheVariants as call
 use Rattle.asm_storage.specs.declared.call.Reply.{Reply}
 use Rattle.asm_storage.specs.declared.call.Reply.TheVariants as reply
 use Rattle.asm_storage.specs.declared.call.Answer.TheVariants as answer
-use Rattle.asm_storage.specs.declared.receipt.Entry.{Entry}
+use Rattle.asm_storage.specs.declared.entry.Entry.{Entry}
 use Rattle.asm_storage.specs.Machine as machine
 use Rattle.asm_storage.specs.Machine.{Machine, firing_reply, fire_reply, taken_reply, reply_to}
 use Rattle.asm_storage.specs.Agents.{moves_seen}

@@ -4,7 +4,7 @@ use Rattle.std.specs.List.{filter, AllByRecursion, All}
 use Rattle.std.specs.List.Sorted.{IsNonDecreasingBy}
 use Rattle.std.proofs.lemmas.List.Elements.{filter-append}
 use Rattle.std.proofs.lemmas.Bool.{eqb-true, eqb-false}
-use Rattle.asm_storage.proofs.Lists.{Each-weaker, Each-rest}
+use Rattle.asm_storage.proofs.Lists.{Each-weaker, Each-rest, filter-none}
 
 module _ {X : Type 0} (key : X → ℕ) where
   -- no key is below the one before it
@@ -49,17 +49,10 @@ module _ {X : Type 0} (key : X → ℕ) where
         let from : Rises (n + 1) (x ∷ xs) = (omega arith, rises.1) in
         record { front = []; rest = x ∷ xs; is = refl; at_n = none_key n (n + 1) (x ∷ xs) from (omega arith); here = tt; rises = from }
 
-  filter_none : (k n : ℕ) → n < k → (xs : List X) → AllByRecursion (λ x. key x ≡ n) xs → filter (λ x. nat_eq (key x) k) xs ≡ []
-  filter_none k n lt [] here = refl
-  filter_none k n lt (x ∷ xs) here = case (nat_eq (key x) k) refl (filter_none k n lt xs here.1) where
-    case : (b : Bool) → nat_eq (key x) k ≡ b → filter (λ y. nat_eq (key y) k) xs ≡ [] → cond b (x ∷ filter (λ y. nat_eq (key y) k) xs) (filter (λ y. nat_eq (key y) k) xs) ≡ []
-    case true e rest = absurd (omega (arith, eqb-true (key x) k e, here.0))
-    case false e rest = rest
-
   skip : (n : ℕ) (front rest : List X) → AllByRecursion (λ x. key x ≡ n) front → (count k : ℕ) → n < k → by_key k count (front ++ rest) ≡ by_key k count rest
   skip n front rest here zero k lt = refl
   skip n front rest here (suc count) k lt =
-      let q : filter (λ x. nat_eq (key x) k) (front ++ rest) ≡ filter (λ x. nat_eq (key x) k) rest = filter-append (λ x. nat_eq (key x) k) front rest ∙ ap (λ xs. xs ++ filter (λ x. nat_eq (key x) k) rest) (filter_none k n lt front here) in
+      let q : filter (λ x. nat_eq (key x) k) (front ++ rest) ≡ filter (λ x. nat_eq (key x) k) rest = filter-append (λ x. nat_eq (key x) k) front rest ∙ ap (λ xs. xs ++ filter (λ x. nat_eq (key x) k) rest) (filter-none (λ x. key x ≡ n) (λ x. nat_eq (key x) k) (λ x at is. omega (arith, eqb-true (key x) k is, at, lt)) front here) in
       rw (q, skip n front rest here count (k + 1) (omega arith)) refl
 
   -- a list in order is its elements key by key

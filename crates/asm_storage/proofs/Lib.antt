@@ -14,5 +14,6 @@ pub mod Moves
 pub mod OfferBounds
 pub mod OwnReceipts
 pub mod PartKept
+pub mod ProperResults
 pub mod Rounds
 pub mod Run

@@ -6,7 +6,7 @@ use Rattle.std.proofs.lemmas.List.{take_all, length-map, map-append}
 use Rattle.std.proofs.lemmas.Bool.{eqb-true, or_cases}
 use mathlib.Core.List.{IsPrefix}
 use Rattle.asm_storage.specs.declared.receipt.Receipt.{Receipt}
-use Rattle.asm_storage.specs.declared.receipt.Entry.{Entry}
+use Rattle.asm_storage.specs.declared.entry.Entry.{Entry}
 use Rattle.asm_storage.specs.Machine.{Machine}
 use Rattle.asm_storage.specs.History.{fired_moves}
 use Rattle.asm_storage.specs.Agents.{AgentView, moves_seen, is_move_at, most, last_stood, merged, has_receipt, IsGathered, IsHistoryOf}

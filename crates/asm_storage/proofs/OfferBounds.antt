@@ -1,13 +1,20 @@
--- How many looks of a fire find nothing, at the least and at the most, and how many offers a busy one lost.
+-- What a fire gives, from its reply and how many offers it made: how many looks found nothing, and how many offers a busy
+-- one lost, come of those.
 use Rattle.std.proofs.Common.{◌≡◌, ℕ, ◌+◌, ◌-◌, ◌^◌, ◌<◌, ◌≤◌, Bool, true, false, cond, min, nat_lt, length}
-use Rattle.std.proofs.Common.{Result, Ok, Err, IfErr, arith, subst}
+use Rattle.std.proofs.Common.{◌↔◌, List, Result, Ok, Err, IfOk, IfErr, OnErr, arith, subst}
+use Rattle.std.specs.Prelude.{IsErrOf}
+use mathlib.Core.List.{IsPrefix}
+use Rattle.asm_update.specs.Aggregator.{Meaning}
+use Rattle.asm_update.specs.Move.{Move}
+use Rattle.asm_state.specs.declared.named.Named.{Named}
 use Rattle.asm_storage.specs.declared.call.Reply.{Reply}
 use Rattle.asm_storage.specs.declared.call.Reply.TheVariants as reply
 use Rattle.asm_storage.specs.declared.error.FireError.{FireError}
 use Rattle.asm_storage.specs.declared.error.FireError.TheVariants as fire_error
-use Rattle.asm_storage.specs.Calls.{HasOffered, IsBusy, MadeOffers}
-use Rattle.asm_storage.specs.Limits.{offers_limit}
-use Rattle.asm_storage.specs.Storage.{AgentAt, last_look}
+use Rattle.asm_storage.specs.Calls.{HasOffered, IsAnswered, IsBusy, IsCoherentReply, IsFire, MadeOffers}
+use Rattle.asm_storage.specs.Limits.{offers_limit, reads_limit}
+use Rattle.asm_storage.specs.Storage.{AgentAt, IsSameAgent, has_looked, last_look}
+use Rattle.asm_storage.proofs.Coherent.{answered_coherent}
 
 one_at_most : (b : Bool) → cond b 1 0 ≤ 1
 one_at_most true = omega arith
@@ -20,7 +27,7 @@ module _ {A : Type 0} (old new : AgentAt A) where
       omega (arith, lt, offered.missed, last)
 
   -- no more looks find nothing than a fire makes offers
-  pub few_misses : (r : Result Reply FireError) (n : ℕ) → MadeOffers old new r n → new.misses ≤ old.misses + offers_limit
+  few_misses : (r : Result Reply FireError) (n : ℕ) → MadeOffers old new r n → new.misses ≤ old.misses + offers_limit
   few_misses (Ok (reply.Fired k)) n made = omega (arith, made.1, made.2.missed)
   few_misses (Ok (reply.Stale l)) n made = after_last n made.0 made.1
   few_misses (Ok (reply.Clash c)) n made = after_last n made.0 made.1
@@ -30,16 +37,39 @@ module _ {A : Type 0} (old new : AgentAt A) where
   few_misses (Err fire_error.Memory) n made = after_last n made.0 made.1
 
   -- a look that found nothing comes before the move that fired
-  pub fired_missed : (r : Result Reply FireError) (n : ℕ) → MadeOffers old new r n →
+  fired_missed : (r : Result Reply FireError) (n : ℕ) → MadeOffers old new r n →
       (k : ℕ) → r ≡ Ok (reply.Fired k) → min (old.misses + 1) (2 ^ 64 - 1) ≤ new.misses
   fired_missed r n made k is =
       let fired = subst (λ (q : Result Reply FireError). MadeOffers old new q n) is made in
       omega (arith, fired.0, fired.2.missed)
 
   -- a busy fire saw at least as many moves as it lost offers
-  pub busy_lost : (r : Result Reply FireError) (n : ℕ) → MadeOffers old new r n → IfErr r (IsBusy old new) →
+  busy_lost : (r : Result Reply FireError) (n : ℕ) → MadeOffers old new r n → IfErr r (IsBusy old new) →
       (from to : ℕ) → r ≡ Err (fire_error.Busy from to) → from + offers_limit ≤ to
   busy_lost r n made busy from to is =
       let lost = subst (λ (q : Result Reply FireError). MadeOffers old new q n) is made in
       let told = subst (λ (q : Result Reply FireError). IfErr q (IsBusy old new)) is busy in
       omega (arith, lost.0, lost.1.longer, told.0, told.1)
+
+  pub is_fire : (meaning : A → Meaning) (reads : List Named) (M : Move) (r : Result Reply FireError) (n : ℕ) →
+      IsSameAgent old new → IsPrefix old.account.seen new.account.seen → IfOk r (IsAnswered meaning old new reads M) →
+      OnErr r (new ≡ has_looked old new.account.seen new.misses) → IfErr r (IsBusy old new) →
+      IsErrOf r fire_error.ManyReads ↔ (reads_limit < length reads) → MadeOffers old new r n →
+      IsFire meaning old new reads M r
+  is_fire meaning reads M r n same seen answered refused busy many made = record {
+    same = same;
+    seen = seen;
+    answered = answered;
+    coherent = coherent r answered;
+    refused = refused;
+    busy = busy;
+    many = many;
+    offers = (n, made);
+    missed = fired_missed r n made;
+    few = few_misses r n made;
+    lost = busy_lost r n made busy;
+  } where
+    coherent : (q : Result Reply FireError) → IfOk q (IsAnswered meaning old new reads M) →
+        IfOk q (IsCoherentReply meaning new reads M)
+    coherent (Ok q) is = answered_coherent meaning old new reads M q is
+    coherent (Err e) is = tt

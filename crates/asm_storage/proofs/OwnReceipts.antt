@@ -10,7 +10,7 @@ use Rattle.asm_storage.specs.declared.history.Event.{Event}
 use Rattle.asm_storage.specs.Machine.{Machine}
 use Rattle.asm_storage.specs.History.{events_of}
 use Rattle.asm_storage.specs.Agents.{AgentView, is_fired, next_after, StandInOrder, IsAgent, event_of, is_quiet_at, is_move_at, quiet_at, fired_at, round, rounds, most, last_stood, merged}
-use Rattle.asm_storage.proofs.Lists.{Each-weaker, Each-rest}
+use Rattle.asm_storage.proofs.Lists.{Each-weaker, Each-rest, filter-none}
 use Rattle.asm_storage.proofs.AgentKept.{next_fired}
 use Rattle.asm_storage.proofs.Rounds.{quiet_stands, move_stands, none_at, rises_tail, rises_above}
 
@@ -87,18 +87,11 @@ split n (r ∷ rs) order = first (nat_eq r.stood n) refl (is_fired r) refl (spli
         order = from;
       }
 
-filter_none : (test : Receipt → Bool) (k n : ℕ) → ((r : Receipt) → test r ≡ true → r.stood ≡ k) → n < k → (rs : List Receipt) → AllByRecursion (λ r. r.stood ≡ n) rs → filter test rs ≡ []
-filter_none test k n says lt [] here = refl
-filter_none test k n says lt (r ∷ rs) here = case (test r) refl (filter_none test k n says lt rs here.1) where
-  case : (b : Bool) → test r ≡ b → filter test rs ≡ [] → cond b (r ∷ filter test rs) (filter test rs) ≡ []
-  case true e rest = absurd (omega (arith, says r e, here.0))
-  case false e rest = rest
-
 skip : (n : ℕ) (front rest : List Receipt) → AllByRecursion (λ r. r.stood ≡ n) front → (count k : ℕ) → n < k → in_rounds k count (front ++ rest) ≡ in_rounds k count rest
 skip n front rest here zero k lt = refl
 skip n front rest here (suc count) k lt =
-    let q : filter (is_quiet_at k) (front ++ rest) ≡ filter (is_quiet_at k) rest = filter-append (is_quiet_at k) front rest ∙ ap (λ xs. xs ++ filter (is_quiet_at k) rest) (filter_none (is_quiet_at k) k n (quiet_stands k) lt front here) in
-    let m : filter (is_move_at k) (front ++ rest) ≡ filter (is_move_at k) rest = filter-append (is_move_at k) front rest ∙ ap (λ xs. xs ++ filter (is_move_at k) rest) (filter_none (is_move_at k) k n (move_stands k) lt front here) in
+    let q : filter (is_quiet_at k) (front ++ rest) ≡ filter (is_quiet_at k) rest = filter-append (is_quiet_at k) front rest ∙ ap (λ xs. xs ++ filter (is_quiet_at k) rest) (filter-none (λ r. r.stood ≡ n) (is_quiet_at k) (λ r at is. omega (arith, quiet_stands k r is, at, lt)) front here) in
+    let m : filter (is_move_at k) (front ++ rest) ≡ filter (is_move_at k) rest = filter-append (is_move_at k) front rest ∙ ap (λ xs. xs ++ filter (is_move_at k) rest) (filter-none (λ r. r.stood ≡ n) (is_move_at k) (λ r at is. omega (arith, move_stands k r is, at, lt)) front here) in
     rw (q, m, skip n front rest here count (k + 1) (omega arith)) refl
 
 in_rounds_all : (count n : ℕ) (rs : List Receipt) → StandInOrder n rs → AllByRecursion (λ r. r.stood < n + count) rs → in_rounds n count rs ≡ rs

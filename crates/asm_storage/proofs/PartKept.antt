@@ -1,6 +1,6 @@
 -- What is true of an agent's part stays true when it sees more, and when its state follows one more move.
-use Rattle.std.proofs.Common.{◌≡◌, ℕ, ◌+◌, ◌-◌, ◌^◌, ◌≤◌, min, List, [], ◌∷◌, ◌++◌, length, take, Option, Some, None}
-use Rattle.std.proofs.Common.{IfSome, IfNone, Bor, slice_get, add-one, append-nil, arith, refl, ap, sym, ◌∙◌, subst}
+use Rattle.std.proofs.Common.{◌≡◌, ℕ, ◌+◌, ◌-◌, ◌^◌, ◌≤◌, min, Bool, true, false, cond, nat_lt, List, [], ◌∷◌, ◌++◌, length, take}
+use Rattle.std.proofs.Common.{Some, slice_get, add-one, append-nil, arith, refl, ap, sym, ◌∙◌, subst}
 use Rattle.std.proofs.lemmas.List.{take_all, length-map}
 use Rattle.std.proofs.lemmas.Option.{slice_get_within}
 use Rattle.std.proofs.lemmas.List.Elements.{All-from_recursion}
@@ -13,11 +13,11 @@ use Rattle.asm_update.specs.State.{State}
 use Rattle.asm_state.specs.Stands.{Stands}
 use Rattle.asm_state.specs.View.{StateView}
 use Rattle.asm_storage.specs.declared.part.AgentPart.{AgentPart}
-use Rattle.asm_storage.specs.declared.receipt.Entry.{Entry}
+use Rattle.asm_storage.specs.declared.entry.Entry.{Entry}
 use Rattle.asm_storage.specs.Agents.{AgentView, IsAgent, moves_seen}
 use Rattle.asm_storage.specs.Machine.{Machine}
-use Rattle.asm_storage.specs.Part.{account_of, IsFollowing, IsPartOf, LooksOn}
-use Rattle.asm_storage.specs.Storage.{StorageView, AgentAt, has_looked, machine_of}
+use Rattle.asm_storage.specs.Part.{account_of, agent_of, IsFollowing, IsPartOf, LooksOn}
+use Rattle.asm_storage.specs.Storage.{StorageView, AgentAt, has_looked, last_look, machine_of, Missed}
 use Rattle.asm_storage.proofs.AgentKept.{take-moves_seen, seen_more}
 use Rattle.asm_storage.proofs.Lists.{slice_get-map, take-slice_get, length-prefix}
 
@@ -102,19 +102,37 @@ module _ {A : Type 0} (meaning : A → Meaning) (s : StorageView A) where
         part = seen_part old new part row won counted more;
       }
 
-  -- one look found the next entry, or counted a miss
-  pub looked_once : (old : AgentPart) (new : SeatView Entry) (r : Option (Bor Entry)) → IsPartOf meaning s old →
-      new.row ≡ old.progress.row →
-      IfSome r (λ e. new ≡ record old.progress { seen = old.progress.seen ++ e.now ∷ [] }) →
-      IfNone r (new ≡ record old.progress { misses = min (old.progress.misses + 1) (2 ^ 64 - 1) }) →
+  -- a look found the next entry
+  pub found_next : (old : AgentPart) (new : SeatView Entry) (e : Entry) → IsPartOf meaning s old →
+      new ≡ record old.progress { seen = old.progress.seen ++ e ∷ [] } →
       LooksOn meaning s old (record old { progress = new })
-  looked_once old new (Some e) part row found miss =
-      let won = ap (λ (p : SeatView Entry). p.won) found in
-      let misses = ap (λ (p : SeatView Entry). p.misses) found in
-      let more : IsPrefix old.progress.seen new.seen = (e.now ∷ [], sym (ap (λ (p : SeatView Entry). p.seen) found)) in
-      looks_with old new part row won (omega (arith, misses, part.counted)) more
-  looked_once old new None part row found miss =
-      let won = ap (λ (p : SeatView Entry). p.won) miss in
-      let misses = ap (λ (p : SeatView Entry). p.misses) miss in
-      let same = ap (λ (p : SeatView Entry). p.seen) miss in
-      looks_with old new part row won (omega (arith, misses)) ([], append-nil old.progress.seen ∙ sym same)
+  found_next old new e part is =
+      subst (λ (p : SeatView Entry). LooksOn meaning s old (record old { progress = p })) (sym is)
+      (looks_with old (record old.progress { seen = old.progress.seen ++ e ∷ [] }) part refl refl part.counted (e ∷ [], refl))
+
+  abbrev HasMissed : AgentPart → SeatView Entry → Type 0
+  HasMissed old new =
+      LooksOn meaning s old (record old { progress = new })
+      × Missed (agent_of s old) (last_look (agent_of s (record old { progress = new })))
+      (agent_of s (record old { progress = new }))
+
+  by_room : (old : AgentPart) (b : Bool) → IsPartOf meaning s old →
+      nat_lt (length old.progress.seen) (length s.row) ≡ b →
+      HasMissed old (cond b (record old.progress { misses = min (old.progress.misses + 1) (2 ^ 64 - 1) }) old.progress)
+  by_room old true part room = (
+    looks_with old (record old.progress { misses = min (old.progress.misses + 1) (2 ^ 64 - 1) }) part refl refl (omega arith)
+        ([], append-nil old.progress.seen),
+    ap (λ b. min (old.progress.misses + cond b 1 0) (2 ^ 64 - 1)) (sym room),
+  )
+  by_room old false part room =
+      let same : old.progress.misses ≡ min (old.progress.misses + 0) (2 ^ 64 - 1) = omega (arith, part.counted) in (
+        looks_with old old.progress part refl refl part.counted ([], append-nil old.progress.seen),
+        same ∙ ap (λ b. min (old.progress.misses + cond b 1 0) (2 ^ 64 - 1)) (sym room),
+      )
+
+  -- a look found nothing: it is a miss, but where the whole row was seen
+  pub missed_next : (old : AgentPart) (new : SeatView Entry) → IsPartOf meaning s old →
+      new ≡ cond (nat_lt (length old.progress.seen) (length s.row))
+      (record old.progress { misses = min (old.progress.misses + 1) (2 ^ 64 - 1) }) old.progress →
+      HasMissed old new
+  missed_next old new part is = subst (HasMissed old) (sym is) (by_room old _ part refl)

@@ -1,6 +1,6 @@
 -- The calls of an agent: a reading, an agent after an answered call, and how many offers and looks the call made.
-use Rattle.std.specs.Prelude.{◌≡◌, ℕ, zero, suc, ◌+◌, ◌-◌, ◌≤◌, ◌<◌, List, length, take, Option, Result, Ok, Err}
-use Rattle.std.specs.Prelude.{refl}
+use Rattle.std.specs.Prelude.{◌≡◌, ◌↔◌, ℕ, zero, suc, ◌+◌, ◌-◌, ◌^◌, ◌≤◌, ◌<◌, min, List, length, take, Option}
+use Rattle.std.specs.Prelude.{Result, Ok, Err, IfOk, IfErr, OnErr, IsErrOf, refl}
 use Rattle.std.specs.Coded.{Coded, code_by, coded×, coded_ℕ, coded_list}
 use mathlib.Core.List.{IsPrefix}
 use Rattle.asm_element.specs.Place.{Place}
@@ -19,13 +19,14 @@ use Rattle.asm_storage.specs.declared.error.FireError.{FireError}
 use Rattle.asm_storage.specs.declared.error.FireError.TheVariants as fire_error
 use Rattle.asm_storage.specs.declared.error.ReadError.{ReadError}
 use Rattle.asm_storage.specs.declared.error.ReadError.TheVariants as read_error
-use Rattle.asm_storage.specs.declared.receipt.Entry.{Entry}
+use Rattle.asm_storage.specs.declared.entry.Entry.{Entry}
 use Rattle.asm_storage.specs.declared.receipt.Receipt.{Receipt}
-use Rattle.asm_storage.specs.Limits.{offers_limit}
+use Rattle.asm_storage.specs.Limits.{offers_limit, reads_limit}
 use Rattle.asm_storage.specs.Machine.{reply_to}
 use Rattle.asm_storage.specs.History.{IsCoherentAt}
 use Rattle.asm_storage.specs.Agents.{moves_seen}
-use Rattle.asm_storage.specs.Storage.{AgentAt, machine_of, has_looked, with_receipt, has_fired, last_look, Missed}
+use Rattle.asm_storage.specs.Storage.{AgentAt, IsSameAgent, machine_of, has_looked, with_receipt, has_fired}
+use Rattle.asm_storage.specs.Storage.{last_look, Missed}
 
 -- what was read: the number of moves, the locations and their values
 pub record ReadingView : Type 0 where
@@ -123,6 +124,26 @@ MadeOffers old new (Err fire_error.Memory) n = (n < offers_limit) × HasOffered 
 abbrev pub IsBusy : {A : Type 0} → AgentAt A → AgentAt A → FireError → Type 0
 IsBusy old new (fire_error.Busy from to) = (from ≡ length old.account.seen) × (to ≡ length new.account.seen)
 IsBusy old new e = Unit {0}
+
+-- what a fire of an agent at its storage gives
+pub record IsFire {A : Type 0} (meaning : A → Meaning) (old new : AgentAt A) (reads : List Named) (M : Move)
+    (result : Result Reply FireError) : Type 0 where
+  -- the agent stays itself, and what it has seen stays seen
+  pub same : IsSameAgent old new
+  pub seen : IsPrefix old.account.seen new.account.seen
+  -- a reply is that of the storage of one thread, and what fired finds what it named as it was
+  pub answered : IfOk result (IsAnswered meaning old new reads M)
+  pub coherent : IfOk result (IsCoherentReply meaning new reads M)
+  -- after an error it has looked on, and no more
+  pub refused : OnErr result (new ≡ has_looked old new.account.seen new.misses)
+  pub busy : IfErr result (IsBusy old new)
+  pub many : IsErrOf result fire_error.ManyReads ↔ (reads_limit < length reads)
+  -- how many offers it made; the looks that found nothing are one at least before a fired move, counted up to
+  -- 2^64 - 1, and 64 at most; and a busy fire saw as many moves as it lost offers
+  pub offers : (n : ℕ) × MadeOffers old new result n
+  pub missed : (k : ℕ) → result ≡ Ok (reply.Fired k) → min (old.misses + 1) (2 ^ 64 - 1) ≤ new.misses
+  pub few : new.misses ≤ old.misses + offers_limit
+  pub lost : (from to : ℕ) → result ≡ Err (fire_error.Busy from to) → from + offers_limit ≤ to
 
 -- a read looked on, but where it had too many locations
 abbrev pub HasLookedFor : {A : Type 0} → AgentAt A → AgentAt A → ReadError → Type 0

@@ -16,7 +16,7 @@ use Rattle.asm_storage.specs.declared.call.Call.TheVariants as call
 use Rattle.asm_storage.specs.declared.call.Reply.{Reply}
 use Rattle.asm_storage.specs.declared.call.Reply.TheVariants as reply
 use Rattle.asm_storage.specs.declared.part.AgentPart.{AgentPart}
-use Rattle.asm_storage.specs.declared.receipt.Entry.{Entry}
+use Rattle.asm_storage.specs.declared.entry.Entry.{Entry}
 use Rattle.asm_storage.specs.Limits.{agents_limit}
 use Rattle.asm_storage.specs.Machine.{Machine, reply_to}
 use Rattle.asm_storage.specs.History.{fired_move}

@@ -9,7 +9,7 @@ use Rattle.asm_storage.specs.declared.call.Answer.{Answer}
 use Rattle.asm_storage.specs.declared.call.Call.{Call}
 use Rattle.asm_storage.specs.declared.error.CloseError.{CloseError}
 use Rattle.asm_storage.specs.declared.error.CloseError.TheVariants.{Missing, Memory}
-use Rattle.asm_storage.specs.declared.receipt.Entry.{Entry}
+use Rattle.asm_storage.specs.declared.entry.Entry.{Entry}
 use Rattle.asm_storage.specs.declared.receipt.Receipt.{Receipt}
 use Rattle.asm_storage.specs.Agents.{AgentView, IsLeastMissing, most_seen, moves_seen}
 use Rattle.asm_storage.specs.Machine.{Machine, reply_to}

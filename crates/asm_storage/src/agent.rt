@@ -1,21 +1,19 @@
-ghost use Rattle.std.specs.Prelude.{filter, ◌≡◌, ◌↔◌, ◌<◌, ◌≤◌, ◌+◌, ◌-◌, ◌^◌, ℕ, length, max, min};
-ghost use Rattle.std.specs.Prelude.{Ok, Err, IfOk, IfErr, OnOk, OnErr, IsOk, IsErrOf};
+ghost use Rattle.std.specs.Prelude.{filter, ◌≡◌, ◌↔◌, ◌<◌, ℕ, length, max, IfOk, IfErr, OnErr, IsOk, IsErrOf};
 ghost use mathlib.Core.List.{IsPrefix};
-ghost use Rattle.asm_storage.specs.declared.call.Reply.TheVariants.{Fired};
-ghost use Rattle.asm_storage.specs.declared.error.FireError.TheVariants.{Busy, ManyReads};
 ghost use Rattle.asm_storage.specs.declared.error.ReadError.TheVariants.{ManyLocations};
 ghost use Rattle.asm_storage.specs.Agents.{IsAgent, is_fired};
-ghost use Rattle.asm_storage.specs.Calls.{HasLookedFor, IsAnswered, IsBusy, IsCoherentReply, IsPeek, IsRead, IsStaleRead, MadeOffers, Ran};
-ghost use Rattle.asm_storage.specs.Limits.{agents_limit, offers_limit, reads_limit};
+ghost use Rattle.asm_storage.specs.Calls.{HasLookedFor, IsFire, IsPeek, IsRead, IsStaleRead, MadeOffers, Ran};
+ghost use Rattle.asm_storage.specs.Limits.{agents_limit, reads_limit};
 ghost use Rattle.asm_storage.specs.Part.{agent_of, IsFollowing, IsPartOf};
 ghost use Rattle.asm_storage.specs.Storage.{machine_of, has_seen, has_looked, last_look, IsSameAgent, Missed};
 
 use crate::call::Reply;
+use crate::entry::Entry;
 use crate::error::{FireError, ReadError};
 use crate::limits::READS_LIMIT;
 use crate::part::AgentPart;
 use crate::reading::Reading;
-use crate::receipt::{Entry, Receipt};
+use crate::receipt::Receipt;
 use crate::storage::Storage;
 use asm_element::Location;
 use asm_state::{Named, State};
@@ -42,7 +40,7 @@ pub struct Agent<'s, A: Aggregator + Sync + Drop> {
 
 impl<'s, A: Aggregator + Sync + Drop> Model for Agent<'s, A> {
     ghost use Rattle.asm_update.specs.contracts.plain_state.PlainState.{the_row as state_row};
-    ghost use Rattle.asm_storage.specs.contracts.receipt.Entry.{the_row as entry_row};
+    ghost use Rattle.asm_storage.specs.contracts.entry.Entry.{the_row as entry_row};
     ghost use Rattle.asm_storage.specs.contracts.receipt.Receipt.{the_row as receipt_row};
     ghost use Rattle.asm_storage.specs.Agents.{account_code};
     ghost use Rattle.asm_storage.specs.Part.{agent_of, IsPartOf};
@@ -112,19 +110,13 @@ impl<'s, A: Aggregator + Sync + Drop> Agent<'s, A> {
         self.part.receipts.as_slice()
     }
 
-    // Tells what is true of every agent.
-    pub(crate) fn holds(&self)
-        ensures { IsAgent (machine_of A.meaning self.now.storage) self.now.account }
-    {
-        let _ = &self.part;
-    }
-
     /// A mark of what it has seen, which another agent of the storage can learn.
     ///
     /// It always answers `Ok`: a mark takes no memory of its own.
     pub fn mark(&self, alloc: Global) -> Result<Mark, AllocError>
         ensures made { IsOk result }
         ensures holds { IfOk result (λ m. m ≡ record { row = self.now.storage.row; seen = self.now.account.seen }) }
+        ensures agent { IsAgent (machine_of A.meaning self.now.storage) self.now.account }
     {
         self.part.progress.mark(alloc)
     }
@@ -258,17 +250,8 @@ impl<'s, A: Aggregator + Sync + Drop> Agent<'s, A> {
         between: &mut F,
     ) -> Result<Reply, FireError>
         requires { F.IsAlwaysCallable between.old }
-        ensures same { IsSameAgent self.old self.new }
-        ensures answered { IfOk result (IsAnswered A.meaning self.old self.new reads.now instrs.now) }
-        ensures coherent { IfOk result (IsCoherentReply A.meaning self.new reads.now instrs.now) }
-        ensures seen { IsPrefix self.old.account.seen self.new.account.seen }
-        ensures refused { OnErr result (self.new ≡ has_looked self.old self.new.account.seen self.new.misses) }
-        ensures busy { IfErr result (IsBusy self.old self.new) }
-        ensures many { IsErrOf result ManyReads ↔ (reads_limit < length reads.now) }
-        // One at least before a fired move, counted up to 2^64 - 1, and 64 at most.
-        ensures missed { (k : ℕ) → result ≡ Ok (Fired k) → min (self.old.misses + 1) (2 ^ 64 - 1) ≤ self.new.misses }
-        ensures few { self.new.misses ≤ self.old.misses + offers_limit }
-        ensures lost { (from to : ℕ) → result ≡ Err (Busy from to) → from + offers_limit ≤ to }
+        ensures fire { IsFire A.meaning self.old self.new reads.now instrs.now result }
+        // The closure was called as often as offers were made.
         ensures callable { F.IsAlwaysCallable between.new }
         ensures offers { (n : ℕ) × MadeOffers self.old self.new result n ×
             Ran (λ f g. F.step f tt g) between.old n between.new }
@@ -288,18 +271,7 @@ impl<'s, A: Aggregator + Sync + Drop> Agent<'s, A> {
         reads: &[Named],
         instrs: &Instructions,
     ) -> Result<Reply, FireError>
-        ensures same { IsSameAgent self.old self.new }
-        ensures answered { IfOk result (IsAnswered A.meaning self.old self.new reads.now instrs.now) }
-        ensures coherent { IfOk result (IsCoherentReply A.meaning self.new reads.now instrs.now) }
-        ensures seen { IsPrefix self.old.account.seen self.new.account.seen }
-        ensures refused { OnErr result (self.new ≡ has_looked self.old self.new.account.seen self.new.misses) }
-        ensures busy { IfErr result (IsBusy self.old self.new) }
-        ensures many { IsErrOf result ManyReads ↔ (reads_limit < length reads.now) }
-        // One at least before a fired move, counted up to 2^64 - 1, and 64 at most.
-        ensures missed { (k : ℕ) → result ≡ Ok (Fired k) → min (self.old.misses + 1) (2 ^ 64 - 1) ≤ self.new.misses }
-        ensures few { self.new.misses ≤ self.old.misses + offers_limit }
-        ensures lost { (from to : ℕ) → result ≡ Err (Busy from to) → from + offers_limit ≤ to }
-        ensures offers { (n : ℕ) × MadeOffers self.old self.new result n }
+        ensures { IsFire A.meaning self.old self.new reads.now instrs.now result }
     {
         self.try_fire_with(alloc, reads, instrs, &mut || {})
     }

@@ -11,9 +11,9 @@ mod missing_moves;
 use crate::agent::Agent;
 use crate::close::merging::merge;
 use crate::close::missing_moves::first_missing;
+use crate::entry::Entry;
 use crate::error::CloseError;
 use crate::history::History;
-use crate::receipt::Entry;
 use crate::storage::Storage;
 use asm_element::Items;
 use asm_row::Seat;
@@ -45,7 +45,6 @@ impl<A: Aggregator + Sync + Drop> Storage<A> {
     {
         let mut seat = self.row().seat(alloc)?;
         for agent in agents {
-            agent.holds();
             seat.learn(&agent.mark(alloc)?);
         }
         Ok(seat)

@@ -9,7 +9,9 @@
 mod agent;
 mod call;
 mod close;
+mod entry;
 mod error;
+mod held_values;
 mod history;
 mod limits;
 mod part;
@@ -21,10 +23,12 @@ mod storage;
 
 pub use agent::{Agent, Mark};
 pub use call::{Answer, Call, Reply};
+pub use entry::Entry;
 pub use error::{AgentsError, CloseError, FireError, ReadError, StorageError};
+pub use held_values::{has_value, have_values};
 pub use history::{Event, History};
 pub use limits::{AGENTS_LIMIT, EVENTS_LIMIT, OFFERS_LIMIT, READS_LIMIT};
 pub use part::AgentPart;
 pub use reading::Reading;
-pub use receipt::{Entry, Receipt};
+pub use receipt::Receipt;
 pub use storage::Storage;

@@ -1,5 +1,4 @@
 ghost use Rattle.std.specs.Prelude.{◌≡◌, ◌+◌, ◌<◌, ◌≤◌, nat_lt, length, map, max, IfOk, OnOk};
-ghost use Rattle.std.specs.Bool.{OnTrue, OnFalse};
 ghost use mathlib.Core.List.{IsPrefix};
 ghost use Rattle.asm_storage.specs.Storage.{at_start, has_seen, last_look, Missed};
 ghost use Rattle.asm_storage.specs.Limits.{agents_limit};
@@ -11,7 +10,8 @@ mod offering;
 mod read;
 
 use crate::agent::Mark;
-use crate::receipt::{Entry, Receipt};
+use crate::entry::Entry;
+use crate::receipt::Receipt;
 use crate::storage::Storage;
 use asm_row::Progress;
 use asm_state::State;
@@ -67,24 +67,6 @@ impl AgentPart {
         })
     }
 
-    // Looks once; true where an entry was found.
-    fn look_once<A: Aggregator + Sync + Drop>(&mut self, storage: &Storage<A>) -> bool
-        requires { IsPartOf A.meaning storage.now self.old }
-        ensures looks { LooksOn A.meaning storage.now self.old self.new }
-        ensures within { length self.new.progress.seen ≤ length storage.now.row }
-        ensures found { OnTrue result (
-            (length self.new.progress.seen ≡ length self.old.progress.seen + 1)
-            × (self.new.progress.misses ≡ self.old.progress.misses)) }
-        ensures none { OnFalse result (
-            Missed (agent_of storage.now self.old) (last_look (agent_of storage.now self.new))
-            (agent_of storage.now self.new)) }
-    {
-        if self.progress.is_full() {
-            return false;
-        }
-        self.progress.next(storage.row()).is_some()
-    }
-
     // Looks until nothing is found, or the whole row is seen.
     pub(crate) fn look<A: Aggregator + Sync + Drop>(&mut self, storage: &Storage<A>)
         requires { IsPartOf A.meaning storage.now self.old }
@@ -92,7 +74,7 @@ impl AgentPart {
         ensures missed { Missed (agent_of storage.now self.old) (last_look (agent_of storage.now self.new))
             (agent_of storage.now self.new) }
     {
-        while self.look_once(storage) {}
+        while storage.finds_next(&mut self.progress) {}
     }
 
     // Whether the state is behind what was seen.
@@ -115,7 +97,6 @@ impl AgentPart {
         ensures number { OnOk result (self.new.state.number ≡ self.old.state.number + 1) }
     {
         let _seen = self.progress.seen_len();
-        let _capacity = storage.row().capacity();
         let entry = self.progress.at(storage.row(), self.state.number());
         self.state
             .follow(alloc, storage.aggregator(), &entry.instrs)?;

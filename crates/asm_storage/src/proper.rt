@@ -1,4 +1,5 @@
-//! What a history holds is proper.
+//! What a history holds is proper. A list tells that of no item before the item is read, so these walk every list: the
+//! goal `proper` of `History::fits` needs it, and the round trip of a journal.
 ghost use Rattle.std.specs.Prelude.{All};
 ghost use Rattle.asm_element.specs.Place as place;
 ghost use Rattle.asm_element.specs.Value as value;

@@ -4,7 +4,6 @@ ghost use Rattle.asm_storage.specs.Agents.{is_fired, event_of};
 use crate::call::{Answer, Call, Reply};
 use crate::history::Event;
 use asm_element::{Items, Location, Value};
-use asm_update::Instructions;
 use std::alloc::{AllocError, Global};
 
 /// An answered call of one agent.
@@ -16,15 +15,6 @@ pub struct Receipt {
     pub answer: Answer,
     /// The number of fired moves on which the answer was judged; for `Fired(k)` it is k − 1.
     pub stood: u32,
-}
-
-/// A move in the row of a storage.
-#[derive(Debug, Drop, PartialEq, Eq)]
-pub struct Entry {
-    /// The agent that fired it.
-    pub agent: u32,
-    /// Its instructions.
-    pub instrs: Instructions,
 }
 
 impl Receipt {

@@ -1,20 +1,22 @@
-ghost use Rattle.std.specs.Prelude.{◌≡◌, ◌+◌, ◌<◌, ◌≤◌, ◌↔◌, ◌⊎◌, [], map, length, IfOk, IsErrOf};
+ghost use Rattle.std.specs.Prelude.{◌≡◌, ◌+◌, ◌-◌, ◌^◌, ◌<◌, ◌≤◌, ◌↔◌, ◌⊎◌, [], ◌∷◌, ◌++◌, map, length, min, nat_lt};
+ghost use Rattle.std.specs.Prelude.{if◌then◌else◌, IfOk, IsErrOf};
 ghost use Rattle.std.specs.Arc.{arc_value};
-ghost use Rattle.std.specs.Bool.{OnTrue};
+ghost use Rattle.std.specs.Bool.{OnTrue, OnFalse};
 ghost use Rattle.std.specs.List.{range_with_len};
 ghost use Rattle.asm_storage.specs.declared.error.StorageError.TheVariants as storage_error;
 ghost use Rattle.asm_storage.specs.declared.error.AgentsError.TheVariants as agents_error;
 ghost use Rattle.asm_row.specs.Limits.{capacity_limit};
 ghost use Rattle.asm_update.specs.Fire.{Part};
 ghost use Rattle.asm_state.specs.Stands.{Stands};
+ghost use Rattle.asm_storage.specs.declared.entry.Entry.{Entry};
 ghost use Rattle.asm_storage.specs.Limits.{agents_limit};
 ghost use Rattle.asm_storage.specs.Storage.{at_start};
 
 use crate::agent::Agent;
+use crate::entry::Entry;
 use crate::error::{AgentsError, StorageError};
 use crate::limits::AGENTS_LIMIT;
 use crate::part::AgentPart;
-use crate::receipt::Entry;
 use asm_row::{Progress, Row, RowError};
 use asm_state::State;
 use asm_update::{Aggregator, PlainState};
@@ -142,12 +144,16 @@ impl<A: Aggregator + Sync + Drop> Storage<A> {
         Ok(Agent::of(self, part))
     }
 
-    // Looks once at the row; true where an entry was found.
-    fn finds_next(&self, progress: &mut Progress<Entry>) -> bool
+    /// Looks once at the row; true where an entry was found.
+    pub(crate) fn finds_next(&self, progress: &mut Progress<Entry>) -> bool
         requires { progress.old.row ≡ self.now.row }
-        ensures row { progress.new.row ≡ self.now.row }
+        ensures row { progress.new.row ≡ progress.old.row }
         ensures within { length progress.new.seen ≤ length self.now.row }
-        ensures found { OnTrue result (length progress.new.seen ≡ length progress.old.seen + 1) }
+        ensures found { OnTrue result ((entry : Entry) ×
+            (progress.new ≡ record progress.old { seen = progress.old.seen ++ entry ∷ [] })) }
+        ensures none { OnFalse result (progress.new ≡
+            (if nat_lt (length progress.old.seen) (length self.now.row)
+            then record progress.old { misses = min (progress.old.misses + 1) (2 ^ 64 - 1) } else progress.old)) }
     {
         if progress.is_full() {
             return false;

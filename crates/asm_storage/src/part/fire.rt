@@ -1,15 +1,15 @@
-ghost use Rattle.std.specs.Prelude.{◌≡◌, ◌≢◌, ◌+◌, ◌<◌, ℕ, length, IfOk, IfErr, OnOk, OnErr, Some, None, Err, Ok, IsSome, false};
+ghost use Rattle.std.specs.Prelude.{◌≡◌, ◌+◌, ◌<◌, ◌≤◌, ℕ, length, IfOk, OnOk, OnErr, Some, None, Ok, IsSome, false};
 ghost use Rattle.std.specs.Prelude.{IfSome, IfNone};
 ghost use mathlib.Core.List.{IsPrefix};
 ghost use Rattle.asm_storage.specs.Plain.{is_plain};
 ghost use Rattle.asm_storage.specs.declared.call.Answer.TheVariants as answer;
 ghost use Rattle.asm_storage.specs.declared.call.Call.TheVariants as call;
 ghost use Rattle.asm_storage.specs.declared.call.Reply.TheVariants as reply;
-ghost use Rattle.asm_storage.specs.declared.error.FireError.TheVariants as fire_error;
 ghost use Rattle.asm_storage.specs.History.{fired_move};
 ghost use Rattle.asm_storage.specs.Storage.{machine_of, has_fired, with_receipt, last_look, IsReplyOf, Missed};
+ghost use Rattle.asm_storage.specs.Limits.{reads_limit};
 ghost use Rattle.asm_storage.specs.Offering.{IsOffering, IsSameOffering};
-ghost use Rattle.asm_storage.specs.Calls.{receipt_at, HasOffered, IsAnswered, IsBusy, IsCoherentReply, MadeOffers, Ran};
+ghost use Rattle.asm_storage.specs.Calls.{receipt_at, HasOffered, IsFire, MadeOffers, Ran};
 ghost use Rattle.asm_storage.specs.Part.{agent_of, HasFired, IsJudged, IsLost, IsPartOf, IsTurn, LooksOn};
 ghost use Rattle.asm_storage.specs.Part.{offers_in, misses_in};
 
@@ -136,14 +136,20 @@ impl AgentPart {
         requires fired { fired_move offering.call answer ≡ Some offering.entry.value.instrs }
         requires mine { offering.entry.value.agent ≡ self.old.id }
         requires callable { F.IsAlwaysCallable between.old }
+
+        // The agent stays itself, and as it was where memory was refused.
         ensures part { IsPartOf A.meaning storage.now self.new }
         ensures id { self.new.id ≡ self.old.id }
+        ensures err { OnErr result (agent_of storage.now self.new ≡ agent_of storage.now self.old) }
+
+        // A won offer has its receipt; a lost one comes back.
         ensures won { IfOk result (λ o. IfNone o (
             agent_of storage.now self.new ≡ has_fired (agent_of storage.now self.old)
             (receipt_at (length self.old.progress.seen) offering.call answer) offering.entry.value.instrs)) }
         ensures lost { IfOk result (λ o. IfSome o (λ back. IsLost storage.now self.old self.new)) }
         ensures back { IfOk result (λ o. IfSome o (IsSameOffering offering)) }
-        ensures err { OnErr result (agent_of storage.now self.new ≡ agent_of storage.now self.old) }
+
+        // The closure was called once, unless memory was refused.
         ensures callable { F.IsAlwaysCallable between.new }
         ensures called { IfOk result (λ o. F.step between.old tt between.new) }
         ensures uncalled { OnErr result (between.new ≡ between.old) }
@@ -183,13 +189,19 @@ impl AgentPart {
             (answer.Fire (reply.Fired (length self.old.progress.seen + 1))) }
         requires pending { IfSome pending.old (IsOffering self.old.id reads.now instrs.now) }
         requires callable { F.IsAlwaysCallable between.old }
+
+        // The agent stays itself, and as it was where memory was refused.
         ensures part { IsPartOf A.meaning storage.now self.new }
         ensures id { self.new.id ≡ self.old.id }
+        ensures err { OnErr result (agent_of storage.now self.new ≡ agent_of storage.now self.old) }
+
+        // The offer won or lost, and what a lost one offered is kept.
         ensures won { IfOk result (λ o. IfSome o (HasFired storage.now self.old self.new reads.now instrs.now)) }
         ensures lost { IfOk result (λ o. IfNone o (IsLost storage.now self.old self.new)) }
         ensures pending { IfSome pending.new (IsOffering self.old.id reads.now instrs.now) }
         ensures kept { result ≡ Ok None → IsSome pending.new }
-        ensures err { OnErr result (agent_of storage.now self.new ≡ agent_of storage.now self.old) }
+
+        // The closure was called once, unless memory was refused.
         ensures callable { F.IsAlwaysCallable between.new }
         ensures called { IfOk result (λ o. F.step between.old tt between.new) }
         ensures uncalled { OnErr result (between.new ≡ between.old) }
@@ -220,14 +232,20 @@ impl AgentPart {
         requires part { IsPartOf A.meaning storage.now self.old }
         requires pending { IfSome pending.old (IsOffering self.old.id reads.now instrs.now) }
         requires callable { F.IsAlwaysCallable between.old }
+
+        // The agent stays itself, what it has seen stays seen, and where memory was refused it has looked on alone.
         ensures part { IsPartOf A.meaning storage.now self.new }
         ensures id { self.new.id ≡ self.old.id }
-        ensures turn { IfOk result (IsTurn A.meaning storage.now self.old self.new reads.now instrs.now) }
         ensures seen { IsPrefix self.old.progress.seen self.new.progress.seen }
         ensures err { OnErr result (LooksOn A.meaning storage.now self.old self.new) }
+
+        // It was answered, or an offer was lost, and what that offered is kept.
+        ensures turn { IfOk result (IsTurn A.meaning storage.now self.old self.new reads.now instrs.now) }
+        ensures pending { IfSome pending.new (IsOffering self.old.id reads.now instrs.now) }
+
+        // Offers and misses are counted, and the closure was called as often as offers were made.
         ensures counted { HasOffered (agent_of storage.now self.old) (agent_of storage.now self.new)
             (offers_in result) (misses_in (agent_of storage.now self.new) result) }
-        ensures pending { IfSome pending.new (IsOffering self.old.id reads.now instrs.now) }
         ensures callable { F.IsAlwaysCallable between.new }
         ensures calls { Ran (λ f g. F.step f tt g) between.old (offers_in result) between.new }
     {
@@ -241,7 +259,7 @@ impl AgentPart {
         }
     }
 
-    // Turns until one is answered, at most 64.
+    // Turns until one is answered, at most 64. The closure is called as often as offers are made.
     fn fire_named<A: Aggregator + Sync + Drop, F: FnMut()>(
         &mut self,
         alloc: Global,
@@ -251,17 +269,11 @@ impl AgentPart {
         between: &mut F,
     ) -> Result<Reply, FireError>
         requires part { IsPartOf A.meaning storage.now self.old }
+        requires few { length reads.now ≤ reads_limit }
         requires callable { F.IsAlwaysCallable between.old }
         ensures part { IsPartOf A.meaning storage.now self.new }
-        ensures id { self.new.id ≡ self.old.id }
-        ensures answered { IfOk result (
-            IsAnswered A.meaning (agent_of storage.now self.old) (agent_of storage.now self.new) reads.now instrs.now) }
-        ensures coherent { IfOk result (
-            IsCoherentReply A.meaning (agent_of storage.now self.new) reads.now instrs.now) }
-        ensures seen { IsPrefix self.old.progress.seen self.new.progress.seen }
-        ensures refused { OnErr result (LooksOn A.meaning storage.now self.old self.new) }
-        ensures busy { IfErr result (IsBusy (agent_of storage.now self.old) (agent_of storage.now self.new)) }
-        ensures not_many { result ≢ Err fire_error.ManyReads }
+        ensures fire { IsFire A.meaning (agent_of storage.now self.old) (agent_of storage.now self.new)
+            reads.now instrs.now result }
         ensures callable { F.IsAlwaysCallable between.new }
         ensures offers { (n : ℕ) ×
             MadeOffers (agent_of storage.now self.old) (agent_of storage.now self.new) result n ×
@@ -292,17 +304,11 @@ impl AgentPart {
         between: &mut F,
     ) -> Result<Reply, FireError>
         requires part { IsPartOf A.meaning storage.now self.old }
+        requires few { length reads.now ≤ reads_limit }
         requires callable { F.IsAlwaysCallable between.old }
         ensures part { IsPartOf A.meaning storage.now self.new }
-        ensures id { self.new.id ≡ self.old.id }
-        ensures answered { IfOk result (
-            IsAnswered A.meaning (agent_of storage.now self.old) (agent_of storage.now self.new) reads.now instrs.now) }
-        ensures coherent { IfOk result (
-            IsCoherentReply A.meaning (agent_of storage.now self.new) reads.now instrs.now) }
-        ensures seen { IsPrefix self.old.progress.seen self.new.progress.seen }
-        ensures refused { OnErr result (LooksOn A.meaning storage.now self.old self.new) }
-        ensures busy { IfErr result (IsBusy (agent_of storage.now self.old) (agent_of storage.now self.new)) }
-        ensures not_many { result ≢ Err fire_error.ManyReads }
+        ensures fire { IsFire A.meaning (agent_of storage.now self.old) (agent_of storage.now self.new)
+            reads.now instrs.now result }
         ensures callable { F.IsAlwaysCallable between.new }
         ensures offers { (n : ℕ) ×
             MadeOffers (agent_of storage.now self.old) (agent_of storage.now self.new) result n ×

@@ -3,7 +3,7 @@ ghost use Rattle.asm_storage.specs.declared.call.Call.TheVariants as call;
 ghost use Rattle.asm_storage.specs.Offering.{IsOffering};
 
 use crate::call::Call;
-use crate::receipt::Entry;
+use crate::entry::Entry;
 use crate::shared_lists::same_list;
 use asm_element::Items;
 use asm_state::Named;

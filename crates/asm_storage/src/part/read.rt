@@ -1,5 +1,4 @@
 ghost use Rattle.std.specs.Prelude.{◌≡◌, ◌≤◌, map, length, take, IfOk, OnOk, OnErr};
-ghost use Rattle.std.specs.Bool.{OnTrue};
 ghost use mathlib.Core.List.{IsPrefix};
 ghost use Rattle.asm_update.specs.State.{val};
 ghost use Rattle.asm_storage.specs.declared.call.Call.TheVariants as call;
@@ -10,6 +9,7 @@ ghost use Rattle.asm_storage.specs.Calls.{receipt_at, read_answer, IsPeek, IsRea
 ghost use Rattle.asm_storage.specs.Part.{agent_of, IsPartOf, LooksOn};
 
 use crate::call::{Answer, Call};
+use crate::held_values::have_values;
 use crate::part::AgentPart;
 use crate::reading::Reading;
 use crate::receipt::Receipt;
@@ -28,31 +28,6 @@ fn value_or_undef<L: Lookup>(alloc: Global, lookup: &L, at: &Location) -> Result
         Some(value) => value.copy(alloc),
         None => Ok(Value::Plain(Element::Undef)),
     }
-}
-
-// Whether the location has the value.
-fn has_value<L: Lookup>(lookup: &L, at: &Location, value: &Value) -> bool
-    ensures { OnTrue result (value.now ≡ L.value_at lookup.now at.now) }
-{
-    match lookup.get(at) {
-        Some(held) => held == value,
-        None => value.is_undef(),
-    }
-}
-
-// Whether the locations have the values, in their order.
-fn have_values<L: Lookup>(lookup: &L, places: &[Location], values: &[Value]) -> bool
-    ensures { OnTrue result (values.now ≡ map (L.value_at lookup.now) places.now) }
-{
-    if values.len() != places.len() {
-        return false;
-    }
-    for (i, place) in places.iter().enumerate() {
-        if !has_value(lookup, place, &values[i]) {
-            return false;
-        }
-    }
-    true
 }
 
 // Copies of the values of the locations, in their order.

@@ -1,7 +1,7 @@
 use Rattle.std.proofs.Common.{[], ap, arith, sym, ◌∙◌, subst}
 use Rattle.asm_row.specs.Seat.{SeatView}
 use Rattle.asm_state.specs.Stands.{Stands}
-use Rattle.asm_storage.specs.declared.receipt.Entry.{Entry}
+use Rattle.asm_storage.specs.declared.entry.Entry.{Entry}
 use Rattle.asm_storage.specs.Part.{IsFollowing}
 use Rattle.asm_storage.specs.Storage.{machine_of}
 use Rattle.asm_storage.proofs.PartKept.{fresh_agent, fresh_following}

@@ -1,9 +1,10 @@
-use Rattle.std.proofs.Common.{◌+◌, Err, IfErr, Ok, OnErr, Option, Some, ap, sym, ◌∙◌, subst}
+use Rattle.std.proofs.Common.{◌+◌, Err, Ok, Option, Some, arith, refl, ap, sym, ◌∙◌, subst}
 use Rattle.std.proofs.lemmas.Result.{err_from_is_err_and}
 use Rattle.asm_storage.specs.declared.call.Reply.{Reply}
-use Rattle.asm_storage.specs.Calls.{HasOffered, IsBusy, MadeOffers, Ran}
-use Rattle.asm_storage.specs.Part.{agent_of, IsTurn, LooksOn, offers_in, misses_in}
-use Rattle.asm_storage.proofs.Coherent.{answered_coherent}
+use Rattle.asm_storage.specs.Calls.{HasOffered, IsFire, MadeOffers, Ran}
+use Rattle.asm_storage.specs.Part.{agent_of, IsTurn, offers_in, misses_in}
+use Rattle.asm_row.proofs.Prefixes.{IsPrefix-trans}
+use Rattle.asm_storage.proofs.OfferBounds.{is_fire}
 use Rattle.asm_storage.proofs.PartKept.{looks_then}
 use Rattle.asm_storage.proofs.FireTurns.{answered_after, offered_then, offers_answered, offers_refused, looked_id, ran_then, same_offering}
 use Rattle.asm_storage.proofs.part.AgentPart.fire_named.Goals as goal
@@ -23,16 +24,6 @@ returns-in_err-reply-clause-offers g c =
       subst (λ r. MadeOffers old new r (lost + 0)) (sym (told.1 ∙ ap Err told.2)) made,
       ran_then _ c.args.between.now c.loop-lost.between c.turn.new.between lost 0 before.calls c.in_err-reply.ensures.calls,
     )
-
-pub returns-in-Some-clause-coherent : goal.returns-in-Some-clause-coherent
-returns-in-Some-clause-coherent g c =
-    let meaning = g.A.Aggregator.meaning in
-    let s = c.args.storage.now in
-    let mid = c.loop-lost.self in
-    let new = c.turn.new.self in
-    let is = subst (λ (o : Option Reply). IsTurn meaning s mid new c.args.reads.now c.args.instrs.now o) c.in-Some.is
-    c.in_ok-reply.ensures.turn in
-    answered_coherent meaning (agent_of s mid) (agent_of s new) c.args.reads.now c.args.instrs.now c.in-Some.reply is
 
 -- a turn was answered
 pub returns-in-Some-clause-offers : goal.returns-in-Some-clause-offers
@@ -78,32 +69,6 @@ loop-lost-preserved g c =
           c.in_ok-reply.ensures.calls);
     }
 
-pub returns-in_err-reply-clause-refused : goal.returns-in_err-reply-clause-refused
-returns-in_err-reply-clause-refused g c =
-    let meaning = g.A.Aggregator.meaning in
-    let s = c.args.storage.now in
-    let told = err_from_is_err_and c.from_residual.result c.from_residual.ensures.1 in
-    let looks = looks_then meaning s c.args.self.now c.loop-lost.self c.turn.new.self c.loop-lost.invariant.looks c.in_err-reply.ensures.err in
-    subst (λ r. OnErr r (LooksOn meaning s c.args.self.now c.turn.new.self)) (sym (told.1 ∙ ap Err told.2)) looks
-
-pub returns-in_err-reply-clause-busy : goal.returns-in_err-reply-clause-busy
-returns-in_err-reply-clause-busy g c =
-    let s = c.args.storage.now in
-    let told = err_from_is_err_and c.from_residual.result c.from_residual.ensures.1 in
-    subst (λ r. IfErr r (IsBusy (agent_of s c.args.self.now) (agent_of s c.turn.new.self))) (sym (told.1 ∙ ap Err told.2)) tt
-
-pub returns-in-Some-clause-answered : goal.returns-in-Some-clause-answered
-returns-in-Some-clause-answered g c =
-    let meaning = g.A.Aggregator.meaning in
-    let s = c.args.storage.now in
-    let mid = c.loop-lost.self in
-    let new = c.turn.new.self in
-    let looks = c.loop-lost.invariant.looks in
-    let is = subst (λ (o : Option Reply). IsTurn meaning s mid new c.args.reads.now c.args.instrs.now o) c.in-Some.is
-    c.in_ok-reply.ensures.turn in
-    answered_after meaning (agent_of s c.args.self.now) (agent_of s mid) c.args.reads.now c.args.instrs.now (agent_of s new)
-    c.in-Some.reply looks.agent looks.seen is
-
 pub turn-requires-clause-pending : goal.turn-requires-clause-pending
 turn-requires-clause-pending g c κs within =
     let old = c.args.self.now in
@@ -111,3 +76,37 @@ turn-requires-clause-pending g c κs within =
     let before = c.loop-lost.invariant in
     let same = looked_id g.A.Aggregator.meaning c.args.storage.now old mid before.looks in
     same_offering old.id mid.id c.args.reads.now c.args.instrs.now c.loop-lost.pending (sym same) before.pending
+
+pub returns-in_err-reply-clause-fire : goal.returns-in_err-reply-clause-fire
+returns-in_err-reply-clause-fire g c =
+    let meaning = g.A.Aggregator.meaning in
+    let s = c.args.storage.now in
+    let old = c.args.self.now in
+    let new = c.turn.new.self in
+    let is = looks_then meaning s old c.loop-lost.self new c.loop-lost.invariant.looks c.in_err-reply.ensures.err in
+    let told = err_from_is_err_and c.from_residual.result c.from_residual.ensures.1 in
+    let refused = told.1 ∙ ap Err told.2 in
+    let offers = returns-in_err-reply-clause-offers g c in
+    subst (λ r. IsFire meaning (agent_of s old) (agent_of s new) c.args.reads.now c.args.instrs.now r) (sym refused)
+    (is_fire (agent_of s old) (agent_of s new) meaning c.args.reads.now c.args.instrs.now _ offers.0
+    (record { storage = refl; id = looked_id meaning s old new is }) is.seen tt is.agent tt
+    (λ e. absurd cc, λ lt. absurd (omega (arith, lt, c.requires.few)))
+    (subst (λ r. MadeOffers (agent_of s old) (agent_of s new) r offers.0) refused offers.1))
+
+pub returns-in-Some-clause-fire : goal.returns-in-Some-clause-fire
+returns-in-Some-clause-fire g c =
+    let meaning = g.A.Aggregator.meaning in
+    let s = c.args.storage.now in
+    let old = c.args.self.now in
+    let mid = c.loop-lost.self in
+    let new = c.turn.new.self in
+    let looks = c.loop-lost.invariant.looks in
+    let offers = returns-in-Some-clause-offers g c in
+    let is = subst (λ (o : Option Reply). IsTurn meaning s mid new c.args.reads.now c.args.instrs.now o) c.in-Some.is
+    c.in_ok-reply.ensures.turn in
+    is_fire (agent_of s old) (agent_of s new) meaning c.args.reads.now c.args.instrs.now (Ok c.in-Some.reply) offers.0
+    (record { storage = refl; id = c.turn.ensures.id ∙ looked_id meaning s old mid looks })
+    (IsPrefix-trans old.progress.seen mid.progress.seen new.progress.seen looks.seen c.turn.ensures.seen)
+    (answered_after meaning (agent_of s old) (agent_of s mid) c.args.reads.now c.args.instrs.now (agent_of s new)
+    c.in-Some.reply looks.agent looks.seen is)
+    tt tt (λ e. absurd cc, λ lt. absurd (omega (arith, lt, c.requires.few))) offers.1

@@ -1,6 +1,6 @@
 use Rattle.std.proofs.Common.{ap, arith}
 use Rattle.asm_row.specs.Seat.{SeatView}
-use Rattle.asm_storage.specs.declared.receipt.Entry.{Entry}
+use Rattle.asm_storage.specs.declared.entry.Entry.{Entry}
 use Rattle.asm_storage.proofs.PartKept.{seen_part}
 use Rattle.asm_storage.proofs.part.AgentPart.learn.Goals as goal
 

@@ -1,6 +1,6 @@
 use Rattle.std.proofs.Common.{◌≡◌, ◌+◌, [], ◌∷◌, ◌++◌, ap, arith, sym, ◌∙◌, subst}
 use Rattle.asm_row.specs.Seat.{SeatView}
-use Rattle.asm_storage.specs.declared.receipt.Entry.{Entry}
+use Rattle.asm_storage.specs.declared.entry.Entry.{Entry}
 use Rattle.asm_storage.specs.declared.receipt.Receipt.{Receipt}
 use Rattle.asm_storage.specs.Agents.{AgentView, IsAgent}
 use Rattle.asm_storage.specs.Part.{account_of}

@@ -3,7 +3,7 @@ use Rattle.std.proofs.lemmas.List.{take_all, length-map}
 use Rattle.std.specs.declared.alloc.AllocError.{AllocError}
 use Rattle.asm_update.specs.Aggregator.{Meaning}
 use Rattle.asm_element.specs.Place.{Place}
-use Rattle.asm_storage.specs.declared.receipt.Entry.{Entry}
+use Rattle.asm_storage.specs.declared.entry.Entry.{Entry}
 use Rattle.asm_storage.specs.declared.call.Call.TheVariants as call
 use Rattle.asm_storage.specs.Agents.{moves_seen}
 use Rattle.asm_storage.specs.Calls.{ReadingView, IsPeek, read_answer}

@@ -28,7 +28,7 @@ loop-agent-preserved g c =
     let len = ap (λ (m : MarkView _). length m.seen) c.in_ok-mark.ensures.holds in
     record {
       same_row = ap (λ (s : SeatView _). s.row) c.learn.ensures.kept ∙ c.loop-agent.invariant.same_row;
-      each = each_more (IsAgent (machine c.args.self.now)) all i agent c.loop-agent-test.true c.agent-item.is c.loop-agent.invariant.each (subst (λ s. IsAgent (machine s) agent.account) mine c.holds.ensures);
+      each = each_more (IsAgent (machine c.args.self.now)) all i agent c.loop-agent-test.true c.agent-item.is c.loop-agent.invariant.each (subst (λ s. IsAgent (machine s) agent.account) mine c.mark.ensures.agent);
       prefixes = each_more (λ a. IsPrefix a.seen after) all i agent c.loop-agent-test.true c.agent-item.is
           (All-weaker (λ (a : AgentView). IsPrefix a.seen before) (λ (a : AgentView). IsPrefix a.seen after) (λ (a : AgentView) p. IsPrefix-trans a.seen before after p c.learn.ensures.mine) (accounts (take i all)) c.loop-agent.invariant.prefixes)
           theirs;
