@@ -1,6 +1,6 @@
 -- What is true of an agent's part stays true when it sees more, and when its state follows one more move.
-use Rattle.std.proofs.Common.{◌≡◌, ℕ, ◌+◌, ◌-◌, ◌^◌, ◌≤◌, min, Bool, true, false, cond, nat_lt, List, [], ◌∷◌, ◌++◌, length, take}
-use Rattle.std.proofs.Common.{Some, slice_get, add-one, append-nil, arith, refl, ap, sym, ◌∙◌, subst}
+use Rattle.std.proofs.Common.{◌≡◌, ℕ, ◌+◌, ◌-◌, ◌^◌, ◌≤◌, true, List, [], ◌∷◌, ◌++◌, length, take}
+use Rattle.std.proofs.Common.{Some, slice_get, add-one, arith, refl, ap, sym, ◌∙◌, subst}
 use Rattle.std.proofs.lemmas.List.{take_all, length-map}
 use Rattle.std.proofs.lemmas.Option.{slice_get_within}
 use Rattle.std.proofs.lemmas.List.Elements.{All-from_recursion}
@@ -16,8 +16,8 @@ use Rattle.asm_storage.specs.declared.part.AgentPart.{AgentPart}
 use Rattle.asm_storage.specs.declared.entry.Entry.{Entry}
 use Rattle.asm_storage.specs.Agents.{AgentView, IsAgent, moves_seen}
 use Rattle.asm_storage.specs.Machine.{Machine}
-use Rattle.asm_storage.specs.Part.{account_of, agent_of, IsFollowing, IsPartOf, LooksOn}
-use Rattle.asm_storage.specs.Storage.{StorageView, AgentAt, has_looked, last_look, machine_of, Missed}
+use Rattle.asm_storage.specs.Part.{account_of, IsFollowing, IsPartOf, LooksOn}
+use Rattle.asm_storage.specs.Storage.{StorageView, AgentAt, has_looked, machine_of}
 use Rattle.asm_storage.proofs.AgentKept.{take-moves_seen, seen_more}
 use Rattle.asm_storage.proofs.Lists.{slice_get-map, take-slice_get, length-prefix}
 
@@ -109,30 +109,3 @@ module _ {A : Type 0} (meaning : A → Meaning) (s : StorageView A) where
   found_next old new e part is =
       subst (λ (p : SeatView Entry). LooksOn meaning s old (record old { progress = p })) (sym is)
       (looks_with old (record old.progress { seen = old.progress.seen ++ e ∷ [] }) part refl refl part.counted (e ∷ [], refl))
-
-  abbrev HasMissed : AgentPart → SeatView Entry → Type 0
-  HasMissed old new =
-      LooksOn meaning s old (record old { progress = new })
-      × Missed (agent_of s old) (last_look (agent_of s (record old { progress = new })))
-      (agent_of s (record old { progress = new }))
-
-  by_room : (old : AgentPart) (b : Bool) → IsPartOf meaning s old →
-      nat_lt (length old.progress.seen) (length s.row) ≡ b →
-      HasMissed old (cond b (record old.progress { misses = min (old.progress.misses + 1) (2 ^ 64 - 1) }) old.progress)
-  by_room old true part room = (
-    looks_with old (record old.progress { misses = min (old.progress.misses + 1) (2 ^ 64 - 1) }) part refl refl (omega arith)
-        ([], append-nil old.progress.seen),
-    ap (λ b. min (old.progress.misses + cond b 1 0) (2 ^ 64 - 1)) (sym room),
-  )
-  by_room old false part room =
-      let same : old.progress.misses ≡ min (old.progress.misses + 0) (2 ^ 64 - 1) = omega (arith, part.counted) in (
-        looks_with old old.progress part refl refl part.counted ([], append-nil old.progress.seen),
-        same ∙ ap (λ b. min (old.progress.misses + cond b 1 0) (2 ^ 64 - 1)) (sym room),
-      )
-
-  -- a look found nothing: it is a miss, but where the whole row was seen
-  pub missed_next : (old : AgentPart) (new : SeatView Entry) → IsPartOf meaning s old →
-      new ≡ cond (nat_lt (length old.progress.seen) (length s.row))
-      (record old.progress { misses = min (old.progress.misses + 1) (2 ^ 64 - 1) }) old.progress →
-      HasMissed old new
-  missed_next old new part is = subst (HasMissed old) (sym is) (by_room old _ part refl)

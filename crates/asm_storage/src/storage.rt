@@ -180,7 +180,7 @@ impl<A: Aggregator + Sync + Drop> Storage<A> {
         &self.row
     }
 
-    /// The aggregator by which it answers.
+    /// The aggregator by which it answers, so that who plays on it prepares moves by the same one.
     pub fn aggregator(&self) -> &A
         ensures { result.now ≡ self.now.agg }
     {
