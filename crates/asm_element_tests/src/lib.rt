@@ -2,6 +2,8 @@
 #![tactic(auto)]
 
 #[cfg(test)]
-mod list_tests;
+mod elements;
 #[cfg(test)]
-mod tests;
+mod lists;
+#[cfg(test)]
+mod locations;

@@ -2,6 +2,6 @@
 #![tactic(auto)]
 
 #[cfg(test)]
-mod over_tests;
+mod frames;
 #[cfg(test)]
-mod tests;
+mod layers;

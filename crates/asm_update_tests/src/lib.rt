@@ -2,8 +2,8 @@
 #![tactic(auto)]
 
 #[cfg(test)]
-mod error_tests;
+mod errors;
 #[cfg(test)]
-mod state_tests;
+mod moves;
 #[cfg(test)]
-mod tests;
+mod states;

@@ -1,5 +1,5 @@
 //! The texts of errors, which name the location and the cause of a clash.
-use crate::tests::location;
+use asm_test_support::{are_told_apart, location};
 use asm_update::{
     AggError, Amount, Cause, Clash, Family, InstructionsError, JoinError, ResultError,
 };
@@ -33,18 +33,6 @@ fn each_cause_is_told_in_words(rt: HostRuntime) -> Result<(), Fail> {
         assert!(rt; has_text(rt.alloc(), &cause, want)?, "{want}");
     }
     Ok(())
-}
-
-/// Whether each is equal to itself alone.
-fn are_told_apart<T: PartialEq>(items: &[T]) -> bool {
-    for (i, left) in items.iter().enumerate() {
-        for (j, right) in items.iter().enumerate() {
-            if (left == right) != (i == j) {
-                return false;
-            }
-        }
-    }
-    true
 }
 
 static EACH_CAUSE: [Cause; 7] = [
@@ -85,7 +73,7 @@ fn plain_data_are_equal_by_kind_and_content(rt: HostRuntime) {
 
 /// A clash at a location without arguments.
 fn clash_at(alloc: Global, name: &str, cause: Cause) -> Result<Clash, Fail> {
-    let at = location(alloc, name, &[])?;
+    let at = location(alloc, name)?;
     Ok(Clash { at, cause })
 }
 

@@ -1,6 +1,7 @@
 //! States, update sets and groups: what they hold, and where two are equal.
-use crate::tests::{is_undef, location, set, value};
+use crate::moves::{is_undef, set};
 use asm_element::{Element, Location, Value};
+use asm_test_support::{location, value};
 use asm_update::{Action, Group, Lookup, PlainState, UpdateSet};
 use std::alloc::{AllocError, Global};
 use std::test::Fail;
@@ -67,7 +68,7 @@ fn copies_of_states_are_equal(rt: HostRuntime) -> Result<(), Fail> {
 fn set_of(alloc: Global, puts: &[(&'static str, Option<i64>)]) -> Result<UpdateSet, Fail> {
     let mut updates = UpdateSet::new(alloc);
     for (name, number) in puts {
-        let at = location(alloc, name, &[])?;
+        let at = location(alloc, name)?;
         updates.put(at, value(*number))?;
     }
     Ok(updates)
@@ -90,7 +91,7 @@ fn begins_with(updates: &UpdateSet, name: &str, n: i64) -> bool {
 
 /// Whether the update set gives this number there, or nothing.
 fn holds(alloc: Global, updates: &UpdateSet, name: &str, n: Option<i64>) -> Result<bool, Fail> {
-    let at = location(alloc, name, &[])?;
+    let at = location(alloc, name)?;
     Ok(match (updates.get(&at), n) {
         (Some(value), Some(n)) => is_number(value, n),
         (None, None) => true,

@@ -1,9 +1,10 @@
 //! Look-ups through overlays over a state, and how often they ask the state.
 ghost use Rattle.asm_update.specs.State.{val};
 
-use crate::tests::{Frame, Put, location, pushes, value};
+use crate::frames::{Frame, Put, pushes};
 use asm_element::{Location, Value};
 use asm_overlay::{Over, Overlay};
+use asm_test_support::{location, value};
 use asm_update::{Lookup, PlainState};
 use std::alloc::Global;
 use std::cell::Cell;

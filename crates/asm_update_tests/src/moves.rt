@@ -1,16 +1,15 @@
+//! Moves: their instructions, and what firing one leaves.
 ghost use Rattle.std.specs.Prelude.{IsTrue};
 ghost use Rattle.asm_update.specs.Move.{all_regular};
 
-use asm_element::{Element, Location, Value};
+use asm_element::Element;
+use asm_test_support::{Zero, location, location_at, value};
 use asm_update::{
     Action, AggError, Amount, Cause, Clash, Family, INSTRUCTIONS_LIMIT, Instruction, Instructions,
     InstructionsError, Lookup, PlainState, consistent, fire_plain,
 };
 use std::alloc::{AllocError, Global};
 use std::test::Fail;
-
-#[derive(Debug, Drop)]
-struct Zero;
 
 /// An update as plain data. An amount of 0 is none.
 #[derive(Clone, Copy)]
@@ -20,21 +19,6 @@ enum Update {
     SetRemove(i64),
     BagAdd(i64, u32),
     BagRemove(i64, u32),
-}
-
-pub(crate) fn location(alloc: Global, name: &str, args: &[i64]) -> Result<Location, Fail> {
-    let mut elements = Vec::new(alloc);
-    for arg in args {
-        elements.push(Element::Num(*arg))?;
-    }
-    Ok(Location::new(String::from_str(alloc, name)?, elements)?)
-}
-
-pub(crate) fn value(number: Option<i64>) -> Value {
-    match number {
-        Some(n) => Value::Plain(Element::Num(n)),
-        None => Value::Plain(Element::Undef),
-    }
 }
 
 fn action(update: Update) -> Option<Action> {
@@ -48,7 +32,7 @@ fn action(update: Update) -> Option<Action> {
 }
 
 fn push(alloc: Global, list: &mut Instructions, name: &str, update: Update) -> Result<(), Fail> {
-    let at = location(alloc, name, &[])?;
+    let at = location(alloc, name)?;
     let action = action(update).ok_or(Zero)?;
     list.push(Instruction { at, action })?;
     Ok(())
@@ -69,7 +53,7 @@ pub(crate) fn set(
     args: &[i64],
     number: i64,
 ) -> Result<(), Fail> {
-    let at = location(alloc, name, args)?;
+    let at = location_at(alloc, name, args)?;
     state.set(at, value(Some(number)))?;
     Ok(())
 }
@@ -154,7 +138,7 @@ fn two_clashes_answer_the_least_location(rt: HostRuntime) -> Result<(), Fail> {
 }
 
 pub(crate) fn is_undef<L: Lookup>(alloc: Global, lookup: &L, name: &str) -> Result<bool, Fail> {
-    let at = location(alloc, name, &[])?;
+    let at = location(alloc, name)?;
     Ok(lookup.get(&at).is_none())
 }
 
@@ -198,7 +182,7 @@ fn equal_values_and_partial_updates_are_consistent(rt: HostRuntime) -> Result<()
 }
 
 fn is_refused(alloc: Global, list: &mut Instructions) -> Result<bool, Fail> {
-    let at = location(alloc, "x", &[])?;
+    let at = location(alloc, "x")?;
     let action = Action::SetAdd(Element::Num(1));
     Ok(list.push(Instruction { at, action }) == Err(InstructionsError::ManyInstructions))
 }
@@ -250,7 +234,7 @@ fn counts_up(list: &Instructions) -> bool {
 fn puts(alloc: Global, count: usize) -> Result<Vec<Instruction>, Fail> {
     let mut items = Vec::new(alloc);
     for i in 0..count {
-        let at = location(alloc, "x", &[])?;
+        let at = location(alloc, "x")?;
         let action = Action::Regular(value(i64::try_from(i).ok()));
         items.push(Instruction { at, action })?;
     }

@@ -1,7 +1,9 @@
+//! Elements, the values that are made of them, and shared lists of items.
 use asm_element::{
     ARGS_LIMIT, DEPTH_LIMIT, ElemBag, ElemSet, ElemText, Element, ITEMS_LIMIT, Items, Location,
-    LocationError, NAME_LIMIT, Value,
+    NAME_LIMIT, Value,
 };
+use asm_test_support::location_at;
 use std::alloc::{AllocError, Global};
 use std::test::Fail;
 
@@ -27,7 +29,7 @@ fn element(alloc: Global, item: Item) -> Result<Element, AllocError> {
     }
 }
 
-fn elements(alloc: Global, items: &[Item]) -> Result<Vec<Element>, AllocError> {
+fn elements_of(alloc: Global, items: &[Item]) -> Result<Vec<Element>, AllocError> {
     let mut elements = Vec::new(alloc);
     for item in items {
         let element = element(alloc, *item)?;
@@ -45,24 +47,11 @@ pub(crate) fn number_elements(alloc: Global, numbers: &[i64]) -> Result<Vec<Elem
     Ok(elements)
 }
 
-fn location(alloc: Global, name: &str, args: &[i64]) -> Result<Location, Fail> {
-    let name = String::from_str(alloc, name)?;
-    let args = number_elements(alloc, args)?;
-    Ok(Location::new(name, args)?)
-}
-
-/// Why the name and the arguments are no location.
-fn refusal(alloc: Global, name: &str, args: &[i64]) -> Result<Option<LocationError>, AllocError> {
-    let name = String::from_str(alloc, name)?;
-    let args = number_elements(alloc, args)?;
-    Ok(Location::new(name, args).err())
-}
-
-/// Whether each comes before those that stand after it, is equal to itself, and comes after those before it.
-fn ascend<T: Ord>(items: &[T]) -> bool {
+/// Whether each comes before those that stand after it, is equal to itself alone, and comes after those before it.
+pub(crate) fn ascend<T: Ord>(items: &[T]) -> bool {
     for (i, left) in items.iter().enumerate() {
         for (j, right) in items.iter().enumerate() {
-            if left.cmp(right) != i.cmp(&j) {
+            if left.cmp(right) != i.cmp(&j) || (left == right) != (i == j) {
                 return false;
             }
         }
@@ -84,60 +73,8 @@ static ASCENDING: [Item; 9] = [
 
 #[test]
 fn elements_ascend_by_kind_then_by_value(rt: HostRuntime) -> Result<(), Fail> {
-    let elements = elements(rt.alloc(), &ASCENDING)?;
+    let elements = elements_of(rt.alloc(), &ASCENDING)?;
     assert!(rt; elements.len() == 9 && ascend(&elements));
-    Ok(())
-}
-
-static PLACES: [(&str, &[i64]); 4] = [("a", &[]), ("a", &[9]), ("a", &[0, 0]), ("b", &[])];
-
-fn locations(alloc: Global) -> Result<Vec<Location>, Fail> {
-    let mut locations = Vec::new(alloc);
-    for (name, args) in PLACES {
-        let at = location(alloc, name, args)?;
-        locations.push(at)?;
-    }
-    Ok(locations)
-}
-
-#[test]
-fn locations_ascend_by_name_then_by_number_of_arguments(rt: HostRuntime) -> Result<(), Fail> {
-    let locations = locations(rt.alloc())?;
-    assert!(rt; locations.len() == 4 && ascend(&locations));
-    Ok(())
-}
-
-/// Whether a location of this name, without arguments, is refused for the name.
-fn is_bad_name(alloc: Global, name: &str) -> Result<bool, AllocError> {
-    Ok(refusal(alloc, name, &[])? == Some(LocationError::BadName))
-}
-
-/// Whether there is a location of this name, and it has the name.
-fn is_named(alloc: Global, name: &str) -> Result<bool, Fail> {
-    Ok(location(alloc, name, &[])?.name() == name)
-}
-
-#[test]
-fn a_location_takes_a_name_by_the_rule(rt: HostRuntime) -> Result<(), Fail> {
-    let alloc = rt.alloc();
-    for name in ["", "1x", "x-y"] {
-        assert!(rt; is_bad_name(alloc, name)?, "{name}");
-    }
-    for name in ["_", "x1"] {
-        assert!(rt; is_named(alloc, name)?, "{name}");
-    }
-    assert!(rt; is_named(alloc, "a".repeat(alloc, 64)?.as_str())?);
-    assert!(rt; is_bad_name(alloc, "a".repeat(alloc, 65)?.as_str())?);
-    Ok(())
-}
-
-#[test]
-fn a_location_takes_at_most_eight_arguments(rt: HostRuntime) -> Result<(), Fail> {
-    let alloc = rt.alloc();
-    let nine = [1, 2, 3, 4, 5, 6, 7, 8, 9];
-    assert!(rt; location(alloc, "x", &nine[..8])?.args().len() == 8);
-    assert!(rt; refusal(alloc, "x", &nine)? == Some(LocationError::ManyArgs));
-    assert!(rt; refusal(alloc, "1x", &nine)? == Some(LocationError::BadName));
     Ok(())
 }
 
@@ -145,29 +82,6 @@ fn a_location_takes_at_most_eight_arguments(rt: HostRuntime) -> Result<(), Fail>
 fn the_limits_are_told(rt: HostRuntime) -> Result<(), Fail> {
     assert!(rt; NAME_LIMIT == 64 && ARGS_LIMIT == 8);
     assert!(rt; ITEMS_LIMIT == 4096 && DEPTH_LIMIT == 8);
-    Ok(())
-}
-
-#[test]
-fn a_location_comes_before_a_greater_one_and_before_none(rt: HostRuntime) -> Result<(), Fail> {
-    let lesser = location(rt.alloc(), "a", &[1])?;
-    let greater = location(rt.alloc(), "b", &[])?;
-    assert!(rt; lesser.comes_before(Some(&greater)) && lesser.comes_before(None));
-    assert!(rt; !greater.comes_before(Some(&lesser)) && !lesser.comes_before(Some(&lesser)));
-    Ok(())
-}
-
-/// Whether the location is shown as this text.
-fn is_shown(alloc: Global, name: &str, args: &[i64], text: &str) -> Result<bool, Fail> {
-    Ok(location(alloc, name, args)?.to_string(alloc)?.as_str() == text)
-}
-
-#[test]
-fn a_location_is_shown_with_its_arguments(rt: HostRuntime) -> Result<(), Fail> {
-    assert!(rt; is_shown(rt.alloc(), "counter", &[], "counter")?);
-    assert!(rt; is_shown(rt.alloc(), "at", &[1, -2], "at[Num(1), Num(-2)]")?);
-    let want = "at[Num(1), Num(-2), Num(3)]";
-    assert!(rt; is_shown(rt.alloc(), "at", &[1, -2, 3], want)?);
     Ok(())
 }
 
@@ -217,7 +131,7 @@ fn is_location_copied(alloc: Global, at: Location) -> Result<bool, AllocError> {
 fn copies_are_equal(rt: HostRuntime) -> Result<(), Fail> {
     let alloc = rt.alloc();
     for args in [&[9][..], &[], &[1, 2, 3, 4, 5, 6, 7, 8]] {
-        assert!(rt; is_location_copied(alloc, location(alloc, "a", args)?)?);
+        assert!(rt; is_location_copied(alloc, location_at(alloc, "a", args)?)?);
     }
     for item in ASCENDING {
         assert!(rt; is_copied(alloc, Value::Plain(element(alloc, item)?))?);
@@ -362,33 +276,5 @@ fn undef_alone_is_undef(rt: HostRuntime) -> Result<(), Fail> {
     assert!(rt; Value::Plain(Element::Undef).is_undef());
     assert!(rt; !Value::Plain(Element::Bool(false)).is_undef());
     assert!(rt; !Value::Set(ElemSet::new(alloc)).is_undef());
-    Ok(())
-}
-
-/// Whether each is equal to itself alone.
-pub(crate) fn are_told_apart<T: PartialEq>(items: &[T]) -> bool {
-    for (i, left) in items.iter().enumerate() {
-        for (j, right) in items.iter().enumerate() {
-            if (left == right) != (i == j) {
-                return false;
-            }
-        }
-    }
-    true
-}
-
-#[test]
-fn errors_are_equal_by_their_reason(rt: HostRuntime) {
-    assert!(rt; are_told_apart(&[LocationError::BadName, LocationError::ManyArgs]));
-}
-
-fn has_text(alloc: Global, error: LocationError, text: &str) -> Result<bool, AllocError> {
-    Ok(error.to_string(alloc)?.as_str() == text)
-}
-
-#[test]
-fn errors_have_their_texts(rt: HostRuntime) -> Result<(), Fail> {
-    assert!(rt; has_text(rt.alloc(), LocationError::BadName, "not a name")?);
-    assert!(rt; has_text(rt.alloc(), LocationError::ManyArgs, "more than 8 arguments")?);
     Ok(())
 }

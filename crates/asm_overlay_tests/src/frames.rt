@@ -1,5 +1,6 @@
-use asm_element::{Element, Location, Value};
+//! Frames that are pushed, seen and popped.
 use asm_overlay::{FRAMES_LIMIT, Overlay, OverlayError, Seen};
+use asm_test_support::{are_told_apart, location, value};
 use asm_update::UpdateSet;
 use std::alloc::Global;
 use std::process::Abort;
@@ -29,17 +30,6 @@ enum Step {
     Held(Put),
     /// No frame has the location.
     Below(&'static str),
-}
-
-pub(crate) fn location(alloc: Global, name: &str) -> Result<Location, Fail> {
-    Ok(Location::new(String::from_str(alloc, name)?, Vec::new(alloc))?)
-}
-
-pub(crate) fn value(number: Option<i64>) -> Value {
-    match number {
-        Some(n) => Value::Plain(Element::Num(n)),
-        None => Value::Plain(Element::Undef),
-    }
 }
 
 fn frame(alloc: Global, puts: &[Put]) -> Result<UpdateSet, Fail> {
@@ -218,18 +208,6 @@ fn what_is_seen_is_equal_by_its_value(rt: HostRuntime) {
     assert!(rt; !are_equal_held(Some(1), None));
     assert!(rt; !is_held_equal_to_below(Some(1)));
     assert!(rt; !is_held_equal_to_below(None));
-}
-
-/// Whether each is equal to itself alone.
-fn are_told_apart<T: PartialEq>(items: &[T]) -> bool {
-    for (i, left) in items.iter().enumerate() {
-        for (j, right) in items.iter().enumerate() {
-            if (left == right) != (i == j) {
-                return false;
-            }
-        }
-    }
-    true
 }
 
 /// Two errors for each of three frames.

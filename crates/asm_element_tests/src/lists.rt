@@ -1,5 +1,7 @@
-use crate::tests::{are_told_apart, number_elements, text};
+//! Elements that are lists.
+use crate::elements::{ascend, number_elements, text};
 use asm_element::{ElemList, Element, ListError};
+use asm_test_support::are_told_apart;
 use std::alloc::{AllocError, Global};
 use std::test::Fail;
 
@@ -76,18 +78,6 @@ fn lists_nest_at_most_eight_deep(rt: HostRuntime) -> Result<(), Fail> {
 fn too_many_items_come_before_too_great_a_depth(rt: HostRuntime) -> Result<(), Fail> {
     assert!(rt; refusal(rt.alloc(), 4096, 8)? == Some(ListError::ManyItems));
     Ok(())
-}
-
-/// Whether each comes before those that stand after it, is equal to itself alone, and comes after those before it.
-fn ascend(elements: &[Element]) -> bool {
-    for (i, left) in elements.iter().enumerate() {
-        for (j, right) in elements.iter().enumerate() {
-            if left.cmp(right) != i.cmp(&j) || (left == right) != (i == j) {
-                return false;
-            }
-        }
-    }
-    true
 }
 
 static ASCENDING: [&[i64]; 8] = [

@@ -1,0 +1,13 @@
+//! Equality over a list.
+
+/// Whether each is equal to itself alone.
+pub fn are_told_apart<T: PartialEq>(items: &[T]) -> bool {
+    for (i, left) in items.iter().enumerate() {
+        for (j, right) in items.iter().enumerate() {
+            if (left == right) != (i == j) {
+                return false;
+            }
+        }
+    }
+    true
+}

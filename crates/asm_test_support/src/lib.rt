@@ -1,0 +1,10 @@
+//! What the tests of several crates share; no library or program stands on it.
+#![tactic(auto)]
+
+mod apart;
+mod plain_data;
+mod resultless;
+
+pub use apart::are_told_apart;
+pub use plain_data::{Zero, location, location_at, number, value};
+pub use resultless::Resultless;
