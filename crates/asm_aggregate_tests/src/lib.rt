@@ -2,26 +2,24 @@
 #![tactic(auto)]
 
 #[cfg(test)]
-mod admission_tests;
+mod admissions;
 #[cfg(test)]
-mod bag_change_tests;
+mod bag_changes;
 #[cfg(test)]
-mod bag_tests;
+mod bags;
 #[cfg(test)]
-mod compose_tests;
+mod compositions;
 #[cfg(test)]
-mod count_tests;
+mod counters;
 #[cfg(test)]
-mod error_tests;
+mod errors;
 #[cfg(test)]
-mod example;
+mod groups;
 #[cfg(test)]
-mod join_tests;
+mod joins;
 #[cfg(test)]
-mod lookup_tests;
+mod lookups;
 #[cfg(test)]
-mod resultless;
+mod plain_data;
 #[cfg(test)]
-mod shorthand;
-#[cfg(test)]
-mod tests;
+mod shelves;

@@ -1,9 +1,9 @@
 //! Groups on bags: what `admit` and `change` answer beside `result`; and joins of many elements.
-use crate::join_tests::join_of;
-use crate::shorthand::Act::{BagAdd, BagRemove};
-use crate::shorthand::Old::{Bag, Counts};
-use crate::shorthand::{Act, Old, actions_of, value_of};
-use crate::tests::{Row, group_of, judge_all};
+use crate::groups::{Row, group_of, judge_all};
+use crate::joins::join_of;
+use crate::plain_data::Act::{BagAdd, BagRemove};
+use crate::plain_data::Old::{Bag, Counts};
+use crate::plain_data::{Act, Old, actions_of, value_of};
 use asm_aggregate::{BagAgg, standard};
 use asm_element::{Element, Value};
 use asm_update::{Action, Aggregator, Amount, Cause, Group, JoinError, ResultError};

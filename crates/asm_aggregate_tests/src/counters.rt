@@ -1,10 +1,11 @@
-use crate::compose_tests::Line::{Do, Put};
-use crate::compose_tests::NoComposition::{Clashes, Large};
-use crate::compose_tests::{Row as Composition, compose_all, composition_of, fires};
-use crate::join_tests::{Joint, join_all};
-use crate::shorthand::Act::{Add, BagAdd, Inc, Remove};
-use crate::shorthand::Old::{Bag, Num, Set, Undef};
-use crate::tests::{Row, judge_all};
+//! Groups, joins and compositions of increments.
+use crate::compositions::Line::{Do, Put};
+use crate::compositions::NoComposition::{Clashes, Large};
+use crate::compositions::{Row as Composition, compose_all, composition_of, fires};
+use crate::groups::{Row, judge_all};
+use crate::joins::{Joint, join_all};
+use crate::plain_data::Act::{Add, BagAdd, Inc, Remove};
+use crate::plain_data::Old::{Bag, Num, Set, Undef};
 use asm_aggregate::{BagAgg, CountAgg, SetAgg, standard};
 use asm_update::{Aggregator, Cause, Family, JoinError};
 use std::test::Fail;
@@ -130,7 +131,7 @@ static BESIDE_ANOTHER_FAMILY: [Joint; 2] = [
 ];
 
 #[test]
-fn joins_of_counters(rt: HostRuntime) -> Result<(), Fail> {
+fn increments_are_joined_or_refused(rt: HostRuntime) -> Result<(), Fail> {
     join_all(&rt, rt.alloc(), &CountAgg, &JOINTS)?;
     join_all(&rt, rt.alloc(), &CountAgg, &BESIDE_ANOTHER_FAMILY)?;
     join_all(&rt, rt.alloc(), &standard(), &JOINTS)?;

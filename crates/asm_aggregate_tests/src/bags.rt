@@ -1,8 +1,9 @@
-use crate::compose_tests::compose_of;
-use crate::shorthand::Act::{BagAdd, BagRemove};
-use crate::shorthand::Old::{Bag, Counts};
-use crate::shorthand::{do_at, set_at, write_at};
-use crate::tests::{Row, judge_all};
+//! Bags whose other counts stay, and bags of many additions.
+use crate::compositions::compose_of;
+use crate::groups::{Row, judge_all};
+use crate::plain_data::Act::{BagAdd, BagRemove};
+use crate::plain_data::Old::{Bag, Counts};
+use crate::plain_data::{do_at, set_at, write_at};
 use asm_aggregate::standard;
 use asm_update::{Instructions, PlainState, UpdateSet};
 use std::alloc::Global;

@@ -1,5 +1,6 @@
 //! Values, partial updates, moves and states in few letters, of which the tests are made.
-use asm_element::{ElemBag, ElemSet, ElemText, Element, Location, Value};
+use asm_element::{ElemBag, ElemSet, ElemText, Element, Value};
+use asm_test_support::{Zero, location, number};
 use asm_update::{Action, Amount, Instruction, Instructions, PlainState, UpdateSet};
 use std::alloc::Global;
 use std::test::Fail;
@@ -26,13 +27,6 @@ pub(crate) enum Act {
 
 use Act::{Add, BagAdd, BagRemove, Inc, Remove};
 use Old::{Bag, Counts, Num, Set, Undef};
-
-#[derive(Debug, Drop)]
-struct Zero;
-
-pub(crate) fn location(alloc: Global, name: &str) -> Result<Location, Fail> {
-    Ok(Location::new(String::from_str(alloc, name)?, Vec::new(alloc))?)
-}
 
 fn text(alloc: Global, text: &str) -> Result<Element, Fail> {
     Ok(Element::Text(ElemText::new(String::from_str(alloc, text)?)))
@@ -72,7 +66,7 @@ fn counts_of(alloc: Global, counts: &[(&'static str, u32)]) -> Result<Value, Fai
 pub(crate) fn value_of(alloc: Global, value: Old) -> Result<Value, Fail> {
     match value {
         Undef => Ok(Value::Plain(Element::Undef)),
-        Num(n) => Ok(Value::Plain(Element::Num(n))),
+        Num(n) => Ok(number(n)),
         Set(numbers) => set_of(alloc, numbers),
         Bag(e, f) => bag_of(alloc, e, f),
         Counts(counts) => counts_of(alloc, counts),

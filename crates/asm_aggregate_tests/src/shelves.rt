@@ -1,12 +1,14 @@
+//! Books on a shelf: a caller of `aggregate` and the state that it writes.
 use asm_aggregate::{aggregate, standard};
 use asm_element::{ElemSet, Element, Location, Value};
+use asm_test_support::location;
 use asm_update::{Action, AggError, Cause, Clash, Instruction, Instructions, PlainState};
 use std::alloc::{AllocError, Global};
 use std::test::Fail;
 
 /// The location of the books on the shelf.
-fn shelf(alloc: Global) -> Result<Location, Fail> {
-    Ok(Location::new(String::from_str(alloc, "shelf")?, Vec::new(alloc))?)
+fn shelf(alloc: Global) -> Result<Location, AllocError> {
+    location(alloc, "shelf")
 }
 
 /// The set of the books with these numbers.
@@ -78,7 +80,7 @@ fn clash_of(
 }
 
 #[test]
-fn books_on_a_shelf(rt: HostRuntime) -> Result<(), Fail> {
+fn a_book_is_not_both_added_and_removed(rt: HostRuntime) -> Result<(), Fail> {
     let alloc = rt.alloc();
     let mut state = shelf_with(alloc, &[7])?;
     let mut step = Instructions::new(alloc);

@@ -2,7 +2,7 @@ use Rattle.std.proofs.Common.{◌≡◌, ap, length, arith}
 use Rattle.std.proofs.lemmas.Bool.Decides.{nat_tests}
 use Rattle.std.proofs.lemmas.List.Folds.{list_all-append}
 use Rattle.asm_aggregate.specs.laws.FamilyLemmas.{nil_parts}
-use Rattle.asm_aggregate_tests.proofs.join_tests.join_by.Goals as goal
+use Rattle.asm_aggregate_tests.proofs.joins.join_by.Goals as goal
 
 pub join-requires-clause-some : goal.join-requires-clause-some
 join-requires-clause-some g c = λ none.

@@ -1,13 +1,14 @@
+//! Groups of updates of one location, and what an aggregator makes of them.
 ghost use Rattle.std.specs.Prelude.{◌≡◌};
 ghost use Rattle.std.specs.List.{list_all};
 ghost use Rattle.asm_update.specs.Action.{is_partial};
 ghost use Rattle.asm_aggregate_tests.specs.Nobody.{nobody_meaning};
 ghost use Rattle.asm_aggregate_tests.specs.laws.NobodyLaws.{nobody_laws};
 
-use crate::admission_tests::{admits, changes, changes_a_state};
-use crate::shorthand::Act::{Add, BagAdd, BagRemove, Inc, Remove};
-use crate::shorthand::Old::{Bag, Num, Set, Undef};
-use crate::shorthand::{Act, Old, actions_of, move_of, push_at, state_with, updates_of, value_of};
+use crate::admissions::{admits, changes, changes_a_state};
+use crate::plain_data::Act::{Add, BagAdd, BagRemove, Inc, Remove};
+use crate::plain_data::Old::{Bag, Num, Set, Undef};
+use crate::plain_data::{Act, Old, actions_of, move_of, push_at, state_with, updates_of, value_of};
 use asm_aggregate::{BagAgg, Pair, SetAgg, aggregate, standard};
 use asm_element::{Element, Value};
 use asm_update::{
@@ -195,7 +196,7 @@ static REGULAR: [Row; 6] = [
 ];
 
 #[test]
-fn groups_of_regular_values(rt: HostRuntime) -> Result<(), Fail> {
+fn groups_of_regular_values_are_judged(rt: HostRuntime) -> Result<(), Fail> {
     judge_all(&rt, rt.alloc(), &standard(), &REGULAR)
 }
 
@@ -207,7 +208,7 @@ static SETS: [Row; 4] = [
 ];
 
 #[test]
-fn groups_of_sets(rt: HostRuntime) -> Result<(), Fail> {
+fn groups_of_sets_are_judged(rt: HostRuntime) -> Result<(), Fail> {
     judge_all(&rt, rt.alloc(), &standard(), &SETS)
 }
 
@@ -236,7 +237,7 @@ static BAGS: [Row; 6] = [
 ];
 
 #[test]
-fn groups_of_bags(rt: HostRuntime) -> Result<(), Fail> {
+fn groups_of_bags_are_judged(rt: HostRuntime) -> Result<(), Fail> {
     judge_all(&rt, rt.alloc(), &standard(), &BAGS)
 }
 

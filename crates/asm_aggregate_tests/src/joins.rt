@@ -1,6 +1,7 @@
-use crate::shorthand::Act::{self, Add, BagAdd, BagRemove, Inc, Remove};
-use crate::shorthand::actions_of;
-use crate::tests::{are_partial, pairs};
+//! What the partial updates of two moves join to.
+use crate::groups::{are_partial, pairs};
+use crate::plain_data::Act::{self, Add, BagAdd, BagRemove, Inc, Remove};
+use crate::plain_data::actions_of;
 use asm_aggregate::{BagAgg, SetAgg, standard};
 use asm_update::{Action, Aggregator, Cause, JoinError};
 use std::alloc::{AllocError, Global};
@@ -66,7 +67,7 @@ pub(crate) fn join_of<R: Abort, A: Aggregator>(
     join_by(rt, alloc, aggregator, first.as_slice(), second.as_slice())
 }
 
-fn joins<R: Abort, A: Aggregator>(
+fn joins_right<R: Abort, A: Aggregator>(
     rt: &R,
     alloc: Global,
     aggregator: &A,
@@ -85,7 +86,7 @@ pub(crate) fn join_all<R: Abort, A: Aggregator>(
     rows: &[Joint],
 ) -> Result<(), Fail> {
     for (k, row) in rows.iter().enumerate() {
-        assert!(rt; joins(rt, alloc, aggregator, *row)?, "at row {k}");
+        assert!(rt; joins_right(rt, alloc, aggregator, *row)?, "at row {k}");
     }
     Ok(())
 }
@@ -100,7 +101,7 @@ static SET_JOINTS: [Joint; 2] = [
 ];
 
 #[test]
-fn joins_of_sets(rt: HostRuntime) -> Result<(), Fail> {
+fn updates_of_sets_are_joined(rt: HostRuntime) -> Result<(), Fail> {
     join_all(&rt, rt.alloc(), &standard(), &SET_JOINTS)
 }
 
@@ -123,7 +124,7 @@ static BAG_JOINTS: [Joint; 3] = [
 ];
 
 #[test]
-fn joins_of_bags(rt: HostRuntime) -> Result<(), Fail> {
+fn updates_of_bags_are_joined(rt: HostRuntime) -> Result<(), Fail> {
     join_all(&rt, rt.alloc(), &standard(), &BAG_JOINTS)
 }
 
@@ -142,7 +143,7 @@ static CANCELLING: [Joint; 3] = [
 ];
 
 #[test]
-fn joins_that_cancel(rt: HostRuntime) -> Result<(), Fail> {
+fn opposite_amounts_cancel(rt: HostRuntime) -> Result<(), Fail> {
     join_all(&rt, rt.alloc(), &standard(), &CANCELLING)
 }
 
@@ -160,7 +161,7 @@ static NOTHING_AFTER: [Joint; 2] = [
 ];
 
 #[test]
-fn joins_with_nothing_after(rt: HostRuntime) -> Result<(), Fail> {
+fn updates_with_nothing_after_are_joined_or_refused(rt: HostRuntime) -> Result<(), Fail> {
     join_all(&rt, rt.alloc(), &standard(), &NOTHING_AFTER)
 }
 
@@ -180,7 +181,7 @@ static BAGS_BESIDE_NOTHING: [Joint; 4] = [
 ];
 
 #[test]
-fn joins_of_bags_with_an_empty_side(rt: HostRuntime) -> Result<(), Fail> {
+fn updates_of_bags_are_joined_with_an_empty_side(rt: HostRuntime) -> Result<(), Fail> {
     join_all(&rt, rt.alloc(), &BagAgg, &BAGS_BESIDE_NOTHING)?;
     join_all(&rt, rt.alloc(), &standard(), &BAGS_BESIDE_NOTHING)
 }
@@ -209,7 +210,7 @@ static SETS_BESIDE_NOTHING: [Joint; 4] = [
 ];
 
 #[test]
-fn joins_of_sets_with_an_empty_side(rt: HostRuntime) -> Result<(), Fail> {
+fn updates_of_sets_are_joined_with_an_empty_side(rt: HostRuntime) -> Result<(), Fail> {
     join_all(&rt, rt.alloc(), &SetAgg, &SETS_BESIDE_NOTHING)?;
     join_all(&rt, rt.alloc(), &standard(), &SETS_BESIDE_NOTHING)
 }
@@ -240,6 +241,6 @@ static BY_PAIRS: [Joint; 3] = [
 ];
 
 #[test]
-fn joins_by_a_pair_of_pairs(rt: HostRuntime) -> Result<(), Fail> {
+fn a_pair_of_pairs_joins_what_its_parts_own(rt: HostRuntime) -> Result<(), Fail> {
     join_all(&rt, rt.alloc(), &pairs(), &BY_PAIRS)
 }

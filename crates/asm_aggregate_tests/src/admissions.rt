@@ -1,11 +1,11 @@
 //! What `admit` and `change` answer beside `aggregate` and `result`, and how a group changes a state.
-use crate::resultless::Resultless;
-use crate::shorthand::Act::{Add, BagAdd, BagRemove, Inc, Remove};
-use crate::shorthand::Old::{self, Bag, Num, Set, Undef};
-use crate::shorthand::{location, move_of, state_with, value_of};
-use crate::tests::{Row, admits_and_changes, group_in, is_clash, is_value, judge_all};
+use crate::groups::{Row, admits_and_changes, group_in, is_clash, is_value, judge_all};
+use crate::plain_data::Act::{Add, BagAdd, BagRemove, Inc, Remove};
+use crate::plain_data::Old::{self, Bag, Num, Set, Undef};
+use crate::plain_data::{move_of, state_with, value_of};
 use asm_aggregate::{admit, standard};
 use asm_element::Value;
+use asm_test_support::{Resultless, location};
 use asm_update::{AggError, Aggregator, Cause, Group, Instructions, PlainState, ResultError};
 use std::alloc::{AllocError, Global};
 use std::test::Fail;

@@ -1,6 +1,6 @@
 use Rattle.std.proofs.Common.{◌≡◌, ap, length, arith, rules}
 use Rattle.std.proofs.lemmas.Bool.Decides.{nat_tests}
-use Rattle.asm_aggregate_tests.proofs.tests.group_of.Goals as goal
+use Rattle.asm_aggregate_tests.proofs.groups.group_of.Goals as goal
 
 pub new-requires : goal.new-requires
 new-requires c = record {

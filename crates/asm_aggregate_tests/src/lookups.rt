@@ -1,10 +1,11 @@
+//! What an aggregation looks up, and how many instructions a composition has.
 ghost use Rattle.asm_update.specs.State.{val};
 
-use crate::bag_tests::{additions_by_turns, counts_at_both, two_empty_bags};
-use crate::compose_tests::Line::{self, Do, Put};
-use crate::compose_tests::{compose_of, steps};
-use crate::shorthand::Act::{Add, BagAdd, BagRemove};
-use crate::shorthand::Old::{Bag, Num, Set, Undef};
+use crate::bags::{additions_by_turns, counts_at_both, two_empty_bags};
+use crate::compositions::Line::{self, Do, Put};
+use crate::compositions::{compose_of, steps};
+use crate::plain_data::Act::{Add, BagAdd, BagRemove};
+use crate::plain_data::Old::{Bag, Num, Set, Undef};
 use asm_aggregate::{ComposeError, admit, aggregate, standard};
 use asm_element::{Element, Location, Value};
 use asm_update::{Action, AggError, Instruction, Instructions, Lookup, PlainState, UpdateSet};

@@ -1,7 +1,8 @@
-use crate::shorthand::Act::{self, Add, BagAdd, BagRemove, Remove};
-use crate::shorthand::Old::{self, Bag, Num, Set};
-use crate::shorthand::{do_at, put_at, state_with};
-use crate::tests::{is_clash, is_wanted, pairs};
+//! What two moves compose to.
+use crate::groups::{is_clash, is_wanted, pairs};
+use crate::plain_data::Act::{self, Add, BagAdd, BagRemove, Remove};
+use crate::plain_data::Old::{self, Bag, Num, Set};
+use crate::plain_data::{do_at, put_at, state_with};
 use asm_aggregate::{ComposeError, SetAgg, aggregate, compose, standard};
 use asm_update::{Aggregator, Cause, Instructions};
 use std::alloc::{AllocError, Global};
@@ -138,7 +139,7 @@ static PUTS: [Row; 6] = [
 ];
 
 #[test]
-fn values_that_are_put(rt: HostRuntime) -> Result<(), Fail> {
+fn a_put_takes_what_comes_after_it_or_gives_way(rt: HostRuntime) -> Result<(), Fail> {
     compose_all(&rt, rt.alloc(), &standard(), &PUTS)
 }
 
@@ -171,7 +172,7 @@ static PUTS_OVER_PARTIALS: [Row; 5] = [
 ];
 
 #[test]
-fn values_put_over_partial_updates(rt: HostRuntime) -> Result<(), Fail> {
+fn a_put_takes_the_place_of_partial_updates(rt: HostRuntime) -> Result<(), Fail> {
     compose_all(&rt, rt.alloc(), &standard(), &PUTS_OVER_PARTIALS)
 }
 
@@ -194,7 +195,7 @@ static SETS: [Row; 3] = [
 ];
 
 #[test]
-fn partial_updates_of_sets(rt: HostRuntime) -> Result<(), Fail> {
+fn partial_updates_of_sets_are_joined(rt: HostRuntime) -> Result<(), Fail> {
     compose_all(&rt, rt.alloc(), &standard(), &SETS)
 }
 
@@ -221,7 +222,7 @@ static BAGS: [Row; 3] = [
 ];
 
 #[test]
-fn partial_updates_of_bags(rt: HostRuntime) -> Result<(), Fail> {
+fn partial_updates_of_bags_are_joined(rt: HostRuntime) -> Result<(), Fail> {
     compose_all(&rt, rt.alloc(), &standard(), &BAGS)
 }
 
@@ -244,7 +245,7 @@ static AMOUNTS: [Row; 3] = [
 ];
 
 #[test]
-fn amounts_that_cancel_or_are_too_large(rt: HostRuntime) -> Result<(), Fail> {
+fn amounts_cancel_or_are_too_large(rt: HostRuntime) -> Result<(), Fail> {
     compose_all(&rt, rt.alloc(), &standard(), &AMOUNTS)
 }
 

@@ -1,7 +1,7 @@
 //! The errors of a composition: their texts, and where two are equal.
-use crate::compose_tests::NoComposition::{self, Clashes, Large, Many, OutOfMemory};
-use crate::shorthand::location;
+use crate::compositions::NoComposition::{self, Clashes, Large, Many, OutOfMemory};
 use asm_aggregate::ComposeError;
+use asm_test_support::location;
 use asm_update::{Cause, Clash};
 use std::alloc::Global;
 use std::test::Fail;
