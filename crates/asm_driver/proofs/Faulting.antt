@@ -1,7 +1,7 @@
 -- When a run has the status of a fault.
 use Rattle.std.proofs.Common.{◌≡◌, ◌↔◌, ℕ, List, true, false, refl, sym, ◌∙◌, subst, inl, inr, arith}
-use Rattle.asm_journal.specs.declared.fault.JournalError.{JournalError}
-use Rattle.asm_journal.specs.declared.fault.JournalError.TheVariants as journal
+use Rattle.asm_journal.specs.declared.error.JournalError.{JournalError}
+use Rattle.asm_journal.specs.declared.error.JournalError.TheVariants as journal
 use Rattle.asm_journal.specs.declared.checking.Legality.{Legality}
 use Rattle.asm_journal.specs.declared.checking.Legality.TheVariants.{Legal, Illegal}
 use Rattle.asm_driver.specs.Commands.{legality_status, IsDone, IsNotDone}

@@ -1,8 +1,8 @@
 -- Bytes that are no journal, told as a refusal.
 use Rattle.std.proofs.Common.{ℕ, List}
 use Rattle.asm_journal.specs.Fault.{IsRefused}
-use Rattle.asm_journal.specs.declared.fault.JournalError.{JournalError}
-use Rattle.asm_journal.specs.declared.fault.JournalError.TheVariants.{NotJson, Shape, Version, Cut, Memory}
+use Rattle.asm_journal.specs.declared.error.JournalError.{JournalError}
+use Rattle.asm_journal.specs.declared.error.JournalError.TheVariants.{NotJson, Shape, Version, Cut, Memory}
 use Rattle.asm_driver.specs.Commands.{IsNoJournal}
 use Rattle.asm_driver.specs.Refusal.{refusal_of_journal}
 

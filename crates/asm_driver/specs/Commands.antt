@@ -9,7 +9,7 @@ use Rattle.asm_journal.specs.Reading as journal
 use Rattle.asm_journal.specs.Text.{text_of}
 use Rattle.asm_journal.specs.declared.checking.Legality.{Legality}
 use Rattle.asm_journal.specs.declared.checking.Legality.TheVariants.{Legal, Illegal}
-use Rattle.asm_journal.specs.declared.fault.JournalError.TheVariants as journal_error
+use Rattle.asm_journal.specs.declared.error.JournalError.TheVariants as journal_error
 use Rattle.asm_script.specs.Plan.{Plan}
 use Rattle.asm_play.specs.Play.{IsNoCapacity, IsPlayOf}
 use Rattle.asm_driver.specs.Report.{line, report_of}

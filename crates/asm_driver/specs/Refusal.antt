@@ -1,8 +1,8 @@
 -- The line and the status of each refusal, and the refusals that are made of errors.
 use Rattle.std.specs.Prelude.{ℕ, Bool, true, false, List, ◌++◌, codes, string_bytes}
 use Rattle.std.specs.Fmt.{decimal}
-use Rattle.asm_journal.specs.declared.fault.JournalError.{JournalError}
-use Rattle.asm_journal.specs.declared.fault.JournalError.TheVariants as journal
+use Rattle.asm_journal.specs.declared.error.JournalError.{JournalError}
+use Rattle.asm_journal.specs.declared.error.JournalError.TheVariants as journal
 use Rattle.asm_driver.specs.Report.{line}
 use Rattle.asm_driver.specs.declared.ports.input.InputError.{InputError}
 use Rattle.asm_driver.specs.declared.ports.input.InputError.TheVariants as input

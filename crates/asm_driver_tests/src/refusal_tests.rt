@@ -1,6 +1,6 @@
 //! Words and inputs that the program refuses, each with its line.
 ghost use Rattle.std.specs.Prelude.{◌≡◌, codes};
-ghost use Rattle.asm_journal.specs.declared.fault.JournalError.TheVariants as journal;
+ghost use Rattle.asm_journal.specs.declared.error.JournalError.TheVariants as journal;
 ghost use Rattle.asm_play.specs.declared.outcome.RunError.TheVariants as run;
 ghost use Rattle.asm_driver.specs.Refusal.{refusal_line, refusal_status, refusal_of_input, refusal_of_journal};
 ghost use Rattle.asm_driver.specs.Refusal.{refusal_of_run, refusal_of_script};

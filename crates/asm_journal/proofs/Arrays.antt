@@ -1,6 +1,7 @@
 -- Arrays: their items, and lists of forms.
-use Rattle.std.proofs.Common.{◌≡◌, ◌≢◌, ◌<◌, ℕ, zero, suc, List, [], ◌∷◌, ◌++◌, length, get_or, map, Some, refl, sym, ap, ap₂, subst, ◌∙◌, append_assoc, arith}
+use Rattle.std.proofs.Common.{◌≡◌, ◌≢◌, ◌<◌, ℕ, zero, suc, List, [], ◌∷◌, ◌++◌, length, get_or, map, Some, refl, sym, ap, ap₂, subst, ◌∙◌, append-nil, append_assoc, arith}
 use Rattle.std.specs.List.{AllByRecursion}
+use Rattle.std.proofs.lemmas.List.{map-append}
 use Rattle.serde_json.specs.Data.{Data, null, boolean, number, string, array, object, unsigned, Items, no_items, item}
 use Rattle.serde_json.specs.Find.{as_array, as_str}
 use Rattle.serde_json.specs.View.{view, items_of, items_view}
@@ -71,10 +72,17 @@ pub forms_back : {X : Type 0} {P : X → Type 0} (F : X → Data → Type 0) (f 
 forms_back F f back [] h = tt
 forms_back F f back (x ∷ xs) h = (back x h.0, forms_back F f back xs h.1)
 
--- one item less is left
-pub left_json : {X : Type 0} (f : X → Data) (done new all : List Data) (x : X) (rest left : List X) → left ≡ x ∷ rest → done ++ map f left ≡ all → new ≡ done ++ f x ∷ [] → new ++ map f rest ≡ all
-left_json f done new all x rest left step so_far added =
-    ap (λ t. t ++ map f rest) added ∙ append_assoc done (f x ∷ []) (map f rest) ∙ ap (λ l. done ++ map f l) (sym step) ∙ so_far
+-- what is written, and what is left, is all
+abbrev pub AreWritten : {X : Type 0} → (X → Data) → List Value → List X → List X → Type 0
+AreWritten f list left all = map view list ++ map f left ≡ map f all
+
+pub written_more : {X : Type 0} (f : X → Data) (list new : List Value) (v : Value) (x : X) (left rest all : List X) → AreWritten f list left all → left ≡ x ∷ rest → new ≡ list ++ v ∷ [] → view v ≡ f x → AreWritten f new rest all
+written_more f list new v x left rest all so_far step pushed is =
+    ap (λ vs. map view vs ++ map f rest) pushed ∙ ap (λ ds. ds ++ map f rest) (map-append view list (v ∷ []) ∙ ap (λ d. map view list ++ d ∷ []) is)
+    ∙ append_assoc (map view list) (f x ∷ []) (map f rest) ∙ ap (λ l. map view list ++ map f l) (sym step) ∙ so_far
+
+pub written_all : {X : Type 0} (f : X → Data) (list : List Value) (left all : List X) → AreWritten f list left all → left ≡ [] → map view list ≡ map f all
+written_all f list left all so_far none = sym (append-nil (map view list)) ∙ ap (λ l. map view list ++ map f l) (sym none) ∙ so_far
 
 -- ---- a value is the form of one x at most
 

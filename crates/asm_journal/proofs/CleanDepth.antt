@@ -49,6 +49,8 @@ use Rattle.asm_journal.specs.Instruction.{word_of, operands_of, instruction_of, 
 use Rattle.asm_journal.specs.Event.{named_json_of, call_json_of, word_of_cause, reply_json_of, answer_json_of}
 use Rattle.asm_journal.specs.Event.{event_json_of}
 use Rattle.asm_journal.specs.Text.{state_json_of, header_of}
+use Rattle.asm_row.specs.Limits.{capacity_limit}
+use Rattle.asm_storage.specs.Limits.{agents_limit, events_limit}
 use Rattle.asm_storage.specs.Proper.{IsProperNamed, IsProperCall, IsProperReply, IsProperAnswer, IsProperEvent}
 use Rattle.asm_journal.proofs.Clean.{IsClean, AreCleanItems, AreCleanMembers, put_all}
 use Rattle.asm_journal.proofs.EntriesKept.{pairs_kept}
@@ -299,11 +301,11 @@ state_clean A h =
 flat : (n : ℕ) → n < 2 ^ 32 → IsCleanTo 21 (number_json_of n)
 flat n h = deeper 0 21 _ (omega arith) (small_clean n h)
 
-pub header_clean : (agents capacity events : ℕ) (A : State) → agents ≤ 256 → capacity ≤ 1048576 → events < 2 ^ 32
+pub header_clean : (agents capacity events : ℕ) (A : State) → agents ≤ agents_limit → capacity ≤ capacity_limit → events ≤ events_limit
     → state.IsProper A → IsCleanTo 22 (header_of agents capacity events (state_json_of A))
 header_clean a c n A ha hc hn h =
     object_clean 21 _ (more_members 21 _ _ _ refl (flat a (omega (arith, ha)))
     (more_members 21 _ _ _ refl (flat c (omega (arith, hc)))
-    (more_members 21 _ _ _ refl (flat n hn)
+    (more_members 21 _ _ _ refl (flat n (omega (arith, hn)))
     (more_members 21 _ _ _ refl (state_clean A h)
     (more_members 21 _ _ _ refl (flat 2 (omega arith)) (no_member 21)))))) refl

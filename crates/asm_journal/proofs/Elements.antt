@@ -15,6 +15,7 @@ use Rattle.asm_element.specs.Datum as datum
 use Rattle.asm_element.specs.Datum.{Datum, Sequence, AreProperItems, IsProperList}
 use Rattle.asm_element.specs.View.{datum as datum_of, element as element_of, element-datum, datum-element, sequence, elements as elements_of, sequence-elements, len-sequence}
 use Rattle.asm_element.specs.Element as element
+use Rattle.asm_element.specs.Limits.{items_limit, depth_limit}
 use Rattle.asm_element.specs.Place.{Place, is_name}
 use Rattle.asm_element.specs.declared.element.Element.{Element}
 use Rattle.asm_element.specs.declared.element.Element.TheVariants as elements
@@ -188,12 +189,12 @@ list_is (elements.List es) ds e = (es, refl, same_list_json _ _ e)
 -- the elements make a list, or no list
 pub list_read : (ds : Items) (found : List Element) (n : ℕ) (r : Result Sequence ListError)
     → n ≡ length found → AreForms IsElementForm found ds → IfOk r (λ l. l ≡ sequence found)
-    → ((r ≡ Err ManyItems) ↔ (4096 < n)) → ((r ≡ Err TooDeep) ↔ ((n ≤ 4096) × (8 < datum.depth (datum.list (sequence found)))))
+    → ((r ≡ Err ManyItems) ↔ (items_limit < n)) → ((r ≡ Err TooDeep) ↔ ((n ≤ items_limit) × (depth_limit < datum.depth (datum.list (sequence found)))))
     → IsParsed IsElementForm (list_json ds) (option_map elements.List (result_ok r))
 list_read ds found n (Ok l) count forms ok many deep =
     let parts = forms_are found ds forms in
-    let few : n ≤ 4096 = at_most n 4096 (λ over. let wrong = many.1 over in absurd cc) in
-    let flat : datum.depth (datum.list (sequence found)) ≤ 8 = at_most _ 8 (λ over. let wrong = deep.1 (few, over) in absurd cc) in
+    let few : n ≤ items_limit = at_most n items_limit (λ over. let wrong = many.1 over in absurd cc) in
+    let flat : datum.depth (datum.list (sequence found)) ≤ depth_limit = at_most _ depth_limit (λ over. let wrong = deep.1 (few, over) in absurd cc) in
     let proper : IsProperList (sequence found) = (omega (arith, few, count, len-sequence found), (flat, proper_items found parts.1)) in
     subst (λ es. IsElementForm (elements.List es) (list_json ds)) (sym ok)
     (proper, ap list_json (parts.0 ∙ sequence_json found))

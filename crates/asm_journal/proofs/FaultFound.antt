@@ -7,8 +7,8 @@ use Rattle.serde_json.specs.Data.{Data}
 use Rattle.asm_update.specs.State.{State}
 use Rattle.asm_storage.specs.declared.history.Event.{Event}
 use Rattle.asm_storage.specs.declared.history.History.{History}
-use Rattle.asm_journal.specs.declared.fault.JournalError.{JournalError}
-use Rattle.asm_journal.specs.declared.fault.JournalError.TheVariants.{NotJson, Shape, Version, Cut, Memory}
+use Rattle.asm_journal.specs.declared.error.JournalError.{JournalError}
+use Rattle.asm_journal.specs.declared.error.JournalError.TheVariants.{NotJson, Shape, Version, Cut, Memory}
 use Rattle.asm_journal.specs.Reading.{HasNoLineFeed, EndsLine, HasLine, IsHeader, HasEvents, ReadsAs}
 use Rattle.asm_journal.specs.Fault.{BreaksLine, BreaksHeader, BreaksEvent, IsRefused}
 use Rattle.asm_journal.proofs.Lines.{HasEvents-push}

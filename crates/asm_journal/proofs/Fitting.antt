@@ -1,5 +1,5 @@
 -- A history that a text reads as fits a journal.
-use Rattle.std.proofs.Common.{◌<◌, ◌≤◌, ◌^◌, ℕ, List, [], ◌∷◌, length, Result, Ok, Err, arith}
+use Rattle.std.proofs.Common.{ℕ, List, [], ◌∷◌, length, Result, Ok, Err}
 use Rattle.std.specs.Prelude.{IfOk}
 use Rattle.std.specs.List.{AllByRecursion}
 use Rattle.std.proofs.lemmas.List.Elements.{All-from_recursion}
@@ -7,7 +7,7 @@ use Rattle.asm_storage.specs.History.{EventFits, Fits}
 use Rattle.asm_storage.specs.Proper.{IsProper}
 use Rattle.asm_storage.specs.declared.history.Event.{Event}
 use Rattle.asm_storage.specs.declared.history.History.{History}
-use Rattle.asm_journal.specs.declared.fault.JournalError.{JournalError}
+use Rattle.asm_journal.specs.declared.error.JournalError.{JournalError}
 use Rattle.asm_journal.specs.Reading.{AreLimits, HasEvents, ReadsAs}
 
 events_fit : (v agents : ℕ) (text : List ℕ) (es : List Event) (rest : List ℕ)
@@ -15,16 +15,13 @@ events_fit : (v agents : ℕ) (text : List ℕ) (es : List Event) (rest : List �
 events_fit v agents text [] rest h = tt
 events_fit v agents text (e ∷ es) rest h = (h.3.1, events_fit v agents h.1 es rest h.4)
 
-few_events : (n : ℕ) → n < 2 ^ 32 → n ≤ 4294967295
-few_events n h = omega arith
-
 limits_fit : (h : History) → AreLimits h.agents h.capacity (length h.events)
     → AllByRecursion (EventFits h.agents) h.events → IsProper h → Fits h
 limits_fit h limits events proper = record {
   agents = limits.0;
   some = limits.1;
   capacity = limits.2;
-  few = few_events (length h.events) limits.3;
+  few = limits.3;
   events = All-from_recursion (EventFits h.agents) h.events events;
   proper = proper;
 }

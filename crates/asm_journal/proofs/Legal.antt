@@ -88,31 +88,36 @@ read_step part capacity e s places n vs false call-is answer-is tells = (
 
 -- ---- one fire
 
-module _ (part : Part) (capacity : ℕ) (e : Event) (old : StateView) (reads : List Named) (M : Move) (r : Reply) (v : Option Objection)
-    (call-is : e.call ≡ call.Fire reads M) (answer-is : e.answer ≡ answer.Fire r)
-    (judged : (init : State) (q : List Move) → Stands part init old q → IsObjection part init q reads M (Ok v)) where
-  objection_is : (init : State) (q : List Move) (w : Option Objection) → IsObjection part init q reads M (Ok w) → fire_reply (machine part init capacity) q M (least_stale part init q reads) ≡ judged_reply capacity (length q) w
-  objection_is init q (Some (objection.Stale l)) h = ap (fire_reply (machine part init capacity) q M) h
-  objection_is init q (Some (objection.Clash c)) h =
-      ap (fire_reply (machine part init capacity) q M) h.0 ∙ ap (λ a. firing_reply (machine part init capacity) q (overwritten (machine_state (machine part init capacity) q) a)) h.1
-  objection_is init q None h =
-      ap (fire_reply (machine part init capacity) q M) h.0 ∙ taken (aggregated part (val (state_of part init q)) M) h.1 where
-        taken : (a : Result Updates Clash) → IsOk a → firing_reply (machine part init capacity) q (overwritten (machine_state (machine part init capacity) q) a) ≡ judged_reply capacity (length q) None
+module _ (part : Part) (capacity : ℕ) (init : State) (q : List Move) (reads : List Named) (M : Move) where
+  objection_is : (v : Option Objection) → IsObjection part init q reads M (Ok v) → fire_reply (machine part init capacity) q M (least_stale part init q reads) ≡ judged_reply capacity (length q) v
+  objection_is (Some (objection.Stale l)) h = ap (fire_reply (machine part init capacity) q M) h
+  objection_is (Some (objection.Clash c)) h =
+      let m = machine part init capacity in
+      ap (fire_reply m q M) h.0 ∙ ap (λ a. firing_reply m q (overwritten (machine_state m q) a)) h.1
+  objection_is None h =
+      let m = machine part init capacity in
+      ap (fire_reply m q M) h.0 ∙ taken (aggregated part (val (state_of part init q)) M) h.1 where
+        taken : (a : Result Updates Clash) → IsOk a → firing_reply (machine part init capacity) q (overwritten (state_of part init q) a) ≡ judged_reply capacity (length q) None
         taken (Ok U) ok = refl
         taken (Err c) ok = absurd (cc ok)
 
-  -- the reply after the moves is the one to a move with this objection or with none
-  replied : (init : State) (q : List Move) → Stands part init old q → reply_to (machine part init capacity) q e.call ≡ answer.Fire (judged_reply capacity old.number v)
-  replied init q stands =
-      ap (reply_to (machine part init capacity) q) call-is ∙ ap answer.Fire (objection_is init q v (judged init q stands) ∙ ap (λ n. judged_reply capacity n v) (sym stands.number))
+  -- the reply after the moves, which a state stands for, is the one to a move with this objection or with none
+  pub replied : (s : StateView) (v : Option Objection) → Stands part init s q → IsObjection part init q reads M (Ok v) → reply_to (machine part init capacity) q (call.Fire reads M) ≡ answer.Fire (judged_reply capacity s.number v)
+  replied s v stands judged = ap answer.Fire (objection_is v judged ∙ ap (λ n. judged_reply capacity n v) (sym stands.number))
+
+module _ (part : Part) (capacity : ℕ) (e : Event) (old : StateView) (reads : List Named) (M : Move) (r : Reply) (v : Option Objection)
+    (call-is : e.call ≡ call.Fire reads M) (answer-is : e.answer ≡ answer.Fire r)
+    (judged : (init : State) (q : List Move) → Stands part init old q → IsObjection part init q reads M (Ok v)) where
+  reply_is : (init : State) (q : List Move) → Stands part init old q → reply_to (machine part init capacity) q e.call ≡ answer.Fire (judged_reply capacity old.number v)
+  reply_is init q stands = ap (reply_to (machine part init capacity) q) call-is ∙ replied part capacity init q reads M old v stands (judged init q stands)
 
   pub wrong_fire : (r ≡ judged_reply capacity old.number v → ⊥) → IsStep part capacity e old old false
-  wrong_fire other = (refl, λ init q stands same. other (same_fire _ _ (sym answer-is ∙ same ∙ replied init q stands))) where
+  wrong_fire other = (refl, λ init q stands same. other (same_fire _ _ (sym answer-is ∙ same ∙ reply_is init q stands))) where
     same_fire : (x y : Reply) → answer.Fire x ≡ answer.Fire y → x ≡ y
     same_fire x y e = cc
 
   right : r ≡ judged_reply capacity old.number v → (init : State) (q : List Move) → Stands part init old q → e.answer ≡ reply_to (machine part init capacity) q e.call
-  right is init q stands = answer-is ∙ ap answer.Fire is ∙ sym (replied init q stands)
+  right is init q stands = answer-is ∙ ap answer.Fire is ∙ sym (reply_is init q stands)
 
   move-is : (s : Reply) → r ≡ s → move_of e ≡ move_of (record { agent = e.agent; call = call.Fire reads M; answer = answer.Fire s })
   move-is s is = ap₂ (λ c a. move_of (record { agent = e.agent; call = c; answer = a })) call-is (answer-is ∙ ap answer.Fire is)

@@ -2,8 +2,8 @@
 use Rattle.std.proofs.Common.{◌≡◌, ◌≢◌, ◌⊎◌, ℕ, List, [], ◌∷◌, ◌++◌, inl, inr, subst, sym, refl}
 use Rattle.serde_json.specs.Data.{Data}
 use Rattle.asm_storage.specs.declared.history.Event.{Event}
-use Rattle.asm_journal.specs.declared.fault.JournalError.{JournalError}
-use Rattle.asm_journal.specs.declared.fault.JournalError.TheVariants.{NotJson, Memory}
+use Rattle.asm_journal.specs.declared.error.JournalError.{JournalError}
+use Rattle.asm_journal.specs.declared.error.JournalError.TheVariants.{NotJson, Memory}
 use Rattle.asm_journal.specs.Event.{IsEventBelow}
 use Rattle.asm_journal.specs.Reading.{IsJson, BeginsWithLine, HasLine, HasEvents}
 use Rattle.asm_journal.specs.Fault.{BreaksLine}

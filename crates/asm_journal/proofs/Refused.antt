@@ -8,8 +8,8 @@ use Rattle.serde_json.specs.Data.{Data, unsigned}
 use Rattle.asm_update.specs.State.{State}
 use Rattle.asm_storage.specs.declared.history.Event.{Event}
 use Rattle.asm_storage.specs.declared.history.History.{History}
-use Rattle.asm_journal.specs.declared.fault.JournalError.{JournalError}
-use Rattle.asm_journal.specs.declared.fault.JournalError.TheVariants.{NotJson, Shape, Version, Cut, Memory}
+use Rattle.asm_journal.specs.declared.error.JournalError.{JournalError}
+use Rattle.asm_journal.specs.declared.error.JournalError.TheVariants.{NotJson, Shape, Version, Cut, Memory}
 use Rattle.asm_journal.specs.Event.{IsEventBelow}
 use Rattle.asm_journal.specs.Text.{header_with}
 use Rattle.asm_journal.specs.Shape.{number_json_of}

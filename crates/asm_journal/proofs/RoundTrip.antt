@@ -6,6 +6,7 @@ use Rattle.serde_json.specs.Data.{Data}
 use Rattle.serde_json.specs.Read.{max_depth}
 use Rattle.serde_json.specs.Written.{compact_text}
 use Rattle.asm_storage.specs.History.{EventFits, Fits}
+use Rattle.asm_storage.specs.Limits.{agents_limit}
 use Rattle.asm_storage.specs.declared.history.Event.{Event}
 use Rattle.asm_storage.specs.declared.history.History.{History}
 use Rattle.asm_journal.specs.Event.{event_json_of}
@@ -29,7 +30,7 @@ line_reads d rest g = (
 not_first : (d : Data) → IsOfVersion 2 d
 not_first d e = absurd (omega (arith, e))
 
-events_read : (agents : ℕ) (es : List Event) → agents ≤ 256 → AllByRecursion (EventFits agents) es
+events_read : (agents : ℕ) (es : List Event) → agents ≤ agents_limit → AllByRecursion (EventFits agents) es
     → AllByRecursion IsProperEvent es → HasEvents 2 agents (events_text es) es []
 events_read agents [] few h k = refl
 events_read agents (e ∷ es) few h k =
@@ -43,8 +44,7 @@ events_read agents (e ∷ es) few h k =
 
 pub text_reads : (h : History) → IsProper h → Fits h → ReadsAs (text_of h) h
 text_reads h proper fits =
-    let few : length h.events < 2 ^ 32 = omega (arith, fits.few) in
-    let clean = header_clean h.agents h.capacity (length h.events) h.init fits.agents fits.capacity few proper.0 in (
+    let clean = header_clean h.agents h.capacity (length h.events) h.init fits.agents fits.capacity fits.few proper.0 in (
       header_json_of h,
       events_text h.events,
       2,
@@ -57,7 +57,7 @@ text_reads h proper fits =
         _,
         _,
         refl,
-        (refl, refl, refl, refl, inr refl, (fits.agents, fits.some, fits.capacity, few)),
+        (refl, refl, refl, refl, inr refl, (fits.agents, fits.some, fits.capacity, fits.few)),
         state_back h.init proper.0,
         not_first (header_json_of h),
       ),

@@ -1,6 +1,7 @@
 -- The JSON of calls, answers and events.
 use Rattle.std.specs.Prelude.{◌≡◌, ◌≤◌, ℕ, List, length, map, codes}
 use Rattle.serde_json.specs.Data.{Data, string}
+use Rattle.asm_update.specs.Limits.{instructions_limit}
 use Rattle.asm_update.specs.Move.{Move}
 use Rattle.asm_update.specs.declared.action.Instruction.{Instruction}
 use Rattle.asm_update.specs.declared.clash.Cause.{Cause}
@@ -81,7 +82,7 @@ IsNamedForm r d = (at number : Data) × (d ≡ pair_of at number) × IsLocationF
 
 -- these are the instructions of the move, and at most 4,096
 abbrev pub IsMoveOf : Move → List Instruction → Type 0
-IsMoveOf M list = (M ≡ list) × (length list ≤ 4096)
+IsMoveOf M list = (M ≡ list) × (length list ≤ instructions_limit)
 
 -- at most 4,096 instructions
 abbrev pub IsMoveForm : Move → Data → Type 0

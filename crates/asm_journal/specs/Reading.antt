@@ -1,8 +1,10 @@
 -- How a text reads as a history.
-use Rattle.std.specs.Prelude.{◌≡◌, ◌≢◌, ◌≤◌, ◌<◌, ◌^◌, ◌⊎◌, ℕ, List, [], ◌∷◌, ◌++◌, length, All, Some, IsUtf8}
+use Rattle.std.specs.Prelude.{◌≡◌, ◌≢◌, ◌≤◌, ◌⊎◌, ℕ, List, [], ◌∷◌, ◌++◌, length, All, Some, IsUtf8}
 use Rattle.serde_json.specs.Data.{Data}
 use Rattle.serde_json.specs.Read.{read}
+use Rattle.asm_row.specs.Limits.{capacity_limit}
 use Rattle.asm_update.specs.State.{State}
+use Rattle.asm_storage.specs.Limits.{agents_limit, events_limit}
 use Rattle.asm_storage.specs.declared.history.Event.{Event}
 use Rattle.asm_storage.specs.declared.history.History.{History}
 use Rattle.asm_journal.specs.Value.{IsStateForm}
@@ -35,7 +37,7 @@ HasLine text d rest = (body : List ℕ) × EndsLine text body rest × IsJson bod
 -- the numbers of a journal: at most 256 agents, a capacity of 1 to 1,048,576, at most 4,294,967,295 events
 abbrev pub AreLimits : ℕ → ℕ → ℕ → Type 0
 AreLimits agents capacity events =
-    (agents ≤ 256) × (1 ≤ capacity) × (capacity ≤ 1048576) × (events < 2 ^ 32)
+    (agents ≤ agents_limit) × (1 ≤ capacity) × (capacity ≤ capacity_limit) × (events ≤ events_limit)
 
 -- the values are these numbers, which are within the limits, and journals of the version are read
 abbrev pub AreNumbers : ℕ → ℕ → ℕ → ℕ → Data → Data → Data → Data → Type 0

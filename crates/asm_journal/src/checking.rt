@@ -1,13 +1,11 @@
 //! Whether a history is one that the storage of one thread could have.
-ghost use Rattle.std.specs.Prelude.{◌≡◌, ◌↔◌, map, IsTrue, IfOk};
-ghost use Rattle.asm_state.specs.View.{value_at};
+ghost use Rattle.std.specs.Prelude.{◌≡◌, ◌↔◌, IsTrue, IfOk};
 ghost use Rattle.asm_journal.specs.Check.{machine_of, IsLegality, objection_reply, judged_reply, was_fired, IsStep};
 ghost use Rattle.asm_storage.specs.Machine.{taken_reply};
 
-use asm_element::{Location, Value};
 use asm_state::{Objection, State};
-use asm_storage::{Answer, Call, Event, History, Reply};
-use asm_update::{Aggregator, Lookup};
+use asm_storage::{Answer, Call, Event, History, Reply, have_values};
+use asm_update::Aggregator;
 use std::alloc::{AllocError, Global};
 
 /// Whether a history is legal: whether each answer is the one that the storage of one thread gives.
@@ -17,31 +15,6 @@ pub enum Legality {
     Legal { calls: u64, moves: u32 },
     /// It isn't: the first call (event) with another answer has this number, counted from 0.
     Illegal { call: u64 },
-}
-
-/// Whether the location has this value.
-fn holds(state: &State, at: &Location, value: &Value) -> bool
-    ensures { IsTrue result ↔ (value_at state.now at.now ≡ value.now) }
-{
-    match state.get(at) {
-        Some(held) => held == value,
-        None => value.is_undef(),
-    }
-}
-
-/// Whether these are the values of the locations.
-fn are_values(state: &State, locations: &[Location], values: &[Value]) -> bool
-    ensures { IsTrue result ↔ (map (value_at state.now) locations.now ≡ values.now) }
-{
-    if locations.len() != values.len() {
-        return false;
-    }
-    for (index, at) in locations.iter().enumerate() {
-        if !holds(state, at, &values[index]) {
-            return false;
-        }
-    }
-    true
 }
 
 /// Whether the reply tells the objection to a move.
@@ -103,7 +76,7 @@ pub fn judge_event<A: Aggregator>(
         (Call::Read(locations), Answer::Read { number, values }) => {
             Ok(
                 *number == state.number()
-                    && are_values(state, locations.as_slice(), values.as_slice()),
+                    && have_values(state, locations.as_slice(), values.as_slice()),
             )
         }
         (Call::Fire { reads, instrs }, Answer::Fire(reply)) => {

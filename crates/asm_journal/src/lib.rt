@@ -2,26 +2,26 @@
 #![tactic(auto)]
 
 mod checking;
-mod fault;
+mod error;
 mod form;
 pub mod laws;
 mod line;
 mod output;
-mod reading;
+mod parsing;
 mod replaying;
 mod texts;
 mod version;
 mod writing;
 
 pub use checking::{Legality, check, judge_event};
-pub use fault::{JournalError, WriteError};
+pub use error::{JournalError, WriteError};
 pub use form::{
     FromJson, Listed, ToJson, instruction_json, instruction_parts, location_json, one_member,
     pair_json, read_amount, read_instruction, read_location, read_one, read_value, two_items,
     two_members, value_json, word_of_cause,
 };
 pub use output::write_text;
-pub use reading::from_text;
+pub use parsing::from_text;
 pub use replaying::{next_storage, replay, replay_over};
 pub use texts::{answer_text, move_text, state_text, updates_text};
 pub use writing::{push_line, to_text};

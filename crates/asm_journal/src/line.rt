@@ -5,7 +5,7 @@ ghost use Rattle.serde_json.specs.View.{view};
 ghost use Rattle.asm_journal.specs.Reading.{IsJson, HasNoLineFeed, EndsLine, HasLine};
 ghost use Rattle.asm_journal.specs.Fault.{BreaksLine};
 
-use crate::fault::JournalError;
+use crate::error::JournalError;
 use serde_json::Value as Json;
 use std::alloc::Global;
 

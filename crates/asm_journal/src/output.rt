@@ -5,7 +5,7 @@ ghost use Rattle.asm_storage.specs.History.{Fits};
 ghost use Rattle.asm_journal.specs.Text.{text_of};
 ghost use Rattle.asm_journal.specs.Output.{Stops};
 
-use crate::fault::WriteError;
+use crate::error::WriteError;
 use crate::writing::to_text;
 use asm_storage::History;
 use std::alloc::Global;

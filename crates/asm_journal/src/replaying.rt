@@ -1,5 +1,6 @@
 //! The state that a history leaves, and the storage that goes on from it.
 ghost use Rattle.std.specs.Prelude.{◌≡◌, ◌↔◌, ◌⊎◌, ◌<◌, OnOk, IfOk, IsErrOf};
+ghost use Rattle.asm_row.specs.Limits.{capacity_limit};
 ghost use Rattle.asm_update.specs.State.{overwrite};
 ghost use Rattle.asm_update.specs.Fire.{state_of};
 ghost use Rattle.asm_update.specs.Move.{Move};
@@ -13,6 +14,7 @@ ghost use Rattle.asm_journal.specs.Next.{next_machine};
 
 use asm_aggregate::aggregate;
 use asm_element::Location;
+use asm_row::CAPACITY_LIMIT;
 use asm_state::one_change;
 use asm_storage::{Event, History, Storage, StorageError};
 use asm_update::{AggError, Aggregator, Group, Instructions, PlainState, ResultError, UpdateSet};
@@ -131,9 +133,9 @@ pub fn next_storage<A: Aggregator + Sync + Drop>(
     ensures aggregator { IfOk result (λ s. s.agg ≡ aggregator) }
     ensures machine { IfOk result (λ s. machine_of A.meaning s ≡ next_machine
         (history_machine (A.meaning aggregator).part history.now) history.now.events capacity) }
-    ensures bad { IsErrOf result storage_error.BadCapacity ↔ ((capacity ≡ 0) ⊎ (1048576 < capacity)) }
+    ensures bad { IsErrOf result storage_error.BadCapacity ↔ ((capacity ≡ 0) ⊎ (capacity_limit < capacity)) }
 {
-    if capacity == 0 || capacity > 1_048_576 {
+    if capacity == 0 || capacity > CAPACITY_LIMIT {
         return Err(StorageError::BadCapacity);
     }
     match replay(alloc, &aggregator, history) {

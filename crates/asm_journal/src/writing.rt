@@ -3,6 +3,7 @@ ghost use Rattle.std.specs.Prelude.{◌≡◌, ◌≤◌, ◌++◌, false, lengt
 ghost use Rattle.serde_json.specs.View.{view};
 ghost use Rattle.serde_json.specs.Written.{has_float};
 ghost use Rattle.asm_storage.specs.History.{Fits};
+ghost use Rattle.asm_storage.specs.Limits.{events_limit};
 ghost use Rattle.asm_journal.specs.Text.{header_json_of, line, text_of};
 
 use crate::form::ToJson;
@@ -12,7 +13,7 @@ use std::alloc::{AllocError, Global};
 
 /// The JSON of a history's header.
 fn header_json(alloc: Global, history: &History) -> Result<Json, AllocError>
-    requires { length history.now.events ≤ 4294967295 }
+    requires { length history.now.events ≤ events_limit }
     ensures { IfOk result (λ json. view json ≡ header_json_of history.now) }
 {
     let events = history.events.as_slice().len() as u32;

@@ -5,8 +5,8 @@ use Rattle.asm_update.specs.Fire.{state_of}
 use Rattle.asm_storage.specs.declared.history.History.{History}
 use Rattle.asm_storage.specs.History.{fired_moves}
 use Rattle.asm_journal.specs.declared.checking.Legality.{Legality}
-use Rattle.asm_journal.specs.declared.fault.JournalError.{JournalError}
-use Rattle.asm_journal.specs.declared.fault.JournalError.TheVariants.{NotJson, Shape, Version, Cut, Memory}
+use Rattle.asm_journal.specs.declared.error.JournalError.{JournalError}
+use Rattle.asm_journal.specs.declared.error.JournalError.TheVariants.{NotJson, Shape, Version, Cut, Memory}
 use Rattle.asm_journal.specs.Check.{machine_of, IsLegality}
 use Rattle.asm_journal.specs.Fault.{IsRefused}
 use Rattle.asm_journal.specs.Reading.{ReadsAs}

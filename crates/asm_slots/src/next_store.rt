@@ -1,7 +1,7 @@
 //! The storage that goes on where a closed one ended.
 ghost use Rattle.std.specs.Prelude.{◌≡◌, ◌≢◌, ◌<◌, ◌⊎◌, ◌∷◌, [], None, Some, IfOk, IfErr};
 ghost use Rattle.asm_journal.specs.Reading.{ReadsAs};
-ghost use Rattle.asm_journal.specs.declared.fault.JournalError.TheVariants as journal_error;
+ghost use Rattle.asm_journal.specs.declared.error.JournalError.TheVariants as journal_error;
 ghost use Rattle.asm_storage.specs.declared.history.History.{History};
 ghost use Rattle.asm_slots.specs.Codes.{IsOneOf, ASM_DONE, ASM_MEMORY, ASM_EMPTY, ASM_RANGE, ASM_NONE, ASM_TAKEN};
 ghost use Rattle.asm_slots.specs.Next.{GoesOn, HasOpened, IsNextOf, IsOpenedAfter, LacksJournal};

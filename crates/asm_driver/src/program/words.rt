@@ -110,7 +110,9 @@ fn run_asked(options: &ArgMatches<'_>) -> Request
     ensures { AsksRun (rows_of (found_of options.now)) result }
 {
     Request::Run {
-        capacity: options.get_one::<u32>("capacity").unwrap_or(DEFAULT_CAPACITY),
+        capacity: options
+            .get_one::<u32>("capacity")
+            .unwrap_or(DEFAULT_CAPACITY),
         journal: options.get_flag("journal"),
     }
 }

@@ -9,7 +9,8 @@ use serde_json::Value as Json;
 use std::alloc::{AllocError, Global};
 use std::marker::Model;
 
-/// The items that a JSON array was read as. Contracts see it as the list of them.
+/// The items that a JSON array was read as, whose reader may take them out; `Items` is a list that is kept and shared.
+/// Contracts see it as the list of them.
 #[derive(Drop)]
 pub struct Listed<T> {
     items: Vec<T>,
@@ -47,7 +48,7 @@ pub(crate) fn read_items<T: FromJson>(
     ensures { IfOk result (λ o. IsParsed (AreForms T.is_form) (items_view items.now)
         (option_map (λ v. v.items) o)) }
 {
-    let mut found = Vec::new(alloc);
+    let mut found = Vec::with_capacity(alloc, items.len())?;
     for item in items {
         match T::from_json(alloc, item)? {
             Some(x) => found.push(x)?,

@@ -5,14 +5,14 @@ ghost use Rattle.asm_journal.specs.Shape.{IsParsed, list_of, one_of, two_of};
 ghost use Rattle.asm_journal.specs.Event.{named_json_of, move_json_of, call_json_of};
 ghost use Rattle.asm_journal.specs.Event.{IsNamedForm, IsMoveForm, IsMoveOf, IsCallForm};
 
-use crate::form::array::{Listed, array_of, list_json, pair_items, pair_of};
+use crate::form::array::{Listed, list_json, pair_items, pair_of};
 use crate::form::number::read_number;
 use crate::form::object::{object_of, one_member, two_members};
 use crate::form::{FromJson, ToJson};
 use asm_element::{Items, Location};
 use asm_state::Named;
 use asm_storage::Call;
-use asm_update::{Instruction, Instructions};
+use asm_update::{Instruction, Instructions, InstructionsError};
 use serde_json::{Map, Value as Json};
 use std::alloc::{AllocError, Global};
 
@@ -45,11 +45,7 @@ impl ToJson for Instructions {
     ghost json_of = { move_json_of };
 
     fn to_json(&self, alloc: Global) -> Result<Json, AllocError> {
-        let mut list = Vec::new(alloc);
-        for index in 0..self.len() {
-            list.push(self.get(index).to_json(alloc)?)?;
-        }
-        Ok(array_of(list))
+        list_json(alloc, self.as_slice())
     }
 }
 
@@ -60,17 +56,11 @@ fn instructions_of(
 ) -> Result<Option<Instructions>, AllocError>
     ensures { IfOk result (IsParsed IsMoveOf list.items) }
 {
-    if list.len() > 4096 {
-        return Ok(None);
+    match Instructions::from_vec(alloc, list) {
+        Ok(instructions) => Ok(Some(instructions)),
+        Err(InstructionsError::ManyInstructions) => Ok(None),
+        Err(InstructionsError::Memory) => Err(AllocError),
     }
-    let mut instructions = Instructions::new(alloc);
-    for instruction in list {
-        match instructions.push(instruction) {
-            Ok(()) => {}
-            Err(_) => return Err(AllocError),
-        }
-    }
-    Ok(Some(instructions))
 }
 
 impl FromJson for Instructions {

@@ -86,7 +86,7 @@ fn read_element(alloc: Global, json: &Json) -> Result<Option<Element>, AllocErro
 fn read_list(alloc: Global, items: &[Json]) -> Result<Option<Element>, AllocError>
     ensures { IfOk result (IsParsed IsElementForm (one_of (codes "list") (array (items_view items.now)))) }
 {
-    let mut found = Vec::new(alloc);
+    let mut found = Vec::with_capacity(alloc, items.len())?;
     for item in items {
         match read_element(alloc, item)? {
             Some(x) => found.push(x)?,

@@ -13,9 +13,9 @@ returns-then-number g c =
     let locations = c.as_slice.result.now in
     let values = c.as_slice-then-number.result.now in
     let number = c.if-number.true ∙ c.number.ensures in
-    read_step part c.args.capacity c.args.event.now c.args.state.now locations c.in-Read-Read.number values c.are_values.result
+    read_step part c.args.capacity c.args.event.now c.args.state.now locations c.in-Read-Read.number values c.have_values.result
     (c.in-Read-Read.is-0 ∙ ap call.Read (sym c.as_slice.ensures)) (c.in-Read-Read.is-1 ∙ ap (answer.Read c.in-Read-Read.number) (sym c.as_slice-then-number.ensures))
-    (λ t. (number, c.are_values.ensures.0 t), λ h. c.are_values.ensures.1 h.1)
+    (λ t. (number, c.have_values.ensures.0 t), λ h. c.have_values.ensures.1 h.1)
 
 pub returns-then-not-is_reply : goal.returns-then-not-is_reply
 returns-then-not-is_reply g c =

@@ -1,6 +1,6 @@
 use Rattle.std.proofs.Common.{◌≡◌, ℕ, List, [], ◌∷◌, ◌++◌, ap, sym, ◌∙◌, append_assoc, codes, refl}
 use Rattle.std.specs.Fmt.{decimal}
-use Rattle.asm_journal.specs.declared.fault.JournalError.{JournalError}
+use Rattle.asm_journal.specs.declared.error.JournalError.{JournalError}
 use Rattle.asm_driver.specs.Refusal.{line_bytes, journal_line}
 use Rattle.asm_driver.proofs.program.refusal.journal_line.Goals as goal
 use Rattle.asm_driver.proofs.program.refusal.journal_line.Goals.{in-NotJson+in_ok-format-in-NotJson}

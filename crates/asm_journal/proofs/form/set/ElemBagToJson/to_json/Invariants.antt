@@ -1,8 +1,6 @@
-use Rattle.std.proofs.Common.{◌≡◌, ◌++◌, map}
-use Rattle.serde_json.specs.View.{view}
 use Rattle.asm_journal.specs.Set.{count_json_of}
+use Rattle.asm_journal.proofs.Arrays.{AreWritten}
 use Rattle.asm_journal.proofs.form.set.ElemBagToJson.to_json.Given as goal
 
--- what is in the list, and what is left, is the bag's
 abbrev pub invariant-loop-element : goal.invariant-loop-element
-invariant-loop-element l = map view l.list.items ++ map count_json_of l.element-iterator ≡ map count_json_of l.initial.element-iterator
+invariant-loop-element l = AreWritten count_json_of l.list.items l.element-iterator l.initial.element-iterator

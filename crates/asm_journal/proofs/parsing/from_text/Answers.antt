@@ -1,6 +1,6 @@
 use Rattle.asm_journal.proofs.Refused.{answered}
 use Rattle.asm_journal.proofs.Fitting.{fitting}
-use Rattle.asm_journal.proofs.reading.from_text.Goals as goal
+use Rattle.asm_journal.proofs.parsing.from_text.Goals as goal
 
 pub returns-clause-only : goal.returns-clause-only
 returns-clause-only c = λ h reads.

@@ -4,7 +4,7 @@ use Rattle.asm_journal.specs.Value.{IsStateForm}
 use Rattle.asm_journal.proofs.Parsed.{IsParsed-some, IsParsed-none, true_and_false}
 use Rattle.asm_journal.proofs.Arrays.{same_number}
 use Rattle.asm_journal.proofs.OneHistory.{header_parts}
-use Rattle.asm_journal.proofs.reading.header_from.Goals as goal
+use Rattle.asm_journal.proofs.parsing.header_from.Goals as goal
 
 pub returns-in_default : goal.returns-in_default
 returns-in_default c = λ x h. c.in_default.ensures.none h.0 h.1 h.2 h.3 h.4 h.5

@@ -3,7 +3,7 @@ use Rattle.std.proofs.lemmas.List.{length_push}
 use Rattle.std.proofs.lemmas.Result.{err_from_is_err_and}
 use Rattle.asm_journal.specs.Fault.{BreaksEvent}
 use Rattle.asm_journal.proofs.Lines.{HasEvents-push}
-use Rattle.asm_journal.proofs.reading.read_events.Goals as goal
+use Rattle.asm_journal.proofs.parsing.read_events.Goals as goal
 
 pub returns-in_err-event-clause-err : goal.returns-in_err-event-clause-err
 returns-in_err-event-clause-err c =

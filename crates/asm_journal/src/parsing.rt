@@ -1,22 +1,26 @@
-//! Reading a journal.
-ghost use Rattle.std.specs.Prelude.{◌≡◌, ◌<◌, ◌+◌, ◌↔◌, ℕ, List, length, IsTrue, IfOk, IfErr, IfSome, IfNone};
+//! How a text is parsed as a journal.
+ghost use Rattle.std.specs.Prelude.{◌≡◌, ◌≤◌, ◌<◌, ◌+◌, ◌↔◌, ℕ, List, length, IsTrue, IfOk, IfErr, IfSome, IfNone};
 ghost use Rattle.serde_json.specs.Data.{Data};
 ghost use Rattle.serde_json.specs.View.{view};
+ghost use Rattle.asm_row.specs.Limits.{capacity_limit};
 ghost use Rattle.asm_storage.specs.History.{Fits};
+ghost use Rattle.asm_storage.specs.Limits.{agents_limit};
 ghost use Rattle.asm_storage.specs.Proper.{IsProper};
 ghost use Rattle.asm_storage.specs.declared.history.Event.{Event as Item};
 ghost use Rattle.asm_storage.specs.declared.history.History.{History as Log};
 ghost use Rattle.asm_journal.specs.Shape.{IsParsed};
+ghost use Rattle.asm_journal.specs.Version.{IsVersion};
 ghost use Rattle.asm_journal.specs.Event.{IsEventBelow};
 ghost use Rattle.asm_journal.specs.Reading.{AreNumbers, HasLine, IsHeader, HasEvents, ReadsAs};
 ghost use Rattle.asm_journal.specs.Fault.{HasOtherVersion, BreaksHeader, BreaksEvent, IsRefused, GivesHistory};
 
-use crate::fault::JournalError;
+use crate::error::JournalError;
 use crate::form::{FromJson, five_members, read_number};
 use crate::line::json_line;
 use crate::version::{is_of_version, is_version};
 use asm_element::Items;
-use asm_storage::{Event, History};
+use asm_row::CAPACITY_LIMIT;
+use asm_storage::{AGENTS_LIMIT, Event, History};
 use asm_update::PlainState;
 use serde_json::Value as Json;
 use std::alloc::{AllocError, Global};
@@ -49,6 +53,14 @@ struct Limits {
     version: u32,
 }
 
+/// Whether a journal of this version is read, and may have so many agents and this capacity.
+fn are_taken(version: u32, agents: u32, capacity: u32) -> bool
+    ensures { IsTrue result ↔ (IsVersion version
+        × (agents ≤ agents_limit) × (1 ≤ capacity) × (capacity ≤ capacity_limit)) }
+{
+    is_version(version) && agents <= AGENTS_LIMIT && 1 <= capacity && capacity <= CAPACITY_LIMIT
+}
+
 /// Reads the numbers of a header, unless one is outside its limits or no journal of the version is read.
 fn limits_of(agents: &Json, capacity: &Json, events: &Json, version: &Json) -> Option<Limits>
     ensures some { IfSome result (λ l. AreNumbers l.version l.agents l.capacity l.events
@@ -60,16 +72,15 @@ fn limits_of(agents: &Json, capacity: &Json, events: &Json, version: &Json) -> O
     let capacity = read_number(capacity)?;
     let events = read_number(events)?;
     let version = read_number(version)?;
-    if is_version(version) && agents <= 256 && 1 <= capacity && capacity <= 1_048_576 {
-        Some(Limits {
-            agents,
-            capacity,
-            events,
-            version,
-        })
-    } else {
-        None
+    if !are_taken(version, agents, capacity) {
+        return None;
     }
+    Some(Limits {
+        agents,
+        capacity,
+        events,
+        version,
+    })
 }
 
 /// Reads a header from the value of its line.

@@ -1,7 +1,7 @@
 use Rattle.std.proofs.Common.{rules, ◌≢◌, ◌+◌, [], ap, inl, inr}
 use Rattle.std.proofs.lemmas.Result.{err_from_is_err_and}
-use Rattle.asm_journal.specs.declared.fault.JournalError.TheVariants.{Shape}
-use Rattle.asm_journal.proofs.reading.read_journal.Goals as goal
+use Rattle.asm_journal.specs.declared.error.JournalError.TheVariants.{Shape}
+use Rattle.asm_journal.proofs.parsing.read_journal.Goals as goal
 
 pub returns-in_err-events-clause-err : goal.returns-in_err-events-clause-err
 returns-in_err-events-clause-err c =

@@ -1,7 +1,7 @@
 //! Why a journal isn't read or isn't written.
 ghost use Rattle.std.specs.Prelude.{◌≡◌};
-ghost use Rattle.asm_journal.specs.declared.fault.JournalError.TheVariants as journal_error;
-ghost use Rattle.asm_journal.specs.declared.fault.WriteError.TheVariants as write_error;
+ghost use Rattle.asm_journal.specs.declared.error.JournalError.TheVariants as journal_error;
+ghost use Rattle.asm_journal.specs.declared.error.WriteError.TheVariants as write_error;
 
 use std::alloc::{AllocError, AllocFailed};
 use thiserror::Error;
