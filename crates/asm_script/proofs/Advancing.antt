@@ -1,17 +1,19 @@
 -- How a step's move comes about, block by block.
-use Rattle.std.proofs.Common.{◌≡◌, ℕ, ◌+◌, ◌<◌, ⊎_elim, length, drop, get_or, List, [], ◌∷◌, ◌++◌, Contains, cond, Option, Some}
+use Rattle.std.proofs.Common.{◌≡◌, ℕ, ◌+◌, ◌<◌, ◌≤◌, ⊎_elim, length, drop, get_or, List, [], ◌∷◌, ◌++◌, Contains, cond, Option, Some}
 use Rattle.std.proofs.Common.{None, Result, Ok, Err, IsErr, unwrap_or, refl, sym, ap, ◌∙◌, subst, arith}
 use Rattle.std.proofs.Common.{length-append}
 use Rattle.std.proofs.lemmas.Bool.{false≢true, lt-ltb, le-ltb}
-use Rattle.std.proofs.lemmas.List.{drop_more}
+use Rattle.std.proofs.lemmas.List.{drop_all, drop_more}
 use Rattle.std.proofs.lemmas.List.Elements.{Contains-append_left, Contains-append_right, Contains-append_cases}
 use Rattle.asm_element.specs.Place.{Place}
 use Rattle.asm_update.specs.Aggregator.{Meaning, NoJoin, Refused, TooLarge}
 use Rattle.asm_update.specs.Fire.{Part, Old, fire}
+use Rattle.asm_update.specs.Limits.{instructions_limit}
 use Rattle.asm_update.specs.Move.{Move}
 use Rattle.asm_update.specs.State.{State, val, overwrite}
 use Rattle.asm_update.specs.declared.clash.Clash.{Clash}
 use Rattle.asm_overlay.specs.Frames.{Frames, under, topmost, seen_through}
+use Rattle.asm_overlay.specs.Limits.{frames_limit}
 use Rattle.asm_overlay.proofs.FrameLemmas.{val-under}
 use Rattle.asm_step.specs.Answer.{composed_after, IsAnswer, IsAnswerOn, IsFollowedBy, IsLastOn}
 use Rattle.asm_step.specs.InTurn.{Agrees}
@@ -51,6 +53,18 @@ pub record AreSequenced (a : Meaning) (old : Old) (step : Step) (pushed : List L
     pub composed : (A : State) → IsReadOf A old step →
         step_move_on a A None step ≡ step_move_on a (under A (frames_of pushed)) (one_move pushed) (left ++ last ∷ [])
 
+-- the block at a place is the first of those that are left there; behind the last place none is left
+module _ (a : Meaning) (old : Old) (step : Step) (pushed : List Layer) (blocks : List Block) (last : Block) (i : ℕ) where
+  pub next_left : (b : Block) → i < length blocks → b ≡ get_or blocks i b →
+      AreSequenced a old step pushed (drop i blocks) last →
+      AreSequenced a old step pushed (b ∷ drop (i + 1) blocks) last
+  next_left b below is = subst (λ (left : List Block). AreSequenced a old step pushed left last)
+      (drop_more blocks i b below ∙ ap (λ y. y ∷ drop (i + 1) blocks) (sym is))
+
+  pub all_pushed : length blocks ≤ i → AreSequenced a old step pushed (drop i blocks) last →
+      AreSequenced a old step pushed [] last
+  all_pushed all = subst (λ (left : List Block). AreSequenced a old step pushed left last) (drop_all i blocks all)
+
 pub at_start : (a : Meaning) (old : Old) (left : List Block) (last : Block) →
     AreSequenced a old (left ++ last ∷ []) [] left last
 at_start a old left last = record {
@@ -72,7 +86,7 @@ named_first b (c ∷ left) last = refl
 -- what the pushed blocks and the next move compose to, and why they don't
 composed_is : (a : Meaning) (done : Option Move) (M C : Move) → IsFollowedBy a done M (Ok C) → composed_on a done M ≡ Ok C
 composed_is a None M C (is, few) = let same : M ≡ C = cc is in ap Ok same
-composed_is a (Some D) M C (is, few) = ap fitting is ∙ ap (λ b. cond b (Err Many) (Ok C)) (le-ltb 4096 (length C) few)
+composed_is a (Some D) M C (is, few) = ap fitting is ∙ ap (λ b. cond b (Err Many) (Ok C)) (le-ltb instructions_limit (length C) few)
 
 refused_is : (a : Meaning) (done : Option Move) (M : Move) (l : Place) (refusal : NoJoin) →
     composed_after a done M ≡ Err (l, refusal) → composed_on a done M ≡ Err (refused_at l refusal)
@@ -82,7 +96,7 @@ refused_is a (Some D) M l refusal is = ap fitting is
 too_many : (a : Meaning) (done : Option Move) (M : Move) → IsFollowedBy a done M (Err step_error.Many) →
     composed_on a done M ≡ Err Many
 too_many a None M none = absurd none
-too_many a (Some D) M (C, is, many) = ap fitting is ∙ ap (λ b. cond b (Err Many) (Ok C)) (lt-ltb 4096 (length C) many)
+too_many a (Some D) M (C, is, many) = ap fitting is ∙ ap (λ b. cond b (Err Many) (Ok C)) (lt-ltb instructions_limit (length C) many)
 
 -- the move of a step whose first block has this move, or none, and is followed by others
 first_move : (a : Meaning) (A : State) (done : Option Move) (b : Block) (left : List Block) (last : Block) (M : Move) →
@@ -196,7 +210,7 @@ module _ (a : Meaning) (old : Old) (step : Step) (pushed : List Layer) where
 
         -- what is answered where the block isn't taken
         pub push_fault : (e : StepError) → IsAnswer a old pushed pushed M (Err e) →
-            ((A : State) → IsReadOf A old step → IsAnswerOn part A pushed pushed M (Err e)) → length pushed < 64 →
+            ((A : State) → IsReadOf A old step → IsAnswerOn part A pushed pushed M (Err e)) → length pushed < frames_limit →
             IsStepMove a old step (Err (fault_of e))
         push_fault (step_error.Clash clash) answer on room = λ A read. (
           goes_on A read ∙ ap (on_fired onward) (on A read),
@@ -293,8 +307,3 @@ module _ (a : Meaning) (old : Old) (step : Step) (pushed : List Layer) where
       refused_answer step_error.Many composed on = λ A read. last_move A read (Some M) is ∙ too_many a done M composed
       refused_answer step_error.Deep composed on = absurd composed
       refused_answer step_error.Memory composed on = λ A read. tt
-
--- the block at a place is the first of those that are left there
-pub left_from : {X : Type 0} (xs : List X) (i : ℕ) (x : X) → i < length xs → x ≡ get_or xs i x →
-    drop i xs ≡ x ∷ drop (i + 1) xs
-left_from xs i x below is = drop_more xs i x below ∙ ap (λ y. y ∷ drop (i + 1) xs) (sym is)

@@ -15,6 +15,8 @@ use Rattle.std.specs.Set.{is_member}
 use Rattle.std.proofs.lemmas.Bool.{lt-ltb, le-ltb}
 use Rattle.std.proofs.lemmas.Grind.{flat_map-append}
 use Rattle.asm_element.specs.Place.{Place, location_cmp, location_cmp_total, same_location}
+use Rattle.asm_storage.specs.Limits.{agents_limit, reads_limit}
+use Rattle.asm_script.specs.Limits.{blocks_limit}
 use Rattle.asm_script.specs.StepReads.{named, AreReads}
 use Rattle.asm_script.specs.declared.block.Block.{Block}
 use Rattle.asm_script.specs.declared.step.Step.{Step}
@@ -39,40 +41,40 @@ by_answers none many long reads = when none Blocks ++ (when many Blocks ++ (when
 pub no_block : (s : Step) → length s ≡ 0 → IsFirst (step_faults s) (BadScript Blocks)
 no_block s none = (
   _,
-  ap (λ t. by_answers t (nat_lt 65 (length s)) (list_any is_long s) (nat_lt 256 (reads_count s)))
+  ap (λ t. by_answers t (nat_lt blocks_limit (length s)) (list_any is_long s) (nat_lt reads_limit (reads_count s)))
       (lt-ltb (length s) 1 (omega (arith, none))),
 )
 
-pub many_blocks : (s : Step) → 65 < length s → IsFirst (step_faults s) (BadScript Blocks)
+pub many_blocks : (s : Step) → blocks_limit < length s → IsFirst (step_faults s) (BadScript Blocks)
 many_blocks s many = (
   _,
-  ap₂ (λ t u. by_answers t u (list_any is_long s) (nat_lt 256 (reads_count s)))
-      (le-ltb (length s) 1 (omega (arith, many))) (lt-ltb 65 (length s) many),
+  ap₂ (λ t u. by_answers t u (list_any is_long s) (nat_lt reads_limit (reads_count s)))
+      (le-ltb (length s) 1 (omega (arith, many))) (lt-ltb blocks_limit (length s) many),
 )
 
 -- with 1 to 65 blocks
-module _ (s : Step) (some : 1 ≤ length s) (few : length s ≤ 65) where
+module _ (s : Step) (some : 1 ≤ length s) (few : length s ≤ blocks_limit) where
   pub long_block : (e : ScriptError) → IsLong (list_any is_long s) e → IsFirst (step_faults s) e
   long_block (BadScript cause) h = (
-    when (nat_lt 256 (reads_count s)) Reads,
-    ap₂ (λ t u. by_answers t u (list_any is_long s) (nat_lt 256 (reads_count s))) (le-ltb (length s) 1 some)
-        (le-ltb 65 (length s) few)
-        ∙ ap (λ t. by_answers false false t (nat_lt 256 (reads_count s))) h.1
-        ∙ ap (λ x. x ∷ when (nat_lt 256 (reads_count s)) Reads) (sym h.0),
+    when (nat_lt reads_limit (reads_count s)) Reads,
+    ap₂ (λ t u. by_answers t u (list_any is_long s) (nat_lt reads_limit (reads_count s))) (le-ltb (length s) 1 some)
+        (le-ltb blocks_limit (length s) few)
+        ∙ ap (λ t. by_answers false false t (nat_lt reads_limit (reads_count s))) h.1
+        ∙ ap (λ x. x ∷ when (nat_lt reads_limit (reads_count s)) Reads) (sym h.0),
   )
   long_block Memory h = tt
 
-  short_blocks : list_any is_long s ≡ false → step_faults s ≡ when (nat_lt 256 (reads_count s)) Reads
+  short_blocks : list_any is_long s ≡ false → step_faults s ≡ when (nat_lt reads_limit (reads_count s)) Reads
   short_blocks short =
-      ap₂ (λ t u. by_answers t u (list_any is_long s) (nat_lt 256 (reads_count s))) (le-ltb (length s) 1 some)
-      (le-ltb 65 (length s) few)
-      ∙ ap (λ t. by_answers false false t (nat_lt 256 (reads_count s))) short
+      ap₂ (λ t u. by_answers t u (list_any is_long s) (nat_lt reads_limit (reads_count s))) (le-ltb (length s) 1 some)
+      (le-ltb blocks_limit (length s) few)
+      ∙ ap (λ t. by_answers false false t (nat_lt reads_limit (reads_count s))) short
 
-  pub many_reads : list_any is_long s ≡ false → 256 < reads_count s → IsFirst (step_faults s) (BadScript Reads)
-  many_reads short many = ([], short_blocks short ∙ ap (λ t. when t Reads) (lt-ltb 256 (reads_count s) many))
+  pub many_reads : list_any is_long s ≡ false → reads_limit < reads_count s → IsFirst (step_faults s) (BadScript Reads)
+  many_reads short many = ([], short_blocks short ∙ ap (λ t. when t Reads) (lt-ltb reads_limit (reads_count s) many))
 
-  pub no_fault : list_any is_long s ≡ false → reads_count s ≤ 256 → step_faults s ≡ []
-  no_fault short few_reads = short_blocks short ∙ ap (λ t. when t Reads) (le-ltb 256 (reads_count s) few_reads)
+  pub no_fault : list_any is_long s ≡ false → reads_count s ≤ reads_limit → step_faults s ≡ []
+  no_fault short few_reads = short_blocks short ∙ ap (λ t. when t Reads) (le-ltb reads_limit (reads_count s) few_reads)
 
 -- a list that has what the step reads, each once, is as long as these are many
 pub count_of_reads : (step : Step) (ls : List Place) → AreReads step ls → length ls ≡ reads_count step
@@ -141,14 +143,14 @@ long_more done x rest all left Memory whole step so_far is = tt
 -- ---- agents
 
 -- with few agents the faults are those of their steps
-pub few_agents : (agents : List (List Step)) → length agents ≤ 256 → faults agents ≡ flat_map agent_faults agents
-few_agents agents few = ap (λ t. when t Agents ++ flat_map agent_faults agents) (le-ltb 256 (length agents) few)
+pub few_agents : (agents : List (List Step)) → length agents ≤ agents_limit → faults agents ≡ flat_map agent_faults agents
+few_agents agents few = ap (λ t. when t Agents ++ flat_map agent_faults agents) (le-ltb agents_limit (length agents) few)
 
 -- too many agents are the first fault
-pub many_agents : (agents : List (List Step)) → 256 < length agents → IsFirst (faults agents) (BadScript Agents)
+pub many_agents : (agents : List (List Step)) → agents_limit < length agents → IsFirst (faults agents) (BadScript Agents)
 many_agents agents many = (
   flat_map agent_faults agents,
-  ap (λ t. when t Agents ++ flat_map agent_faults agents) (lt-ltb 256 (length agents) many),
+  ap (λ t. when t Agents ++ flat_map agent_faults agents) (lt-ltb agents_limit (length agents) many),
 )
 
 pub beyond : (bytes : List ℕ) (w : UncheckedScript) → HasForm bytes w → (e : ScriptError) → IsFirst (faults w.agents) e →

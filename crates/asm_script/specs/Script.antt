@@ -8,6 +8,9 @@ use Rattle.asm_element.specs.Place.{location_cmp}
 use Rattle.asm_journal.specs.Reading.{IsJson}
 use Rattle.asm_journal.specs.Shape.{IsListForm, two_of}
 use Rattle.asm_journal.specs.Value.{IsStateForm}
+use Rattle.asm_storage.specs.Limits.{agents_limit, reads_limit}
+use Rattle.asm_update.specs.Limits.{instructions_limit}
+use Rattle.asm_script.specs.Limits.{blocks_limit}
 use Rattle.asm_script.specs.Plan.{Plan}
 use Rattle.asm_script.specs.StepReads.{named}
 use Rattle.asm_script.specs.TermForm.{IsInstructionForm}
@@ -45,7 +48,7 @@ when false cause = []
 
 -- whether a block has more than 4,096 instructions
 abbrev pub is_long : Block → Bool
-is_long block = nat_lt 4096 (length block)
+is_long block = nat_lt instructions_limit (length block)
 
 -- how many locations a step reads: those that it names, each counted once
 abbrev pub reads_count : Step → ℕ
@@ -55,8 +58,8 @@ reads_count step = distinct_count (eq_by_cmp location_cmp) (named step)
 -- step reads more than 256 locations
 abbrev pub step_faults : Step → List ScriptCause
 step_faults step =
-    when (nat_lt (length step) 1) Blocks ++ (when (nat_lt 65 (length step)) Blocks
-    ++ (when (list_any is_long step) Instructions ++ when (nat_lt 256 (reads_count step)) Reads))
+    when (nat_lt (length step) 1) Blocks ++ (when (nat_lt blocks_limit (length step)) Blocks
+    ++ (when (list_any is_long step) Instructions ++ when (nat_lt reads_limit (reads_count step)) Reads))
 
 -- the faults of an agent's steps, step by step
 abbrev pub agent_faults : List Step → List ScriptCause
@@ -64,7 +67,7 @@ agent_faults steps = flat_map step_faults steps
 
 -- more than 256 agents, and then the faults of the steps, agent by agent
 abbrev pub faults : List (List Step) → List ScriptCause
-faults agents = when (nat_lt 256 (length agents)) Agents ++ flat_map agent_faults agents
+faults agents = when (nat_lt agents_limit (length agents)) Agents ++ flat_map agent_faults agents
 
 -- the error is the first of these faults; an allocation failure tells nothing
 abbrev pub IsFirst : List ScriptCause → ScriptError → Type 0

@@ -4,6 +4,7 @@ use Rattle.std.specs.Prelude.{Result, Ok, Err, unwrap_or, Contains}
 use Rattle.asm_element.specs.Place.{Place}
 use Rattle.asm_update.specs.Aggregator.{Meaning, NoJoin, Refused, TooLarge}
 use Rattle.asm_update.specs.Fire.{Part, Old, fire}
+use Rattle.asm_update.specs.Limits.{instructions_limit}
 use Rattle.asm_update.specs.Move.{Move}
 use Rattle.asm_update.specs.State.{State, IsProper, val}
 use Rattle.asm_aggregate.specs.Compose.{composition}
@@ -62,7 +63,7 @@ refused_at l TooLarge = Large l
 
 -- what was composed, if it has at most 4,096 instructions, or the fault
 abbrev pub fitting : Result Move (Place × NoJoin) → Result Move StepFault
-fitting (Ok C) = if nat_lt 4096 (length C) then Err Many else Ok C
+fitting (Ok C) = if nat_lt instructions_limit (length C) then Err Many else Ok C
 fitting (Err (l, refusal)) = Err (refused_at l refusal)
 
 -- what the earlier moves, if there are any, and then the next one compose to, or the fault

@@ -1,6 +1,7 @@
 //! Blocks: instructions with terms.
 ghost use Rattle.std.specs.Prelude.{◌≡◌, ◌↔◌, ◌<◌, ◌≤◌, length, vec_len, IfOk, IfSome, IsNone};
 ghost use Rattle.std.specs.List.{list_all};
+ghost use Rattle.asm_update.specs.Limits.{instructions_limit};
 ghost use Rattle.asm_script.specs.Terms.{term_value, given_element, IsEvaluated};
 ghost use Rattle.asm_script.specs.Ready.{is_ready, written_form, is_ready_form};
 ghost use Rattle.asm_script.specs.Blocks.{action_in, instruction_in, move_in, IsReady};
@@ -62,6 +63,7 @@ impl Model for Block {
     ghost use Rattle.asm_script.specs.declared.block.TermInstruction.{TermInstruction};
     ghost use Rattle.asm_script.specs.contracts.block.TermInstruction.{the_row as instruction_row};
     ghost use Rattle.asm_script.specs.Ready.{written_form};
+    ghost use Rattle.asm_update.specs.Limits.{instructions_limit};
 
     ghost Value = { List TermInstruction };
 
@@ -69,12 +71,12 @@ impl Model for Block {
 
     ghost view = { λ b. written_form b.form };
 
-    ghost invariant = { λ b. length (written_form b.form) ≤ 4096 };
+    ghost invariant = { λ b. length (written_form b.form) ≤ instructions_limit };
 }
 
 /// The form in which these instructions are kept: ready where all their terms are written out.
 fn form_of(alloc: Global, instructions: Vec<TermInstruction>) -> Result<Form, AllocError>
-    requires { vec_len instructions ≤ 4096 }
+    requires { vec_len instructions ≤ instructions_limit }
     ensures written { IfOk result (λ form. written_form form ≡ instructions.items) }
     ensures ready { IfOk result
         (λ form. is_ready_form form ≡ list_all is_ready instructions.items) }
@@ -94,7 +96,7 @@ impl Block {
     /// The block of these instructions; None where there are more than 4,096. It takes no memory.
     pub fn new(instructions: Vec<TermInstruction>) -> Option<Block>
         ensures block { IfSome result (λ b. b ≡ instructions.items) }
-        ensures many { IsNone result ↔ (4096 < vec_len instructions) }
+        ensures many { IsNone result ↔ (instructions_limit < vec_len instructions) }
     {
         if instructions.len() > INSTRUCTIONS_LIMIT {
             return None;
@@ -120,7 +122,7 @@ impl Block {
     pub(crate) fn form(&self) -> &Form
         ensures form { written_form result.now ≡ self.now }
         ensures ready { IsReady result.now self.now }
-        ensures few { length self.now ≤ 4096 }
+        ensures few { length self.now ≤ instructions_limit }
     {
         &self.form
     }
@@ -171,7 +173,7 @@ fn evaluated<L: Lookup>(
     instructions: &[TermInstruction],
     lookup: &L,
 ) -> Result<Instructions, TermFault>
-    requires { length instructions.now ≤ 4096 }
+    requires { length instructions.now ≤ instructions_limit }
     ensures { IsEvaluated (move_in (L.value_at lookup.now) instructions.now) result }
 {
     let mut done = Vec::with_capacity(alloc, instructions.len())?;

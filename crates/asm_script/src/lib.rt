@@ -11,5 +11,5 @@ mod term;
 mod term_form;
 
 pub use parsing::parse_script;
-pub use script::{READS_LIMIT, Script, ScriptCause, ScriptError};
+pub use script::{Script, ScriptCause, ScriptError};
 pub use step::{Step, StepFault, step_move};

@@ -9,10 +9,11 @@ ghost use Rattle.asm_script.specs.Script.{IsNotJson, IsScriptForm, is_long, IsLo
 ghost use Rattle.asm_script.specs.Script.{faults, IsFirst, IsPlanOf, IsScriptOf, IsRefusedScript};
 
 use crate::block::{Block, TermInstruction};
-use crate::script::{AGENTS_LIMIT, BLOCKS_LIMIT, READS_LIMIT, Script, ScriptCause, ScriptError};
+use crate::script::{BLOCKS_LIMIT, Script, ScriptCause, ScriptError};
 use crate::step::Step;
 use asm_element::Items;
 use asm_journal::{FromJson, Listed, two_members};
+use asm_storage::{AGENTS_LIMIT, READS_LIMIT};
 use asm_update::PlainState;
 use serde_json::Value as Json;
 use std::alloc::{AllocError, Global};
@@ -135,7 +136,7 @@ fn script_of(alloc: Global, written: UncheckedScript) -> Result<Script, ScriptEr
 {
     let UncheckedScript { init, agents } = written;
     let agents = agents.into_vec();
-    if agents.len() > AGENTS_LIMIT {
+    if agents.len() > AGENTS_LIMIT as usize {
         return Err(ScriptError::BadScript(ScriptCause::Agents));
     }
     let mut done = Vec::new(alloc);

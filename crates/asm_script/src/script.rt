@@ -1,24 +1,21 @@
 //! Scripts, which say what the agents of a machine do, and why a text is not a script.
 ghost use Rattle.std.specs.Prelude.{◌≡◌, ◌↔◌, ◌<◌, ◌≤◌, length, IfOk, IfSome, IsNone};
 ghost use Rattle.std.specs.Arc.{arc_value};
+ghost use Rattle.asm_storage.specs.Limits.{agents_limit};
 ghost use Rattle.asm_script.specs.declared.script.ScriptError.TheVariants as script_error;
 
 use crate::step::Step;
 use asm_element::Items;
+use asm_overlay::FRAMES_LIMIT;
+use asm_storage::AGENTS_LIMIT;
 use asm_update::PlainState;
 use std::alloc::{AllocError, AllocFailed};
 use std::marker::Model;
 use std::sync::Arc;
 use thiserror::Error;
 
-/// The most agents of a script.
-pub const AGENTS_LIMIT: usize = 256;
-
-/// The most blocks of a step.
-pub const BLOCKS_LIMIT: usize = 65;
-
-/// The most locations that a step reads.
-pub const READS_LIMIT: usize = 256;
+/// The most blocks of a step: all but the last are pushed.
+pub const BLOCKS_LIMIT: usize = FRAMES_LIMIT + 1;
 
 /// Why a text is not a script: the first of these causes, in this order. The last three are looked for agent by
 /// agent and step by step.
@@ -80,6 +77,7 @@ impl Model for Script {
     ghost use Rattle.asm_update.specs.contracts.plain_state.PlainState.{the_row as state_row};
     ghost use Rattle.asm_script.specs.contracts.block.TermInstruction.{the_row as instruction_row};
     ghost use Rattle.asm_script.specs.Plan.{Plan, plan_code};
+    ghost use Rattle.asm_storage.specs.Limits.{agents_limit};
 
     ghost Value = { Plan };
 
@@ -87,16 +85,16 @@ impl Model for Script {
 
     ghost view = { λ s. record { init = arc_value s.init; agents = s.agents } };
 
-    ghost invariant = { λ s. length s.agents ≤ 256 };
+    ghost invariant = { λ s. length s.agents ≤ agents_limit };
 }
 
 impl Script {
     /// The script with this opening state and these agents' steps; `None` where there are more than 256 agents.
     pub(crate) fn of(init: Arc<PlainState>, agents: Items<Items<Step>>) -> Option<Script>
         ensures script { IfSome result (λ s. s ≡ record { init = arc_value init; agents = agents }) }
-        ensures many { IsNone result ↔ (256 < length agents) }
+        ensures many { IsNone result ↔ (agents_limit < length agents) }
     {
-        if agents.as_slice().len() > AGENTS_LIMIT {
+        if agents.as_slice().len() > AGENTS_LIMIT as usize {
             return None;
         }
         Some(Script { init, agents })
@@ -121,7 +119,7 @@ impl Script {
     /// The steps of each agent, which stand at the agent's number.
     pub fn agents(&self) -> &[Items<Step>]
         ensures agents { result.now ≡ self.now.agents }
-        ensures few { length self.now.agents ≤ 256 }
+        ensures few { length self.now.agents ≤ agents_limit }
     {
         self.agents.as_slice()
     }

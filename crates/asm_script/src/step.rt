@@ -3,6 +3,7 @@ ghost use Rattle.std.specs.Prelude.{◌≡◌, ◌↔◌, ◌⊎◌, ◌<◌, �
 ghost use Rattle.std.specs.Prelude.{OnOk, IfOk};
 ghost use Rattle.asm_script.specs.Terms.{locations_in};
 ghost use Rattle.asm_overlay.specs.Frames.{seen_through};
+ghost use Rattle.asm_script.specs.Limits.{blocks_limit};
 ghost use Rattle.asm_script.specs.Ready.{as_written, written};
 ghost use Rattle.asm_script.specs.Blocks.{move_in};
 ghost use Rattle.asm_script.specs.Sequencing as sequencing;
@@ -54,6 +55,7 @@ pub struct Step {
 impl Model for Step {
     ghost use Rattle.std.specs.Prelude.{List, length, ◌≤◌, ◌++◌, ◌∷◌, []};
     ghost use Rattle.std.specs.Coded.{coded_list};
+    ghost use Rattle.asm_overlay.specs.Limits.{frames_limit};
     ghost use Rattle.asm_script.specs.StepReads.{AreReads};
     ghost use Rattle.asm_script.specs.declared.block.Block.{Block};
     ghost use Rattle.asm_script.specs.contracts.block.TermInstruction.{the_row as instruction_row};
@@ -64,7 +66,7 @@ impl Model for Step {
 
     ghost view = { λ s. s.earlier.items ++ s.last ∷ [] };
 
-    ghost invariant = { λ s. (length s.earlier.items ≤ 64)
+    ghost invariant = { λ s. (length s.earlier.items ≤ frames_limit)
         × AreReads (s.earlier.items ++ s.last ∷ []) s.reads.items };
 }
 
@@ -74,7 +76,7 @@ impl Step {
     pub(crate) fn new(alloc: Global, blocks: Vec<Block>) -> Result<Option<Step>, AllocError>
         ensures step { IfOk result (λ made. IfSome made (λ s. s ≡ blocks.items)) }
         ensures none { IfOk result
-            (λ made. IsNone made ↔ ((blocks.items ≡ []) ⊎ (65 < vec_len blocks))) }
+            (λ made. IsNone made ↔ ((blocks.items ≡ []) ⊎ (blocks_limit < vec_len blocks))) }
     {
         if blocks.len() > BLOCKS_LIMIT {
             return Ok(None);
@@ -102,22 +104,22 @@ impl Step {
 }
 
 /// Appends the locations whose values the term takes.
-fn take_term(alloc: Global, term: &Term, places: &mut Vec<Location>) -> Result<(), AllocError>
+fn push_term(alloc: Global, term: &Term, places: &mut Vec<Location>) -> Result<(), AllocError>
     ensures { OnOk result (places.new.items ≡ places.old.items ++ locations_in term.now) }
 {
     match term {
         Term::Value(_) => {}
         Term::Val(at) => places.push(at.copy(alloc)?)?,
         Term::Sum(first, second) => {
-            take_term(alloc, first, places)?;
-            take_term(alloc, second, places)?;
+            push_term(alloc, first, places)?;
+            push_term(alloc, second, places)?;
         }
     }
     Ok(())
 }
 
 /// Appends the locations whose values the action's term takes, if it has a term.
-fn take_places(
+fn push_places(
     alloc: Global,
     action: &TermAction,
     places: &mut Vec<Location>,
@@ -129,13 +131,13 @@ fn take_places(
         | TermAction::Add(term)
         | TermAction::Remove(term)
         | TermAction::BagAdd(term, _)
-        | TermAction::BagRemove(term, _) => take_term(alloc, term, places),
+        | TermAction::BagRemove(term, _) => push_term(alloc, term, places),
         TermAction::Increment(_) => Ok(()),
     }
 }
 
 /// Appends the locations whose values the instructions' terms take.
-fn take_each(
+fn push_each(
     alloc: Global,
     instructions: &[TermInstruction],
     places: &mut Vec<Location>,
@@ -143,23 +145,23 @@ fn take_each(
     ensures { OnOk result (places.new.items ≡ places.old.items ++ taken instructions.now) }
 {
     for instruction in instructions {
-        take_places(alloc, &instruction.action, places)?;
+        push_places(alloc, &instruction.action, places)?;
     }
     Ok(())
 }
 
 /// Appends the locations whose values the block's terms take; a ready block takes none.
-fn take_terms(alloc: Global, block: &Block, places: &mut Vec<Location>) -> Result<(), AllocError>
+fn push_terms(alloc: Global, block: &Block, places: &mut Vec<Location>) -> Result<(), AllocError>
     ensures { OnOk result (places.new.items ≡ places.old.items ++ taken block.now) }
 {
     match block.form() {
-        Form::Terms(instructions) => take_each(alloc, instructions.as_slice(), places),
+        Form::Terms(instructions) => push_each(alloc, instructions.as_slice(), places),
         Form::Ready(_) => Ok(()),
     }
 }
 
 /// Appends the location, if the action there is a partial update.
-fn take_target(
+fn push_target(
     alloc: Global,
     at: &Location,
     action: &TermAction,
@@ -175,7 +177,7 @@ fn take_target(
 }
 
 /// Appends the locations of the partial updates that have a term or an increment.
-fn take_each_target(
+fn push_each_target(
     alloc: Global,
     instructions: &[TermInstruction],
     places: &mut Vec<Location>,
@@ -183,13 +185,13 @@ fn take_each_target(
     ensures { OnOk result (places.new.items ≡ places.old.items ++ changed instructions.now) }
 {
     for instruction in instructions {
-        take_target(alloc, &instruction.at, &instruction.action, places)?;
+        push_target(alloc, &instruction.at, &instruction.action, places)?;
     }
     Ok(())
 }
 
 /// Appends the location, if the action there is a partial update that is ready.
-fn take_ready_target(
+fn push_ready_target(
     alloc: Global,
     at: &Location,
     action: &Action,
@@ -206,7 +208,7 @@ fn take_ready_target(
 }
 
 /// Appends the locations of the partial updates that are ready.
-fn take_ready_targets(
+fn push_ready_targets(
     alloc: Global,
     instructions: &[Instruction],
     places: &mut Vec<Location>,
@@ -215,18 +217,18 @@ fn take_ready_targets(
         (places.new.items ≡ places.old.items ++ changed (map written instructions.now)) }
 {
     for instruction in instructions {
-        take_ready_target(alloc, &instruction.at, &instruction.action, places)?;
+        push_ready_target(alloc, &instruction.at, &instruction.action, places)?;
     }
     Ok(())
 }
 
 /// Appends the locations of the block's partial updates.
-fn take_targets(alloc: Global, block: &Block, places: &mut Vec<Location>) -> Result<(), AllocError>
+fn push_targets(alloc: Global, block: &Block, places: &mut Vec<Location>) -> Result<(), AllocError>
     ensures { OnOk result (places.new.items ≡ places.old.items ++ changed block.now) }
 {
     match block.form() {
-        Form::Terms(instructions) => take_each_target(alloc, instructions.as_slice(), places),
-        Form::Ready(instructions) => take_ready_targets(alloc, instructions.as_slice(), places),
+        Form::Terms(instructions) => push_each_target(alloc, instructions.as_slice(), places),
+        Form::Ready(instructions) => push_ready_targets(alloc, instructions.as_slice(), places),
     }
 }
 
@@ -240,10 +242,10 @@ fn gathered_reads(
 {
     let mut places = Vec::new(alloc);
     for block in earlier {
-        take_terms(alloc, block, &mut places)?;
-        take_targets(alloc, block, &mut places)?;
+        push_terms(alloc, block, &mut places)?;
+        push_targets(alloc, block, &mut places)?;
     }
-    take_terms(alloc, last, &mut places)?;
+    push_terms(alloc, last, &mut places)?;
     places.sort_unstable();
     places.dedup();
     Ok(places)

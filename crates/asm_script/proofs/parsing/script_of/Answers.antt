@@ -7,8 +7,8 @@ use Rattle.asm_script.specs.Script.{agent_faults, IsFirst}
 use Rattle.asm_script.proofs.Faults.{one_done, none_left, none_more, first_more, few_agents, many_agents}
 use Rattle.asm_script.proofs.parsing.script_of.Goals as goal
 
-pub returns-then-len-gt-AGENTS_LIMIT-clause-err : goal.returns-then-len-gt-AGENTS_LIMIT-clause-err
-returns-then-len-gt-AGENTS_LIMIT-clause-err c =
+pub returns-then-len-clause-err : goal.returns-then-len-clause-err
+returns-then-len-clause-err c =
     let many : 256 < length c.args.written.agents = omega (arith, ap length c.into_vec-agents.ensures) in
     many_agents c.args.written.agents many
 

@@ -10,8 +10,8 @@ returns c =
     let blocks = c.args.earlier.now in
     let last = c.args.last.now in
     let earlier = ap gathered (take_all c.loop-block.block-index blocks c.loop-block-test.false) in
-    let all = c.in_ok-take_terms-2.ensures
+    let all = c.in_ok-push_terms-2.ensures
     ∙ ap (λ (ls : List Place). ls ++ taken last) (c.loop-block.invariant ∙ earlier) in
-    reads_from (blocks ++ last ∷ []) c.take_terms-2.new.places.items c.sort_unstable.new.self.items
+    reads_from (blocks ++ last ∷ []) c.push_terms-2.new.places.items c.sort_unstable.new.self.items
     c.dedup.new.self.items (all ∙ sym (named-gathered blocks last)) c.sort_unstable.ensures.permutation
     c.sort_unstable.ensures.sorted c.dedup.ensures.filtered

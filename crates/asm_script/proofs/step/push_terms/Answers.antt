@@ -2,7 +2,7 @@ use Rattle.std.proofs.Common.{◌≡◌, ◌++◌, [], append-nil, ap, sym, ◌�
 use Rattle.asm_script.specs.Ready.{written_form}
 use Rattle.asm_script.specs.StepReads.{taken}
 use Rattle.asm_script.proofs.ReadyInstructions.{none_taken}
-use Rattle.asm_script.proofs.step.take_terms.Goals as goal
+use Rattle.asm_script.proofs.step.push_terms.Goals as goal
 
 pub returns-in-Ready : goal.returns-in-Ready
 returns-in-Ready c =

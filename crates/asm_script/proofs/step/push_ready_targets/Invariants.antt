@@ -1,8 +1,9 @@
-use Rattle.std.proofs.Common.{◌≡◌, ◌++◌, take}
+use Rattle.std.proofs.Common.{◌≡◌, ◌++◌, map, take}
+use Rattle.asm_script.specs.Ready.{written}
 use Rattle.asm_script.specs.StepReads.{changed}
-use Rattle.asm_script.proofs.step.take_each_target.Given as goal
+use Rattle.asm_script.proofs.step.push_ready_targets.Given as goal
 
 -- what the instructions so far have was appended
 abbrev pub invariant-loop-instruction : goal.invariant-loop-instruction
 invariant-loop-instruction l = l.places.items ≡ l.initial.places.items ++ changed
-    (take l.instruction-index l.instructions)
+    (map written (take l.instruction-index l.instructions))

@@ -1,6 +1,6 @@
 use Rattle.std.proofs.Common.{◌≡◌, ◌++◌, take}
 use Rattle.asm_script.specs.StepReads.{taken}
-use Rattle.asm_script.proofs.step.take_each.Given as goal
+use Rattle.asm_script.proofs.step.push_each.Given as goal
 
 -- what the instructions so far have was appended
 abbrev pub invariant-loop-instruction : goal.invariant-loop-instruction
