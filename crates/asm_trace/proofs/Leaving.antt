@@ -17,8 +17,9 @@ use Rattle.asm_update.specs.Fire.{Part, aggregated, overwritten, fire, state_or,
 use Rattle.asm_update.specs.Move.{Move}
 use Rattle.asm_update.specs.State.{State, Updates, val, write, overwrite}
 use Rattle.asm_update.specs.declared.clash.Clash.{Clash}
-use Rattle.asm_update.proofs.FireLemmas.{stored, get-write, val-overwrite}
+use Rattle.asm_update.proofs.FireLemmas.{val-overwrite}
 use Rattle.asm_aggregate.proofs.Sequence.{proper_value}
+use Rattle.asm_state.proofs.Wanted.{val-write}
 use Rattle.asm_state.proofs.Writers.{state_of-push}
 use Rattle.asm_storage.specs.History.{move_of, fired_move, fired_moves}
 use Rattle.asm_storage.specs.Proper.{IsProperEvent, IsProperCall}
@@ -43,11 +44,6 @@ use Rattle.asm_trace.proofs.Properness.{IsHeld, move_held}
 abbrev AreFit : State → State → List (Place × Value) → Type 0
 AreFit A B es = (q : Place) (v : Value) → finite.find location_cmp q es ≡ Some v → (val B q ≡ val A q) × value.IsProper v
 
-val-write : (A : State) (l : Place) (v : Value) (q : Place) → eq_by_cmp location_cmp q l ≡ false → val (write A l v) q ≡ val A q
-val-write A l v q other =
-    ap (λ o. unwrap_or o value.undef)
-    (get-write A l v q ∙ ap (λ b. cond b (stored v) (finite.get A q)) other)
-
 fit_rest : (A B : State) (e : Place × Value) (es : List (Place × Value)) → T (finite.is_sorted location_cmp (e ∷ es)) →
     AreFit A B (e ∷ es) → AreFit A (write B e.0 e.1) es
 fit_rest A B e es sorted fit q v is = by_test (eq_by_cmp location_cmp q e.0) refl where
@@ -58,7 +54,7 @@ fit_rest A B e es sorted fit q v is = by_test (eq_by_cmp location_cmp q e.0) ref
       absurd (let bad : ◌≡◌ {A = Option Value} None (Some v) = sym none ∙ is in cc)
   by_test false other =
       let had = fit q v (ap (λ b. cond b (Some e.1) (finite.find location_cmp q es)) other ∙ is) in
-      (val-write B e.0 e.1 q other ∙ had.0, had.1)
+      (val-write B e.0 e.1 q ∙ ap (λ b. cond b e.1 (val B q)) other ∙ had.0, had.1)
 
 abbrev told_of : State → List (Place × Value) → List (Place × Change)
 told_of A es = map (λ p. (p.0, change_of (val A p.0) p.1)) es

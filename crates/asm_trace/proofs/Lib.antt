@@ -1,7 +1,6 @@
 pub mod Differing
 pub mod Floats
 pub mod Noted
-pub mod Replied
 pub mod Once
 pub mod Making
 pub mod Properness

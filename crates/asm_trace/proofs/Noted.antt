@@ -12,6 +12,7 @@ use Rattle.asm_state.specs.Stands.{Stands}
 use Rattle.asm_state.proofs.Judged.{same_old}
 use Rattle.asm_storage.specs.Machine.{Machine, machine_state}
 use Rattle.asm_storage.specs.History.{move_of, fired_moves}
+use Rattle.asm_storage.specs.Limits.{events_limit}
 use Rattle.asm_storage.specs.declared.call.Answer.{Answer}
 use Rattle.asm_storage.specs.declared.history.Event.{Event}
 use Rattle.asm_storage.specs.declared.history.History.{History}
@@ -118,7 +119,7 @@ noted_to_more part h i e old new before after within here ((notes, are, is), sta
 
 -- the state has followed at most as many moves as there were events
 pub few_followed : (part : Part) (h : History) (s : StateView) (text : List ℕ) (i : ℕ) → IsNotedTo part h s text i →
-    i < length h.events → length h.events ≤ 4294967295 → s.number < 4294967295
+    i < length h.events → length h.events ≤ events_limit → s.number < events_limit
 few_followed part h s text i so_far within few =
     let long : length (take i h.events) ≡ i = length-take-le i h.events (omega (arith, within)) in
     let moves = few_moves (take i h.events) in

@@ -1,5 +1,5 @@
 //! What moves change.
-ghost use Rattle.std.specs.Prelude.{◌≡◌, ◌++◌, [], ◌∷◌, IfOk, OnOk, map, option_map};
+ghost use Rattle.std.specs.Prelude.{◌≡◌, IfOk, option_map};
 ghost use Rattle.serde_json.specs.View.{view};
 ghost use Rattle.asm_state.specs.View.{value_at};
 ghost use Rattle.asm_storage.specs.History.{move_of};
@@ -50,28 +50,13 @@ fn change_json(alloc: Global, state: &State, at: &Location, new: &Value) -> Resu
     }
 }
 
-/// Appends the JSON of a location that gets this value, be it the one that it has or another.
-fn push_change(
-    alloc: Global,
-    list: &mut Vec<Json>,
-    state: &State,
-    at: &Location,
-    new: &Value,
-) -> Result<(), AllocError>
-    ensures { OnOk result (map view list.new.items ≡ map view list.old.items
-        ++ change_json_of at.now (change_of (value_at state.now at.now) new.now) ∷ []) }
-{
-    list.push(change_json(alloc, state, at, new)?)?;
-    Ok(())
-}
-
 /// The JSON of what the updates change in the state.
 fn updates_json(alloc: Global, state: &State, updates: &UpdateSet) -> Result<Json, AllocError>
     ensures { IfOk result (λ json. view json ≡ changes_json_of (changes_by (value_at state.now) updates.now)) }
 {
     let mut list = Vec::new(alloc);
     for (at, value) in updates.iter() {
-        push_change(alloc, &mut list, state, at, value)?;
+        list.push(change_json(alloc, state, at, value)?)?;
     }
     Ok(array_of(list))
 }

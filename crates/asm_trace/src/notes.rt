@@ -5,6 +5,7 @@ ghost use Rattle.asm_update.specs.State as plain;
 ghost use Rattle.asm_update.specs.Move.{Move};
 ghost use Rattle.asm_state.specs.View.{value_at};
 ghost use Rattle.asm_state.specs.Stands.{Stands};
+ghost use Rattle.asm_storage.specs.Limits.{events_limit};
 ghost use Rattle.asm_storage.specs.Machine.{reply_to};
 ghost use Rattle.asm_journal.specs.Check.{machine, judged_reply, moves_with};
 ghost use Rattle.asm_journal.specs.Event.{answer_json_of};
@@ -90,7 +91,7 @@ fn follow_event<A: Aggregator>(
     state: &mut State,
     event: &Event,
 ) -> Result<(), AllocError>
-    requires { state.old.number < 4294967295 }
+    requires { state.old.number < events_limit }
     ensures { OnOk result ((init : plain.State) (q : List Move) →
         Stands (A.meaning aggregator.now).part init state.old q →
         Stands (A.meaning aggregator.now).part init state.new (moves_with q event.now)) }
@@ -110,7 +111,7 @@ fn other_answer<A: Aggregator>(
     capacity: u32,
     event: &Event,
 ) -> Result<Option<Answer>, AllocError>
-    requires { state.old.number < 4294967295 }
+    requires { state.old.number < events_limit }
     ensures { IfOk result (IsJudged (A.meaning aggregator.now).part capacity event.now state.old state.new) }
 {
     if judge_event(alloc, aggregator, state, capacity, event)? {
@@ -165,7 +166,7 @@ pub(crate) fn push_note<A: Aggregator>(
     number: u64,
     event: &Event,
 ) -> Result<(), AllocError>
-    requires { state.old.number < 4294967295 }
+    requires { state.old.number < events_limit }
     ensures { OnOk result (IsNoted (A.meaning aggregator.now).part capacity number event.now state.old state.new
         (string_bytes text.old) (string_bytes text.new)) }
 {

@@ -2,6 +2,7 @@
 ghost use Rattle.std.specs.Prelude.{◌≡◌, ◌≤◌, IfOk, length, string_bytes};
 ghost use Rattle.serde_json.specs.View.{view};
 ghost use Rattle.asm_storage.specs.History.{Fits};
+ghost use Rattle.asm_storage.specs.Limits.{events_limit};
 ghost use Rattle.asm_trace.specs.Text.{header_of, IsTrace};
 
 use crate::notes::push_note;
@@ -14,7 +15,7 @@ use std::alloc::{AllocError, Global};
 
 /// The JSON of a trace's header.
 fn header_json(alloc: Global, history: &History) -> Result<Json, AllocError>
-    requires { length history.now.events ≤ 4294967295 }
+    requires { length history.now.events ≤ events_limit }
     ensures { IfOk result (λ json. view json ≡ header_of history.now) }
 {
     let events = history.events.as_slice().len() as u32;

@@ -3,7 +3,7 @@ use Rattle.asm_storage.specs.Machine.{reply_to}
 use Rattle.asm_storage.specs.declared.call.Call.TheVariants as call
 use Rattle.asm_storage.specs.declared.call.Answer.TheVariants as answer
 use Rattle.asm_journal.specs.Check.{machine, judged_reply}
-use Rattle.asm_trace.proofs.Replied.{replied}
+use Rattle.asm_journal.proofs.Legal.{replied}
 use Rattle.asm_trace.proofs.notes.right_answer.Goals as goal
 
 pub returns-in_ok-objection-in-Fire : goal.returns-in_ok-objection-in-Fire
