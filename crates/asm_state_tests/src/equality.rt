@@ -1,6 +1,6 @@
 //! Verdicts and objections are equal where they say the same, and only there.
-use asm_element::{Element, Location, Value};
 use asm_state::{Objection, Verdict};
+use asm_test_support::{location, number};
 use asm_update::{Cause, Clash, UpdateSet};
 use std::alloc::Global;
 use std::test::Fail;
@@ -28,13 +28,9 @@ static SAID: [Says; 8] = [
     Ready("y", 1),
 ];
 
-fn location(alloc: Global, name: &str) -> Result<Location, Fail> {
-    Ok(Location::new(String::from_str(alloc, name)?, Vec::new(alloc))?)
-}
-
-fn updates(alloc: Global, name: &str, number: i64) -> Result<UpdateSet, Fail> {
+fn updates(alloc: Global, name: &str, n: i64) -> Result<UpdateSet, Fail> {
     let mut updates = UpdateSet::new(alloc);
-    updates.put(location(alloc, name)?, Value::Plain(Element::Num(number)))?;
+    updates.put(location(alloc, name)?, number(n))?;
     Ok(updates)
 }
 
@@ -47,7 +43,7 @@ fn verdict(alloc: Global, says: Says) -> Result<Verdict, Fail> {
     Ok(match says {
         Stale(name) => Verdict::Stale(location(alloc, name)?),
         Clashes(name, cause) => Verdict::Clash(clash(alloc, name, cause)?),
-        Ready(name, number) => Verdict::Ready(updates(alloc, name, number)?),
+        Ready(name, n) => Verdict::Ready(updates(alloc, name, n)?),
     })
 }
 

@@ -1,8 +1,8 @@
 //! Moves that change one location in place leave what they leave beside a move of another location.
-use crate::resultless::Resultless;
 use asm_aggregate::standard;
-use asm_element::{ElemBag, ElemSet, Element, Location, Value};
+use asm_element::{ElemBag, ElemSet, Element, Value};
 use asm_state::{Named, Objection, State, Verdict};
+use asm_test_support::{Resultless, Zero, location, number};
 use asm_update::{Action, Aggregator, Amount, Instruction, Instructions, Lookup, PlainState};
 use std::alloc::{AllocError, Global};
 use std::test::Fail;
@@ -18,13 +18,6 @@ enum Act {
 }
 
 use Act::{Add, BagAdd, BagRemove, Inc, Remove};
-
-#[derive(Debug, Drop)]
-struct Zero;
-
-fn location(alloc: Global, name: &str) -> Result<Location, Fail> {
-    Ok(Location::new(String::from_str(alloc, name)?, Vec::new(alloc))?)
-}
 
 fn action(act: Act) -> Option<Action> {
     Some(match act {
@@ -51,7 +44,7 @@ fn move_of(alloc: Global, name: &str, acts: &[Act]) -> Result<Instructions, Fail
 }
 
 fn put_at_z() -> Action {
-    Action::Regular(Value::Plain(Element::Num(1)))
+    Action::Regular(number(1))
 }
 
 /// The move with a put at z before it.
@@ -84,7 +77,7 @@ fn first_value(alloc: Global, name: &str) -> Result<Value, AllocError> {
     match name {
         "s" => set_of_1(alloc),
         "b" => bag_of_two(alloc),
-        _ => Ok(Value::Plain(Element::Num(5))),
+        _ => Ok(number(5)),
     }
 }
 

@@ -1,7 +1,8 @@
 //! How moves are judged and followed: stale reads, clashes, the numbers of writers, and copies.
 use asm_aggregate::standard;
-use asm_element::{Element, Location, Value};
+use asm_element::{Element, Location};
 use asm_state::{Named, State, Verdict};
+use asm_test_support::{location, number, value};
 use asm_update::{Action, Cause, Instruction, Instructions, Lookup, PlainState, UpdateSet};
 use std::alloc::Global;
 use std::process::Abort;
@@ -14,21 +15,10 @@ struct Put(&'static str, Option<i64>);
 /// Two different values at one location.
 const TWO: [Put; 2] = [Put("x", Some(1)), Put("x", Some(2))];
 
-fn location(alloc: Global, name: &str) -> Result<Location, Fail> {
-    Ok(Location::new(String::from_str(alloc, name)?, Vec::new(alloc))?)
-}
-
-fn element(number: Option<i64>) -> Element {
-    match number {
-        Some(n) => Element::Num(n),
-        None => Element::Undef,
-    }
-}
-
 fn move_of(alloc: Global, puts: &[Put]) -> Result<Instructions, Fail> {
     let mut list = Instructions::new(alloc);
     for put in puts {
-        let action = Action::Regular(Value::Plain(element(put.1)));
+        let action = Action::Regular(value(put.1));
         let at = location(alloc, put.0)?;
         list.push(Instruction { at, action })?;
     }
@@ -39,7 +29,7 @@ fn move_of(alloc: Global, puts: &[Put]) -> Result<Instructions, Fail> {
 fn opened(alloc: Global) -> Result<State, Fail> {
     let at = location(alloc, "x")?;
     let mut init = PlainState::new(alloc);
-    init.set(at, Value::Plain(Element::Num(7)))?;
+    init.set(at, number(7))?;
     Ok(State::new(alloc, init)?)
 }
 
@@ -122,7 +112,7 @@ fn judges(
 
 /// Whether the state holds this number at the location, or nothing, since the move with that number.
 fn holds(state: &State, at: &Location, number: Option<i64>, writer: u32) -> bool {
-    let value = Value::Plain(element(number));
+    let value = value(number);
     let held = match state.get(at) {
         Some(held) => *held == value,
         None => value.is_undef(),
@@ -217,7 +207,7 @@ fn copies_are_equal(rt: HostRuntime) -> Result<(), Fail> {
     Ok(())
 }
 
-fn location_at(alloc: Global, number: i64) -> Result<Location, Fail> {
+fn place(alloc: Global, number: i64) -> Result<Location, Fail> {
     let name = String::from_str(alloc, "n")?;
     let args = vec![in alloc; Element::Num(number)]?;
     Ok(Location::new(name, args)?)
@@ -228,8 +218,8 @@ fn half_held(alloc: Global, limit: i64) -> Result<State, Fail> {
     let mut init = PlainState::new(alloc);
     for n in 0..limit {
         if n % 2 == 1 {
-            let at = location_at(alloc, n)?;
-            init.set(at, Value::Plain(Element::Num(n)))?;
+            let at = place(alloc, n)?;
+            init.set(at, number(n))?;
         }
     }
     Ok(State::new(alloc, init)?)
@@ -239,8 +229,8 @@ fn half_held(alloc: Global, limit: i64) -> Result<State, Fail> {
 fn many_puts(alloc: Global, limit: i64) -> Result<Instructions, Fail> {
     let mut list = Instructions::new(alloc);
     for n in (0..limit).rev() {
-        let action = Action::Regular(Value::Plain(Element::Num(-1)));
-        let at = location_at(alloc, n)?;
+        let action = Action::Regular(number(-1));
+        let at = place(alloc, n)?;
         list.push(Instruction { at, action })?;
     }
     Ok(list)
@@ -249,7 +239,7 @@ fn many_puts(alloc: Global, limit: i64) -> Result<Instructions, Fail> {
 /// Whether the puts are written at all locations below the limit, or at none.
 fn is_all_or_nothing(alloc: Global, state: &State, limit: i64, fired: bool) -> Result<bool, Fail> {
     for n in 0..limit {
-        let at = location_at(alloc, n)?;
+        let at = place(alloc, n)?;
         let before = if n % 2 == 1 { Some(n) } else { None };
         let is_right = if fired {
             holds(state, &at, Some(-1), 1)
@@ -319,7 +309,7 @@ fn written_at_256<R: Abort>(rt: &R, alloc: Global) -> Result<State, Fail> {
 fn reads_stale_from(alloc: Global, first: i64) -> Result<Vec<Named>, Fail> {
     let mut named = Vec::new(alloc);
     for n in 0i64..256 {
-        let at = location_at(alloc, n)?;
+        let at = place(alloc, n)?;
         let number = if n < first { 1 } else { 0 };
         named.push(Named { at, number })?;
     }
@@ -333,7 +323,7 @@ fn verdict_from(alloc: Global, state: &State, first: i64) -> Result<Verdict, Fai
 }
 
 fn is_stale_from(alloc: Global, state: &State, first: i64) -> Result<bool, Fail> {
-    let at = location_at(alloc, first)?;
+    let at = place(alloc, first)?;
     let verdict = verdict_from(alloc, state, first)?;
     Ok(verdict == Verdict::Stale(at))
 }

@@ -8,8 +8,6 @@ mod in_place;
 #[cfg(test)]
 mod judging;
 #[cfg(test)]
-mod opening;
+mod opening_state;
 #[cfg(test)]
-mod plain;
-#[cfg(test)]
-mod resultless;
+mod plain_state;

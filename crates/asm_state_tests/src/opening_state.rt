@@ -1,7 +1,8 @@
 //! What a state opened with shows where no move wrote, stays when moves write, and is shared.
 use asm_aggregate::standard;
-use asm_element::{ElemSet, Element, Location, Value};
+use asm_element::{ElemSet, Element, Value};
 use asm_state::State;
+use asm_test_support::{location, number};
 use asm_update::{Action, Instruction, Instructions, Lookup, PlainState};
 use std::alloc::{AllocError, Global};
 use std::sync::Arc;
@@ -29,16 +30,9 @@ enum Held {
 
 use Held::{Members, Nothing, Num};
 
-fn location(alloc: Global) -> Result<Location, AllocError> {
-    match Location::new(String::from_str(alloc, "x")?, Vec::new(alloc)) {
-        Ok(at) => Ok(at),
-        Err(_) => Err(AllocError),
-    }
-}
-
 fn action(act: Act) -> Action {
     match act {
-        Put(n) => Action::Regular(Value::Plain(Element::Num(n))),
+        Put(n) => Action::Regular(number(n)),
         Undef => Action::Regular(Value::Plain(Element::Undef)),
         Inc(n) => Action::Increment(n),
         Add(n) => Action::SetAdd(Element::Num(n)),
@@ -46,7 +40,7 @@ fn action(act: Act) -> Action {
 }
 
 fn push(alloc: Global, list: &mut Instructions, act: Act) -> Result<(), Fail> {
-    let at = location(alloc)?;
+    let at = location(alloc, "x")?;
     let action = action(act);
     list.push(Instruction { at, action })?;
     Ok(())
@@ -61,7 +55,7 @@ fn move_of(alloc: Global, acts: &[Act]) -> Result<Instructions, Fail> {
 }
 
 fn of_value(alloc: Global, value: Value) -> Result<PlainState, Fail> {
-    let at = location(alloc)?;
+    let at = location(alloc, "x")?;
     let mut init = PlainState::new(alloc);
     init.set(at, value)?;
     Ok(init)
@@ -78,7 +72,7 @@ fn opening(alloc: Global, is_set: bool) -> Result<PlainState, Fail> {
     if is_set {
         of_value(alloc, set_of_1(alloc)?)
     } else {
-        of_value(alloc, Value::Plain(Element::Num(7)))
+        of_value(alloc, number(7))
     }
 }
 
@@ -93,7 +87,7 @@ fn is_held(value: Option<&Value>, held: Held) -> bool {
 
 /// Whether x holds this since the move with that number.
 fn holds(alloc: Global, state: &State, held: Held, writer: u32) -> Result<bool, AllocError> {
-    let at = location(alloc)?;
+    let at = location(alloc, "x")?;
     Ok(is_held(state.get(&at), held) && state.written_at(&at) == writer)
 }
 

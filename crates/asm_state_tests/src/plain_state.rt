@@ -1,7 +1,7 @@
 //! The values of a state without their writers, all of them or those of one function name.
 use asm_aggregate::standard;
-use asm_element::{Element, Location, Value};
 use asm_state::State;
+use asm_test_support::{location_at, value};
 use asm_update::{Action, Instruction, Instructions, PlainState};
 use std::alloc::{AllocError, Global};
 use std::test::Fail;
@@ -48,31 +48,10 @@ static ROWS: [(Option<&str>, &[Item]); 7] = [
     (Some(""), &[]),
 ];
 
-fn args_of(alloc: Global, numbers: &[i64]) -> Result<Vec<Element>, AllocError> {
-    let mut args = Vec::new(alloc);
-    for n in numbers {
-        args.push(Element::Num(*n))?;
-    }
-    Ok(args)
-}
-
-/// `AllocError` comes where memory was refused, and for a name that isn't one, which no table has.
-fn location(alloc: Global, item: Item) -> Result<Location, AllocError> {
-    let args = args_of(alloc, item.1)?;
-    Location::new(String::from_str(alloc, item.0)?, args).map_err(|_| AllocError)
-}
-
-fn value(content: Option<i64>) -> Value {
-    match content {
-        Some(n) => Value::Plain(Element::Num(n)),
-        None => Value::Plain(Element::Undef),
-    }
-}
-
 fn plain_of(alloc: Global, items: &[Item]) -> Result<PlainState, AllocError> {
     let mut plain = PlainState::new(alloc);
     for item in items {
-        plain.set(location(alloc, *item)?, value(item.2))?;
+        plain.set(location_at(alloc, item.0, item.1)?, value(item.2))?;
     }
     Ok(plain)
 }
@@ -80,7 +59,7 @@ fn plain_of(alloc: Global, items: &[Item]) -> Result<PlainState, AllocError> {
 fn move_of(alloc: Global, items: &[Item]) -> Result<Instructions, AllocError> {
     let mut list = Instructions::new(alloc);
     for item in items {
-        let at = location(alloc, *item)?;
+        let at = location_at(alloc, item.0, item.1)?;
         let action = Action::Regular(value(item.2));
         list.push(Instruction { at, action })
             .map_err(|_| AllocError)?;
