@@ -1,8 +1,9 @@
 //! What is done with a step, and what comes of it, as rows of a table.
-use crate::moves::{Line, NAMES, is_same, location, move_of, number, opening, updates_on, write};
+use crate::plain_data::{Line, NAMES, is_same, move_of, opening, updates_on, write};
 use asm_aggregate::standard;
 use asm_element::Value;
 use asm_step::{Step, StepError};
+use asm_test_support::{location, number};
 use asm_update::{Cause, Instructions, PlainState};
 use std::alloc::{AllocError, Global};
 use std::test::Fail;

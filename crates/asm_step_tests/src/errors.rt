@@ -1,6 +1,6 @@
 //! Errors, as values and as texts.
-use crate::moves::location;
 use asm_step::StepError;
+use asm_test_support::location;
 use asm_update::{Cause, Clash};
 use std::alloc::Global;
 use std::test::Fail;

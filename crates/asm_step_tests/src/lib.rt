@@ -6,10 +6,10 @@ mod acts;
 #[cfg(test)]
 mod errors;
 #[cfg(test)]
-mod moves;
+mod plain_data;
 #[cfg(test)]
-mod random;
+mod pushes;
 #[cfg(test)]
-mod scan_tests;
+mod random_steps;
 #[cfg(test)]
-mod tests;
+mod scans;

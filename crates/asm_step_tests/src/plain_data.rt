@@ -1,6 +1,7 @@
 //! Moves and states as plain data, and what they come to.
 use asm_aggregate::{aggregate, standard};
 use asm_element::{ElemBag, ElemSet, Element, Location, Value};
+use asm_test_support::{Zero, location, number};
 use asm_update::{
     Action, AggError, Amount, Instruction, Instructions, Lookup, PlainState, UpdateSet,
 };
@@ -26,23 +27,12 @@ pub(crate) struct Line(pub(crate) &'static str, pub(crate) Do);
 /// The names of all locations of the tests.
 pub(crate) static NAMES: [&str; 5] = ["b", "s", "x", "y", "z"];
 
-#[derive(Debug, Drop)]
-struct Zero;
-
-pub(crate) fn location(alloc: Global, name: &str) -> Result<Location, Fail> {
-    Ok(Location::new(String::from_str(alloc, name)?, Vec::new(alloc))?)
-}
-
 /// The location m with this argument.
 pub(crate) fn m_of(alloc: Global, n: i64) -> Result<Location, Fail> {
     Ok(Location::new(
         String::from_str(alloc, "m")?,
         vec![in alloc; Element::Num(n)]?,
     )?)
-}
-
-pub(crate) fn number(n: i64) -> Value {
-    Value::Plain(Element::Num(n))
 }
 
 fn action(what: Do) -> Result<Action, Fail> {

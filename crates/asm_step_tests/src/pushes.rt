@@ -2,8 +2,8 @@
 use crate::acts::Act::{self, Depth, Ends, Extend, Fires, Gives, Leaves, Partial, Pop, Push, Size};
 use crate::acts::Answer::{Clashes, Deep, Many, Taken};
 use crate::acts::{played, played_anew, take};
-use crate::moves::Do::{Add, BagAdd, BagRemove, Inc, Put, Remove, Undef};
-use crate::moves::{Line, append_put, move_of, opening};
+use crate::plain_data::Do::{Add, BagAdd, BagRemove, Inc, Put, Remove, Undef};
+use crate::plain_data::{Line, append_put, move_of, opening};
 use asm_step::Step;
 use asm_update::{Cause, Instructions, PlainState};
 use std::alloc::Global;

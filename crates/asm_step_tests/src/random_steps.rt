@@ -1,7 +1,7 @@
 //! Steps at random, against firing their moves in turn on a copy of what is below.
 use crate::acts::{fires, take};
-use crate::moves::Do::{Add, BagAdd, BagRemove, Inc, Put, Remove, Undef};
-use crate::moves::{Line, NAMES, append, is_same, opening, updates_on, write};
+use crate::plain_data::Do::{Add, BagAdd, BagRemove, Inc, Put, Remove, Undef};
+use crate::plain_data::{Line, NAMES, append, is_same, opening, updates_on, write};
 use asm_step::{Step, StepError};
 use asm_update::{AggError, Clash, Instructions, PlainState, UpdateSet};
 use std::alloc::Global;

@@ -2,9 +2,10 @@
 use crate::acts::Act::{self, Extend, Pop, Push, Scans};
 use crate::acts::Answer::Taken;
 use crate::acts::{played_anew, take};
-use crate::moves::Do::{Add, Inc, Put, Undef};
-use crate::moves::{Line, append_put, m_of, number, opening};
+use crate::plain_data::Do::{Add, Inc, Put, Undef};
+use crate::plain_data::{Line, append_put, m_of, opening};
 use asm_step::Step;
+use asm_test_support::number;
 use asm_update::{Instructions, PlainState};
 use std::alloc::Global;
 use std::test::Fail;
