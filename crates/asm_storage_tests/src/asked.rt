@@ -5,6 +5,7 @@
 use asm_element::{Element, Items, Location, Value};
 use asm_state::Named;
 use asm_storage::{Answer, Call, Receipt, Reply};
+use asm_test_support::{location, number, value};
 use asm_update::{Action, Cause, Clash, Instruction, Instructions};
 use std::alloc::{AllocError, Global};
 
@@ -37,26 +38,10 @@ pub(crate) enum Want {
     Full(u32),
 }
 
-pub(crate) fn location(alloc: Global, name: &str) -> Result<Location, AllocError> {
-    Location::new(String::from_str(alloc, name)?, Vec::new(alloc)).map_err(|_| AllocError)
-}
-
-pub(crate) fn number(n: i64) -> Value {
-    Value::Plain(Element::Num(n))
-}
-
 pub(crate) fn is_number(value: &Value, n: i64) -> bool {
     match value {
         Value::Plain(Element::Num(found)) => *found == n,
         _ => false,
-    }
-}
-
-/// The number, or undef where there is none.
-pub(crate) fn value(content: Option<i64>) -> Value {
-    match content {
-        Some(n) => number(n),
-        None => Value::Plain(Element::Undef),
     }
 }
 
@@ -172,7 +157,7 @@ fn stood_of(want: Want) -> u32 {
     }
 }
 
-fn receipt_with(call: Call, answer: Answer, stood: u32) -> Receipt {
+pub(crate) fn receipt_with(call: Call, answer: Answer, stood: u32) -> Receipt {
     Receipt {
         call,
         answer,

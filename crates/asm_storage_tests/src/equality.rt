@@ -1,8 +1,9 @@
 //! Values that differ in one part alone are told apart.
-use crate::asked::{At, Put, location, move_of, named_of, number, places_of};
+use crate::asked::{At, Put, move_of, named_of, places_of, receipt_with};
 use crate::telling::are_apart;
 use asm_element::{Items, Location, Value};
 use asm_storage::{Answer, Call, Entry, Event, History, Receipt, Reply};
+use asm_test_support::{location, number};
 use asm_update::{Cause, Clash, Instructions, PlainState};
 use std::alloc::{AllocError, Global};
 use std::test::Fail;
@@ -75,14 +76,6 @@ fn answer(alloc: Global, kind: u32) -> Result<Answer, AllocError> {
         2 => Ok(read_at(0, one_value(alloc, 1)?)),
         3 => Ok(read_at(0, one_value(alloc, 2)?)),
         _ => Ok(Answer::Fire(reply(alloc, kind.saturating_sub(4))?)),
-    }
-}
-
-fn receipt_with(call: Call, answer: Answer, stood: u32) -> Receipt {
-    Receipt {
-        call,
-        answer,
-        stood,
     }
 }
 

@@ -1,7 +1,7 @@
 //! What an agent looks up without a receipt. `AllocError` comes only where memory was refused.
 ghost use Rattle.asm_storage.specs.Storage.{IsSameAgent};
 
-use crate::asked::{Act, At, Put, Want, location, named_of, places_of, value, values_of};
+use crate::asked::{Act, At, Put, Want, named_of, places_of, values_of};
 use crate::closings::Closing;
 use crate::performing::{Standard, are_read};
 use crate::two_agents::{Case, Step, Who, check_all};
@@ -10,6 +10,7 @@ use Glance::{Follow, Peek, Stands};
 use Step::{Ask, Count, Glance as Look, Learn, Receipts, Row};
 use Who::{A, B};
 use asm_storage::{Agent, ReadError};
+use asm_test_support::{location, value};
 use asm_update::Lookup;
 use std::alloc::{AllocError, Global};
 use std::test::Fail;

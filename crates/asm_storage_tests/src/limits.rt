@@ -1,7 +1,7 @@
 //! The limits of a storage and of its calls, and what they leave where they refuse.
 ghost use Rattle.asm_storage.specs.Storage.{IsSameAgent};
 
-use crate::asked::{Act, At, Put, Want, is_number, location, places_of};
+use crate::asked::{Act, At, Put, Want, is_number, places_of};
 use crate::closings::Closing;
 use crate::performing::{Standard, asks};
 use crate::two_agents::{Case, Step, Who, check_all, storage_of};
@@ -14,6 +14,7 @@ use asm_state::Named;
 use asm_storage::{
     Agent, AgentsError, FireError, ReadError, Reading, Reply, Storage, StorageError,
 };
+use asm_test_support::location;
 use asm_update::{Instructions, PlainState};
 use std::alloc::{AllocError, Global};
 use std::process::Abort;

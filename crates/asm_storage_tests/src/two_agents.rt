@@ -2,7 +2,7 @@
 ghost use Rattle.std.specs.Prelude.{◌≡◌, ◌<◌};
 ghost use Rattle.asm_storage.specs.Storage.{IsSameAgent};
 
-use crate::asked::{Act, Want, location, receipt_of, value};
+use crate::asked::{Act, Want, receipt_of};
 use crate::closings::{Closing, closes, holds, moves_in};
 use crate::contests::{Contest, contends};
 use crate::glances::{Glance, glances};
@@ -14,6 +14,7 @@ use crate::wide_moves::{Wide, sees};
 use asm_aggregate::standard;
 use asm_element::{ElemSet, Value};
 use asm_storage::{Agent, Storage};
+use asm_test_support::{location, value};
 use asm_update::PlainState;
 use std::alloc::{AllocError, Global};
 use std::process::Abort;

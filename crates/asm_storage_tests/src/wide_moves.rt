@@ -1,13 +1,14 @@
 //! Moves of few and of many instructions, which another agent than theirs then reads.
 ghost use Rattle.asm_storage.specs.Storage.{IsSameAgent};
 
-use crate::asked::{number, push, value};
+use crate::asked::push;
 use crate::closings::Closing;
 use crate::performing::{Standard, fires, reads};
 use crate::two_agents::{Case, Step, check_all};
 use Step::Row;
 use asm_element::{Element, Location, Value};
 use asm_storage::{Agent, Reply};
+use asm_test_support::{number, value};
 use asm_update::{Action, Cause, Clash, Instructions};
 use std::alloc::{AllocError, Global};
 use std::slice;
@@ -15,11 +16,7 @@ use std::test::Fail;
 
 /// A move that puts 1, 2 and so on at so many locations, and then 0 at some of them; the location at which it clashes.
 #[derive(Clone, Copy)]
-pub(crate) struct Wide {
-    puts: u32,
-    again: &'static [u32],
-    clashes_at: Option<u32>,
-}
+pub(crate) struct Wide(u32, &'static [u32], Option<u32>);
 
 fn place_with(alloc: Global, args: Vec<Element>) -> Result<Location, AllocError> {
     Location::new(String::from_str(alloc, "w")?, args).map_err(|_| AllocError)
@@ -42,10 +39,10 @@ pub(crate) fn push_put(
 
 fn move_of(alloc: Global, wide: &Wide) -> Result<Instructions, AllocError> {
     let mut list = Instructions::new(alloc);
-    for k in 0..wide.puts {
+    for k in 0..wide.0 {
         push_put(alloc, &mut list, k, k.saturating_add(1))?;
     }
-    for k in wide.again {
+    for k in wide.1 {
         push_put(alloc, &mut list, *k, 0)?;
     }
     Ok(list)
@@ -57,7 +54,7 @@ fn clash_at(at: Location) -> Reply {
 }
 
 fn reply_of(alloc: Global, wide: &Wide) -> Result<Reply, AllocError> {
-    match wide.clashes_at {
+    match wide.2 {
         None => Ok(Reply::Fired(1)),
         Some(k) => Ok(clash_at(place(alloc, k)?)),
     }
@@ -78,7 +75,7 @@ fn fires_wide(
 
 /// What is at w(k) after the move: its put, or nothing where it clashed.
 fn content(wide: &Wide, k: u32) -> Value {
-    match wide.clashes_at {
+    match wide.2 {
         None => number(i64::from(k.saturating_add(1))),
         Some(_) => value(None),
     }
@@ -95,7 +92,7 @@ fn reads_at(
 {
     let at = place(alloc, k)?;
     let content = content(wide, k);
-    let number = u32::from(wide.clashes_at.is_none());
+    let number = u32::from(wide.2.is_none());
     reads(
         alloc,
         agent,
@@ -119,151 +116,67 @@ pub(crate) fn sees(
     Ok(
         fires_wide(alloc, other, wide)?
             && reads_at(alloc, agent, wide, 0)?
-            && reads_at(alloc, agent, wide, wide.puts / 2)?
-            && reads_at(alloc, agent, wide, wide.puts.saturating_sub(1))?,
+            && reads_at(alloc, agent, wide, wide.0 / 2)?
+            && reads_at(alloc, agent, wide, wide.0.saturating_sub(1))?,
     )
 }
 
+/// What closing gives after a move that fired.
+const FIRED: Case = Case {
+    x: None,
+    capacity: 8,
+    steps: &[],
+    alone: Closing::Missing(1),
+    both: Closing::Events(1, &[1, 0, 0, 0]),
+};
+
+/// What closing gives after a move that clashed.
+const CLASHED: Case = Case {
+    alone: Closing::Events(0, &[0, 0, 0]),
+    both: Closing::Events(0, &[0, 0, 0, 1]),
+    ..FIRED
+};
+
 static WIDE: [Case; 10] = [
     Case {
-        x: None,
-        capacity: 8,
-        steps: &[
-            Step::Wide(&Wide {
-                puts: 16,
-                again: &[],
-                clashes_at: None,
-            }),
-            Row(1),
-        ],
-        alone: Closing::Missing(1),
-        both: Closing::Events(1, &[1, 0, 0, 0]),
+        steps: &[Step::Wide(&Wide(16, &[], None)), Row(1)],
+        ..FIRED
     },
     Case {
-        x: None,
-        capacity: 8,
-        steps: &[
-            Step::Wide(&Wide {
-                puts: 17,
-                again: &[],
-                clashes_at: None,
-            }),
-            Row(1),
-        ],
-        alone: Closing::Missing(1),
-        both: Closing::Events(1, &[1, 0, 0, 0]),
+        steps: &[Step::Wide(&Wide(17, &[], None)), Row(1)],
+        ..FIRED
     },
     Case {
-        x: None,
-        capacity: 8,
-        steps: &[
-            Step::Wide(&Wide {
-                puts: 15,
-                again: &[7],
-                clashes_at: Some(7),
-            }),
-            Row(0),
-        ],
-        alone: Closing::Events(0, &[0, 0, 0]),
-        both: Closing::Events(0, &[0, 0, 0, 1]),
+        steps: &[Step::Wide(&Wide(15, &[7], Some(7))), Row(0)],
+        ..CLASHED
     },
     Case {
-        x: None,
-        capacity: 8,
-        steps: &[
-            Step::Wide(&Wide {
-                puts: 16,
-                again: &[15],
-                clashes_at: Some(15),
-            }),
-            Row(0),
-        ],
-        alone: Closing::Events(0, &[0, 0, 0]),
-        both: Closing::Events(0, &[0, 0, 0, 1]),
+        steps: &[Step::Wide(&Wide(16, &[15], Some(15))), Row(0)],
+        ..CLASHED
     },
     Case {
-        x: None,
-        capacity: 8,
-        steps: &[
-            Step::Wide(&Wide {
-                puts: 14,
-                again: &[9, 4],
-                clashes_at: Some(4),
-            }),
-            Row(0),
-        ],
-        alone: Closing::Events(0, &[0, 0, 0]),
-        both: Closing::Events(0, &[0, 0, 0, 1]),
+        steps: &[Step::Wide(&Wide(14, &[9, 4], Some(4))), Row(0)],
+        ..CLASHED
     },
     Case {
-        x: None,
-        capacity: 8,
-        steps: &[
-            Step::Wide(&Wide {
-                puts: 15,
-                again: &[4, 9],
-                clashes_at: Some(4),
-            }),
-            Row(0),
-        ],
-        alone: Closing::Events(0, &[0, 0, 0]),
-        both: Closing::Events(0, &[0, 0, 0, 1]),
+        steps: &[Step::Wide(&Wide(15, &[4, 9], Some(4))), Row(0)],
+        ..CLASHED
     },
     Case {
-        x: None,
-        capacity: 8,
-        steps: &[
-            Step::Wide(&Wide {
-                puts: 17,
-                again: &[16, 0],
-                clashes_at: Some(0),
-            }),
-            Row(0),
-        ],
-        alone: Closing::Events(0, &[0, 0, 0]),
-        both: Closing::Events(0, &[0, 0, 0, 1]),
+        steps: &[Step::Wide(&Wide(17, &[16, 0], Some(0))), Row(0)],
+        ..CLASHED
     },
     Case {
-        x: None,
-        capacity: 8,
-        steps: &[
-            Step::Wide(&Wide {
-                puts: 4_096,
-                again: &[],
-                clashes_at: None,
-            }),
-            Row(1),
-        ],
-        alone: Closing::Missing(1),
-        both: Closing::Events(1, &[1, 0, 0, 0]),
+        steps: &[Step::Wide(&Wide(4_096, &[], None)), Row(1)],
+        ..FIRED
     },
     Case {
-        x: None,
-        capacity: 8,
-        steps: &[
-            Step::Wide(&Wide {
-                puts: 4_095,
-                again: &[4_094],
-                clashes_at: Some(4_094),
-            }),
-            Row(0),
-        ],
-        alone: Closing::Events(0, &[0, 0, 0]),
-        both: Closing::Events(0, &[0, 0, 0, 1]),
+        steps: &[Step::Wide(&Wide(4_095, &[4_094], Some(4_094))), Row(0)],
+        ..CLASHED
     },
     Case {
-        x: None,
-        capacity: 8,
-        steps: &[
-            Step::Wide(&Wide {
-                puts: 4_094,
-                again: &[4_000, 3],
-                clashes_at: Some(3),
-            }),
-            Row(0),
-        ],
-        alone: Closing::Events(0, &[0, 0, 0]),
-        both: Closing::Events(0, &[0, 0, 0, 1]),
+        steps: &[Step::Wide(&Wide(4_094, &[4_000, 3], Some(3))), Row(0)],
+        ..CLASHED
     },
 ];
 
