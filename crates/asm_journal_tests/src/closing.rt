@@ -1,12 +1,13 @@
 //! The journal of what two agents did on one storage, as it closes.
 ghost use Rattle.asm_storage.specs.Storage.{IsSameAgent};
 
-use crate::journals::{is_read, is_written, location};
+use crate::journals::{is_read, is_written};
 use asm_aggregate::{BagAgg, CountAgg, Pair, SetAgg, standard};
-use asm_element::{Element, Location, Value};
+use asm_element::Location;
 use asm_journal::{JournalError, Legality, check};
 use asm_state::Named;
 use asm_storage::{Agent, History, Reading, Storage};
+use asm_test_support::{location, number};
 use asm_update::{Action, Instruction, Instructions, PlainState};
 use std::alloc::{AllocError, Global};
 use std::test::Fail;
@@ -14,9 +15,9 @@ use std::test::Fail;
 type Standard = Pair<Pair<SetAgg, BagAgg>, CountAgg>;
 
 /// The move of one put: a number at the location with this name.
-fn put_of(alloc: Global, name: &str, number: i64) -> Result<Instructions, Fail> {
+fn put_of(alloc: Global, name: &str, n: i64) -> Result<Instructions, Fail> {
     let at = location(alloc, name)?;
-    let action = Action::Regular(Value::Plain(Element::Num(number)));
+    let action = Action::Regular(number(n));
     let mut instrs = Instructions::new(alloc);
     instrs.push(Instruction { at, action })?;
     Ok(instrs)
@@ -101,7 +102,7 @@ fn is_played(alloc: Global, history: &History) -> Result<bool, JournalError> {
 fn opened(alloc: Global) -> Result<Storage<Standard>, Fail> {
     let at = location(alloc, "x")?;
     let mut init = PlainState::new(alloc);
-    init.set(at, Value::Plain(Element::Num(7)))?;
+    init.set(at, number(7))?;
     Ok(Storage::new(alloc, standard(), init, 8)?)
 }
 

@@ -170,7 +170,7 @@ fn increments_are_written(rt: HostRuntime) -> Result<(), Fail> {
 }
 
 #[test]
-fn a_location_with_its_value(rt: HostRuntime) -> Result<(), Fail> {
+fn a_location_is_written_with_its_value(rt: HostRuntime) -> Result<(), Fail> {
     let alloc = rt.alloc();
     let location = at(alloc, "x", Element::Bool(true))?;
     let json = pair_json(alloc, &location, &Value::Plain(Element::Num(1)))?;

@@ -1,9 +1,10 @@
 //! Journals: their texts from histories and back.
 use asm_aggregate::standard;
-use asm_element::{ElemSet, Element, Items, Location, Value};
+use asm_element::{ElemSet, Element, Items, Value};
 use asm_journal::{JournalError, Legality, check, from_text, to_text};
 use asm_state::Named;
 use asm_storage::{Answer, Call, Event, History, Reply};
+use asm_test_support::location;
 use asm_update::{Action, Instruction, Instructions, PlainState};
 use std::alloc::{AllocError, Global};
 use std::test::Fail;
@@ -43,10 +44,6 @@ const COUNTS: &str =
 {"agent":0,"call":{"fire":[["inc",["n"],2]],"reads":[]},"reply":{"clash":[["n"],"Large"]}}
 {"agent":1,"call":{"fire":[["inc",["n"],-9223372036854775807]],"reads":[[["n"],2]]},"reply":{"fired":3}}
 "#;
-
-pub(crate) fn location(alloc: Global, name: &str) -> Result<Location, Fail> {
-    Ok(Location::new(String::from_str(alloc, name)?, Vec::new(alloc))?)
-}
 
 /// The set of these numbers.
 fn set(alloc: Global, numbers: &[i64]) -> Result<Value, AllocError> {

@@ -2,12 +2,12 @@
 #![tactic(auto)]
 
 #[cfg(test)]
-mod busy_tests;
+mod busy_steps;
 #[cfg(test)]
-mod error_tests;
+mod errors;
 #[cfg(test)]
-mod gate_tests;
+mod gates;
 #[cfg(test)]
-mod limit_tests;
+mod limits;
 #[cfg(test)]
-mod play_tests;
+mod plays;

@@ -8,7 +8,7 @@ ghost use Rattle.asm_storage.specs.declared.history.Event.{Event};
 ghost use Rattle.asm_script.specs.declared.step.Step.{Step};
 ghost use Rattle.asm_play.specs.StepEvents.{stale_fires, AreInVain, IsEndedAfter, IsGivenUp};
 
-use crate::play_tests::{has_number, journal_of, play_behind, script_of};
+use crate::plays::{has_number, journal_of, play_behind, script_of};
 use asm_play::{Open, Outcome, Played, RunError, run_script};
 use std::alloc::Global;
 use std::sync::Wait;
@@ -130,6 +130,6 @@ fn tries_have_limits()
 {}
 
 #[test]
-fn limits_of_tries(_rt: HostRuntime) {
+fn tries_end_at_their_limits(_rt: HostRuntime) {
     tries_have_limits();
 }

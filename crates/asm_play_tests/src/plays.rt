@@ -1,9 +1,10 @@
 //! Scripts that agents play at once.
 use asm_aggregate::standard;
-use asm_element::{Element, Location, Value};
+use asm_element::{Element, Value};
 use asm_journal::{Legality, check, from_text, replay, to_text};
 use asm_play::{Gate, Open, Outcome, Played, RunError, run_script};
 use asm_script::{Script, parse_script};
+use asm_test_support::location;
 use std::alloc::Global;
 use std::sync::Wait;
 use std::sync::atomic::{AtomicU64, Ordering};
@@ -63,7 +64,7 @@ pub(crate) fn play_behind<R: Threads + Wait + Sync, G: Gate>(
 
 /// How often 1 stands in the bag of this name after all moves.
 fn number_of_ones(alloc: Global, played: &Played, name: &str) -> Result<u32, Fail> {
-    let at = Location::new(String::from_str(alloc, name)?, Vec::new(alloc))?;
+    let at = location(alloc, name)?;
     let state = replay(alloc, &standard(), &played.history)?;
     Ok(match state.get(&at) {
         Some(Value::Bag(bag)) => bag.count(&Element::Num(1)),
@@ -78,7 +79,7 @@ pub(crate) fn has_number(
     name: &str,
     number: i64,
 ) -> Result<bool, Fail> {
-    let at = Location::new(String::from_str(alloc, name)?, Vec::new(alloc))?;
+    let at = location(alloc, name)?;
     let state = replay(alloc, &standard(), &played.history)?;
     Ok(match state.get(&at) {
         Some(Value::Plain(Element::Num(n))) => *n == number,

@@ -28,7 +28,7 @@ static ERRORS: [RunError; 5] = [
 
 /// Each is equal to itself alone.
 #[test]
-fn errors_that_differ(rt: HostRuntime) {
+fn errors_are_equal_to_themselves_alone(rt: HostRuntime) {
     for (i, a) in ERRORS.iter().enumerate() {
         for (j, b) in ERRORS.iter().enumerate() {
             assert!(rt; (a == b) == (i == j));
