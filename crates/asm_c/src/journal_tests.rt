@@ -70,7 +70,7 @@ fn codes_of_none(alloc: Global) -> ([i32; 3], [i32; 2], bool) {
 }
 
 #[test]
-fn gives_and_closes(rt: HostRuntime) {
+fn agents_are_given_and_their_storage_closes(rt: HostRuntime) {
     let alloc = rt.alloc();
     assert!(rt; given(alloc) == ([0, 5, 0], [(13, 1), (0, 0)], [false, false]));
     assert!(rt; lost(alloc) == ([(13, 1), (13, 1)], (0, 1)));
@@ -200,7 +200,7 @@ static NO_JOURNALS: [NoJournal; 7] = [
 ];
 
 #[test]
-fn what_is_no_journal(rt: HostRuntime) {
+fn a_text_that_is_no_journal_is_refused(rt: HostRuntime) {
     let alloc = rt.alloc();
     for row in NO_JOURNALS.iter() {
         assert!(rt; checked(alloc, row.text) == (row.code, row.line, 0));
@@ -214,7 +214,7 @@ const ILLEGAL: &[u8] = b"{\"agents\":1,\"capacity\":2,\"events\":2,\"init\":[],\
         {\"agent\":0,\"call\":{\"read\":[]},\"reply\":{\"number\":0,\"values\":[]}}\n";
 
 #[test]
-fn a_journal_that_is_not_legal(rt: HostRuntime) {
+fn a_journal_that_is_not_legal_is_told_and_replayed(rt: HostRuntime) {
     let alloc = rt.alloc();
     assert!(rt; checked(alloc, ILLEGAL) == (15, 1, 0));
     assert!(rt; replayed(alloc, ILLEGAL, &mut [0, 0]) == (0, 2, 0));

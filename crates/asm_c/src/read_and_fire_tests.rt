@@ -50,7 +50,7 @@ fn codes_of_none(alloc: Global, slot: &mut Slot) -> ([i32; 3], bool) {
 }
 
 #[test]
-fn reads(rt: HostRuntime) {
+fn reads_are_answered_or_refused(rt: HostRuntime) {
     let alloc = rt.alloc();
     let mut slot = store(alloc);
     let of_store = codes_of_none(alloc, &mut slot);
@@ -99,7 +99,7 @@ fn refused_fires(alloc: Global) -> ([(i32, u32); 3], bool) {
 }
 
 #[test]
-fn fires(rt: HostRuntime) {
+fn fires_are_answered_or_refused(rt: HostRuntime) {
     let alloc = rt.alloc();
     assert!(rt; fired_by_two(alloc) == ([(0, 1), (1, 0), (2, 0), (0, 2), (4, 0)], [true; 5]));
     assert!(rt; refused_fires(alloc) == ([(16, 0), (17, 0), (17, 0)], true));
@@ -139,7 +139,7 @@ fn codes_for(alloc: Global, count: usize) -> Result<[i32; 2], Fail> {
 }
 
 #[test]
-fn at_most_256_locations(rt: HostRuntime) -> Result<(), Fail> {
+fn at_most_256_locations_are_read_or_named(rt: HostRuntime) -> Result<(), Fail> {
     let alloc = rt.alloc();
     assert!(rt; codes_for(alloc, 256)? == [0, 0]);
     assert!(rt; codes_for(alloc, 257)? == [9, 9]);
@@ -184,7 +184,7 @@ fn learnt_of_none(alloc: Global) -> ([i32; 2], bool) {
 }
 
 #[test]
-fn learns_and_counts(rt: HostRuntime) {
+fn an_agent_learns_and_counts(rt: HostRuntime) {
     let alloc = rt.alloc();
     assert!(rt; learnt(alloc) == (0, [(0, 0, 0), (1, 1, 1), (1, 0, 0), (0, 0, 0)]));
     assert!(rt; learnt_of_none(alloc) == ([5, 5], true));

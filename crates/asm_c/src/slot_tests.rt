@@ -30,7 +30,7 @@ fn codes_of_open(alloc: Global) -> (([i32; 5], [i32; 3]), [bool; 2]) {
 }
 
 #[test]
-fn opens(rt: HostRuntime) {
+fn a_storage_opens_or_is_refused(rt: HostRuntime) {
     let alloc = rt.alloc();
     assert!(rt; codes_of_open(alloc) == (([16, 16, 17, 6, 6], [0, 11, 0]), [false, false]));
 }
@@ -52,7 +52,7 @@ fn codes_of_agent(alloc: Global) -> ([i32; 5], [bool; 2]) {
 }
 
 #[test]
-fn makes_one_agent(rt: HostRuntime) {
+fn one_agent_is_made_of_each_number(rt: HostRuntime) {
     let alloc = rt.alloc();
     assert!(rt; codes_of_agent(alloc) == ([5, 6, 0, 11, 5], [false, true]));
 }
@@ -111,7 +111,7 @@ fn code_of_taken(alloc: Global) -> (i32, [bool; 2]) {
 }
 
 #[test]
-fn makes_agents(rt: HostRuntime) -> Result<(), Fail> {
+fn up_to_256_agents_are_made(rt: HostRuntime) -> Result<(), Fail> {
     let alloc = rt.alloc();
     let mut store = store(alloc);
     assert!(rt; code_for(alloc, &mut Slot::empty(alloc), 2)? == (5, 0));
@@ -136,7 +136,7 @@ fn codes_of_free(alloc: Global) -> [i32; 3] {
 }
 
 #[test]
-fn lets_go(rt: HostRuntime) {
+fn what_was_freed_is_let_go(rt: HostRuntime) {
     assert!(rt; codes_of_free(rt.alloc()) == [0, 5, 5]);
 }
 

@@ -2,6 +2,6 @@
 #![tactic(auto)]
 
 #[cfg(test)]
-mod refusal_tests;
+mod refusals;
 #[cfg(test)]
-mod report_tests;
+mod reports;

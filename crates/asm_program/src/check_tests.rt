@@ -34,7 +34,7 @@ static JOURNALS: [(&str, &str); 3] = [
 ];
 
 #[test]
-fn journals_of_scripts(rt: HostRuntime) -> Result<(), Fail> {
+fn journals_of_scripts_are_written(rt: HostRuntime) -> Result<(), Fail> {
     Ok(assert_ends(&rt, rt.alloc(), &JOURNAL, 0, &JOURNALS)?)
 }
 
@@ -52,7 +52,7 @@ pub(crate) static LEGAL: [(&str, &str); 3] = [
 ];
 
 #[test]
-fn legal_journals(rt: HostRuntime) -> Result<(), Fail> {
+fn legal_journals_are_counted(rt: HostRuntime) -> Result<(), Fail> {
     Ok(assert_ends(&rt, rt.alloc(), &CHECK, 0, &LEGAL)?)
 }
 
@@ -74,7 +74,7 @@ pub(crate) static ILLEGAL: [(&str, &str); 2] = [
 ];
 
 #[test]
-fn illegal_journals(rt: HostRuntime) -> Result<(), Fail> {
+fn illegal_journals_are_told(rt: HostRuntime) -> Result<(), Fail> {
     Ok(assert_ends(&rt, rt.alloc(), &CHECK, 1, &ILLEGAL)?)
 }
 
@@ -105,6 +105,6 @@ pub(crate) static NO_JOURNALS: [(&str, &str); 7] = [
 ];
 
 #[test]
-fn texts_that_are_no_journals(rt: HostRuntime) -> Result<(), Fail> {
+fn other_texts_are_no_journals(rt: HostRuntime) -> Result<(), Fail> {
     Ok(assert_ends(&rt, rt.alloc(), &CHECK, 2, &NO_JOURNALS)?)
 }

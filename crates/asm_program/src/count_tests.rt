@@ -64,7 +64,7 @@ moves 1
 ];
 
 #[test]
-fn reports_of_counters(rt: HostRuntime) -> Result<(), Fail> {
+fn counters_are_reported(rt: HostRuntime) -> Result<(), Fail> {
     Ok(assert_ends(&rt, rt.alloc(), &RUN, 0, &COUNTERS)?)
 }
 
@@ -124,7 +124,7 @@ agent 0 step 0 clash ["n"] Kind
 
 /// Steps of several blocks, of which some change counters.
 #[test]
-fn reports_of_counters_in_sequence(rt: HostRuntime) -> Result<(), Fail> {
+fn counters_in_sequence_are_reported(rt: HostRuntime) -> Result<(), Fail> {
     Ok(assert_ends(&rt, rt.alloc(), &RUN, 0, &SEQUENCES)?)
 }
 

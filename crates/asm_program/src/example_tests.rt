@@ -188,6 +188,6 @@ agent 1 step 1 clash ["robot","bob"] Two
 ];
 
 #[test]
-fn reports_of_examples(rt: HostRuntime) -> Result<(), Fail> {
+fn examples_are_reported(rt: HostRuntime) -> Result<(), Fail> {
     Ok(assert_ends(&rt, rt.alloc(), &RUN, 0, &EXAMPLES)?)
 }

@@ -60,7 +60,7 @@ fn assert_told<T: Threads + Wait + Sync + Abort>(
 }
 
 #[test]
-fn journals_that_are_cut(rt: HostRuntime) -> Result<(), Fail> {
+fn journals_that_are_cut_are_told(rt: HostRuntime) -> Result<(), Fail> {
     assert_told(&rt, rt.alloc(), &CHECK, SEQUENCE_JOURNAL)?;
     Ok(assert_told(&rt, rt.alloc(), &REWRITE, SEQUENCE_JOURNAL_1)?)
 }
@@ -119,7 +119,7 @@ static ALTERED: [(&str, &str); 7] = [
 ];
 
 #[test]
-fn journals_that_are_altered(rt: HostRuntime) -> Result<(), Fail> {
+fn journals_that_are_altered_are_refused(rt: HostRuntime) -> Result<(), Fail> {
     assert_ends(&rt, rt.alloc(), &CHECK, 2, &ALTERED)?;
     assert_ends(&rt, rt.alloc(), &REWRITE, 2, &ALTERED)?;
     Ok(())
@@ -176,7 +176,7 @@ fn assert_failures<T: Threads + Wait + Sync + Abort>(
 }
 
 #[test]
-fn journals_to_outputs_that_fail(rt: HostRuntime) -> Result<(), Fail> {
+fn a_journal_to_an_output_that_fails_is_a_fault(rt: HostRuntime) -> Result<(), Fail> {
     assert_failures(&rt, rt.alloc(), (JOURNAL.as_slice(), SEQUENCE))?;
     Ok(assert_failures(&rt, rt.alloc(), (REWRITE.as_slice(), SEQUENCE_JOURNAL_1))?)
 }

@@ -81,7 +81,7 @@ moves 1
 ];
 
 #[test]
-fn reports_of_lists(rt: HostRuntime) -> Result<(), Fail> {
+fn lists_are_reported(rt: HostRuntime) -> Result<(), Fail> {
     Ok(assert_ends(&rt, rt.alloc(), &RUN, 0, &LISTS)?)
 }
 
@@ -131,7 +131,7 @@ fn assert_no_shapes<T: Threads + Wait + Sync + Abort>(
 }
 
 #[test]
-fn values_that_are_no_lists(rt: HostRuntime) -> Result<(), Fail> {
+fn other_values_are_no_lists(rt: HostRuntime) -> Result<(), Fail> {
     assert_no_shapes(&rt, rt.alloc(), PUT, &NO_LISTS)?;
     Ok(assert_no_shapes(&rt, rt.alloc(), ARGUMENT, &NO_ARGUMENTS)?)
 }

@@ -181,7 +181,7 @@ static REFUSED: [(&str, (usize, Option<ErrorKind>), Ending); 10] = [
 ];
 
 #[test]
-fn inputs_that_are_refused(rt: HostRuntime) -> Result<(), Fail> {
+fn long_and_failing_inputs_are_refused(rt: HostRuntime) -> Result<(), Fail> {
     for (word, spaces, wanted) in REFUSED.iter() {
         assert!(rt; ends(&rt, rt.alloc(), word, *spaces, *wanted)?, "{word}");
     }
@@ -250,7 +250,7 @@ fn plays_slowly<T: Threads + Wait + Sync>(rt: &T, alloc: Global) -> Result<bool,
 }
 
 #[test]
-fn an_input_of_one_byte_at_a_time(rt: HostRuntime) -> Result<(), Fail> {
+fn an_input_of_one_byte_at_a_time_is_played(rt: HostRuntime) -> Result<(), Fail> {
     assert!(rt; plays_slowly(&rt, rt.alloc())?);
     Ok(())
 }

@@ -40,7 +40,7 @@ moves 1
 ];
 
 #[test]
-fn reports_of_scripts(rt: HostRuntime) -> Result<(), Fail> {
+fn scripts_are_reported(rt: HostRuntime) -> Result<(), Fail> {
     Ok(assert_ends(&rt, rt.alloc(), &RUN, 0, &SCRIPTS)?)
 }
 
@@ -105,7 +105,7 @@ agent 0 step 0 clash ["x"] Both
 
 /// Scripts of partial updates, with their reports.
 #[test]
-fn reports_of_sets_and_bags(rt: HostRuntime) -> Result<(), Fail> {
+fn sets_and_bags_are_reported(rt: HostRuntime) -> Result<(), Fail> {
     Ok(assert_ends(&rt, rt.alloc(), &RUN, 0, &SETS_AND_BAGS)?)
 }
 
@@ -151,7 +151,7 @@ agent 0 step 0 large ["b"]
 
 /// Steps of several blocks, and terms.
 #[test]
-fn reports_of_sequences(rt: HostRuntime) -> Result<(), Fail> {
+fn sequences_are_reported(rt: HostRuntime) -> Result<(), Fail> {
     Ok(assert_ends(&rt, rt.alloc(), &RUN, 0, &SEQUENCES)?)
 }
 
@@ -207,7 +207,7 @@ fn a_written_journal_is_legal(rt: HostRuntime) -> Result<(), Fail> {
 }
 
 #[test]
-fn full_then_clash_at_capacity_one(rt: HostRuntime) -> Result<(), Fail> {
+fn a_clash_is_told_also_where_the_storage_is_full(rt: HostRuntime) -> Result<(), Fail> {
     let script =
         r#"{"init":[],"agents":[[[[["put",["x"],1]]],[[["put",["x"],2]]],[[["put",["x"],3],["put",["x"],4]]]]]}"#;
     let want = r#"[["x"],1]
@@ -245,7 +245,7 @@ fn fires_eight<T: Threads + Wait + Sync>(
 }
 
 #[test]
-fn capacities_that_are_asked_for(rt: HostRuntime) -> Result<(), Fail> {
+fn a_storage_has_the_capacity_that_is_asked_for(rt: HostRuntime) -> Result<(), Fail> {
     for words in EIGHT.iter() {
         assert!(rt; fires_eight(&rt, rt.alloc(), words)?);
     }
@@ -278,7 +278,7 @@ static REFUSED: [(&str, &str); 6] = [
 ];
 
 #[test]
-fn scripts_that_are_refused(rt: HostRuntime) -> Result<(), Fail> {
+fn wrong_scripts_are_refused(rt: HostRuntime) -> Result<(), Fail> {
     Ok(assert_ends(&rt, rt.alloc(), &RUN, 2, &REFUSED)?)
 }
 

@@ -58,12 +58,12 @@ static REWRITES: [(&str, &str); 7] = [
 
 /// Journals of both versions, legal and illegal ones, each with what is written for it.
 #[test]
-fn journals_that_are_rewritten(rt: HostRuntime) -> Result<(), Fail> {
+fn journals_are_rewritten(rt: HostRuntime) -> Result<(), Fail> {
     Ok(assert_ends(&rt, rt.alloc(), &REWRITE, 0, &REWRITES)?)
 }
 
 #[test]
-fn texts_that_are_not_rewritten(rt: HostRuntime) -> Result<(), Fail> {
+fn other_texts_are_not_rewritten(rt: HostRuntime) -> Result<(), Fail> {
     Ok(assert_ends(&rt, rt.alloc(), &REWRITE, 2, &NO_JOURNALS)?)
 }
 

@@ -17,7 +17,7 @@ fn long_script(alloc: Global, puts: usize) -> Result<String, AllocError> {
 }
 
 #[test]
-fn a_step_that_composes_to_many_instructions(rt: HostRuntime) -> Result<(), Fail> {
+fn a_step_that_composes_to_too_many_instructions_is_told(rt: HostRuntime) -> Result<(), Fail> {
     let script = long_script(rt.alloc(), 4096)?;
     let wanted = (0, "moves 0\nagent 0 step 0 many\n");
     assert!(rt; ends(&rt, rt.alloc(), &RUN, script.as_str(), wanted)?);
@@ -25,7 +25,7 @@ fn a_step_that_composes_to_many_instructions(rt: HostRuntime) -> Result<(), Fail
 }
 
 #[test]
-fn a_step_of_as_many_instructions_as_a_move_may_have(rt: HostRuntime) -> Result<(), Fail> {
+fn a_step_of_as_many_instructions_as_a_move_may_have_fires(rt: HostRuntime) -> Result<(), Fail> {
     let script = long_script(rt.alloc(), 4095)?;
     assert!(rt; ends_with_line(&rt, rt.alloc(), script.as_str(), "moves 1\n")?);
     Ok(())
@@ -65,7 +65,7 @@ const FULL_THEN_CLASH_JOURNAL: &str = r#"{"agents":1,"capacity":1,"events":3,"in
 "#;
 
 #[test]
-fn a_journal_with_full_and_a_clash(rt: HostRuntime) -> Result<(), Fail> {
+fn a_journal_with_full_and_a_clash_is_legal(rt: HostRuntime) -> Result<(), Fail> {
     let written = (0, FULL_THEN_CLASH_JOURNAL);
     assert!(rt; ends(&rt, rt.alloc(), &SMALL_RUN, FULL_THEN_CLASH, written)?);
     let told = (0, "legal 3 1\n");
@@ -132,7 +132,7 @@ fn is_refused_nested<T: Threads + Wait + Sync>(
 }
 
 #[test]
-fn lists_that_are_nested_deep(rt: HostRuntime) -> Result<(), Fail> {
+fn a_script_nests_at_most_127_deep(rt: HostRuntime) -> Result<(), Fail> {
     assert!(rt; is_refused_nested(&rt, rt.alloc(), 128, "bad script: not JSON\n")?);
     assert!(rt; is_refused_nested(&rt, rt.alloc(), 127, "bad script: shape\n")?);
     Ok(())
@@ -160,6 +160,6 @@ moves 2
 ];
 
 #[test]
-fn reports_of_ready_blocks(rt: HostRuntime) -> Result<(), Fail> {
+fn ready_blocks_are_reported(rt: HostRuntime) -> Result<(), Fail> {
     Ok(assert_ends(&rt, rt.alloc(), &RUN, 0, &READY_BLOCKS)?)
 }

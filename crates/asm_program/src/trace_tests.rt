@@ -44,12 +44,12 @@ static TRACES: [(&str, &str); 4] = [
 
 /// Journals of both versions, legal and illegal ones, each with its trace.
 #[test]
-fn traces_of_journals(rt: HostRuntime) -> Result<(), Fail> {
+fn journals_are_traced(rt: HostRuntime) -> Result<(), Fail> {
     Ok(assert_ends(&rt, rt.alloc(), &TRACE, 0, &TRACES)?)
 }
 
 #[test]
-fn texts_that_have_no_trace(rt: HostRuntime) -> Result<(), Fail> {
+fn other_texts_have_no_trace(rt: HostRuntime) -> Result<(), Fail> {
     Ok(assert_ends(&rt, rt.alloc(), &TRACE, 2, &NO_JOURNALS)?)
 }
 
@@ -132,6 +132,6 @@ fn assert_traced<T: Threads + Wait + Sync + Abort>(
 }
 
 #[test]
-fn traces_of_examples(rt: HostRuntime) -> Result<(), Fail> {
+fn examples_are_traced(rt: HostRuntime) -> Result<(), Fail> {
     Ok(assert_traced(&rt, rt.alloc())?)
 }

@@ -28,7 +28,7 @@ static REFUSED: [&[&str]; 16] = [
 ];
 
 #[test]
-fn words_that_are_refused(rt: HostRuntime) -> Result<(), Fail> {
+fn wrong_words_are_refused(rt: HostRuntime) -> Result<(), Fail> {
     for words in REFUSED.iter() {
         assert!(rt; ends(&rt, rt.alloc(), words, ONE_PUT, (2, "bad words\n"))?);
     }
@@ -135,7 +135,7 @@ fn ends_without_words<T: Threads + Wait + Sync>(
 
 /// The words as the system gives them: one isn't UTF-8, or there was no memory for them.
 #[test]
-fn words_that_are_not_given(rt: HostRuntime) -> Result<(), Fail> {
+fn words_that_are_not_given_end_the_program(rt: HostRuntime) -> Result<(), Fail> {
     let alloc = rt.alloc();
     let bad = (2, "bad words\n");
     assert!(rt; ends_without_words(&rt, alloc, ErrorKind::InvalidData, bad)?);

@@ -2,8 +2,8 @@
 #![tactic(auto)]
 
 #[cfg(test)]
-mod ready_tests;
+mod ready_blocks;
 #[cfg(test)]
-mod script_tests;
+mod scripts;
 #[cfg(test)]
-mod step_tests;
+mod steps;

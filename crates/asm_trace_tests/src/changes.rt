@@ -144,6 +144,6 @@ static CHANGES: [(&str, &str); 7] = [
 ];
 
 #[test]
-fn what_moves_change(rt: HostRuntime) -> Result<(), Fail> {
+fn changes_of_moves_are_traced(rt: HostRuntime) -> Result<(), Fail> {
     Ok(assert_traces(&rt, rt.alloc(), &CHANGES)?)
 }

@@ -43,6 +43,6 @@ static HISTORIES: [(&str, &str); 4] = [
 ];
 
 #[test]
-fn histories_of_both_versions(rt: HostRuntime) -> Result<(), Fail> {
+fn histories_of_both_versions_are_traced(rt: HostRuntime) -> Result<(), Fail> {
     Ok(assert_traces(&rt, rt.alloc(), &HISTORIES)?)
 }

@@ -1,5 +1,5 @@
 //! Blocks whose terms are all written out, beside blocks whose terms need a state.
-use crate::step_tests::{STATE, are_named, fault_of, first_step, gives, script_of};
+use crate::steps::{STATE, are_named, fault_of, first_step, gives, script_of};
 use asm_script::StepFault;
 use std::alloc::{AllocError, Global};
 use std::test::Fail;

@@ -55,7 +55,7 @@ fn many_judged(
 const ADD: &str = r#"["add",["s"],1]"#;
 
 #[test]
-fn agents_up_to_256(rt: HostRuntime) -> Result<(), Fail> {
+fn a_script_has_at_most_256_agents(rt: HostRuntime) -> Result<(), Fail> {
     for (agent, count, cause) in [
         ("[]", 0, None),
         ("[]", 256, None),
@@ -68,7 +68,7 @@ fn agents_up_to_256(rt: HostRuntime) -> Result<(), Fail> {
 }
 
 #[test]
-fn blocks_from_1_to_65(rt: HostRuntime) -> Result<(), Fail> {
+fn a_step_has_from_1_to_65_blocks(rt: HostRuntime) -> Result<(), Fail> {
     for (count, cause) in [
         (0, Some(ScriptCause::Blocks)),
         (1, None),
@@ -81,7 +81,7 @@ fn blocks_from_1_to_65(rt: HostRuntime) -> Result<(), Fail> {
 }
 
 #[test]
-fn instructions_up_to_4096(rt: HostRuntime) -> Result<(), Fail> {
+fn a_block_has_at_most_4096_instructions(rt: HostRuntime) -> Result<(), Fail> {
     for (count, cause) in [(4096, None), (4097, Some(ScriptCause::Instructions))] {
         assert!(rt; many_judged(rt.alloc(), ("[[[", ADD, count, "]]]"), cause)?);
     }
@@ -219,7 +219,7 @@ const TARGET: (&str, &str) = (r#"["add",["y","#, "],1]");
 const AGAIN: &str = r#",["put",["x"],{"val":["y",0]}]]"#;
 
 #[test]
-fn reads_up_to_256(rt: HostRuntime) -> Result<(), Fail> {
+fn a_step_reads_at_most_256_locations(rt: HostRuntime) -> Result<(), Fail> {
     for (before, item, count, behind, cause) in [
         ("[", READ, 256, AGAIN, None),
         ("[", READ, 257, "]", Some(ScriptCause::Reads)),
@@ -253,7 +253,7 @@ static CAUSES: [ScriptCause; 6] = [
 
 /// Each is equal to itself alone.
 #[test]
-fn causes_that_differ(rt: HostRuntime) {
+fn causes_are_equal_to_themselves_alone(rt: HostRuntime) {
     for (i, a) in CAUSES.iter().enumerate() {
         for (j, b) in CAUSES.iter().enumerate() {
             assert!(rt; (a == b) == (i == j));

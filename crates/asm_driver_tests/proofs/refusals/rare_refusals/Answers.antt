@@ -1,6 +1,6 @@
 use Rattle.std.proofs.Common.{refl}
 use Rattle.std.specs.Fmt.{digits}
-use Rattle.asm_driver_tests.proofs.refusal_tests.rare_refusals.Goals as goal
+use Rattle.asm_driver_tests.proofs.refusals.rare_refusals.Goals as goal
 
 pub returns-clause-missing : goal.returns-clause-missing
 unfolding digits

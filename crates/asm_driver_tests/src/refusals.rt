@@ -73,7 +73,7 @@ static REFUSALS: [(&str, &str, &str); 12] = [
 ];
 
 #[test]
-fn words_and_texts_that_are_refused(rt: HostRuntime) -> Result<(), Fail> {
+fn wrong_words_and_texts_are_refused(rt: HostRuntime) -> Result<(), Fail> {
     for row in REFUSALS.iter() {
         let (word, input, line) = *row;
         assert!(rt; refuses(&rt, rt.alloc(), word, input, line)?, "{line}");
@@ -142,6 +142,6 @@ fn rare_refusals()
 {}
 
 #[test]
-fn refusals_that_no_input_brings_about(_rt: HostRuntime) {
+fn what_no_input_brings_about_is_refused_too(_rt: HostRuntime) {
     rare_refusals();
 }
