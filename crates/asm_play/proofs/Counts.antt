@@ -1,5 +1,5 @@
 -- How many there are, and lists that are gone through, over plain variables.
-use Rattle.std.proofs.Common.{◌≡◌, ◌≢◌, inl, inr, ◌∙◌, ℕ, ◌+◌, ◌<◌, ◌≤◌, List, [], ◌∷◌, ◌++◌, map, length, All, refl, sym}
+use Rattle.std.proofs.Common.{◌≡◌, ◌≢◌, inl, inr, ◌∙◌, ℕ, ◌+◌, ◌≤◌, List, [], ◌∷◌, ◌++◌, map, length, All, refl, sym}
 use Rattle.std.proofs.Common.{None, Ok, ap, arith}
 use Rattle.std.proofs.Common.{append_assoc}
 use Rattle.std.proofs.lemmas.List.{append-nil}
@@ -14,9 +14,6 @@ use Rattle.asm_storage.specs.declared.history.Event.{Event}
 use Rattle.asm_script.specs.Sequencing.{step_move_on}
 use Rattle.asm_script.specs.declared.step.Step.{Step}
 use Rattle.asm_play.specs.StepEvents.{name_at, state_at, stale_fires, IsIdle, IsReading, IsTryOf, IsVainTry}
-
-pub tries_left : (n : ℕ) → n < 1001 → n ≤ 1000
-tries_left n below = omega arith
 
 -- ---- events are counted in turn
 

@@ -1,9 +1,9 @@
 -- What two lists of jobs give.
-use Rattle.std.proofs.Common.{◌≡◌, ◌≤◌, ◌++◌, ℕ, List, [], ◌∷◌, Result, Ok, Err, Vec, Global, subst, sym}
+use Rattle.std.proofs.Common.{◌≡◌, inl, inr, ◌≤◌, ◌++◌, ℕ, List, [], ◌∷◌, Result, Ok, Err, Vec, Global, refl, subst, sym}
 use Rattle.std.specs.Prelude.{IfOk, IfErr, IsOkAnd}
-use Rattle.asm_play.specs.Jobs.{GivesEach}
-use Rattle.asm_play.specs.declared.workers.WorkersError.{WorkersError}
-use Rattle.asm_play.specs.declared.workers.WorkersError.TheVariants.{NoThread, Memory}
+use Rattle.asm_play.specs.Jobs.{GivesEach, IsUndone, told_first, error_of_both}
+use Rattle.asm_play.specs.declared.outcome.RunError.{RunError}
+use Rattle.asm_play.specs.declared.outcome.RunError.TheVariants.{NoThread, Memory}
 
 -- what the first jobs gave and then what the others gave
 pub gives_each_append : {J X : Type 0} (gives : J → X → Type 0) (a b : List J) (x y : List X) →
@@ -28,7 +28,24 @@ joins gives k l a b c (Ok x) (Err s) (Ok z) same jobs p q e = absurd e
 joins gives k l a b c (Err r) s (Ok z) same jobs p q e = absurd e
 joins gives k l a b c r s (Err t) same jobs p q e = tt
 
+-- and why they weren't done
+told_undone : (f g : RunError) → IsUndone f → IsUndone g → IsUndone (told_first f g)
+told_undone f g (inl is) q = subst (λ e. IsUndone (told_first e g)) (sym is) (inl refl)
+told_undone f g (inr is) q = subst (λ e. IsUndone (told_first e g)) (sym is) q
+
+both_undone : {X Y : Type 0} (r : Result X RunError) (s : Result Y RunError) → IfErr r IsUndone → IfErr s IsUndone →
+    IsUndone (error_of_both r s)
+both_undone (Ok x) (Ok y) p q = inr refl
+both_undone (Ok x) (Err g) p q = q
+both_undone (Err f) (Ok y) p q = p
+both_undone (Err f) (Err g) p q = told_undone f g p q
+
+pub joins_undone : {X Y Z : Type 0} (r : Result X RunError) (s : Result Y RunError) (t : Result Z RunError) →
+    IfErr r IsUndone → IfErr s IsUndone → IfErr t (λ e. e ≡ error_of_both r s) → IfErr t IsUndone
+joins_undone r s (Ok z) p q e = tt
+joins_undone r s (Err f) p q e = subst IsUndone (sym e) (both_undone r s p q)
+
 -- refused memory isn't a missing thread
-pub only_memory : {X : Type 0} (r : Result X WorkersError) (n : ℕ) → IfErr r (λ e. e ≡ Memory) → r ≡ Err NoThread → 2 ≤ n
+pub only_memory : {X : Type 0} (r : Result X RunError) (n : ℕ) → IfErr r (λ e. e ≡ Memory) → r ≡ Err NoThread → 2 ≤ n
 only_memory r n refused is =
     let no : NoThread ≡ Memory = subst (λ q. IfErr q (λ e. e ≡ Memory)) is refused in absurd (cc no)

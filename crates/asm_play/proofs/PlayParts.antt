@@ -9,12 +9,10 @@ use Rattle.asm_update.specs.Aggregator.{Meaning}
 use Rattle.asm_storage.specs.Agents.{AgentView}
 use Rattle.asm_storage.specs.Storage.{StorageView, AgentAt, at_start}
 use Rattle.asm_play.specs.AgentPlay.{Plays}
-use Rattle.asm_play.specs.PlayedAgents.{steps_at, workers_error_told, ArePlayed, IsNotClosed}
+use Rattle.asm_play.specs.PlayedAgents.{steps_at, ArePlayed, IsNotClosed}
 use Rattle.asm_play.specs.Jobs.{GivesEach}
 use Rattle.asm_play.specs.declared.outcome.RunError.{RunError}
 use Rattle.asm_play.specs.declared.outcome.RunError.TheVariants as run_error
-use Rattle.asm_play.specs.declared.workers.WorkersError.{WorkersError}
-use Rattle.asm_play.specs.declared.workers.WorkersError.TheVariants as workers_error
 use Rattle.asm_script.specs.declared.step.Step.{Step}
 use Rattle.asm_play.specs.declared.outcome.Outcome.{Outcome}
 
@@ -81,22 +79,19 @@ agents_ended {A = A} meaning mine theirs other s xa xo first played_agents writt
 
 -- a worker whose thread is missing is one of several, and so is its agent
 pub missing_of_several : {A X : Type 0} (s : StorageView A) (agents : Vec (AgentAt A) Global)
-    (written sss : List (List Step)) (w : WorkersError) (r : Result X RunError) →
+    (written sss : List (List Step)) (e : RunError) (r : Result X RunError) →
     agents.items ≡ map (at_start s) (range_with_len 0 (length written)) → written ≡ sss →
-    (w ≡ workers_error.NoThread → 2 ≤ vec_len agents) → IsErrAnd r (λ e. e ≡ workers_error_told w) →
-    r ≡ Err run_error.NoThread → 2 ≤ length sss
-missing_of_several s agents written sss workers_error.NoThread r begun same several told is =
+    (e ≡ run_error.NoThread → 2 ≤ vec_len agents) → IsErrAnd r (λ f. f ≡ e) → r ≡ Err run_error.NoThread →
+    2 ≤ length sss
+missing_of_several s agents written sss e r begun same several told is =
     let first = map (at_start s) (range_with_len 0 (length written)) in
     let count : length first ≡ length written =
     length-map (range_with_len 0 (length written)) (at_start s) ∙ length-range_with_len 0 (length written) in
     let items : length agents.items ≡ length first = ap length begun in
     let all : length written ≡ length sss = ap length same in
     let long : vec_len agents ≡ length agents.items = agents.ok.0 in
-    let two : 2 ≤ vec_len agents = several refl in
+    let two : 2 ≤ vec_len agents = several (sym (subst (λ q. IsErrAnd q (λ f. f ≡ e)) is told)) in
     omega (arith, two, long, items, count, all)
-missing_of_several s agents written sss workers_error.Memory r begun same several told is =
-    let no : run_error.NoThread ≡ run_error.Memory =
-    subst (λ q. IsErrAnd q (λ e. e ≡ run_error.Memory)) is told in absurd (cc no)
 
 -- closing starts no thread
 pub closed_alone : {X : Type 0} (agents : List AgentView) (r : Result X RunError) (n : ℕ) →

@@ -1,33 +1,46 @@
--- Proper states and moves: of more events, and of fewer moves.
-use Rattle.std.proofs.Common.{◌≡◌, ℕ, ◌+◌, ◌<◌, All, List, [], ◌∷◌, ◌++◌, length, take, get_or, Option, Some, None}
-use Rattle.std.proofs.Common.{subst, sym, ap, ◌∙◌, refl}
-use Rattle.std.proofs.lemmas.List.{take_more}
-use Rattle.std.proofs.lemmas.List.Elements.{All-nil, All-cons, All-head, All-tail, All-append, filter_map-append}
-use Rattle.std.specs.List.{filter_map}
+-- Proper states and moves: of a history, and of fewer moves.
+use Rattle.std.proofs.Common.{◌≡◌, All, List, [], ◌∷◌, ◌++◌, Option, Some, None, subst, sym, refl}
+use Rattle.std.proofs.lemmas.List.Elements.{All-nil, All-cons, All-head, All-tail}
+use Rattle.std.proofs.lemmas.Option.{same_Some}
+use Rattle.std.specs.List.{cons_option}
 use mathlib.Core.List.{IsPrefix}
 use Rattle.asm_update.specs.Action.{IsProperInstruction}
 use Rattle.asm_update.specs.Move.{Move}
 use Rattle.asm_update.specs.State.{State}
-use Rattle.asm_storage.specs.History.{move_of, fired_moves}
+use Rattle.asm_storage.specs.History.{fired_move, move_of, fired_moves}
+use Rattle.asm_storage.specs.Proper.{IsProper, IsProperCall, IsProperEvent}
+use Rattle.asm_storage.specs.declared.call.Answer.{Answer}
+use Rattle.asm_storage.specs.declared.call.Answer.TheVariants as answer
+use Rattle.asm_storage.specs.declared.call.Call.{Call}
+use Rattle.asm_storage.specs.declared.call.Call.TheVariants as call
+use Rattle.asm_storage.specs.declared.call.Reply.TheVariants as reply
 use Rattle.asm_storage.specs.declared.history.Event.{Event}
+use Rattle.asm_storage.specs.declared.history.History.{History}
 use Rattle.asm_play.specs.AgentPlay.{AreProper}
 
--- what there is of one event
-one : (P : Move → Type 0) (e : Event) (o : Option Move) → move_of e ≡ o → ((M : Move) → move_of e ≡ Some M → P M) →
-    All P (fired_moves (e ∷ []))
-one P e None is proper = subst (λ o. All P (filter_map (λ (x : Option Move). x) (o ∷ []))) (sym is) (All-nil P)
-one P e (Some M) is proper =
-    subst (λ o. All P (filter_map (λ (x : Option Move). x) (o ∷ []))) (sym is)
-    (All-cons P M [] (proper M is) (All-nil P))
+-- the move that an event fired is proper
+moved : (c : Call) (a : Answer) (M : Move) → IsProperCall c → fired_move c a ≡ Some M → All IsProperInstruction M
+moved (call.Read places) (answer.Read number values) M proper is = absurd cc
+moved (call.Read places) (answer.Fire r) M proper is = absurd cc
+moved (call.Fire reads N) (answer.Fire (reply.Fired k)) M proper is =
+    subst (All IsProperInstruction) (same_Some N M is) proper.1.0
+moved (call.Fire reads N) (answer.Fire (reply.Stale l)) M proper is = absurd cc
+moved (call.Fire reads N) (answer.Fire (reply.Clash c)) M proper is = absurd cc
+moved (call.Fire reads N) (answer.Fire reply.Full) M proper is = absurd cc
+moved (call.Fire reads N) (answer.Read number values) M proper is = absurd cc
 
-pub moves_more : (P : Move → Type 0) (events : List Event) (i : ℕ) (e : Event) → i < length events →
-    e ≡ get_or events i e → All P (fired_moves (take i events)) → ((M : Move) → move_of e ≡ Some M → P M) →
-    All P (fired_moves (take (i + 1) events))
-moves_more P events i e lt is before proper =
-    let all = take_more events i e lt ∙ ap (λ x. take i events ++ x ∷ []) (sym is) in
-    let told = ap fired_moves all ∙ filter_map-append move_of (take i events) (e ∷ []) in
-    let here = one P e (move_of e) refl proper in
-    subst (All P) (sym told) (All-append P (fired_moves (take i events)) (fired_moves (e ∷ [])) before here)
+all_moved : (h : List Event) → All IsProperEvent h → All (All IsProperInstruction) (fired_moves h)
+all_moved [] all = All-nil (All IsProperInstruction)
+all_moved (e ∷ h) all = by_move (move_of e) refl (all_moved h (All-tail IsProperEvent e h all)) where
+  by_move : (o : Option Move) → move_of e ≡ o → All (All IsProperInstruction) (fired_moves h) →
+      All (All IsProperInstruction) (cons_option o (fired_moves h))
+  by_move None is later = later
+  by_move (Some M) is later =
+      All-cons (All IsProperInstruction) M _ (moved e.call e.answer M (All-head IsProperEvent e h all).0 is) later
+
+-- the opening state and the moves of a history that a program holds
+pub history_proper : (h : History) → IsProper h → AreProper h.init (fired_moves h.events)
+history_proper h proper = record { state = proper.0; moves = all_moved h.events proper.1 }
 
 first_of : {X : Type 0} (P : X → Type 0) (xs ys : List X) → All P (xs ++ ys) → All P xs
 first_of P [] ys all = All-nil P

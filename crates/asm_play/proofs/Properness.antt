@@ -1,7 +1,6 @@
 -- What moves leave of a state that a program can hold is such a state again.
 use Rattle.std.proofs.Common.{◌≡◌, Bool, true, false, cond, ◌||◌, T, List, [], ◌∷◌, map, refl, sym, ap}
 use Rattle.std.proofs.Common.{subst, ◌∙◌, All, Option, Some, None, Result, Ok, Err, IsSomeAnd, is_some}
-use Rattle.std.specs.List.{filter, filter_map}
 use Rattle.std.specs.FinMap as finite
 use Rattle.std.specs.FinMap.Entries.{below_all}
 use Rattle.std.specs.Ordering.{eq_by_cmp}
@@ -11,19 +10,17 @@ use Rattle.std.proofs.lemmas.List.Elements.{All-nil, All-cons, All-head, All-tai
 use Rattle.asm_element.specs.Place.{Place, location_cmp, location_cmp_total, same_location}
 use Rattle.asm_element.specs.Place as place
 use Rattle.asm_element.specs.Ascending.{both_T, none_below}
-use Rattle.asm_element.specs.Tests.{ok_is, itself}
+use Rattle.asm_element.specs.Tests.{itself}
 use Rattle.asm_element.specs.Value as value
 use Rattle.asm_element.specs.declared.value.Value.{Value}
-use Rattle.asm_update.specs.Action.{AllProper, IsProper, IsProperInstruction, is_partial, regular_value}
+use Rattle.asm_update.specs.Action.{IsProperInstruction}
 use Rattle.asm_update.specs.Aggregator.{Meaning, AggregatorLaws}
-use Rattle.asm_update.specs.Fire.{res, group_result, first, result_at, fire, state_or, state_of, IsUpdateSet}
-use Rattle.asm_update.specs.Move.{Move, actions_at, writes, are_different}
+use Rattle.asm_update.specs.Fire.{result_at, fire, state_or, state_of, IsUpdateSet}
+use Rattle.asm_update.specs.Move.{Move, actions_at, writes}
 use Rattle.asm_update.specs.State.{State, Updates, val, overwrite}
 use Rattle.asm_update.specs.State as state
-use Rattle.asm_update.specs.declared.action.Action.{Action}
 use Rattle.asm_update.specs.declared.clash.Clash.{Clash}
-use Rattle.asm_update.specs.declared.clash.Cause.TheVariants.{Two}
-use Rattle.asm_update.proofs.ActionLemmas.{IsRegular, IsPartial, kinds}
+use Rattle.asm_storage.proofs.ProperResults.{result_proper}
 use Rattle.asm_aggregate.proofs.Sequence.{proper_value, proper_actions}
 use Rattle.asm_update.proofs.FireLemmas.{stored_or, get-overwrite, has_updated, fired_updates}
 
@@ -112,44 +109,7 @@ written_proper (x ∷ M) l h is = by_test (eq_by_cmp location_cmp x.at l) refl i
           (All-head IsProperInstruction x M h).0
       by_test false same is later = later is
 
-first_proper : (G : List Action) → AllProper G → (v : Value) → first (filter_map regular_value G) ≡ Some v →
-    value.IsProper v
-first_proper [] h v is = absurd cc
-first_proper (a ∷ G) h v is = elim (kinds a) [
-  | IsRegular u e ↦
-      let found = rw e at is in
-      subst value.IsProper (same_Some u v found) (subst IsProper e (All-head IsProper a G h))
-  | IsPartial p n ↦ let found = rw n at is in first_proper G (All-tail IsProper a G h) v found
-]
-
-partials_proper : (G : List Action) → AllProper G → AllProper (filter is_partial G)
-partials_proper [] h = All-nil IsProper
-partials_proper (x ∷ G) h = by_test (is_partial x) (partials_proper G (All-tail IsProper x G h)) where
-  by_test : (b : Bool) → AllProper (filter is_partial G) →
-      AllProper (cond b (x ∷ filter is_partial G) (filter is_partial G))
-  by_test true later = All-cons IsProper x (filter is_partial G) (All-head IsProper x G h) later
-  by_test false later = later
-
 module _ {a : Meaning} (laws : AggregatorLaws a) where
-  group_proper : (old w : Value) (r : Option Value) (ps : List Action) → value.IsProper old →
-      ((v : Value) → r ≡ Some v → value.IsProper v) → AllProper ps → group_result a.part old r ps ≡ Ok w →
-      value.IsProper w
-  group_proper old w (Some v) [] po pr pp is = subst value.IsProper (ok_is v w is) (pr v refl)
-  group_proper old w (Some v) (p ∷ ps) po pr pp is =
-      subst value.IsProper (sym (laws.regular_result old v w (p ∷ ps) is)) (pr v refl)
-  group_proper old w None ps po pr pp is = laws.proper_kept old w ps po pp is
-
-  result_proper : (old w : Value) (G : List Action) → value.IsProper old → AllProper G → res a.part old G ≡ Ok w →
-      value.IsProper w
-  result_proper old w G po pg is = by_test (are_different (filter_map regular_value G)) is where
-    by_test : (b : Bool) →
-        cond b (Err Two) (group_result a.part old (first (filter_map regular_value G)) (filter is_partial G)) ≡ Ok w →
-        value.IsProper w
-    by_test true is = absurd cc
-    by_test false is =
-        group_proper old w (first (filter_map regular_value G)) (filter is_partial G) po (first_proper G pg)
-        (partials_proper G pg) is
-
   fired_proper : (A B : State) (M : Move) → state.IsProper A → All IsProperInstruction M → fire a.part A M ≡ Ok B →
       state.IsProper B
   fired_proper A B M pA pM is = proper_from B held where
@@ -175,7 +135,7 @@ module _ {a : Meaning} (laws : AggregatorLaws a) where
         subst (λ (o : Option Value). IsSomeAnd o (λ w. result_at a.part (val A) M q ≡ Ok w)) e
         (updates.1.written q there) in
         by_undef q u v (value.is_undef u) refl is (written_proper M q pM there)
-        (result_proper (val A q) u (actions_at M q) (proper_value A q pA) (proper_actions M q pM) gives)
+        (result_proper laws (val A q) u (actions_at M q) (proper_value A q pA) (proper_actions M q pM) gives)
 
     held : (q : Place) (v : Value) → finite.get B q ≡ Some v → IsKept q v
     held q v is = by_update q v (finite.get updates.0 q) refl (sym (got q) ∙ is)

@@ -2,8 +2,8 @@
 use Rattle.std.proofs.Common.{◌≡◌, ℕ, zero, suc, ◌+◌, ◌≤◌, Bool, true, false, cond, List, [], ◌∷◌, ◌++◌, length, map}
 use Rattle.std.proofs.Common.{take, drop, Some, slice_get, Contains, refl, sym, ap, ◌∙◌, arith}
 use Rattle.std.specs.Ordering.{eq_by_cmp}
-use Rattle.std.proofs.lemmas.List.{drop_all, map-append}
-use Rattle.asm_storage.proofs.Lists.{take-slice_get}
+use Rattle.std.proofs.lemmas.List.{drop_all, drop_more, map-append, take_more}
+use Rattle.std.proofs.lemmas.Option.{get_or_from_slice_get, slice_get_within}
 use Rattle.asm_element.specs.Place.{Place, location_cmp, location_cmp_total, same_location}
 use Rattle.asm_element.specs.Tests.{itself}
 use Rattle.asm_element.specs.Value.{undef}
@@ -13,18 +13,15 @@ use Rattle.asm_storage.specs.Calls.{ReadingView}
 use Rattle.asm_play.specs.StepEvents.{name_at}
 use Rattle.asm_play.specs.Trying.{value_among}
 
-left_suc : {X : Type 0} (xs : List X) (i : ℕ) (x : X) → slice_get xs i ≡ Some x → drop i xs ≡ x ∷ drop (suc i) xs
-left_suc [] i x is = absurd cc
-left_suc (y ∷ xs) zero x is = let e : y ≡ x = cc is in ap (λ z. z ∷ xs) e
-left_suc (y ∷ xs) (suc i) x is = left_suc xs i x is
-
--- what stands at a place is the first of what is left there
+-- what stands at a place is the first of what is left there, and comes behind what was before it
 pub left_at : {X : Type 0} (xs : List X) (i : ℕ) (x : X) → slice_get xs i ≡ Some x → drop i xs ≡ x ∷ drop (i + 1) xs
-left_at xs i x is = let on : suc i ≡ i + 1 = omega arith in left_suc xs i x is ∙ ap (λ n. x ∷ drop n xs) on
+left_at xs i x is = drop_more xs i x (slice_get_within xs i x is)
+    ∙ ap (λ y. y ∷ drop (i + 1) xs) (get_or_from_slice_get xs i x x is)
 
 take_more_at : {X : Type 0} (xs : List X) (i : ℕ) (x : X) → slice_get xs i ≡ Some x →
     take (i + 1) xs ≡ take i xs ++ x ∷ []
-take_more_at xs i x is = let on : i + 1 ≡ suc i = omega arith in ap (λ n. take n xs) on ∙ take-slice_get xs i x is
+take_more_at xs i x is = take_more xs i x (slice_get_within xs i x is)
+    ∙ ap (λ y. take i xs ++ y ∷ []) (get_or_from_slice_get xs i x x is)
 
 -- the values from place i on tell the value at l, as all of them do
 abbrev pub TellsFrom : ReadingView → Place → ℕ → Type 0

@@ -11,10 +11,11 @@ use Rattle.asm_update.specs.Fire.{fire}
 use Rattle.asm_update.specs.Move.{Move}
 use Rattle.asm_update.specs.declared.clash.Clash.{Clash}
 use Rattle.asm_storage.specs.Agents.{event_of, moves_seen}
+use Rattle.asm_storage.specs.Limits.{offers_limit}
 use Rattle.asm_storage.specs.Machine.{Machine, machine_state}
 use Rattle.asm_storage.specs.Storage.{AgentAt, StorageView, IsSameAgent, machine_of}
 use Rattle.asm_storage.specs.declared.history.Event.{Event}
-use Rattle.asm_storage.specs.declared.receipt.Entry.{Entry}
+use Rattle.asm_storage.specs.declared.entry.Entry.{Entry}
 use Rattle.asm_storage.specs.declared.receipt.Receipt.{Receipt}
 use Rattle.asm_storage.proofs.Lists.{take-prefix, length-prefix}
 use Rattle.asm_play.specs.AgentPlay.{AreProper, Plays}
@@ -253,7 +254,7 @@ record AddsIdle {A : Type 0} (meaning : A → Meaning) (own : Meaning) (step : S
   adds : Adds old new more
   idle : All IsIdle (map (event_of old.account.id) more)
   busy : ℕ
-  lost : length old.account.seen + 64 * busy ≤ length new.account.seen
+  lost : length old.account.seen + offers_limit * busy ≤ length new.account.seen
   counted : stale_fires (map (event_of old.account.id) more) + busy ≡ n
   tries : AreProper old.storage.init (moves_seen new.account.seen) → AreTries own (machine_of meaning old.storage)
       (moves_seen new.account.seen) step places n (map (event_of old.account.id) more)
@@ -310,7 +311,7 @@ module _ {A : Type 0} (meaning : A → Meaning) (own : Meaning) (step : Step) (p
         ∙ stale_both (map (event_of old.account.id) first.more) (map (event_of mid.account.id) again.more)
 
     by_cause : IsVain mid new again.more →
-        (busy : ℕ) × (length old.account.seen + 64 * busy ≤ length new.account.seen)
+        (busy : ℕ) × (length old.account.seen + offers_limit * busy ≤ length new.account.seen)
         × (stale_fires (map (event_of old.account.id) (first.more ++ again.more)) + busy ≡ suc n)
     by_cause (inl (ends, one)) = (
       first.busy,
@@ -320,7 +321,7 @@ module _ {A : Type 0} (meaning : A → Meaning) (own : Meaning) (step : Step) (p
     by_cause (inr (none, longer)) =
         (suc first.busy, omega (arith, first.lost, longer), omega (arith, first.counted, both, none))
 
-    all : (busy : ℕ) × (length old.account.seen + 64 * busy ≤ length new.account.seen)
+    all : (busy : ℕ) × (length old.account.seen + offers_limit * busy ≤ length new.account.seen)
         × (stale_fires (map (event_of old.account.id) (first.more ++ again.more)) + busy ≡ suc n)
     all = by_cause again.cause
 

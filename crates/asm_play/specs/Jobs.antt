@@ -1,7 +1,7 @@
 -- What a list of jobs gives.
-use Rattle.std.specs.Prelude.{List, [], ◌∷◌, Result, Ok, Err}
-use Rattle.asm_play.specs.declared.workers.WorkersError.{WorkersError}
-use Rattle.asm_play.specs.declared.workers.WorkersError.TheVariants.{NoThread, Memory}
+use Rattle.std.specs.Prelude.{◌≡◌, ◌⊎◌, List, [], ◌∷◌, Result, Ok, Err}
+use Rattle.asm_play.specs.declared.outcome.RunError.{RunError}
+use Rattle.asm_play.specs.declared.outcome.RunError.TheVariants.{NoThread, Memory}
 
 -- each job gave what stands at its place
 abbrev pub GivesEach : {J X : Type 0} → (J → X → Type 0) → List J → List X → Type 0
@@ -10,14 +10,18 @@ GivesEach gives (j ∷ jobs) (x ∷ done) = gives j x × GivesEach gives jobs do
 GivesEach gives [] (x ∷ done) = ⊥
 GivesEach gives (j ∷ jobs) [] = ⊥
 
+-- why jobs were not done: a thread is missing, or memory was refused
+abbrev pub IsUndone : RunError → Type 0
+IsUndone e = (e ≡ NoThread) ⊎ (e ≡ Memory)
+
 -- the error that is told of two: a missing thread before an allocation failure
-abbrev pub told_first : WorkersError → WorkersError → WorkersError
+abbrev pub told_first : RunError → RunError → RunError
 told_first NoThread _ = NoThread
-told_first Memory other = other
+told_first _ other = other
 
 -- the error that is told of two halves: that of one, the first to be told of two, and an allocation failure where there is
 -- none, as what both gave was to be put together
-abbrev pub error_of_both : {X Y : Type 0} → Result X WorkersError → Result Y WorkersError → WorkersError
+abbrev pub error_of_both : {X Y : Type 0} → Result X RunError → Result Y RunError → RunError
 error_of_both (Ok x) (Ok y) = Memory
 error_of_both (Ok x) (Err g) = g
 error_of_both (Err f) (Ok y) = f

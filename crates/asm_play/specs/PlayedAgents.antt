@@ -10,8 +10,6 @@ use Rattle.asm_play.specs.declared.outcome.Outcome.{Outcome}
 use Rattle.asm_play.specs.declared.outcome.RunError.{RunError}
 use Rattle.asm_play.specs.declared.outcome.RunError.TheVariants as run_error
 use Rattle.asm_script.specs.declared.step.Step.{Step}
-use Rattle.asm_play.specs.declared.workers.WorkersError.{WorkersError}
-use Rattle.asm_play.specs.declared.workers.WorkersError.TheVariants.{NoThread, Memory}
 
 -- the steps that stand at the agent's number, or none
 abbrev pub steps_at : {A : Type 0} → List (List Step) → AgentAt A → List Step
@@ -24,11 +22,6 @@ ArePlayed meaning own s id [] [] [] = Unit {0}
 ArePlayed meaning own s id (ss ∷ sss) (a ∷ agents) (os ∷ oss) =
     Plays meaning own (at_start s id) a ss os × ArePlayed meaning own s (id + 1) sss agents oss
 ArePlayed meaning own s id _ _ _ = ⊥
-
--- an error of the workers as one of the run
-abbrev pub workers_error_told : WorkersError → RunError
-workers_error_told NoThread = run_error.NoThread
-workers_error_told Memory = run_error.Memory
 
 -- an error of closing as one of the run
 abbrev pub close_error_told : CloseError → RunError

@@ -9,6 +9,7 @@ use Rattle.asm_update.specs.Move.{Move}
 use Rattle.asm_update.specs.State.{State}
 use Rattle.asm_update.specs.declared.clash.Clash.{Clash}
 use Rattle.asm_state.specs.declared.named.Named.{Named}
+use Rattle.asm_storage.specs.Limits.{offers_limit, reads_limit}
 use Rattle.asm_storage.specs.Machine.{Machine, machine_state}
 use Rattle.asm_storage.specs.declared.call.Call.TheVariants as call
 use Rattle.asm_storage.specs.declared.call.Reply.TheVariants as reply
@@ -20,6 +21,7 @@ use Rattle.asm_script.specs.Sequencing.{Clashes, fire_blocks, step_move_on, Stan
 use Rattle.asm_script.specs.declared.step.Step.{Step}
 use Rattle.asm_script.specs.declared.step.StepFault.{StepFault}
 use Rattle.asm_script.specs.declared.step.StepFault.TheVariants as fault
+use Rattle.asm_play.specs.Limits.{tries_limit}
 use Rattle.asm_play.specs.declared.outcome.Outcome.{Outcome}
 use Rattle.asm_play.specs.declared.outcome.Outcome.TheVariants as outcome
 
@@ -68,7 +70,7 @@ HasFault own m q step f = (n : ℕ) × (n ≤ length q) × StandsFor own (state_
 
 -- the step reads more than 256 locations, or its moves compose to more than 4,096 instructions
 abbrev pub Outgrows : Meaning → Machine → List Move → Step → Type 0
-Outgrows own m q step = ((ls : List Place) × AreReads step ls × (256 < length ls)) ⊎ HasFault own m q step fault.Many
+Outgrows own m q step = ((ls : List Place) × AreReads step ls × (reads_limit < length ls)) ⊎ HasFault own m q step fault.Many
 
 -- 1 for the answer of a stale fire, else 0
 abbrev pub stale_fire : Answer → ℕ
@@ -123,23 +125,23 @@ pub record AreInVain (own : Meaning) (m : Machine) (q : List Move) (step : Step)
     (es : List Event) : Type 0 where
   pub tries : AreTries own m q step places n es
   pub busy : ℕ
-  pub lost : 64 * busy ≤ length q
+  pub lost : offers_limit * busy ≤ length q
   pub counted : stale_fires es + busy ≡ n
 
 -- the events are those of exactly 1,001 tries in vain
 pub record IsGivenUp (own : Meaning) (m : Machine) (q : List Move) (step : Step) (places : List Place) (es : List Event)
     : Type 0 where
-  pub few : length places ≤ 256
+  pub few : length places ≤ reads_limit
   pub tried : ℕ
-  pub all : tried ≡ 1001
+  pub all : tried ≡ tries_limit
   pub in_vain : AreInVain own m q step places tried es
 
 -- the events are those of at most 1,000 tries in vain, and then of one whose fire, if there is one, isn't stale
 pub record IsEndedAfter (own : Meaning) (m : Machine) (q : List Move) (step : Step) (places : List Place)
     (es : List Event) : Type 0 where
-  pub few : length places ≤ 256
+  pub few : length places ≤ reads_limit
   pub tried : ℕ
-  pub most : tried ≤ 1000
+  pub most : tried < tries_limit
   pub first : List Event
   pub last : List Event
   pub parts : es ≡ first ++ last
@@ -151,7 +153,7 @@ pub record IsEndedAfter (own : Meaning) (m : Machine) (q : List Move) (step : St
 abbrev pub HasTriesOf : Meaning → Machine → List Move → Step → List Place → Outcome → List Event → Type 0
 HasTriesOf own m q step places outcome.GaveUp es = IsGivenUp own m q step places es
 HasTriesOf own m q step places outcome.Many es =
-    ((256 < length places) × (es ≡ [])) ⊎ IsEndedAfter own m q step places es
+    ((reads_limit < length places) × (es ≡ [])) ⊎ IsEndedAfter own m q step places es
 HasTriesOf own m q step places _ es = IsEndedAfter own m q step places es
 
 -- the tries of a step with this outcome

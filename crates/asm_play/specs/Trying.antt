@@ -12,6 +12,7 @@ use Rattle.asm_update.specs.Move.{Move}
 use Rattle.asm_state.specs.declared.named.Named.{Named}
 use Rattle.asm_storage.specs.Agents.{event_of, moves_seen}
 use Rattle.asm_storage.specs.Calls.{ReadingView, IsRead, IsAnswered}
+use Rattle.asm_storage.specs.Limits.{offers_limit, reads_limit}
 use Rattle.asm_storage.specs.Storage.{AgentAt, IsSameAgent, machine_of, has_looked}
 use Rattle.asm_storage.specs.declared.call.Answer.TheVariants as answer
 use Rattle.asm_storage.specs.declared.call.Reply.{Reply}
@@ -19,6 +20,7 @@ use Rattle.asm_storage.specs.declared.call.Reply.TheVariants as reply
 use Rattle.asm_storage.specs.declared.receipt.Receipt.{Receipt}
 use Rattle.asm_play.specs.AgentPlay.{AreProper}
 use Rattle.asm_script.specs.StepReads.{AreReads}
+use Rattle.asm_play.specs.Limits.{tries_limit}
 use Rattle.asm_play.specs.StepEvents.{name_at, stale_fires, IsIdle, IsTryOf, IsVainTry, IsTold}
 use Rattle.asm_script.specs.declared.step.Step.{Step}
 use Rattle.asm_script.specs.declared.step.StepFault.{StepFault}
@@ -50,7 +52,7 @@ HasRead meaning old new places (Some r) = (places ≢ []) × IsRead meaning old 
 -- 64 offers were lost: as many entries more were seen at least
 pub record WasBusy {A : Type 0} (old new : AgentAt A) : Type 0 where
   pub begins : IsPrefix old.account.seen new.account.seen
-  pub longer : length old.account.seen + 64 ≤ length new.account.seen
+  pub longer : length old.account.seen + offers_limit ≤ length new.account.seen
   pub agent : new ≡ has_looked old new.account.seen new.misses
 
 -- the fire of a step was answered by this reply; by none where it was busy
@@ -91,7 +93,7 @@ abbrev pub IsVain : {A : Type 0} → AgentAt A → AgentAt A → List Receipt �
 IsVain old new more =
     (EndsStale more × (stale_fires (map (event_of old.account.id) more) ≡ 1))
     ⊎ ((stale_fires (map (event_of old.account.id) more) ≡ 0)
-    × (length old.account.seen + 64 ≤ length new.account.seen))
+    × (length old.account.seen + offers_limit ≤ length new.account.seen))
 
 -- a try, of a step that reads these locations, that ended in nothing: its fire was stale or busy
 pub record IsAgain {A : Type 0} (meaning : A → Meaning) (own : Meaning) (step : Step) (places : List Place)
@@ -133,16 +135,16 @@ Tried {A} meaning own step places (suc n) old new =
 abbrev pub IsTriedBy : {A : Type 0} → (A → Meaning) → Meaning → AgentAt A → AgentAt A → Step → Outcome →
     List Place → Type 0
 IsTriedBy {A} meaning own old new step o places =
-    ((o ≡ outcome.GaveUp) × (n : ℕ) × (n ≡ 1001) × Tried meaning own step places n old new)
-    ⊎ ((n : ℕ) × (n ≤ 1000) × (mid : AgentAt A) × Tried meaning own step places n old mid
+    ((o ≡ outcome.GaveUp) × (n : ℕ) × (n ≡ tries_limit) × Tried meaning own step places n old new)
+    ⊎ ((n : ℕ) × (n < tries_limit) × (mid : AgentAt A) × Tried meaning own step places n old mid
     × IsTry meaning own mid new step places (Some o))
 
 -- it wasn't tried, as it reads more than 256 locations, or it was
 abbrev pub IsPlayedBy : {A : Type 0} → (A → Meaning) → Meaning → AgentAt A → AgentAt A → Step → Outcome →
     List Place → Type 0
 IsPlayedBy meaning own old new step o places =
-    ((256 < length places) × (o ≡ outcome.Many) × (old ≡ new))
-    ⊎ ((length places ≤ 256) × IsTriedBy meaning own old new step o places)
+    ((reads_limit < length places) × (o ≡ outcome.Many) × (old ≡ new))
+    ⊎ ((length places ≤ reads_limit) × IsTriedBy meaning own old new step o places)
 
 -- A step was played: it reads too many locations, or was given up after 1,001 tries that ended in nothing, or ended after
 -- at most 1,000 of them.

@@ -6,7 +6,6 @@ mod gate;
 mod outcome;
 mod play;
 mod player;
-mod proper;
 mod read_values;
 mod workers;
 

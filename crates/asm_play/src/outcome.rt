@@ -6,6 +6,7 @@ use asm_element::{Items, Location};
 use asm_storage::History;
 use asm_update::Clash;
 use std::alloc::{AllocError, AllocFailed};
+use std::thread::SpawnError;
 use thiserror::Error;
 
 /// What became of a step.
@@ -67,5 +68,13 @@ impl<T: Drop> From<AllocFailed<T>> for RunError {
 
     fn from(_refused: AllocFailed<T>) -> RunError {
         RunError::Memory
+    }
+}
+
+impl<F: Drop> From<SpawnError<F>> for RunError {
+    ghost from_gives = { λ _ e. e ≡ run_error.NoThread };
+
+    fn from(_refused: SpawnError<F>) -> RunError {
+        RunError::NoThread
     }
 }

@@ -2,22 +2,23 @@
 ghost use Rattle.std.specs.Prelude.{◌≡◌, ◌≢◌, ◌↔◌, ◌≤◌, ◌<◌, ◌⊎◌, List, [], All, IfOk, IfErr, IsErrOf, get_or, length};
 ghost use Rattle.std.specs.Prelude.{map, vec_len};
 ghost use Rattle.std.specs.List.{range_with_len};
+ghost use Rattle.asm_storage.specs.Limits.{agents_limit};
 ghost use Rattle.asm_storage.specs.Storage.{accounts, at_start};
 ghost use Rattle.asm_play.specs.Play.{IsNoCapacity, IsPlayOf};
 ghost use Rattle.asm_play.specs.AgentPlay.{Plays};
 ghost use Rattle.asm_play.specs.Standard.{standard_meaning};
-ghost use Rattle.asm_play.specs.PlayedAgents.{steps_at, workers_error_told, close_error_told, ArePlayed, IsNotClosed};
-ghost use Rattle.asm_play.specs.Jobs.{GivesEach};
-ghost use Rattle.asm_play.specs.declared.workers.WorkersError.TheVariants as workers_error;
+ghost use Rattle.asm_play.specs.PlayedAgents.{steps_at, close_error_told, ArePlayed, IsNotClosed};
+ghost use Rattle.asm_play.specs.Jobs.{GivesEach, IsUndone};
+ghost use Rattle.asm_play.specs.declared.outcome.RunError.TheVariants as run_error;
 
 use crate::aggregator::{Standard, chosen};
 use crate::gate::{Gate, Passage, Through};
 use crate::outcome::{Outcome, Played, RunError};
 use crate::player::{PlayedAgent, Player};
-use crate::proper::proper_history;
 use crate::workers;
-use crate::workers::{Task, WorkersError};
+use crate::workers::Task;
 use asm_element::Items;
+use asm_row::CAPACITY_LIMIT;
 use asm_script::{Script, Step};
 use asm_storage::{Agent, CloseError, Storage};
 use asm_update::Aggregator;
@@ -25,20 +26,6 @@ use std::alloc::{AllocError, Global};
 use std::marker::Sync;
 use std::sync::Wait;
 use std::thread::Threads;
-
-/// The greatest capacity.
-const CAPACITY_LIMIT: u32 = 1_048_576;
-
-impl From<WorkersError> for RunError {
-    ghost from_gives = { λ w e. e ≡ workers_error_told w };
-
-    fn from(error: WorkersError) -> RunError {
-        match error {
-            WorkersError::NoThread => RunError::NoThread,
-            WorkersError::Memory => RunError::Memory,
-        }
-    }
-}
 
 impl From<CloseError> for RunError {
     ghost from_gives = { λ e r. r ≡ close_error_told e };
@@ -51,7 +38,8 @@ impl From<CloseError> for RunError {
     }
 }
 
-// The steps of agents, by their numbers.
+// The steps of agents, by their numbers. A trait, since the goal that a task is `Sync` is proved from bounds of type
+// parameters, and isn't found for a gate beside a slice of steps.
 trait Scripted {
     ghost use Rattle.asm_script.specs.declared.step.Step.{Step};
 
@@ -108,11 +96,12 @@ fn played_apart<'s, 'a, R: Threads + Wait + Sync, P: Passage + Sync, S: Scripted
     alloc: Global,
     playing: &Playing<'a, P, S>,
     agents: Vec<Agent<'s, Standard>>,
-) -> Result<Vec<PlayedAgent<'s, Standard>>, WorkersError>
+) -> Result<Vec<PlayedAgent<'s, Standard>>, RunError>
     ensures played { IfOk result (λ played. GivesEach (λ a t. Plays (⟦<Standard as Aggregator>⟧.meaning)
         (⟦<Standard as Aggregator>⟧.meaning playing.now.player.aggregator.now) a t.agent
         (steps_at (S.steps playing.now.scripted) a) t.outcomes.items) agents.entry.items played.items) }
-    ensures threads { IsErrOf result workers_error.NoThread → 2 ≤ vec_len agents.entry }
+    ensures error { IfErr result IsUndone }
+    ensures threads { IsErrOf result run_error.NoThread → 2 ≤ vec_len agents.entry }
 {
     workers::each(rt, alloc, playing, agents)
 }
@@ -123,11 +112,12 @@ fn played_as_written<'s, 'a, 'p, R: Threads + Wait + Sync, P: Passage + Sync>(
     alloc: Global,
     playing: &Playing<'a, P, WrittenSteps<'p>>,
     agents: Vec<Agent<'s, Standard>>,
-) -> Result<Vec<PlayedAgent<'s, Standard>>, WorkersError>
+) -> Result<Vec<PlayedAgent<'s, Standard>>, RunError>
     ensures played { IfOk result (λ played. GivesEach (λ a t. Plays (⟦<Standard as Aggregator>⟧.meaning)
         (⟦<Standard as Aggregator>⟧.meaning playing.now.player.aggregator.now) a t.agent
         (steps_at playing.now.scripted.0.now a) t.outcomes.items) agents.entry.items played.items) }
-    ensures threads { IsErrOf result workers_error.NoThread → 2 ≤ vec_len agents.entry }
+    ensures error { IfErr result IsUndone }
+    ensures threads { IsErrOf result run_error.NoThread → 2 ≤ vec_len agents.entry }
 {
     played_apart(rt, alloc, playing, agents)
 }
@@ -156,7 +146,7 @@ fn agents_of<'s>(
     storage: &'s Storage<Standard>,
     count: usize,
 ) -> Result<Vec<Agent<'s, Standard>>, AllocError>
-    requires { count ≤ 256 }
+    requires { count ≤ agents_limit }
     ensures { IfOk result (λ agents. agents.items ≡ map (at_start storage.now) (range_with_len 0 count)) }
 {
     if count == 0 {
@@ -213,7 +203,7 @@ fn closed<'s>(
     let Ended { agents, outcomes } = ended;
     match storage.close(alloc, agents.as_slice()) {
         Ok(history) => {
-            proper_history(&history);
+            history.proper();
             Ok(Played {
                 history,
                 outcomes: Items::new(outcomes),

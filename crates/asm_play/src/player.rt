@@ -3,8 +3,10 @@ ghost use Rattle.std.specs.Prelude.{◌≡◌, ◌≤◌, length, IfOk};
 ghost use Rattle.std.specs.Option.{option_copied};
 ghost use Rattle.asm_update.specs.Aggregator.{AggregatorLaws};
 ghost use Rattle.asm_play.specs.AgentPlay.{Plays};
+ghost use Rattle.asm_script.specs.Sequencing.{IsStepMove};
 ghost use Rattle.asm_script.specs.StepReads.{AreReads};
-ghost use Rattle.asm_play.specs.Trying.{names_of, outcome_of, HasRead, HasTried, IsEndOf, IsTry, IsStepPlayed};
+ghost use Rattle.asm_storage.specs.Limits.{reads_limit};
+ghost use Rattle.asm_play.specs.Trying.{names_of, outcome_of, read_value, HasRead, HasTried, IsEndOf, IsTry, IsStepPlayed};
 
 use crate::gate::Passage;
 use crate::outcome::Outcome;
@@ -18,7 +20,7 @@ use std::alloc::{AllocError, Global};
 use std::sync::Wait;
 
 /// The most tries of a step.
-const TRIES: u32 = 1001;
+const TRIES_LIMIT: u32 = 1001;
 
 /// An agent after its steps were played, with the outcome of each.
 #[derive(Drop)]
@@ -37,13 +39,6 @@ pub struct Player<'a, A, P> {
     pub aggregator: &'a A,
     /// What stands round each call of the agent.
     pub passage: P,
-}
-
-// Does nothing; its contract tells the laws that aggregators keep.
-fn keeps_laws<A: Aggregator>(aggregator: &A)
-    ensures { (a : A) → AggregatorLaws (A.meaning a) }
-{
-    let _ = aggregator;
 }
 
 // Each location that was read, with the number at which it was read.
@@ -85,6 +80,21 @@ fn stopped(fault: StepFault) -> Result<Outcome, AllocError>
     }
 }
 
+// The step's move on what was read. The clause `laws` is for `one_try`: the prover has the laws of a bound in no
+// function that may wait.
+fn move_of<A: Aggregator>(
+    alloc: Global,
+    aggregator: &A,
+    step: &Step,
+    reading: &Option<Reading>,
+) -> Result<Instructions, StepFault>
+    ensures stands { IsStepMove (A.meaning aggregator.now) (read_value reading.now) step.now result }
+    ensures laws { (a : A) → AggregatorLaws (A.meaning a) }
+{
+    let reading = reading.as_ref();
+    step_move(alloc, aggregator, step, &ReadValues { reading })
+}
+
 impl<'a, A: Aggregator + Sync + Drop, P: Passage> Player<'a, A, P> {
     // One read of the locations, if there are any.
     fn read<'s, R: Wait>(
@@ -94,7 +104,7 @@ impl<'a, A: Aggregator + Sync + Drop, P: Passage> Player<'a, A, P> {
         calls: &mut u64,
         places: &[Location],
     ) -> Result<Option<Reading>, AllocError>
-        requires { length places.now ≤ 256 }
+        requires { length places.now ≤ reads_limit }
         ensures { IfOk result (HasRead A.meaning agent.old agent.new places.now) }
     {
         if places.is_empty() {
@@ -120,7 +130,7 @@ impl<'a, A: Aggregator + Sync + Drop, P: Passage> Player<'a, A, P> {
         reads: &[Named],
         instrs: &Instructions,
     ) -> Result<Option<Reply>, AllocError>
-        requires { length reads.now ≤ 256 }
+        requires { length reads.now ≤ reads_limit }
         ensures { IfOk result (HasTried A.meaning agent.old agent.new reads.now instrs.now) }
     {
         self.passage.enter(rt, agent.id(), *calls);
@@ -145,17 +155,13 @@ impl<'a, A: Aggregator + Sync + Drop, P: Passage> Player<'a, A, P> {
         step: &Step,
         places: &[Location],
     ) -> Result<Option<Outcome>, AllocError>
-        requires few { length places.now ≤ 256 }
+        requires few { length places.now ≤ reads_limit }
         requires reads { AreReads step.now places.now }
         ensures { IfOk result (
             IsTry A.meaning (A.meaning self.now.aggregator.now) agent.old agent.new step.now places.now) }
     {
-        keeps_laws(self.aggregator);
         let reading = self.read(rt, agent, calls, places)?;
-        let values = ReadValues {
-            reading: reading.as_ref(),
-        };
-        let instrs = match step_move(self.alloc, self.aggregator, step, &values) {
+        let instrs = match move_of(self.alloc, self.aggregator, step, &reading) {
             Ok(instrs) => instrs,
             Err(fault) => return Ok(Some(stopped(fault)?)),
         };
@@ -179,7 +185,7 @@ impl<'a, A: Aggregator + Sync + Drop, P: Passage> Player<'a, A, P> {
         if places.len() > READS_LIMIT {
             return Ok(Outcome::Many);
         }
-        for tried in 0..TRIES {
+        for tried in 0..TRIES_LIMIT {
             match self.one_try(rt, agent, calls, step, places)? {
                 Some(outcome) => return Ok(outcome),
                 None => {}

@@ -2,15 +2,16 @@
 ghost use Rattle.std.specs.Prelude.{◌≡◌, ◌≤◌, ◌<◌, ◌++◌, IfOk, IfErr, IsErrOf, IsOkAnd, vec_len};
 ghost use Rattle.std.specs.Thread.{IsSync};
 ghost use denote.Param.Send.{IsSend};
-ghost use Rattle.asm_play.specs.Jobs.{GivesEach, told_first, error_of_both};
-ghost use Rattle.asm_play.specs.declared.workers.WorkersError.TheVariants as errors;
+ghost use Rattle.asm_play.specs.Jobs.{GivesEach, IsUndone, told_first, error_of_both};
+ghost use Rattle.asm_play.specs.declared.outcome.RunError.TheVariants as run_error;
 
-use std::alloc::{AllocError, AllocFailed, Global};
+use crate::outcome::RunError;
+use std::alloc::{AllocError, Global};
 use std::marker::{PhantomData, Send, Sync};
 use std::snapshot::Snapshot;
 use std::sync::Wait;
 use std::thread;
-use std::thread::{Promise, SpawnError, Threads};
+use std::thread::{Promise, Threads};
 
 /// What is done with a job.
 pub trait Task<J, X>: Sync {
@@ -22,48 +23,13 @@ pub trait Task<J, X>: Sync {
         ensures { IfOk result (λ x. gives self.now job x) };
 }
 
-/// Why jobs were not done.
-#[derive(Clone, Copy, Debug, PartialEq, Eq)]
-pub enum WorkersError {
-    /// A thread couldn't be started.
-    NoThread,
-    /// The memory that was asked for was refused.
-    Memory,
-}
-
-impl From<AllocError> for WorkersError {
-    ghost from_gives = { λ _ e. e ≡ errors.Memory };
-
-    fn from(_refused: AllocError) -> WorkersError {
-        WorkersError::Memory
-    }
-}
-
-impl<T: Drop> From<AllocFailed<T>> for WorkersError {
-    ghost from_gives = { λ _ e. e ≡ errors.Memory };
-
-    fn from(_refused: AllocFailed<T>) -> WorkersError {
-        WorkersError::Memory
-    }
-}
-
-impl<F: Drop> From<SpawnError<F>> for WorkersError {
-    ghost from_gives = { λ _ e. e ≡ errors.NoThread };
-
-    fn from(_refused: SpawnError<F>) -> WorkersError {
-        WorkersError::NoThread
-    }
-}
-
-impl WorkersError {
-    // Which of two errors is returned: a missing thread goes before an allocation failure.
-    fn first(self, other: WorkersError) -> WorkersError
-        ensures { result ≡ told_first self other }
-    {
-        match self {
-            WorkersError::NoThread => self,
-            WorkersError::Memory => other,
-        }
+// Which of two errors is returned: a missing thread goes before an allocation failure.
+fn told_of(error: RunError, other: RunError) -> RunError
+    ensures { result ≡ told_first error other }
+{
+    match error {
+        RunError::NoThread => error,
+        _ => other,
     }
 }
 
@@ -84,8 +50,9 @@ impl<J, X, T: Task<J, X>> Drop for GivesEachOf<J, X, T> {
     }
 }
 
-impl<J, X, T: Task<J, X>> Promise<Result<Vec<X>, WorkersError>> for GivesEachOf<J, X, T> {
-    ghost kept_by = { λ p r. IfOk r (λ done. GivesEach (T.gives p.task.value) p.jobs.value.items done.items) };
+impl<J, X, T: Task<J, X>> Promise<Result<Vec<X>, RunError>> for GivesEachOf<J, X, T> {
+    ghost kept_by = { λ p r. IfOk r (λ done. GivesEach (T.gives p.task.value) p.jobs.value.items done.items)
+        × IfErr r IsUndone };
 }
 
 /// Does each job on a thread of its own, the last on this one. The results stand in the order of the jobs.
@@ -99,9 +66,10 @@ pub fn each<R: Threads + Wait + Sync, J: Send + Drop, X: Send + Drop, T: Task<J,
     alloc: Global,
     task: &T,
     mut jobs: Vec<J>,
-) -> Result<Vec<X>, WorkersError>
+) -> Result<Vec<X>, RunError>
     ensures done { IfOk result (λ done. GivesEach (T.gives task.now) jobs.items done.items) }
-    ensures threads { IsErrOf result errors.NoThread → 2 ≤ vec_len jobs }
+    ensures error { IfErr result IsUndone }
+    ensures threads { IsErrOf result run_error.NoThread → 2 ≤ vec_len jobs }
 {
     if jobs.len() < 2 {
         return at_most_one(rt, alloc, task, jobs);
@@ -115,10 +83,10 @@ fn at_most_one<R: Wait, J: Drop, X: Drop, T: Task<J, X>>(
     alloc: Global,
     task: &T,
     mut jobs: Vec<J>,
-) -> Result<Vec<X>, WorkersError>
+) -> Result<Vec<X>, RunError>
     requires { vec_len jobs < 2 }
     ensures done { IfOk result (λ done. GivesEach (T.gives task.now) jobs.items done.items) }
-    ensures error { IfErr result (λ e. e ≡ errors.Memory) }
+    ensures error { IfErr result (λ e. e ≡ run_error.Memory) }
 {
     let mut done = Vec::new(alloc);
     let Some(job) = jobs.pop() else {
@@ -136,25 +104,28 @@ fn both<R: Threads + Wait + Sync, J: Send + Drop, X: Send + Drop, T: Task<J, X>>
     task: &T,
     first: Vec<J>,
     second: Vec<J>,
-) -> Result<Vec<X>, WorkersError>
-    ensures { IfOk result (λ done. GivesEach (T.gives task.now) (first.items ++ second.items) done.items) }
+) -> Result<Vec<X>, RunError>
+    ensures done { IfOk result (λ done. GivesEach (T.gives task.now) (first.items ++ second.items) done.items) }
+    ensures error { IfErr result IsUndone }
 {
     thread::scope(
         thread::scope_env(),
         rt,
-        move |scope| -> Result<Vec<X>, WorkersError>
+        move |scope| -> Result<Vec<X>, RunError>
             requires { IsSync R.row × IsSync T.row × IsSend J.row × IsSend X.row }
-            ensures { IfOk result (λ done. GivesEach (T.gives task.entry.now) (first.items ++ second.items)
+            ensures done { IfOk result (λ done. GivesEach (T.gives task.entry.now) (first.items ++ second.items)
                 done.items) }
+            ensures error { IfErr result IsUndone }
         {
             let promise = GivesEachOf {
                 task: Snapshot::of(task),
                 jobs: Snapshot::of(&first),
                 done: PhantomData,
             };
-            let work = move || -> Result<Vec<X>, WorkersError>
+            let work = move || -> Result<Vec<X>, RunError>
                 requires { IsSync R.row × IsSync T.row × IsSend J.row × IsSend X.row }
-                ensures { IfOk result (λ done. GivesEach (T.gives task.entry.now) first.items done.items) }
+                ensures done { IfOk result (λ done. GivesEach (T.gives task.entry.now) first.items done.items) }
+                ensures error { IfErr result IsUndone }
             { each(rt, alloc, task, first) };
             let worker = scope.spawn_with(promise, work)?;
             let ours = each(rt, alloc, task, second);
@@ -165,9 +136,9 @@ fn both<R: Threads + Wait + Sync, J: Send + Drop, X: Send + Drop, T: Task<J, X>>
 
 // What both halves gave, in order.
 fn joined<X: Drop>(
-    first: Result<Vec<X>, WorkersError>,
-    second: Result<Vec<X>, WorkersError>,
-) -> Result<Vec<X>, WorkersError>
+    first: Result<Vec<X>, RunError>,
+    second: Result<Vec<X>, RunError>,
+) -> Result<Vec<X>, RunError>
     ensures done { IfOk result (λ done. IsOkAnd first (λ a. IsOkAnd second (λ b. done.items ≡ a.items ++ b.items))) }
     ensures error { IfErr result (λ e. e ≡ error_of_both first second) }
 {
@@ -178,6 +149,6 @@ fn joined<X: Drop>(
         }
         (Ok(_), Err(error)) => Err(error),
         (Err(error), Ok(_)) => Err(error),
-        (Err(error), Err(other)) => Err(error.first(other)),
+        (Err(error), Err(other)) => Err(told_of(error, other)),
     }
 }

@@ -3,6 +3,7 @@ use Rattle.asm_storage.specs.Agents.{ids}
 use Rattle.asm_update.specs.Aggregator.{Meaning}
 use Rattle.asm_storage.specs.Storage.{accounts, IsOf}
 use Rattle.asm_play.proofs.ClosedPlay.{closes, ids_are, not_closed, of_storage, range_rises, told_later}
+use Rattle.asm_play.proofs.ProperMoves.{history_proper}
 use Rattle.asm_play.proofs.play.closed.Goals as goal
 
 pub close-requires-clause-of_this : goal.close-requires-clause-of_this
@@ -21,7 +22,7 @@ returns-in-Ok-clause-played c =
     let s = c.args.storage.now in
     closes _ s _ _ _ _ _ c.as_slice.ensures.value (ap (λ (m : Meaning). m.part) c.requires.meaning)
     c.requires.init c.requires.agents c.in-Ok.ensures.history c.in-Ok.ensures.init c.in-Ok.ensures.capacity c.in-Ok.ensures.agents c.new.ensures
-    c.proper_history.ensures
+    (history_proper c.in-Ok.history c.proper.ensures)
 
 pub returns-clause-later : goal.returns-clause-later
 returns-clause-later c = told_later _ _ c.from.ensures

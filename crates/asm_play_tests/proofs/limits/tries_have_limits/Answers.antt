@@ -1,3 +1,4 @@
+use Rattle.std.proofs.Common.{arith}
 use Rattle.asm_play_tests.proofs.limits.tries_have_limits.Goals as goal
 
 pub returns-clause-in_vain : goal.returns-clause-in_vain
@@ -7,4 +8,4 @@ pub returns-clause-given_up : goal.returns-clause-given_up
 returns-clause-given_up c own m q s places es given = (given.all, given.few)
 
 pub returns-clause-ended : goal.returns-clause-ended
-returns-clause-ended c own m q s places es after = (after.most, after.few, after.fresh)
+returns-clause-ended c own m q s places es after = (omega (arith, after.most), after.few, after.fresh)

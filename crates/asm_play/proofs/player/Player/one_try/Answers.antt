@@ -1,8 +1,6 @@
-use Rattle.std.proofs.Common.{Option, Ok, Err, List, sym, subst, ◌∙◌}
+use Rattle.std.proofs.Common.{Option, List, sym, subst, ◌∙◌}
 use Rattle.asm_state.specs.declared.named.Named.{Named}
-use Rattle.asm_storage.specs.Calls.{ReadingView}
-use Rattle.asm_script.specs.Sequencing.{IsStepMove}
-use Rattle.asm_play.specs.Trying.{read_value, HasTried, IsTry}
+use Rattle.asm_play.specs.Trying.{HasTried, IsTry}
 use Rattle.asm_play.specs.declared.outcome.Outcome.{Outcome}
 use Rattle.asm_play.proofs.Tries.{ended_by_fault, ended_by_fire}
 use Rattle.asm_play.proofs.player.Player.one_try.Goals as goal
@@ -11,25 +9,22 @@ use Rattle.asm_play.proofs.player.Player.one_try.Goals as goal
 pub returns-in-Err : goal.returns-in-Err
 returns-in-Err g c =
     let meaning = g.A.Aggregator.meaning in
-    let move = subst (λ (o : Option ReadingView). IsStepMove (meaning c.args.self.now.aggregator.now) (read_value o)
-    c.args.step.now (Err c.in-Err.fault)) c.as_ref.ensures.value c.in-Err.ensures in
     ended_by_fault meaning (meaning c.args.self.now.aggregator.now) c.args.agent.now c.read.new.agent
-    c.keeps_laws.ensures c.args.step.now c.args.places.now c.in_ok-reading.reading
+    c.move_of.ensures.laws c.args.step.now c.args.places.now c.in_ok-reading.reading
     c.requires.reads c.in_ok-reading.ensures c.in-Err.fault
-    c.in_ok-stopped-in-Err.field-0 c.in_ok-stopped-in-Err.ensures move
+    c.in_ok-stopped-in-Err.field-0 c.in_ok-stopped-in-Err.ensures c.in-Err.ensures.stands
 
 -- the move was fired
 pub returns : goal.returns
 returns g c =
     let meaning = g.A.Aggregator.meaning in
     let own = meaning c.args.self.now.aggregator.now in
-    let move = subst (λ (o : Option ReadingView). IsStepMove (meaning c.args.self.now.aggregator.now) (read_value o)
-    c.args.step.now (Ok c.in-Ok.instrs)) c.as_ref.ensures.value c.in-Ok.ensures in
     let named = c.as_slice.ensures.value ∙ c.in_ok-reads.ensures in
     let tried = subst (λ (ns : List Named). HasTried meaning c.read.new.agent c.fire.new.agent ns c.in-Ok.instrs
     c.in_ok-reply.reply) named c.in_ok-reply.ensures in
     subst (λ (o : Option Outcome). IsTry meaning own c.args.agent.now c.fire.new.agent c.args.step.now c.args.places.now o)
     (sym c.outcome.ensures)
-    (ended_by_fire meaning (meaning c.args.self.now.aggregator.now) c.args.agent.now c.read.new.agent
-    c.keeps_laws.ensures c.args.step.now c.args.places.now c.in_ok-reading.reading
-    c.requires.reads c.in_ok-reading.ensures c.fire.new.agent c.in-Ok.instrs move c.in_ok-reply.reply tried)
+    (ended_by_fire meaning own c.args.agent.now c.read.new.agent
+    c.move_of.ensures.laws c.args.step.now c.args.places.now c.in_ok-reading.reading
+    c.requires.reads c.in_ok-reading.ensures c.fire.new.agent c.in-Ok.instrs c.in-Ok.ensures.stands c.in_ok-reply.reply
+    tried)

@@ -1,13 +1,13 @@
 use Rattle.std.proofs.Common.{◌≡◌, ℕ, suc, ◌+◌, ◌<◌, ◌≤◌, inl, inr, length, refl, subst, arith}
+use Rattle.asm_storage.specs.Limits.{reads_limit}
 use Rattle.asm_play.specs.Trying.{Tried}
-use Rattle.asm_play.proofs.Counts.{tries_left}
 use Rattle.asm_play.proofs.Tries.{try_again, try_ended}
 use Rattle.asm_play.proofs.player.Player.play_step.Goals as goal
 
 -- the step reads too many locations
 pub returns-then-places-gt-READS_LIMIT : goal.returns-then-places-gt-READS_LIMIT
 returns-then-places-gt-READS_LIMIT g c =
-    let many : 256 < length c.reads-places.result.now = omega (arith, c.if-places-gt-READS_LIMIT.true) in
+    let many : reads_limit < length c.reads-places.result.now = omega (arith, c.if-places-gt-READS_LIMIT.true) in
     (c.reads-places.result.now, c.reads-places.ensures, inl (many, refl, refl))
 
 pub loop-tried-init : goal.loop-tried-init
@@ -16,14 +16,13 @@ loop-tried-init g c = refl
 -- a try ended
 pub returns-in-Some : goal.returns-in-Some
 returns-in-Some g c =
-    let few : length c.reads-places.result.now ≤ 256 = omega (arith, c.if-places-gt-READS_LIMIT.false) in
+    let few : length c.reads-places.result.now ≤ reads_limit = omega (arith, c.if-places-gt-READS_LIMIT.false) in
     let ended = try_ended _ _ _ _ _ _ c.reads-places.result.now _ _ refl c.in-Some.is c.in_ok-outcome.ensures in (
       c.reads-places.result.now,
       c.reads-places.ensures,
       inr (
         few,
-        inr
-            (c.loop-tried.tried, tries_left _ c.loop-tried-test.true, c.loop-tried.agent, c.loop-tried.invariant, ended),
+        inr (c.loop-tried.tried, c.loop-tried-test.true, c.loop-tried.agent, c.loop-tried.invariant, ended),
       ),
     )
 
@@ -40,7 +39,7 @@ loop-tried-preserved g c =
 -- it was given up
 pub returns : goal.returns
 returns g c =
-    let few : length c.reads-places.result.now ≤ 256 = omega (arith, c.if-places-gt-READS_LIMIT.false) in (
+    let few : length c.reads-places.result.now ≤ reads_limit = omega (arith, c.if-places-gt-READS_LIMIT.false) in (
       c.reads-places.result.now,
       c.reads-places.ensures,
       inr (
