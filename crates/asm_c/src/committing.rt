@@ -1,5 +1,6 @@
 //! Firing the one move of a step.
 ghost use Rattle.std.specs.Prelude.{◌≡◌, ◌≢◌, ◌≤◌, ◌+◌, ◌∷◌, [], None};
+ghost use Rattle.asm_storage.specs.Limits.{offers_limit};
 ghost use Rattle.asm_storage.specs.Storage.{IsSameAgent};
 ghost use Rattle.asm_slots.specs.Calls.{MissedFew, MissedOne, SeesOn};
 ghost use Rattle.asm_slots.specs.Codes.{IsOneOf, ASM_DONE, ASM_STALE, ASM_CLASH, ASM_MEMORY, ASM_FULL};
@@ -29,7 +30,7 @@ pub extern "C" fn asm_commit(
     ensures seen { result ≢ ASM_EMPTY → Goes (content_of agent.old) (content_of agent.new) SeesOn }
     ensures few { result ≢ ASM_EMPTY → Goes (content_of agent.old) (content_of agent.new) MissedFew }
     ensures missed { result ≡ ASM_DONE → Goes (content_of agent.old) (content_of agent.new) MissedOne }
-    ensures lost { result ≡ ASM_BUSY → numbers.new.from + 64 ≤ numbers.new.to }
+    ensures lost { result ≡ ASM_BUSY → numbers.new.from + offers_limit ≤ numbers.new.to }
     ensures empty { result ≡ ASM_EMPTY → LacksOne (content_of agent.old) (content_of step.old) }
     ensures kept { result ≡ ASM_EMPTY → content_of agent.new ≡ content_of agent.old }
     ensures no_numbers { result ≡ ASM_EMPTY →

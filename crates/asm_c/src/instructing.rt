@@ -1,5 +1,6 @@
 //! Moves that are gathered in slots.
 ghost use Rattle.std.specs.Prelude.{◌≡◌, ◌≢◌, ◌↔◌, ◌∷◌, [], IsUtf8, length};
+ghost use Rattle.asm_update.specs.Limits.{instructions_limit};
 ghost use Rattle.asm_slots.specs.Codes.{IsOneOf, ASM_DONE, ASM_MEMORY, ASM_EMPTY, ASM_RANGE, ASM_MANY};
 ghost use Rattle.asm_slots.specs.Codes.{ASM_TAKEN, ASM_SHAPE};
 ghost use Rattle.asm_slots.specs.Kinds.{IsInstructed, IsNoAction, ASM_KIND_TEXT};
@@ -27,7 +28,7 @@ pub extern "C" fn asm_instruct(
     ensures empty { result ≡ ASM_EMPTY → HoldsNoLocation (content_of at.old) }
     ensures range { result ≡ ASM_RANGE → IsNoAction verb kind number bytes.now amount }
     ensures shape { result ≡ ASM_SHAPE → (kind ≡ ASM_KIND_TEXT) × ¬ IsUtf8 bytes.now }
-    ensures many { result ≡ ASM_MANY → length (move_of (content_of instrs.old)) ≡ 4096 }
+    ensures many { result ≡ ASM_MANY → length (move_of (content_of instrs.old)) ≡ instructions_limit }
     ensures kept { result ≢ ASM_DONE → content_of instrs.new ≡ content_of instrs.old }
     ensures held { content_of at.new ≡ content_of at.old }
 {

@@ -1,7 +1,8 @@
 //! Opening storages, making agents, and letting go of what slots hold.
-ghost use Rattle.std.specs.Prelude.{◌≡◌, ◌≢◌, ◌≤◌, ◌<◌, ◌↔◌, ◌⊎◌, ◌∷◌, [], length, true, false, None};
+ghost use Rattle.std.specs.Prelude.{◌≡◌, ◌≢◌, ◌≤◌, ◌<◌, ◌↔◌, ◌∷◌, [], length, true, false, None};
 ghost use Rattle.std.specs.List.{range_with_len};
-ghost use Rattle.asm_slots.specs.Calls.{IsOpened, Makes};
+ghost use Rattle.asm_storage.specs.Limits.{agents_limit};
+ghost use Rattle.asm_slots.specs.Calls.{IsNoCapacity, IsOpened, Makes};
 ghost use Rattle.asm_journal.specs.Value.{IsStateForm};
 ghost use Rattle.asm_slots.specs.Bytes.{IsNoJson, IsOtherJson};
 ghost use Rattle.asm_slots.specs.Codes.{IsOneOf, ASM_DONE, ASM_MEMORY, ASM_EMPTY, ASM_RANGE, ASM_TAKEN};
@@ -19,7 +20,7 @@ pub extern "C" fn asm_open(alloc: Global, init: &[u8], capacity: u32, store: &mu
     ensures opened { result ≡ ASM_DONE → HoldsStore (content_of store.new) (IsOpened init.now capacity) }
     ensures empty { result ≡ ASM_DONE → content_of store.old ≡ None }
     ensures refused { result ≢ ASM_DONE → content_of store.new ≡ content_of store.old }
-    ensures range { result ≡ ASM_RANGE → (capacity ≡ 0) ⊎ (1048576 < capacity) }
+    ensures range { result ≡ ASM_RANGE → IsNoCapacity capacity }
     ensures not_json { result ≡ ASM_NOT_JSON → IsNoJson init.now }
     ensures shape { result ≡ ASM_SHAPE → IsOtherJson IsStateForm init.now }
     ensures taken { (result ≡ ASM_TAKEN) ↔ (content_of store.old ≢ None) }
@@ -34,7 +35,7 @@ pub extern "C" fn asm_agent(alloc: Global, store: &mut Slot, id: u32, agent: &mu
     ensures kept { result ≢ ASM_DONE → content_of store.new ≡ content_of store.old }
     ensures made { result ≡ ASM_DONE → HoldsNew (content_of store.old) (content_of agent.new) id }
     ensures refused { result ≢ ASM_DONE → content_of agent.new ≡ content_of agent.old }
-    ensures range { (result ≡ ASM_RANGE) ↔ (256 ≤ id) }
+    ensures range { (result ≡ ASM_RANGE) ↔ (agents_limit ≤ id) }
     ensures taken { result ≡ ASM_TAKEN → content_of agent.old ≢ None }
     ensures free { IsOneOf (ASM_DONE ∷ ASM_MEMORY ∷ ASM_EMPTY ∷ ASM_NUMBER ∷ []) result → content_of agent.old ≡ None }
     ensures empty { result ≡ ASM_EMPTY → HoldsNoStore (content_of store.old) }
@@ -52,7 +53,7 @@ pub extern "C" fn asm_agents(alloc: Global, store: &mut Slot, agents: &mut [Slot
         Makes (range_with_len 0 (length agents.old)) (content_of store.old) (content_of store.new) }
     ensures unmade { result ≢ ASM_DONE → content_of store.new ≡ content_of store.old }
     ensures made { result ≡ ASM_DONE → HoldsStore (content_of store.old) (λ s. AreNew s.storage agents.new) }
-    ensures range { (result ≡ ASM_RANGE) ↔ (256 < length agents.old) }
+    ensures range { (result ≡ ASM_RANGE) ↔ (agents_limit < length agents.old) }
     ensures taken { result ≡ ASM_TAKEN → ¬ AreEmpty agents.old }
     ensures free { IsOneOf (ASM_DONE ∷ ASM_MEMORY ∷ ASM_EMPTY ∷ ASM_NUMBER ∷ []) result → AreEmpty agents.old }
     ensures none { result ≡ ASM_MEMORY → AreEmpty agents.new }

@@ -1,5 +1,6 @@
 //! Reading, firing, and the answers to both.
 ghost use Rattle.std.specs.Prelude.{◌≡◌, ◌≢◌, ◌≤◌, ◌+◌, ◌∷◌, [], length};
+ghost use Rattle.asm_storage.specs.Limits.{offers_limit};
 ghost use Rattle.asm_storage.specs.Storage.{IsSameAgent};
 ghost use Rattle.asm_slots.specs.Bytes.{AreLocations, IsFireForm, IsNoJson, IsOtherJson};
 ghost use Rattle.asm_slots.specs.Bytes.{ReadAsManyLocations, ReadAsManyReads};
@@ -51,7 +52,7 @@ pub extern "C" fn asm_try_fire(
     ensures not_busy { result ≢ ASM_BUSY → (numbers.new.from ≡ 0) × (numbers.new.to ≡ 0) }
     ensures few { result ≢ ASM_EMPTY → Goes (content_of agent.old) (content_of agent.new) MissedFew }
     ensures missed { result ≡ ASM_DONE → Goes (content_of agent.old) (content_of agent.new) MissedOne }
-    ensures lost { result ≡ ASM_BUSY → numbers.new.from + 64 ≤ numbers.new.to }
+    ensures lost { result ≡ ASM_BUSY → numbers.new.from + offers_limit ≤ numbers.new.to }
     ensures memory { result ≡ ASM_MEMORY →
         Goes (content_of agent.old) (content_of agent.new) MayHaveOffered }
     ensures many { result ≡ ASM_MANY → ReadAsManyReads call.now }

@@ -1,16 +1,14 @@
 //! Beginning a step, what is seen through its pushed moves, and taking the last one away.
 ghost use Rattle.std.specs.Prelude.{◌≡◌, ◌≢◌, ◌↔◌, ◌∷◌, [], length};
 ghost use Rattle.asm_storage.specs.Storage.{IsSameAgent};
-ghost use Rattle.asm_slots.specs.Bytes.{AreLocations, IsNoJson, IsOtherJson};
 ghost use Rattle.asm_slots.specs.Calls.{SeesOn};
-ghost use Rattle.asm_slots.specs.Codes.{IsOneOf, ASM_DONE, ASM_MEMORY, ASM_EMPTY, ASM_SMALL, ASM_MANY, ASM_NONE};
-ghost use Rattle.asm_slots.specs.Codes.{ASM_TAKEN, ASM_NOT_JSON, ASM_SHAPE, ASM_MOVED};
+ghost use Rattle.asm_slots.specs.Codes.{IsOneOf, ASM_DONE, ASM_MEMORY, ASM_EMPTY, ASM_NONE, ASM_TAKEN};
+ghost use Rattle.asm_slots.specs.Got.{Gets};
 ghost use Rattle.asm_slots.specs.Own.{HasFollowed, HasLookedOn};
-ghost use Rattle.asm_slots.specs.Slots.{Goes, GoesStep, HoldBoth, HoldsNoAgent, HoldsNoStep, HoldsStep, LacksOne};
-ghost use Rattle.asm_slots.specs.Slots.{HasRoomForStep, IfHoldsStep, content_of};
-ghost use Rattle.asm_slots.specs.Steps.{HasGot, HasPopped, IsGotText, WouldGetMany, seen};
+ghost use Rattle.asm_slots.specs.Slots.{Goes, GoesStep, HasRoomForStep, HoldsNoAgent, HoldsNoStep, HoldsStep};
+ghost use Rattle.asm_slots.specs.Slots.{IfHoldsStep, content_of};
+ghost use Rattle.asm_slots.specs.Steps.{HasPopped};
 ghost use Rattle.asm_slots.specs.Step.{begun};
-ghost use Rattle.asm_slots.specs.Written.{IsTooLong, IsWritten};
 
 use asm_slots::Slot;
 use std::alloc::Global;
@@ -58,23 +56,9 @@ pub extern "C" fn asm_get(
     out: &mut [u8],
     written: &mut usize,
 ) -> i32
-    ensures codes { IsOneOf (ASM_DONE ∷ ASM_MEMORY ∷ ASM_EMPTY ∷ ASM_SMALL ∷ ASM_MANY
-        ∷ ASM_NOT_JSON ∷ ASM_SHAPE ∷ ASM_MOVED ∷ []) result }
-    ensures told { result ≡ ASM_DONE → HoldBoth (content_of agent.old) (content_of step.old)
-        (λ a s. IsWritten (IsGotText locations.now a s) out.new written.new) }
-    ensures got { result ≡ ASM_DONE →
-        GoesStep (content_of step.old) (content_of step.new) (HasGot locations.now) }
-    ensures small { result ≡ ASM_SMALL → HoldBoth (content_of agent.old) (content_of step.old)
-        (λ a s. IsTooLong (IsGotText locations.now a s) (length out.old) written.new) }
-    ensures many { result ≡ ASM_MANY → HoldsStep (content_of step.old) (WouldGetMany locations.now) }
-    ensures not_json { result ≡ ASM_NOT_JSON → IsNoJson locations.now }
-    ensures shape { result ≡ ASM_SHAPE → IsOtherJson AreLocations locations.now }
-    ensures empty { result ≡ ASM_EMPTY → LacksOne (content_of agent.old) (content_of step.old) }
+    ensures gets { Gets locations.now (content_of agent.old) (content_of step.old) (content_of step.new)
+        out.old out.new written.new result }
     ensures kept { content_of agent.new ≡ content_of agent.old }
-    ensures stays { result ≢ ASM_DONE → content_of step.new ≡ content_of step.old }
-    ensures no_text { IsOneOf (ASM_MEMORY ∷ ASM_EMPTY ∷ ASM_MANY ∷ ASM_NOT_JSON ∷ ASM_SHAPE ∷ ASM_MOVED ∷ []) result →
-        written.new ≡ 0 }
-    ensures unwritten { result ≢ ASM_DONE → out.new ≡ out.old }
 {
     asm_slots::get(alloc, agent, step, locations, out, written)
 }

@@ -1,17 +1,29 @@
 -- A location that is got besides others.
-use Rattle.std.proofs.Common.{◌≡◌, ◌≤◌, ◌<◌, ◌∙◌, ℕ, zero, suc, true, false, List, [], ◌∷◌, ◌++◌, Contains, Option, None, Some, IsOk, length, get_or, arith, inl, inr, ⊎_elim, refl, subst, sym, ap}
+use Rattle.std.proofs.Common.{◌≡◌, ◌≤◌, ◌<◌, ◌∙◌, ℕ, zero, suc, true, false, List, [], ◌∷◌, ◌++◌, Contains, Option, length, get_or, arith, ⊎_elim, refl, subst, sym, ap}
 use Rattle.std.specs.List.{HoldsAt, AllWithin}
 use Rattle.std.specs.List.Retain.{IsFiltered, DiffersFromLast}
 use Rattle.std.specs.List.Sorted.{IsPermutation, IsSorted, IsStrictlySortedBy}
 use Rattle.std.specs.Ordering.{eq_by_cmp}
 use Rattle.std.proofs.lemmas.Bool.{false≢true}
-use Rattle.std.proofs.lemmas.List.Elements.{Contains-append_cases, Contains-append_left}
+use Rattle.std.proofs.lemmas.List.Elements.{Contains-append_cases, Contains-append_left, Contains-append_right}
 use Rattle.asm_element.specs.Place.{Place, location_cmp, location_cmp_total, same_location}
-use Rattle.asm_element.specs.declared.element.Element.{Element}
 use Rattle.std.specs.Cmp.{eq_by_cmp_equiv}
 use Rattle.asm_step.proofs.Agreeing.{each_from}
 use Rattle.asm_step.specs.Places.{AreEach}
+use Rattle.asm_storage.specs.Limits.{reads_limit}
 use Rattle.asm_slots.specs.Steps.{IsCopyFor}
+
+either : (xs ys : List Place) (l : Place) → Contains (xs ++ ys) l → Contains (ys ++ xs) l
+either xs ys l has =
+    ⊎_elim (λ first. Contains-append_right ys xs l first) (λ second. Contains-append_left ys xs l second)
+    (Contains-append_cases xs ys l has)
+
+-- each of two lists, whichever stands first
+pub each_swapped : (xs ys ls : List Place) → AreEach (xs ++ ys) ls → AreEach (ys ++ xs) ls
+each_swapped xs ys ls each = record {
+  ascending = each.ascending;
+  same = λ l. (λ has. either xs ys l ((each.same l).0 has), λ has. (each.same l).1 (either ys xs l has));
+}
 
 -- nothing is got in ascending order
 pub none_ascend : IsStrictlySortedBy location_cmp []
@@ -59,8 +71,8 @@ noted old put ordered new l copy same items moved sorted kept =
 
 -- what is noted in a list, to which room was added meanwhile
 pub noted_in : (old mid new : List Place) (l : Place) (copy : Option Place) → mid ≡ old → IsCopyFor old l copy →
-    ((k : Place) → IsCopyFor mid k copy → AreEach (mid ++ k ∷ []) new) → ((k : Place) → IsCopyFor mid k copy → length new ≤ 256) →
-    AreEach (old ++ l ∷ []) new × (length new ≤ 256)
+    ((k : Place) → IsCopyFor mid k copy → AreEach (mid ++ k ∷ []) new) → ((k : Place) → IsCopyFor mid k copy → length new ≤ reads_limit) →
+    AreEach (old ++ l ∷ []) new × (length new ≤ reads_limit)
 noted_in old mid new l copy same is each few =
     let here : IsCopyFor mid l copy = subst (λ (ls : List Place). IsCopyFor ls l copy) (sym same) is in
     (subst (λ (ls : List Place). AreEach (ls ++ l ∷ []) new) same (each l here), few l here)

@@ -1,11 +1,12 @@
 -- What the calls do with the agents and the storages in slots.
-use Rattle.std.specs.Prelude.{◌≡◌, ◌⊎◌, ◌≤◌, ◌+◌, ◌-◌, ◌^◌, min, max, ℕ, ℤ, List, [], ◌∷◌, ◌++◌, length, Option, None, Some}
+use Rattle.std.specs.Prelude.{◌≡◌, ◌⊎◌, ◌<◌, ◌≤◌, ◌+◌, ◌-◌, ◌^◌, min, max, ℕ, ℤ, List, [], ◌∷◌, ◌++◌, length, Option, None, Some}
 use Rattle.std.specs.Prelude.{Ok, Err}
 use Rattle.serde_json.specs.Written.{compact_text}
 use mathlib.Core.List.{IsPrefix}
 use Rattle.asm_element.specs.Place as element
 use Rattle.asm_update.specs.Move.{Move}
 use Rattle.asm_state.specs.declared.named.Named.{Named}
+use Rattle.asm_storage.specs.Limits.{offers_limit}
 use Rattle.asm_storage.specs.declared.call.Reply.{Reply}
 use Rattle.asm_storage.specs.declared.call.Reply.TheVariants as reply
 use Rattle.asm_storage.specs.declared.error.FireError.TheVariants.{Busy, Memory}
@@ -14,6 +15,7 @@ use Rattle.asm_storage.specs.declared.receipt.Entry.{Entry}
 use Rattle.asm_storage.specs.Storage.{AgentAt, has_looked, has_seen, last_look, Missed}
 use Rattle.asm_storage.specs.Calls.{ReadingView, IsRead, IsAnswered, IsBusy, IsCoherentReply, MadeOffers}
 use Rattle.asm_journal.specs.Event.{answer_json_of}
+use Rattle.asm_row.specs.Limits.{capacity_limit}
 use Rattle.asm_slots.specs.Standard.{Standard, meaning}
 use Rattle.asm_slots.specs.Bytes.{ReadAsLocations, ReadAsFire, ReadAsState}
 use Rattle.asm_slots.specs.Closed.{IsJournalOf}
@@ -22,6 +24,10 @@ use Rattle.asm_slots.specs.Slots.{HoldsStore, Goes}
 use Rattle.asm_slots.specs.Store.{StoreView, IsPutIn}
 use Rattle.asm_slots.specs.declared.content.Content.{Content}
 use Rattle.asm_slots.specs.declared.content.Content.TheVariants as content
+
+-- no storage has room for so many moves
+abbrev pub IsNoCapacity : ℕ → Type 0
+IsNoCapacity capacity = (capacity ≡ 0) ⊎ (capacity_limit < capacity)
 
 -- a storage with this opening state and this capacity, of which no agent was made
 abbrev pub IsOpened : List ℕ → ℕ → StoreView → Type 0
@@ -90,7 +96,7 @@ MayHaveOffered old new = (new ≡ old) ⊎ ((n : ℕ) × MadeOffers old new (Err
 
 -- at most 64 looks more found nothing
 abbrev pub MissedFew : AgentAt Standard → AgentAt Standard → Type 0
-MissedFew old new = new.misses ≤ old.misses + 64
+MissedFew old new = new.misses ≤ old.misses + offers_limit
 
 -- a look more found nothing, as far as they are counted
 abbrev pub MissedOne : AgentAt Standard → AgentAt Standard → Type 0

@@ -12,12 +12,14 @@ pub mod Unclosed
 pub mod Step
 pub mod Slots
 pub mod Calls
-pub mod GiveError
 pub mod Journals
 pub mod Moves
 pub mod Own
 pub mod Next
 pub mod Steps
+pub mod Grown
+pub mod Told
+pub mod Got
 pub mod Committed
 pub mod Kinds
 pub mod Verbs

@@ -5,7 +5,9 @@ use Rattle.asm_element.specs.Place.{Place}
 use Rattle.asm_update.specs.Fire.{Old}
 use Rattle.asm_update.specs.Move.{Move}
 use Rattle.asm_update.specs.State.{State, IsProper, val}
+use Rattle.asm_overlay.specs.Limits.{frames_limit}
 use Rattle.asm_overlay.specs.Frames.{seen_through}
+use Rattle.asm_storage.specs.Limits.{reads_limit}
 use Rattle.asm_storage.specs.Storage.{AgentAt}
 use Rattle.asm_step.specs.Answer.{IsAnswer}
 use Rattle.asm_step.specs.InTurn.{all_but_last}
@@ -47,7 +49,7 @@ IsGotText bytes a s text =
 -- the locations are got too
 abbrev pub HasGotEach : List Place → StepView → StepView → Type 0
 HasGotEach locations old new =
-    (new ≡ record old { got = new.got }) × AreEach (old.got ++ locations) new.got × (length new.got ≤ 256)
+    (new ≡ record old { got = new.got }) × AreEach (old.got ++ locations) new.got × (length new.got ≤ reads_limit)
 
 -- the locations of these bytes are got too
 abbrev pub HasGot : List ℕ → StepView → StepView → Type 0
@@ -59,17 +61,17 @@ HasGotOne l = HasGotEach (l ∷ [])
 
 -- 256 locations are got, and this one isn't among them
 abbrev pub WouldGetOneMore : Place → StepView → Type 0
-WouldGetOneMore l s = (256 ≤ length s.got) × ¬ Contains s.got l
+WouldGetOneMore l s = (reads_limit ≤ length s.got) × ¬ Contains s.got l
 
 -- the location is among the others; or it isn't, and this is a copy of it, for which there is room among 256
 abbrev pub IsCopyFor : List Place → Place → Option Place → Type 0
 IsCopyFor got l None = Contains got l
-IsCopyFor got l (Some copy) = (copy ≡ l) × (length got < 256)
+IsCopyFor got l (Some copy) = (copy ≡ l) × (length got < reads_limit)
 
 -- more than 256 would be got, with the locations of these bytes
 abbrev pub WouldGetMany : List ℕ → StepView → Type 0
 WouldGetMany bytes s =
-    (locations ls : List Place) × ReadAsLocations bytes locations × AreEach (s.got ++ locations) ls × (256 < length ls)
+    (locations ls : List Place) × ReadAsLocations bytes locations × AreEach (s.got ++ locations) ls × (reads_limit < length ls)
 
 -- the text tells what is seen at the locations with this function name
 abbrev pub IsFoundText : List ℕ → AgentAt Standard → StepView → List ℕ → Type 0
@@ -83,12 +85,12 @@ IsFound name a s S = IsProper S × ((l : Place) → val S l ≡ of_name name (se
 abbrev pub HasGotAll : List ℕ → AgentAt Standard → StepView → StepView → Type 0
 HasGotAll name a old new =
     (S : State) × IsFound name a old S × (new ≡ record old { got = new.got })
-    × AreEach (old.got ++ finite.keys S) new.got × (length new.got ≤ 256)
+    × AreEach (old.got ++ finite.keys S) new.got × (length new.got ≤ reads_limit)
 
 -- more than 256 would be got, with those that are found
 abbrev pub WouldGetManyMore : List ℕ → AgentAt Standard → StepView → Type 0
 WouldGetManyMore name a s =
-    (S : State) × (ls : List Place) × IsFound name a s S × AreEach (s.got ++ finite.keys S) ls × (256 < length ls)
+    (S : State) × (ls : List Place) × IsFound name a s S × AreEach (s.got ++ finite.keys S) ls × (reads_limit < length ls)
 
 -- ---- pushing
 
@@ -99,7 +101,7 @@ grown ways.Extend groups M = extended groups M
 
 -- a layer more; or a new one in the place of the last. There are 64 at most
 abbrev pub IsLayered : Way → List Layer → List Layer → Type 0
-IsLayered ways.Push old new = ((y : Layer) × (new ≡ old ++ y ∷ [])) × (length old ≢ 64)
+IsLayered ways.Push old new = ((y : Layer) × (new ≡ old ++ y ∷ [])) × (length old ≢ frames_limit)
 IsLayered ways.Extend old new = (y : Layer) × (new ≡ all_but_last old ++ y ∷ [])
 
 -- the move is pushed, or extends the one that was pushed last
@@ -134,38 +136,6 @@ IsRefused way M a s code text = (e : StepError) × IsPushError way M a s e × Te
 -- the bytes are JSON of a move, and code and text tell why it is neither pushed nor extends the last one
 abbrev pub IsNotGrown : Way → List ℕ → AgentAt Standard → StepView → ℤ → List ℕ → Type 0
 IsNotGrown way bytes a s code text = (M : Move) × ReadAsMove bytes M × IsRefused way M a s code text
-
--- the move is pushed
-abbrev pub IsPushed : Move → AgentAt Standard → StepView → StepView → Type 0
-IsPushed = IsGrown ways.Push
-
--- code and text tell why the move isn't pushed
-abbrev pub IsPushRefused : Move → AgentAt Standard → StepView → ℤ → List ℕ → Type 0
-IsPushRefused = IsRefused ways.Push
-
--- the move extends the one that was pushed last
-abbrev pub IsExtended : Move → AgentAt Standard → StepView → StepView → Type 0
-IsExtended = IsGrown ways.Extend
-
--- code and text tell why the move doesn't extend the one that was pushed last
-abbrev pub IsExtensionRefused : Move → AgentAt Standard → StepView → ℤ → List ℕ → Type 0
-IsExtensionRefused = IsRefused ways.Extend
-
--- the bytes are JSON of a move, which is pushed
-abbrev pub HasPushed : List ℕ → AgentAt Standard → StepView → StepView → Type 0
-HasPushed = HasGrown ways.Push
-
--- the bytes are JSON of a move, and code and text tell why it isn't pushed
-abbrev pub IsNotPushed : List ℕ → AgentAt Standard → StepView → ℤ → List ℕ → Type 0
-IsNotPushed = IsNotGrown ways.Push
-
--- the bytes are JSON of a move, which extends the one that was pushed last
-abbrev pub HasExtended : List ℕ → AgentAt Standard → StepView → StepView → Type 0
-HasExtended = HasGrown ways.Extend
-
--- the bytes are JSON of a move, and code and text tell why it doesn't extend the one that was pushed last
-abbrev pub IsNotExtended : List ℕ → AgentAt Standard → StepView → ℤ → List ℕ → Type 0
-IsNotExtended = IsNotGrown ways.Extend
 
 -- ---- popping
 

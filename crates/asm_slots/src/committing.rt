@@ -1,5 +1,6 @@
 //! Firing the one move of a step.
 ghost use Rattle.std.specs.Prelude.{◌≡◌, ◌≢◌, ◌≤◌, ◌+◌, ◌∷◌, [], ℤ, None};
+ghost use Rattle.asm_storage.specs.Limits.{offers_limit};
 ghost use Rattle.asm_storage.specs.Storage.{IsSameAgent};
 ghost use Rattle.asm_slots.specs.Calls.{MissedFew, MissedOne, SeesOn};
 ghost use Rattle.asm_slots.specs.Codes.{IsOneOf, ASM_DONE, ASM_STALE, ASM_CLASH, ASM_MEMORY, ASM_FULL};
@@ -8,11 +9,12 @@ ghost use Rattle.asm_slots.specs.Committed.{HasCommitted, OneDoesAll, TellsFire}
 ghost use Rattle.asm_slots.specs.Slots.{Goes, HoldBoth, Holds, LacksOne, content_of};
 
 use crate::codes::{BUSY, DONE, EMPTY, MANY, MEMORY};
+use crate::content::Content;
 use crate::owned_agent::OwnedAgent;
 use crate::owned_step::OwnedStep;
 use crate::read_and_fire::{Numbers, code_of_reply};
 use crate::slot::Slot;
-use crate::take_and_put::{put_agent, put_step, take_both};
+use crate::take_and_put::{put_agent, put_shell, take_agent, take_shell};
 use asm_storage::{FireError, Reply};
 use std::alloc::Global;
 
@@ -48,7 +50,7 @@ fn fire_step(alloc: Global, agent: OwnedAgent, step: &OwnedStep) -> (OwnedAgent,
     ensures seen { SeesOn agent result.0 }
     ensures few { MissedFew agent result.0 }
     ensures missed { result.1 ≡ ASM_DONE → MissedOne agent result.0 }
-    ensures lost { result.1 ≡ ASM_BUSY → result.2.from + 64 ≤ result.2.to }
+    ensures lost { result.1 ≡ ASM_BUSY → result.2.from + offers_limit ≤ result.2.to }
 {
     let instrs = step.step.as_move();
     let Ok(reads) = step.reads(alloc) else {
@@ -79,23 +81,30 @@ pub fn commit(alloc: Global, agent: &mut Slot, step: &mut Slot, numbers: &mut Nu
     ensures seen { result ≢ ASM_EMPTY → Goes (content_of agent.old) (content_of agent.new) SeesOn }
     ensures few { result ≢ ASM_EMPTY → Goes (content_of agent.old) (content_of agent.new) MissedFew }
     ensures missed { result ≡ ASM_DONE → Goes (content_of agent.old) (content_of agent.new) MissedOne }
-    ensures lost { result ≡ ASM_BUSY → numbers.new.from + 64 ≤ numbers.new.to }
+    ensures lost { result ≡ ASM_BUSY → numbers.new.from + offers_limit ≤ numbers.new.to }
     ensures empty { result ≡ ASM_EMPTY → LacksOne (content_of agent.old) (content_of step.old) }
     ensures kept { result ≡ ASM_EMPTY → content_of agent.new ≡ content_of agent.old }
     ensures no_numbers { result ≡ ASM_EMPTY →
         (numbers.new.fired ≡ 0) × (numbers.new.from ≡ 0) × (numbers.new.to ≡ 0) }
 {
-    let Some(both) = take_both(alloc, agent, step) else {
-        *numbers = Numbers::none();
+    *numbers = Numbers::none();
+    let Some((shell, inner)) = take_agent(alloc, agent) else {
         return EMPTY;
     };
-    let (inner, code, told) = fire_step(alloc, both.agent, &both.step);
+    let Some(held) = take_shell(alloc, step) else {
+        put_agent(agent, shell, inner);
+        return EMPTY;
+    };
+    let (inner, code, told) = match &*held {
+        Content::Step(taken) => fire_step(alloc, inner, taken),
+        _ => (inner, EMPTY, Numbers::none()),
+    };
     *numbers = told;
-    put_agent(agent, both.agent_shell, inner);
+    put_agent(agent, shell, inner);
     if code == DONE {
         *step = Slot::empty(alloc);
     } else {
-        put_step(step, both.step_shell, both.step);
+        put_shell(step, held);
     }
     code
 }

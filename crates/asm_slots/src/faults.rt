@@ -4,7 +4,7 @@ use asm_element::{ARGS_LIMIT, Element, ITEMS_LIMIT, Location, Value};
 use asm_journal::{FromJson, instruction_parts, one_member, read_amount, two_items, two_members};
 use asm_state::Named;
 use asm_storage::Answer;
-use asm_update::Instruction;
+use asm_update::{INSTRUCTIONS_LIMIT, Instruction};
 use serde_json::Value as Json;
 use std::alloc::{AllocError, Global};
 
@@ -275,7 +275,7 @@ pub(crate) fn fault_of_move(alloc: Global, json: &Json) -> Result<Fault, AllocEr
     let Json::Array(items) = instrs else {
         return Ok(Fault::of(Why::Says("the instructions are an array")));
     };
-    if items.len() > 4096 {
+    if items.len() > INSTRUCTIONS_LIMIT {
         return Ok(Fault::of(Why::Many(items.len())));
     }
     match first_refused::<Instruction>(alloc, items)? {

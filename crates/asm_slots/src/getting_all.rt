@@ -1,23 +1,27 @@
 //! What is seen through a step at all locations with one function name.
-ghost use Rattle.std.specs.Prelude.{◌≡◌, ◌≢◌, ◌≤◌, ◌<◌, ◌∷◌, ◌++◌, [], List, length, string_bytes, IsUtf8, IfOk, IfErr};
+ghost use Rattle.std.specs.Prelude.{◌≡◌, ◌≢◌, ◌≤◌, ◌<◌, ◌∷◌, ◌++◌, [], List, length, string_bytes, IsUtf8, IfOk, IfErr, Some};
 ghost use Rattle.std.specs.FinMap as finite;
 ghost use Rattle.asm_element.specs.Place.{Place};
 ghost use Rattle.asm_update.specs.State.{State, IsProper, val};
 ghost use Rattle.asm_step.specs.Places.{AreEach};
-ghost use Rattle.asm_slots.specs.Codes.{IsOneOf, ASM_DONE, ASM_MEMORY, ASM_EMPTY, ASM_SMALL, ASM_MANY};
+ghost use Rattle.asm_storage.specs.Limits.{reads_limit};
+ghost use Rattle.asm_slots.specs.Codes.{IsOneOf, ASM_DONE, ASM_MEMORY, ASM_SMALL, ASM_MANY};
 ghost use Rattle.asm_slots.specs.Codes.{ASM_SHAPE, ASM_MOVED};
-ghost use Rattle.asm_slots.specs.Slots.{HoldBoth, HoldsStep, LacksOne, content_of};
+ghost use Rattle.asm_slots.specs.Got.{GetsAll};
+ghost use Rattle.asm_slots.specs.Slots.{content_of};
 ghost use Rattle.asm_slots.specs.Steps.{HasGotAll, IsFound, IsFoundText, WouldGetManyMore};
 ghost use Rattle.asm_slots.specs.Written.{IsTooLong, IsWritten};
 
 use crate::codes::{DONE, EMPTY, MANY, MEMORY, MOVED, SHAPE, copied};
+use crate::content::Content;
 use crate::owned_agent::OwnedAgent;
 use crate::owned_step::{OwnedStep, each_of};
 use crate::slot::Slot;
 use crate::steps::{GetError, Got};
-use crate::take_and_put::{put_both, take_both};
+use crate::take_and_put::{agent_in, put_both, take_both};
 use asm_element::Location;
 use asm_journal::state_text;
+use asm_storage::READS_LIMIT;
 use asm_update::PlainState;
 use std::alloc::{AllocError, Global};
 use std::str;
@@ -80,14 +84,14 @@ fn got_all_at(
     ensures text { IfOk result (λ g. IsFoundText name.now agent.now step.now (string_bytes g.text)) }
     ensures all { IfOk result (λ g. (S : State) × IsFound name.now agent.now step.now S
         × AreEach (step.now.got ++ finite.keys S) g.all.items) }
-    ensures few { IfOk result (λ g. length g.all.items ≤ 256) }
+    ensures few { IfOk result (λ g. length g.all.items ≤ reads_limit) }
     ensures many { IfErr result (λ e. e ≡ GetError.Many → WouldGetManyMore name.now agent.now step.now) }
     ensures shape { IfErr result (λ e. e ≡ GetError.Shape → ¬ IsUtf8 name.now) }
 {
     let found = found_of(alloc, agent, step, name)?;
     let locations = locations_of_state(alloc, &found)?;
-    let all = each_of(alloc, &step.got, &locations)?;
-    if all.len() > 256 {
+    let all = each_of(alloc, &step.got, locations)?;
+    if all.len() > READS_LIMIT {
         return Err(GetError::Many);
     }
     let text = state_text(alloc, &found)?;
@@ -130,6 +134,27 @@ fn get_all_in(
     }
 }
 
+// The same, where the boxes hold an agent and a step.
+fn get_all_of(
+    alloc: Global,
+    agent: &Content,
+    step: &mut Content,
+    name: &[u8],
+    out: &mut [u8],
+    written: &mut usize,
+) -> i32
+    requires { written.old ≡ 0 }
+    ensures { GetsAll name.now (Some agent.now) (Some step.old) (Some step.new) out.old out.new written.new result }
+{
+    let Some(agent) = agent_in(agent) else {
+        return EMPTY;
+    };
+    match step {
+        Content::Step(step) => get_all_in(alloc, agent, step, name, out, written),
+        _ => EMPTY,
+    }
+}
+
 /// Writes `[PAIR, ..]`: what is seen through the pushed moves at all locations with the function name, a text in
 /// UTF-8 without quotes, in ascending order. Each location that is found is got, and is named by the commit; that
 /// a further location of the name is written later isn't noticed by it.
@@ -145,28 +170,15 @@ pub fn get_all(
     out: &mut [u8],
     written: &mut usize,
 ) -> i32
-    ensures codes { IsOneOf (ASM_DONE ∷ ASM_MEMORY ∷ ASM_EMPTY ∷ ASM_SMALL ∷ ASM_MANY ∷ ASM_SHAPE ∷ ASM_MOVED ∷ []) result }
-    ensures told { result ≡ ASM_DONE → HoldBoth (content_of agent.old) (content_of step.old)
-        (λ a s. IsWritten (IsFoundText name.now a s) out.new written.new) }
-    ensures got { result ≡ ASM_DONE → HoldBoth (content_of agent.old) (content_of step.old)
-        (λ a s. HoldsStep (content_of step.new) (HasGotAll name.now a s)) }
-    ensures small { result ≡ ASM_SMALL → HoldBoth (content_of agent.old) (content_of step.old)
-        (λ a s. IsTooLong (IsFoundText name.now a s) (length out.old) written.new) }
-    ensures many { result ≡ ASM_MANY → HoldBoth (content_of agent.old) (content_of step.old)
-        (WouldGetManyMore name.now) }
-    ensures shape { result ≡ ASM_SHAPE → ¬ IsUtf8 name.now }
-    ensures empty { result ≡ ASM_EMPTY → LacksOne (content_of agent.old) (content_of step.old) }
+    ensures gets { GetsAll name.now (content_of agent.old) (content_of step.old) (content_of step.new)
+        out.old out.new written.new result }
     ensures kept { content_of agent.new ≡ content_of agent.old }
-    ensures stays { result ≢ ASM_DONE → content_of step.new ≡ content_of step.old }
-    ensures no_text { IsOneOf (ASM_MEMORY ∷ ASM_EMPTY ∷ ASM_MANY ∷ ASM_SHAPE ∷ ASM_MOVED ∷ []) result →
-        written.new ≡ 0 }
-    ensures unwritten { result ≢ ASM_DONE → out.new ≡ out.old }
 {
     *written = 0;
     let Some(mut both) = take_both(alloc, agent, step) else {
         return EMPTY;
     };
-    let code = get_all_in(alloc, &both.agent, &mut both.step, name, out, written);
+    let code = get_all_of(alloc, &both.agent, &mut both.step, name, out, written);
     put_both(agent, step, both);
     code
 }

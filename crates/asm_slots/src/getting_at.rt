@@ -1,27 +1,29 @@
 //! What is seen through the pushed moves of a step at a prepared location, which is got.
-ghost use Rattle.std.specs.Prelude.{◌≡◌, ◌≢◌, ◌⊎◌, ◌≤◌, ◌<◌, ◌∷◌, ◌++◌, [], pos, length, Contains};
+ghost use Rattle.std.specs.Prelude.{◌≡◌, ◌≢◌, ◌≤◌, ◌<◌, ◌∷◌, ◌++◌, [], length, Contains};
 ghost use Rattle.std.specs.Prelude.{IfErr, IfOk, IsSome, Some, vec_len};
 ghost use Rattle.std.specs.Vec.{vec_capacity};
 ghost use Rattle.std.specs.List.Sorted.{IsStrictlySortedBy};
 ghost use Rattle.asm_element.specs.Place.{Place, location_cmp};
 ghost use Rattle.asm_step.specs.Places.{AreEach};
-ghost use Rattle.asm_slots.specs.Codes.{IsOneOf, ASM_DONE, ASM_MEMORY, ASM_EMPTY, ASM_SMALL, ASM_MANY, ASM_MOVED};
+ghost use Rattle.asm_storage.specs.Limits.{reads_limit};
+ghost use Rattle.asm_slots.specs.Codes.{IsOneOf, ASM_DONE, ASM_MEMORY, ASM_SMALL, ASM_MANY, ASM_MOVED};
 ghost use Rattle.asm_slots.specs.Kinds.{IsTold, bytes_of};
-ghost use Rattle.asm_slots.specs.Slots.{HoldBoth, HoldsLocation, HoldsNoLocation, HoldsStep};
-ghost use Rattle.asm_slots.specs.Slots.{GoesStep, LacksOne, content_of};
+ghost use Rattle.asm_slots.specs.Slots.{content_of};
 ghost use Rattle.asm_slots.specs.Steps.{HasGotOne, IsCopyFor, WouldGetOneMore, seen};
+ghost use Rattle.asm_slots.specs.Told.{GetsAt, IsNoValue};
 ghost use Rattle.asm_slots.specs.Written.{IsTooLong, IsWritten};
 
 use crate::codes::{DONE, EMPTY, MANY, MEMORY, MOVED};
 use crate::content::Content;
 use crate::owned_agent::OwnedAgent;
 use crate::owned_step::OwnedStep;
-use crate::prepared::{location_in, put_shell, take_shell};
+use crate::prepared::location_in;
 use crate::slot::Slot;
 use crate::steps::GetError;
-use crate::take_and_put::{put_both, take_both};
+use crate::take_and_put::{agent_in, put_both, put_shell, take_both, take_shell};
 use crate::value_head::{ValueHead, tell_at};
 use asm_element::Location;
+use asm_storage::READS_LIMIT;
 use std::alloc::Global;
 
 // A copy of the location, unless it is among the others, and room for it among them.
@@ -34,12 +36,12 @@ fn copy_for(
     ensures copy { IfOk result (IsCopyFor got.old.items at.now) }
     ensures room { IfOk result (λ copy. IsSome copy → vec_len got.new < vec_capacity got.new) }
     ensures many { IfErr result (λ e. e ≡ GetError.Many →
-        (256 ≤ length got.old.items) × ¬ Contains got.old.items at.now) }
+        (reads_limit ≤ length got.old.items) × ¬ Contains got.old.items at.now) }
 {
     if got.contains(at) {
         return Ok(None);
     }
-    if got.len() >= 256 {
+    if got.len() >= READS_LIMIT {
         return Err(GetError::Many);
     }
     let copy = at.copy(alloc)?;
@@ -50,10 +52,10 @@ fn copy_for(
 // Puts the copy, if there is one, in its place among the others.
 fn note(got: &mut Vec<Location>, copy: Option<Location>)
     requires ascending { IsStrictlySortedBy location_cmp got.old.items }
-    requires few { length got.old.items ≤ 256 }
+    requires few { length got.old.items ≤ reads_limit }
     requires room { IsSome copy → vec_len got.old < vec_capacity got.old }
     ensures noted { (l : Place) → IsCopyFor got.old.items l copy → AreEach (got.old.items ++ l ∷ []) got.new.items }
-    ensures few { (l : Place) → IsCopyFor got.old.items l copy → length got.new.items ≤ 256 }
+    ensures few { (l : Place) → IsCopyFor got.old.items l copy → length got.new.items ≤ reads_limit }
 {
     let Some(copy) = copy else {
         return;
@@ -110,25 +112,11 @@ fn get_in_both(
     out: &mut [u8],
     written: &mut usize,
 ) -> i32
-    requires { written.old ≡ 0 }
-    ensures codes { IsOneOf (ASM_DONE ∷ ASM_MEMORY ∷ ASM_EMPTY ∷ ASM_SMALL ∷ ASM_MANY ∷ ASM_MOVED ∷ []) result }
-    ensures told { result ≡ ASM_DONE → HoldsLocation (Some held.now)
-        (λ l. HoldBoth (content_of agent.old) (content_of step.old)
-        (λ a s. IsWritten (IsTold (seen a s l) value.new.kind value.new.number) out.new written.new)) }
-    ensures got { result ≡ ASM_DONE → HoldsLocation (Some held.now)
-        (λ l. GoesStep (content_of step.old) (content_of step.new) (HasGotOne l)) }
-    ensures small { result ≡ ASM_SMALL → HoldsLocation (Some held.now)
-        (λ l. HoldBoth (content_of agent.old) (content_of step.old)
-        (λ a s. IsTooLong (λ bytes. bytes ≡ bytes_of (seen a s l)) (length out.old) written.new)) }
-    ensures many { result ≡ ASM_MANY → HoldsLocation (Some held.now)
-        (λ l. HoldsStep (content_of step.old) (WouldGetOneMore l)) }
-    ensures empty { result ≡ ASM_EMPTY →
-        HoldsNoLocation (Some held.now) ⊎ LacksOne (content_of agent.old) (content_of step.old) }
+    requires no_text { written.old ≡ 0 }
+    requires no_value { IsNoValue value.old }
+    ensures gets { GetsAt (Some held.now) (content_of agent.old) (content_of step.old) (content_of step.new)
+        value.new out.old out.new written.new result }
     ensures kept { content_of agent.new ≡ content_of agent.old }
-    ensures stays { result ≢ ASM_DONE → content_of step.new ≡ content_of step.old }
-    ensures no_text { IsOneOf (ASM_MEMORY ∷ ASM_EMPTY ∷ ASM_MANY ∷ ASM_MOVED ∷ []) result → written.new ≡ 0 }
-    ensures no_value { result ≢ ASM_DONE → value.new ≡ value.old }
-    ensures unwritten { result ≢ ASM_DONE → out.new ≡ out.old }
 {
     let Some(at) = location_in(held) else {
         return EMPTY;
@@ -136,7 +124,12 @@ fn get_in_both(
     let Some(mut both) = take_both(alloc, agent, step) else {
         return EMPTY;
     };
-    let code = get_one(alloc, &both.agent, &mut both.step, at, value, out, written);
+    let code = match (agent_in(&both.agent), &mut *both.step) {
+        (Some(agent), Content::Step(step)) => {
+            get_one(alloc, agent, step, at, value, out, written)
+        }
+        _ => EMPTY,
+    };
     put_both(agent, step, both);
     code
 }
@@ -158,25 +151,10 @@ pub fn get_at(
     out: &mut [u8],
     written: &mut usize,
 ) -> i32
-    ensures codes { IsOneOf (ASM_DONE ∷ ASM_MEMORY ∷ ASM_EMPTY ∷ ASM_SMALL ∷ ASM_MANY ∷ ASM_MOVED ∷ []) result }
-    ensures told { result ≡ ASM_DONE → HoldsLocation (content_of at.old)
-        (λ l. HoldBoth (content_of agent.old) (content_of step.old)
-        (λ a s. IsWritten (IsTold (seen a s l) value.new.kind value.new.number) out.new written.new)) }
-    ensures got { result ≡ ASM_DONE → HoldsLocation (content_of at.old)
-        (λ l. GoesStep (content_of step.old) (content_of step.new) (HasGotOne l)) }
-    ensures small { result ≡ ASM_SMALL → HoldsLocation (content_of at.old)
-        (λ l. HoldBoth (content_of agent.old) (content_of step.old)
-        (λ a s. IsTooLong (λ bytes. bytes ≡ bytes_of (seen a s l)) (length out.old) written.new)) }
-    ensures many { result ≡ ASM_MANY → HoldsLocation (content_of at.old)
-        (λ l. HoldsStep (content_of step.old) (WouldGetOneMore l)) }
-    ensures empty { result ≡ ASM_EMPTY →
-        HoldsNoLocation (content_of at.old) ⊎ LacksOne (content_of agent.old) (content_of step.old) }
+    ensures gets { GetsAt (content_of at.old) (content_of agent.old) (content_of step.old) (content_of step.new)
+        value.new out.old out.new written.new result }
     ensures kept { content_of agent.new ≡ content_of agent.old }
     ensures held { content_of at.new ≡ content_of at.old }
-    ensures stays { result ≢ ASM_DONE → content_of step.new ≡ content_of step.old }
-    ensures no_text { IsOneOf (ASM_MEMORY ∷ ASM_EMPTY ∷ ASM_MANY ∷ ASM_MOVED ∷ []) result → written.new ≡ 0 }
-    ensures no_value { result ≢ ASM_DONE → (value.new.kind ≡ pos 0) × (value.new.number ≡ pos 0) }
-    ensures unwritten { result ≢ ASM_DONE → out.new ≡ out.old }
 {
     *written = 0;
     *value = ValueHead::none();

@@ -10,14 +10,13 @@ ghost use Rattle.asm_slots.specs.Slots.{HoldsNoAgent, HoldsNoStore, HoldsStore, 
 ghost use Rattle.asm_slots.specs.declared.content.Content.TheVariants as content;
 ghost use Rattle.asm_slots.specs.declared.store_close.Unclosed.TheVariants as unclosed;
 
-use crate::codes::{DONE, EMPTY, LARGE, MEMORY, MISSING, NONE, NUMBER, OTHER, copied};
+use crate::codes::{DONE, EMPTY, LARGE, MEMORY, MISSING, NONE, OTHER, copied};
 use crate::content::Content;
 use crate::owned_agent::OwnedAgent;
 use crate::shared::are_one;
 use crate::slot::Slot;
 use crate::store::Store;
 use crate::store_close::Unclosed;
-use crate::store_give::GiveError;
 use crate::take_and_put::{put_agent, put_store, take_agent, take_store};
 use std::alloc::Global;
 
@@ -68,13 +67,9 @@ fn give_at(
             *agent = Slot::empty(alloc);
             DONE
         }
-        Err((GiveError::Number, inner)) => {
+        Err((code, inner)) => {
             put_agent(agent, shell, inner);
-            NUMBER
-        }
-        Err((GiveError::Memory, inner)) => {
-            put_agent(agent, shell, inner);
-            MEMORY
+            code
         }
     }
 }

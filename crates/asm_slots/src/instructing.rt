@@ -1,6 +1,7 @@
 //! Moves that are gathered in slots, instruction by instruction.
 ghost use Rattle.std.specs.Prelude.{◌≡◌, ◌≢◌, ◌↔◌, ◌∷◌, ◌++◌, [], IsUtf8, OnErr, OnOk, length};
 ghost use Rattle.asm_element.specs.Place.{Place};
+ghost use Rattle.asm_update.specs.Limits.{instructions_limit};
 ghost use Rattle.asm_update.specs.Move.{Move};
 ghost use Rattle.asm_update.specs.declared.action.Action.{Action};
 ghost use Rattle.asm_slots.specs.Codes.{IsOneOf, ASM_DONE, ASM_MEMORY, ASM_EMPTY, ASM_RANGE, ASM_MANY};
@@ -12,9 +13,9 @@ ghost use Rattle.asm_slots.specs.Slots.{content_of, move_of};
 use crate::codes::{DONE, EMPTY, MANY, MEMORY, TAKEN};
 use crate::content::Content;
 use crate::operands::action_of;
-use crate::prepared::{location_in, put_shell, take_shell};
+use crate::prepared::location_in;
 use crate::slot::Slot;
-use crate::take_and_put::{put_move, take_move};
+use crate::take_and_put::{put_shell, take_shell};
 use asm_element::Location;
 use asm_update::{Action, Instruction, Instructions, InstructionsError};
 use std::alloc::{AllocError, Global};
@@ -24,7 +25,7 @@ fn append(alloc: Global, gathered: &mut Instructions, at: &Location, action: Act
     ensures codes { IsOneOf (ASM_DONE ∷ ASM_MEMORY ∷ ASM_MANY ∷ []) result }
     ensures done { result ≡ ASM_DONE →
         gathered.new ≡ gathered.old ++ record { at = at.now; action = action } ∷ [] }
-    ensures many { result ≡ ASM_MANY → length gathered.old ≡ 4096 }
+    ensures many { result ≡ ASM_MANY → length gathered.old ≡ instructions_limit }
     ensures kept { result ≢ ASM_DONE → gathered.new ≡ gathered.old }
 {
     let Ok(at) = at.copy(alloc) else {
@@ -52,7 +53,7 @@ fn instruct_at(
         IsInstructed at.now verb kind number bytes.now amount gathered.old gathered.new }
     ensures range { result ≡ ASM_RANGE → IsNoAction verb kind number bytes.now amount }
     ensures shape { result ≡ ASM_SHAPE → (kind ≡ ASM_KIND_TEXT) × ¬ IsUtf8 bytes.now }
-    ensures many { result ≡ ASM_MANY → length gathered.old ≡ 4096 }
+    ensures many { result ≡ ASM_MANY → length gathered.old ≡ instructions_limit }
     ensures kept { result ≢ ASM_DONE → gathered.new ≡ gathered.old }
 {
     match action_of(alloc, verb, kind, number, bytes, amount) {
@@ -77,7 +78,7 @@ fn instruct_in(
     ensures empty { result ≡ ASM_EMPTY → HoldsNoLocation (content_of at.old) }
     ensures range { result ≡ ASM_RANGE → IsNoAction verb kind number bytes.now amount }
     ensures shape { result ≡ ASM_SHAPE → (kind ≡ ASM_KIND_TEXT) × ¬ IsUtf8 bytes.now }
-    ensures many { result ≡ ASM_MANY → length gathered.old ≡ 4096 }
+    ensures many { result ≡ ASM_MANY → length gathered.old ≡ instructions_limit }
     ensures kept { result ≢ ASM_DONE → gathered.new ≡ gathered.old }
     ensures held { content_of at.new ≡ content_of at.old }
 {
@@ -156,17 +157,19 @@ pub fn instruct(
     ensures empty { result ≡ ASM_EMPTY → HoldsNoLocation (content_of at.old) }
     ensures range { result ≡ ASM_RANGE → IsNoAction verb kind number bytes.now amount }
     ensures shape { result ≡ ASM_SHAPE → (kind ≡ ASM_KIND_TEXT) × ¬ IsUtf8 bytes.now }
-    ensures many { result ≡ ASM_MANY → length (move_of (content_of instrs.old)) ≡ 4096 }
+    ensures many { result ≡ ASM_MANY → length (move_of (content_of instrs.old)) ≡ instructions_limit }
     ensures kept { result ≢ ASM_DONE → content_of instrs.new ≡ content_of instrs.old }
     ensures held { content_of at.new ≡ content_of at.old }
 {
-    if !instrs.is_full() {
+    let Some(mut shell) = take_shell(alloc, instrs) else {
         return instruct_first(alloc, instrs, at, verb, kind, number, bytes, amount);
-    }
-    let Some((shell, mut gathered)) = take_move(alloc, instrs) else {
-        return TAKEN;
     };
-    let code = instruct_in(alloc, &mut gathered, at, verb, kind, number, bytes, amount);
-    put_move(instrs, shell, gathered);
+    let code = match &mut *shell {
+        Content::Move(gathered) => {
+            instruct_in(alloc, gathered, at, verb, kind, number, bytes, amount)
+        }
+        _ => TAKEN,
+    };
+    put_shell(instrs, shell);
     code
 }

@@ -1,8 +1,9 @@
 //! The storage that goes on where a closed one ended.
-ghost use Rattle.std.specs.Prelude.{◌≡◌, ◌≢◌, ◌<◌, ◌⊎◌, ◌∷◌, [], None, Some, IfOk, IfErr};
+ghost use Rattle.std.specs.Prelude.{◌≡◌, ◌≢◌, ◌∷◌, [], None, Some, IfOk, IfErr};
 ghost use Rattle.asm_journal.specs.Reading.{ReadsAs};
 ghost use Rattle.asm_journal.specs.declared.error.JournalError.TheVariants as journal_error;
 ghost use Rattle.asm_storage.specs.declared.history.History.{History};
+ghost use Rattle.asm_slots.specs.Calls.{IsNoCapacity};
 ghost use Rattle.asm_slots.specs.Codes.{IsOneOf, ASM_DONE, ASM_MEMORY, ASM_EMPTY, ASM_RANGE, ASM_NONE, ASM_TAKEN};
 ghost use Rattle.asm_slots.specs.Next.{GoesOn, HasOpened, IsNextOf, IsOpenedAfter, LacksJournal};
 ghost use Rattle.asm_slots.specs.Slots.{HoldsNoStore, HoldsStore, content_of};
@@ -35,7 +36,7 @@ fn code_of_refusal(error: JournalError) -> i32
 fn storage_after(alloc: Global, journal: &[u8], capacity: u32) -> Result<Storage<Standard>, i32>
     ensures ok { IfOk result (HasOpened journal.now capacity) }
     ensures codes { IfErr result (IsOneOf (ASM_MEMORY ∷ ASM_RANGE ∷ ASM_NONE ∷ [])) }
-    ensures range { IfErr result (λ code. code ≡ ASM_RANGE → (capacity ≡ 0) ⊎ (1048576 < capacity)) }
+    ensures range { IfErr result (λ code. code ≡ ASM_RANGE → IsNoCapacity capacity) }
     ensures none { IfErr result (λ code. code ≡ ASM_NONE → (h : History) → ¬ ReadsAs journal.now h) }
 {
     let history = match from_text(alloc, journal) {
@@ -53,7 +54,7 @@ fn storage_after(alloc: Global, journal: &[u8], capacity: u32) -> Result<Storage
 fn opened_after(alloc: Global, journal: &[u8], capacity: u32) -> Result<Box<Content>, i32>
     ensures ok { IfOk result (λ b. HoldsStore (Some b.value) (IsOpenedAfter journal.now capacity)) }
     ensures codes { IfErr result (IsOneOf (ASM_MEMORY ∷ ASM_RANGE ∷ ASM_NONE ∷ [])) }
-    ensures range { IfErr result (λ code. code ≡ ASM_RANGE → (capacity ≡ 0) ⊎ (1048576 < capacity)) }
+    ensures range { IfErr result (λ code. code ≡ ASM_RANGE → IsNoCapacity capacity) }
     ensures none { IfErr result (λ code. code ≡ ASM_NONE → (h : History) → ¬ ReadsAs journal.now h) }
 {
     let storage = storage_after(alloc, journal, capacity)?;
@@ -77,7 +78,7 @@ impl Store {
     fn next(&self, alloc: Global, capacity: u32) -> Result<Box<Content>, i32>
         ensures ok { IfOk result (λ b. HoldsStore (Some b.value) (GoesOn capacity self.now)) }
         ensures codes { IfErr result (IsOneOf (ASM_MEMORY ∷ ASM_RANGE ∷ ASM_NONE ∷ [])) }
-        ensures range { IfErr result (λ code. code ≡ ASM_RANGE → (capacity ≡ 0) ⊎ (1048576 < capacity)) }
+        ensures range { IfErr result (λ code. code ≡ ASM_RANGE → IsNoCapacity capacity) }
         ensures none { IfErr result (λ code. code ≡ ASM_NONE → LacksJournal self.now) }
     {
         match &self.journal {
@@ -100,7 +101,7 @@ pub fn open_next(alloc: Global, store: &mut Slot, capacity: u32, next: &mut Slot
     ensures was_empty { result ≡ ASM_DONE → content_of next.old ≡ None }
     ensures kept { content_of store.new ≡ content_of store.old }
     ensures refused { result ≢ ASM_DONE → content_of next.new ≡ content_of next.old }
-    ensures range { result ≡ ASM_RANGE → (capacity ≡ 0) ⊎ (1048576 < capacity) }
+    ensures range { result ≡ ASM_RANGE → IsNoCapacity capacity }
     ensures none { result ≡ ASM_NONE → HoldsStore (content_of store.old) LacksJournal }
     ensures empty { result ≡ ASM_EMPTY → HoldsNoStore (content_of store.old) }
     ensures taken { result ≡ ASM_TAKEN → content_of next.old ≢ None }

@@ -1,8 +1,9 @@
 //! Opening storages, making agents, and letting go of what slots hold.
-ghost use Rattle.std.specs.Prelude.{◌≡◌, ◌≢◌, ◌≤◌, ◌<◌, ◌↔◌, ◌⊎◌, ◌∷◌, [], length, true, false, IfOk, IfErr, Some, None};
+ghost use Rattle.std.specs.Prelude.{◌≡◌, ◌≢◌, ◌≤◌, ◌<◌, ◌↔◌, ◌∷◌, [], length, true, false, IfOk, IfErr, Some, None};
 ghost use Rattle.std.specs.Bool.{OnTrue, OnFalse};
 ghost use Rattle.std.specs.List.{range_with_len};
-ghost use Rattle.asm_slots.specs.Calls.{IsOpened, Makes};
+ghost use Rattle.asm_storage.specs.Limits.{agents_limit};
+ghost use Rattle.asm_slots.specs.Calls.{IsNoCapacity, IsOpened, Makes};
 ghost use Rattle.asm_journal.specs.Value.{IsStateForm};
 ghost use Rattle.asm_slots.specs.Bytes.{IsNoJson, IsOtherJson};
 ghost use Rattle.asm_slots.specs.Codes.{IsOneOf, ASM_DONE, ASM_MEMORY, ASM_EMPTY, ASM_RANGE, ASM_TAKEN};
@@ -18,7 +19,7 @@ use crate::slot::Slot;
 use crate::store::Store;
 use crate::take_and_put::{put_store, take_store};
 use asm_aggregate::standard;
-use asm_storage::{Storage, StorageError};
+use asm_storage::{AGENTS_LIMIT, Storage, StorageError};
 use std::alloc::Global;
 use std::sync::Arc;
 
@@ -26,7 +27,7 @@ use std::sync::Arc;
 fn opened(alloc: Global, init: &[u8], capacity: u32) -> Result<Box<Content>, i32>
     ensures ok { IfOk result (λ b. HoldsStore (Some b.value) (IsOpened init.now capacity)) }
     ensures err { IfErr result (IsOneOf (ASM_MEMORY ∷ ASM_RANGE ∷ ASM_NOT_JSON ∷ ASM_SHAPE ∷ [])) }
-    ensures range { IfErr result (λ code. code ≡ ASM_RANGE → (capacity ≡ 0) ⊎ (1048576 < capacity)) }
+    ensures range { IfErr result (λ code. code ≡ ASM_RANGE → IsNoCapacity capacity) }
     ensures not_json { IfErr result (λ code. code ≡ ASM_NOT_JSON → IsNoJson init.now) }
     ensures shape { IfErr result (λ code. code ≡ ASM_SHAPE → IsOtherJson IsStateForm init.now) }
 {
@@ -64,7 +65,7 @@ pub fn open(alloc: Global, init: &[u8], capacity: u32, store: &mut Slot) -> i32
     ensures opened { result ≡ ASM_DONE → HoldsStore (content_of store.new) (IsOpened init.now capacity) }
     ensures empty { result ≡ ASM_DONE → content_of store.old ≡ None }
     ensures refused { result ≢ ASM_DONE → content_of store.new ≡ content_of store.old }
-    ensures range { result ≡ ASM_RANGE → (capacity ≡ 0) ⊎ (1048576 < capacity) }
+    ensures range { result ≡ ASM_RANGE → IsNoCapacity capacity }
     ensures not_json { result ≡ ASM_NOT_JSON → IsNoJson init.now }
     ensures shape { result ≡ ASM_SHAPE → IsOtherJson IsStateForm init.now }
     ensures taken { (result ≡ ASM_TAKEN) ↔ (content_of store.old ≢ None) }
@@ -93,7 +94,7 @@ pub fn make_agent(alloc: Global, store: &mut Slot, id: u32, agent: &mut Slot) ->
     ensures kept { result ≢ ASM_DONE → content_of store.new ≡ content_of store.old }
     ensures made { result ≡ ASM_DONE → HoldsNew (content_of store.old) (content_of agent.new) id }
     ensures refused { result ≢ ASM_DONE → content_of agent.new ≡ content_of agent.old }
-    ensures range { (result ≡ ASM_RANGE) ↔ (256 ≤ id) }
+    ensures range { (result ≡ ASM_RANGE) ↔ (agents_limit ≤ id) }
     ensures taken { result ≡ ASM_TAKEN → content_of agent.old ≢ None }
     ensures free { IsOneOf (ASM_DONE ∷ ASM_MEMORY ∷ ASM_EMPTY ∷ ASM_NUMBER ∷ []) result → content_of agent.old ≡ None }
     ensures empty { result ≡ ASM_EMPTY → HoldsNoStore (content_of store.old) }
@@ -101,7 +102,7 @@ pub fn make_agent(alloc: Global, store: &mut Slot, id: u32, agent: &mut Slot) ->
     ensures fresh { IsOneOf (ASM_DONE ∷ ASM_MEMORY ∷ []) result →
         HoldsStore (content_of store.old) (λ s. was_made s id ≡ false) }
 {
-    if id >= 256 {
+    if id >= AGENTS_LIMIT {
         return RANGE;
     }
     if agent.is_full() {
@@ -155,7 +156,7 @@ pub fn make_agents(alloc: Global, store: &mut Slot, agents: &mut [Slot]) -> i32
         Makes (range_with_len 0 (length agents.old)) (content_of store.old) (content_of store.new) }
     ensures unmade { result ≢ ASM_DONE → content_of store.new ≡ content_of store.old }
     ensures made { result ≡ ASM_DONE → HoldsStore (content_of store.old) (λ s. AreNew s.storage agents.new) }
-    ensures range { (result ≡ ASM_RANGE) ↔ (256 < length agents.old) }
+    ensures range { (result ≡ ASM_RANGE) ↔ (agents_limit < length agents.old) }
     ensures taken { result ≡ ASM_TAKEN → ¬ AreEmpty agents.old }
     ensures free { IsOneOf (ASM_DONE ∷ ASM_MEMORY ∷ ASM_EMPTY ∷ ASM_NUMBER ∷ []) result → AreEmpty agents.old }
     ensures none { result ≡ ASM_MEMORY → AreEmpty agents.new }
@@ -166,7 +167,7 @@ pub fn make_agents(alloc: Global, store: &mut Slot, agents: &mut [Slot]) -> i32
     ensures fresh { IsOneOf (ASM_DONE ∷ ASM_MEMORY ∷ []) result →
         HoldsStore (content_of store.old) (λ s. was_any_made s (length agents.old) ≡ false) }
 {
-    if agents.len() > 256 {
+    if agents.len() > AGENTS_LIMIT as usize {
         return RANGE;
     }
     if is_any_full(agents) {

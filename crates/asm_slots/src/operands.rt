@@ -113,7 +113,6 @@ fn bag_verb_of(verb: i32, amount: Amount) -> Option<Verb>
     ensures some { IfSome result (IsVerb verb amount) }
     ensures none { IfNone result (IsNoVerb verb amount) }
 {
-    let _count = amount.get();
     match verb {
         BAGADD => Some(Verb::BagAdd(amount)),
         BAGREMOVE => Some(Verb::BagRemove(amount)),

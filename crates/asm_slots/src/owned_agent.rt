@@ -2,6 +2,7 @@
 ghost use Rattle.std.specs.Prelude.{◌≡◌, ◌↔◌, ◌<◌, ◌≤◌, ◌+◌, ℕ, length, option_map, string_bytes};
 ghost use Rattle.std.specs.Prelude.{Ok, Err, IfOk, OnOk, OnErr, IfErr, IsErrOf};
 ghost use Rattle.std_alloc.specs.Arc.{arc_value};
+ghost use Rattle.asm_storage.specs.Limits.{agents_limit, offers_limit, reads_limit};
 ghost use Rattle.asm_storage.specs.declared.call.Reply.TheVariants.{Fired};
 ghost use Rattle.asm_storage.specs.declared.error.FireError.TheVariants.{Busy, ManyReads};
 ghost use Rattle.asm_storage.specs.declared.error.ReadError.TheVariants.{ManyLocations};
@@ -62,7 +63,7 @@ impl OwnedAgent {
         shared: &Arc<Shared>,
         id: u32,
     ) -> Result<OwnedAgent, AllocError>
-        requires { id < 256 }
+        requires { id < agents_limit }
         ensures { IfOk result (λ p. p ≡ at_start (arc_value shared.now).storage id) }
     {
         let shared = Arc::try_clone(shared)?;
@@ -83,7 +84,7 @@ impl OwnedAgent {
         ensures seen { SeesOn self result.0 }
         ensures refused { OnErr result.1 (HasLooked self result.0) }
         ensures unread { IfErr result.1 (HasLookedFor self result.0) }
-        ensures many { IsErrOf result.1 ManyLocations ↔ (256 < length locations.now) }
+        ensures many { IsErrOf result.1 ManyLocations ↔ (reads_limit < length locations.now) }
     {
         let OwnedAgent { shared, part } = self;
         let mut agent = Agent::of(&shared.storage, part);
@@ -108,9 +109,9 @@ impl OwnedAgent {
         ensures busy { IfErr result.1 (IsBusy self result.0) }
         ensures missed { (k : ℕ) → result.1 ≡ Ok (Fired k) → MissedOne self result.0 }
         ensures few { MissedFew self result.0 }
-        ensures lost { (from to : ℕ) → result.1 ≡ Err (Busy from to) → from + 64 ≤ to }
+        ensures lost { (from to : ℕ) → result.1 ≡ Err (Busy from to) → from + offers_limit ≤ to }
         ensures offers { (n : ℕ) × MadeOffers self result.0 result.1 n }
-        ensures many { IsErrOf result.1 ManyReads ↔ (256 < length reads.now) }
+        ensures many { IsErrOf result.1 ManyReads ↔ (reads_limit < length reads.now) }
     {
         let OwnedAgent { shared, part } = self;
         let mut agent = Agent::of(&shared.storage, part);
@@ -152,7 +153,7 @@ impl OwnedAgent {
         ensures seen { SeesOn self result.0 }
         ensures kept { HasLooked self result.0 }
         ensures unread { IfErr result.1 (HasLookedFor self result.0) }
-        ensures many { IsErrOf result.1 ManyLocations ↔ (256 < length reads.now) }
+        ensures many { IsErrOf result.1 ManyLocations ↔ (reads_limit < length reads.now) }
     {
         let OwnedAgent { shared, part } = self;
         let mut agent = Agent::of(&shared.storage, part);
@@ -165,7 +166,7 @@ impl OwnedAgent {
     pub(crate) fn id(self) -> (OwnedAgent, u32)
         ensures same { result.0 ≡ self }
         ensures id { result.1 ≡ self.account.id }
-        ensures few { result.1 < 256 }
+        ensures few { result.1 < agents_limit }
     {
         let OwnedAgent { shared, part } = self;
         let agent = Agent::of(&shared.storage, part);

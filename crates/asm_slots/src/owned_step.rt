@@ -44,8 +44,9 @@ impl Model for OwnedStep {
     ghost use Rattle.std.specs.Prelude.{length, ◌≤◌};
     ghost use Rattle.std.specs.List.Sorted.{IsStrictlySortedBy};
     ghost use Rattle.asm_element.specs.Place.{location_cmp};
+    ghost use Rattle.asm_storage.specs.Limits.{reads_limit};
 
-    ghost invariant = { λ s. IsStrictlySortedBy location_cmp s.got.items × (length s.got.items ≤ 256) };
+    ghost invariant = { λ s. IsStrictlySortedBy location_cmp s.got.items × (length s.got.items ≤ reads_limit) };
 }
 
 /// How a move is put onto a step.
@@ -73,13 +74,12 @@ fn push_copies(
 pub(crate) fn each_of(
     alloc: Global,
     first: &[Location],
-    second: &[Location],
+    second: Vec<Location>,
 ) -> Result<Vec<Location>, AllocError>
-    ensures { IfOk result (λ all. AreEach (first.now ++ second.now) all.items) }
+    ensures { IfOk result (λ all. AreEach (first.now ++ second.items) all.items) }
 {
-    let mut all = Vec::new(alloc);
+    let mut all = second;
     push_copies(alloc, &mut all, first)?;
-    push_copies(alloc, &mut all, second)?;
     all.sort_unstable();
     all.dedup();
     Ok(all)
@@ -144,7 +144,9 @@ impl OwnedStep {
     pub(crate) fn reads(&self, alloc: Global) -> Result<Vec<Named>, AllocError>
         ensures { IfOk result (λ reads. NamesAll self.now reads.items) }
     {
-        let locations = each_of(alloc, &self.got, self.step.partial_locations())?;
+        let mut partials = Vec::new(alloc);
+        push_copies(alloc, &mut partials, self.step.partial_locations())?;
+        let locations = each_of(alloc, &self.got, partials)?;
         named_at(alloc, locations, self.number)
     }
 }

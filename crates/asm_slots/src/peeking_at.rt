@@ -1,15 +1,13 @@
 //! The value at a prepared location in an agent's own state.
-ghost use Rattle.std.specs.Prelude.{◌≡◌, ◌≢◌, ◌⊎◌, ◌∷◌, [], pos, length, Some};
-ghost use Rattle.asm_slots.specs.Codes.{IsOneOf, ASM_DONE, ASM_MEMORY, ASM_EMPTY, ASM_SMALL};
-ghost use Rattle.asm_slots.specs.Own.{HasBytesAt, IsToldAt};
-ghost use Rattle.asm_slots.specs.Slots.{Holds, HoldsLocation, HoldsNoAgent, HoldsNoLocation, content_of};
-ghost use Rattle.asm_slots.specs.Written.{IsTooLong, IsWritten};
+ghost use Rattle.std.specs.Prelude.{◌≡◌, Some};
+ghost use Rattle.asm_slots.specs.Slots.{content_of};
+ghost use Rattle.asm_slots.specs.Told.{IsNoValue, PeeksAt};
 
 use crate::codes::{DONE, EMPTY};
 use crate::content::Content;
-use crate::prepared::{location_in, put_shell, take_shell};
+use crate::prepared::location_in;
 use crate::slot::Slot;
-use crate::take_and_put::{put_agent, take_agent};
+use crate::take_and_put::{put_agent, put_shell, take_agent, take_shell};
 use crate::value_head::{ValueHead, tell_at};
 use std::alloc::Global;
 
@@ -24,17 +22,9 @@ fn peek_in(
 ) -> i32
     requires no_text { written.old ≡ 0 }
     requires no_number { number.old ≡ 0 }
-    ensures codes { IsOneOf (ASM_DONE ∷ ASM_MEMORY ∷ ASM_EMPTY ∷ ASM_SMALL ∷ []) result }
-    ensures told { result ≡ ASM_DONE → HoldsLocation (Some held.now) (λ l. Holds (content_of agent.old)
-        (λ a. IsWritten (IsToldAt l a number.new value.new.kind value.new.number) out.new written.new)) }
-    ensures small { result ≡ ASM_SMALL → HoldsLocation (Some held.now) (λ l. Holds (content_of agent.old)
-        (λ a. IsTooLong (HasBytesAt l a) (length out.old) written.new)) }
-    ensures empty { result ≡ ASM_EMPTY → HoldsNoLocation (Some held.now) ⊎ HoldsNoAgent (content_of agent.old) }
+    requires no_value { IsNoValue value.old }
+    ensures peeks { PeeksAt (Some held.now) (content_of agent.old) number.new value.new out.old out.new written.new result }
     ensures kept { content_of agent.new ≡ content_of agent.old }
-    ensures no_text { IsOneOf (ASM_MEMORY ∷ ASM_EMPTY ∷ []) result → written.new ≡ 0 }
-    ensures no_number { result ≢ ASM_DONE → number.new ≡ 0 }
-    ensures no_value { result ≢ ASM_DONE → value.new ≡ value.old }
-    ensures unwritten { result ≢ ASM_DONE → out.new ≡ out.old }
 {
     let Some(at) = location_in(held) else {
         return EMPTY;
@@ -66,19 +56,9 @@ pub fn peek_at(
     out: &mut [u8],
     written: &mut usize,
 ) -> i32
-    ensures codes { IsOneOf (ASM_DONE ∷ ASM_MEMORY ∷ ASM_EMPTY ∷ ASM_SMALL ∷ []) result }
-    ensures told { result ≡ ASM_DONE → HoldsLocation (content_of at.old) (λ l. Holds (content_of agent.old)
-        (λ a. IsWritten (IsToldAt l a number.new value.new.kind value.new.number) out.new written.new)) }
-    ensures small { result ≡ ASM_SMALL → HoldsLocation (content_of at.old) (λ l. Holds (content_of agent.old)
-        (λ a. IsTooLong (HasBytesAt l a) (length out.old) written.new)) }
-    ensures empty { result ≡ ASM_EMPTY →
-        HoldsNoLocation (content_of at.old) ⊎ HoldsNoAgent (content_of agent.old) }
+    ensures peeks { PeeksAt (content_of at.old) (content_of agent.old) number.new value.new out.old out.new written.new result }
     ensures kept { content_of agent.new ≡ content_of agent.old }
     ensures stays { content_of at.new ≡ content_of at.old }
-    ensures no_text { IsOneOf (ASM_MEMORY ∷ ASM_EMPTY ∷ []) result → written.new ≡ 0 }
-    ensures no_number { result ≢ ASM_DONE → number.new ≡ 0 }
-    ensures no_value { result ≢ ASM_DONE → (value.new.kind ≡ pos 0) × (value.new.number ≡ pos 0) }
-    ensures unwritten { result ≢ ASM_DONE → out.new ≡ out.old }
 {
     *written = 0;
     *number = 0;

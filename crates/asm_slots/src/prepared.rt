@@ -14,22 +14,6 @@ use asm_element::Location;
 use asm_update::Instructions;
 use std::alloc::Global;
 
-/// The box of what the slot holds, taken out of it.
-pub(crate) fn take_shell(alloc: Global, slot: &mut Slot) -> Option<Box<Content>>
-    ensures some { IfSome result (λ shell. content_of slot.old ≡ Some shell.value) }
-    ensures none { IfNone result (content_of slot.new ≡ content_of slot.old) }
-    ensures empty { IfNone result (content_of slot.old ≡ None) }
-{
-    std::mem::replace(slot, Slot::empty(alloc)).into_box()
-}
-
-/// Puts the box into the slot.
-pub(crate) fn put_shell(slot: &mut Slot, shell: Box<Content>)
-    ensures { content_of slot.new ≡ Some shell.value }
-{
-    *slot = Slot::holding(shell);
-}
-
 /// The location in the box, if one is there.
 pub(crate) fn location_in(held: &Content) -> Option<&Location>
     ensures some { IfSome result (λ at. held.now ≡ content.Location at.now) }

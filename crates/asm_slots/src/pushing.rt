@@ -1,21 +1,22 @@
 //! Pushing moves onto a step, and extending the one that was pushed last.
-ghost use Rattle.std.specs.Prelude.{◌≡◌, ◌≢◌, ◌∷◌, [], ℤ, length, string_bytes, IfOk};
+ghost use Rattle.std.specs.Prelude.{◌≡◌, ◌≢◌, ◌∷◌, [], ℤ, length, string_bytes, IfOk, Some};
 ghost use Rattle.asm_journal.specs.Event.{IsMoveForm};
 ghost use Rattle.asm_slots.specs.Bytes.{IsNoJson, IsOtherJson};
-ghost use Rattle.asm_slots.specs.Codes.{IsOneOf, ASM_DONE, ASM_CLASH, ASM_MEMORY, ASM_EMPTY, ASM_SMALL};
+ghost use Rattle.asm_slots.specs.Codes.{IsOneOf, ASM_DONE, ASM_CLASH, ASM_MEMORY, ASM_SMALL};
 ghost use Rattle.asm_slots.specs.Codes.{ASM_MANY, ASM_NOT_JSON, ASM_SHAPE, ASM_LARGE, ASM_MOVED, ASM_DEEP};
-ghost use Rattle.asm_slots.specs.Slots.{HoldBoth, HoldsStep, LacksOne, content_of};
-ghost use Rattle.asm_slots.specs.Steps.{HasExtended, HasGrown, HasPushed, IsGrown, IsNotExtended, IsNotGrown};
-ghost use Rattle.asm_slots.specs.Steps.{IsNotPushed, IsRefused, TellsRefusal};
+ghost use Rattle.asm_slots.specs.Grown.{Extends, Grows, Pushes};
+ghost use Rattle.asm_slots.specs.Slots.{content_of};
+ghost use Rattle.asm_slots.specs.Steps.{HasGrown, IsGrown, IsNotGrown, IsRefused, TellsRefusal};
 ghost use Rattle.asm_slots.specs.Written.{IsTooLong, IsWritten};
 
 use crate::codes::{CLASH, DEEP, DONE, EMPTY, LARGE, MANY, MEMORY, MOVED, Told, written_as};
 use crate::composing::{clash_text, large_text};
+use crate::content::Content;
 use crate::owned_agent::OwnedAgent;
 use crate::owned_step::{OwnedStep, Way, grow};
 use crate::parsing::{code_of_text_error, move_of};
 use crate::slot::Slot;
-use crate::take_and_put::{put_both, take_both};
+use crate::take_and_put::{agent_in, put_both, take_both};
 use asm_aggregate::standard;
 use asm_step::StepError;
 use asm_update::Instructions;
@@ -127,6 +128,28 @@ fn grow_in(
     }
 }
 
+// The same, where the boxes hold an agent and a step.
+fn grow_of(
+    alloc: Global,
+    agent: &Content,
+    step: &mut Content,
+    way: Way,
+    instrs: &[u8],
+    out: &mut [u8],
+    written: &mut usize,
+) -> i32
+    requires { written.old ≡ 0 }
+    ensures { Grows way instrs.now (Some agent.now) (Some step.old) (Some step.new) out.old out.new written.new result }
+{
+    let Some(agent) = agent_in(agent) else {
+        return EMPTY;
+    };
+    match step {
+        Content::Step(step) => grow_in(alloc, agent, step, way, instrs, out, written),
+        _ => EMPTY,
+    }
+}
+
 /// Pushes the move `[INSTR, ..]`: what is got or pushed later is seen through what it leaves.
 ///
 /// It makes no look and no receipt, and the agent's slot stays as it was. `ASM_CLASH`: its updates clash on what
@@ -145,31 +168,15 @@ pub fn push(
     out: &mut [u8],
     written: &mut usize,
 ) -> i32
-    ensures codes { IsOneOf (ASM_DONE ∷ ASM_CLASH ∷ ASM_MEMORY ∷ ASM_EMPTY ∷ ASM_SMALL ∷ ASM_MANY
-        ∷ ASM_NOT_JSON ∷ ASM_SHAPE ∷ ASM_LARGE ∷ ASM_MOVED ∷ ASM_DEEP ∷ []) result }
-    ensures grown { result ≡ ASM_DONE → HoldBoth (content_of agent.old) (content_of step.old)
-        (λ a s. HoldsStep (content_of step.new) (HasPushed instrs.now a s)) }
-    ensures told { IsOneOf (ASM_CLASH ∷ ASM_MANY ∷ ASM_LARGE ∷ ASM_DEEP ∷ []) result →
-        HoldBoth (content_of agent.old) (content_of step.old)
-        (λ a s. IsWritten (IsNotPushed instrs.now a s result) out.new written.new) }
-    ensures small { result ≡ ASM_SMALL → HoldBoth (content_of agent.old) (content_of step.old)
-        (λ a s. IsTooLong (λ text. (code : ℤ) × IsNotPushed instrs.now a s code text)
-        (length out.old) written.new) }
-    ensures not_json { result ≡ ASM_NOT_JSON → IsNoJson instrs.now }
-    ensures shape { result ≡ ASM_SHAPE → IsOtherJson IsMoveForm instrs.now }
-    ensures empty { result ≡ ASM_EMPTY → LacksOne (content_of agent.old) (content_of step.old) }
+    ensures grows { Pushes instrs.now (content_of agent.old) (content_of step.old) (content_of step.new)
+        out.old out.new written.new result }
     ensures kept { content_of agent.new ≡ content_of agent.old }
-    ensures stays { result ≢ ASM_DONE → content_of step.new ≡ content_of step.old }
-    ensures no_text { IsOneOf (ASM_DONE ∷ ASM_MEMORY ∷ ASM_EMPTY ∷ ASM_NOT_JSON ∷ ASM_SHAPE ∷ ASM_MOVED ∷ []) result →
-        written.new ≡ 0 }
-    ensures unwritten { IsOneOf (ASM_DONE ∷ ASM_MEMORY ∷ ASM_EMPTY ∷ ASM_SMALL ∷ ASM_NOT_JSON ∷ ASM_SHAPE
-        ∷ ASM_MOVED ∷ []) result → out.new ≡ out.old }
 {
     *written = 0;
     let Some(mut both) = take_both(alloc, agent, step) else {
         return EMPTY;
     };
-    let code = grow_in(
+    let code = grow_of(
         alloc,
         &both.agent,
         &mut both.step,
@@ -194,31 +201,15 @@ pub fn extend(
     out: &mut [u8],
     written: &mut usize,
 ) -> i32
-    ensures codes { IsOneOf (ASM_DONE ∷ ASM_CLASH ∷ ASM_MEMORY ∷ ASM_EMPTY ∷ ASM_SMALL ∷ ASM_MANY
-        ∷ ASM_NOT_JSON ∷ ASM_SHAPE ∷ ASM_LARGE ∷ ASM_MOVED ∷ []) result }
-    ensures grown { result ≡ ASM_DONE → HoldBoth (content_of agent.old) (content_of step.old)
-        (λ a s. HoldsStep (content_of step.new) (HasExtended instrs.now a s)) }
-    ensures told { IsOneOf (ASM_CLASH ∷ ASM_MANY ∷ ASM_LARGE ∷ []) result →
-        HoldBoth (content_of agent.old) (content_of step.old)
-        (λ a s. IsWritten (IsNotExtended instrs.now a s result) out.new written.new) }
-    ensures small { result ≡ ASM_SMALL → HoldBoth (content_of agent.old) (content_of step.old)
-        (λ a s. IsTooLong (λ text. (code : ℤ) × IsNotExtended instrs.now a s code text)
-        (length out.old) written.new) }
-    ensures not_json { result ≡ ASM_NOT_JSON → IsNoJson instrs.now }
-    ensures shape { result ≡ ASM_SHAPE → IsOtherJson IsMoveForm instrs.now }
-    ensures empty { result ≡ ASM_EMPTY → LacksOne (content_of agent.old) (content_of step.old) }
+    ensures grows { Extends instrs.now (content_of agent.old) (content_of step.old) (content_of step.new)
+        out.old out.new written.new result }
     ensures kept { content_of agent.new ≡ content_of agent.old }
-    ensures stays { result ≢ ASM_DONE → content_of step.new ≡ content_of step.old }
-    ensures no_text { IsOneOf (ASM_DONE ∷ ASM_MEMORY ∷ ASM_EMPTY ∷ ASM_NOT_JSON ∷ ASM_SHAPE ∷ ASM_MOVED ∷ []) result →
-        written.new ≡ 0 }
-    ensures unwritten { IsOneOf (ASM_DONE ∷ ASM_MEMORY ∷ ASM_EMPTY ∷ ASM_SMALL ∷ ASM_NOT_JSON ∷ ASM_SHAPE
-        ∷ ASM_MOVED ∷ []) result → out.new ≡ out.old }
 {
     *written = 0;
     let Some(mut both) = take_both(alloc, agent, step) else {
         return EMPTY;
     };
-    let code = grow_in(
+    let code = grow_of(
         alloc,
         &both.agent,
         &mut both.step,

@@ -1,5 +1,6 @@
 //! Reading, firing, and the answers to both.
 ghost use Rattle.std.specs.Prelude.{◌≡◌, ◌≢◌, ◌≤◌, ◌+◌, ◌∷◌, [], ℕ, Some, length};
+ghost use Rattle.asm_storage.specs.Limits.{offers_limit};
 ghost use Rattle.asm_storage.specs.declared.call.Reply.TheVariants.{Fired};
 ghost use Rattle.asm_storage.specs.Storage.{IsSameAgent};
 ghost use Rattle.asm_slots.specs.Bytes.{AreLocations, IsFireForm, IsNoJson, IsOtherJson};
@@ -145,7 +146,7 @@ fn fire_at(
         Holds (content_of slot.new) (HasLooked agent) }
     ensures busy { result.0 ≡ ASM_BUSY →
         Holds (content_of slot.new) (WasBusy result.1.from result.1.to agent) }
-    ensures lost { result.0 ≡ ASM_BUSY → result.1.from + 64 ≤ result.1.to }
+    ensures lost { result.0 ≡ ASM_BUSY → result.1.from + offers_limit ≤ result.1.to }
     ensures same { Holds (content_of slot.new) (IsSameAgent agent) }
     ensures seen { Holds (content_of slot.new) (SeesOn agent) }
     ensures few { Holds (content_of slot.new) (MissedFew agent) }
@@ -200,7 +201,7 @@ pub fn try_fire(alloc: Global, agent: &mut Slot, call: &[u8], numbers: &mut Numb
     ensures not_busy { result ≢ ASM_BUSY → (numbers.new.from ≡ 0) × (numbers.new.to ≡ 0) }
     ensures few { result ≢ ASM_EMPTY → Goes (content_of agent.old) (content_of agent.new) MissedFew }
     ensures missed { result ≡ ASM_DONE → Goes (content_of agent.old) (content_of agent.new) MissedOne }
-    ensures lost { result ≡ ASM_BUSY → numbers.new.from + 64 ≤ numbers.new.to }
+    ensures lost { result ≡ ASM_BUSY → numbers.new.from + offers_limit ≤ numbers.new.to }
     ensures memory { result ≡ ASM_MEMORY →
         Goes (content_of agent.old) (content_of agent.new) MayHaveOffered }
     ensures many { result ≡ ASM_MANY → ReadAsManyReads call.now }

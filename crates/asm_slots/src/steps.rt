@@ -1,16 +1,18 @@
 //! Beginning a step, what is seen through its pushed moves, and taking the last one away.
-ghost use Rattle.std.specs.Prelude.{◌≡◌, ◌≢◌, ◌≤◌, ◌<◌, ◌↔◌, ◌∷◌, ◌++◌, [], List, length, string_bytes, OnOk, OnErr, IfOk, IfErr};
+ghost use Rattle.std.specs.Prelude.{◌≡◌, ◌≢◌, ◌≤◌, ◌<◌, ◌↔◌, ◌∷◌, ◌++◌, [], List, length, string_bytes, OnOk, OnErr, IfOk, IfErr, Some};
 ghost use Rattle.std.specs.Bool.{OnTrue, OnFalse};
 ghost use Rattle.asm_element.specs.Place.{Place};
+ghost use Rattle.asm_storage.specs.Limits.{reads_limit};
 ghost use Rattle.asm_storage.specs.Storage.{IsSameAgent};
 ghost use Rattle.asm_step.specs.Places.{AreEach};
 ghost use Rattle.asm_slots.specs.Bytes.{AreLocations, IsNoJson, IsOtherJson};
 ghost use Rattle.asm_slots.specs.Calls.{SeesOn};
 ghost use Rattle.asm_slots.specs.Codes.{IsOneOf, ASM_DONE, ASM_MEMORY, ASM_EMPTY, ASM_SMALL, ASM_MANY, ASM_NONE};
 ghost use Rattle.asm_slots.specs.Codes.{ASM_TAKEN, ASM_NOT_JSON, ASM_SHAPE, ASM_MOVED};
+ghost use Rattle.asm_slots.specs.Got.{Gets};
 ghost use Rattle.asm_slots.specs.Own.{HasFollowed, HasLookedOn, values_text};
-ghost use Rattle.asm_slots.specs.Slots.{Goes, GoesStep, HoldBoth, HoldsNoAgent, HoldsNoStep, HoldsStep, LacksOne};
-ghost use Rattle.asm_slots.specs.Slots.{HasRoomForStep, IfHoldsStep, content_of};
+ghost use Rattle.asm_slots.specs.Slots.{Goes, GoesStep, HasRoomForStep, HoldsNoAgent, HoldsNoStep, HoldsStep};
+ghost use Rattle.asm_slots.specs.Slots.{IfHoldsStep, content_of};
 ghost use Rattle.asm_slots.specs.Steps.{HasGot, HasPopped, IsGotText, WouldGetMany, seen};
 ghost use Rattle.asm_slots.specs.Step.{begun};
 ghost use Rattle.asm_slots.specs.Written.{IsTooLong, IsWritten};
@@ -22,8 +24,11 @@ use crate::owned_agent::OwnedAgent;
 use crate::owned_step::{OwnedStep, each_of};
 use crate::parsing::{code_of_text_error, locations_of};
 use crate::slot::Slot;
-use crate::take_and_put::{put_agent, put_both, put_step, take_agent, take_both, take_step};
+use crate::take_and_put::{
+    agent_in, put_agent, put_both, put_shell, take_agent, take_both, take_shell,
+};
 use asm_element::Location;
+use asm_storage::READS_LIMIT;
 use std::alloc::{AllocError, Global};
 
 // Whether the slot is empty or holds a step.
@@ -32,13 +37,12 @@ fn has_room(alloc: Global, slot: &mut Slot) -> bool
     ensures yes { OnTrue result (HasRoomForStep (content_of slot.old)) }
     ensures no { OnFalse result (¬ HasRoomForStep (content_of slot.old)) }
 {
-    match take_step(alloc, slot) {
-        Some((shell, step)) => {
-            put_step(slot, shell, step);
-            true
-        }
-        None => !slot.is_full(),
-    }
+    let Some(shell) = take_shell(alloc, slot) else {
+        return true;
+    };
+    let room = matches!(&*shell, Content::Step(_));
+    put_shell(slot, shell);
+    room
 }
 
 // Puts a step at this number, of no moves, in the place of what the slot holds.
@@ -100,11 +104,14 @@ pub fn depth(alloc: Global, step: &mut Slot) -> u32
     ensures value { IfHoldsStep (content_of step.old) (λ s. result ≡ length s.layers) }
     ensures none { HoldsNoStep (content_of step.old) → result ≡ 0 }
 {
-    let Some((shell, taken)) = take_step(alloc, step) else {
+    let Some(shell) = take_shell(alloc, step) else {
         return 0;
     };
-    let depth = taken.step.depth() as u32;
-    put_step(step, shell, taken);
+    let depth = match &*shell {
+        Content::Step(taken) => taken.step.depth() as u32,
+        _ => 0,
+    };
+    put_shell(step, shell);
     depth
 }
 
@@ -119,12 +126,15 @@ pub fn pop(alloc: Global, step: &mut Slot) -> i32
     ensures empty { result ≡ ASM_EMPTY → HoldsNoStep (content_of step.old) }
     ensures kept { result ≢ ASM_DONE → content_of step.new ≡ content_of step.old }
 {
-    let Some((shell, mut taken)) = take_step(alloc, step) else {
+    let Some(mut shell) = take_shell(alloc, step) else {
         return EMPTY;
     };
-    let popped = taken.pop();
-    put_step(step, shell, taken);
-    if popped { DONE } else { NONE }
+    let code = match &mut *shell {
+        Content::Step(taken) => { if taken.pop() { DONE } else { NONE } }
+        _ => EMPTY,
+    };
+    put_shell(step, shell);
+    code
 }
 
 /// Why nothing is got.
@@ -159,25 +169,25 @@ fn got_at(
     alloc: Global,
     agent: &OwnedAgent,
     step: &OwnedStep,
-    locations: &[Location],
+    locations: Vec<Location>,
 ) -> Result<Got, GetError>
     ensures text { IfOk result (λ g. string_bytes g.text
-        ≡ values_text step.now.number (seen agent.now step.now) locations.now) }
-    ensures all { IfOk result (λ g. AreEach (step.now.got ++ locations.now) g.all.items) }
-    ensures few { IfOk result (λ g. length g.all.items ≤ 256) }
+        ≡ values_text step.now.number (seen agent.now step.now) locations.items) }
+    ensures all { IfOk result (λ g. AreEach (step.now.got ++ locations.items) g.all.items) }
+    ensures few { IfOk result (λ g. length g.all.items ≤ reads_limit) }
     ensures many { IfErr result (λ e. e ≡ GetError.Many → (ls : List Place)
-        × AreEach (step.now.got ++ locations.now) ls × (256 < length ls)) }
+        × AreEach (step.now.got ++ locations.items) ls × (reads_limit < length ls)) }
     ensures shape { IfErr result (λ e. ¬ (e ≡ GetError.Shape)) }
 {
     let state = agent.state();
     if state.number() != step.number {
         return Err(GetError::Moved);
     }
+    let text = text_of_values(alloc, step.number, &step.step.over(state), &locations)?;
     let all = each_of(alloc, &step.got, locations)?;
-    if all.len() > 256 {
+    if all.len() > READS_LIMIT {
         return Err(GetError::Many);
     }
-    let text = text_of_values(alloc, step.number, &step.step.over(state), locations)?;
     Ok(Got { text, all })
 }
 
@@ -209,7 +219,7 @@ fn get_in(
         Ok(locations) => locations,
         Err(error) => return code_of_text_error(error),
     };
-    match got_at(alloc, agent, step, &locations) {
+    match got_at(alloc, agent, step, locations) {
         Ok(got) => {
             let code = copied(got.text.as_bytes(), out, written);
             if code == DONE {
@@ -221,6 +231,27 @@ fn get_in(
         Err(GetError::Many) => MANY,
         Err(GetError::Shape) => SHAPE,
         Err(GetError::Memory) => MEMORY,
+    }
+}
+
+// The same, where the boxes hold an agent and a step.
+fn get_of(
+    alloc: Global,
+    agent: &Content,
+    step: &mut Content,
+    locations: &[u8],
+    out: &mut [u8],
+    written: &mut usize,
+) -> i32
+    requires { written.old ≡ 0 }
+    ensures { Gets locations.now (Some agent.now) (Some step.old) (Some step.new) out.old out.new written.new result }
+{
+    let Some(agent) = agent_in(agent) else {
+        return EMPTY;
+    };
+    match step {
+        Content::Step(step) => get_in(alloc, agent, step, locations, out, written),
+        _ => EMPTY,
     }
 }
 
@@ -240,29 +271,15 @@ pub fn get(
     out: &mut [u8],
     written: &mut usize,
 ) -> i32
-    ensures codes { IsOneOf (ASM_DONE ∷ ASM_MEMORY ∷ ASM_EMPTY ∷ ASM_SMALL ∷ ASM_MANY
-        ∷ ASM_NOT_JSON ∷ ASM_SHAPE ∷ ASM_MOVED ∷ []) result }
-    ensures told { result ≡ ASM_DONE → HoldBoth (content_of agent.old) (content_of step.old)
-        (λ a s. IsWritten (IsGotText locations.now a s) out.new written.new) }
-    ensures got { result ≡ ASM_DONE →
-        GoesStep (content_of step.old) (content_of step.new) (HasGot locations.now) }
-    ensures small { result ≡ ASM_SMALL → HoldBoth (content_of agent.old) (content_of step.old)
-        (λ a s. IsTooLong (IsGotText locations.now a s) (length out.old) written.new) }
-    ensures many { result ≡ ASM_MANY → HoldsStep (content_of step.old) (WouldGetMany locations.now) }
-    ensures not_json { result ≡ ASM_NOT_JSON → IsNoJson locations.now }
-    ensures shape { result ≡ ASM_SHAPE → IsOtherJson AreLocations locations.now }
-    ensures empty { result ≡ ASM_EMPTY → LacksOne (content_of agent.old) (content_of step.old) }
+    ensures gets { Gets locations.now (content_of agent.old) (content_of step.old) (content_of step.new)
+        out.old out.new written.new result }
     ensures kept { content_of agent.new ≡ content_of agent.old }
-    ensures stays { result ≢ ASM_DONE → content_of step.new ≡ content_of step.old }
-    ensures no_text { IsOneOf (ASM_MEMORY ∷ ASM_EMPTY ∷ ASM_MANY ∷ ASM_NOT_JSON ∷ ASM_SHAPE ∷ ASM_MOVED ∷ []) result →
-        written.new ≡ 0 }
-    ensures unwritten { result ≢ ASM_DONE → out.new ≡ out.old }
 {
     *written = 0;
     let Some(mut both) = take_both(alloc, agent, step) else {
         return EMPTY;
     };
-    let code = get_in(alloc, &both.agent, &mut both.step, locations, out, written);
+    let code = get_of(alloc, &both.agent, &mut both.step, locations, out, written);
     put_both(agent, step, both);
     code
 }

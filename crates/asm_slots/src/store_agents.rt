@@ -4,6 +4,7 @@ ghost use Rattle.std.specs.Prelude.{IfOk, IfErr, OnOk, OnErr, Some};
 ghost use Rattle.std.specs.Bool.{OnTrue};
 ghost use Rattle.std.specs.List.{range_with_len};
 ghost use Rattle.std_alloc.specs.Arc.{arc_value};
+ghost use Rattle.asm_storage.specs.Limits.{agents_limit};
 ghost use Rattle.asm_storage.specs.Storage.{at_start};
 ghost use Rattle.asm_slots.specs.Calls.{HasMade};
 ghost use Rattle.asm_slots.specs.Codes.{IsOneOf, ASM_DONE, ASM_MEMORY, ASM_NUMBER};
@@ -20,7 +21,7 @@ use std::alloc::{AllocError, Global};
 use std::sync::Arc;
 
 fn agent_of(alloc: Global, shared: &Arc<Shared>, id: u32) -> Result<Box<Content>, AllocError>
-    requires { id < 256 }
+    requires { id < agents_limit }
     ensures { IfOk result (λ b. Holds (Some b.value) (λ a. a ≡ at_start (arc_value shared.now).storage id)) }
 {
     let agent = OwnedAgent::at_start(alloc, shared, id)?;
@@ -34,7 +35,7 @@ fn noted_agent(
     numbers: &mut Vec<u32>,
     id: u32,
 ) -> Result<Box<Content>, i32>
-    requires { id < 256 }
+    requires { id < agents_limit }
     ensures made { IfOk result (λ b. Holds (Some b.value) (λ a. a ≡ at_start (arc_value shared.now).storage id)) }
     ensures noted { OnOk result (numbers.new.items ≡ numbers.old.items ++ id ∷ []) }
     ensures codes { IfErr result (IsOneOf (ASM_MEMORY ∷ ASM_NUMBER ∷ [])) }
@@ -65,7 +66,7 @@ fn has_below(numbers: &[u32], count: u32) -> bool
 
 // Makes an agent in each of the slots, with the numbers from 0 up; false where there was no memory.
 fn fill(alloc: Global, shared: &Arc<Shared>, agents: &mut [Slot]) -> bool
-    requires { length agents.old ≤ 256 }
+    requires { length agents.old ≤ agents_limit }
     ensures made { OnTrue result (AreNew (arc_value shared.now).storage agents.new) }
     ensures len { length agents.new ≡ length agents.old }
 {
@@ -95,7 +96,7 @@ fn noted_agents(
     numbers: &mut Vec<u32>,
     agents: &mut [Slot],
 ) -> i32
-    requires { length agents.old ≤ 256 }
+    requires { length agents.old ≤ agents_limit }
     ensures codes { IsOneOf (ASM_DONE ∷ ASM_MEMORY ∷ ASM_NUMBER ∷ []) result }
     ensures made { result ≡ ASM_DONE → AreNew (arc_value shared.now).storage agents.new }
     ensures noted { result ≡ ASM_DONE →
@@ -123,7 +124,7 @@ fn noted_agents(
 impl Store {
     /// Makes an agent, whose number is noted.
     pub(crate) fn make_agent(self, alloc: Global, id: u32) -> (Store, Result<Box<Content>, i32>)
-        requires { id < 256 }
+        requires { id < agents_limit }
         ensures agent { IfOk result.1 (λ b. Holds (Some b.value) (λ a. a ≡ at_start self.storage id)) }
         ensures made { OnOk result.1 (HasMade (id ∷ []) self result.0) }
         ensures codes { IfErr result.1 (IsOneOf (ASM_MEMORY ∷ ASM_NUMBER ∷ [])) }
@@ -150,7 +151,7 @@ impl Store {
 
     /// Makes an agent in each of the slots, with the numbers from 0 up, which are noted.
     pub(crate) fn make_agents(self, alloc: Global, agents: &mut [Slot]) -> (Store, i32)
-        requires { length agents.old ≤ 256 }
+        requires { length agents.old ≤ agents_limit }
         ensures codes { IsOneOf (ASM_DONE ∷ ASM_MEMORY ∷ ASM_NUMBER ∷ []) result.1 }
         ensures agents { result.1 ≡ ASM_DONE → AreNew self.storage agents.new }
         ensures made { result.1 ≡ ASM_DONE → HasMade (range_with_len 0 (length agents.old)) self result.0 }

@@ -1,24 +1,18 @@
 //! Giving an agent back to its storage.
-ghost use Rattle.std.specs.Prelude.{◌≡◌, ◌<◌, ◌≤◌, All, IfNone, IfSome, IfErr, OnOk, Some};
+ghost use Rattle.std.specs.Prelude.{◌≡◌, ◌<◌, ◌≤◌, ◌∷◌, [], All, IfNone, IfSome, IfErr, OnOk, Some};
 ghost use Rattle.std.specs.Prelude.{length, map, slice_get, take};
 ghost use Rattle.std.specs.List.Sorted.{IsStrictlyIncreasing};
 ghost use Rattle.asm_storage.specs.Part.{agent_of, IsPartOf};
 ghost use Rattle.asm_storage.specs.declared.part.AgentPart.{AgentPart};
-ghost use Rattle.asm_slots.specs.Calls.{HasTaken};
+ghost use Rattle.asm_slots.specs.Calls.{HasNumber, HasTaken};
+ghost use Rattle.asm_slots.specs.Codes.{IsOneOf, ASM_MEMORY, ASM_NUMBER};
 ghost use Rattle.asm_slots.specs.InsertPoint.{IsInsertPoint, IsAmong};
-ghost use Rattle.asm_slots.specs.GiveError.{IsGiveError};
 ghost use Rattle.asm_slots.specs.Standard.{meaning};
 
+use crate::codes::{MEMORY, NUMBER};
 use crate::owned_agent::OwnedAgent;
 use crate::store::Store;
 use asm_storage::AgentPart;
-
-/// Why an agent wasn't taken.
-#[derive(Drop)]
-pub(crate) enum GiveError {
-    Number,
-    Memory,
-}
 
 // How many of the parts, whose numbers ascend, have a number below this one.
 fn below(parts: &[AgentPart], id: u32) -> usize
@@ -57,11 +51,13 @@ fn part_of(agent: OwnedAgent) -> AgentPart
 }
 
 impl Store {
-    /// Takes the agent among those that were given back. It comes back where it is refused.
-    pub(crate) fn give(self, agent: OwnedAgent) -> (Store, Result<(), (GiveError, OwnedAgent)>)
+    /// Takes the agent among those that were given back. It comes back with a code where it is refused.
+    pub(crate) fn give(self, agent: OwnedAgent) -> (Store, Result<(), (i32, OwnedAgent)>)
         requires { agent.storage ≡ self.storage }
         ensures given { OnOk result.1 (HasTaken agent self result.0) }
-        ensures refused { IfErr result.1 (λ p. (result.0 ≡ self) × (p.1 ≡ agent) × IsGiveError self agent p.0) }
+        ensures codes { IfErr result.1 (λ p. IsOneOf (ASM_MEMORY ∷ ASM_NUMBER ∷ []) p.0) }
+        ensures refused { IfErr result.1 (λ p. (result.0 ≡ self) × (p.1 ≡ agent)) }
+        ensures there { IfErr result.1 (λ p. p.0 ≡ ASM_NUMBER → HasNumber self agent.account.id) }
     {
         let (agent, id) = agent.id();
         let Store {
@@ -77,7 +73,7 @@ impl Store {
                 parts,
                 journal,
             };
-            return (store, Err((GiveError::Number, agent)));
+            return (store, Err((NUMBER, agent)));
         };
         if parts.reserve(1).is_err() {
             let store = Store {
@@ -86,7 +82,7 @@ impl Store {
                 parts,
                 journal,
             };
-            return (store, Err((GiveError::Memory, agent)));
+            return (store, Err((MEMORY, agent)));
         }
         parts.insert(at, part_of(agent)).unwrap();
         let store = Store {

@@ -1,5 +1,6 @@
 use Rattle.std.proofs.Common.{rules, ◌≡◌, ◌<◌, ◌++◌, List, length, ap, subst, ◌∙◌}
 use Rattle.asm_element.specs.Place.{Place}
+use Rattle.asm_storage.specs.Limits.{reads_limit}
 use Rattle.asm_step.specs.Places.{AreEach}
 use Rattle.asm_slots.specs.Step.{StepView}
 use Rattle.asm_slots.proofs.getting_all.got_all_at.Goals as goal
@@ -9,16 +10,16 @@ each : (xs ys zs ws all : List Place) → xs ≡ zs → ys ≡ ws → AreEach (x
 each xs ys zs ws all first second is =
     subst (λ (ls : List Place). AreEach (zs ++ ls) all) second (subst (λ (ls : List Place). AreEach (ls ++ ys) all) first is)
 
-many_of : (c : goal.After-drop-found-inside-then-len-gt256) → 256 < length c.in_ok-all.all.items
+many_of : (c : goal.After-drop-found-inside-then-len-gt-READS_LIMIT) → reads_limit < length c.in_ok-all.all.items
 many_of c = search rules
 
-pub returns-then-len-gt256-clause-many : goal.returns-then-len-gt256-clause-many
-returns-then-len-gt256-clause-many c _ = (
+pub returns-then-len-gt-READS_LIMIT-clause-many : goal.returns-then-len-gt-READS_LIMIT-clause-many
+returns-then-len-gt-READS_LIMIT-clause-many c _ = (
   c.in_ok-found.found,
   c.in_ok-all.all.items,
   c.in_ok-found.ensures.found,
   each _ _ _ _ c.in_ok-all.all.items (c.deref.ensures.value ∙ ap (λ (s : StepView). s.got) c.step.view_is)
-      (c.deref-2.ensures.value ∙ c.in_ok-locations.ensures) c.in_ok-all.ensures,
+      c.in_ok-locations.ensures c.in_ok-all.ensures,
   many_of c,
 )
 
@@ -31,5 +32,5 @@ returns-clause-all c = (
   c.in_ok-found.found,
   c.in_ok-found.ensures.found,
   each _ _ _ _ c.in_ok-all.all.items (c.deref.ensures.value ∙ ap (λ (s : StepView). s.got) c.step.view_is)
-      (c.deref-2.ensures.value ∙ c.in_ok-locations.ensures) c.in_ok-all.ensures,
+      c.in_ok-locations.ensures c.in_ok-all.ensures,
 )

@@ -1,4 +1,4 @@
-use Rattle.std.proofs.Common.{◌≡◌, ◌≤◌, ◌++◌, ◌∷◌, [], length, refl, subst}
+use Rattle.std.proofs.Common.{◌≡◌, ◌++◌, ◌∷◌, [], refl, subst}
 use Rattle.asm_step.specs.Places.{AreEach}
 use Rattle.asm_slots.specs.Step.{StepView}
 use Rattle.asm_slots.proofs.Noting.{noted_in}

@@ -1,6 +1,4 @@
-use Rattle.std.proofs.Common.{◌≡◌, ◌++◌, ◌∷◌, [], ap, List}
-use Rattle.asm_element.specs.Place.{Place}
-use Rattle.asm_slots.proofs.Noting.{each_there, noted}
+use Rattle.asm_slots.proofs.Noting.{noted}
 use Rattle.asm_slots.proofs.getting_at.note.Goals as goal
 
 pub returns-clause-noted : goal.returns-clause-noted

@@ -11,15 +11,12 @@ use Rattle.asm_slots.proofs.Ascending.{all_in, rises_in}
 use Rattle.asm_slots.proofs.GivenAgents.{number_among, put_in, the_store}
 use Rattle.asm_slots.proofs.store.Store.give.Goals as goal
 
-pub returns-in_default-clause-refused : goal.returns-in_default-clause-refused
-returns-in_default-clause-refused c =
+pub returns-in_default-clause-there : goal.returns-in_default-clause-there
+returns-in_default-clause-there c _ =
     let s = (arc_value c.self.inside.shared).storage in
     let parts = c.self.inside.parts.items in
-    let among : IsAmong parts c.id-agent.result.1 = subst (λ (l : List AgentPart). IsAmong l c.id-agent.result.1) c.deref.ensures.value c.in_default.ensures.none in (
-      c.self.view_is,
-      c.id-agent.ensures.same,
-      number_among s parts c.id-agent.result.1 c.args.agent.account.id c.args.self (ap (λ (v : StoreView). v.agents) (sym c.self.view_is)) c.id-agent.ensures.id among,
-    )
+    let among : IsAmong parts c.id-agent.result.1 = subst (λ (l : List AgentPart). IsAmong l c.id-agent.result.1) c.deref.ensures.value c.in_default.ensures.none in
+    number_among s parts c.id-agent.result.1 c.args.agent.account.id c.args.self (ap (λ (v : StoreView). v.agents) (sym c.self.view_is)) c.id-agent.ensures.id among
 
 pub invariant_of-store-2 : goal.invariant_of-store-2
 invariant_of-store-2 c =
