@@ -20,7 +20,7 @@ use Rattle.asm_storage.specs.Storage.{AgentAt, StorageView}
 use Rattle.asm_storage.specs.declared.call.Reply.{Reply}
 use Rattle.asm_storage.specs.declared.call.Reply.TheVariants.{Fired}
 use Rattle.asm_storage.specs.declared.error.FireError.{FireError}
-use Rattle.asm_storage.specs.declared.receipt.Entry.{Entry}
+use Rattle.asm_storage.specs.declared.entry.Entry.{Entry}
 use Rattle.asm_slots.specs.Codes.{IsOneOf, ASM_DONE, ASM_STALE, ASM_CLASH, ASM_MEMORY, ASM_FULL, ASM_BUSY, ASM_MANY}
 use Rattle.asm_slots.specs.Calls.{HasLooked}
 use Rattle.asm_slots.specs.Committed.{FiresAll, HasFiredStep, NamesAll, TellsFire}

@@ -10,7 +10,7 @@ use Rattle.asm_row.proofs.row.Row.TheSendSync as row
 use Rattle.asm_row.specs.contracts.row.Row as Row
 use Rattle.asm_storage.proofs.Crossing.{part_is_sent}
 use Rattle.asm_storage.proofs.Standard.{standard, standard_ghosts, standard_storage_is_shared}
-use Rattle.asm_storage.specs.contracts.receipt.Entry as Entry
+use Rattle.asm_storage.specs.contracts.entry.Entry as Entry
 use Rattle.asm_storage.specs.contracts.storage.Storage as Storage
 use Rattle.asm_storage.specs.contracts.storage.Storage.TheInside as InsideStorage
 use Rattle.asm_element.proofs.Crossing.{location_is_sent}

@@ -11,7 +11,7 @@ use Rattle.asm_storage.specs.declared.call.Reply.{Reply}
 use Rattle.asm_storage.specs.declared.call.Reply.TheVariants as reply
 use Rattle.asm_storage.specs.declared.error.FireError.TheVariants.{Busy, Memory}
 use Rattle.asm_storage.specs.declared.receipt.Receipt.{Receipt}
-use Rattle.asm_storage.specs.declared.receipt.Entry.{Entry}
+use Rattle.asm_storage.specs.declared.entry.Entry.{Entry}
 use Rattle.asm_storage.specs.Storage.{AgentAt, has_looked, has_seen, last_look, Missed}
 use Rattle.asm_storage.specs.Calls.{ReadingView, IsRead, IsAnswered, IsBusy, IsCoherentReply, MadeOffers}
 use Rattle.asm_journal.specs.Event.{answer_json_of}

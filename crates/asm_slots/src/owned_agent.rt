@@ -38,7 +38,7 @@ impl Model for OwnedAgent {
     ghost use Rattle.asm_aggregate.specs.contracts.bag_agg.BagAgg.{the_row as bag_row};
     ghost use Rattle.asm_aggregate.specs.contracts.count_agg.CountAgg.{the_row as count_row};
     ghost use Rattle.asm_update.specs.contracts.plain_state.PlainState.{the_row as state_row};
-    ghost use Rattle.asm_storage.specs.contracts.receipt.Entry.{the_row as entry_row};
+    ghost use Rattle.asm_storage.specs.contracts.entry.Entry.{the_row as entry_row};
     ghost use Rattle.asm_storage.specs.contracts.receipt.Receipt.{the_row as receipt_row};
     ghost use Rattle.asm_storage.specs.Agents.{account_code};
     ghost use Rattle.asm_storage.specs.Part.{agent_of, IsPartOf};
