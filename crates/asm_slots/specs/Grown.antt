@@ -46,15 +46,18 @@ pub record GrowsBy (way : Way) (move agent step after : Option Content) (out out
   pub no_text : IsOneOf (ASM_DONE ∷ ASM_MEMORY ∷ ASM_EMPTY ∷ ASM_MOVED ∷ []) code → written ≡ 0
   pub unwritten : IsOneOf (ASM_DONE ∷ ASM_MEMORY ∷ ASM_EMPTY ∷ ASM_SMALL ∷ ASM_MOVED ∷ []) code → out_after ≡ out
 
--- of a push, and of an extension
+-- of a push
 abbrev pub Pushes : List ℕ → Option Content → Option Content → Option Content → List ℕ → List ℕ → ℕ → ℤ → Type 0
 Pushes = Grows ways.Push
 
+-- of an extension
 abbrev pub Extends : List ℕ → Option Content → Option Content → Option Content → List ℕ → List ℕ → ℕ → ℤ → Type 0
 Extends = Grows ways.Extend
 
+-- of a push of the move that a slot holds
 abbrev pub PushesMove : Option Content → Option Content → Option Content → Option Content → List ℕ → List ℕ → ℕ → ℤ → Type 0
 PushesMove = GrowsBy ways.Push
 
+-- of an extension by the move that a slot holds
 abbrev pub ExtendsByMove : Option Content → Option Content → Option Content → Option Content → List ℕ → List ℕ → ℕ → ℤ → Type 0
 ExtendsByMove = GrowsBy ways.Extend
