@@ -7,7 +7,7 @@ use crate::performing::{Standard, counts};
 use crate::two_agents::storage_of;
 use asm_storage::{Agent, Reply, Storage};
 use asm_update::Instructions;
-use std::alloc::{AllocError, Global};
+use std::alloc::Global;
 use std::test::Fail;
 
 /// Whether the agent has this number, and has made no call.
@@ -21,11 +21,9 @@ fn has_fired(
     agent: &mut Agent<'_, Standard>,
     instrs: &Instructions,
     number: u32,
-) -> bool {
-    match agent.try_fire(alloc, &[], instrs) {
-        Ok(reply) => reply == Reply::Fired(number) && counts(agent, number, 1, 1),
-        Err(_) => false,
-    }
+) -> Result<bool, Fail> {
+    let reply = agent.try_fire(alloc, &[], instrs)?;
+    Ok(reply == Reply::Fired(number) && counts(agent, number, 1, 1))
 }
 
 /// Whether an agent made with this `id` is new, its part has the same `id`, and its fire is then the move with this
@@ -36,7 +34,7 @@ fn is_made(
     instrs: &Instructions,
     id: u32,
     number: u32,
-) -> Result<bool, AllocError>
+) -> Result<bool, Fail>
     requires { id < 256 }
 {
     let agent = storage.agent_at(alloc, id)?;
@@ -44,7 +42,7 @@ fn is_made(
     let part = agent.into_part();
     let is_same = part.id() == id;
     let mut agent = Agent::of(storage, part);
-    Ok(has_fired(alloc, &mut agent, instrs, number) && is_new && is_same)
+    Ok(has_fired(alloc, &mut agent, instrs, number)? && is_new && is_same)
 }
 
 /// Whether that is so, and the row then holds as many moves as the `number` says.
@@ -54,7 +52,7 @@ fn is_held(
     instrs: &Instructions,
     id: u32,
     number: u32,
-) -> Result<bool, AllocError>
+) -> Result<bool, Fail>
     requires { id < 256 }
 {
     Ok(is_made(alloc, storage, instrs, id, number)? && holds(storage, number))
@@ -65,7 +63,7 @@ fn are_made(
     alloc: Global,
     storage: &Storage<Standard>,
     instrs: &Instructions,
-) -> Result<bool, AllocError> {
+) -> Result<bool, Fail> {
     Ok(
         is_held(alloc, storage, instrs, 255, 1)?
             && is_held(alloc, storage, instrs, 0, 2)?
