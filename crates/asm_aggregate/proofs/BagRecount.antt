@@ -1,7 +1,7 @@
 -- Counts that are moved towards those of another bag, and groups that are judged by the counts of what they name.
 use Rattle.std.proofs.Common.{◌≡◌, ℕ, zero, suc, ◌+◌, ◌-◌, ◌<◌, ◌≤◌, ◌^◌, Bool, true, false, cond, ◌||◌, List, [], ◌∷◌, length, take}
 use Rattle.std.proofs.Common.{refl, sym, ap, subst, ◌∙◌, arith}
-use Rattle.std.specs.Prelude.{Option, None, Some, Ok, Err, unwrap_or, All}
+use Rattle.std.specs.Prelude.{Option, Some, Ok, Err, unwrap_or, All}
 use Rattle.std.specs.List.{list_any}
 use Rattle.std.specs.FinMap as finite
 use Rattle.std.specs.Ordering.{eq_by_cmp}
@@ -15,7 +15,7 @@ use Rattle.asm_element.specs.Bag.{ElementBag, empty, count, counts, set_count, I
 use Rattle.asm_update.specs.Aggregator.{IsOutcome}
 use Rattle.asm_update.specs.declared.action.Action.{Action}
 use Rattle.asm_update.specs.declared.clash.Cause.TheVariants.{Short, Large}
-use Rattle.asm_update.specs.declared.errors.ResultError.{ResultError}
+use Rattle.asm_update.specs.declared.error.ResultError.{ResultError}
 use Rattle.asm_aggregate.specs.Sets.{is_the}
 use Rattle.asm_aggregate.specs.Steps.{names, names_in, raised, lowered, IsMoved, IsMoreBy, IsShort, IsAbove}
 use Rattle.asm_aggregate.specs.BagMeaning.{amount_in, element_of, named, is_large, new_count, recounted}
@@ -29,13 +29,6 @@ use Rattle.asm_aggregate.specs.laws.BagLaws.{none_short, none_large}
 use Rattle.asm_aggregate.proofs.BagSteps.{named_if, passes_somewhere, is_short}
 use Rattle.asm_aggregate.proofs.Exits.{short_outcome, above_outcome}
 use Rattle.asm_aggregate.proofs.SetSteps.{IsItem, any_more}
-
--- one element
-pub moved_nowhere : (move : ℕ → ℕ → ℕ) (b to : ElementBag) (o : Option Element) → o ≡ None →
-    IsMoved move (λ e. is_the e o) b to b
-moved_nowhere move b to o none = record {
-  counts = λ e. ap (λ (p : Option Element). cond (is_the e p) (move (count b e) (count to e)) (count b e)) (sym none);
-}
 
 -- what is the same at an element stays the same where it is that element or another
 at_one : (b to new : ElementBag) (move : ℕ → ℕ → ℕ) (x : Element) →

@@ -15,7 +15,7 @@ use Rattle.asm_element.specs.declared.element.Element.{Element}
 use Rattle.asm_element.specs.declared.value.Value.TheVariants as values
 use Rattle.asm_element.specs.Set as set
 use Rattle.asm_element.specs.Bag.{ElementBag, count, set_count}
-use Rattle.asm_element.specs.Tests.{itself, or_true}
+use Rattle.asm_element.specs.Tests.{itself}
 use Rattle.asm_update.specs.declared.action.Action.{Action}
 use Rattle.asm_update.specs.declared.clash.Cause.TheVariants.{Short, Large}
 use Rattle.asm_aggregate.specs.Steps.{names, one_action, IsMoreBy}
@@ -263,17 +263,3 @@ module _ (f : Side → Element → ℕ) where
         ∙ (λ i. ((ap is_large (sym add.is) ∙ add.low) i || (ap is_large (sym remove.is) ∙ remove.low) i)
         || list_any (is_either_large f) rest)) ∙ had.small;
   }
-
-  -- where one amount of the first that is left is too large, some amount is
-  pub large_there : (side : Side) (additions removals : List Action) (left rest all : List Element) (x : Element)
-      (n : ℕ) →
-      left ≡ x ∷ rest → n ≡ f side x → AreJoining f additions removals left all → is_large n ≡ true →
-      list_any (is_either_large f) all ≡ true
-  large_there side additions removals left rest all x n step is had high =
-      sym had.small ∙ ap (list_any (is_either_large f)) step ∙ at side (sym (ap is_large is) ∙ high) where
-        at : (side : Side) → is_large (f side x) ≡ true →
-            (is_either_large f x || list_any (is_either_large f) rest) ≡ true
-        at Added h = ap (λ b. (b || is_large (f Removed x)) || list_any (is_either_large f) rest) h
-        at Removed h =
-            ap (λ b. (is_large (f Added x) || b) || list_any (is_either_large f) rest) h
-            ∙ ap (λ b. b || list_any (is_either_large f) rest) (or_true (is_large (f Added x)))

@@ -1,5 +1,5 @@
 -- What a list of actions adds and removes of each element, one action at a time.
-use Rattle.std.proofs.Common.{◌≡◌, ℕ, ◌+◌, ◌*◌, ◌<◌, ◌≤◌, ◌^◌, Bool, true, false, cond, List, [], length, take}
+use Rattle.std.proofs.Common.{◌≡◌, ℕ, ◌+◌, ◌*◌, ◌<◌, ◌^◌, Bool, true, false, cond, List, [], take}
 use Rattle.std.proofs.Common.{refl, sym, ap, subst, ◌∙◌, arith, unwrap_or}
 use Rattle.std.specs.Prelude.{Option, None, Some}
 use Rattle.std.specs.Borrow.{Bor}
@@ -7,11 +7,10 @@ use Rattle.std.specs.Ordering.{eq_by_cmp}
 use Rattle.std.specs.Cmp.{eq_by_cmp_equiv}
 use Rattle.std.specs.BTreeMap as tree
 use Rattle.std.specs.BTreeMap.{BTreeMap, is_at}
-use Rattle.std.proofs.lemmas.List.{take_all}
 use Rattle.asm_element.specs.Element.{element_cmp, element_cmp_total}
 use Rattle.asm_element.specs.declared.element.Element.{Element}
 use Rattle.asm_update.specs.declared.action.Action.{Action}
-use Rattle.asm_aggregate.specs.BagMeaning.{amount, amount_in, element_of}
+use Rattle.asm_aggregate.specs.BagMeaning.{amount, element_of}
 use Rattle.asm_aggregate.specs.Sets.{is_the}
 use Rattle.asm_aggregate.specs.Sums.{ref_cmp, to, nothing, sums_at, AreSmall, IsMoreAt, AreSums}
 use Rattle.asm_aggregate.specs.declared.bag_sums.Amounts.{Amounts}
@@ -96,13 +95,3 @@ small_sums t xs i few had e =
     let add = had.added_fits e in
     let remove = had.removed_fits e in
     record { added = omega (arith, few, add); removed = omega (arith, few, remove) }
-
--- all of them
-pub sums_all : (t : BTreeMap (Bor Element) Amounts) (xs : List Action) (i : ℕ) → i < 2 ^ 64 → length xs ≤ i →
-    AreSums (take i xs) (i * 4294967295) t → AreSums xs (2 ^ 96) t
-sums_all t xs i few whole had = record {
-  added = λ e. had.added e ∙ ap (λ l. amount_in Added l e) (take_all i xs whole);
-  removed = λ e. had.removed e ∙ ap (λ l. amount_in Removed l e) (take_all i xs whole);
-  added_fits = λ e. let fits = had.added_fits e in omega (arith, few, fits);
-  removed_fits = λ e. let fits = had.removed_fits e in omega (arith, few, fits);
-}

@@ -17,8 +17,8 @@ use Rattle.asm_update.specs.Fire.{GroupResult}
 use Rattle.asm_update.specs.declared.action.Action.{Action}
 use Rattle.asm_update.specs.declared.action.Family.TheVariants.{Bag}
 use Rattle.asm_update.specs.declared.clash.Cause.TheVariants.{Mixed, Kind, Against, Short, Large}
-use Rattle.asm_update.specs.declared.errors.JoinError.{JoinError}
-use Rattle.asm_update.specs.declared.errors.ResultError.{ResultError}
+use Rattle.asm_update.specs.declared.error.JoinError.{JoinError}
+use Rattle.asm_update.specs.declared.error.ResultError.{ResultError}
 use Rattle.asm_aggregate.specs.Families.{is_kind}
 use Rattle.asm_aggregate.specs.Steps.{IsMoreBy, IsShort, IsAbove, AreActions}
 use Rattle.asm_aggregate.specs.BagMeaning.{counts, amount_in, named, joined_amount, is_either_large, bag_actions}

@@ -1,6 +1,6 @@
 -- A walk of the locations of two moves in ascending order, which composes one location more at a time.
 use Rattle.std.proofs.Common.{◌≡◌, ◌≢◌, Bool, true, false, cond, ◌&&◌, T, List, [], ◌∷◌, ◌++◌, map, refl, sym, ap}
-use Rattle.std.proofs.Common.{subst, ◌∙◌, unwrap_or, append_assoc, append-nil, All, ◌≤◌}
+use Rattle.std.proofs.Common.{subst, ◌∙◌, unwrap_or, append_assoc, All, ◌≤◌}
 use Rattle.std.proofs.Common.{length}
 use Rattle.std.specs.Prelude.{Option, Result, Ok, Err, None, Some, is_some, filter}
 use Rattle.std.specs.Ordering.{eq_by_cmp, is_lt}
@@ -18,8 +18,8 @@ use Rattle.asm_update.specs.Aggregator.{Meaning, AggregatorLaws, Joined, NoJoin,
 use Rattle.asm_update.specs.Fire.{first, written, locations}
 use Rattle.asm_update.specs.Move.{Move, actions_at, writes}
 use Rattle.asm_update.specs.declared.action.Action.{Action}
-use Rattle.asm_update.specs.declared.errors.JoinError.{JoinError}
-use Rattle.asm_update.specs.declared.errors.JoinError.TheVariants as join_error
+use Rattle.asm_update.specs.declared.error.JoinError.{JoinError}
+use Rattle.asm_update.specs.declared.error.JoinError.TheVariants as join_error
 use Rattle.asm_element.specs.Set.{same_unit}
 use Rattle.asm_update.proofs.FireLemmas.{in_locations, places}
 use Rattle.asm_aggregate.specs.Bundle.{Bundle, bundle_of, AreGroups, HaveRoom}
@@ -224,12 +224,6 @@ module _ (a : Meaning) (M N : Move) where
     composing_refuses s join_error.Memory (compose_error.Clash c) is gave at = absurd at
     composing_refuses s join_error.Memory (compose_error.Large l) is gave at = absurd at
     composing_refuses s join_error.Memory compose_error.ManyInstructions is gave at = absurd at
-
-  -- nothing is left
-  pub composing_ends : (left : List (Place × Bundle)) (seconds : finite.FinMap location_cmp Bundle) (list : Move) →
-      left ≡ [] → IsComposing a M N left seconds list → composition a M N ≡ Ok list
-  composing_ends left seconds list none had =
-      sym had.rest ∙ ap (λ es. before list (in_turn (turns a M N es))) none ∙ ap (λ L. Ok L) (append-nil list)
 
 -- the list is the answer, or it is too long
 pub limited_list : (a : Meaning) (M N list : Move) (answer : Result Move ComposeError) → composition a M N ≡ Ok list →

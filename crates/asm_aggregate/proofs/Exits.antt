@@ -6,10 +6,10 @@ use Rattle.asm_update.specs.Aggregator.{Joined, NoJoin, Refused as Refuses, TooL
 use Rattle.asm_update.specs.Fire.{GroupResult}
 use Rattle.asm_update.specs.declared.action.Action.{Action}
 use Rattle.asm_update.specs.declared.clash.Cause.TheVariants.{Short, Large, Mixed, Both}
-use Rattle.asm_update.specs.declared.errors.ResultError.{ResultError}
-use Rattle.asm_update.specs.declared.errors.ResultError.TheVariants.{Cause as Refused, Memory}
-use Rattle.asm_update.specs.declared.errors.JoinError.{JoinError}
-use Rattle.asm_update.specs.declared.errors.JoinError.TheVariants as join_error
+use Rattle.asm_update.specs.declared.error.ResultError.{ResultError}
+use Rattle.asm_update.specs.declared.error.ResultError.TheVariants.{Cause as Refused, Memory}
+use Rattle.asm_update.specs.declared.error.JoinError.{JoinError}
+use Rattle.asm_update.specs.declared.error.JoinError.TheVariants as join_error
 use Rattle.asm_aggregate.specs.Compose.{cause_of}
 use Rattle.asm_aggregate.specs.Steps.{IsShort, IsAbove, IsLargeIf}
 use Rattle.asm_aggregate.specs.Table.{first_cause}

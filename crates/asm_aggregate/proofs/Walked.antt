@@ -16,8 +16,8 @@ use Rattle.asm_update.specs.declared.clash.AggError.{AggError}
 use Rattle.asm_update.specs.declared.clash.AggError.TheVariants.{Clash as Clashes, Memory}
 use Rattle.asm_update.specs.declared.clash.Cause.{Cause}
 use Rattle.asm_update.specs.declared.clash.Clash.{Clash}
-use Rattle.asm_update.specs.declared.errors.ResultError.{ResultError}
-use Rattle.asm_update.specs.declared.errors.ResultError.TheVariants.{Cause as Refused}
+use Rattle.asm_update.specs.declared.error.ResultError.{ResultError}
+use Rattle.asm_update.specs.declared.error.ResultError.TheVariants.{Cause as Refused}
 use Rattle.asm_aggregate.specs.Bundle.{Bundle, bundle_of, bundle_result, IsWritten, IsAdmission, IsAggregate}
 use Rattle.asm_aggregate.specs.Stretch.{IsAscending, IsArranged, IsParted}
 use Rattle.asm_aggregate.proofs.Bundles.{written_bundle}

@@ -16,8 +16,8 @@ use Rattle.asm_update.specs.declared.action.Action.{Action}
 use Rattle.asm_update.specs.declared.action.Action.TheVariants.{Regular}
 use Rattle.asm_update.specs.declared.action.Instruction.{Instruction}
 use Rattle.asm_update.specs.declared.clash.Cause.{Cause}
-use Rattle.asm_update.specs.declared.errors.JoinError.{JoinError}
-use Rattle.asm_update.specs.declared.errors.JoinError.TheVariants as join_error
+use Rattle.asm_update.specs.declared.error.JoinError.{JoinError}
+use Rattle.asm_update.specs.declared.error.JoinError.TheVariants as join_error
 use Rattle.asm_aggregate.specs.Bundle.{Bundle, bundle_of, bundle_result}
 use Rattle.asm_aggregate.specs.PairMeaning.{refused, unless}
 use Rattle.asm_aggregate.specs.declared.composition.ComposeError.{ComposeError}

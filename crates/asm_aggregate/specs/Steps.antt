@@ -10,10 +10,10 @@ use Rattle.asm_element.specs.Bag.{ElementBag, count}
 use Rattle.asm_update.specs.declared.action.Action.{Action}
 use Rattle.asm_update.specs.declared.clash.Cause.{Cause}
 use Rattle.asm_update.specs.declared.clash.Cause.TheVariants.{Short, Large as LargeCount}
-use Rattle.asm_update.specs.declared.errors.ResultError.{ResultError}
-use Rattle.asm_update.specs.declared.errors.ResultError.TheVariants as result_error
-use Rattle.asm_update.specs.declared.errors.JoinError.{JoinError}
-use Rattle.asm_update.specs.declared.errors.JoinError.TheVariants as join_error
+use Rattle.asm_update.specs.declared.error.ResultError.{ResultError}
+use Rattle.asm_update.specs.declared.error.ResultError.TheVariants as result_error
+use Rattle.asm_update.specs.declared.error.JoinError.{JoinError}
+use Rattle.asm_update.specs.declared.error.JoinError.TheVariants as join_error
 use Rattle.asm_aggregate.specs.BagMeaning.{bag_action, bag_actions, element_of, is_either_large}
 use Rattle.asm_aggregate.specs.Sets.{is_the}
 use Rattle.asm_aggregate.specs.declared.side.Side.{Side}

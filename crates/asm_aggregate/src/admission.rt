@@ -26,6 +26,7 @@ fn admit_at<A: Aggregator, L: Lookup>(
         return Err(ResultError::Cause(Cause::Two));
     }
     if bundle.partials().is_empty() {
+        // That it has a regular value is what the goal needs.
         let _regular = bundle.regular();
         return Ok(());
     }

@@ -3,7 +3,7 @@ ghost use Rattle.std.specs.FinMap as finite;
 ghost use Rattle.asm_update.specs.Aggregator.{IsOutcome};
 ghost use Rattle.asm_update.specs.declared.clash.AggError.TheVariants as agg_error;
 ghost use Rattle.asm_update.specs.declared.clash.Clash as clashes;
-ghost use Rattle.asm_update.specs.declared.errors.ResultError.TheVariants as result_error;
+ghost use Rattle.asm_update.specs.declared.error.ResultError.TheVariants as result_error;
 ghost use Rattle.asm_aggregate.specs.Bundle.{IsWritten, IsAggregate, bundle_result};
 
 use crate::families::unchanged;

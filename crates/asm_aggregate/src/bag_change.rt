@@ -26,7 +26,8 @@ pub(crate) struct Recount {
     after: ElemBag,
 }
 
-/// Does nothing. Its contract tells that the bag's counts are those that a bag can hold.
+// Does nothing. Its contract tells that the bag's counts are those that a bag can hold, which the sums of old and new
+// counts need: they fit where each count does.
 fn counted(elements: &ElemBag)
     ensures { All bag.IsCount (bag.counts elements.now) }
 {

@@ -239,6 +239,7 @@ fn limited(alloc: Global, list: Vec<Instruction>) -> Result<Instructions, Compos
             Err(InstructionsError::Memory) => return Err(ComposeError::Memory),
         }
     }
+    // That there are at most 4,096 is what the goal needs.
     let _few = instructions.len();
     Ok(instructions)
 }
@@ -264,6 +265,7 @@ pub fn compose<A: Aggregator>(
     ensures composition { IsComposition (A.meaning aggregator.now) first.now second.now result }
     ensures sequence { KeepsSequence (A.meaning aggregator.now).part first.now second.now result }
 {
+    // The sequence is promised of proper moves.
     first.proper();
     second.proper();
     match composed_list(alloc, aggregator, first, second) {

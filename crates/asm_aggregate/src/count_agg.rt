@@ -1,5 +1,5 @@
-ghost use Rattle.std.specs.Prelude.{◌≡◌, ℕ, ℤ, pos, ◌+ℤ◌, ◌≤ℤ◌, neg_ℤ, ◌*◌, ◌<◌, length, map, true, false};
-ghost use Rattle.std.specs.Prelude.{if◌then◌else◌, Ok, Err, IfOk, IfSome, IfNone, OkIff, unwrap_or};
+ghost use Rattle.std.specs.Prelude.{◌≡◌, ℤ, pos, ◌+ℤ◌, ◌≤ℤ◌, neg_ℤ, ◌*◌, ◌<◌, map, true, false};
+ghost use Rattle.std.specs.Prelude.{if◌then◌else◌, Ok, Err, IfOk, IfSome, IfNone, unwrap_or};
 ghost use Rattle.std.specs.Option.{option_copied};
 ghost use Rattle.asm_element.specs.Value.{undef};
 ghost use Rattle.asm_element.specs.declared.element.Element.TheVariants as element;

@@ -5,7 +5,7 @@ ghost use Rattle.asm_update.specs.declared.action.Family as family;
 ghost use Rattle.asm_aggregate.specs.BagMeaning.{bag_meaning};
 ghost use Rattle.asm_aggregate.specs.CountMeaning.{count_meaning};
 ghost use Rattle.asm_aggregate.specs.laws.PairLaws.{pair_laws};
-ghost use Rattle.asm_aggregate.specs.PairMeaning.{pair_meaning, refused, cause_by_owner};
+ghost use Rattle.asm_aggregate.specs.PairMeaning.{pair_meaning, by_owner, refused, cause_by_owner};
 ghost use Rattle.asm_aggregate.specs.SetMeaning.{set_meaning};
 ghost use Rattle.asm_aggregate.specs.Steps.{IsRefusedFor};
 
@@ -24,6 +24,13 @@ use std::alloc::Global;
 pub struct Pair<A, B> {
     a: A,
     b: B,
+}
+
+/// Which of the two owns a family.
+enum Owner {
+    One,
+    Other,
+    Neither,
 }
 
 /// The cause for which the aggregator refuses the actions with nothing after them, if it refuses them.
@@ -53,6 +60,18 @@ impl<A: Aggregator, B: Aggregator> Pair<A, B> {
         Pair { a, b }
     }
 
+    /// Which of the two owns the family, if there is one.
+    fn owner(&self, family: Option<Family>) -> Owner
+        ensures { result ≡ by_owner (A.meaning self.now.a) (B.meaning self.now.b) family
+            Owner.One Owner.Other Owner.Neither }
+    {
+        match family {
+            Some(family) if self.a.owns(family) => Owner::One,
+            Some(family) if self.b.owns(family) => Owner::Other,
+            _ => Owner::Neither,
+        }
+    }
+
     /// The cause for which the owner of the actions refuses them with nothing after them, if it refuses them.
     fn cause_by_owner(&self, alloc: Global, actions: &[Action]) -> Result<(), JoinError>
         ensures { IsRefusedFor result (cause_by_owner (A.meaning self.now.a) (B.meaning self.now.b) actions.now) }
@@ -60,15 +79,10 @@ impl<A: Aggregator, B: Aggregator> Pair<A, B> {
         if actions.is_empty() {
             return Ok(());
         }
-        let Some(family) = common_family(actions) else {
-            return Err(JoinError::Cause(Cause::Mixed));
-        };
-        if self.a.owns(family) {
-            cause_alone(&self.a, alloc, actions)
-        } else if self.b.owns(family) {
-            cause_alone(&self.b, alloc, actions)
-        } else {
-            Err(JoinError::Cause(Cause::Mixed))
+        match self.owner(common_family(actions)) {
+            Owner::One => cause_alone(&self.a, alloc, actions),
+            Owner::Other => cause_alone(&self.b, alloc, actions),
+            Owner::Neither => Err(JoinError::Cause(Cause::Mixed)),
         }
     }
 }
@@ -88,41 +102,26 @@ impl<A: Aggregator, B: Aggregator> Aggregator for Pair<A, B> {
         old: Option<&Value>,
         group: &Group,
     ) -> Result<Value, ResultError> {
-        let Some(family) = common_family(group.partials()) else {
-            return Err(ResultError::Cause(Cause::Mixed));
-        };
-        if self.a.owns(family) {
-            self.a.result(alloc, old, group)
-        } else if self.b.owns(family) {
-            self.b.result(alloc, old, group)
-        } else {
-            Err(ResultError::Cause(Cause::Mixed))
+        match self.owner(common_family(group.partials())) {
+            Owner::One => self.a.result(alloc, old, group),
+            Owner::Other => self.b.result(alloc, old, group),
+            Owner::Neither => Err(ResultError::Cause(Cause::Mixed)),
         }
     }
 
     fn admit(&self, alloc: Global, old: Option<&Value>, group: &Group) -> Result<(), ResultError> {
-        let Some(family) = common_family(group.partials()) else {
-            return Err(ResultError::Cause(Cause::Mixed));
-        };
-        if self.a.owns(family) {
-            self.a.admit(alloc, old, group)
-        } else if self.b.owns(family) {
-            self.b.admit(alloc, old, group)
-        } else {
-            Err(ResultError::Cause(Cause::Mixed))
+        match self.owner(common_family(group.partials())) {
+            Owner::One => self.a.admit(alloc, old, group),
+            Owner::Other => self.b.admit(alloc, old, group),
+            Owner::Neither => Err(ResultError::Cause(Cause::Mixed)),
         }
     }
 
     fn change(&self, alloc: Global, value: &mut Value, group: &Group) -> Result<(), ResultError> {
-        let Some(family) = common_family(group.partials()) else {
-            return Err(ResultError::Cause(Cause::Mixed));
-        };
-        if self.a.owns(family) {
-            self.a.change(alloc, value, group)
-        } else if self.b.owns(family) {
-            self.b.change(alloc, value, group)
-        } else {
-            Err(ResultError::Cause(Cause::Mixed))
+        match self.owner(common_family(group.partials())) {
+            Owner::One => self.a.change(alloc, value, group),
+            Owner::Other => self.b.change(alloc, value, group),
+            Owner::Neither => Err(ResultError::Cause(Cause::Mixed)),
         }
     }
 
@@ -134,15 +133,10 @@ impl<A: Aggregator, B: Aggregator> Aggregator for Pair<A, B> {
     ) -> Result<Vec<Action>, JoinError> {
         self.cause_by_owner(alloc, first)?;
         self.cause_by_owner(alloc, second)?;
-        let Some(family) = family_of_both(first, second) else {
-            return Err(JoinError::Cause(Cause::Kind));
-        };
-        if self.a.owns(family) {
-            self.a.join(alloc, first, second)
-        } else if self.b.owns(family) {
-            self.b.join(alloc, first, second)
-        } else {
-            Err(JoinError::Cause(Cause::Kind))
+        match self.owner(family_of_both(first, second)) {
+            Owner::One => self.a.join(alloc, first, second),
+            Owner::Other => self.b.join(alloc, first, second),
+            Owner::Neither => Err(JoinError::Cause(Cause::Kind)),
         }
     }
 }

@@ -1,7 +1,7 @@
 ghost use Rattle.std.specs.Prelude.{◌≡◌, ◌↔◌, IsTrue, ◌+◌, ◌-◌, ◌<◌, ◌≤◌, ◌^◌, OnOk, OnErr, IfOk, All};
 ghost use Rattle.std.specs.Cmp.{partial_equiv_from_equiv};
 ghost use Rattle.std.specs.List.Sorted.{IsStrictlySortedBy};
-ghost use Rattle.asm_element.specs.Element.{element_cmp};
+ghost use Rattle.asm_element.specs.Element.{element_cmp, IsProper};
 ghost use Rattle.asm_element.specs.Bag as bag;
 ghost use Rattle.asm_element.specs.Same.{bag_eq-equiv};
 
@@ -83,20 +83,14 @@ impl ElemBag {
         }
     }
 
-    /// The elements that are there with their counts, in ascending order.
+    /// The elements that are there with their counts, in ascending order; each is one that a program can hold.
     pub fn iter(&self) -> Iter<'_, Element, u32>
         ensures entries { result ≡ bag.entries self.now }
         ensures ascending { IsStrictlySortedBy element_cmp (bag.elements self.now) }
         ensures counts { All bag.IsCount (bag.counts self.now) }
+        ensures proper { All IsProper (bag.elements self.now) }
     {
         self.counts.iter()
-    }
-
-    /// Does nothing. Its contract tells that the bag is one that a program can hold.
-    pub(crate) fn proper(&self)
-        ensures { bag.IsProper self.now }
-    {
-        let _ = &self.counts;
     }
 
     /// The same bag, in memory of its own. `AllocError` comes only where memory was refused.

@@ -106,6 +106,7 @@ impl ElemList {
         ensures items { result.now ≡ elements self.now }
         ensures few { datum.len self.now ≤ items_limit }
         ensures proper { All IsProper (elements self.now) }
+        ensures list { datum.IsProperList self.now }
     {
         self.items.as_slice()
     }
@@ -116,13 +117,6 @@ impl ElemList {
         ensures bound { result ≤ depth_limit }
     {
         self.depth
-    }
-
-    /// Does nothing. Its contract tells that the list is one that a program can hold.
-    pub(crate) fn proper(&self)
-        ensures { datum.IsProperList self.now }
-    {
-        let _ = &self.items;
     }
 
     /// The same list, in memory of its own.

@@ -88,19 +88,13 @@ impl ElemSet {
         self.elements.remove(element)
     }
 
-    /// The elements in ascending order.
+    /// The elements in ascending order, each one that a program can hold.
     pub fn iter(&self) -> Iter<'_, Element>
         ensures elements { result ≡ set.elements self.now }
         ensures ascending { IsStrictlySortedBy element_cmp (set.elements self.now) }
+        ensures proper { All IsProper (set.elements self.now) }
     {
         self.elements.iter()
-    }
-
-    /// Does nothing. Its contract tells that each element is one that a program can hold.
-    pub(crate) fn proper(&self)
-        ensures { All IsProper (set.elements self.now) }
-    {
-        let _ = &self.elements;
     }
 
     /// The same set, in memory of its own. `AllocError` comes only where memory was refused.

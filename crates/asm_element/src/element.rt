@@ -42,6 +42,7 @@ impl Element {
     pub fn proper(&self)
         ensures { IsProper self.now }
     {
+        // A part is read for what that tells of it, which is the whole goal.
         match self {
             Element::Num(value) => {
                 let _value = *value;
@@ -49,7 +50,9 @@ impl Element {
             Element::Text(text) => {
                 let _text = text.as_str();
             }
-            Element::List(list) => list.proper(),
+            Element::List(list) => {
+                let _items = list.items();
+            }
             _ => {}
         }
     }

@@ -134,6 +134,7 @@ impl Location {
     pub fn proper(&self)
         ensures { place.IsProper self.now }
     {
+        // Their clauses are the two halves of the goal.
         let _name = self.name();
         let _args = self.args();
     }

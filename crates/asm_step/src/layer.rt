@@ -44,6 +44,7 @@ pub(crate) fn frame_on<A: Aggregator, L: Lookup>(
 fn first_move(alloc: Global, instructions: &Instructions) -> Result<Instructions, StepError>
     ensures { (a : Meaning) → IsComposed a None instructions.now result }
 {
+    // That there are at most 4,096 is what the goal needs.
     let _few = instructions.len();
     Ok(instructions.copy(alloc)?)
 }

@@ -87,6 +87,3 @@ state_is_shared = search (sendable, inside_state_is_shared) depth 20
 
 pub clash_is_sent : IsSend Clash.the_row
 clash_is_sent = search (sendable, location_is_sent) depth 20
-
-pub clash_is_shared : IsSync Clash.the_row
-clash_is_shared = search (sendable, location_is_shared) depth 20

@@ -107,15 +107,18 @@ gathered_value out (l ∷ ls) U V q h = by_outcome (out l) refl h (λ W. gathere
       later (finite.insert U l v) h ∙ ap (cond (is_in ls q) (ok_of (out q))) (finite.get-insert location_cmp_total U l v q) ∙ by_test v (eq_by_cmp location_cmp q l) (is_in ls q) refl e
   by_outcome (Err cause) e h later = cc
 
+-- one more location that has a result
+ok_there : (out : Place → GroupResult) (l q : Place) (ls : List Place) (v : Value) → out l ≡ Ok v → (is_in ls q ≡ true → IsOk (out q)) → (eq_by_cmp location_cmp q l || is_in ls q) ≡ true → IsOk (out q)
+ok_there out l q ls v e later = by_test (eq_by_cmp location_cmp q l) refl where
+  by_test : (b : Bool) → eq_by_cmp location_cmp q l ≡ b → (b || is_in ls q) ≡ true → IsOk (out q)
+  by_test true is k = subst IsOk (sym e ∙ ap out (sym (same_location q l is))) refl
+  by_test false is k = later k
+
 gathered_each : (out : Place → GroupResult) (ls : List Place) (U V : Updates) (q : Place) → gathered U (results out ls) ≡ Ok V → is_in ls q ≡ true → IsOk (out q)
 gathered_each out [] U V q h k = cc
 gathered_each out (l ∷ ls) U V q h k = by_outcome (out l) refl h (λ W. gathered_each out ls W V q) where
-  by_test : (v : Value) (b : Bool) → eq_by_cmp location_cmp q l ≡ b → out l ≡ Ok v → (b || is_in ls q) ≡ true → (is_in ls q ≡ true → IsOk (out q)) → IsOk (out q)
-  by_test v true is e k later = subst IsOk (sym e ∙ ap out (sym (same_location q l is))) refl
-  by_test v false is e k later = later k
-
   by_outcome : (o : GroupResult) → out l ≡ o → gathered U ((l, o) ∷ results out ls) ≡ Ok V → ((W : Updates) → gathered W (results out ls) ≡ Ok V → is_in ls q ≡ true → IsOk (out q)) → IsOk (out q)
-  by_outcome (Ok v) e h later = by_test v (eq_by_cmp location_cmp q l) refl e k (later (finite.insert U l v) h)
+  by_outcome (Ok v) e h later = ok_there out l q ls v e (later (finite.insert U l v) h) k
   by_outcome (Err cause) e h later = cc
 
 -- the clash stands at the first of the locations that has no result
@@ -127,10 +130,6 @@ record IsFirstClash (out : Place → GroupResult) (ls : List Place) (clash : Cla
 gathered_clash : (out : Place → GroupResult) (ls : List Place) (U : Updates) (clash : Clash) → Rising ls → gathered U (results out ls) ≡ Err clash → IsFirstClash out ls clash
 gathered_clash out [] U clash r h = cc
 gathered_clash out (l ∷ ls) U clash r h = by_outcome (out l) refl h (λ W. gathered_clash out ls W clash r.1) where
-  by_test : (v : Value) (q : Place) (b : Bool) → eq_by_cmp location_cmp q l ≡ b → out l ≡ Ok v → (b || is_in ls q) ≡ true → (is_in ls q ≡ true → IsOk (out q)) → IsOk (out q)
-  by_test v q true is e k later = subst IsOk (sym e ∙ ap out (sym (same_location q l is))) refl
-  by_test v q false is e k later = later k
-
   above : (q : Place) (b : Bool) → eq_by_cmp location_cmp q l ≡ b → (b || is_in ls q) ≡ true → location_cmp q l ≡ Less → IsOk (out q)
   above q true is k lt = absurd (false≢true (ap is_eq (sym lt) ∙ is))
   above q false is k lt = absurd (false≢true (ap is_gt (sym lt ∙ location_cmp_total.antisymm q l) ∙ ap (λ o. is_gt (ordering_reverse o)) (r.0 q k)))
@@ -141,7 +140,7 @@ gathered_clash out (l ∷ ls) U clash r h = by_outcome (out l) refl h (λ W. gat
       record {
         stands = or_right _ _ rest.stands;
         cause = rest.cause;
-        least = λ q lt k. by_test v q (eq_by_cmp location_cmp q l) refl e k (rest.least q lt);
+        least = λ q lt. ok_there out l q ls v e (rest.least q lt);
       }
   by_outcome (Err cause) e h later =
       subst (IsFirstClash out (l ∷ ls)) (err_is _ _ h) (record {

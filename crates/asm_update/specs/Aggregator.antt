@@ -13,10 +13,10 @@ use Rattle.asm_update.specs.declared.action.Action.{Action}
 use Rattle.asm_update.specs.declared.action.Family.{Family}
 use Rattle.asm_update.specs.declared.clash.Cause.{Cause}
 use Rattle.asm_update.specs.declared.clash.Cause.TheVariants.{Mixed}
-use Rattle.asm_update.specs.declared.errors.ResultError.{ResultError}
-use Rattle.asm_update.specs.declared.errors.ResultError.TheVariants as result_error
-use Rattle.asm_update.specs.declared.errors.JoinError.{JoinError}
-use Rattle.asm_update.specs.declared.errors.JoinError.TheVariants as join_error
+use Rattle.asm_update.specs.declared.error.ResultError.{ResultError}
+use Rattle.asm_update.specs.declared.error.ResultError.TheVariants as result_error
+use Rattle.asm_update.specs.declared.error.JoinError.{JoinError}
+use Rattle.asm_update.specs.declared.error.JoinError.TheVariants as join_error
 
 -- why two lists have no join: a cause, or an amount that no partial update can have
 pub data NoJoin : Type 0 where

@@ -97,6 +97,7 @@ impl Action {
     pub fn proper(&self)
         ensures { action.IsProper self.now }
     {
+        // A number and an amount are read for what that tells of them, which the goal needs.
         match self {
             Action::Regular(value) => value.proper(),
             Action::SetAdd(element) | Action::SetRemove(element) => element.proper(),

@@ -7,7 +7,7 @@ ghost use Rattle.asm_update.specs.Aggregator.{Meaning, AggregatorLaws, IsOutcome
 ghost use Rattle.asm_update.specs.Aggregator.{IsAdmitted, IsLeft};
 
 use crate::action::{Action, Family};
-use crate::errors::{JoinError, ResultError};
+use crate::error::{JoinError, ResultError};
 use crate::group::Group;
 use asm_element::Value;
 use std::alloc::Global;

@@ -118,6 +118,7 @@ impl Instructions {
         ensures len { result ≡ length self.now }
         ensures few { length self.now ≤ instructions_limit }
     {
+        // The invariant is known once a field is read.
         let _ = &self.items;
         self.as_slice().len()
     }

@@ -12,7 +12,7 @@ ghost use Rattle.std.specs.Cmp.{partial_equiv_from_equiv};
 ghost use Rattle.asm_update.specs.Equal.{state_eq, state_eq-equiv};
 
 use crate::aggregator::Aggregator;
-use crate::errors::ResultError;
+use crate::error::ResultError;
 use crate::group::Group;
 use asm_element::{Location, Value};
 use std::alloc::{AllocError, Global};
@@ -60,7 +60,8 @@ fn change_value<A: Aggregator>(
     ensures held { held.is_undef value.new ≡ false }
     ensures proper { held.IsProper value.new }
 {
-    let _ = group.partials();
+    // That they are partial updates is what the goal `proper` needs.
+    let _partials = group.partials();
     let changed = aggregator.change(alloc, value, group);
     value.proper();
     changed
@@ -117,9 +118,9 @@ impl PlainState {
 
     /// Puts the result of a group at a location in the place of its value.
     ///
-    /// A value that is there is changed in place, as `Aggregator::change` does it. `ResultError::Cause`
-    /// comes exactly where the group has no result on it, and `Memory` only where memory was refused;
-    /// the state is then unchanged.
+    /// A value that is there is changed in place, as `Aggregator::change` does it: so an addition to a large set
+    /// costs no copy of the set, as `get` and `set` would. `ResultError::Cause` comes exactly where the group has no
+    /// result on the value, and `Memory` only where memory was refused; the state is then unchanged.
     pub fn change<A: Aggregator>(
         &mut self,
         alloc: Global,
@@ -184,7 +185,7 @@ impl PlainState {
         self.values.iter()
     }
 
-    /// The same state, in memory of its own.
+    /// The same state, in memory of its own. `AllocError` comes only where memory was refused.
     pub fn copy(&self, _alloc: Global) -> Result<PlainState, AllocError>
         ensures { IfOk result (λ copy. copy ≡ self.now) }
     {
@@ -215,8 +216,8 @@ impl IntoIterator for PlainState {
 
     ghost into_iter_gives = { λ state walk. GivesAscending state walk };
 
-    /// The locations that aren't undef with their values, in ascending order of locations; they are
-    /// moved.
+    /// The locations that aren't undef with their values, in ascending order of locations; they are moved, so who
+    /// takes a state apart copies nothing.
     fn into_iter(self) -> IntoIter<Location, Value> {
         self.values.into_iter()
     }

@@ -1,9 +1,11 @@
+//! What instructions hold is proper. The invariant of `Instructions` needs it where one is taken in: each part tells
+//! it by a call of its own.
 ghost use Rattle.std.specs.Prelude.{All};
 ghost use Rattle.asm_update.specs.Action.{IsProperInstruction};
 
 use crate::action::Instruction;
 
-/// Does nothing; its contract tells that an instruction which a program holds is proper.
+// Does nothing; its contract tells that the instruction is proper.
 pub(crate) fn proper_instruction(instruction: &Instruction)
     ensures { IsProperInstruction instruction.now }
 {
@@ -11,7 +13,7 @@ pub(crate) fn proper_instruction(instruction: &Instruction)
     instruction.action.proper();
 }
 
-/// Does nothing; its contract tells that instructions which a program holds are proper.
+// Does nothing; its contract tells that the instructions are proper.
 pub(crate) fn proper_instructions(instructions: &[Instruction])
     ensures { All IsProperInstruction instructions.now }
 {

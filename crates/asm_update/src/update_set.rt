@@ -100,7 +100,8 @@ impl IntoIterator for UpdateSet {
 
     ghost into_iter_gives = { λ updates walk. GivesAscending updates walk };
 
-    /// The locations with their values, in ascending order of locations; they are moved.
+    /// The locations with their values, in ascending order of locations; they are moved, so who writes them copies
+    /// nothing.
     fn into_iter(self) -> IntoIter<Location, Value> {
         self.values.into_iter()
     }

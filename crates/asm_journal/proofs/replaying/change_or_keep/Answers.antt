@@ -1,7 +1,7 @@
 use Rattle.std.proofs.Common.{◌∙◌, subst, Err}
 use Rattle.asm_update.specs.Aggregator.{IsOutcome}
 use Rattle.asm_update.specs.State.{val}
-use Rattle.asm_update.specs.declared.errors.ResultError.{ResultError}
+use Rattle.asm_update.specs.declared.error.ResultError.{ResultError}
 use Rattle.asm_journal.proofs.Moves.{after_change, after_cause}
 use Rattle.asm_journal.proofs.replaying.change_or_keep.Goals as goal
 

@@ -5,7 +5,7 @@ use Rattle.std.specs.FinMap as map
 use Rattle.asm_update.specs.Aggregator.{IsOutcome}
 use Rattle.asm_update.specs.Move.{Move}
 use Rattle.asm_update.specs.State.{State, val}
-use Rattle.asm_update.specs.declared.errors.ResultError.{ResultError}
+use Rattle.asm_update.specs.declared.error.ResultError.{ResultError}
 use Rattle.asm_state.specs.Change.{IsChanged, IsOneChange}
 use Rattle.asm_state.specs.Follow.{IsFollowed}
 use Rattle.asm_state.specs.View.{Entries, StateView, value_over}

@@ -1,4 +1,4 @@
-use Rattle.std.proofs.Common.{◌≡◌, List, [], ◌∷◌, ◌++◌, Ok, sym, ap, ◌∙◌, subst}
+use Rattle.std.proofs.Common.{List, [], ◌∷◌, ◌++◌, Ok, sym, ap, ◌∙◌, subst}
 use Rattle.std.proofs.lemmas.Result.{err_from_is_err_and}
 use Rattle.std.specs.Option.{option_map}
 use Rattle.asm_aggregate.proofs.Exits.{handed_on}
@@ -25,8 +25,7 @@ returns-clause-step g c groups step =
     let old = g.L.Lookup.value_at c.args.below.now in
     let M = c.args.instructions.now in
     let y = c.in_ok-layer.layer in
-    let is : c.push.new.self.items ≡ c.args.self.now ++ y ∷ [] =
-    on_top_of c.push.new.self.items c.self.inside.layers.items c.args.self.now y c.in_ok-push.ensures.items c.self.view_is in
+    let is = on_top_of c.push.new.self.items c.self.inside.layers.items c.args.self.now y c.in_ok-push.ensures.items c.self.view_is in
     subst (λ (t : List Layer). IsStepOf a.part old t (groups ++ (M ∷ []) ∷ [])) (sym is)
     (step_push a old c.args.self.now groups M y step c.in_ok-layer.ensures)
 
@@ -41,8 +40,7 @@ returns-clause-answer g c =
     let old = g.L.Lookup.value_at c.args.below.now in
     let s = c.args.self.now in
     let y = c.in_ok-layer.layer in
-    let is : c.push.new.self.items ≡ s ++ y ∷ [] =
-    on_top_of c.push.new.self.items c.self.inside.layers.items c.args.self.now y c.in_ok-push.ensures.items c.self.view_is in
+    let is = on_top_of c.push.new.self.items c.self.inside.layers.items c.args.self.now y c.in_ok-push.ensures.items c.self.view_is in
     answered_ok a old s c.push.new.self.items c.args.instructions.now y c.in_ok-layer.ensures
     (ap one_move is ∙ ap (option_map (λ (z : Layer). z.one_move)) (top_of-push s y))
 
@@ -53,7 +51,6 @@ returns-clause-answer_on g c groups B step proper has =
     let s = c.args.self.now in
     let M = c.args.instructions.now in
     let y = c.in_ok-layer.layer in
-    let is : c.push.new.self.items ≡ s ++ y ∷ [] =
-    on_top_of c.push.new.self.items c.self.inside.layers.items c.args.self.now y c.in_ok-push.ensures.items c.self.view_is in
+    let is = on_top_of c.push.new.self.items c.self.inside.layers.items c.args.self.now y c.in_ok-push.ensures.items c.self.view_is in
     subst (λ (t : List Layer). IsAnswerOn a.part B s t M (Ok tt)) (sym is)
     (answered_on_ok a old s groups M B step proper has (s ++ y ∷ []) y.frame c.in_ok-layer.ensures.0 (topmost-layer s y))

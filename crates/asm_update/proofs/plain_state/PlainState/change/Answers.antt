@@ -10,8 +10,8 @@ use Rattle.asm_element.specs.declared.value.Value.{Value}
 use Rattle.asm_element.proofs.Ordered.{get-from_tree, insert-from_tree, insert_same}
 use Rattle.asm_update.specs.Aggregator.{IsOutcome, IsLeft}
 use Rattle.asm_update.specs.Fire.{GroupResult}
-use Rattle.asm_update.specs.declared.errors.ResultError.{ResultError}
-use Rattle.asm_update.specs.declared.errors.ResultError.TheVariants as result_error
+use Rattle.asm_update.specs.declared.error.ResultError.{ResultError}
+use Rattle.asm_update.specs.declared.error.ResultError.TheVariants as result_error
 use Rattle.asm_update.specs.State.{State, write}
 use Rattle.asm_update.proofs.plain_state.PlainState.change.Goals as goal
 
@@ -29,6 +29,10 @@ left_cause : {o p : GroupResult} (v : Value) (r : Result (Unit {0}) ResultError)
 left_cause v (Ok _) is h = tt
 left_cause v (Err (result_error.Cause cause)) is h = is ∙ h
 left_cause v (Err result_error.Memory) is h = tt
+
+-- the value that the tree of a state has at a location is the state's
+held_there : (t : BTreeMap Place Value) (m : State) (l : Place) (v : Value) → map.from_entries {R = location_cmp} t.entries ≡ m → Some v ≡ get_by (location_cmp l) t → map.get m l ≡ Some v
+held_there t m l v is there = ap (λ (m : State). map.get m l) (sym is) ∙ get-from_tree location_cmp_total t.entries l ∙ sym there
 
 pub change_undef-requires : goal.change_undef-requires
 change_undef-requires g c =
@@ -52,9 +56,7 @@ invariant_of-self g c =
 pub returns-in-Some-clause-ok : goal.returns-in-Some-clause-ok
 returns-in-Some-clause-ok g c =
     let v = c.change_value.new.value in
-    let old : map.get c.args.self.now c.args.at.now ≡ Some c.in-Some.value.now =
-    ap (λ (m : State). map.get m c.args.at.now) (sym c.self.view_is)
-    ∙ get-from_tree location_cmp_total c.self.inside.values.entries c.args.at.now ∙ sym c.in-Some.ensures.value in
+    let old = held_there c.self.inside.values c.args.self.now c.args.at.now c.in-Some.value.now c.self.view_is c.in-Some.ensures.value in
     let there : IsSome (get_by (location_cmp c.args.at.now) c.self.inside.values) = subst IsSome c.in-Some.ensures.value refl in
     let is =
     insert-from_tree location_cmp_total location_cmp-IsAntisymmetric c.self.inside.values (c.get_mut.follows.lender v) c.args.at.now v ((c.get_mut.follows.holds v).3 there).0
@@ -65,9 +67,7 @@ returns-in-Some-clause-ok g c =
 
 pub returns-in-Some-clause-cause : goal.returns-in-Some-clause-cause
 returns-in-Some-clause-cause g c =
-    let old : map.get c.args.self.now c.args.at.now ≡ Some c.in-Some.value.now =
-    ap (λ (m : State). map.get m c.args.at.now) (sym c.self.view_is)
-    ∙ get-from_tree location_cmp_total c.self.inside.values.entries c.args.at.now ∙ sym c.in-Some.ensures.value in
+    let old = held_there c.self.inside.values c.args.self.now c.args.at.now c.in-Some.value.now c.self.view_is c.in-Some.ensures.value in
     left_cause c.change_value.new.value c.change_value.result
     (ap (λ (o : Option Value). (g.A.Aggregator.meaning c.args.aggregator.now).part (unwrap_or o held.undef) c.args.group.now.regular c.args.group.now.partials) old)
     c.change_value.ensures.left
@@ -75,9 +75,7 @@ returns-in-Some-clause-cause g c =
 pub returns-in-Some-clause-err : goal.returns-in-Some-clause-err
 returns-in-Some-clause-err g c =
     let v = c.change_value.new.value in
-    let old : map.get c.args.self.now c.args.at.now ≡ Some c.in-Some.value.now =
-    ap (λ (m : State). map.get m c.args.at.now) (sym c.self.view_is)
-    ∙ get-from_tree location_cmp_total c.self.inside.values.entries c.args.at.now ∙ sym c.in-Some.ensures.value in
+    let old = held_there c.self.inside.values c.args.self.now c.args.at.now c.in-Some.value.now c.self.view_is c.in-Some.ensures.value in
     let there : IsSome (get_by (location_cmp c.args.at.now) c.self.inside.values) = subst IsSome c.in-Some.ensures.value refl in
     let is =
     insert-from_tree location_cmp_total location_cmp-IsAntisymmetric c.self.inside.values (c.get_mut.follows.lender v) c.args.at.now v ((c.get_mut.follows.holds v).3 there).0

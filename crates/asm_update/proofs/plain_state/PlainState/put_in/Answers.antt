@@ -1,9 +1,8 @@
-use Rattle.std.proofs.Common.{ap, sym, ◌∙◌}
+use Rattle.std.proofs.Common.{◌≡◌, false, ap, sym, ◌∙◌}
 use Rattle.std.specs.FinMap as map
 use Rattle.asm_element.specs.Place.{location_cmp, location_cmp_total, location_cmp-IsAntisymmetric}
 use Rattle.asm_element.specs.Place as place
 use Rattle.asm_element.specs.Value as held
-use Rattle.std.proofs.Common.{◌≡◌, false}
 use Rattle.std.proofs.lemmas.Map.Views.{All-keys-insert_entry, All-values-insert_entry}
 use Rattle.asm_element.specs.Tests.{on_err}
 use Rattle.asm_element.proofs.Ordered.{insert-from_tree, get-from_tree}

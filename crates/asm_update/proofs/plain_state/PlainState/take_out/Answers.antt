@@ -1,9 +1,8 @@
-use Rattle.std.proofs.Common.{ap, ◌∙◌}
+use Rattle.std.proofs.Common.{◌≡◌, false, ap, ◌∙◌}
 use Rattle.std.specs.FinMap as map
 use Rattle.asm_element.specs.Place.{location_cmp_total, location_cmp-IsAntisymmetric}
 use Rattle.asm_element.specs.Place as place
 use Rattle.asm_element.specs.Value as held
-use Rattle.std.proofs.Common.{◌≡◌, false}
 use Rattle.std.proofs.lemmas.Map.Views.{All-map-remove_entry}
 use Rattle.asm_element.proofs.Ordered.{remove-from_tree}
 use Rattle.asm_update.proofs.plain_state.PlainState.take_out.Goals as goal

@@ -1,6 +1,6 @@
 ghost use Rattle.std.specs.Prelude.{◌≡◌};
-ghost use Rattle.asm_update.specs.declared.errors.ResultError.TheVariants as result_error;
-ghost use Rattle.asm_update.specs.declared.errors.JoinError.TheVariants as join_error;
+ghost use Rattle.asm_update.specs.declared.error.ResultError.TheVariants as result_error;
+ghost use Rattle.asm_update.specs.declared.error.JoinError.TheVariants as join_error;
 
 use crate::clash::Cause;
 use std::alloc::{AllocError, AllocFailed};
