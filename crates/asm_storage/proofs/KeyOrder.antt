@@ -1,10 +1,11 @@
 -- A list in the order of its keys, key by key.
-use Rattle.std.proofs.Common.{◌≡◌, ℕ, zero, suc, ◌+◌, ◌<◌, ◌≤◌, Bool, true, false, cond, nat_eq, List, [], ◌∷◌, ◌++◌, arith, refl, ap, sym, ◌∙◌, subst}
+use Rattle.std.proofs.Common.{◌≡◌, ℕ, zero, suc, ◌+◌, ◌<◌, ◌≤◌, Bool, true, false, nat_eq, List, [], ◌∷◌, ◌++◌, map, arith, refl, ap, sym, ◌∙◌, subst}
 use Rattle.std.specs.List.{filter, AllByRecursion, All}
 use Rattle.std.specs.List.Sorted.{IsNonDecreasingBy}
 use Rattle.std.proofs.lemmas.List.Elements.{filter-append}
+use Rattle.std.proofs.lemmas.List.{map-append}
 use Rattle.std.proofs.lemmas.Bool.{eqb-true, eqb-false}
-use Rattle.asm_storage.proofs.Lists.{Each-weaker, Each-rest, filter-none}
+use Rattle.asm_storage.proofs.Lists.{Each-weaker, Each-rest, filter-map, filter-none}
 
 module _ {X : Type 0} (key : X → ℕ) where
   -- no key is below the one before it
@@ -21,12 +22,9 @@ module _ {X : Type 0} (key : X → ℕ) where
   rises_from low [] above sorted = tt
   rises_from low (x ∷ xs) above sorted = (above 0 x (omega arith), rises_from (key x) xs (λ j d lt. sorted 0 (suc j) d (omega arith) (omega arith)) (λ i j d le lt. sorted (suc i) (suc j) d (omega arith) (omega arith)))
 
-  none_key : (n from : ℕ) (xs : List X) → Rises from xs → n < from → filter (λ x. nat_eq (key x) n) xs ≡ []
-  none_key n from [] rises lt = refl
-  none_key n from (x ∷ xs) rises lt = here (nat_eq (key x) n) refl (none_key n (key x) xs rises.1 (omega (arith, rises.0))) where
-    here : (b : Bool) → nat_eq (key x) n ≡ b → filter (λ y. nat_eq (key y) n) xs ≡ [] → cond b (x ∷ filter (λ y. nat_eq (key y) n) xs) (filter (λ y. nat_eq (key y) n) xs) ≡ []
-    here true e rest = absurd (omega (arith, eqb-true (key x) n e, rises.0))
-    here false e rest = rest
+  all_above : (n from : ℕ) (xs : List X) → Rises from xs → n < from → AllByRecursion (λ x. n < key x) xs
+  all_above n from [] rises lt = tt
+  all_above n from (x ∷ xs) rises lt = (omega (arith, rises.0, lt), all_above n (key x) xs rises.1 (omega (arith, rises.0, lt)))
 
   record IsSplit (n : ℕ) (xs : List X) : Type 0 where
     front : List X
@@ -47,7 +45,9 @@ module _ {X : Type 0} (key : X → ℕ) where
     first false e more =
         let above : n < key x = omega (arith, rises.0, eqb-false (key x) n e) in
         let from : Rises (n + 1) (x ∷ xs) = (omega arith, rises.1) in
-        record { front = []; rest = x ∷ xs; is = refl; at_n = none_key n (n + 1) (x ∷ xs) from (omega arith); here = tt; rises = from }
+        let none = filter-none (λ y. n < key y) (λ y. nat_eq (key y) n) (λ y lt is. omega (arith, eqb-true (key y) n is, lt)) (x ∷ xs)
+        (all_above n (n + 1) (x ∷ xs) from (omega arith)) in
+        record { front = []; rest = x ∷ xs; is = refl; at_n = none; here = tt; rises = from }
 
   skip : (n : ℕ) (front rest : List X) → AllByRecursion (λ x. key x ≡ n) front → (count k : ℕ) → n < k → by_key k count (front ++ rest) ≡ by_key k count rest
   skip n front rest here zero k lt = refl
@@ -66,3 +66,13 @@ module _ {X : Type 0} (key : X → ℕ) where
       ∙ ap (λ ys. s.front ++ by_key (n + 1) count ys) (sym s.is)
       ∙ ap (λ ys. s.front ++ ys) (skip n s.front s.rest s.here count (n + 1) (omega arith) ∙ by_key_all count (n + 1) s.rest s.rises tail)
       ∙ s.is
+
+-- what a change of each element keeps of the keys, it keeps of the order
+pub by_key-map : {X Y : Type 0} (key : Y → ℕ) (f : X → Y) (count n : ℕ) (xs : List X) →
+    by_key key n count (map f xs) ≡ map f (by_key (λ x. key (f x)) n count xs)
+by_key-map key f zero n xs = refl
+by_key-map key f (suc count) n xs =
+    let first = filter (λ x. nat_eq (key (f x)) n) xs in
+    ap (λ ys. ys ++ by_key key (n + 1) count (map f xs)) (filter-map (λ y. nat_eq (key y) n) f xs)
+    ∙ ap (λ ys. map f first ++ ys) (by_key-map key f count (n + 1) xs)
+    ∙ sym (map-append f first (by_key (λ x. key (f x)) (n + 1) count xs))

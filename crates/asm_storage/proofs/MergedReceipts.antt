@@ -6,6 +6,7 @@ use Rattle.std.specs.Ordering.{nat_cmp, is_lt}
 use Rattle.std.proofs.lemmas.List.Elements.{filter-append, filter_agree, All-from_recursion, recursion_from_All}
 use Rattle.std.proofs.lemmas.List.Sorted.{All-permutation}
 use Rattle.std.proofs.lemmas.List.{map-append, take_more}
+use Rattle.std.proofs.lemmas.Simd.{map-map}
 use Rattle.std.proofs.lemmas.List.Concat.{flat_map-append}
 use Rattle.std.proofs.lemmas.Bool.{eqb-true, eqb-false}
 use Rattle.std.proofs.lemmas.Bool.Decides.{nat_tests}
@@ -18,15 +19,18 @@ use Rattle.asm_storage.specs.declared.close.merging.AgentReceipt.{AgentReceipt}
 use Rattle.asm_storage.specs.Agents.{AgentView, is_fired, event_of, is_quiet_at, is_move_at, fired_at, rounds, most, last_stood, merged}
 use Rattle.asm_storage.specs.Storage.{AgentAt, accounts}
 use Rattle.asm_storage.specs.ReceiptOrder.{with_id, key, key_of, receipts_with_ids, id_and_receipt}
-use Rattle.asm_storage.proofs.Lists.{Each-weaker, Each-flat_map}
-use Rattle.asm_storage.proofs.OwnReceipts.{most_bounds}
-use Rattle.asm_storage.proofs.KeyOrder.{Rises, by_key, rises_from, by_key_all}
+use Rattle.asm_storage.proofs.Lists.{Each-weaker, Each-flat_map, Each-map, Each-from_map, filter-map}
+use Rattle.asm_storage.proofs.KeyOrder.{Rises, by_key, by_key-map, rises_from, by_key_all}
 
 abbrev pub merged_event : AgentReceipt → Event
 merged_event s = event_of s.agent s.receipt.now
 
-abbrev event_with_id : ℕ × Receipt → Event
+abbrev pub event_with_id : ℕ × Receipt → Event
 event_with_id p = event_of p.0 p.1
+
+-- where it merges
+abbrev pub key_with_id : ℕ × Receipt → ℕ
+key_with_id p = key p.1
 
 -- one agent more
 pub one_agent_more : {A : Type 0} (agents : List (AgentAt A)) (i : ℕ) (a : AgentAt A) → i < length agents → a ≡ get_or agents i a → receipts_with_ids (accounts (take (i + 1) agents)) ≡ receipts_with_ids (accounts (take i agents)) ++ map (with_id a.account.id) a.account.receipts
@@ -58,52 +62,43 @@ move_key n r = here (is_fired r) where
   here true = grind (arith, nat_tests)
   here false = grind (arith, nat_tests)
 
-filter-map : {X Y : Type 0} (test : Y → Bool) (f : X → Y) (xs : List X) → filter test (map f xs) ≡ map f (filter (λ x. test (f x)) xs)
-filter-map test f [] = refl
-filter-map test f (x ∷ xs) = here (test (f x)) (filter-map test f xs) where
-  here : (b : Bool) → filter test (map f xs) ≡ map f (filter (λ x. test (f x)) xs) → cond b (f x ∷ filter test (map f xs)) (filter test (map f xs)) ≡ map f (cond b (x ∷ filter (λ x. test (f x)) xs) (filter (λ x. test (f x)) xs))
-  here true e = ap (λ ys. f x ∷ ys) e
-  here false e = e
-
-map_map : {X Y Z : Type 0} (g : Y → Z) (f : X → Y) (xs : List X) → map g (map f xs) ≡ map (λ x. g (f x)) xs
-map_map g f [] = refl
-map_map g f (x ∷ xs) = ap (λ ys. g (f x) ∷ ys) (map_map g f xs)
-
 -- the agents' receipts that pass a test, among all
 picked : (test : Receipt → Bool) (agents : List AgentView) → flat_map (λ a. map (event_of a.id) (filter test a.receipts)) agents ≡ map event_with_id (filter (λ p. test p.1) (receipts_with_ids agents))
 picked test [] = refl
 picked test (a ∷ agents) =
     let e : map event_with_id (filter (λ p. test p.1) (map (with_id a.id) a.receipts)) ≡ map (event_of a.id) (filter test a.receipts) =
-    ap (map event_with_id) (filter-map (λ p. test p.1) (with_id a.id) a.receipts) ∙ map_map event_with_id (with_id a.id) (filter test a.receipts) in
+    ap (map event_with_id) (filter-map (λ p. test p.1) (with_id a.id) a.receipts) ∙ map-map event_with_id (with_id a.id) (filter test a.receipts) in
     ap (λ h. h ++ flat_map (λ a. map (event_of a.id) (filter test a.receipts)) agents) (sym e)
     ∙ ap (λ h. map event_with_id (filter (λ p. test p.1) (map (with_id a.id) a.receipts)) ++ h) (picked test agents)
     ∙ sym (map-append event_with_id (filter (λ p. test p.1) (map (with_id a.id) a.receipts)) (filter (λ p. test p.1) (receipts_with_ids agents)))
     ∙ ap (map event_with_id) (sym (filter-append (λ p. test p.1) (map (with_id a.id) a.receipts) (receipts_with_ids agents)))
 
-at_key : (test : Receipt → Bool) (n : ℕ) → ((r : Receipt) → test r ≡ nat_eq (key r) n) → (agents : List AgentView) (xs : List AgentReceipt) → map id_and_receipt xs ≡ receipts_with_ids agents → flat_map (λ a. map (event_of a.id) (filter test a.receipts)) agents ≡ map merged_event (filter (λ s. nat_eq (key_of s) n) xs)
-at_key test n says agents xs told =
+at_key : (test : Receipt → Bool) (n : ℕ) → ((r : Receipt) → test r ≡ nat_eq (key r) n) → (agents : List AgentView) →
+    flat_map (λ a. map (event_of a.id) (filter test a.receipts)) agents ≡
+    map event_with_id (filter (λ p. nat_eq (key_with_id p) n) (receipts_with_ids agents))
+at_key test n says agents =
     picked test agents
-    ∙ ap (λ ps. map event_with_id (filter (λ p. test p.1) ps)) (sym told)
-    ∙ ap (map event_with_id) (filter-map (λ p. test p.1) id_and_receipt xs)
-    ∙ map_map event_with_id id_and_receipt (filter (λ s. test s.receipt.now) xs)
-    ∙ ap (map merged_event) (filter_agree (λ s. test s.receipt.now) (λ s. nat_eq (key_of s) n) (λ s. says s.receipt.now) xs)
+    ∙ ap (map event_with_id) (filter_agree (λ p. test p.1) (λ p. nat_eq (key_with_id p) n) (λ p. says p.1) (receipts_with_ids agents))
 
 -- rounds are places, two by two
-rounds_by_key : (agents : List AgentView) (xs : List AgentReceipt) → map id_and_receipt xs ≡ receipts_with_ids agents → (count n : ℕ) → rounds agents n count ≡ map merged_event (by_key key_of (2 * n) (2 * count) xs)
-rounds_by_key agents xs told zero n = refl
-rounds_by_key agents xs told (suc count) n =
+pub rounds_by_key : (agents : List AgentView) (count n : ℕ) →
+    rounds agents n count ≡ map event_with_id (by_key key_with_id (2 * n) (2 * count) (receipts_with_ids agents))
+rounds_by_key agents zero n = refl
+rounds_by_key agents (suc count) n =
     let two : 2 * suc count ≡ suc (suc (2 * count)) = omega arith in
     let next : 2 * (n + 1) ≡ 2 * n + 1 + 1 = omega arith in
-    let q = filter (λ s. nat_eq (key_of s) (2 * n)) xs in
-    let f = filter (λ s. nat_eq (key_of s) (2 * n + 1)) xs in
-    let rest = by_key key_of (2 * n + 1 + 1) (2 * count) xs in
-    ap (λ h. (h ++ flat_map (fired_at n) agents) ++ rounds agents (n + 1) count) (at_key (is_quiet_at n) (2 * n) (quiet_key n) agents xs told)
-    ∙ ap (λ h. (map merged_event (filter (λ s. nat_eq (key_of s) (2 * n)) xs) ++ h) ++ rounds agents (n + 1) count) (at_key (is_move_at n) (2 * n + 1) (move_key n) agents xs told)
-    ∙ ap (λ h. (map merged_event (filter (λ s. nat_eq (key_of s) (2 * n)) xs) ++ map merged_event (filter (λ s. nat_eq (key_of s) (2 * n + 1)) xs)) ++ h) (rounds_by_key agents xs told count (n + 1) ∙ ap (λ k. map merged_event (by_key key_of k (2 * count) xs)) next)
-    ∙ append_assoc (map merged_event (filter (λ s. nat_eq (key_of s) (2 * n)) xs)) (map merged_event (filter (λ s. nat_eq (key_of s) (2 * n + 1)) xs)) (map merged_event (by_key key_of (2 * n + 1 + 1) (2 * count) xs))
-    ∙ ap (λ h. map merged_event (filter (λ s. nat_eq (key_of s) (2 * n)) xs) ++ h) (sym (map-append merged_event (filter (λ s. nat_eq (key_of s) (2 * n + 1)) xs) (by_key key_of (2 * n + 1 + 1) (2 * count) xs)))
-    ∙ sym (map-append merged_event (filter (λ s. nat_eq (key_of s) (2 * n)) xs) (filter (λ s. nat_eq (key_of s) (2 * n + 1)) xs ++ by_key key_of (2 * n + 1 + 1) (2 * count) xs))
-    ∙ ap (λ k. map merged_event (by_key key_of (2 * n) k xs)) (sym two)
+    let ps = receipts_with_ids agents in
+    let q = filter (λ p. nat_eq (key_with_id p) (2 * n)) ps in
+    let f = filter (λ p. nat_eq (key_with_id p) (2 * n + 1)) ps in
+    let rest = by_key key_with_id (2 * n + 1 + 1) (2 * count) ps in
+    let ev = map event_with_id in
+    ap (λ h. (h ++ flat_map (fired_at n) agents) ++ rounds agents (n + 1) count) (at_key (is_quiet_at n) (2 * n) (quiet_key n) agents)
+    ∙ ap (λ h. (ev q ++ h) ++ rounds agents (n + 1) count) (at_key (is_move_at n) (2 * n + 1) (move_key n) agents)
+    ∙ ap (λ h. (ev q ++ ev f) ++ h) (rounds_by_key agents count (n + 1) ∙ ap (λ k. ev (by_key key_with_id k (2 * count) ps)) next)
+    ∙ append_assoc (ev q) (ev f) (ev rest)
+    ∙ ap (λ h. ev q ++ h) (sym (map-append event_with_id f rest))
+    ∙ sym (map-append event_with_id q (f ++ rest))
+    ∙ ap (λ k. ev (by_key key_with_id (2 * n) k ps)) (sym two)
 
 -- some receipt has each key
 some_receipt : (n : ℕ) → (s : AgentReceipt) × (key_of s ≡ n)
@@ -124,35 +119,44 @@ same_keys xs ys stable (suc count) n =
     ap (λ zs. zs ++ by_key key_of (n + 1) count ys) (sym (agree ys) ∙ stable x.0 ∙ agree xs)
     ∙ ap (λ zs. filter (λ s. nat_eq (key_of s) n) xs ++ zs) (same_keys xs ys stable count (n + 1))
 
-key_below : (top : ℕ) (r : Receipt) → r.stood ≤ top → key r < 0 + 2 * (top + 1)
+pub key_below : (top : ℕ) (r : Receipt) → r.stood ≤ top → key r < 0 + 2 * (top + 1)
 key_below top r le = here (is_fired r) where
   here : (b : Bool) → 2 * r.stood + cond b 1 0 < 0 + 2 * (top + 1)
   here true = omega arith
   here false = omega arith
 
-Each-from_map : {X Y : Type 0} (P : Y → Type 0) (f : X → Y) (xs : List X) → AllByRecursion P (map f xs) → AllByRecursion (λ x. P (f x)) xs
-Each-from_map P f [] each = tt
-Each-from_map P f (x ∷ xs) each = (each.0, Each-from_map P f xs each.1)
+-- a bound on each element by the greatest
+pub most_bounds : {X : Type 0} (f : X → ℕ) (xs : List X) (top : ℕ) → most f xs ≤ top → AllByRecursion (λ x. f x ≤ top) xs
+most_bounds f [] top le = tt
+most_bounds f (x ∷ xs) top le = (omega arith, most_bounds f xs top (omega arith))
 
-Each-map : {X Y : Type 0} (P : Y → Type 0) (f : X → Y) (xs : List X) → AllByRecursion (λ x. P (f x)) xs → AllByRecursion P (map f xs)
-Each-map P f [] each = tt
-Each-map P f (x ∷ xs) each = (each.0, Each-map P f xs each.1)
+-- the keys of one agent's receipts
+pub own_below : (top : ℕ) (a : AgentView) → most (λ r. r.stood) a.receipts ≤ top →
+    AllByRecursion (λ r. key r < 0 + 2 * (top + 1)) a.receipts
+own_below top a le =
+    Each-weaker (λ r. r.stood ≤ top) (λ r. key r < 0 + 2 * (top + 1)) (key_below top) a.receipts
+    (most_bounds (λ r. r.stood) a.receipts top le)
 
-keys_below : (agents : List AgentView) (xs : List AgentReceipt) → map id_and_receipt xs ≡ receipts_with_ids agents → AllByRecursion (λ s. key_of s < 0 + 2 * (last_stood agents + 1)) xs
-keys_below agents xs told =
+keys_below : (agents : List AgentView) →
+    AllByRecursion (λ p. key_with_id p < 0 + 2 * (last_stood agents + 1)) (receipts_with_ids agents)
+keys_below agents =
     let top = last_stood agents in
-    let each = Each-flat_map (λ (p : ℕ × Receipt). p.1.stood ≤ last_stood agents) (λ (a : AgentView). map (with_id a.id) a.receipts) agents
-    (Each-weaker (λ (a : AgentView). most (λ (r : Receipt). r.stood) a.receipts ≤ last_stood agents) (λ a. AllByRecursion (λ (p : ℕ × Receipt). p.1.stood ≤ last_stood agents) (map (with_id a.id) a.receipts))
-    (λ a le. Each-map (λ (p : ℕ × Receipt). p.1.stood ≤ last_stood agents) (with_id a.id) a.receipts (most_bounds (λ (r : Receipt). r.stood) a.receipts (last_stood agents) le)) agents
-    (most_bounds (λ (a : AgentView). most (λ (r : Receipt). r.stood) a.receipts) agents (last_stood agents) (omega arith))) in
-    Each-weaker (λ (s : AgentReceipt). s.receipt.now.stood ≤ last_stood agents) (λ s. key_of s < 0 + 2 * (last_stood agents + 1)) (λ s le. key_below (last_stood agents) s.receipt.now le) xs
-    (Each-from_map (λ (p : ℕ × Receipt). p.1.stood ≤ last_stood agents) id_and_receipt xs (subst (AllByRecursion (λ (p : ℕ × Receipt). p.1.stood ≤ last_stood agents)) (sym told) each))
+    let low : ℕ × Receipt → Type 0 = λ p. key_with_id p < 0 + 2 * (top + 1) in
+    Each-flat_map low (λ (a : AgentView). map (with_id a.id) a.receipts) agents
+    (Each-weaker (λ (a : AgentView). most (λ r. r.stood) a.receipts ≤ top) (λ a. AllByRecursion low (map (with_id a.id) a.receipts))
+    (λ a le. Each-map low (with_id a.id) a.receipts (own_below top a le)) agents
+    (most_bounds (λ (a : AgentView). most (λ r. r.stood) a.receipts) agents top (omega arith)))
 
 -- a stable sort of the agents' receipts by key is the merged history
 pub merged_from_sort : (agents : List AgentView) (xs ys : List AgentReceipt) → map id_and_receipt xs ≡ receipts_with_ids agents → IsPermutation xs ys → IsNonDecreasingBy key_of ys → IsStableByKey key_of nat_cmp xs ys → map merged_event ys ≡ merged agents
 merged_from_sort agents xs ys told permutation sorted stable =
     let count = last_stood agents + 1 in
-    let below = recursion_from_All (λ s. key_of s < 0 + 2 * (last_stood agents + 1)) ys (All-permutation (λ s. key_of s < 0 + 2 * (last_stood agents + 1)) xs ys permutation (All-from_recursion (λ s. key_of s < 0 + 2 * (last_stood agents + 1)) xs (keys_below agents xs told))) in
+    let low : ℕ × Receipt → Type 0 = λ p. key_with_id p < 0 + 2 * count in
+    let mine : AgentReceipt → Type 0 = λ s. key_of s < 0 + 2 * count in
+    let each = Each-from_map low id_and_receipt xs (subst (AllByRecursion low) (sym told) (keys_below agents)) in
+    let below = recursion_from_All mine ys (All-permutation mine xs ys permutation (All-from_recursion mine xs each)) in
     let rises : Rises key_of 0 ys = rises_from key_of 0 ys (λ j d lt. omega arith) sorted in
-    ap (map merged_event) (sym (by_key_all key_of (2 * (last_stood agents + 1)) 0 ys rises below) ∙ same_keys xs ys stable (2 * (last_stood agents + 1)) 0)
-    ∙ sym (rounds_by_key agents xs told (last_stood agents + 1) 0)
+    ap (map merged_event) (sym (by_key_all key_of (2 * count) 0 ys rises below) ∙ same_keys xs ys stable (2 * count) 0)
+    ∙ sym (map-map event_with_id id_and_receipt (by_key key_of 0 (2 * count) xs))
+    ∙ ap (map event_with_id) (sym (by_key-map key_with_id id_and_receipt (2 * count) 0 xs) ∙ ap (by_key key_with_id 0 (2 * count)) told)
+    ∙ sym (rounds_by_key agents count 0)

@@ -1,18 +1,20 @@
 -- Each agent's events in the merged history are its receipts, in order.
-use Rattle.std.proofs.Common.{◌≡◌, ℕ, zero, suc, ◌+◌, ◌<◌, ◌≤◌, Bool, true, false, cond, nat_eq, eq-eqb, List, [], ◌∷◌, ◌++◌, map, append-nil, arith, refl, ap, sym, ◌∙◌, subst}
+use Rattle.std.proofs.Common.{◌≡◌, ℕ, zero, suc, ◌+◌, ◌*◌, ◌<◌, ◌≤◌, Bool, true, false, cond, nat_eq, eq-eqb, List, [], ◌∷◌, ◌++◌, map, append-nil, arith, refl, ap, ◌∙◌}
 use Rattle.std.specs.List.{filter, flat_map, AllByRecursion, All}
 use Rattle.std.specs.List.Sorted.{IsStrictlyIncreasing}
 use Rattle.std.proofs.lemmas.List.Elements.{recursion_from_All, All-from_recursion, filter-append}
-use Rattle.std.proofs.lemmas.List.{map-append}
-use Rattle.std.proofs.lemmas.Bool.{eqb-true, eqb-false}
+use Rattle.std.proofs.lemmas.Simd.{map-map}
+use Rattle.std.proofs.lemmas.Bool.{eqb-true}
 use Rattle.asm_storage.specs.declared.receipt.Receipt.{Receipt}
 use Rattle.asm_storage.specs.declared.history.Event.{Event}
 use Rattle.asm_storage.specs.Machine.{Machine}
 use Rattle.asm_storage.specs.History.{events_of}
 use Rattle.asm_storage.specs.Agents.{AgentView, is_fired, next_after, StandInOrder, IsAgent, event_of, is_quiet_at, is_move_at, quiet_at, fired_at, round, rounds, most, last_stood, merged}
-use Rattle.asm_storage.proofs.Lists.{Each-weaker, Each-rest, filter-none}
-use Rattle.asm_storage.proofs.AgentKept.{next_fired}
-use Rattle.asm_storage.proofs.Rounds.{quiet_stands, move_stands, none_at, rises_tail, rises_above}
+use Rattle.asm_storage.specs.ReceiptOrder.{key, with_id}
+use Rattle.asm_storage.proofs.Lists.{Each-from_map, filter-none}
+use Rattle.asm_storage.proofs.KeyOrder.{Rises, by_key, by_key-map, by_key_all}
+use Rattle.asm_storage.proofs.MergedReceipts.{event_with_id, key_with_id, most_bounds, own_below, rounds_by_key}
+use Rattle.asm_storage.proofs.Rounds.{rises_tail, rises_above}
 
 -- the agent with that id, if there is one
 abbrev pub those : ℕ → List AgentView → List AgentView
@@ -47,93 +49,36 @@ events_of-rounds i agents (suc count) n =
     ∙ ap (λ h. h ++ events_of (rounds agents (n + 1) count) i) (events_of-round i agents n)
     ∙ ap (λ h. round (those i agents) n ++ h) (events_of-rounds i agents count (n + 1))
 
--- one agent's receipts round by round
-abbrev in_rounds : ℕ → ℕ → List Receipt → List Receipt
-in_rounds n zero rs = []
-in_rounds n (suc count) rs = (filter (is_quiet_at n) rs ++ filter (is_move_at n) rs) ++ in_rounds (n + 1) count rs
+key_bounds : (r : Receipt) → (2 * r.stood ≤ key r) × (key r ≤ 2 * next_after r)
+key_bounds r = here (is_fired r) where
+  here : (b : Bool) → (2 * r.stood ≤ 2 * r.stood + cond b 1 0) × (2 * r.stood + cond b 1 0 ≤ 2 * cond b (r.stood + 1) r.stood)
+  here true = (omega arith, omega arith)
+  here false = (omega arith, omega arith)
 
--- the receipts that stand at n come first
-record IsSplit (n : ℕ) (rs : List Receipt) : Type 0 where
-  front : List Receipt
-  rest : List Receipt
-  is : front ++ rest ≡ rs
-  at_n : filter (is_quiet_at n) rs ++ filter (is_move_at n) rs ≡ front
-  here : AllByRecursion (λ r. r.stood ≡ n) front
-  order : StandInOrder (n + 1) rest
+-- receipts that stand in order stand in the order of their keys
+rises_by_key : (n low : ℕ) (rs : List Receipt) → low ≤ 2 * n → StandInOrder n rs → Rises key low rs
+rises_by_key n low [] le order = tt
+rises_by_key n low (r ∷ rs) le order =
+    (omega (arith, le, order.0, (key_bounds r).0), rises_by_key (next_after r) (key r) rs (key_bounds r).1 order.1)
 
-split : (n : ℕ) (rs : List Receipt) → StandInOrder n rs → IsSplit n rs
-split n [] order = record { front = []; rest = []; is = refl; at_n = refl; here = tt; order = tt }
-split n (r ∷ rs) order = first (nat_eq r.stood n) refl (is_fired r) refl (split n rs) where
-  first : (b : Bool) → nat_eq r.stood n ≡ b → (f : Bool) → is_fired r ≡ f → (StandInOrder n rs → IsSplit n rs) → IsSplit n (r ∷ rs)
-  first true e true f more =
-      let above : n < next_after r = omega (arith, eqb-true r.stood n e, next_fired r f) in
-      let q : filter (is_quiet_at n) rs ≡ [] = none_at (is_quiet_at n) n (quiet_stands n) (next_after r) rs order.1 above in
-      let m : filter (is_move_at n) rs ≡ [] = none_at (is_move_at n) n (move_stands n) (next_after r) rs order.1 above in
-      let next : next_after r ≡ n + 1 = omega (arith, eqb-true r.stood n e, next_fired r f) in
-      record { front = r ∷ []; rest = rs; is = refl; at_n = rw (e, f, q, m) refl; here = (eqb-true r.stood n e, tt); order = subst (λ k. StandInOrder k rs) next order.1 }
-  first true e false f more =
-      let next : next_after r ≡ n = rw f (eqb-true r.stood n e) in
-      let s = more (subst (λ k. StandInOrder k rs) next order.1) in
-      record { front = r ∷ s.front; rest = s.rest; is = ap (λ xs. r ∷ xs) s.is; at_n = rw (e, f) (ap (λ xs. r ∷ xs) s.at_n); here = (eqb-true r.stood n e, s.here); order = s.order }
-  first false e f is_f more =
-      let above : n < r.stood = omega (arith, order.0, eqb-false r.stood n e) in
-      let from : StandInOrder (n + 1) (r ∷ rs) = (omega arith, order.1) in
-      record {
-        front = [];
-        rest = r ∷ rs;
-        is = refl;
-        at_n = ap (λ xs. xs ++ filter (is_move_at n) (r ∷ rs)) (none_at (is_quiet_at n) n (quiet_stands n) (n + 1) (r ∷ rs) from (omega arith)) ∙ none_at (is_move_at n) n (move_stands n) (n + 1) (r ∷ rs) from (omega arith);
-        here = tt;
-        order = from;
-      }
-
-skip : (n : ℕ) (front rest : List Receipt) → AllByRecursion (λ r. r.stood ≡ n) front → (count k : ℕ) → n < k → in_rounds k count (front ++ rest) ≡ in_rounds k count rest
-skip n front rest here zero k lt = refl
-skip n front rest here (suc count) k lt =
-    let q : filter (is_quiet_at k) (front ++ rest) ≡ filter (is_quiet_at k) rest = filter-append (is_quiet_at k) front rest ∙ ap (λ xs. xs ++ filter (is_quiet_at k) rest) (filter-none (λ r. r.stood ≡ n) (is_quiet_at k) (λ r at is. omega (arith, quiet_stands k r is, at, lt)) front here) in
-    let m : filter (is_move_at k) (front ++ rest) ≡ filter (is_move_at k) rest = filter-append (is_move_at k) front rest ∙ ap (λ xs. xs ++ filter (is_move_at k) rest) (filter-none (λ r. r.stood ≡ n) (is_move_at k) (λ r at is. omega (arith, move_stands k r is, at, lt)) front here) in
-    rw (q, m, skip n front rest here count (k + 1) (omega arith)) refl
-
-in_rounds_all : (count n : ℕ) (rs : List Receipt) → StandInOrder n rs → AllByRecursion (λ r. r.stood < n + count) rs → in_rounds n count rs ≡ rs
-in_rounds_all zero n [] order below = refl
-in_rounds_all zero n (r ∷ rs) order below = absurd (omega (arith, order.0, below.0))
-in_rounds_all (suc count) n rs order below =
-    let s = split n rs order in
-    let tail : AllByRecursion (λ r. r.stood < n + 1 + count) s.rest = Each-weaker (λ r. r.stood < n + suc count) (λ r. r.stood < n + 1 + count) (λ r lt. omega (arith, lt)) s.rest (Each-rest (λ r. r.stood < n + suc count) s.front s.rest (subst (AllByRecursion (λ r. r.stood < n + suc count)) (sym s.is) below)) in
-    let more = in_rounds_all count (n + 1) s.rest s.order tail in
-    ap (λ xs. xs ++ in_rounds (n + 1) count rs) s.at_n
-    ∙ ap (λ xs. s.front ++ in_rounds (n + 1) count xs) (sym s.is)
-    ∙ ap (λ xs. s.front ++ xs) (skip n s.front s.rest s.here count (n + 1) (omega arith) ∙ more)
-    ∙ s.is
-
--- one agent's rounds are its receipts in rounds
-one_agent : (a : AgentView) (count n : ℕ) → rounds (a ∷ []) n count ≡ map (event_of a.id) (in_rounds n count a.receipts)
-one_agent a zero n = refl
-one_agent a (suc count) n =
-    let ev = event_of a.id in
-    let q = filter (is_quiet_at n) a.receipts in
-    let f = filter (is_move_at n) a.receipts in
-    ap (λ h. (h ++ (fired_at n a ++ [])) ++ rounds (a ∷ []) (n + 1) count) (append-nil (quiet_at n a))
-    ∙ ap (λ h. (quiet_at n a ++ h) ++ rounds (a ∷ []) (n + 1) count) (append-nil (fired_at n a))
-    ∙ ap (λ h. (quiet_at n a ++ fired_at n a) ++ h) (one_agent a count (n + 1))
-    ∙ ap (λ h. h ++ map (event_of a.id) (in_rounds (n + 1) count a.receipts)) (sym (map-append (event_of a.id) (filter (is_quiet_at n) a.receipts) (filter (is_move_at n) a.receipts)))
-    ∙ sym (map-append (event_of a.id) (filter (is_quiet_at n) a.receipts ++ filter (is_move_at n) a.receipts) (in_rounds (n + 1) count a.receipts))
+-- one agent's rounds are its receipts
+one_agent : (a : AgentView) (count : ℕ) → StandInOrder 0 a.receipts → AllByRecursion (λ r. key r < 0 + 2 * count) a.receipts →
+    rounds (a ∷ []) 0 count ≡ map (event_of a.id) a.receipts
+one_agent a count order below =
+    rounds_by_key (a ∷ []) count 0
+    ∙ ap (λ ps. map event_with_id (by_key key_with_id 0 (2 * count) ps)) (append-nil (map (with_id a.id) a.receipts))
+    ∙ ap (map event_with_id) (by_key-map key_with_id (with_id a.id) (2 * count) 0 a.receipts)
+    ∙ map-map event_with_id (with_id a.id) (by_key key 0 (2 * count) a.receipts)
+    ∙ ap (map (event_of a.id)) (by_key_all key (2 * count) 0 a.receipts (rises_by_key 0 0 a.receipts (omega arith) order) below)
 
 no_agents : (count n : ℕ) → rounds [] n count ≡ []
 no_agents zero n = refl
 no_agents (suc count) n = no_agents count (n + 1)
 
--- a bound on each element by the greatest
-pub most_bounds : {X : Type 0} (f : X → ℕ) (xs : List X) (top : ℕ) → most f xs ≤ top → AllByRecursion (λ x. f x ≤ top) xs
-most_bounds f [] top le = tt
-most_bounds f (x ∷ xs) top le = (omega arith, most_bounds f xs top (omega arith))
-
 none_those : (i : ℕ) (agents : List AgentView) → AllByRecursion (λ j. i < j) (map (λ a. a.id) agents) → those i agents ≡ []
-none_those i [] above = refl
-none_those i (a ∷ agents) above = here (nat_eq a.id i) refl (none_those i agents above.1) where
-  here : (b : Bool) → nat_eq a.id i ≡ b → those i agents ≡ [] → cond b (a ∷ those i agents) (those i agents) ≡ []
-  here true e rest = absurd (omega (arith, eqb-true a.id i e, above.0))
-  here false e rest = rest
+none_those i agents above =
+    filter-none (λ a. i < a.id) (λ a. nat_eq a.id i) (λ a lt is. omega (arith, eqb-true a.id i is, lt)) agents
+    (Each-from_map (λ j. i < j) (λ (a : AgentView). a.id) agents above)
 
 -- where ids rise, each agent is the only one with its id
 only : (agents : List AgentView) → IsStrictlyIncreasing (map (λ a. a.id) agents) → AllByRecursion (λ a. those a.id agents ≡ a ∷ []) agents
@@ -156,12 +101,10 @@ events_of-merged m agents each rises =
       go : (xs : List AgentView) → AllByRecursion (IsAgent m) xs → AllByRecursion (λ a. those a.id agents ≡ a ∷ []) xs → AllByRecursion (λ a. most (λ r. r.stood) a.receipts ≤ last_stood agents) xs → AllByRecursion (λ a. events_of (merged agents) a.id ≡ map (event_of a.id) a.receipts) xs
       go [] each alone low = tt
       go (a ∷ xs) each alone low =
-          let count = last_stood agents + 1 in
-          let below = Each-weaker (λ r. r.stood ≤ last_stood agents) (λ r. r.stood < 0 + (last_stood agents + 1)) (λ r le. omega (arith, le)) a.receipts (most_bounds (λ r. r.stood) a.receipts (last_stood agents) low.0) in (
-            events_of-rounds a.id agents (last_stood agents + 1) 0
-                ∙ ap (λ xs. rounds xs 0 (last_stood agents + 1)) alone.0
-                ∙ one_agent a (last_stood agents + 1) 0
-                ∙ ap (map (event_of a.id)) (in_rounds_all (last_stood agents + 1) 0 a.receipts each.0.in_order below),
+          let count = last_stood agents + 1 in (
+            events_of-rounds a.id agents count 0
+                ∙ ap (λ xs. rounds xs 0 count) alone.0
+                ∙ one_agent a count each.0.in_order (own_below (last_stood agents) a low.0),
             go xs each.1 alone.1 low.1,
           )
 

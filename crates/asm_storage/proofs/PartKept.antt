@@ -1,8 +1,9 @@
 -- What is true of an agent's part stays true when it sees more, and when its state follows one more move.
-use Rattle.std.proofs.Common.{◌≡◌, ℕ, ◌+◌, ◌-◌, ◌^◌, ◌≤◌, true, List, [], ◌∷◌, ◌++◌, length, take}
+use Rattle.std.proofs.Common.{◌≡◌, ℕ, ◌+◌, ◌-◌, ◌^◌, ◌≤◌, List, [], ◌∷◌, ◌++◌, length, take}
 use Rattle.std.proofs.Common.{Some, slice_get, add-one, arith, refl, ap, sym, ◌∙◌, subst}
+use Rattle.std.specs.Option.{option_map}
 use Rattle.std.proofs.lemmas.List.{take_all, length-map}
-use Rattle.std.proofs.lemmas.Option.{slice_get_within}
+use Rattle.std.proofs.lemmas.Option.{slice_get_within, slice_get-map}
 use Rattle.std.proofs.lemmas.List.Elements.{All-from_recursion}
 use mathlib.Core.List.{IsPrefix}
 use Rattle.asm_row.specs.Seat.{SeatView}
@@ -19,7 +20,7 @@ use Rattle.asm_storage.specs.Machine.{Machine}
 use Rattle.asm_storage.specs.Part.{account_of, IsFollowing, IsPartOf, LooksOn}
 use Rattle.asm_storage.specs.Storage.{StorageView, AgentAt, has_looked, machine_of}
 use Rattle.asm_storage.proofs.AgentKept.{take-moves_seen, seen_more}
-use Rattle.asm_storage.proofs.Lists.{slice_get-map, take-slice_get, length-prefix}
+use Rattle.asm_storage.proofs.Lists.{take-slice_get, length-prefix}
 
 pub following_more : (m : Machine) (seen more : List Entry) (s : StateView) →
     IsPrefix seen more → IsFollowing m seen s → IsFollowing m more s
@@ -34,7 +35,8 @@ pub following_next : (m : Machine) (seen : List Entry) (old new : StateView) (x 
     IsFollowing m seen new
 following_next m seen old new x f at number next =
     let lt = slice_get_within seen old.number x at in
-    let last = slice_get-map (λ (e : Entry). e.instrs) seen old.number x at in
+    let move = λ (e : Entry). e.instrs in
+    let last = slice_get-map move seen old.number ∙ ap (option_map move) at in
     let one_more : take (old.number + 1) (moves_seen seen) ≡ take old.number (moves_seen seen) ++ x.instrs ∷ [] =
     ap (λ n. take n (moves_seen seen)) (add-one old.number) ∙ take-slice_get (moves_seen seen) old.number x.instrs last in
     record {

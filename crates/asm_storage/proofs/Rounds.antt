@@ -2,9 +2,10 @@
 use Rattle.std.proofs.Common.{◌≡◌, ℕ, zero, suc, ◌+◌, ◌<◌, ◌≤◌, Bool, true, false, not, ◌||◌, cond, nat_eq, List, [], ◌∷◌, ◌++◌, length, take, map, Option, Some, None, slice_get, is_some, append_assoc, append-nil, length-append, add-one, arith, refl, ap, sym, ◌∙◌, subst, ◌⊎◌, inl, inr}
 use Rattle.std.specs.List.{filter, flat_map, list_any, AllByRecursion}
 use Rattle.std.specs.List.Sorted.{IsStrictlyIncreasing}
+use Rattle.std.specs.Option.{option_map}
 use Rattle.std.proofs.lemmas.List.Elements.{recursion_from_All}
 use Rattle.std.proofs.lemmas.List.{take_all, length-map}
-use Rattle.std.proofs.lemmas.Option.{slice_get_within}
+use Rattle.std.proofs.lemmas.Option.{slice_get_within, slice_get-map}
 use Rattle.std.proofs.lemmas.Bool.{eqb-true, and_parts, cases_lt}
 use mathlib.Core.List.{IsPrefix}
 use Rattle.asm_storage.specs.declared.receipt.Receipt.{Receipt}
@@ -14,7 +15,7 @@ use Rattle.asm_update.specs.Move.{Move}
 use Rattle.asm_storage.specs.Machine.{Machine, reply_to}
 use Rattle.asm_storage.specs.History.{fired_move, fired_moves, move_of}
 use Rattle.asm_storage.specs.Agents.{AgentView, ids, moves_seen, is_fired, next_after, StandInOrder, StandsInRow, IsAgent, event_of, is_quiet_at, is_move_at, quiet_at, fired_at, round, rounds, has_receipt, IsGathered}
-use Rattle.asm_storage.proofs.Lists.{Each-map_filter, Each-flat_map, Each-weaker, slice_get-prefix, slice_get-map, take-slice_get}
+use Rattle.asm_storage.proofs.Lists.{Each-map_filter, Each-flat_map, Each-weaker, filter-none, slice_get-prefix, take-slice_get}
 use Rattle.asm_storage.proofs.AgentKept.{stood_le, next_fired, stood_within, take-moves_seen}
 use Rattle.asm_storage.proofs.Legal.{IsLegalFrom, legal-append, legal_quiet, fired_moves-append}
 
@@ -51,7 +52,7 @@ at_from m all a n r p e = record {
   in_row = λ M is. subst (λ k. slice_get all k ≡ Some (record { agent = a.id; instrs = M })) e (p.in_row M is);
 }
 
-pub quiet_stands : (n : ℕ) (r : Receipt) → is_quiet_at n r ≡ true → r.stood ≡ n
+quiet_stands : (n : ℕ) (r : Receipt) → is_quiet_at n r ≡ true → r.stood ≡ n
 quiet_stands n r e = eqb-true r.stood n (and_parts (nat_eq r.stood n) (not (is_fired r)) e).0
 
 pub move_stands : (n : ℕ) (r : Receipt) → is_move_at n r ≡ true → r.stood ≡ n
@@ -74,13 +75,11 @@ fired_each m all n a agent prefix =
     Each-map_filter (λ e. IsAt m all n e × (is_some (move_of e) ≡ true) × (e.agent ≡ a.id)) (event_of a.id) (is_move_at n) a.receipts
     (Each-weaker (IsPlaced m all a) (λ r. is_move_at n r ≡ true → IsAt m all n (event_of a.id r) × (is_some (move_of (event_of a.id r)) ≡ true) × (a.id ≡ a.id)) (λ r p test. (at_from m all a n r p (move_stands n r test), move_fired n r test, refl)) a.receipts (placed m all a agent prefix))
 
--- no receipt stands at n where the list begins above it
-pub none_at : (test : Receipt → Bool) (n : ℕ) → ((r : Receipt) → test r ≡ true → r.stood ≡ n) → (from : ℕ) (rs : List Receipt) → StandInOrder from rs → n < from → filter test rs ≡ []
-none_at test n says from [] order lt = refl
-none_at test n says from (r ∷ rs) order lt = here (test r) refl (none_at test n says (next_after r) rs order.1 (omega (arith, stood_le r, order.0))) where
-  here : (b : Bool) → test r ≡ b → filter test rs ≡ [] → cond b (r ∷ filter test rs) (filter test rs) ≡ []
-  here true e rest = absurd (omega (arith, says r e, order.0))
-  here false e rest = rest
+-- each receipt stands above n where the list begins above it
+all_above : (n from : ℕ) (rs : List Receipt) → StandInOrder from rs → n < from → AllByRecursion (λ r. n < r.stood) rs
+all_above n from [] order lt = tt
+all_above n from (r ∷ rs) order lt =
+    (omega (arith, order.0, lt), all_above n (next_after r) rs order.1 (omega (arith, stood_le r, order.0, lt)))
 
 -- one agent has at most one fired receipt at n
 pub one_fired : (n from : ℕ) (rs : List Receipt) → StandInOrder from rs → length (filter (is_move_at n) rs) ≤ 1
@@ -89,7 +88,11 @@ one_fired n from (r ∷ rs) order = here (is_move_at n r) refl (one_fired n (nex
   here : (b : Bool) → is_move_at n r ≡ b → length (filter (is_move_at n) rs) ≤ 1 → length (cond b (r ∷ filter (is_move_at n) rs) (filter (is_move_at n) rs)) ≤ 1
   here true e rest =
       let above : n < next_after r = omega (arith, move_stands n r e, next_fired r (move_fired n r e)) in
-      omega (arith, ap length (none_at (is_move_at n) n (move_stands n) (next_after r) rs order.1 above))
+      omega (
+        arith,
+        ap length (filter-none (λ s. n < s.stood) (is_move_at n) (λ s lt is. omega (arith, move_stands n s is, lt)) rs
+            (all_above n (next_after r) rs order.1 above)),
+      )
   here false e rest = rest
 
 -- numbers that rise, without the first
@@ -210,7 +213,7 @@ fired_part m all n (e ∷ []) one each =
     let mine : fired_moves (e ∷ []) ≡ entry.0.instrs ∷ [] = rw entry.3 refl in
     record {
       legal = (each.0.0.replied, tt);
-      leaves = ap (λ r. take n (moves_seen all) ++ r) mine ∙ sym (take-slice_get (moves_seen all) n entry.0.instrs (slice_get-map (λ x. x.instrs) all n entry.0 entry.1));
+      leaves = ap (λ r. take n (moves_seen all) ++ r) mine ∙ sym (take-slice_get (moves_seen all) n entry.0.instrs (slice_get-map (λ (x : Entry). x.instrs) all n ∙ ap (option_map (λ (x : Entry). x.instrs)) entry.1));
     }
 
 part-append : (m : Machine) (all : List Entry) (q r s : List Move) (g h : List Event) → IsPart m all q r g → IsPart m all r s h → IsPart m all q s (g ++ h)
