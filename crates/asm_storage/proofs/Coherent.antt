@@ -1,5 +1,5 @@
 -- A fire that was answered Fired finds what it named as it was.
-use Rattle.std.proofs.Common.{◌≡◌, ◌-◌, List, length, ap, sym, subst}
+use Rattle.std.proofs.Common.{◌≡◌, ◌-◌, List, length, arith, ap, sym, subst}
 use Rattle.std.proofs.lemmas.List.{take_all}
 use Rattle.asm_update.specs.Aggregator.{Meaning}
 use Rattle.asm_update.specs.Move.{Move}
@@ -12,7 +12,6 @@ use Rattle.asm_storage.specs.Agents.{moves_seen}
 use Rattle.asm_storage.specs.Storage.{AgentAt, StorageView, machine_of}
 use Rattle.asm_storage.specs.Calls.{judged_on, fired, IsAnswered, IsCoherentReply}
 use Rattle.asm_storage.proofs.Run.{coherent_at}
-use Rattle.std.proofs.Common.{arith}
 
 same_storage : {A : Type 0} (old new : AgentAt A) (reads : List Named) (M : Move) (r : Reply) → new ≡ fired old new reads M r → new.storage ≡ old.storage
 same_storage {A} old new reads M (reply.Fired k) is = ap (λ (a : AgentAt A). a.storage) is

@@ -18,7 +18,7 @@ use Rattle.asm_storage.specs.declared.part.AgentPart.{AgentPart}
 use Rattle.asm_storage.specs.declared.entry.Entry.{Entry}
 use Rattle.asm_storage.specs.declared.receipt.Receipt.{Receipt}
 use Rattle.asm_storage.specs.Agents.{moves_seen}
-use Rattle.asm_storage.specs.Calls.{receipt_at, judged_on, fired, HasOffered, IsAnswered, MadeOffers, Ran}
+use Rattle.asm_storage.specs.Calls.{receipt_at, answered, judged_on, fired, HasOffered, IsAnswered, MadeOffers, Ran}
 use Rattle.asm_storage.specs.History.{fired_move}
 use Rattle.asm_storage.specs.Machine.{reply_to}
 use Rattle.asm_storage.specs.Offering.{IsOffering}
@@ -36,22 +36,14 @@ take_before xs x =
     ∙ take_all (length xs) xs (omega arith)
 
 module _ {A : Type 0} (meaning : A → Meaning) (old mid : AgentAt A) (reads : List Named) (M : Move) where
-  -- a reply that fired nothing was judged on all that was seen
-  quiet_as : (r : Reply) (seen : List Entry) →
-      fired_move (call.Fire reads M) (answer.Fire r) ≡ None → judged_on r seen ≡ seen
-  quiet_as (reply.Fired k) seen quiet = absurd cc
-  quiet_as (reply.Stale l) seen quiet = refl
-  quiet_as (reply.Clash c) seen quiet = refl
-  quiet_as reply.Full seen quiet = refl
-
-  quiet_fired : (r : Reply) (new : AgentAt A) → fired_move (call.Fire reads M) (answer.Fire r) ≡ None →
-      fired old new reads M r ≡
-      with_receipt (has_looked old new.account.seen new.misses)
-      (receipt_at (length new.account.seen) (call.Fire reads M) (answer.Fire r))
-  quiet_fired (reply.Fired k) new quiet = absurd cc
-  quiet_fired (reply.Stale l) new quiet = refl
-  quiet_fired (reply.Clash c) new quiet = refl
-  quiet_fired reply.Full new quiet = refl
+  -- a reply that fired nothing was judged on all that was seen, and its receipt is kept
+  quiet_as : (r : Reply) (new : AgentAt A) (seen : List Entry) →
+      fired_move (call.Fire reads M) (answer.Fire r) ≡ None →
+      (judged_on r seen ≡ seen) × (fired old new reads M r ≡ answered old new (call.Fire reads M) (answer.Fire r))
+  quiet_as (reply.Fired k) new seen quiet = absurd cc
+  quiet_as (reply.Stale l) new seen quiet = (refl, refl)
+  quiet_as (reply.Clash c) new seen quiet = (refl, refl)
+  quiet_as reply.Full new seen quiet = (refl, refl)
 
   -- an agent that looked on and then kept the receipt of a reply that fired nothing
   pub answered_quiet : (new : AgentAt A) (r : Reply) → mid ≡ has_looked old mid.account.seen mid.misses →
@@ -62,14 +54,14 @@ module _ {A : Type 0} (meaning : A → Meaning) (old mid : AgentAt A) (reads : L
   answered_quiet new r looked begins told quiet is =
       let receipt : Receipt = receipt_at (length mid.account.seen) (call.Fire reads M) (answer.Fire r) in
       let kept : AgentAt A = with_receipt mid receipt in
-      let judged = quiet_as r mid.account.seen quiet in
+      let same = quiet_as r kept mid.account.seen quiet in
       let replies : StorageView A → List Entry → Type 0 = λ s q.
       answer.Fire r ≡ reply_to (machine_of meaning s) (moves_seen q) (call.Fire reads M) in
-      let there = subst (λ q. replies mid.storage q) (sym judged) told in
+      let there = subst (λ q. replies mid.storage q) (sym same.0) told in
       subst (λ (n : AgentAt A). IsAnswered meaning old n reads M r) (sym is) (record {
         reply = subst (λ s. replies s (judged_on r mid.account.seen)) (ap (λ (a : AgentAt A). a.storage) looked) there;
-        begins = subst (IsPrefix old.account.seen) (sym judged) begins;
-        agent = ap (λ (a : AgentAt A). with_receipt a receipt) looked ∙ sym (quiet_fired r kept quiet);
+        begins = subst (IsPrefix old.account.seen) (sym same.0) begins;
+        agent = ap (λ (a : AgentAt A). with_receipt a receipt) looked ∙ sym same.1;
       })
 
   -- an agent that looked on and then fired
@@ -202,10 +194,7 @@ module _ {A : Type 0} (old mid new : AgentAt A) (n : ℕ) (lost : HasOffered old
   }
 
   quiet : HasOffered mid new 0 (last_look new) → HasOffered old new (n + 0) (n + 0 + last_look new)
-  quiet more = record {
-    longer = omega (arith, lost.longer, more.longer);
-    missed = omega (arith, lost.missed, more.missed);
-  }
+  quiet more = subst (HasOffered old new (n + 0)) (omega arith) (offered_then 0 (last_look new) more)
 
   -- the offers of a call of whose turns n were lost and the next one was answered
   pub offers_answered : (r : Reply) → n < offers_limit → HasOffered mid new (offers_in (Ok (Some r))) (misses_in new (Ok (Some r))) →

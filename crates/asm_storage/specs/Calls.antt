@@ -25,8 +25,7 @@ use Rattle.asm_storage.specs.Limits.{offers_limit, reads_limit}
 use Rattle.asm_storage.specs.Machine.{reply_to}
 use Rattle.asm_storage.specs.History.{IsCoherentAt}
 use Rattle.asm_storage.specs.Agents.{moves_seen}
-use Rattle.asm_storage.specs.Storage.{AgentAt, IsSameAgent, machine_of, has_looked, with_receipt, has_fired}
-use Rattle.asm_storage.specs.Storage.{last_look, Missed}
+use Rattle.asm_storage.specs.Storage.{AgentAt, IsSameAgent, machine_of, has_looked, with_receipt, has_fired, last_look, Missed}
 
 -- what was read: the number of moves, the locations and their values
 pub record ReadingView : Type 0 where

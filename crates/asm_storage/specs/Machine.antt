@@ -1,6 +1,5 @@
 -- The storage of one thread: what it answers to a call after a list of moves.
-use Rattle.std.specs.Prelude.{ℕ, ◌+◌, nat_lt, List, length, map, Option, Some, None, Result, Ok, Err}
-use Rattle.std.specs.Prelude.{if◌then◌else◌}
+use Rattle.std.specs.Prelude.{ℕ, ◌+◌, nat_lt, List, length, map, Option, Some, None, Result, Ok, Err, if◌then◌else◌}
 use Rattle.asm_element.specs.Place.{Place}
 use Rattle.asm_update.specs.Move.{Move}
 use Rattle.asm_update.specs.State.{State, val}

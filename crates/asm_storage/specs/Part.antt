@@ -1,11 +1,11 @@
 -- The part of an agent that is no borrow: what is true of it beside its storage, and what its calls do.
 use Rattle.std.specs.Prelude.{◌≡◌, ℕ, ◌+◌, ◌-◌, ◌^◌, ◌<◌, ◌≤◌, List, length, take, Option, Some, None, Result, Ok, Err}
-use Rattle.std.specs.Prelude.{Bool, false, IsOk, IsTrue}
+use Rattle.std.specs.Prelude.{[], ◌∷◌, Bool, false, ◌&&◌, nat_lt, IsOk, IsTrue}
 use Rattle.std.specs.declared.alloc.AllocError.{AllocError}
 use mathlib.Core.List.{IsPrefix}
 use Rattle.asm_update.specs.Aggregator.{Meaning}
 use Rattle.asm_update.specs.Fire.{Part, fire, state_of}
-use Rattle.asm_update.specs.Move.{Move}
+use Rattle.asm_update.specs.Move.{Move, all_regular}
 use Rattle.asm_update.specs.State.{State}
 use Rattle.asm_state.specs.Stands.{Stands}
 use Rattle.asm_state.specs.Verdict.{least_stale}
@@ -63,6 +63,11 @@ pub record HasFired {A : Type 0} (s : StorageView A) (old new : AgentPart) (read
   pub reply : r ≡ reply.Fired (length old.progress.seen + 1)
   pub agent : agent_of s new ≡ has_fired (agent_of s old)
       (receipt_at (length old.progress.seen) (call.Fire reads M) (answer.Fire r)) M
+
+-- whether a move is judged alike on every state: it has no named read and no partial update, and at most 16 instructions
+abbrev pub is_plain : List Named → Move → Bool
+is_plain [] M = nat_lt (length M) 17 && all_regular M
+is_plain (r ∷ rs) M = false
 
 -- the reply to a fire after these moves, where it fires nothing; with None it is to fire
 abbrev pub IsReplyAt : Part → State → List Move → Bool → List Named → Move → Option Reply → Type 0

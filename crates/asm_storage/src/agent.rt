@@ -14,6 +14,7 @@ use crate::limits::READS_LIMIT;
 use crate::part::AgentPart;
 use crate::reading::Reading;
 use crate::receipt::Receipt;
+use crate::shared_lists::copied_named;
 use crate::storage::Storage;
 use asm_element::Location;
 use asm_state::{Named, State};
@@ -56,7 +57,8 @@ impl<'s, A: Aggregator + Sync + Drop> Model for Agent<'s, A> {
 }
 
 impl<'s, A: Aggregator + Sync + Drop> Agent<'s, A> {
-    /// The agent with this part, at its storage.
+    /// The agent with this part, at its storage: for an owner of a share of the storage, who can't keep the
+    /// agent, as that borrows it.
     pub fn of(storage: &'s Storage<A>, part: AgentPart) -> Agent<'s, A>
         requires { IsPartOf A.meaning storage.now part }
         ensures { result ≡ agent_of storage.now part }
@@ -64,7 +66,7 @@ impl<'s, A: Aggregator + Sync + Drop> Agent<'s, A> {
         Agent { storage, part }
     }
 
-    /// The agent's part, which borrows nothing.
+    /// The agent's part, which borrows nothing; `of` makes the agent of it again.
     pub fn into_part(self) -> AgentPart
         ensures agent { self.entry ≡ agent_of self.entry.storage result }
         ensures part { IsPartOf A.meaning self.entry.storage result }
@@ -199,7 +201,8 @@ impl<'s, A: Aggregator + Sync + Drop> Agent<'s, A> {
             return Err(ReadError::ManyLocations);
         }
         let storage = self.storage;
-        let stale = self.part.stands(alloc, storage, named)?;
+        self.part.follow_row(alloc, storage)?;
+        let stale = self.part.stale_read(alloc, storage, named)?;
         Ok(stale)
     }
 
@@ -223,7 +226,9 @@ impl<'s, A: Aggregator + Sync + Drop> Agent<'s, A> {
             return Err(ReadError::ManyLocations);
         }
         let storage = self.storage;
-        let reading = self.part.read(alloc, storage, places)?;
+        self.part.follow_row(alloc, storage)?;
+        let reading = self.part.take_reading(alloc, storage, places)?;
+        self.part.keep_reading(alloc, storage, &reading)?;
         Ok(reading)
     }
 
@@ -260,7 +265,13 @@ impl<'s, A: Aggregator + Sync + Drop> Agent<'s, A> {
             return Err(FireError::ManyReads);
         }
         let storage = self.storage;
-        self.part.fire(alloc, storage, reads, instrs, between)
+        match copied_named(alloc, reads) {
+            Ok(named) => self.part.fire(alloc, storage, &named, instrs, between),
+            Err(_) => {
+                self.part.look(storage);
+                Err(FireError::Memory)
+            }
+        }
     }
 
     /// Fires a move, if none of the at most 256 named locations was written since it was read: the same as

@@ -1,4 +1,5 @@
 ghost use Rattle.std.specs.Prelude.{◌≡◌, IfOk};
+ghost use Rattle.asm_storage.specs.declared.call.Call.TheVariants as call;
 
 use crate::shared_lists::same_list;
 use asm_element::{Items, Location, Value};
@@ -49,16 +50,27 @@ pub enum Answer {
     Fire(Reply),
 }
 
+/// A call to fire, which shares its lists.
+pub(crate) fn fire_call(
+    alloc: Global,
+    reads: &Items<Named>,
+    instrs: &Instructions,
+) -> Result<Call, AllocError>
+    ensures { IfOk result (λ c. c ≡ call.Fire reads.now instrs.now) }
+{
+    Ok(Call::Fire {
+        reads: same_list(reads)?,
+        instrs: instrs.copy(alloc)?,
+    })
+}
+
 impl Call {
     pub(crate) fn copy(&self, alloc: Global) -> Result<Call, AllocError>
         ensures { IfOk result (λ c. c ≡ self.now) }
     {
         match self {
             Call::Read(places) => Ok(Call::Read(same_list(places)?)),
-            Call::Fire { reads, instrs } => Ok(Call::Fire {
-                reads: same_list(reads)?,
-                instrs: instrs.copy(alloc)?,
-            }),
+            Call::Fire { reads, instrs } => fire_call(alloc, reads, instrs),
         }
     }
 }

@@ -1,4 +1,4 @@
-//! Whether locations have values.
+//! Whether locations have values: a read asks it of the last one, and a check of a history of what a read answered.
 ghost use Rattle.std.specs.Prelude.{◌≡◌, ◌↔◌, map, IsTrue};
 
 use asm_element::{Location, Value};

@@ -1,4 +1,4 @@
-ghost use Rattle.std.specs.Prelude.{◌≡◌, ◌+◌, ◌<◌, ◌≤◌, nat_lt, length, map, max, IfOk, OnOk};
+ghost use Rattle.std.specs.Prelude.{◌≡◌, ◌<◌, length, max, IfOk, OnOk};
 ghost use mathlib.Core.List.{IsPrefix};
 ghost use Rattle.asm_storage.specs.Storage.{at_start, has_seen, last_look, Missed};
 ghost use Rattle.asm_storage.specs.Limits.{agents_limit};
@@ -77,32 +77,6 @@ impl AgentPart {
         while storage.finds_next(&mut self.progress) {}
     }
 
-    // Whether the state is behind what was seen.
-    fn lags(&self) -> bool
-        ensures { result ≡ nat_lt self.now.state.number (length self.now.progress.seen) }
-    {
-        self.state.number() < self.progress.seen_len()
-    }
-
-    // The state follows one more of the moves that were seen.
-    fn follow_one<A: Aggregator + Sync + Drop>(
-        &mut self,
-        alloc: Global,
-        storage: &Storage<A>,
-    ) -> Result<(), AllocError>
-        requires part { IsPartOf A.meaning storage.now self.old }
-        requires lags { self.old.state.number < length self.old.progress.seen }
-        ensures part { IsPartOf A.meaning storage.now self.new }
-        ensures kept { self.new ≡ record self.old { state = self.new.state } }
-        ensures number { OnOk result (self.new.state.number ≡ self.old.state.number + 1) }
-    {
-        let _seen = self.progress.seen_len();
-        let entry = self.progress.at(storage.row(), self.state.number());
-        self.state
-            .follow(alloc, storage.aggregator(), &entry.instrs)?;
-        Ok(())
-    }
-
     // The state follows all that was seen.
     fn catch_up<A: Aggregator + Sync + Drop>(
         &mut self,
@@ -114,8 +88,10 @@ impl AgentPart {
         ensures kept { self.new ≡ record self.old { state = self.new.state } }
         ensures level { OnOk result (self.new.state.number ≡ length self.new.progress.seen) }
     {
-        while self.lags() {
-            self.follow_one(alloc, storage)?;
+        while self.state.number() < self.progress.seen_len() {
+            let entry = self.progress.at(storage.row(), self.state.number());
+            self.state
+                .follow(alloc, storage.aggregator(), &entry.instrs)?;
         }
         Ok(())
     }
@@ -146,7 +122,7 @@ impl AgentPart {
         ensures theirs { IsPrefix mark.now.seen self.new.progress.seen }
         ensures longest { length self.new.progress.seen ≡ max (length self.old.progress.seen) (length mark.now.seen) }
     {
-        let _ = storage;
+        let _ = storage; // The contract alone speaks of it.
         self.progress.learn(mark);
     }
 }

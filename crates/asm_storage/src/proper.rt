@@ -1,5 +1,7 @@
 //! What a history holds is proper. A list tells that of no item before the item is read, so these walk every list: the
 //! goal `proper` of `History::fits` needs it, and the round trip of a journal.
+//! That a number is below 2^32, and a move within its limit, is known once the number or the length is read, hence
+//! `_number` and `_count`.
 ghost use Rattle.std.specs.Prelude.{All};
 ghost use Rattle.asm_element.specs.Place as place;
 ghost use Rattle.asm_element.specs.Value as value;

@@ -1,3 +1,4 @@
+//! Lists that calls, answers, receipts and events share, so that a copy of one takes no memory.
 ghost use Rattle.std.specs.Prelude.{◌≡◌, IfOk};
 
 use asm_element::{Items, Location};

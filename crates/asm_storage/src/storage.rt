@@ -92,7 +92,8 @@ impl<A: Aggregator + Sync + Drop> Storage<A> {
         })
     }
 
-    /// As `new`, over an opening state that the caller keeps a share of: no value is copied.
+    /// As `new`, over an opening state that the caller keeps a share of: no value is copied, so a state that
+    /// was read once may open several storages.
     pub fn over(
         alloc: Global,
         aggregator: A,
@@ -163,9 +164,9 @@ impl<A: Aggregator + Sync + Drop> Storage<A> {
 
     /// How many moves stand in its row: it looks from the first one on until it finds nothing more.
     ///
-    /// It takes no memory, and no agent notices it. Agents may fire more meanwhile. Contracts don't tell what
-    /// stands in the row: that it counts all moves that were fired before the call, so at least as many as any
-    /// agent has seen, is tested.
+    /// It takes no memory, and no agent notices it: who holds agents alone can't tell a move that no agent of
+    /// theirs has seen. Agents may fire more meanwhile. Contracts don't tell what stands in the row: that it
+    /// counts all moves that were fired before the call, so at least as many as any agent has seen, is tested.
     pub fn moves(&self) -> u32
         ensures { result ≤ length self.now.row }
     {

@@ -1,5 +1,5 @@
-ghost use Rattle.std.specs.Prelude.{◌≡◌, ◌+◌, ◌*◌, if◌then◌else◌, IfOk, OnOk, map, ◌++◌};
-ghost use Rattle.asm_storage.specs.Agents.{is_fired, event_of, merged};
+ghost use Rattle.std.specs.Prelude.{◌≡◌, IfOk, OnOk, map, ◌++◌};
+ghost use Rattle.asm_storage.specs.Agents.{merged};
 ghost use Rattle.asm_storage.specs.Storage.{accounts};
 ghost use Rattle.asm_storage.specs.ReceiptOrder.{with_id, key_of, receipts_with_ids, id_and_receipt};
 

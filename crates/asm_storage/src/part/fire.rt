@@ -1,7 +1,6 @@
 ghost use Rattle.std.specs.Prelude.{◌≡◌, ◌+◌, ◌<◌, ◌≤◌, ℕ, length, IfOk, OnOk, OnErr, Some, None, Ok, IsSome, false};
 ghost use Rattle.std.specs.Prelude.{IfSome, IfNone};
 ghost use mathlib.Core.List.{IsPrefix};
-ghost use Rattle.asm_storage.specs.Plain.{is_plain};
 ghost use Rattle.asm_storage.specs.declared.call.Answer.TheVariants as answer;
 ghost use Rattle.asm_storage.specs.declared.call.Call.TheVariants as call;
 ghost use Rattle.asm_storage.specs.declared.call.Reply.TheVariants as reply;
@@ -10,17 +9,16 @@ ghost use Rattle.asm_storage.specs.Storage.{machine_of, has_fired, with_receipt,
 ghost use Rattle.asm_storage.specs.Limits.{reads_limit};
 ghost use Rattle.asm_storage.specs.Offering.{IsOffering, IsSameOffering};
 ghost use Rattle.asm_storage.specs.Calls.{receipt_at, HasOffered, IsFire, MadeOffers, Ran};
-ghost use Rattle.asm_storage.specs.Part.{agent_of, HasFired, IsJudged, IsLost, IsPartOf, IsTurn, LooksOn};
-ghost use Rattle.asm_storage.specs.Part.{offers_in, misses_in};
+ghost use Rattle.asm_storage.specs.Part.{agent_of, is_plain, offers_in, misses_in};
+ghost use Rattle.asm_storage.specs.Part.{HasFired, IsJudged, IsLost, IsPartOf, IsTurn, LooksOn};
 
-use crate::call::{Answer, Call, Reply};
+use crate::call::{Answer, Call, Reply, fire_call};
 use crate::error::FireError;
 use crate::limits::OFFERS_LIMIT;
 use crate::part::AgentPart;
 use crate::part::judging::{is_plain, judged, judged_plain};
-use crate::part::offering::{Offering, fire_call};
+use crate::part::offering::Offering;
 use crate::receipt::Receipt;
-use crate::shared_lists::copied_named;
 use crate::storage::Storage;
 use asm_element::Items;
 use asm_state::Named;
@@ -87,7 +85,7 @@ impl AgentPart {
             (receipt_at (length self.old.progress.seen) call answer)) }
         ensures err { OnErr result (agent_of storage.now self.new ≡ agent_of storage.now self.old) }
     {
-        let _ = storage;
+        let _ = storage; // The contract alone speaks of it.
         let stood = self.progress.seen_len();
         self.receipts.push(Receipt {
             call,
@@ -206,6 +204,7 @@ impl AgentPart {
         ensures called { IfOk result (λ o. F.step between.old tt between.new) }
         ensures uncalled { OnErr result (between.new ≡ between.old) }
     {
+        // The capacity is a `u32`: the sum below needs it.
         let _capacity = storage.row().capacity();
         let number = self.progress.seen_len() + 1;
         let offering = Offering::take(pending, alloc, self.id, reads, instrs)?;
@@ -259,8 +258,9 @@ impl AgentPart {
         }
     }
 
-    // Turns until one is answered, at most 64. The closure is called as often as offers are made.
-    fn fire_named<A: Aggregator + Sync + Drop, F: FnMut()>(
+    /// Turns until one is answered, at most 64. The closure is called as often as offers are made. What is offered is
+    /// made once.
+    pub(crate) fn fire<A: Aggregator + Sync + Drop, F: FnMut()>(
         &mut self,
         alloc: Global,
         storage: &Storage<A>,
@@ -291,35 +291,5 @@ impl AgentPart {
             from,
             to: self.progress.seen_len(),
         })
-    }
-
-    /// Fires a move in turns, of which there are at most 64; for all of them the named reads are copied once, and what
-    /// is offered is made once.
-    pub(crate) fn fire<A: Aggregator + Sync + Drop, F: FnMut()>(
-        &mut self,
-        alloc: Global,
-        storage: &Storage<A>,
-        reads: &[Named],
-        instrs: &Instructions,
-        between: &mut F,
-    ) -> Result<Reply, FireError>
-        requires part { IsPartOf A.meaning storage.now self.old }
-        requires few { length reads.now ≤ reads_limit }
-        requires callable { F.IsAlwaysCallable between.old }
-        ensures part { IsPartOf A.meaning storage.now self.new }
-        ensures fire { IsFire A.meaning (agent_of storage.now self.old) (agent_of storage.now self.new)
-            reads.now instrs.now result }
-        ensures callable { F.IsAlwaysCallable between.new }
-        ensures offers { (n : ℕ) ×
-            MadeOffers (agent_of storage.now self.old) (agent_of storage.now self.new) result n ×
-            Ran (λ f g. F.step f tt g) between.old n between.new }
-    {
-        match copied_named(alloc, reads) {
-            Ok(named) => self.fire_named(alloc, storage, &named, instrs, between),
-            Err(_) => {
-                self.look(storage);
-                Err(FireError::Memory)
-            }
-        }
     }
 }

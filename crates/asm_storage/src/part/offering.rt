@@ -1,10 +1,8 @@
-ghost use Rattle.std.specs.Prelude.{◌≡◌, ℕ, IfOk, IfSome, None, Ok};
-ghost use Rattle.asm_storage.specs.declared.call.Call.TheVariants as call;
+ghost use Rattle.std.specs.Prelude.{◌≡◌, IfOk, IfSome, None, Ok};
 ghost use Rattle.asm_storage.specs.Offering.{IsOffering};
 
-use crate::call::Call;
+use crate::call::{Call, fire_call};
 use crate::entry::Entry;
-use crate::shared_lists::same_list;
 use asm_element::Items;
 use asm_state::Named;
 use asm_update::Instructions;
@@ -15,20 +13,6 @@ use std::alloc::{AllocError, Global};
 pub(crate) struct Offering {
     pub(crate) entry: Box<Entry>,
     pub(crate) call: Call,
-}
-
-/// A call to fire, which shares its lists.
-pub(crate) fn fire_call(
-    alloc: Global,
-    reads: &Items<Named>,
-    instrs: &Instructions,
-) -> Result<Call, AllocError>
-    ensures { IfOk result (λ c. c ≡ call.Fire reads.now instrs.now) }
-{
-    Ok(Call::Fire {
-        reads: same_list(reads)?,
-        instrs: instrs.copy(alloc)?,
-    })
 }
 
 impl Offering {

@@ -1,12 +1,11 @@
 ghost use Rattle.std.specs.Prelude.{◌≡◌, ◌≤◌, map, length, take, IfOk, OnOk, OnErr};
-ghost use mathlib.Core.List.{IsPrefix};
 ghost use Rattle.asm_update.specs.State.{val};
 ghost use Rattle.asm_storage.specs.declared.call.Call.TheVariants as call;
-ghost use Rattle.asm_storage.specs.Machine.{machine_state, reply_to};
+ghost use Rattle.asm_storage.specs.Machine.{machine_state};
 ghost use Rattle.asm_storage.specs.Agents.{moves_seen};
-ghost use Rattle.asm_storage.specs.Storage.{machine_of, with_receipt, last_look, IsReplyOf, Missed};
-ghost use Rattle.asm_storage.specs.Calls.{receipt_at, read_answer, IsPeek, IsRead, IsStaleRead};
-ghost use Rattle.asm_storage.specs.Part.{agent_of, IsPartOf, LooksOn};
+ghost use Rattle.asm_storage.specs.Storage.{machine_of, with_receipt, IsReplyOf};
+ghost use Rattle.asm_storage.specs.Calls.{receipt_at, read_answer, IsPeek, IsStaleRead};
+ghost use Rattle.asm_storage.specs.Part.{agent_of, IsPartOf};
 
 use crate::call::{Answer, Call};
 use crate::held_values::have_values;
@@ -84,7 +83,7 @@ impl AgentPart {
         ensures values { IfOk result (λ values. values ≡ map (val (machine_state (machine_of A.meaning storage.now)
             (take self.now.state.number (moves_seen self.now.progress.seen)))) places.now) }
     {
-        let _ = storage;
+        let _ = storage; // The contract alone speaks of it.
         let earlier = self.last_read().map(|(_places, values)| values);
         values_again(alloc, &self.state, places, earlier)
     }
@@ -111,8 +110,8 @@ impl AgentPart {
         })
     }
 
-    // The locations with their values after all moves that were seen.
-    fn take_reading<A: Aggregator + Sync + Drop>(
+    /// The locations with their values after all moves that were seen.
+    pub(crate) fn take_reading<A: Aggregator + Sync + Drop>(
         &self,
         alloc: Global,
         storage: &Storage<A>,
@@ -127,8 +126,8 @@ impl AgentPart {
         self.peek(alloc, storage, places)
     }
 
-    // Keeps the receipt of a read.
-    fn keep_reading<A: Aggregator + Sync + Drop>(
+    /// Keeps the receipt of a read.
+    pub(crate) fn keep_reading<A: Aggregator + Sync + Drop>(
         &mut self,
         alloc: Global,
         storage: &Storage<A>,
@@ -152,31 +151,8 @@ impl AgentPart {
         self.keep(storage, Call::Read(places), answer)
     }
 
-    /// Looks on, reads the locations, and keeps the receipt.
-    pub(crate) fn read<A: Aggregator + Sync + Drop>(
-        &mut self,
-        alloc: Global,
-        storage: &Storage<A>,
-        places: &[Location],
-    ) -> Result<Reading, AllocError>
-        requires { IsPartOf A.meaning storage.now self.old }
-        ensures part { IsPartOf A.meaning storage.now self.new }
-        ensures id { self.new.id ≡ self.old.id }
-        ensures answered { IfOk result (
-            IsRead A.meaning (agent_of storage.now self.old) (agent_of storage.now self.new) places.now) }
-        ensures seen { IsPrefix self.old.progress.seen self.new.progress.seen }
-        ensures refused { OnErr result (LooksOn A.meaning storage.now self.old self.new) }
-        ensures missed { Missed (agent_of storage.now self.old) (last_look (agent_of storage.now self.new))
-            (agent_of storage.now self.new) }
-    {
-        self.follow_row(alloc, storage)?;
-        let reading = self.take_reading(alloc, storage, places)?;
-        self.keep_reading(alloc, storage, &reading)?;
-        Ok(reading)
-    }
-
-    // The least of the named locations that is stale after all moves that were seen.
-    fn stale_read<A: Aggregator + Sync + Drop>(
+    /// The least of the named locations that is stale after all moves that were seen.
+    pub(crate) fn stale_read<A: Aggregator + Sync + Drop>(
         &self,
         alloc: Global,
         storage: &Storage<A>,
@@ -195,22 +171,5 @@ impl AgentPart {
             Some(Objection::Clash(_clash)) => Ok(None),
             None => Ok(None),
         }
-    }
-
-    /// Looks on, and tells the least of the named locations that is then stale; no receipt.
-    pub(crate) fn stands<A: Aggregator + Sync + Drop>(
-        &mut self,
-        alloc: Global,
-        storage: &Storage<A>,
-        reads: &[Named],
-    ) -> Result<Option<Location>, AllocError>
-        requires { IsPartOf A.meaning storage.now self.old }
-        ensures looks { LooksOn A.meaning storage.now self.old self.new }
-        ensures stale { IfOk result (IsStaleRead A.meaning (agent_of storage.now self.new) reads.now) }
-        ensures missed { Missed (agent_of storage.now self.old) (last_look (agent_of storage.now self.new))
-            (agent_of storage.now self.new) }
-    {
-        self.follow_row(alloc, storage)?;
-        self.stale_read(alloc, storage, reads)
     }
 }

@@ -12,30 +12,23 @@ use Rattle.asm_storage.specs.Storage.{AgentAt, IsReplyOf, machine_of}
 use Rattle.asm_storage.proofs.part.AgentPart.take_reading.Goals as goal
 
 -- a peek at all that was seen is the reply of a read
-at_all : {A : Type 0} (meaning : A → Meaning) (a : AgentAt A) (places : List Place)
-    (result : Result ReadingView AllocError) → IfOk result (IsPeek meaning a places) →
-    IfOk result (λ r. r.number ≡ length a.account.seen) →
+at_all : {A : Type 0} (meaning : A → Meaning) (a : AgentAt A) (places : List Place) (n : ℕ)
+    (result : Result ReadingView AllocError) → IfOk result (IsPeek meaning a places) → IfOk result (λ r. r.number ≡ n) →
+    n ≡ length a.account.seen →
     IfOk result (λ r. r.places ≡ places) × IfOk result (λ r. IsReplyOf meaning a (call.Read places) (read_answer r))
-at_all meaning a places (Ok r) peeked number =
+at_all meaning a places n (Ok r) peeked number level =
     let seen = a.account.seen in
     let all : take r.number (moves_seen seen) ≡ moves_seen seen =
-    take_all r.number (moves_seen seen) (omega (arith, number, length-map seen (λ (x : Entry). x.instrs))) in (
+    take_all r.number (moves_seen seen) (omega (arith, number, level, length-map seen (λ (x : Entry). x.instrs))) in (
       peeked.locations,
       peeked.reply ∙ ap (λ q. reply_to (machine_of meaning a.storage) q (call.Read places)) all,
     )
-at_all meaning a places (Err e) peeked number = (tt, tt)
-
-level : {E : Type 0} (n k : ℕ) (result : Result ReadingView E) → IfOk result (λ r. r.number ≡ n) → n ≡ k →
-    IfOk result (λ r. r.number ≡ k)
-level n k (Ok r) number same = number ∙ same
-level n k (Err e) number same = tt
+at_all meaning a places n (Err e) peeked number level = (tt, tt)
 
 pub returns-clause-places : goal.returns-clause-places
 returns-clause-places g c =
-    (at_all g.A.Aggregator.meaning _ c.args.places.now c.peek.result c.peek.ensures.peeked
-    (level _ _ c.peek.result c.peek.ensures.number c.requires.level)).0
+    (at_all g.A.Aggregator.meaning _ c.args.places.now _ c.peek.result c.peek.ensures.peeked c.peek.ensures.number c.requires.level).0
 
 pub returns-clause-reply : goal.returns-clause-reply
 returns-clause-reply g c =
-    (at_all g.A.Aggregator.meaning _ c.args.places.now c.peek.result c.peek.ensures.peeked
-    (level _ _ c.peek.result c.peek.ensures.number c.requires.level)).1
+    (at_all g.A.Aggregator.meaning _ c.args.places.now _ c.peek.result c.peek.ensures.peeked c.peek.ensures.number c.requires.level).1

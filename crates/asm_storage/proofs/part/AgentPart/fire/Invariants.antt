@@ -2,7 +2,7 @@ use Rattle.std.specs.Prelude.{IfSome}
 use Rattle.asm_storage.specs.Calls.{HasOffered, Ran}
 use Rattle.asm_storage.specs.Offering.{IsOffering}
 use Rattle.asm_storage.specs.Part.{agent_of, LooksOn}
-use Rattle.asm_storage.proofs.part.AgentPart.fire_named.Given as goal
+use Rattle.asm_storage.proofs.part.AgentPart.fire.Given as goal
 
 -- each turn so far lost one offer, and left what it offered
 abbrev pub invariant-loop-lost : goal.invariant-loop-lost

@@ -7,7 +7,7 @@ use Rattle.asm_row.proofs.Prefixes.{IsPrefix-trans}
 use Rattle.asm_storage.proofs.OfferBounds.{is_fire}
 use Rattle.asm_storage.proofs.PartKept.{looks_then}
 use Rattle.asm_storage.proofs.FireTurns.{answered_after, offered_then, offers_answered, offers_refused, looked_id, ran_then, same_offering}
-use Rattle.asm_storage.proofs.part.AgentPart.fire_named.Goals as goal
+use Rattle.asm_storage.proofs.part.AgentPart.fire.Goals as goal
 
 -- memory was refused in a turn
 pub returns-in_err-reply-clause-offers : goal.returns-in_err-reply-clause-offers
