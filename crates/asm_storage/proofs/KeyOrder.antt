@@ -45,8 +45,8 @@ module _ {X : Type 0} (key : X → ℕ) where
     first false e more =
         let above : n < key x = omega (arith, rises.0, eqb-false (key x) n e) in
         let from : Rises (n + 1) (x ∷ xs) = (omega arith, rises.1) in
-        let none = filter-none (λ y. n < key y) (λ y. nat_eq (key y) n) (λ y lt is. omega (arith, eqb-true (key y) n is, lt)) (x ∷ xs)
-        (all_above n (n + 1) (x ∷ xs) from (omega arith)) in
+        let none = filter-none (λ y. n < key y) (λ y. nat_eq (key y) n) (λ y lt is. omega (arith, eqb-true (key y) n is, lt))
+        (x ∷ xs) (all_above n (n + 1) (x ∷ xs) from (omega arith)) in
         record { front = []; rest = x ∷ xs; is = refl; at_n = none; here = tt; rises = from }
 
   skip : (n : ℕ) (front rest : List X) → AllByRecursion (λ x. key x ≡ n) front → (count k : ℕ) → n < k → by_key k count (front ++ rest) ≡ by_key k count rest

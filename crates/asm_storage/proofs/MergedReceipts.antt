@@ -78,7 +78,8 @@ at_key : (test : Receipt → Bool) (n : ℕ) → ((r : Receipt) → test r ≡ n
     map event_with_id (filter (λ p. nat_eq (key_with_id p) n) (receipts_with_ids agents))
 at_key test n says agents =
     picked test agents
-    ∙ ap (map event_with_id) (filter_agree (λ p. test p.1) (λ p. nat_eq (key_with_id p) n) (λ p. says p.1) (receipts_with_ids agents))
+    ∙ ap (map event_with_id)
+    (filter_agree (λ p. test p.1) (λ p. nat_eq (key_with_id p) n) (λ p. says p.1) (receipts_with_ids agents))
 
 -- rounds are places, two by two
 pub rounds_by_key : (agents : List AgentView) (count n : ℕ) →
@@ -92,7 +93,8 @@ rounds_by_key agents (suc count) n =
     let f = filter (λ p. nat_eq (key_with_id p) (2 * n + 1)) ps in
     let rest = by_key key_with_id (2 * n + 1 + 1) (2 * count) ps in
     let ev = map event_with_id in
-    ap (λ h. (h ++ flat_map (fired_at n) agents) ++ rounds agents (n + 1) count) (at_key (is_quiet_at n) (2 * n) (quiet_key n) agents)
+    ap (λ h. (h ++ flat_map (fired_at n) agents) ++ rounds agents (n + 1) count)
+    (at_key (is_quiet_at n) (2 * n) (quiet_key n) agents)
     ∙ ap (λ h. (ev q ++ h) ++ rounds agents (n + 1) count) (at_key (is_move_at n) (2 * n + 1) (move_key n) agents)
     ∙ ap (λ h. (ev q ++ ev f) ++ h) (rounds_by_key agents count (n + 1) ∙ ap (λ k. ev (by_key key_with_id k (2 * count) ps)) next)
     ∙ append_assoc (ev q) (ev f) (ev rest)
@@ -143,7 +145,8 @@ keys_below agents =
     let top = last_stood agents in
     let low : ℕ × Receipt → Type 0 = λ p. key_with_id p < 0 + 2 * (top + 1) in
     Each-flat_map low (λ (a : AgentView). map (with_id a.id) a.receipts) agents
-    (Each-weaker (λ (a : AgentView). most (λ r. r.stood) a.receipts ≤ top) (λ a. AllByRecursion low (map (with_id a.id) a.receipts))
+    (Each-weaker (λ (a : AgentView). most (λ r. r.stood) a.receipts ≤ top)
+    (λ a. AllByRecursion low (map (with_id a.id) a.receipts))
     (λ a le. Each-map low (with_id a.id) a.receipts (own_below top a le)) agents
     (most_bounds (λ (a : AgentView). most (λ r. r.stood) a.receipts) agents top (omega arith)))
 
@@ -158,5 +161,6 @@ merged_from_sort agents xs ys told permutation sorted stable =
     let rises : Rises key_of 0 ys = rises_from key_of 0 ys (λ j d lt. omega arith) sorted in
     ap (map merged_event) (sym (by_key_all key_of (2 * count) 0 ys rises below) ∙ same_keys xs ys stable (2 * count) 0)
     ∙ sym (map-map event_with_id id_and_receipt (by_key key_of 0 (2 * count) xs))
-    ∙ ap (map event_with_id) (sym (by_key-map key_with_id id_and_receipt (2 * count) 0 xs) ∙ ap (by_key key_with_id 0 (2 * count)) told)
+    ∙ ap (map event_with_id)
+    (sym (by_key-map key_with_id id_and_receipt (2 * count) 0 xs) ∙ ap (by_key key_with_id 0 (2 * count)) told)
     ∙ sym (rounds_by_key agents count 0)

@@ -211,9 +211,11 @@ fired_part m all n (e ∷ f ∷ h) one each = absurd (omega arith)
 fired_part m all n (e ∷ []) one each =
     let entry = fired_entry m all n e each.0.0 each.0.1 in
     let mine : fired_moves (e ∷ []) ≡ entry.0.instrs ∷ [] = rw entry.3 refl in
+    let move = λ (x : Entry). x.instrs in
+    let here = slice_get-map move all n ∙ ap (option_map move) entry.1 in
     record {
       legal = (each.0.0.replied, tt);
-      leaves = ap (λ r. take n (moves_seen all) ++ r) mine ∙ sym (take-slice_get (moves_seen all) n entry.0.instrs (slice_get-map (λ (x : Entry). x.instrs) all n ∙ ap (option_map (λ (x : Entry). x.instrs)) entry.1));
+      leaves = ap (λ r. take n (moves_seen all) ++ r) mine ∙ sym (take-slice_get (moves_seen all) n entry.0.instrs here);
     }
 
 part-append : (m : Machine) (all : List Entry) (q r s : List Move) (g h : List Event) → IsPart m all q r g → IsPart m all r s h → IsPart m all q s (g ++ h)

@@ -8,7 +8,8 @@ pub loop-event-preserved : goal.loop-event-preserved
 loop-event-preserved c =
     let fits = EventFits c.args.agents in
     let here = subst fits c.event-item.is (c.if-not-fits.ensures.0 refl) in
-    All-more fits c.args.events.now c.loop-event.event-index c.event-item.result c.loop-event-test.true c.loop-event.invariant here
+    All-more fits c.args.events.now c.loop-event.event-index c.event-item.result c.loop-event-test.true
+    c.loop-event.invariant here
 
 pub returns : goal.returns
 returns c =

@@ -22,22 +22,25 @@ told : {A : Type 0} (meaning : A → Meaning) (s : StorageView A) (p : AgentPart
 told meaning s p given reads M o is part level handed objects same =
     let stands = stands_for_all (machine_of meaning s) p.progress.seen p.state part.following level in
     subst (λ o. IsObjection (meaning s.agg).part s.init (moves_seen p.progress.seen) reads M (Ok o)) same
-    (subst (λ a. (init : State) (q : List Move) → Stands (meaning a).part init p.state q → IsObjection (meaning a).part init q reads M (Ok o))
+    (subst (λ a. (init : State) (q : List Move) → Stands (meaning a).part init p.state q →
+    IsObjection (meaning a).part init q reads M (Ok o))
     handed objects s.init (moves_seen p.progress.seen) stands)
 
 pub returns-in-Some-Stale : goal.returns-in-Some-Stale
 returns-in-Some-Stale g c =
-    sym (told g.A.Aggregator.meaning c.args.storage.now c.args.self.now _ c.args.reads.now _ _ _ c.requires.part c.requires.level
-    c.aggregator.ensures c.in_ok-at.ensures (c.in-Some-Stale.is ∙ ap Some c.in-Some-Stale.field-0-is))
+    sym (told g.A.Aggregator.meaning c.args.storage.now c.args.self.now _ c.args.reads.now _ _ _
+    c.requires.part c.requires.level c.aggregator.ensures c.in_ok-at.ensures
+    (c.in-Some-Stale.is ∙ ap Some c.in-Some-Stale.field-0-is))
 
 pub returns-in-Some-Clash : goal.returns-in-Some-Clash
 returns-in-Some-Clash g c =
-    let clash = told g.A.Aggregator.meaning c.args.storage.now c.args.self.now _ c.args.reads.now _ _ _ c.requires.part c.requires.level
-    c.aggregator.ensures c.in_ok-at.ensures (c.in-Some-Clash.is ∙ ap Some c.in-Some-Clash.field-0-is) in
+    let clash = told g.A.Aggregator.meaning c.args.storage.now c.args.self.now _ c.args.reads.now _ _ _
+    c.requires.part c.requires.level c.aggregator.ensures c.in_ok-at.ensures
+    (c.in-Some-Clash.is ∙ ap Some c.in-Some-Clash.field-0-is) in
     sym clash.0
 
 pub returns : goal.returns
 returns g c =
-    let fires = told g.A.Aggregator.meaning c.args.storage.now c.args.self.now _ c.args.reads.now _ _ _ c.requires.part c.requires.level
-    c.aggregator.ensures c.in_ok-at.ensures c.in-None.is in
+    let fires = told g.A.Aggregator.meaning c.args.storage.now c.args.self.now _ c.args.reads.now _ _ _
+    c.requires.part c.requires.level c.aggregator.ensures c.in_ok-at.ensures c.in-None.is in
     sym fires.0

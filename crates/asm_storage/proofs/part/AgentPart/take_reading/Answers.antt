@@ -27,8 +27,10 @@ at_all meaning a places n (Err e) peeked number level = (tt, tt)
 
 pub returns-clause-places : goal.returns-clause-places
 returns-clause-places g c =
-    (at_all g.A.Aggregator.meaning _ c.args.places.now _ c.peek.result c.peek.ensures.peeked c.peek.ensures.number c.requires.level).0
+    (at_all g.A.Aggregator.meaning _ c.args.places.now _ c.peek.result c.peek.ensures.peeked
+    c.peek.ensures.number c.requires.level).0
 
 pub returns-clause-reply : goal.returns-clause-reply
 returns-clause-reply g c =
-    (at_all g.A.Aggregator.meaning _ c.args.places.now _ c.peek.result c.peek.ensures.peeked c.peek.ensures.number c.requires.level).1
+    (at_all g.A.Aggregator.meaning _ c.args.places.now _ c.peek.result c.peek.ensures.peeked
+    c.peek.ensures.number c.requires.level).1
