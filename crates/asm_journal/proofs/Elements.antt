@@ -1,5 +1,5 @@
 -- Elements and locations: what reading finds, and that JSON is the form of at most one.
-use Rattle.std.proofs.Common.{codes, ◌≢◌, ◌≡◌, ◌<◌, ◌≤◌, ℕ, ℤ, pos, negsuc, false, List, [], ◌∷◌, length, map, Result, Ok, Err, refl, sym, ap, ap₂, subst, ◌∙◌, arith}
+use Rattle.std.proofs.Common.{codes, ◌≡◌, ◌<◌, ◌≤◌, ℕ, ℤ, pos, negsuc, false, List, [], ◌∷◌, length, map, Result, Ok, Err, refl, sym, ap, ap₂, subst, ◌∙◌, arith}
 use Rattle.std.specs.Prelude.{◌↔◌, IfOk, IsTrue, option_map}
 use Rattle.std.specs.Result.{result_ok}
 use Rattle.std.specs.declared.alloc.AllocError.{AllocError}
@@ -232,11 +232,3 @@ list_written (Ok o) items d es x is same whole h =
     ap items_of same ∙ sequence_json (elements_of es) ∙ ap items_json_of (sequence-elements es) in
     h ∙ ap (one_of (codes "list")) whole ∙ ap list_json parts ∙ ap element_json_of (sym is)
 list_written (Err e) items d es x is same whole h = tt
-
--- an object without the items of a list
-pub no_object : (d : Data) (ms : Members) → d ≡ object ms → ((ds : Items) → d ≢ list_json ds) → (x : Element) → IsElementForm x d → ⊥
-no_object d ms is none elements.Undef h = unlike d _ ms is h.1 (λ ns e. cc)
-no_object d ms is none (elements.Bool b) h = unlike d _ ms is h.1 (λ ns e. cc)
-no_object d ms is none (elements.Num z) h = unlike d _ ms is h.1 (λ ns e. cc)
-no_object d ms is none (elements.Text s) h = unlike d _ ms is h.1 (λ ns e. cc)
-no_object d ms is none (elements.List es) h = none _ h.1

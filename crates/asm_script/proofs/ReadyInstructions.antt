@@ -4,7 +4,7 @@ use Rattle.std.proofs.Common.{◌∙◌, subst, append_assoc}
 use Rattle.std.proofs.lemmas.List.{map-append}
 use Rattle.std.specs.Prelude.{◌&&◌}
 use Rattle.std.specs.List.{list_all}
-use Rattle.std.specs.Option.{option_map, option_and_then, is_some}
+use Rattle.std.specs.Option.{option_map, option_and_then}
 use Rattle.asm_element.specs.declared.element.Element.{Element}
 use Rattle.asm_element.specs.declared.value.Value.{Value}
 use Rattle.asm_element.specs.declared.value.Value.TheVariants.{Plain, Set, Bag}
@@ -120,19 +120,6 @@ one_made all made made' i j left left' h next is push = record {
       ∙ (ap (λ b. map written made ++ b) (sym next) ∙ h.whole))));
   rest = (both (is_ready i) (list_all is_ready left') (ap (list_all is_ready) (sym next) ∙ h.rest)).1;
 }
-
--- the next one is something
-pub not_none : (i : TermInstruction) (left left' : Block) → list_all is_ready left ≡ true → left ≡ i ∷ left' →
-    ready_instruction i ≡ None → ⊥
-not_none i left left' h next none =
-    is_none_there (ready_action i.action) none
-    (both (is_ready i) (list_all is_ready left') (ap (list_all is_ready) (sym next) ∙ h)).0 where
-      made_of : Action → Instruction
-      made_of a = record { at = i.at; action = a }
-
-      is_none_there : (o : Option Action) → option_map made_of o ≡ None → is_some o ≡ true → ⊥
-      is_none_there None e some = absurd (cc some)
-      is_none_there (Some a) e some = absurd (cc e)
 
 -- ---- what is written out takes no location
 

@@ -73,7 +73,6 @@ pub struct Script {
 impl Model for Script {
     ghost use Rattle.std.specs.Arc.{arc_value};
     ghost use Rattle.std.specs.Prelude.{length, ◌≤◌};
-    ghost use Rattle.std.specs.Coded.{coded_list};
     ghost use Rattle.asm_update.specs.contracts.plain_state.PlainState.{the_row as state_row};
     ghost use Rattle.asm_script.specs.contracts.block.TermInstruction.{the_row as instruction_row};
     ghost use Rattle.asm_script.specs.Plan.{Plan, plan_code};

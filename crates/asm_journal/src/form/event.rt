@@ -1,5 +1,4 @@
 //! The JSON of events: an agent, its call, and the answer.
-ghost use Rattle.std.specs.Prelude.{◌≡◌, IfOk};
 ghost use Rattle.asm_journal.specs.Event.{event_json_of, IsEventForm};
 
 use crate::form::number::read_number;
