@@ -81,13 +81,8 @@ changed-append A (c ∷ cs) ds = changed-append (write A c.0 (made c.1 (val A c.
 
 -- the move that an event fired is proper
 fired_proper : (c : Call) (a : Answer) (M : Move) → IsProperCall c → fired_move c a ≡ Some M → All IsProperInstruction M
-fired_proper (call.Read ps) (answer.Read n vs) M h is = absurd cc
-fired_proper (call.Read ps) (answer.Fire r) M h is = absurd cc
-fired_proper (call.Fire rs N) (answer.Read n vs) M h is = absurd cc
 fired_proper (call.Fire rs N) (answer.Fire (reply.Fired k)) M h is = subst (All IsProperInstruction) (same_Some N M is) h.1.0
-fired_proper (call.Fire rs N) (answer.Fire (reply.Stale l)) M h is = absurd cc
-fired_proper (call.Fire rs N) (answer.Fire (reply.Clash c)) M h is = absurd cc
-fired_proper (call.Fire rs N) (answer.Fire reply.Full) M h is = absurd cc
+fired_proper c a M h is = absurd cc
 
 module _ {a : Meaning} (laws : AggregatorLaws a) where
   move_changed : (A : State) (M : Move) → IsHeld A → All IsProperInstruction M →

@@ -107,12 +107,8 @@ bag_made a b sa sb =
 
 pub change_made : (old new : Value) → value.IsProper old → value.IsProper new → made (change_of old new) old ≡ new
 change_made (values.Set s) (values.Set t) po pn = ap values.Set (set_made s t)
-change_made (values.Set s) (values.Bag b) po pn = refl
-change_made (values.Set s) (values.Plain x) po pn = refl
-change_made (values.Bag a) (values.Set t) po pn = refl
 change_made (values.Bag a) (values.Bag b) po pn = ap values.Bag (bag_made a b (small_bag a po.1) (small_bag b pn.1))
-change_made (values.Bag a) (values.Plain x) po pn = refl
-change_made (values.Plain x) new po pn = refl
+change_made old new po pn = refl
 
 -- ---- what is told is so
 

@@ -47,14 +47,13 @@ notes_more m q n [] e [] x so_far one =
     let number : n + 0 ≡ n = omega arith in
     let moved : IsNoteOf m q (n + 0) e x = subst (λ p. IsNoteOf m p (n + 0) e x) (append-nil q) one in
     (subst (λ k. IsNoteOf m q k e x) number moved, tt)
-notes_more m q n [] e (y ∷ xs) x so_far one = absurd so_far
-notes_more m q n (y ∷ es) e [] x so_far one = absurd so_far
 notes_more m q n (y ∷ es) e (z ∷ xs) x so_far one =
     let number : n + suc (length es) ≡ n + 1 + length es = omega arith in
     let moved : IsNoteOf m (moves_with q y ++ fired_moves es) (n + suc (length es)) e x =
     subst (λ p. IsNoteOf m p (n + suc (length es)) e x) (sym (moves_joined q (move_of y) (fired_moves es))) one in
     let last = subst (λ k. IsNoteOf m (moves_with q y ++ fired_moves es) k e x) number moved in
     (so_far.0, notes_more m (moves_with q y) (n + 1) es e xs x so_far.1 last)
+notes_more m q n es e xs x so_far one = absurd so_far
 
 pub text_more : (xs : List Note) (x : Note) → notes_text (xs ++ x ∷ []) ≡ notes_text xs ++ line (note_json_of x)
 text_more [] x = append-nil (line (note_json_of x))

@@ -34,12 +34,11 @@ note_once m q n e x y h k =
 notes_once : (m : Machine) (q : List Move) (n : ℕ) (es : List Event) (xs ys : List Note) → AreNotesOf m q n es xs →
     AreNotesOf m q n es ys → xs ≡ ys
 notes_once m q n [] [] [] h k = refl
-notes_once m q n [] [] (y ∷ ys) h k = absurd k
-notes_once m q n [] (x ∷ xs) ys h k = absurd h
-notes_once m q n (e ∷ es) [] ys h k = absurd h
-notes_once m q n (e ∷ es) (x ∷ xs) [] h k = absurd k
 notes_once m q n (e ∷ es) (x ∷ xs) (y ∷ ys) h k =
     ap₂ (λ a b. a ∷ b) (note_once m q n e x y h.0 k.0) (notes_once m (moves_with q e) (n + 1) es xs ys h.1 k.1)
+notes_once m q n [] [] ys h k = absurd k
+notes_once m q n (e ∷ es) (x ∷ xs) ys h k = absurd k
+notes_once m q n es xs ys h k = absurd h
 
 pub one_trace : OneTrace
 one_trace part h s t (xs, are, is) (ys, also, too) =
@@ -72,12 +71,11 @@ legal_rest m q e es legal before after x stands =
 legal_notes : (m : Machine) (q : List Move) (n : ℕ) (es : List Event) (xs : List Note) → AreLegal m q es →
     AreNotesOf m q n es xs → All TellsNone xs
 legal_notes m q n [] [] legal h = All-nil TellsNone
-legal_notes m q n [] (x ∷ xs) legal h = absurd h
-legal_notes m q n (e ∷ es) [] legal h = absurd h
 legal_notes m q n (e ∷ es) (x ∷ xs) legal h =
     All-cons TellsNone x xs
     (none_told e.answer (reply_to m q e.call) x.right (legal_first m q e es legal) h.0.right)
     (legal_notes m (moves_with q e) (n + 1) es xs (legal_rest m q e es legal) h.1)
+legal_notes m q n es xs legal h = absurd h
 
 pub legal_trace : LegalTrace
 legal_trace part h notes are legal = legal_notes (machine_of part h) [] 0 h.events notes legal are
