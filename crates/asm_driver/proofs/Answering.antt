@@ -1,17 +1,14 @@
 -- What is answered to the program's words.
-use Rattle.std.proofs.Common.{◌≡◌, ◌∙◌, ◌<◌, ◌^◌, Bool, true, false, ap, ap₂, length, option_map, List, [], ◌∷◌}
+use Rattle.std.proofs.Common.{◌≡◌, ◌∙◌, ◌<◌, ◌^◌, ℕ, Bool, true, false, ap, ap₂, List, [], ◌∷◌, ◌==◌, if◌then◌else◌}
 use Rattle.std.proofs.Common.{get_or, Option, Some, None, Result, Ok, Err, refl, sym, subst, codes, inl, inr, arith, lit<}
 use Rattle.std.specs.Prelude.{IfOk, IfErr, IfSome, IfNone, ◌⊎◌}
-use Rattle.std.specs.Option.{ok_or, option_and_then}
+use Rattle.std.specs.Option.{ok_or}
 use Rattle.std.specs.Str.Parse.{IsNumeral, digits_value, without_leading_plus}
 use Rattle.clap.proofs.OnLiterals.{clap_on_literals}
 use Rattle.clap.specs.Words.{Row, Text, Kinds, IsAmong, one_of, subcommand_of}
 use Rattle.clap.specs.declared.error.kind.ErrorKind.{ErrorKind}
 use Rattle.clap.specs.declared.error.kind.ErrorKind.TheVariants as kind
-use Rattle.asm_row.specs.Limits.{capacity_limit}
-use Rattle.asm_driver.specs.Limits.{default_capacity}
-use Rattle.asm_driver.specs.Words.{Words, program, faults, program_with, run_with, Asks, AsksFor, IsNoCommand}
-use Rattle.asm_driver.specs.Words.{IsRefusal, IsMadeOf, IsTold, HasMistake}
+use Rattle.asm_driver.specs.Words.{Words, program, faults, Asks, AsksFor, IsNoCommand, IsRefusal, IsMadeOf, IsTold}
 use Rattle.asm_driver.specs.Words.{Gives, RefusesWords, Helps, TellsVersion, Answers}
 use Rattle.asm_driver.specs.declared.program.words.Request.{Request}
 use Rattle.asm_driver.specs.declared.program.words.Request.TheVariants.{Run, Check, Rewrite, Trace}
@@ -21,378 +18,233 @@ use Rattle.asm_driver.specs.declared.program.words.WordsError.TheVariants.{Help,
 -- an error of clap that may come at these words
 pub refused : (words : Words) (k : ErrorKind) (e : WordsError) → (k ≡ kind.OutOfMemory) ⊎ IsAmong k (faults words) →
     IsMadeOf k e → IsRefusal words e
-refused words k (Help text) (inl memory) is = let e : kind.OutOfMemory ≡ kind.DisplayHelp = sym memory
-    ∙ is in absurd (cc (e))
+refused words k (Help text) (inl memory) is = absurd (cc (memory, is))
 refused words k (Help text) (inr among) is = subst (λ x. IsAmong x (faults words)) is among
-refused words k Version (inl memory) is = let e : kind.OutOfMemory ≡ kind.DisplayVersion = sym memory
-    ∙ is in absurd (cc (e))
+refused words k Version (inl memory) is = absurd (cc (memory, is))
 refused words k Version (inr among) is = subst (λ x. IsAmong x (faults words)) is among
 refused words k Bad (inl memory) is = absurd (is.0 memory)
 refused words k Bad (inr among) is = inl (k, among, is.1)
 refused words k Memory among is = tt
 
--- words that are taken, and ask for this
-record IsExample (example : Words) (r : Request) : Type 0 where
-  taken : faults example ≡ []
-  asks : (m : Request) → Asks (subcommand_of program example) m → m ≡ r
-  known : ¬ IsNoCommand (subcommand_of program example)
+-- a result that is right for these words
+pub record IsRight (words : Words) (r : Result Request WordsError) : Type 0 where
+  pub ok : IfOk r (AsksFor words)
+  pub err : IfErr r (IsRefusal words)
 
--- the words of the commands differ, most by their lengths
-run_is_no_check : codes "run" ≡ codes "check" → ⊥
-run_is_no_check e = let bad : 3 ≡ 5 = ap length e in absurd (omega (arith, bad))
+-- ---- words that are taken
 
-run_is_no_rewrite : codes "run" ≡ codes "rewrite" → ⊥
-run_is_no_rewrite e = let bad : 3 ≡ 7 = ap length e in absurd (omega (arith, bad))
+-- the word of a request's command
+abbrev word : Request → Text
+word (Run c j) = codes "run"
+word Check = codes "check"
+word Rewrite = codes "rewrite"
+word Trace = codes "trace"
 
-check_is_no_rewrite : codes "check" ≡ codes "rewrite" → ⊥
-check_is_no_rewrite e = let bad : 5 ≡ 7 = ap length e in absurd (omega (arith, bad))
+-- its second letter, which no two of the words share
+abbrev letter : Request → ℕ
+letter r = get_or (word r) 1 0
 
-run_is_no_trace : codes "run" ≡ codes "trace" → ⊥
-run_is_no_trace e = let bad : 3 ≡ 5 = ap length e in absurd (omega (arith, bad))
+-- the request with this letter, where it has no options, and else this one
+abbrev with_letter : ℕ → Request → Request
+with_letter l r =
+    if l == 104 then Check else (if l == 101 then Rewrite else (if l == 114 then Trace else r))
 
-rewrite_is_no_trace : codes "rewrite" ≡ codes "trace" → ⊥
-rewrite_is_no_trace e = let bad : 7 ≡ 5 = ap length e in absurd (omega (arith, bad))
+with_own_letter : (r : Request) → with_letter (letter r) r ≡ r
+with_own_letter (Run c j) = refl
+with_own_letter Check = refl
+with_own_letter Rewrite = refl
+with_own_letter Trace = refl
 
--- these two are of one length, and differ in their first letter
-check_is_no_trace : codes "check" ≡ codes "trace" → ⊥
-check_is_no_trace e = let bad : 99 ≡ 116 = ap (λ (t : Text). get_or t 0 0) e in absurd (omega (arith, bad))
+-- what is asked for has the word of the command
+same_letter : (n m : Request) (rows : List Row) → Asks (Some (word n, rows)) m → letter n ≡ letter m
+same_letter n (Run c j) rows h = ap (λ (t : Text). get_or t 1 0) h.0
+same_letter n Check rows h = ap (λ (t : Text). get_or t 1 0) h
+same_letter n Rewrite rows h = ap (λ (t : Text). get_or t 1 0) h
+same_letter n Trace rows h = ap (λ (t : Text). get_or t 1 0) h
+
+-- so it is the command without options that has this letter
+by_letter : (n m : Request) (rows : List Row) → Asks (Some (word n, rows)) m → m ≡ with_letter (letter n) m
+by_letter n m rows h = sym (with_own_letter m) ∙ ap (λ l. with_letter l m) (sym (same_letter n m rows h))
 
 -- the text of a flag
 abbrev flag_text : Bool → Text
 flag_text true = codes "true"
 flag_text false = codes "false"
 
--- what run asks for by these texts at its options
-asked_run : (s : Option (Text × List Row)) (t : Text) (j : Bool) → option_map (λ p. p.0) s ≡ Some (codes "run")
-    → option_and_then (λ p. one_of (codes "capacity") p.1) s ≡ Some t → IsNumeral 10 (without_leading_plus t)
-    → digits_value 10 (without_leading_plus t) < 2 ^ 32
-    → option_and_then (λ p. one_of (codes "journal") p.1) s ≡ Some (flag_text j)
-    → (m : Request) → Asks s m → m ≡ Run (digits_value 10 (without_leading_plus t)) j
-asked_run None t j named number numeral small flag m h = absurd h
-asked_run (Some p) t true named number numeral small flag (Run c k) h = ap₂ Run (h.1.0 t number numeral small)
-    (h.1.1.0 flag)
-asked_run (Some p) t false named number numeral small flag (Run c k) h = ap₂ Run (h.1.0 t number numeral small)
-    (h.1.1.1 flag)
-asked_run (Some p) t j named number numeral small flag Check h =
-    let name : p.0 ≡ codes "run" = cc named in absurd (run_is_no_check (sym name ∙ h))
-asked_run (Some p) t j named number numeral small flag Rewrite h =
-    let name : p.0 ≡ codes "run" = cc named in absurd (run_is_no_rewrite (sym name ∙ h))
-asked_run (Some p) t j named number numeral small flag Trace h =
-    let name : p.0 ≡ codes "run" = cc named in absurd (run_is_no_trace (sym name ∙ h))
+-- the options have texts that ask for this request: run's are a number of 32 bits and a flag
+abbrev HasOptions : List Row → Request → Type 0
+HasOptions rows (Run c j) =
+    (t : Text) × IsNumeral 10 (without_leading_plus t) × (digits_value 10 (without_leading_plus t) < 2 ^ 32)
+    × (digits_value 10 (without_leading_plus t) ≡ c) × (one_of (codes "capacity") rows ≡ Some t)
+    × (one_of (codes "journal") rows ≡ Some (flag_text j))
+HasOptions rows r = Unit {0}
 
-asked_check : (s : Option (Text × List Row)) → option_map (λ p. p.0) s ≡ Some (codes "check") → (m : Request) →
-    Asks s m → m ≡ Check
-asked_check None named m h = absurd h
-asked_check (Some p) named (Run c k) h =
-    let name : p.0 ≡ codes "check" = cc named in absurd (run_is_no_check (sym h.0 ∙ name))
-asked_check (Some p) named Check h = refl
-asked_check (Some p) named Rewrite h =
-    let name : p.0 ≡ codes "check" = cc named in absurd (check_is_no_rewrite (sym name ∙ h))
-asked_check (Some p) named Trace h =
-    let name : p.0 ≡ codes "check" = cc named in absurd (check_is_no_trace (sym name ∙ h))
+-- a command with these options asks for nothing else
+asked_alone : (n m : Request) (rows : List Row) → HasOptions rows n → Asks (Some (word n, rows)) m → m ≡ n
+asked_alone (Run c true) (Run d k) rows (t, numeral, small, value, number, flag) h =
+    ap₂ Run (h.1.0 t number numeral small ∙ value) (h.1.1.0 flag)
+asked_alone (Run c false) (Run d k) rows (t, numeral, small, value, number, flag) h =
+    ap₂ Run (h.1.0 t number numeral small ∙ value) (h.1.1.1 flag)
+asked_alone (Run c j) Check rows has h = absurd (omega (arith, same_letter (Run c j) Check rows h))
+asked_alone (Run c j) Rewrite rows has h = absurd (omega (arith, same_letter (Run c j) Rewrite rows h))
+asked_alone (Run c j) Trace rows has h = absurd (omega (arith, same_letter (Run c j) Trace rows h))
+asked_alone Check m rows has h = by_letter Check m rows h
+asked_alone Rewrite m rows has h = by_letter Rewrite m rows h
+asked_alone Trace m rows has h = by_letter Trace m rows h
 
-asked_rewrite : (s : Option (Text × List Row)) → option_map (λ p. p.0) s ≡ Some (codes "rewrite") → (m : Request) →
-    Asks s m → m ≡ Rewrite
-asked_rewrite None named m h = absurd h
-asked_rewrite (Some p) named (Run c k) h =
-    let name : p.0 ≡ codes "rewrite" = cc named in absurd (run_is_no_rewrite (sym h.0 ∙ name))
-asked_rewrite (Some p) named Check h =
-    let name : p.0 ≡ codes "rewrite" = cc named in absurd (check_is_no_rewrite (sym h ∙ name))
-asked_rewrite (Some p) named Rewrite h = refl
-asked_rewrite (Some p) named Trace h =
-    let name : p.0 ≡ codes "rewrite" = cc named in absurd (rewrite_is_no_trace (sym name ∙ h))
-
-asked_trace : (s : Option (Text × List Row)) → option_map (λ p. p.0) s ≡ Some (codes "trace") → (m : Request) →
-    Asks s m → m ≡ Trace
-asked_trace None named m h = absurd h
-asked_trace (Some p) named (Run c k) h =
-    let name : p.0 ≡ codes "trace" = cc named in absurd (run_is_no_trace (sym h.0 ∙ name))
-asked_trace (Some p) named Check h =
-    let name : p.0 ≡ codes "trace" = cc named in absurd (check_is_no_trace (sym h ∙ name))
-asked_trace (Some p) named Rewrite h =
-    let name : p.0 ≡ codes "trace" = cc named in absurd (rewrite_is_no_trace (sym h ∙ name))
-asked_trace (Some p) named Trace h = refl
+-- the word is a command's
+known : (n : Request) (rows : List Row) → IsNoCommand (Some (word n, rows)) → ⊥
+known (Run c j) rows none = none.0 refl
+known Check rows none = none.1 refl
+known Rewrite rows none = none.2 refl
+known Trace rows none = none.3 refl
 
 none_among : (k : ErrorKind) (ks : Kinds) → ks ≡ [] → IsAmong k ks → ⊥
 none_among k [] e h = h
 none_among k (x ∷ xs) e h = cc (e)
 
-gives : (example words : Words) (n : Request) (r : Result Request WordsError) → IsExample example n →
-    IfOk r (AsksFor words) → IfErr r (IsRefusal words) → words ≡ example → Gives n r
-gives example words n (Ok m) is ok err e = is.asks m (subst (λ w. Asks (subcommand_of program w) m) e ok.1)
-gives example words n (Err (Help text)) is ok err e = absurd
-    (none_among _ _ is.taken (subst (λ w. IsAmong kind.DisplayHelp (faults w)) e err))
-gives example words n (Err Version) is ok err e = absurd
-    (none_among _ _ is.taken (subst (λ w. IsAmong kind.DisplayVersion (faults w)) e err))
-gives example words n (Err Bad) is ok (inl found) e = absurd
-    (none_among _ _ is.taken (subst (λ w. IsAmong found.0 (faults w)) e found.1))
-gives example words n (Err Bad) is ok (inr other) e = absurd
-    (is.known (subst (λ w. IsNoCommand (subcommand_of program w)) e other.1))
-gives example words n (Err Memory) is ok err e = refl
+given : (words : Words) (n : Request) (rows : List Row) (r : Result Request WordsError) → faults words ≡ [] →
+    subcommand_of program words ≡ Some (word n, rows) → HasOptions rows n → IsRight words r → Gives n r
+given words n rows (Ok m) taken command options right =
+    inl (ap Ok (asked_alone n m rows options (subst (λ s. Asks s m) command right.ok.1)))
+given words n rows (Err (Help text)) taken command options right = absurd (none_among _ _ taken right.err)
+given words n rows (Err Version) taken command options right = absurd (none_among _ _ taken right.err)
+given words n rows (Err Bad) taken command options right = elim right.err [
+  | inl one ↦ absurd (none_among _ _ taken one.1)
+  | inr other ↦ absurd (known n rows (subst IsNoCommand command other.1))
+]
+given words n rows (Err Memory) taken command options right = inr refl
 
--- the kinds tell neither help nor the version
-abbrev TellsNothing : Kinds → Type 0
-TellsNothing ks = ¬ IsAmong kind.DisplayHelp ks × ¬ IsAmong kind.DisplayVersion ks
+gives : {example words : Words} {n : Request} {rows : List Row} {r : Result Request WordsError} → IsRight words r →
+    faults example ≡ [] → subcommand_of program example ≡ Some (word n, rows) → HasOptions rows n →
+    words ≡ example → Gives n r
+gives right taken command options e =
+    given _ _ _ _ (ap faults e ∙ taken) (ap (subcommand_of program) e ∙ command) options right
 
--- a kind that clap may find at the words is among those that it may find at the example
-found_at : (example words : Words) (k : ErrorKind) (ks : Kinds) → faults example ≡ ks → words ≡ example →
-    IsAmong k (faults words) → IsAmong k ks
-found_at example words k ks is e among = subst (IsAmong k) is (subst (λ w. IsAmong k (faults w)) e among)
+-- ---- words at which clap finds something
 
--- clap doesn't take words at which it finds something
-not_taken : (example words : Words) (k : ErrorKind) (ks : Kinds) → faults example ≡ k ∷ ks → words ≡ example →
-    faults words ≡ [] → ⊥
-not_taken example words k ks is e taken = let none : k ∷ ks ≡ [] = sym is
-    ∙ subst (λ w. faults w ≡ []) e taken in cc (none)
+-- the kind tells neither help nor the version
+abbrev IsMistake : ErrorKind → Type 0
+IsMistake kind.DisplayHelp = ⊥
+IsMistake kind.DisplayVersion = ⊥
+IsMistake k = Unit {0}
 
-refuses : (example words : Words) (k : ErrorKind) (ks : Kinds) (r : Result Request WordsError) →
-    faults example ≡ k ∷ ks → TellsNothing (k ∷ ks) → IfOk r (AsksFor words) →
-    IfErr r (IsRefusal words) → words ≡ example → RefusesWords r
-refuses example words k ks (Ok m) is without ok err e = absurd (not_taken example words k ks is e ok.0)
-refuses example words k ks (Err (Help text)) is without ok err e = absurd
-    (without.0 (found_at example words kind.DisplayHelp (k ∷ ks) is e err))
-refuses example words k ks (Err Version) is without ok err e = absurd
-    (without.1 (found_at example words kind.DisplayVersion (k ∷ ks) is e err))
-refuses example words k ks (Err Bad) is without ok err e = tt
-refuses example words k ks (Err Memory) is without ok err e = tt
+-- and so does none of the kinds
+abbrev AreMistakes : Kinds → Type 0
+AreMistakes [] = Unit {0}
+AreMistakes (k ∷ ks) = IsMistake k × AreMistakes ks
 
-not_among : (k x : ErrorKind) → ¬ (k ≡ x) → ¬ IsAmong k (x ∷ [])
-not_among k x without (inl h) = without h
-not_among k x without (inr h) = h
+mistake_among : (x : ErrorKind) (ks : Kinds) → AreMistakes ks → IsAmong x ks → IsMistake x
+mistake_among x [] all h = absurd h
+mistake_among x (k ∷ ks) all (inl h) = subst IsMistake (sym h) all.0
+mistake_among x (k ∷ ks) all (inr h) = mistake_among x ks all.1 h
 
--- words at which clap finds only what is told have no mistake
-no_mistake : (example words : Words) (k : ErrorKind) → IsTold k → faults example ≡ k ∷ [] → words ≡ example →
-    HasMistake words → ⊥
-no_mistake example words k told is e (inl found) = not_among found.0 k (λ h. found.2 (subst IsTold (sym h) told))
-    (found_at example words found.0 (k ∷ []) is e found.1)
-no_mistake example words k told is e (inr other) = not_taken example words k [] is e other.0
+only : (x k : ErrorKind) → IsAmong x (k ∷ []) → x ≡ k
+only x k (inl h) = h
+only x k (inr h) = absurd h
 
-helps : (example words : Words) (r : Result Request WordsError) → faults example ≡ kind.DisplayHelp ∷ [] →
-    IfOk r (AsksFor words) → IfErr r (IsRefusal words) → words ≡ example → Helps r
-helps example words (Ok m) is ok err e = absurd (not_taken example words kind.DisplayHelp [] is e ok.0)
-helps example words (Err (Help text)) is ok err e = tt
-helps example words (Err Version) is ok err e = absurd
-    (not_among _ _ (λ h. cc (h)) (found_at example words kind.DisplayVersion (kind.DisplayHelp ∷ []) is e err))
-helps example words (Err Bad) is ok err e = absurd (no_mistake example words kind.DisplayHelp (inl refl) is e err)
-helps example words (Err Memory) is ok err e = tt
+-- what may be answered where clap finds these kinds
+abbrev IsFound : Kinds → Result Request WordsError → Type 0
+IsFound ks (Ok m) = ⊥
+IsFound ks (Err (Help text)) = IsAmong kind.DisplayHelp ks
+IsFound ks (Err Version) = IsAmong kind.DisplayVersion ks
+IsFound ks (Err Bad) = (k : ErrorKind) × IsAmong k ks × ¬ IsTold k
+IsFound ks (Err Memory) = Unit {0}
 
-tells : (example words : Words) (r : Result Request WordsError) → faults example ≡ kind.DisplayVersion ∷ [] →
-    IfOk r (AsksFor words) → IfErr r (IsRefusal words) → words ≡ example → TellsVersion r
-tells example words (Ok m) is ok err e = absurd (not_taken example words kind.DisplayVersion [] is e ok.0)
-tells example words (Err (Help text)) is ok err e = absurd
-    (not_among _ _ (λ h. cc (h)) (found_at example words kind.DisplayHelp (kind.DisplayVersion ∷ []) is e err))
-tells example words (Err Version) is ok err e = tt
-tells example words (Err Bad) is ok err e = absurd (no_mistake example words kind.DisplayVersion (inr refl) is e err)
-tells example words (Err Memory) is ok err e = tt
+found : (words : Words) (k : ErrorKind) (ks : Kinds) (r : Result Request WordsError) → faults words ≡ k ∷ ks →
+    IsRight words r → IsFound (k ∷ ks) r
+found words k ks (Ok m) is right = cc (is, right.ok.0)
+found words k ks (Err (Help text)) is right = subst (IsAmong kind.DisplayHelp) is right.err
+found words k ks (Err Version) is right = subst (IsAmong kind.DisplayVersion) is right.err
+found words k ks (Err Bad) is right = elim right.err [
+  | inl one ↦ (one.0, subst (IsAmong one.0) is one.1, one.2)
+  | inr other ↦ absurd (cc (is, other.0))
+]
+found words k ks (Err Memory) is right = tt
 
-default : IsExample (run_with []) (Run default_capacity false)
+found_bad : (ks : Kinds) (r : Result Request WordsError) → AreMistakes ks → IsFound ks r → RefusesWords r
+found_bad ks (Ok m) all h = absurd h
+found_bad ks (Err (Help text)) all h = absurd (mistake_among _ _ all h)
+found_bad ks (Err Version) all h = absurd (mistake_among _ _ all h)
+found_bad ks (Err Bad) all h = inl refl
+found_bad ks (Err Memory) all h = inr refl
+
+found_help : (r : Result Request WordsError) → IsFound (kind.DisplayHelp ∷ []) r → Helps r
+found_help (Ok m) h = absurd h
+found_help (Err (Help text)) h = inl (text, refl)
+found_help (Err Version) h = absurd (cc (only _ _ h))
+found_help (Err Bad) h = absurd (h.2 (inl (only _ _ h.1)))
+found_help (Err Memory) h = inr refl
+
+found_version : (r : Result Request WordsError) → IsFound (kind.DisplayVersion ∷ []) r → TellsVersion r
+found_version (Ok m) h = absurd h
+found_version (Err (Help text)) h = absurd (cc (only _ _ h))
+found_version (Err Version) h = inl refl
+found_version (Err Bad) h = absurd (h.2 (inr (only _ _ h.1)))
+found_version (Err Memory) h = inr refl
+
+refuses : {example words : Words} {k : ErrorKind} {ks : Kinds} {r : Result Request WordsError} → IsRight words r →
+    faults example ≡ k ∷ ks → AreMistakes (k ∷ ks) → words ≡ example → RefusesWords r
+refuses {k = k} {ks = ks} right is all e = found_bad (k ∷ ks) _ all (found _ _ _ _ (ap faults e ∙ is) right)
+
+helps : {example words : Words} {r : Result Request WordsError} → IsRight words r →
+    faults example ≡ kind.DisplayHelp ∷ [] → words ≡ example → Helps r
+helps right is e = found_help _ (found _ _ _ _ (ap faults e ∙ is) right)
+
+tells : {example words : Words} {r : Result Request WordsError} → IsRight words r →
+    faults example ≡ kind.DisplayVersion ∷ [] → words ≡ example → TellsVersion r
+tells right is e = found_version _ (found _ _ _ _ (ap faults e ∙ is) right)
+
+-- ---- the words that are written out
+
+pub answers : (words : Words) (r : Result Request WordsError) → IsRight words r → Answers words r
 unfolding clap_on_literals faults
-default = record {
-  taken = refl;
-  asks = asked_run (subcommand_of program (run_with [])) (codes "4096") false refl refl
-      (lit< tt, (lit< tt, (lit< tt, (lit< tt, (lit< tt, tt))))) (lit< tt) refl;
-  known = λ h. h.0 refl;
-}
-
-journal : IsExample (run_with (codes "--journal" ∷ [])) (Run default_capacity true)
-unfolding clap_on_literals faults
-journal = record {
-  taken = refl;
-  asks = asked_run (subcommand_of program (run_with (codes "--journal" ∷ []))) (codes "4096") true refl refl
-      (lit< tt, (lit< tt, (lit< tt, (lit< tt, (lit< tt, tt))))) (lit< tt) refl;
-  known = λ h. h.0 refl;
-}
-
-both : IsExample (run_with (codes "--journal" ∷ codes "--capacity" ∷ codes "8" ∷ [])) (Run 8 true)
-unfolding clap_on_literals faults
-both = record {
-  taken = refl;
-  asks = asked_run (subcommand_of program (run_with (codes "--journal" ∷ codes "--capacity" ∷ codes "8" ∷ [])))
-      (codes "8") true refl refl (lit< tt, (lit< tt, tt)) (lit< tt) refl;
-  known = λ h. h.0 refl;
-}
-
-plus : IsExample (run_with (codes "--capacity" ∷ codes "+8" ∷ [])) (Run 8 false)
-unfolding clap_on_literals faults
-plus = record {
-  taken = refl;
-  asks = asked_run (subcommand_of program (run_with (codes "--capacity" ∷ codes "+8" ∷ []))) (codes "+8") false refl
-      refl (lit< tt, (lit< tt, tt)) (lit< tt) refl;
-  known = λ h. h.0 refl;
-}
-
-leading_zero : IsExample (run_with (codes "--capacity" ∷ codes "08" ∷ [])) (Run 8 false)
-unfolding clap_on_literals faults
-leading_zero = record {
-  taken = refl;
-  asks = asked_run (subcommand_of program (run_with (codes "--capacity" ∷ codes "08" ∷ []))) (codes "08") false refl
-      refl (lit< tt, (lit< tt, (lit< tt, tt))) (lit< tt) refl;
-  known = λ h. h.0 refl;
-}
-
-joined : IsExample (run_with (codes "--capacity=8" ∷ [])) (Run 8 false)
-unfolding clap_on_literals faults
-joined = record {
-  taken = refl;
-  asks = asked_run (subcommand_of program (run_with (codes "--capacity=8" ∷ []))) (codes "8") false refl refl
-      (lit< tt, (lit< tt, tt)) (lit< tt) refl;
-  known = λ h. h.0 refl;
-}
-
-greatest : IsExample (run_with (codes "--capacity" ∷ codes "1048576" ∷ [])) (Run capacity_limit false)
-unfolding clap_on_literals faults
-greatest = record {
-  taken = refl;
-  asks = asked_run (subcommand_of program (run_with (codes "--capacity" ∷ codes "1048576" ∷ []))) (codes "1048576")
-      false refl refl (lit< tt, (lit< tt, (lit< tt, (lit< tt, (lit< tt, (lit< tt, (lit< tt, (lit< tt, tt))))))))
-      (lit< tt) refl;
-  known = λ h. h.0 refl;
-}
-
-checked : IsExample (program_with (codes "check" ∷ [])) Check
-unfolding clap_on_literals faults
-checked = record {
-  taken = refl;
-  asks = asked_check (subcommand_of program (program_with (codes "check" ∷ []))) refl;
-  known = λ h. h.1 refl;
-}
-
-rewritten : IsExample (program_with (codes "rewrite" ∷ [])) Rewrite
-unfolding clap_on_literals faults
-rewritten = record {
-  taken = refl;
-  asks = asked_rewrite (subcommand_of program (program_with (codes "rewrite" ∷ []))) refl;
-  known = λ h. h.2 refl;
-}
-
-traced : IsExample (program_with (codes "trace" ∷ [])) Trace
-unfolding clap_on_literals faults
-traced = record {
-  taken = refl;
-  asks = asked_trace (subcommand_of program (program_with (codes "trace" ∷ []))) refl;
-  known = λ h. h.3 refl;
-}
-
-tells_nothing : (k : ErrorKind) → ¬ (kind.DisplayHelp ≡ k) → ¬ (kind.DisplayVersion ≡ k) → TellsNothing (k ∷ [])
-tells_nothing k help version = (not_among kind.DisplayHelp k help, not_among kind.DisplayVersion k version)
-
-above : faults (run_with (codes "--capacity" ∷ codes "1048577" ∷ [])) ≡ kind.ValueValidation ∷ []
-unfolding clap_on_literals faults
-above = refl
-
-zero : faults (run_with (codes "--capacity" ∷ codes "0" ∷ [])) ≡ kind.ValueValidation ∷ []
-unfolding clap_on_literals faults
-zero = refl
-
-further : faults (run_with (codes "more" ∷ [])) ≡ kind.UnknownArgument ∷ []
-unfolding clap_on_literals faults
-further = refl
-
-none : faults (program_with []) ≡ kind.MissingSubcommand ∷ []
-unfolding clap_on_literals faults
-none = refl
-
-other_command : faults (program_with (codes "play" ∷ [])) ≡ kind.UnknownArgument ∷ kind.InvalidSubcommand ∷ []
-unfolding clap_on_literals faults
-other_command = refl
-
-neither : (k : ErrorKind) → ¬ (k ≡ kind.UnknownArgument) → ¬ (k ≡ kind.InvalidSubcommand) →
-    ¬ IsAmong k (kind.UnknownArgument ∷ kind.InvalidSubcommand ∷ [])
-neither k unknown invalid (inl h) = unknown h
-neither k unknown invalid (inr (inl h)) = invalid h
-neither k unknown invalid (inr (inr h)) = h
-
-neither_tells : TellsNothing (kind.UnknownArgument ∷ kind.InvalidSubcommand ∷ [])
-neither_tells = (
-  neither kind.DisplayHelp (λ e. cc (e)) (λ e. cc (e)),
-  neither kind.DisplayVersion (λ e. cc (e)) (λ e. cc (e)),
-)
-
-check_further : faults (program_with (codes "check" ∷ codes "more" ∷ [])) ≡ kind.UnknownArgument ∷ []
-unfolding clap_on_literals faults
-check_further = refl
-
-rewrite_further : faults (program_with (codes "rewrite" ∷ codes "more" ∷ [])) ≡ kind.UnknownArgument ∷ []
-unfolding clap_on_literals faults
-rewrite_further = refl
-
-trace_further : faults (program_with (codes "trace" ∷ codes "more" ∷ [])) ≡ kind.UnknownArgument ∷ []
-unfolding clap_on_literals faults
-trace_further = refl
-
-help : faults (codes "asm_driver" ∷ codes "--help" ∷ []) ≡ kind.DisplayHelp ∷ []
-unfolding clap_on_literals faults
-help = refl
-
-run_help : faults (run_with (codes "--help" ∷ [])) ≡ kind.DisplayHelp ∷ []
-unfolding clap_on_literals faults
-run_help = refl
-
-check_help : faults (program_with (codes "check" ∷ codes "--help" ∷ [])) ≡ kind.DisplayHelp ∷ []
-unfolding clap_on_literals faults
-check_help = refl
-
-rewrite_help : faults (program_with (codes "rewrite" ∷ codes "--help" ∷ [])) ≡ kind.DisplayHelp ∷ []
-unfolding clap_on_literals faults
-rewrite_help = refl
-
-trace_help : faults (program_with (codes "trace" ∷ codes "--help" ∷ [])) ≡ kind.DisplayHelp ∷ []
-unfolding clap_on_literals faults
-trace_help = refl
-
-version : faults (program_with (codes "--version" ∷ [])) ≡ kind.DisplayVersion ∷ []
-unfolding clap_on_literals faults
-version = refl
-
-short_version : faults (program_with (codes "-V" ∷ [])) ≡ kind.DisplayVersion ∷ []
-unfolding clap_on_literals faults
-short_version = refl
-
-run_version : faults (run_with (codes "--version" ∷ [])) ≡ kind.UnknownArgument ∷ []
-unfolding clap_on_literals faults
-run_version = refl
-
-pub answers : (words : Words) (r : Result Request WordsError) → IfOk r (AsksFor words) → IfErr r (IsRefusal words) →
-    Answers words r
-answers words r ok err = record {
-  default = gives _ words _ r default ok err;
-  journal = gives _ words _ r journal ok err;
-  both = gives _ words _ r both ok err;
-  plus = gives _ words _ r plus ok err;
-  leading_zero = gives _ words _ r leading_zero ok err;
-  joined = gives _ words _ r joined ok err;
-  greatest = gives _ words _ r greatest ok err;
-  above = refuses _ words _ _ r above (tells_nothing _ (λ e. cc (e)) (λ e. cc (e))) ok err;
-  zero = refuses _ words _ _ r zero (tells_nothing _ (λ e. cc (e)) (λ e. cc (e))) ok err;
-  further = refuses _ words _ _ r further (tells_nothing _ (λ e. cc (e)) (λ e. cc (e))) ok err;
-  none = refuses _ words _ _ r none (tells_nothing _ (λ e. cc (e)) (λ e. cc (e))) ok err;
-  other = refuses _ words _ _ r other_command neither_tells ok err;
-  check = gives _ words _ r checked ok err;
-  check_further = refuses _ words _ _ r check_further (tells_nothing _ (λ e. cc (e)) (λ e. cc (e))) ok err;
-  rewrite = gives _ words _ r rewritten ok err;
-  rewrite_further = refuses _ words _ _ r rewrite_further (tells_nothing _ (λ e. cc (e)) (λ e. cc (e))) ok err;
-  trace = gives _ words _ r traced ok err;
-  trace_further = refuses _ words _ _ r trace_further (tells_nothing _ (λ e. cc (e)) (λ e. cc (e))) ok err;
-  help = helps _ words r help ok err;
-  run_help = helps _ words r run_help ok err;
-  check_help = helps _ words r check_help ok err;
-  rewrite_help = helps _ words r rewrite_help ok err;
-  trace_help = helps _ words r trace_help ok err;
-  version = tells _ words r version ok err;
-  short_version = tells _ words r short_version ok err;
-  run_version = refuses _ words _ _ r run_version (tells_nothing _ (λ e. cc (e)) (λ e. cc (e))) ok err;
+answers words r right = record {
+  default = gives right refl refl
+      (codes "4096", (lit< tt, (lit< tt, (lit< tt, (lit< tt, (lit< tt, tt))))), lit< tt, refl, refl, refl);
+  journal = gives right refl refl
+      (codes "4096", (lit< tt, (lit< tt, (lit< tt, (lit< tt, (lit< tt, tt))))), lit< tt, refl, refl, refl);
+  both = gives right refl refl (codes "8", (lit< tt, (lit< tt, tt)), lit< tt, refl, refl, refl);
+  plus = gives right refl refl (codes "+8", (lit< tt, (lit< tt, tt)), lit< tt, refl, refl, refl);
+  leading_zero = gives right refl refl (codes "08", (lit< tt, (lit< tt, (lit< tt, tt))), lit< tt, refl, refl, refl);
+  joined = gives right refl refl (codes "8", (lit< tt, (lit< tt, tt)), lit< tt, refl, refl, refl);
+  greatest = gives right refl refl (
+    codes "1048576",
+    (lit< tt, (lit< tt, (lit< tt, (lit< tt, (lit< tt, (lit< tt, (lit< tt, (lit< tt, tt)))))))),
+    lit< tt,
+    refl,
+    refl,
+    refl,
+  );
+  above = refuses right refl (tt, tt);
+  zero = refuses right refl (tt, tt);
+  further = refuses right refl (tt, tt);
+  none = refuses right refl (tt, tt);
+  other = refuses right refl (tt, (tt, tt));
+  check = gives right refl refl tt;
+  check_further = refuses right refl (tt, tt);
+  rewrite = gives right refl refl tt;
+  rewrite_further = refuses right refl (tt, tt);
+  trace = gives right refl refl tt;
+  trace_further = refuses right refl (tt, tt);
+  help = helps right refl;
+  run_help = helps right refl;
+  check_help = helps right refl;
+  rewrite_help = helps right refl;
+  trace_help = helps right refl;
+  version = tells right refl;
+  short_version = tells right refl;
+  run_version = refuses right refl (tt, tt);
 }
 
 -- what the matches ask for, or a mistake where their command isn't one of the program's
 asked : (words : Words) (s : Option (Text × List Row)) (o : Option Request) → faults words ≡ [] →
-    s ≡ subcommand_of program words → IfSome o (Asks s) → IfNone o (IsNoCommand s) →
-    IfOk (ok_or o Bad) (AsksFor words) × IfErr (ok_or o Bad) (IsRefusal words)
-asked words s (Some r) taken is some other = ((taken, subst (λ x. Asks x r) is some), tt)
-asked words s None taken is some other = (tt, inr (taken, subst IsNoCommand is other))
+    s ≡ subcommand_of program words → IfSome o (Asks s) → IfNone o (IsNoCommand s) → IsRight words (ok_or o Bad)
+asked words s (Some r) taken is some other = record { ok = (taken, subst (λ x. Asks x r) is some); err = tt }
+asked words s None taken is some other = record { ok = tt; err = inr (taken, subst IsNoCommand is other) }
 
 pub answers_asked : (words : Words) (s : Option (Text × List Row)) (o : Option Request)
     (r : Result Request WordsError) → r ≡ ok_or o Bad → faults words ≡ [] → s ≡ subcommand_of program words →
     IfSome o (Asks s) → IfNone o (IsNoCommand s) → Answers words r
 answers_asked words s o r e taken is some other =
-    let both = asked words s o taken is some other in
-    subst (Answers words) (sym e) (answers words (ok_or o Bad) both.0 both.1)
+    subst (Answers words) (sym e) (answers words (ok_or o Bad) (asked words s o taken is some other))

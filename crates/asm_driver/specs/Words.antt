@@ -1,6 +1,7 @@
 -- The words that the program takes, what they ask for, and how others are refused.
 use Rattle.std.specs.Prelude.{◌≡◌, ◌<◌, ◌^◌, ◌⊎◌, ℕ, Bool, pos, true, false, List, [], ◌∷◌, Option, Some, None}
-use Rattle.std.specs.Prelude.{Result, Ok, Err, codes}
+use Rattle.std.specs.Prelude.{Result, Ok, Err, codes, String}
+use Rattle.std.specs.declared.alloc.Global.{Global}
 use Rattle.std.specs.Str.Parse.{IsNumeral, digits_value, without_leading_plus}
 use Rattle.clap.specs.Words.{App, Row, Rule, Text, Kinds, IsAmong, fault_of, new_app, new_rule, one_of, subcommand_of}
 use Rattle.clap.specs.Words.{with_rule, with_subcommand}
@@ -80,9 +81,7 @@ AsksJournal rows asked =
 -- what the options of run ask for
 abbrev pub AsksRun : List Row → Request → Type 0
 AsksRun rows (Run number asked) = AsksCapacity rows number × AsksJournal rows asked
-AsksRun rows Check = ⊥
-AsksRun rows Rewrite = ⊥
-AsksRun rows Trace = ⊥
+AsksRun rows r = ⊥
 
 -- the command with its options asks for this
 abbrev pub Asks : Option (Text × List Row) → Request → Type 0
@@ -147,32 +146,19 @@ run_with more = program_with (codes "run" ∷ more)
 
 -- this is answered, unless memory is refused
 abbrev pub Gives : Request → Result Request WordsError → Type 0
-Gives wanted (Ok r) = r ≡ wanted
-Gives wanted (Err e) = e ≡ Memory
+Gives wanted r = (r ≡ Ok wanted) ⊎ (r ≡ Err Memory)
 
 -- the words are refused as bad, unless memory is refused
 abbrev pub RefusesWords : Result Request WordsError → Type 0
-RefusesWords (Ok r) = ⊥
-RefusesWords (Err (Help text)) = ⊥
-RefusesWords (Err Version) = ⊥
-RefusesWords (Err Bad) = Unit {0}
-RefusesWords (Err Memory) = Unit {0}
+RefusesWords r = (r ≡ Err Bad) ⊎ (r ≡ Err Memory)
 
 -- help is answered, unless memory is refused
 abbrev pub Helps : Result Request WordsError → Type 0
-Helps (Ok r) = ⊥
-Helps (Err (Help text)) = Unit {0}
-Helps (Err Version) = ⊥
-Helps (Err Bad) = ⊥
-Helps (Err Memory) = Unit {0}
+Helps r = ((text : String Global) × (r ≡ Err (Help text))) ⊎ (r ≡ Err Memory)
 
 -- the version is told, unless memory is refused
 abbrev pub TellsVersion : Result Request WordsError → Type 0
-TellsVersion (Ok r) = ⊥
-TellsVersion (Err (Help text)) = ⊥
-TellsVersion (Err Version) = Unit {0}
-TellsVersion (Err Bad) = ⊥
-TellsVersion (Err Memory) = Unit {0}
+TellsVersion r = (r ≡ Err Version) ⊎ (r ≡ Err Memory)
 
 -- what is answered to some words
 pub record Answers (words : Words) (r : Result Request WordsError) : Type 0 where

@@ -10,4 +10,5 @@ pub returns-in-Err-clause-refused : goal.returns-in-Err-clause-refused
 returns-in-Err-clause-refused c = refused _ _ _ c.in-Err.ensures.kinds c.refusal.ensures
 
 pub returns-in-Err-clause-answers : goal.returns-in-Err-clause-answers
-returns-in-Err-clause-answers c = answers _ _ tt (refused _ _ _ c.in-Err.ensures.kinds c.refusal.ensures)
+returns-in-Err-clause-answers c =
+    answers _ _ (record { ok = tt; err = refused _ _ _ c.in-Err.ensures.kinds c.refusal.ensures })
