@@ -51,16 +51,12 @@ with_letter l r =
 
 with_own_letter : (r : Request) → with_letter (letter r) r ≡ r
 with_own_letter (Run c j) = refl
-with_own_letter Check = refl
-with_own_letter Rewrite = refl
-with_own_letter Trace = refl
+with_own_letter r = refl
 
 -- what is asked for has the word of the command
 same_letter : (n m : Request) (rows : List Row) → Asks (Some (word n, rows)) m → letter n ≡ letter m
 same_letter n (Run c j) rows h = ap (λ (t : Text). get_or t 1 0) h.0
-same_letter n Check rows h = ap (λ (t : Text). get_or t 1 0) h
-same_letter n Rewrite rows h = ap (λ (t : Text). get_or t 1 0) h
-same_letter n Trace rows h = ap (λ (t : Text). get_or t 1 0) h
+same_letter n m rows h = ap (λ (t : Text). get_or t 1 0) h
 
 -- so it is the command without options that has this letter
 by_letter : (n m : Request) (rows : List Row) → Asks (Some (word n, rows)) m → m ≡ with_letter (letter n) m
@@ -85,12 +81,8 @@ asked_alone (Run c true) (Run d k) rows (t, numeral, small, value, number, flag)
     ap₂ Run (h.1.0 t number numeral small ∙ value) (h.1.1.0 flag)
 asked_alone (Run c false) (Run d k) rows (t, numeral, small, value, number, flag) h =
     ap₂ Run (h.1.0 t number numeral small ∙ value) (h.1.1.1 flag)
-asked_alone (Run c j) Check rows has h = absurd (omega (arith, same_letter (Run c j) Check rows h))
-asked_alone (Run c j) Rewrite rows has h = absurd (omega (arith, same_letter (Run c j) Rewrite rows h))
-asked_alone (Run c j) Trace rows has h = absurd (omega (arith, same_letter (Run c j) Trace rows h))
-asked_alone Check m rows has h = by_letter Check m rows h
-asked_alone Rewrite m rows has h = by_letter Rewrite m rows h
-asked_alone Trace m rows has h = by_letter Trace m rows h
+asked_alone (Run c j) m rows has h = absurd (omega (arith, same_letter (Run c j) m rows h))
+asked_alone n m rows has h = by_letter n m rows h
 
 -- the word is a command's
 known : (n : Request) (rows : List Row) → IsNoCommand (Some (word n, rows)) → ⊥

@@ -11,7 +11,7 @@ use Rattle.asm_driver.specs.Run.{Input, Output, IsAnswer, IsNoAnswer, IsShown, W
 use Rattle.asm_driver.specs.declared.program.refusal.Refusal.{Refusal}
 use Rattle.asm_driver.specs.declared.program.refusal.Refusal.TheVariants as refusal
 use Rattle.asm_driver.specs.declared.program.words.Request.{Request}
-use Rattle.asm_driver.specs.declared.program.words.Request.TheVariants.{Run, Check, Rewrite, Trace}
+use Rattle.asm_driver.specs.declared.program.words.Request.TheVariants.{Run, Check}
 
 -- it has failed, and it hasn't
 both : true ≡ false → ⊥
@@ -19,25 +19,19 @@ both e = cc (e)
 
 -- a check has the status 0 or 1
 legality_works : (l : Legality) → legality_status l ≡ 4 → ⊥
-legality_works (Legal calls moves) e = absurd (omega (arith, e))
-legality_works (Illegal call) e = absurd (omega (arith, e))
+legality_works (Legal calls moves) e = cc (e)
+legality_works (Illegal call) e = cc (e)
 
 -- what is done has the status 0 or 1
 done_works : (bytes : List ℕ) (request : Request) (status : ℕ) (text : List ℕ) → IsDone bytes request status text →
     status ≡ 4 → ⊥
-done_works bytes (Run capacity asked) status text done e = let bad : 0 ≡ 4 = sym done.0
-    ∙ e in absurd (omega (arith, bad))
 done_works bytes Check status text (h, l, reads, is, same, written) e = legality_works l (sym same ∙ e)
-done_works bytes Rewrite status text done e = let bad : 0 ≡ 4 = sym done.0
-    ∙ e in absurd (omega (arith, bad))
-done_works bytes Trace status text done e = let bad : 0 ≡ 4 = sym done.0
-    ∙ e in absurd (omega (arith, bad))
+done_works bytes request status text done e = omega (arith, done.0, e)
 
 answer_works : (words : Words) (i : Input) (status : ℕ) (text : List ℕ) → IsAnswer words i status text → status ≡ 4 → ⊥
 answer_works words i status text (inl (bytes, request, whole, asks, done)) e = done_works bytes request status text
     done e
-answer_works words i status text (inr (same, asks, unread)) e = let bad : 0 ≡ 4 = sym same
-    ∙ e in absurd (omega (arith, bad))
+answer_works words i status text (inr (same, asks, unread)) e = omega (arith, same, e)
 
 -- where there is an answer, no read failed
 answer_reads : (words : Words) (i : Input) (status : ℕ) (text : List ℕ) → IsAnswer words i status text →
@@ -59,28 +53,18 @@ faults_answered given i o status text bytes result answer writes = (there writes
 
 -- only a failed read has the status 4
 journal_four : (e : JournalError) → journal_status e ≡ 4 → ⊥
-journal_four (journal.NotJson n) e = absurd (omega (arith, e))
-journal_four (journal.Shape n) e = absurd (omega (arith, e))
-journal_four journal.Version e = absurd (omega (arith, e))
-journal_four journal.Cut e = absurd (omega (arith, e))
-journal_four journal.Memory e = absurd (omega (arith, e))
+journal_four journal.Memory e = omega (arith, e)
+journal_four f e = omega (arith, e)
 
 four : (r : Refusal) → refusal_status r ≡ 4 → r ≡ refusal.InputFault
-four refusal.Words e = absurd (omega (arith, e))
-four refusal.TooLarge e = absurd (omega (arith, e))
-four (refusal.BadScript cause) e = absurd (omega (arith, e))
-four (refusal.BadJournal f) e = absurd (journal_four f e)
-four refusal.Unfit e = absurd (omega (arith, e))
-four (refusal.Missing k) e = absurd (omega (arith, e))
 four refusal.InputFault e = refl
-four refusal.NoThread e = absurd (omega (arith, e))
-four refusal.Memory e = absurd (omega (arith, e))
+four (refusal.BadJournal f) e = absurd (journal_four f e)
+four r e = absurd (omega (arith, e))
 
 -- a failed read is shown as it is
 shown_fault : (r shown : Refusal) → IsShown r shown → shown ≡ refusal.InputFault → r ≡ refusal.InputFault
 shown_fault r shown (inl is) e = sym is ∙ e
-shown_fault r shown (inr (is, number)) e = let bad : refusal.Memory ≡ refusal.InputFault = sym is
-    ∙ e in absurd (cc (bad))
+shown_fault r shown (inr (is, number)) e = cc (is, e)
 
 fault_shown : (r shown : Refusal) → IsShown r shown → r ≡ refusal.InputFault → shown ≡ refusal.InputFault
 fault_shown r shown (inl is) e = is ∙ e
@@ -89,9 +73,7 @@ fault_shown r shown (inr (is, number)) e = let bad : true ≡ false = sym number
 
 done_reads : (bytes : List ℕ) (request : Request) → IsNotDone bytes request refusal.InputFault → ⊥
 done_reads bytes (Run capacity asked) is = is
-done_reads bytes Check is = is
-done_reads bytes Rewrite is = is
-done_reads bytes Trace is = is
+done_reads bytes request is = is
 
 -- a failed read is refused so
 fault_failed : (words : Words) (i : Input) → IsNoAnswer words i refusal.InputFault → i.failed ≡ true
@@ -106,12 +88,7 @@ failed_fault words i r (inl (is, unread)) e = absurd (both (sym e ∙ unread.who
 failed_fault words i refusal.TooLarge (inr (inl (taken, is))) e = absurd (both (sym e ∙ is.1))
 failed_fault words i refusal.InputFault (inr (inl (taken, is))) e = refl
 failed_fault words i refusal.Memory (inr (inl (taken, is))) e = absurd (both (sym e ∙ is.1))
-failed_fault words i refusal.Words (inr (inl (taken, is))) e = absurd is
-failed_fault words i (refusal.BadScript cause) (inr (inl (taken, is))) e = absurd is
-failed_fault words i (refusal.BadJournal f) (inr (inl (taken, is))) e = absurd is
-failed_fault words i refusal.Unfit (inr (inl (taken, is))) e = absurd is
-failed_fault words i (refusal.Missing k) (inr (inl (taken, is))) e = absurd is
-failed_fault words i refusal.NoThread (inr (inl (taken, is))) e = absurd is
+failed_fault words i r (inr (inl (taken, is))) e = absurd is
 failed_fault words i r (inr (inr (bytes, request, whole, asks, is))) e = absurd (both (sym e ∙ whole.whole))
 
 pub faults_refused : (given : Words) (i : Input) (o : Output) (r : Refusal) (result : ℕ)

@@ -2,14 +2,9 @@
 use Rattle.std.proofs.Common.{◌≡◌, ℕ, ◌++◌, refl}
 use Rattle.asm_driver.specs.Report.{step_name, reason, line, outcome_line}
 use Rattle.asm_play.specs.declared.outcome.Outcome.{Outcome}
-use Rattle.asm_play.specs.declared.outcome.Outcome.TheVariants.{Fired, Clash, Full, Term, Large, Many, GaveUp}
+use Rattle.asm_play.specs.declared.outcome.Outcome.TheVariants.{Fired}
 
 pub not_fired : (agent step : ℕ) (o : Outcome) → ((k : ℕ) → o ≡ Fired k → ⊥) →
     outcome_line agent step o ≡ line (step_name agent step ++ reason o)
 not_fired agent step (Fired k) never = absurd (never k refl)
-not_fired agent step (Clash c) never = refl
-not_fired agent step Full never = refl
-not_fired agent step Term never = refl
-not_fired agent step (Large l) never = refl
-not_fired agent step Many never = refl
-not_fired agent step GaveUp never = refl
+not_fired agent step o never = refl

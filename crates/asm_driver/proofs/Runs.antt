@@ -1,16 +1,15 @@
 -- A run, from what was answered; and a run over a reader and a writer, from one over an input and an output.
-use Rattle.std.proofs.Common.{◌≡◌, ℕ, List, Bool, true, false, refl, sym, subst, inl, inr}
+use Rattle.std.proofs.Common.{◌≡◌, ℕ, List, Bool, true, false, refl, sym, ap₂, subst, inl, inr}
 use Rattle.asm_driver.specs.Commands.{IsNotDone}
 use Rattle.asm_driver.specs.Input.{Known}
 use Rattle.asm_driver.specs.Refusal.{refusal_line, refusal_status, has_number}
 use Rattle.asm_driver.specs.Words.{Words}
 use Rattle.asm_driver.specs.Run.{Input, Output, IsAnswer, IsNoAnswer, IsNoInput, IsShown, Writes, Refuses, Runs}
-use Rattle.asm_driver.specs.Run.{RunsOver}
-use Rattle.asm_driver.specs.Run.{Ports, input_of, output_of}
+use Rattle.asm_driver.specs.Run.{RunsOver, input_of, output_of}
 use Rattle.asm_driver.specs.declared.program.refusal.Refusal.{Refusal}
 use Rattle.asm_driver.specs.declared.program.refusal.Refusal.TheVariants as refusal
 use Rattle.asm_driver.specs.declared.program.words.Request.{Request}
-use Rattle.asm_driver.specs.declared.program.words.Request.TheVariants.{Run, Check, Rewrite, Trace}
+use Rattle.asm_driver.specs.declared.program.words.Request.TheVariants.{Run}
 
 pub answered : (given words : Words) (i : Input) (o : Output) (status : ℕ) (text bytes : List ℕ) (result : ℕ) →
     given ≡ words → bytes ≡ text → IsAnswer given i status text → Writes o status bytes result → Runs words i o result
@@ -25,21 +24,14 @@ answered given words i o status text bytes result same written answer writes = (
 -- an allocation failure may come wherever something is done
 memory_done : (bytes : List ℕ) (request : Request) → IsNotDone bytes request refusal.Memory
 memory_done bytes (Run capacity asked) = tt
-memory_done bytes Check = tt
-memory_done bytes Rewrite = tt
-memory_done bytes Trace = tt
+memory_done bytes request = tt
 
 -- a refusal of the input has no number
 input_plain : (i : Input) (r : Refusal) → IsNoInput i r → has_number r ≡ true → ⊥
 input_plain i refusal.TooLarge is e = cc (e)
 input_plain i refusal.InputFault is e = cc (e)
 input_plain i refusal.Memory is e = cc (e)
-input_plain i refusal.Words is e = is
-input_plain i (refusal.BadScript cause) is e = is
-input_plain i (refusal.BadJournal f) is e = is
-input_plain i refusal.Unfit is e = is
-input_plain i (refusal.Missing k) is e = is
-input_plain i refusal.NoThread is e = is
+input_plain i r is e = is
 
 memory_told : (words : Words) (i : Input) (r : Refusal) → has_number r ≡ true → IsNoAnswer words i r →
     IsNoAnswer words i refusal.Memory
@@ -65,20 +57,17 @@ refused given words i o r result same none (shown, is, writes) = (
 )
 
 pub runs_over : (words : Words) (had left held holds had' left' held' holds' : Known) (read write flushed : Bool)
-    (result : ℕ)
-    → had ≡ had' → left ≡ left' → held ≡ held' → holds ≡ holds'
-    → Runs words (record { had = had; left = left; failed = read })
-    (record { held = held; holds = holds; failed = write; flushed = flushed }) result
-    → RunsOver words (record { had = had'; left = left'; held = held'; holds = holds' }) result
+    (result : ℕ) → had ≡ had' → left ≡ left' → held ≡ held' → holds ≡ holds' →
+    Runs words (input_of had left read) (output_of held holds write flushed) result →
+    RunsOver words had' left' held' holds' result
 runs_over words had left held holds had' left' held' holds' read write flushed result a b c d runs =
-    let ports : record { had = had; left = left; held = held; holds = holds } ≡ record
-    { had = had'; left = left'; held = held'; holds = holds' } =
-    λ i. record { had = a i; left = b i; held = c i; holds = d i } in (
+    let taken = ap₂ (λ x y. input_of x y read) a b in
+    let given = ap₂ (λ x y. output_of x y write flushed) c d in (
       read,
       write,
       flushed,
-      subst (λ (p : Ports). Runs words (input_of p read) (output_of p write flushed) result)
-          ports runs,
+      subst (λ o. Runs words (input_of had' left' read) o result) given
+          (subst (λ i. Runs words i (output_of held holds write flushed) result) taken runs),
     )
 
 -- a test that isn't false is true

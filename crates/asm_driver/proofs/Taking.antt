@@ -1,8 +1,8 @@
 -- How many bytes of the input a run takes.
-use Rattle.std.proofs.Common.{◌≤◌, ◌+◌, ℕ, List, [], length, sym, subst, inl, inr, arith}
+use Rattle.std.proofs.Common.{◌≤◌, ℕ, List, [], length, sym, subst, inl, inr, arith}
 use Rattle.std.proofs.KnownBytes.{Consumes-nil}
 use Rattle.std.specs.Io.KnownBytes.{Consumes}
-use Rattle.asm_driver.specs.Input.{Known, TakesUpTo}
+use Rattle.asm_driver.specs.Input.{Known, TakesSome}
 use Rattle.asm_driver.specs.Limits.{input_limit}
 use Rattle.asm_driver.specs.Run.{Input, IsAnswer, IsNoAnswer, IsNoInput, IsUnread, IsWhole}
 use Rattle.asm_driver.specs.Words.{Words}
@@ -10,33 +10,28 @@ use Rattle.asm_driver.specs.declared.program.refusal.Refusal.{Refusal}
 use Rattle.asm_driver.specs.declared.program.refusal.Refusal.TheVariants as refusal
 
 -- where nothing was read, no bytes were taken
-none_taken : (i : Input) → IsUnread i → TakesUpTo (input_limit + 1) i.had i.left
+none_taken : (i : Input) → IsUnread i → TakesSome i.had i.left
 none_taken i unread =
     ([], subst (λ (l : Known). Consumes i.had l []) (sym unread.same) (Consumes-nil i.had), omega arith)
 
 -- all of the input is within the limit
-all_taken : (i : Input) (bytes : List ℕ) → IsWhole i bytes → TakesUpTo (input_limit + 1) i.had i.left
+all_taken : (i : Input) (bytes : List ℕ) → IsWhole i bytes → TakesSome i.had i.left
 all_taken i bytes whole =
     let within : length bytes ≤ input_limit = whole.all.within in (bytes, whole.all.consumed, omega (arith, within))
 
 pub answered_taken : (words : Words) (i : Input) (status : ℕ) (text : List ℕ) → IsAnswer words i status text →
-    TakesUpTo (input_limit + 1) i.had i.left
+    TakesSome i.had i.left
 answered_taken words i status text (inl (bytes, request, whole, asks, done)) = all_taken i bytes whole
 answered_taken words i status text (inr (same, asks, unread)) = none_taken i unread
 
 -- where there is no input, at most one byte beyond the limit was taken
-input_taken : (i : Input) (r : Refusal) → IsNoInput i r → TakesUpTo (input_limit + 1) i.had i.left
+input_taken : (i : Input) (r : Refusal) → IsNoInput i r → TakesSome i.had i.left
 input_taken i refusal.TooLarge ((bytes, consumed, count), whole) = (bytes, consumed, omega (arith, count))
-input_taken i refusal.InputFault ((bytes, consumed, few), failed) = (bytes, consumed, omega (arith, few))
-input_taken i refusal.Memory ((bytes, consumed, few), whole) = (bytes, consumed, omega (arith, few))
-input_taken i refusal.Words is = absurd is
-input_taken i (refusal.BadScript cause) is = absurd is
-input_taken i (refusal.BadJournal e) is = absurd is
-input_taken i refusal.Unfit is = absurd is
-input_taken i (refusal.Missing k) is = absurd is
-input_taken i refusal.NoThread is = absurd is
+input_taken i refusal.InputFault is = is.0
+input_taken i refusal.Memory is = is.0
+input_taken i r is = absurd is
 
-pub refused_taken : (words : Words) (i : Input) (r : Refusal) → IsNoAnswer words i r → TakesUpTo (input_limit + 1) i.had i.left
+pub refused_taken : (words : Words) (i : Input) (r : Refusal) → IsNoAnswer words i r → TakesSome i.had i.left
 refused_taken words i r (inl (bad, unread)) = none_taken i unread
 refused_taken words i r (inr (inl (taken, is))) = input_taken i r is
 refused_taken words i r (inr (inr (bytes, request, whole, asks, is))) = all_taken i bytes whole

@@ -40,11 +40,8 @@ refusal_of_run play.Memory = refusal.Memory
 
 -- of a journal
 abbrev pub refusal_of_journal : JournalError → Refusal
-refusal_of_journal (journal.NotJson n) = refusal.BadJournal (journal.NotJson n)
-refusal_of_journal (journal.Shape n) = refusal.BadJournal (journal.Shape n)
-refusal_of_journal journal.Version = refusal.BadJournal journal.Version
-refusal_of_journal journal.Cut = refusal.BadJournal journal.Cut
 refusal_of_journal journal.Memory = refusal.Memory
+refusal_of_journal e = refusal.BadJournal e
 
 -- ---- lines
 

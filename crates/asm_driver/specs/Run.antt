@@ -24,6 +24,10 @@ pub record Input : Type 0 where
   pub left : Known
   pub failed : Bool
 
+-- the input with these parts
+abbrev pub input_of : Known → Known → Bool → Input
+input_of had left failed = record { had = had; left = left; failed = failed }
+
 -- nothing was read
 pub record IsUnread (i : Input) : Type 0 where
   pub same : i.left ≡ i.had
@@ -101,6 +105,10 @@ pub record Output : Type 0 where
   pub failed : Bool
   pub flushed : Bool
 
+-- the output with these parts
+abbrev pub output_of : Known → Known → Bool → Bool → Output
+output_of held holds failed flushed = record { held = held; holds = holds; failed = failed; flushed = flushed }
+
 -- the whole text went out and is flushed
 pub record WentOut (o : Output) (text : List ℕ) : Type 0 where
   pub all : Appends o.held o.holds text
@@ -141,28 +149,14 @@ HasFailed i o = (i.failed ≡ true) ⊎ (o.failed ≡ true)
 
 -- ---- over a reader and a writer that don't tell whether a call failed
 
--- what the reader and the writer hold before and after, where they tell
-pub record Ports : Type 0 where
-  pub had : Known
-  pub left : Known
-  pub held : Known
-  pub holds : Known
+-- a run, by what the reader had and has left and by what the writer held and holds, whatever failed
+abbrev pub RunsOver : Words → Known → Known → Known → Known → ℕ → Type 0
+RunsOver words had left held holds result =
+    (read write flushed : Bool)
+    × Runs words (input_of had left read) (output_of held holds write flushed) result
 
--- the input, where this is whether a read failed
-abbrev pub input_of : Ports → Bool → Input
-input_of p failed = record { had = p.had; left = p.left; failed = failed }
-
--- the output, where these are whether a call failed and whether all is flushed
-abbrev pub output_of : Ports → Bool → Bool → Output
-output_of p failed flushed = record { held = p.held; holds = p.holds; failed = failed; flushed = flushed }
-
--- a run, whatever failed
-abbrev pub RunsOver : Words → Ports → ℕ → Type 0
-RunsOver words p result =
-    (read write flushed : Bool) × Runs words (input_of p read) (output_of p write flushed) result
-
--- the refusal of words that the system couldn't give, before anything is read
-abbrev pub RefusesKind : ErrorKind → Ports → ℕ → Type 0
-RefusesKind k p result =
+-- the refusal of words that the system couldn't give, by what the writer held and holds
+abbrev pub RefusesKind : ErrorKind → Known → Known → ℕ → Type 0
+RefusesKind k held holds result =
     (r : Refusal) × IsRefusalOfKind k r
-    × ((write flushed : Bool) × Writes (output_of p write flushed) (refusal_status r) (refusal_line r) result)
+    × ((write flushed : Bool) × Writes (output_of held holds write flushed) (refusal_status r) (refusal_line r) result)

@@ -1,11 +1,11 @@
 //! The program over an input and an output.
 ghost use Rattle.std.specs.Prelude.{◌≡◌, ◌↔◌, false, [], map, IfOk, IfErr, string_bytes};
 ghost use Rattle.std.specs.IoError.{error_kind};
-ghost use Rattle.asm_driver.specs.Input.{TakesUpTo};
+ghost use Rattle.asm_driver.specs.Input.{TakesSome};
 ghost use Rattle.asm_driver.specs.Refusal.{has_number};
 ghost use Rattle.asm_driver.specs.Words.{faults};
 ghost use Rattle.asm_driver.specs.Run.{IsAnswer, IsNoAnswer, IsAnswerTo, version_line, Writes, Refuses};
-ghost use Rattle.asm_driver.specs.Run.{Runs, RunsOver, HasFailed, RefusesKind, IsRefusalOfKind};
+ghost use Rattle.asm_driver.specs.Run.{input_of, output_of, Runs, RunsOver, HasFailed, RefusesKind, IsRefusalOfKind};
 
 mod commands;
 mod refusal;
@@ -56,10 +56,10 @@ fn answer<T: Threads + Wait + Sync, S: Source>(
     requires { S.failed input.old ≡ false }
     ensures same_reference { S.lender input.new ≡ S.lender input.old }
     ensures ok { IfOk result (λ e. IsAnswer (map string_bytes words.now)
-        (record { had = S.remaining input.old; left = S.remaining input.new; failed = S.failed input.new })
+        (input_of (S.remaining input.old) (S.remaining input.new) (S.failed input.new))
         e.status (string_bytes e.text)) }
     ensures err { IfErr result (IsNoAnswer (map string_bytes words.now)
-        (record { had = S.remaining input.old; left = S.remaining input.new; failed = S.failed input.new })) }
+        (input_of (S.remaining input.old) (S.remaining input.new) (S.failed input.new))) }
     ensures unread { ¬ (faults (map string_bytes words.now) ≡ []) → input.new ≡ input.old }
 {
     let request = match read_words(alloc, words) {
@@ -74,12 +74,9 @@ fn answer<T: Threads + Wait + Sync, S: Source>(
 fn write_out<K: Sink>(output: &mut K, text: &[u8], status: u8) -> u8
     requires { K.failed output.old ≡ false }
     ensures same_reference { K.lender output.new ≡ K.lender output.old }
-    ensures writes { Writes (record {
-      held = K.contents output.old;
-      holds = K.contents output.new;
-      failed = K.failed output.new;
-      flushed = K.flushed output.new;
-    }) status text.now result }
+    ensures writes { Writes
+        (output_of (K.contents output.old) (K.contents output.new) (K.failed output.new) (K.flushed output.new))
+        status text.now result }
 {
     match write_whole(output, text) {
         Ok(()) => status,
@@ -91,12 +88,9 @@ fn write_out<K: Sink>(output: &mut K, text: &[u8], status: u8) -> u8
 fn refuse<K: Sink>(alloc: Global, output: &mut K, refusal: Refusal) -> u8
     requires { K.failed output.old ≡ false }
     ensures same_reference { K.lender output.new ≡ K.lender output.old }
-    ensures refuses { Refuses (record {
-      held = K.contents output.old;
-      holds = K.contents output.new;
-      failed = K.failed output.new;
-      flushed = K.flushed output.new;
-    }) refusal result }
+    ensures refuses { Refuses
+        (output_of (K.contents output.old) (K.contents output.new) (K.failed output.new) (K.flushed output.new))
+        refusal result }
 {
     match refusal.line(alloc) {
         Ok(line) => write_out(output, line.as_bytes(), refusal.status()),
@@ -121,22 +115,12 @@ pub fn run_noted<T: Threads + Wait + Sync, S: Source, K: Sink>(
     ensures same_input { S.lender input.new ≡ S.lender input.old }
     ensures same_output { K.lender output.new ≡ K.lender output.old }
     ensures runs { Runs (map string_bytes words.items)
-        (record { had = S.remaining input.old; left = S.remaining input.new; failed = S.failed input.new })
-        (record {
-          held = K.contents output.old;
-          holds = K.contents output.new;
-          failed = K.failed output.new;
-          flushed = K.flushed output.new;
-        }) result }
+        (input_of (S.remaining input.old) (S.remaining input.new) (S.failed input.new))
+        (output_of (K.contents output.old) (K.contents output.new) (K.failed output.new) (K.flushed output.new)) result }
     ensures faults { (result ≡ 4) ↔ HasFailed
-        (record { had = S.remaining input.old; left = S.remaining input.new; failed = S.failed input.new })
-        (record {
-          held = K.contents output.old;
-          holds = K.contents output.new;
-          failed = K.failed output.new;
-          flushed = K.flushed output.new;
-        }) }
-    ensures taken { TakesUpTo 16777217 (S.remaining input.old) (S.remaining input.new) }
+        (input_of (S.remaining input.old) (S.remaining input.new) (S.failed input.new))
+        (output_of (K.contents output.old) (K.contents output.new) (K.failed output.new) (K.flushed output.new)) }
+    ensures taken { TakesSome (S.remaining input.old) (S.remaining input.new) }
     ensures unread { ¬ (faults (map string_bytes words.items) ≡ []) → input.new ≡ input.old }
 {
     match answer(rt, alloc, words.as_slice(), input) {
@@ -166,13 +150,8 @@ pub fn run_main<T: Threads + Wait + Sync, R: Read, W: Write>(
     input: &mut R,
     output: &mut W,
 ) -> u8
-    ensures runs { RunsOver (map string_bytes words.items)
-        (record {
-          had = R.remaining input.old;
-          left = R.remaining input.new;
-          held = W.contents output.old;
-          holds = W.contents output.new;
-        }) result }
+    ensures runs { RunsOver (map string_bytes words.items) (R.remaining input.old) (R.remaining input.new)
+        (W.contents output.old) (W.contents output.new) result }
     ensures unread { ¬ (faults (map string_bytes words.items) ≡ []) → input.new ≡ input.old }
 {
     let mut source = NotedReader::new(input);
@@ -201,19 +180,9 @@ pub fn run_given<T: Threads + Wait + Sync, R: Read, W: Write>(
     output: &mut W,
 ) -> u8
     ensures given { IfOk words (λ ws. RunsOver (map string_bytes ws.items)
-        (record {
-          had = R.remaining input.old;
-          left = R.remaining input.new;
-          held = W.contents output.old;
-          holds = W.contents output.new;
-        }) result) }
+        (R.remaining input.old) (R.remaining input.new) (W.contents output.old) (W.contents output.new) result) }
     ensures refused { IfErr words (λ e. RefusesKind (error_kind e)
-        (record {
-          had = R.remaining input.old;
-          left = R.remaining input.new;
-          held = W.contents output.old;
-          holds = W.contents output.new;
-        }) result) }
+        (W.contents output.old) (W.contents output.new) result) }
     ensures unread { IfErr words (λ _. input.new ≡ input.old) }
 {
     match words {

@@ -12,7 +12,7 @@ use asm_journal::{location_json, pair_json, replay, replay_over, word_of_cause};
 use asm_play::aggregator::chosen;
 use asm_play::{Outcome, Played};
 use asm_storage::History;
-use asm_update::{Aggregator, PlainState};
+use asm_update::PlainState;
 use serde_json::Value as Json;
 use std::alloc::{AllocError, Global};
 
@@ -125,18 +125,7 @@ fn push_outcomes(
 pub fn report(alloc: Global, played: &Played) -> Result<String, AllocError>
     ensures { IfOk result (λ text. string_bytes text ≡ report_of standard_part played.now) }
 {
-    report_by(alloc, &chosen(), played)
-}
-
-/// As `report`, with the final state that this aggregator gives.
-pub fn report_by<A: Aggregator>(
-    alloc: Global,
-    aggregator: &A,
-    played: &Played,
-) -> Result<String, AllocError>
-    ensures { IfOk result (λ text. string_bytes text ≡ report_of (A.meaning aggregator.now).part played.now) }
-{
-    let state = replay(alloc, aggregator, &played.history)?;
+    let state = replay(alloc, &chosen(), &played.history)?;
     let moves = played.history.moves();
     lines_of(alloc, &state, moves, played.outcomes.as_slice())
 }

@@ -24,15 +24,9 @@ unplayed bytes capacity asked Memory plan is none several = tt
 -- a play without a text
 untold : (bytes : List ℕ) (capacity : ℕ) (asked : Bool) (p : Played) (r : Refusal) → IsPlayed bytes capacity p →
     IsNoText asked p r → IsNoRun bytes capacity asked r
-untold bytes capacity asked p refusal.Words is h = absurd h
-untold bytes capacity asked p refusal.TooLarge is h = absurd h
-untold bytes capacity asked p (refusal.BadScript cause) is h = absurd h
-untold bytes capacity asked p (refusal.BadJournal e) is h = absurd h
 untold bytes capacity asked p refusal.Unfit is h = (p, is, h)
-untold bytes capacity asked p (refusal.Missing k) is h = absurd h
-untold bytes capacity asked p refusal.InputFault is h = absurd h
-untold bytes capacity asked p refusal.NoThread is h = absurd h
 untold bytes capacity asked p refusal.Memory is h = tt
+untold bytes capacity asked p r is h = absurd h
 
 pub returns-in_err-played-clause-err : goal.returns-in_err-played-clause-err
 returns-in_err-played-clause-err g c =
