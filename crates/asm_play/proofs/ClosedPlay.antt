@@ -36,10 +36,7 @@ module _ {A : Type 0} (meaning : A → Meaning) (s : StorageView A) where
   of_storage id [] [] [] played = All-nil (IsOf s)
   of_storage id (ss ∷ sss) (a ∷ agents) (os ∷ oss) played =
       All-cons (IsOf s) a agents played.0.same.storage (of_storage (id + 1) sss agents oss played.1)
-  of_storage id [] [] (os ∷ oss) played = absurd played
-  of_storage id [] (a ∷ agents) oss played = absurd played
-  of_storage id (ss ∷ sss) [] oss played = absurd played
-  of_storage id (ss ∷ sss) (a ∷ agents) [] played = absurd played
+  of_storage id sss agents oss played = absurd played
 
   -- they have the numbers from id up
   pub ids_are : (id : ℕ) (sss : List (List Step)) (agents : List (AgentAt A)) (oss : List (List Outcome)) →
@@ -49,10 +46,7 @@ module _ {A : Type 0} (meaning : A → Meaning) (s : StorageView A) where
       let mine : a.account.id ≡ id = played.0.same.id in
       let rest = ids_are (id + 1) sss agents oss played.1 in
       λ i. mine i ∷ rest i
-  ids_are id [] [] (os ∷ oss) played = absurd played
-  ids_are id [] (a ∷ agents) oss played = absurd played
-  ids_are id (ss ∷ sss) [] oss played = absurd played
-  ids_are id (ss ∷ sss) (a ∷ agents) [] played = absurd played
+  ids_are id sss agents oss played = absurd played
 
   -- one more than the greatest is how many there are
   pub bound_is : (id : ℕ) (sss : List (List Step)) (agents : List (AgentAt A)) (oss : List (List Outcome)) →
@@ -62,10 +56,7 @@ module _ {A : Type 0} (meaning : A → Meaning) (s : StorageView A) where
       let mine : a.account.id ≡ id = played.0.same.id in
       let rest = bound_is (id + 1) sss agents oss played.1 in
       omega (arith, mine, rest)
-  bound_is id [] [] (os ∷ oss) played = absurd played
-  bound_is id [] (a ∷ agents) oss played = absurd played
-  bound_is id (ss ∷ sss) [] oss played = absurd played
-  bound_is id (ss ∷ sss) (a ∷ agents) [] played = absurd played
+  bound_is id sss agents oss played = absurd played
 
   -- none of them has a number from there on
   pub none_beyond : (id : ℕ) (sss : List (List Step)) (agents : List (AgentAt A)) (oss : List (List Outcome)) (i : ℕ) →
@@ -77,10 +68,7 @@ module _ {A : Type 0} (meaning : A → Meaning) (s : StorageView A) where
       All-cons (λ (b : AgentView). b.id ≢ i) a.account (accounts agents)
       (λ same. absurd (omega (arith, mine, le, same)))
       (none_beyond (id + 1) sss agents oss i played.1 (omega (arith, le)))
-  none_beyond id [] [] (os ∷ oss) i played le = absurd played
-  none_beyond id [] (a ∷ agents) oss i played le = absurd played
-  none_beyond id (ss ∷ sss) [] oss i played le = absurd played
-  none_beyond id (ss ∷ sss) (a ∷ agents) [] i played le = absurd played
+  none_beyond id sss agents oss i played le = absurd played
 
   -- what is told of one agent in a history that tells its receipts, and whose moves begin with what it saw
   agent_told : (id : ℕ) (ss : List Step) (a : AgentAt A) (os : List Outcome) (h : List Event) →
@@ -116,10 +104,7 @@ module _ {A : Type 0} (meaning : A → Meaning) (s : StorageView A) where
         agents_told (id + 1) sss agents oss h same proper played.1 (All-tail P a.account (accounts agents) own_ones)
             (All-tail Q a.account (accounts agents) begins),
       )
-  agents_told id [] [] (os ∷ oss) h same proper played own_ones begins = absurd played
-  agents_told id [] (a ∷ agents) oss h same proper played own_ones begins = absurd played
-  agents_told id (ss ∷ sss) [] oss h same proper played own_ones begins = absurd played
-  agents_told id (ss ∷ sss) (a ∷ agents) [] h same proper played own_ones begins = absurd played
+  agents_told id sss agents oss h same proper played own_ones begins = absurd played
 
 -- numbers from one up rise
 pub range_rises : (id n : ℕ) (xs : List ℕ) → xs ≡ range_with_len id n → IsStrictlyIncreasing xs

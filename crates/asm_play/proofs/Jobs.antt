@@ -1,7 +1,7 @@
 -- What two lists of jobs give.
 use Rattle.std.proofs.Common.{◌≡◌, inl, inr, ◌≤◌, ◌++◌, ℕ, List, [], ◌∷◌, Result, Ok, Err, Vec, Global, refl, subst, sym}
 use Rattle.std.specs.Prelude.{IfOk, IfErr, IsOkAnd}
-use Rattle.asm_play.specs.Jobs.{GivesEach, IsUndone, told_first, error_of_both}
+use Rattle.asm_play.specs.Jobs.{GivesEach, IsUndone, foremost_error, error_of_both}
 use Rattle.asm_play.specs.declared.outcome.RunError.{RunError}
 use Rattle.asm_play.specs.declared.outcome.RunError.TheVariants.{NoThread, Memory}
 
@@ -10,8 +10,7 @@ pub gives_each_append : {J X : Type 0} (gives : J → X → Type 0) (a b : List 
     GivesEach gives a x → GivesEach gives b y → GivesEach gives (a ++ b) (x ++ y)
 gives_each_append gives [] b [] y p q = q
 gives_each_append gives (j ∷ a) b (d ∷ x) y p q = (p.0, gives_each_append gives a b x y p.1 q)
-gives_each_append gives [] b (d ∷ x) y p q = absurd p
-gives_each_append gives (j ∷ a) b [] y p q = absurd p
+gives_each_append gives a b x y p q = absurd p
 
 -- both halves in order, where both are there. The first half's task and jobs are known by what a promise remembers
 pub joins : {K J X E : Type 0} (gives : K → J → X → Type 0) (k l : K) (a b c : List J)
@@ -29,9 +28,9 @@ joins gives k l a b c (Err r) s (Ok z) same jobs p q e = absurd e
 joins gives k l a b c r s (Err t) same jobs p q e = tt
 
 -- and why they weren't done
-told_undone : (f g : RunError) → IsUndone f → IsUndone g → IsUndone (told_first f g)
-told_undone f g (inl is) q = subst (λ e. IsUndone (told_first e g)) (sym is) (inl refl)
-told_undone f g (inr is) q = subst (λ e. IsUndone (told_first e g)) (sym is) q
+told_undone : (f g : RunError) → IsUndone f → IsUndone g → IsUndone (foremost_error f g)
+told_undone f g (inl is) q = subst (λ e. IsUndone (foremost_error e g)) (sym is) (inl refl)
+told_undone f g (inr is) q = subst (λ e. IsUndone (foremost_error e g)) (sym is) q
 
 both_undone : {X Y : Type 0} (r : Result X RunError) (s : Result Y RunError) → IfErr r IsUndone → IfErr s IsUndone →
     IsUndone (error_of_both r s)

@@ -20,14 +20,9 @@ use Rattle.asm_play.specs.AgentPlay.{AreProper}
 
 -- the move that an event fired is proper
 moved : (c : Call) (a : Answer) (M : Move) → IsProperCall c → fired_move c a ≡ Some M → All IsProperInstruction M
-moved (call.Read places) (answer.Read number values) M proper is = absurd cc
-moved (call.Read places) (answer.Fire r) M proper is = absurd cc
 moved (call.Fire reads N) (answer.Fire (reply.Fired k)) M proper is =
     subst (All IsProperInstruction) (same_Some N M is) proper.1.0
-moved (call.Fire reads N) (answer.Fire (reply.Stale l)) M proper is = absurd cc
-moved (call.Fire reads N) (answer.Fire (reply.Clash c)) M proper is = absurd cc
-moved (call.Fire reads N) (answer.Fire reply.Full) M proper is = absurd cc
-moved (call.Fire reads N) (answer.Read number values) M proper is = absurd cc
+moved c a M proper is = absurd cc
 
 all_moved : (h : List Event) → All IsProperEvent h → All (All IsProperInstruction) (fired_moves h)
 all_moved [] all = All-nil (All IsProperInstruction)

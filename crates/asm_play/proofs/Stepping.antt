@@ -51,10 +51,8 @@ module _ (own : Meaning) (m : Machine) (q : List Move) (step : Step) where
   idle_before outcome.Full xs es idle told = idle_front (HasNoRoom own m q step) xs es idle told
   idle_before (outcome.Clash c) xs es idle (inl told) = inl (idle_front (IsClashing own m q step c) xs es idle told)
   idle_before (outcome.Clash c) xs es idle (inr told) = inr (All-append IsIdle xs es idle told.0, told.1)
-  idle_before outcome.Term xs es idle told = (All-append IsIdle xs es idle told.0, told.1)
-  idle_before (outcome.Large l) xs es idle told = (All-append IsIdle xs es idle told.0, told.1)
-  idle_before outcome.Many xs es idle told = (All-append IsIdle xs es idle told.0, told.1)
   idle_before outcome.GaveUp xs es idle told = All-append IsIdle xs es idle told
+  idle_before o xs es idle told = (All-append IsIdle xs es idle told.0, told.1)
 
 -- what was told of some moves is so of more
 module _ (own : Meaning) (m : Machine) (q r : List Move) (p : IsPrefix q r) where
@@ -195,11 +193,7 @@ module _ (own : Meaning) (m : Machine) (q r : List Move) (p : IsPrefix q r) wher
   }
   tries_of_later step places outcome.Many es (inl none) = inl none
   tries_of_later step places outcome.Many es (inr has) = inr (ended_later step places es has)
-  tries_of_later step places (outcome.Fired k) es has = ended_later step places es has
-  tries_of_later step places (outcome.Clash c) es has = ended_later step places es has
-  tries_of_later step places outcome.Full es has = ended_later step places es has
-  tries_of_later step places outcome.Term es has = ended_later step places es has
-  tries_of_later step places (outcome.Large l) es has = ended_later step places es has
+  tries_of_later step places o es has = ended_later step places es has
 
   tries_later : (step : Step) (o : Outcome) (es : List Event) → HasTries own m q step o es → HasTries own m r step o es
   tries_later step o es (places, reads, has) = (places, reads, tries_of_later step places o es has)
@@ -207,8 +201,6 @@ module _ (own : Meaning) (m : Machine) (q r : List Move) (p : IsPrefix q r) wher
   pub are_told_later : (ss : List Step) (os : List Outcome) (es : List Event) → AreTold own m q ss os es →
       AreTold own m r ss os es
   are_told_later [] [] es told = told
-  are_told_later [] (o ∷ os) es told = absurd told
-  are_told_later (s ∷ ss) [] es told = absurd told
   are_told_later (s ∷ ss) (o ∷ os) es told = (
     told.0,
     told.1,
@@ -217,6 +209,7 @@ module _ (own : Meaning) (m : Machine) (q r : List Move) (p : IsPrefix q r) wher
     tries_later s o told.0 told.4,
     are_told_later ss os told.1 told.5,
   )
+  are_told_later ss os es told = absurd told
 
 -- one step more
 are_told_more : (own : Meaning) (m : Machine) (q : List Move) (ss : List Step) (os : List Outcome)
@@ -225,8 +218,6 @@ are_told_more : (own : Meaning) (m : Machine) (q : List Move) (ss : List Step) (
     AreTold own m q (ss ++ s ∷ []) (os ++ o ∷ []) (es ++ fs)
 are_told_more own m q [] [] es fs s o told last =
     (fs, [], ap (λ w. w ++ fs) told ∙ sym (append-nil fs), last.0, last.1, refl)
-are_told_more own m q [] (p ∷ os) es fs s o told last = absurd told
-are_told_more own m q (t ∷ ss) [] es fs s o told last = absurd told
 are_told_more own m q (t ∷ ss) (p ∷ os) es fs s o told last = (
   told.0,
   told.1 ++ fs,
@@ -235,17 +226,14 @@ are_told_more own m q (t ∷ ss) (p ∷ os) es fs s o told last = (
   told.4,
   are_told_more own m q ss os told.1 fs s o told.5 last,
 )
+are_told_more own m q ss os es fs s o told last = absurd told
 
 -- at most 1,000 tries in vain, and the last one
 few_tries : (own : Meaning) (m : Machine) (q : List Move) (step : Step) (places : List Place) (o : Outcome)
     (es : List Event) → o ≢ outcome.GaveUp → IsEndedAfter own m q step places es → HasTriesOf own m q step places o es
 few_tries own m q step places outcome.GaveUp es ended has = absurd (ended refl)
 few_tries own m q step places outcome.Many es ended has = inr has
-few_tries own m q step places (outcome.Fired k) es ended has = has
-few_tries own m q step places (outcome.Clash c) es ended has = has
-few_tries own m q step places outcome.Full es ended has = has
-few_tries own m q step places outcome.Term es ended has = has
-few_tries own m q step places (outcome.Large l) es ended has = has
+few_tries own m q step places o es ended has = has
 
 -- the receipts of so many tries that ended in nothing
 record AddsIdle {A : Type 0} (meaning : A → Meaning) (own : Meaning) (step : Step) (places : List Place) (n : ℕ)

@@ -14,15 +14,15 @@ GivesEach gives (j ∷ jobs) [] = ⊥
 abbrev pub IsUndone : RunError → Type 0
 IsUndone e = (e ≡ NoThread) ⊎ (e ≡ Memory)
 
--- the error that is told of two: a missing thread before an allocation failure
-abbrev pub told_first : RunError → RunError → RunError
-told_first NoThread _ = NoThread
-told_first _ other = other
+-- which of two errors goes before the other: a missing thread before an allocation failure
+abbrev pub foremost_error : RunError → RunError → RunError
+foremost_error NoThread _ = NoThread
+foremost_error _ other = other
 
--- the error that is told of two halves: that of one, the first to be told of two, and an allocation failure where there is
--- none, as what both gave was to be put together
+-- the error that is told of two halves: that of one, the foremost of two, and an allocation failure where there is none,
+-- as what both gave was to be put together
 abbrev pub error_of_both : {X Y : Type 0} → Result X RunError → Result Y RunError → RunError
 error_of_both (Ok x) (Ok y) = Memory
 error_of_both (Ok x) (Err g) = g
 error_of_both (Err f) (Ok y) = f
-error_of_both (Err f) (Err g) = told_first f g
+error_of_both (Err f) (Err g) = foremost_error f g

@@ -2,7 +2,7 @@
 ghost use Rattle.std.specs.Prelude.{◌≡◌, ◌≤◌, ◌<◌, ◌++◌, IfOk, IfErr, IsErrOf, IsOkAnd, vec_len};
 ghost use Rattle.std.specs.Thread.{IsSync};
 ghost use denote.Param.Send.{IsSend};
-ghost use Rattle.asm_play.specs.Jobs.{GivesEach, IsUndone, told_first, error_of_both};
+ghost use Rattle.asm_play.specs.Jobs.{GivesEach, IsUndone, foremost_error, error_of_both};
 ghost use Rattle.asm_play.specs.declared.outcome.RunError.TheVariants as run_error;
 
 use crate::outcome::RunError;
@@ -23,9 +23,9 @@ pub trait Task<J, X>: Sync {
         ensures { IfOk result (λ x. gives self.now job x) };
 }
 
-// Which of two errors is returned: a missing thread goes before an allocation failure.
-fn told_of(error: RunError, other: RunError) -> RunError
-    ensures { result ≡ told_first error other }
+// Which of two errors goes before the other: a missing thread before an allocation failure.
+fn foremost_error(error: RunError, other: RunError) -> RunError
+    ensures { result ≡ foremost_error error other }
 {
     match error {
         RunError::NoThread => error,
@@ -149,6 +149,6 @@ fn joined<X: Drop>(
         }
         (Ok(_), Err(error)) => Err(error),
         (Err(error), Ok(_)) => Err(error),
-        (Err(error), Err(other)) => Err(told_of(error, other)),
+        (Err(error), Err(other)) => Err(foremost_error(error, other)),
     }
 }
