@@ -1,6 +1,7 @@
 -- A text in pieces.
-use Rattle.std.proofs.Common.{◌≡◌, ℕ, ◌-◌, ◌==◌, true, List, [], ◌++◌, take, drop, length, Option, None}
-use Rattle.std.proofs.Common.{Some, sym, ap, ◌∙◌, append_assoc, append-nil, take-append-drop, arith}
+use Rattle.std.proofs.Common.{◌≡◌, ℕ, ◌-◌, ◌==◌, true, List, [], ◌++◌, take, drop, length, Option, sym, ap, subst, ◌∙◌}
+use Rattle.std.proofs.Common.{append_assoc, append-nil, take-append-drop, arith}
+use Rattle.std.proofs.KnownBytes.{Appends-kept}
 use Rattle.std.specs.Prelude.{Result, Ok, Err, OnOk}
 use Rattle.std.proofs.Math.Seq.{take-append_seam}
 use Rattle.std.specs.Io.KnownBytes.{Appends, Keeps}
@@ -13,17 +14,14 @@ drop_whole n s = grind (arith, common_steps)
 pub moved : (n : ℕ) (text done rest : List ℕ) → text ≡ done ++ rest →
     text ≡ (done ++ take n rest) ++ take (length rest - n) (drop n rest)
 moved n text done rest e =
-    e ∙ (ap (λ l. done ++ l) (sym (take-append-drop n rest)) ∙ (sym (append_assoc done (take n rest) (drop n rest))
-    ∙ ap (λ l. (done ++ take n rest) ++ l) (sym (drop_whole n rest))))
+    e ∙ ap (λ l. done ++ l) (sym (take-append-drop n rest)) ∙ sym (append_assoc done (take n rest) (drop n rest))
+    ∙ ap (λ l. (done ++ take n rest) ++ l) (sym (drop_whole n rest))
 
 -- nothing is left, and the flush kept what had gone out
 pub whole_out : (a b c : Option (List ℕ)) (text done rest : List ℕ) → text ≡ done ++ rest → rest ≡ [] →
     Appends a b done → Keeps b c → Appends a c text
-whole_out None b c text done rest e nil p q = tt
-whole_out (Some x) None c text done rest e nil p q = absurd p
-whole_out (Some x) (Some y) None text done rest e nil p q = absurd q
-whole_out (Some x) (Some y) (Some z) text done rest e nil p q =
-    q ∙ (p ∙ ap (λ l. x ++ l) (sym (e ∙ (ap (λ l. done ++ l) nil ∙ append-nil done))))
+whole_out a b c text done rest e nil p q =
+    subst (Appends a c) (sym (e ∙ ap (λ l. done ++ l) nil ∙ append-nil done)) (Appends-kept a b c done p q)
 
 pub nothing_left : (s : List ℕ) → true ≡ (length s == 0) → s ≡ []
 nothing_left s e = grind (arith, common_steps)
@@ -31,12 +29,9 @@ nothing_left s e = grind (arith, common_steps)
 -- what had gone out is the first part of the text
 pub some_out : (a b c : Option (List ℕ)) (text done rest : List ℕ) → text ≡ done ++ rest → Appends a b done →
     Keeps b c → (n : ℕ) × Appends a c (take n text)
-some_out None b c text done rest e p q = (0, tt)
-some_out (Some x) None c text done rest e p q = absurd p
-some_out (Some x) (Some y) None text done rest e p q = absurd q
-some_out (Some x) (Some y) (Some z) text done rest e p q =
+some_out a b c text done rest e p q =
     let front : take (length done) text ≡ done = ap (take (length done)) e ∙ take-append_seam done rest in
-    (length done, q ∙ (p ∙ ap (λ l. x ++ l) (sym front)))
+    (length done, subst (Appends a c) (sym front) (Appends-kept a b c done p q))
 
 -- what holds anyway holds where there is no error
 pub on_ok : {T E P : Type 0} (r : Result T E) → P → OnOk r P

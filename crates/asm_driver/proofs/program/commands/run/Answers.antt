@@ -1,6 +1,6 @@
-use Rattle.std.proofs.Common.{◌≡◌, ◌≤◌, ℕ, Bool, List, Result, Ok, Err, IfOk, IfErr, length, refl, string_bytes}
-use Rattle.std.proofs.lemmas.Result.{err_from_is_err_and}
-use Rattle.asm_driver.specs.Commands.{text_of_played, IsPlayed, IsNoText, IsRunText, IsNoRun}
+use Rattle.std.proofs.Common.{◌≡◌, ◌≤◌, ℕ, Bool, List, length, refl}
+use Rattle.std.proofs.lemmas.Result.{err_from_is_err_and, IfErr-weaker, IfOk-weaker}
+use Rattle.asm_driver.specs.Commands.{IsPlayed, IsNoText, IsNoRun}
 use Rattle.asm_script.specs.Plan.{Plan}
 use Rattle.asm_play.specs.Play.{IsNoCapacity}
 use Rattle.asm_driver.specs.Refusal.{refusal_of_run}
@@ -35,25 +35,17 @@ returns-in_err-played-clause-err g c =
     c.in_ok-script.script c.in_ok-script.ensures.ok (λ e. c.in_err-played.ensures.capacity.0 (cc (e)))
     (λ e. c.in_err-played.ensures.threads (cc (e))))
 
--- the text of a play, by what makes its bytes
-told : {X : Type 0} (bytes_of : X → List ℕ) (bytes : List ℕ) (capacity : ℕ) (asked : Bool) (p : Played)
-    (r : Result X Refusal) → IsPlayed bytes capacity p → IfOk r (λ text. bytes_of text ≡ text_of_played asked p) →
-    IfOk r (λ text. IsRunText bytes capacity asked (bytes_of text))
-told bytes_of bytes capacity asked p (Ok text) is h = (p, is, h)
-told bytes_of bytes capacity asked p (Err r) is h = tt
-
--- a play that has none
-told_not : {X : Type 0} (bytes : List ℕ) (capacity : ℕ) (asked : Bool) (p : Played) (r : Result X Refusal) →
-    IsPlayed bytes capacity p → IfErr r (IsNoText asked p) → IfErr r (IsNoRun bytes capacity asked)
-told_not bytes capacity asked p (Ok text) is h = tt
-told_not bytes capacity asked p (Err r) is h = untold bytes capacity asked p r is h
-
 pub returns-clause-ok : goal.returns-clause-ok
 returns-clause-ok g c =
-    told string_bytes c.args.bytes.now c.args.capacity c.args.journal c.in_ok-played.played c.played_text.result
-    (c.in_ok-script.script, c.in_ok-script.ensures.ok, c.in_ok-played.ensures.played) c.played_text.ensures.ok
+    let p = c.in_ok-played.played in
+    let is : IsPlayed c.args.bytes.now c.args.capacity p =
+    (c.in_ok-script.script, c.in_ok-script.ensures.ok, c.in_ok-played.ensures.played) in
+    IfOk-weaker c.played_text.result _ _ (λ text h. (p, is, h)) c.played_text.ensures.ok
 
 pub returns-clause-err : goal.returns-clause-err
 returns-clause-err g c =
-    told_not c.args.bytes.now c.args.capacity c.args.journal c.in_ok-played.played c.played_text.result
-    (c.in_ok-script.script, c.in_ok-script.ensures.ok, c.in_ok-played.ensures.played) c.played_text.ensures.err
+    let p = c.in_ok-played.played in
+    let is : IsPlayed c.args.bytes.now c.args.capacity p =
+    (c.in_ok-script.script, c.in_ok-script.ensures.ok, c.in_ok-played.ensures.played) in
+    IfErr-weaker c.played_text.result _ _
+    (λ r h. untold c.args.bytes.now c.args.capacity c.args.journal p r is h) c.played_text.ensures.err
