@@ -1,14 +1,10 @@
 -- What the matches of a subcommand ask for.
 use Rattle.std.proofs.Common.{◌≡◌, ◌∙◌, ◌<◌, ◌^◌, ℕ, Bool, true, false, Option, Some, None, Result, Ok, Err}
-use Rattle.std.proofs.Common.{refl, codes, option_map}
-use Rattle.std.specs.Box.{box_value}
+use Rattle.std.proofs.Common.{codes}
 use Rattle.std.specs.Prelude.{unwrap_or}
 use Rattle.std.specs.Str.Parse.{ParsesUnsigned, IsNumeral, digits_value, without_leading_plus}
-use Rattle.clap.specs.Words.{Text, one_text, rows_of, subcommand_name_of, subcommand_rows_of}
-use Rattle.clap.specs.Simple.{subcommand_rows}
+use Rattle.clap.specs.Words.{Text, one_text, rows_of}
 use Rattle.clap.specs.Matches.{ReadsOne}
-use Rattle.clap.specs.declared.parser.matches.ArgMatches.{ArgMatches}
-use Rattle.clap.specs.declared.parser.matches.ArgMatches.TheViews.{out-ArgMatches, out-SubCommand}
 use Rattle.clap.specs.declared.parser.matches.Found.{Found}
 use Rattle.clap.proofs.WalkLemmas.{one_text-rows}
 use Rattle.asm_driver.specs.Limits.{default_capacity}
@@ -35,9 +31,3 @@ journal_asked f asked given left = (
   λ e. given (one_text-rows f (codes "journal") ∙ e),
   λ e. left (one_text-rows f (codes "journal") ∙ e),
 )
-
--- the name that a parse met is that of its rows
-pub name_of : (m : ArgMatches) → subcommand_name_of m ≡ option_map (λ p. p.0) (subcommand_rows_of m)
-name_of m = elim (out-ArgMatches m).subcommand
-    as (λ o. option_map (λ b. (out-SubCommand (box_value b)).name.now) o ≡ option_map (λ p. p.0) (subcommand_rows o))
-    [ Some b ↦ refl | None ↦ refl ]

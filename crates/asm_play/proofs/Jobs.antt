@@ -1,9 +1,8 @@
 -- What two lists of jobs give.
-use Rattle.std.proofs.Common.{◌≡◌, inl, inr, ◌≤◌, ◌++◌, ℕ, List, [], ◌∷◌, Result, Ok, Err, Vec, Global, refl, subst, sym}
+use Rattle.std.proofs.Common.{◌≡◌, inl, inr, ◌++◌, List, [], ◌∷◌, Result, Ok, Err, Vec, Global, refl, subst, sym}
 use Rattle.std.specs.Prelude.{IfOk, IfErr, IsOkAnd}
 use Rattle.asm_play.specs.Jobs.{GivesEach, IsUndone, foremost_error, error_of_both}
 use Rattle.asm_play.specs.declared.outcome.RunError.{RunError}
-use Rattle.asm_play.specs.declared.outcome.RunError.TheVariants.{NoThread, Memory}
 
 -- what the first jobs gave and then what the others gave
 pub gives_each_append : {J X : Type 0} (gives : J → X → Type 0) (a b : List J) (x y : List X) →
@@ -43,8 +42,3 @@ pub joins_undone : {X Y Z : Type 0} (r : Result X RunError) (s : Result Y RunErr
     IfErr r IsUndone → IfErr s IsUndone → IfErr t (λ e. e ≡ error_of_both r s) → IfErr t IsUndone
 joins_undone r s (Ok z) p q e = tt
 joins_undone r s (Err f) p q e = subst IsUndone (sym e) (both_undone r s p q)
-
--- refused memory isn't a missing thread
-pub only_memory : {X : Type 0} (r : Result X RunError) (n : ℕ) → IfErr r (λ e. e ≡ Memory) → r ≡ Err NoThread → 2 ≤ n
-only_memory r n refused is =
-    let no : NoThread ≡ Memory = subst (λ q. IfErr q (λ e. e ≡ Memory)) is refused in absurd (cc no)

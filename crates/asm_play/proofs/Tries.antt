@@ -271,18 +271,14 @@ module _ {A : Type 0} (meaning : A → Meaning) where
     -- a step that has no move ends
     fault_told : (f : StepFault) (o : Outcome) (es : List Event) → IsEndOf f o → All IsIdle es →
         HasFault own m here step f → IsTold own m here step o es
-    fault_told fault.Term o es is idle has = subst (λ p. IsTold own m here step p es) (sym is) (idle, has)
     fault_told (fault.Clash c) o es is idle has = subst (λ p. IsTold own m here step p es) (sym is) (inr (idle, has))
-    fault_told (fault.Large l) o es is idle has = subst (λ p. IsTold own m here step p es) (sym is) (idle, has)
     fault_told fault.Many o es is idle has = subst (λ p. IsTold own m here step p es) (sym is) (idle, inr has)
     fault_told fault.Memory o es is idle has = absurd is
+    fault_told f o es is idle has = subst (λ p. IsTold own m here step p es) (sym is) (idle, has)
 
     not_given_up : (f : StepFault) (o : Outcome) → IsEndOf f o → o ≢ outcome.GaveUp
-    not_given_up fault.Term o is bad = let no : outcome.Term ≡ outcome.GaveUp = sym is ∙ bad in cc no
-    not_given_up (fault.Clash c) o is bad = let no : outcome.Clash c ≡ outcome.GaveUp = sym is ∙ bad in cc no
-    not_given_up (fault.Large l) o is bad = let no : outcome.Large l ≡ outcome.GaveUp = sym is ∙ bad in cc no
-    not_given_up fault.Many o is bad = let no : outcome.Many ≡ outcome.GaveUp = sym is ∙ bad in cc no
     not_given_up fault.Memory o is bad = absurd is
+    not_given_up f o is bad = let no = sym is ∙ bad in cc no
 
     -- the try of a step that has no move
     pub ended_by_fault : (f : StepFault) (o : Outcome) → IsEndOf f o →

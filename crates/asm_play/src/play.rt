@@ -90,7 +90,8 @@ impl<'a, 's, P: Passage + Sync, S: Scripted + Sync> Task<
     }
 }
 
-// Plays each agent on a thread of its own.
+// Plays each agent on a thread of its own. The steps are a type parameter here, for the goal that `each` asks for a task
+// that is `Sync`.
 fn played_apart<'s, 'a, R: Threads + Wait + Sync, P: Passage + Sync, S: Scripted + Sync>(
     rt: &R,
     alloc: Global,
@@ -106,7 +107,8 @@ fn played_apart<'s, 'a, R: Threads + Wait + Sync, P: Passage + Sync, S: Scripted
     workers::each(rt, alloc, playing, agents)
 }
 
-// Plays each agent, on a thread of its own, with the steps that are written at its number.
+// Plays each agent, on a thread of its own, with the steps that are written at its number. It is apart from `played_apart`
+// for the goal `played_apart-requires-sync-S`: that the steps of a script are `Sync`.
 fn played_as_written<'s, 'a, 'p, R: Threads + Wait + Sync, P: Passage + Sync>(
     rt: &R,
     alloc: Global,
@@ -203,6 +205,7 @@ fn closed<'s>(
     let Ended { agents, outcomes } = ended;
     match storage.close(alloc, agents.as_slice()) {
         Ok(history) => {
+            // For the clause `played`, which is proved of what a program can hold.
             history.proper();
             Ok(Played {
                 history,
