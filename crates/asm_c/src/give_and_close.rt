@@ -1,10 +1,11 @@
-//! Counting a storage's moves, giving agents back, and closing them into a journal.
-ghost use Rattle.std.specs.Prelude.{◌≡◌, ◌≢◌, ◌⊎◌, ◌≤◌, ◌∷◌, [], length, None};
+//! Counting a storage's moves, giving agents back, closing them into a journal, and its text.
+ghost use Rattle.std.specs.Prelude.{◌≡◌, ◌≢◌, ◌⊎◌, ◌≤◌, ◌∷◌, [], length, None, Some};
 ghost use Rattle.asm_slots.specs.Calls.{Closes, Gives, IsThere};
 ghost use Rattle.asm_slots.specs.Closed.{IsTooLarge, LacksReceipt};
-ghost use Rattle.asm_slots.specs.Codes.{IsOneOf, ASM_DONE, ASM_MEMORY, ASM_EMPTY, ASM_NUMBER, ASM_MISSING};
-ghost use Rattle.asm_slots.specs.Codes.{ASM_OTHER, ASM_LARGE};
+ghost use Rattle.asm_slots.specs.Codes.{IsOneOf, ASM_DONE, ASM_MEMORY, ASM_EMPTY, ASM_SMALL, ASM_NONE};
+ghost use Rattle.asm_slots.specs.Codes.{ASM_NUMBER, ASM_MISSING, ASM_OTHER, ASM_LARGE};
 ghost use Rattle.asm_slots.specs.Slots.{HoldsNoAgent, HoldsNoStore, HoldsStore, IsOfStore, content_of};
+ghost use Rattle.asm_slots.specs.Written.{IsTooLong, IsWritten};
 
 use asm_slots::Slot;
 use std::alloc::Global;
@@ -50,4 +51,25 @@ pub extern "C" fn asm_close(alloc: Global, store: &mut Slot, number: &mut u32) -
     ensures empty { result ≡ ASM_EMPTY → HoldsNoStore (content_of store.old) }
 {
     asm_slots::close(alloc, store, number)
+}
+
+#[unsafe(no_mangle)]
+pub extern "C" fn asm_journal(
+    alloc: Global,
+    store: &mut Slot,
+    out: &mut [u8],
+    written: &mut usize,
+) -> i32
+    ensures codes { IsOneOf (ASM_DONE ∷ ASM_EMPTY ∷ ASM_SMALL ∷ ASM_NONE ∷ []) result }
+    ensures kept { content_of store.new ≡ content_of store.old }
+    ensures told { result ≡ ASM_DONE → HoldsStore (content_of store.old)
+        (λ s. IsWritten (λ text. s.journal ≡ Some text) out.new written.new) }
+    ensures small { result ≡ ASM_SMALL → HoldsStore (content_of store.old)
+        (λ s. IsTooLong (λ text. s.journal ≡ Some text) (length out.old) written.new) }
+    ensures no_text { IsOneOf (ASM_EMPTY ∷ ASM_NONE ∷ []) result → written.new ≡ 0 }
+    ensures none { result ≡ ASM_NONE → HoldsStore (content_of store.old) (λ s. s.journal ≡ None) }
+    ensures empty { result ≡ ASM_EMPTY → HoldsNoStore (content_of store.old) }
+    ensures unwritten { result ≢ ASM_DONE → out.new ≡ out.old }
+{
+    asm_slots::write_journal(alloc, store, out, written)
 }

@@ -3,6 +3,7 @@
 
 mod codes;
 mod committing;
+mod composing;
 mod counts_and_learning;
 mod explaining;
 #[cfg(test)]
@@ -15,7 +16,6 @@ mod journal_tests;
 mod journals;
 mod looking;
 mod looking_at;
-mod moves;
 #[cfg(test)]
 mod moves_tests;
 mod next_store;

@@ -1,12 +1,11 @@
 //! Values in an agent's own state, and whether named reads still stand: looks that leave no receipt.
 ghost use Rattle.std.specs.Prelude.{◌≡◌, ◌≢◌, ◌∷◌, [], length};
 ghost use Rattle.asm_storage.specs.Storage.{IsSameAgent};
-ghost use Rattle.asm_slots.specs.Bytes.{AreLocations, AreReads, IsNoJson, IsOtherJson, ReadAsMoreReads};
-ghost use Rattle.asm_slots.specs.Calls.{HasLooked, MayHaveLooked, SeesOn};
-ghost use Rattle.asm_slots.specs.Codes.{IsOneOf, ASM_DONE, ASM_STALE, ASM_MEMORY, ASM_EMPTY, ASM_SMALL};
-ghost use Rattle.asm_slots.specs.Codes.{ASM_MANY, ASM_NOT_JSON, ASM_SHAPE};
-ghost use Rattle.asm_slots.specs.Own.{AllStand, HasFollowed, HasLookedOn, IsPeekOf};
-ghost use Rattle.asm_slots.specs.Own.{IsStaleOf};
+ghost use Rattle.asm_slots.specs.Bytes.{AreLocations, IsNoJson, IsOtherJson};
+ghost use Rattle.asm_slots.specs.Calls.{SeesOn};
+ghost use Rattle.asm_slots.specs.Codes.{IsOneOf, ASM_DONE, ASM_MEMORY, ASM_EMPTY, ASM_SMALL, ASM_NOT_JSON, ASM_SHAPE};
+ghost use Rattle.asm_slots.specs.Looked.{Stands};
+ghost use Rattle.asm_slots.specs.Own.{HasFollowed, HasLookedOn, IsPeekOf};
 ghost use Rattle.asm_slots.specs.Slots.{Goes, Holds, HoldsNoAgent, content_of};
 ghost use Rattle.asm_slots.specs.Written.{IsTooLong, IsWritten};
 
@@ -59,29 +58,7 @@ pub extern "C" fn asm_stands(
     out: &mut [u8],
     written: &mut usize,
 ) -> i32
-    ensures codes { IsOneOf (ASM_DONE ∷ ASM_STALE ∷ ASM_MEMORY ∷ ASM_EMPTY ∷ ASM_SMALL ∷ ASM_MANY
-        ∷ ASM_NOT_JSON ∷ ASM_SHAPE ∷ []) result }
-    ensures stand { result ≡ ASM_DONE → Holds (content_of agent.new) (AllStand reads.now) }
-    ensures told { result ≡ ASM_STALE → Holds (content_of agent.new)
-        (λ a. IsWritten (IsStaleOf reads.now a) out.new written.new) }
-    ensures small { result ≡ ASM_SMALL → Holds (content_of agent.new)
-        (λ a. IsTooLong (IsStaleOf reads.now a) (length out.old) written.new) }
-    ensures looked { IsOneOf (ASM_DONE ∷ ASM_STALE ∷ ASM_SMALL ∷ []) result →
-        Goes (content_of agent.old) (content_of agent.new) HasLookedOn }
-    ensures memory { result ≡ ASM_MEMORY →
-        Goes (content_of agent.old) (content_of agent.new) MayHaveLooked }
-    ensures refused { result ≢ ASM_EMPTY → Goes (content_of agent.old) (content_of agent.new) HasLooked }
-    ensures same { result ≢ ASM_EMPTY → Goes (content_of agent.old) (content_of agent.new) IsSameAgent }
-    ensures seen { result ≢ ASM_EMPTY → Goes (content_of agent.old) (content_of agent.new) SeesOn }
-    ensures many { result ≡ ASM_MANY → ReadAsMoreReads reads.now }
-    ensures not_json { result ≡ ASM_NOT_JSON → IsNoJson reads.now }
-    ensures shape { result ≡ ASM_SHAPE → IsOtherJson AreReads reads.now }
-    ensures empty { result ≡ ASM_EMPTY → HoldsNoAgent (content_of agent.old) }
-    ensures kept { IsOneOf (ASM_EMPTY ∷ ASM_MANY ∷ ASM_NOT_JSON ∷ ASM_SHAPE ∷ []) result →
-        content_of agent.new ≡ content_of agent.old }
-    ensures no_text { IsOneOf (ASM_DONE ∷ ASM_MEMORY ∷ ASM_EMPTY ∷ ASM_MANY ∷ ASM_NOT_JSON ∷ ASM_SHAPE ∷ [])
-        result → written.new ≡ 0 }
-    ensures unwritten { result ≢ ASM_STALE → out.new ≡ out.old }
+    ensures { Stands reads.now (content_of agent.old) (content_of agent.new) out.old out.new written.new result }
 {
     asm_slots::stands(alloc, agent, reads, out, written)
 }

@@ -1,5 +1,5 @@
 //! Moves on a state, and two moves, from texts to a text.
-use crate::moves::{asm_aggregate, asm_compose};
+use crate::composing::{asm_aggregate, asm_compose};
 use std::alloc::Global;
 
 // A state and a move, or two moves, with what is wanted of them.

@@ -1,68 +1,62 @@
 -- Numbers that ascend, with one more among them.
 use Rattle.std.proofs.Common.{◌≡◌, ◌<◌, ◌≤◌, ℕ, zero, suc, List, [], ◌∷◌, ◌++◌, All, Some, length, map, take, drop, take-append-drop, get_or, add-one, sym, ap, ◌∙◌, subst, refl, arith}
 use Rattle.std.proofs.lemmas.List.{map-append, length-drop}
-use Rattle.std.proofs.lemmas.List.Elements.{All-append, All-map, All-weaker}
-use Rattle.std.proofs.lemmas.Option.{same_Some}
+use Rattle.std.proofs.lemmas.List.Elements.{All-append, All-cons, All-drop, All-head, All-map, All-nil, All-tail, All-take, All-weaker}
+use Rattle.std.proofs.lemmas.Option.{same_Some, slice_get-get_or}
+use Rattle.std.proofs.Math.Seq.{drop-cons}
 use Rattle.std.specs.Prelude.{slice_get}
 use Rattle.std.specs.List.Sorted.{IsStrictlyIncreasing}
 use Rattle.asm_storage.proofs.Rounds.{rises_tail}
 use Rattle.asm_storage.specs.declared.part.AgentPart.{AgentPart}
 use Rattle.asm_slots.specs.InsertPoint.{IsAmong, IsInsertPoint}
-use Rattle.asm_slots.proofs.PartsAndAgents.{all_first, all_left}
 
 -- a number below all of those that ascend, in front of them
 pub rises_from : (x : ℕ) (xs : List ℕ) → All (λ y. x < y) xs → IsStrictlyIncreasing xs → IsStrictlyIncreasing (x ∷ xs)
 rises_from x xs below rises zero lt = below 0 0 (omega (arith, lt))
 rises_from x xs below rises (suc k) lt = rw add-one (rw add-one at (rises k (omega (arith, lt))))
 
-all_front : {X : Type 0} (P : X → Type 0) (x : X) (xs : List X) → P x → All P xs → All P (x ∷ xs)
-all_front P x xs p each zero d lt = p
-all_front P x xs p each (suc k) d lt = each k d (omega (arith, lt))
-
 -- of numbers that ascend each later one is above the first
 pub rises_over : (x : ℕ) (xs : List ℕ) → IsStrictlyIncreasing (x ∷ xs) → All (λ y. x < y) xs
-rises_over x [] rises = λ k d lt. absurd (omega (arith, lt))
+rises_over x [] rises = All-nil (λ y. x < y)
 rises_over x (y ∷ xs) rises =
     let first : x < y = rises 0 (omega arith) in
-    all_front (λ z. x < z) y xs first (All-weaker (λ z. y < z) (λ z. x < z) (λ z lt. omega (arith, lt, first)) xs (rises_over y xs (rises_tail x (y ∷ xs) rises)))
+    All-cons (λ z. x < z) y xs first (All-weaker (λ z. y < z) (λ z. x < z) (λ z lt. omega (arith, lt, first)) xs (rises_over y xs (rises_tail x (y ∷ xs) rises)))
 
 all_before : {X : Type 0} (P : X → Type 0) (xs ys : List X) → All P (xs ++ ys) → All P xs
-all_before P [] ys each = λ k d lt. absurd (omega (arith, lt))
-all_before P (x ∷ xs) ys each = all_front P x xs (all_first P x (xs ++ ys) each) (all_before P xs ys (all_left P x (xs ++ ys) each))
+all_before P [] ys each = All-nil P
+all_before P (x ∷ xs) ys each = All-cons P x xs (All-head P x (xs ++ ys) each) (all_before P xs ys (All-tail P x (xs ++ ys) each))
 
 all_after : {X : Type 0} (P : X → Type 0) (xs ys : List X) → All P (xs ++ ys) → All P ys
 all_after P [] ys each = each
-all_after P (x ∷ xs) ys each = all_after P xs ys (all_left P x (xs ++ ys) each)
+all_after P (x ∷ xs) ys each = all_after P xs ys (All-tail P x (xs ++ ys) each)
 
 -- one more among numbers that ascend, above those before it and below those after it
 pub rises_among : (xs ys : List ℕ) (n : ℕ) → IsStrictlyIncreasing (xs ++ ys) → All (λ x. x < n) xs → All (λ y. n < y) ys → IsStrictlyIncreasing (xs ++ n ∷ ys)
 rises_among [] ys n rises before after = rises_from n ys after rises
 rises_among (x ∷ xs) ys n rises before after =
     let over = rises_over x (xs ++ ys) rises in
-    let first : x < n = all_first (λ x. x < n) x xs before in
+    let first : x < n = All-head (λ x. x < n) x xs before in
     rises_from x (xs ++ n ∷ ys)
-    (All-append (λ y. x < y) xs (n ∷ ys) (all_before (λ y. x < y) xs ys over) (all_front (λ y. x < y) n ys first (all_after (λ y. x < y) xs ys over)))
-    (rises_among xs ys n (rises_tail x (xs ++ ys) rises) (all_left (λ x. x < n) x xs before) after)
+    (All-append (λ y. x < y) xs (n ∷ ys) (all_before (λ y. x < y) xs ys over) (All-cons (λ y. x < y) n ys first (all_after (λ y. x < y) xs ys over)))
+    (rises_among xs ys n (rises_tail x (xs ++ ys) rises) (All-tail (λ x. x < n) x xs before) after)
 
 all_unmap : {X Y : Type 0} (P : Y → Type 0) (f : X → Y) (xs : List X) → All P (map f xs) → All (λ x. P (f x)) xs
-all_unmap P f [] each = λ k d lt. absurd (omega (arith, lt))
-all_unmap P f (x ∷ xs) each = all_front (λ y. P (f y)) x xs (all_first P (f x) (map f xs) each) (all_unmap P f xs (all_left P (f x) (map f xs) each))
+all_unmap P f [] each = All-nil (λ x. P (f x))
+all_unmap P f (x ∷ xs) each = All-cons (λ y. P (f y)) x xs (All-head P (f x) (map f xs) each) (all_unmap P f xs (All-tail P (f x) (map f xs) each))
 
 -- of parts whose numbers ascend, those from a greater number on
 pub above_from : (parts : List AgentPart) (at id : ℕ) → IsStrictlyIncreasing (map (λ p. p.id) parts) → ((p : AgentPart) → slice_get parts at ≡ Some p → id < p.id) → All (λ p. id < p.id) (drop at parts)
-above_from [] zero id rises first = λ k d lt. absurd (omega (arith, lt))
-above_from [] (suc at) id rises first = λ k d lt. absurd (omega (arith, lt))
+above_from [] zero id rises first = All-nil (λ p. id < p.id)
+above_from [] (suc at) id rises first = All-nil (λ p. id < p.id)
 above_from (p ∷ parts) zero id rises first =
     let here : id < p.id = first p refl in
-    all_front (λ q. id < q.id) p parts here
+    All-cons (λ q. id < q.id) p parts here
     (All-weaker (λ q. p.id < q.id) (λ q. id < q.id) (λ q lt. omega (arith, lt, here)) parts (all_unmap (λ n. p.id < n) (λ q. q.id) parts (rises_over p.id (map (λ q. q.id) parts) rises)))
 above_from (p ∷ parts) (suc at) id rises first = above_from parts at id (rises_tail p.id (map (λ q. q.id) parts) rises) first
 
 -- an item that stands at a place
 got : {X : Type 0} (xs : List X) (k : ℕ) (x : X) → k < length xs → x ≡ get_or xs k x → slice_get xs k ≡ Some x
-got [] k x lt e = absurd (omega (arith, lt))
-got (y ∷ xs) zero x lt e = ap Some (sym e)
-got (y ∷ xs) (suc k) x lt e = got xs k x (omega (arith, lt)) e
+got xs k x lt e = slice_get-get_or xs k x lt ∙ ap Some (sym e)
 
 -- the same, where the part at that place is known
 pub above_at : (parts : List AgentPart) (at id : ℕ) (p : AgentPart) → IsStrictlyIncreasing (map (λ q. q.id) parts) → at < length parts → p ≡ get_or parts at p → ((q : AgentPart) → slice_get parts at ≡ Some q → id ≤ q.id) → ¬ (p.id ≡ id) → All (λ q. id < q.id) (drop at parts)
@@ -75,15 +69,11 @@ above_at parts at id p rises lt is next ne =
 pub above_end : (parts : List AgentPart) (at id : ℕ) → length parts ≤ at → All (λ q. id < q.id) (drop at parts)
 above_end parts at id end k d lt = absurd (omega (arith, lt, end, length-drop at parts))
 
--- a list at one of its items
-split_at : {X : Type 0} (xs : List X) (k : ℕ) (x : X) → slice_get xs k ≡ Some x → xs ≡ take k xs ++ x ∷ drop (suc k) xs
-split_at [] k x e = absurd (cc)
-split_at (y ∷ xs) zero x e = ap (λ z. z ∷ xs) (same_Some y x e)
-split_at (y ∷ xs) (suc k) x e = ap (λ l. y ∷ l) (split_at xs k x e)
-
 -- a part with this number
 pub among_at : (parts : List AgentPart) (at id : ℕ) (p : AgentPart) → at < length parts → p ≡ get_or parts at p → p.id ≡ id → IsAmong parts id
-among_at parts at id p lt is e = (take at parts, drop (suc at) parts, p, split_at parts at p (got parts at p lt is), e)
+among_at parts at id p lt is e =
+    let here = drop-cons parts at p lt ∙ ap (λ q. q ∷ drop (suc at) parts) (sym is) in
+    (take at parts, drop (suc at) parts, p, sym (take-append-drop at parts) ∙ ap (λ l. take at parts ++ l) here, e)
 
 -- one part more at its place
 pub rises_in : (parts : List AgentPart) (p : AgentPart) (at : ℕ) → IsStrictlyIncreasing (map (λ q. q.id) parts) → IsInsertPoint parts p.id at → IsStrictlyIncreasing (map (λ q. q.id) (take at parts ++ p ∷ drop at parts))
@@ -97,5 +87,4 @@ rises_in parts p at rises point =
 -- what is so of all parts and of one more is so of all with it
 pub all_in : {X : Type 0} (P : X → Type 0) (xs : List X) (x : X) (at : ℕ) → All P xs → P x → All P (take at xs ++ x ∷ drop at xs)
 all_in P xs x at each p =
-    let whole : All P (take at xs ++ drop at xs) = subst (All P) (sym (take-append-drop at xs)) each in
-    All-append P (take at xs) (x ∷ drop at xs) (all_before P (take at xs) (drop at xs) whole) (all_front P x (drop at xs) p (all_after P (take at xs) (drop at xs) whole))
+    All-append P (take at xs) (x ∷ drop at xs) (All-take P at xs each) (All-cons P x (drop at xs) p (All-drop P at xs each))

@@ -1,6 +1,7 @@
 -- Where the one move of a step fires, the pushed moves fire in turn there.
 use Rattle.std.specs.Option.{option_map_or}
 use Rattle.std.proofs.Common.{Option, Some, None, Result, IfOk, OnErr, IfErr, unwrap_or, inl, inr, ℤ, w32, to_z, of_z, ◌≡◌, ◌≤◌, ◌-◌, ℕ, zero, suc, List, [], ◌∷◌, All, Ok, length, map, take, get_or, arith, ap, refl, subst, sym, ◌∙◌}
+use Rattle.std.proofs.lemmas.List.{length-take}
 use Rattle.std.proofs.lemmas.List.Elements.{All-contains, All-map, Contains-append_right}
 use Rattle.asm_update.specs.Fire.{Part, Old, fire, state_of}
 use Rattle.asm_update.specs.Move.{Move}
@@ -45,11 +46,6 @@ take_twice zero xs = refl
 take_twice (suc n) [] = refl
 take_twice (suc n) (x ∷ xs) = ap (λ l. x.instrs ∷ l) (take_twice n xs)
 
-few_taken : {X : Type 0} (n : ℕ) (xs : List X) → length (take n xs) ≤ n
-few_taken zero xs = omega arith
-few_taken (suc n) [] = omega arith
-few_taken (suc n) (x ∷ xs) = let few = few_taken n xs in omega (arith, few)
-
 module _ (a new : AgentAt Standard) (s : StepView) (reads : List Named) (M : Move) (k : ℕ) (names : NamesAll s reads)
     (answered : IsAnswered meaning a new reads M (Fired k)) (coherent : IsCoherentReply meaning new reads M (Fired k)) where
   abbrev moves : List Move
@@ -65,7 +61,7 @@ module _ (a new : AgentAt Standard) (s : StepView) (reads : List Named) (M : Mov
   within : s.number ≤ length a.account.seen → s.number ≤ k - 1
   within le =
       let longer = length-prefix a.account.seen (take (k - 1) new.account.seen) answered.begins in
-      let few = few_taken (k - 1) new.account.seen in
+      let few = length-take (k - 1) new.account.seen in
       omega (arith, le, longer, few)
 
   below_is : s.number ≤ length a.account.seen → after s.number ≡ below a s
@@ -109,8 +105,8 @@ each_partial part old s groups is = by_top (top_of s) refl where
   by_top (Some y) e = top_partials part old s groups is y e
 
 -- what a step's one move does, of a step with these layers
-abbrev Fires : List Layer → Move → Type 0
-Fires layers M =
+abbrev FiresAs : List Layer → Move → Type 0
+FiresAs layers M =
     (part : Part) (old : Old) (groups : List (List Move)) (B : State) → IsStepOf part old layers groups → IsProper B →
     Agrees B old (all_moves groups) →
     (fire part B M ≡ Ok (under B (frames_of layers)))
@@ -118,7 +114,7 @@ Fires layers M =
 
 -- the answer to the fire of a step's one move
 pub has_fired : (s : StepView) (code : ℤ) (fired from to : ℕ) (a new : AgentAt Standard) (reads : List Named) (M : Move)
-    (answer : Result Reply FireError) → NamesAll s reads → M ≡ unwrap_or (one_move s.layers) [] → Fires s.layers M →
+    (answer : Result Reply FireError) → NamesAll s reads → M ≡ unwrap_or (one_move s.layers) [] → FiresAs s.layers M →
     TellsFire answer code fired from to → IfOk answer (IsAnswered meaning a new reads M) →
     IfOk answer (IsCoherentReply meaning new reads M) → OnErr answer (HasLooked a new) → IfErr answer (IsBusy a new) →
     ((n : ℕ) × MadeOffers a new answer n) → HasFiredStep s code fired from to a new

@@ -1,5 +1,5 @@
 -- A location that is got besides others.
-use Rattle.std.proofs.Common.{◌≡◌, ◌≤◌, ◌<◌, ◌∙◌, ℕ, zero, suc, true, false, List, [], ◌∷◌, ◌++◌, Contains, Option, length, get_or, arith, ⊎_elim, refl, subst, sym, ap}
+use Rattle.std.proofs.Common.{◌≡◌, ◌≤◌, ◌<◌, ◌∙◌, ℕ, true, false, List, [], ◌∷◌, ◌++◌, Contains, Option, length, get_or, arith, ⊎_elim, subst, sym, ap}
 use Rattle.std.specs.List.{HoldsAt, AllWithin}
 use Rattle.std.specs.List.Retain.{IsFiltered, DiffersFromLast}
 use Rattle.std.specs.List.Sorted.{IsPermutation, IsSorted, IsStrictlySortedBy}
@@ -29,23 +29,6 @@ each_swapped xs ys ls each = record {
 pub none_ascend : IsStrictlySortedBy location_cmp []
 unfolding IsStrictlySortedBy
 none_ascend = tt
-
--- one of the list
-only : (l k : Place) → Contains (l ∷ []) k → l ≡ k
-only l k (zero, lt, is) = is
-only l k (suc n, lt, is) = absurd (omega (arith, lt))
-
--- a location that is there already
-pub each_there : (ls : List Place) (l : Place) → IsStrictlySortedBy location_cmp ls → Contains ls l → AreEach (ls ++ l ∷ []) ls
-each_there ls l ascending there = record {
-  ascending = ascending;
-  same = λ k. (
-    λ has. Contains-append_left ls (l ∷ []) k has,
-    λ has.
-        ⊎_elim (λ first. first) (λ last. subst (Contains ls) (only l k last) there)
-        (Contains-append_cases ls (l ∷ []) k has),
-  );
-}
 
 -- a location that equals one of the list is there
 pub found : (ls : List Place) (l : Place) (k : ℕ) → k < length ls →

@@ -71,12 +71,3 @@ own_got a s t inside n o locations text view own number at over is =
     ∙ ap (λ (x : StepView). values_text x.number (seen_through (frames_of x.layers) (value_at s)) locations) view
     ∙ ap (λ (f : Old). values_text t.number f locations)
     (seen_is a s t own (sym number ∙ at ∙ ap (λ (x : StepView). x.number) view))
-
--- the same at one location
-pub own_seen : (a : AgentAt Standard) (s : StateView) (t inside : StepView) (n : ℕ) (o : OverView StateView) (l : Place) →
-    inside ≡ t → IsOwn a s → n ≡ s.number → n ≡ inside.number → o ≡ record { frames = frames_of inside.layers; below = s } →
-    seen_through o.frames (value_at o.below) l ≡ seen a t l
-own_seen a s t inside n o l view own number at over =
-    ap (λ (x : OverView StateView). seen_through x.frames (value_at x.below) l) over
-    ∙ ap (λ (x : StepView). seen_through (frames_of x.layers) (value_at s) l) view
-    ∙ ap (λ (f : Old). f l) (seen_is a s t own (sym number ∙ at ∙ ap (λ (x : StepView). x.number) view))

@@ -1,7 +1,6 @@
 -- Parts and agents, one more at a time.
-use Rattle.std.proofs.Common.{◌≡◌, zero, suc, List, [], ◌∷◌, ◌++◌, All, map, sym, ap, ◌∙◌, subst, append_assoc, refl, arith}
+use Rattle.std.proofs.Common.{◌≡◌, List, [], ◌∷◌, ◌++◌, map, sym, ap, ◌∙◌, subst, append_assoc, refl}
 use Rattle.std.proofs.lemmas.List.{map-append}
-use Rattle.std.proofs.lemmas.List.Elements.{All-append}
 use Rattle.std.specs.List.Sorted.{IsStrictlyIncreasing}
 use Rattle.asm_storage.specs.declared.part.AgentPart.{AgentPart}
 use Rattle.asm_storage.specs.Agents.{ids}
@@ -9,19 +8,6 @@ use Rattle.asm_storage.specs.Part.{agent_of}
 use Rattle.asm_storage.specs.Storage.{AgentAt, StorageView, accounts}
 use Rattle.asm_slots.specs.Standard.{Standard}
 use Rattle.asm_slots.specs.declared.shared.Shared.{Shared}
-
-pub all_one : {X : Type 0} (P : X → Type 0) (x : X) → P x → All P (x ∷ [])
-all_one P x p zero d lt = p
-all_one P x p (suc k) d lt = absurd (omega (arith, lt))
-
-pub all_first : {X : Type 0} (P : X → Type 0) (x : X) (xs : List X) → All P (x ∷ xs) → P x
-all_first P x xs each = each 0 x (omega arith)
-
-pub all_left : {X : Type 0} (P : X → Type 0) (x : X) (xs : List X) → All P (x ∷ xs) → All P xs
-all_left P x xs each k d lt = each (suc k) d (omega (arith, lt))
-
-pub all_more : {X : Type 0} (P : X → Type 0) (done new : List X) (x : X) → new ≡ done ++ x ∷ [] → All P done → P x → All P new
-all_more P done new x added each p = subst (All P) (sym added) (All-append P done (x ∷ []) each (all_one P x p))
 
 -- one more is made from what is left
 pub more_made : {X Y : Type 0} (f : X → Y) (made new : List Y) (y : Y) (x : X) (left rest : List X) (all : List Y) →

@@ -1,12 +1,14 @@
 -- What the commit of a step does.
-use Rattle.std.specs.Prelude.{◌≡◌, ◌⊎◌, ◌-◌, ℕ, ℤ, List, [], ◌++◌, All, map, Result, Ok, Err, IfOk, OnErr, IfErr, unwrap_or}
+use Rattle.std.specs.Prelude.{◌≡◌, ◌≢◌, ◌⊎◌, ◌-◌, ◌+◌, ◌≤◌, ℕ, ℤ, List, [], ◌∷◌, ◌++◌, All, map}
+use Rattle.std.specs.Prelude.{Option, None, Result, Ok, Err, IfOk, OnErr, IfErr, unwrap_or}
 use Rattle.asm_update.specs.Fire.{fire}
 use Rattle.asm_update.specs.Move.{Move}
 use Rattle.asm_update.specs.State.{IsProper}
 use Rattle.asm_overlay.specs.Frames.{under}
 use Rattle.asm_state.specs.declared.named.Named.{Named}
 use Rattle.asm_storage.specs.Calls.{IsAnswered, IsBusy, IsCoherentReply, MadeOffers}
-use Rattle.asm_storage.specs.Storage.{AgentAt}
+use Rattle.asm_storage.specs.Limits.{offers_limit}
+use Rattle.asm_storage.specs.Storage.{AgentAt, IsSameAgent}
 use Rattle.asm_storage.specs.declared.call.Reply.{Reply}
 use Rattle.asm_storage.specs.declared.call.Reply.TheVariants.{Fired}
 use Rattle.asm_storage.specs.declared.error.FireError.{FireError}
@@ -14,12 +16,15 @@ use Rattle.asm_storage.specs.declared.error.FireError.TheVariants.{Busy, ManyRea
 use Rattle.asm_step.specs.InTurn.{DoesAll, fire_all}
 use Rattle.asm_step.specs.Layers.{all_moves, frames_of, one_move, partial_places_of}
 use Rattle.asm_step.specs.Places.{AreEach}
-use Rattle.asm_slots.specs.Calls.{HasLooked, code_of, number_of}
-use Rattle.asm_slots.specs.Codes.{ASM_MEMORY, ASM_BUSY, ASM_MANY}
+use Rattle.asm_slots.specs.Calls.{HasLooked, MissedFew, MissedOne, SeesOn, code_of, number_of}
+use Rattle.asm_slots.specs.Codes.{IsOneOf, ASM_DONE, ASM_STALE, ASM_CLASH, ASM_MEMORY, ASM_FULL, ASM_EMPTY, ASM_BUSY, ASM_MANY}
 use Rattle.asm_slots.specs.Own.{state_at}
+use Rattle.asm_slots.specs.Slots.{Goes, HoldBoth, Holds, LacksOne}
 use Rattle.asm_slots.specs.Standard.{Standard, meaning, part}
 use Rattle.asm_slots.specs.Step.{StepView}
 use Rattle.asm_slots.specs.Steps.{IsStepOn}
+use Rattle.asm_slots.specs.declared.content.Content.{Content}
+use Rattle.asm_slots.specs.declared.read_and_fire.Numbers.{Numbers}
 
 -- the code and the numbers of what a fire answers: of the move that was fired, and of the moves that had been seen at the
 -- start and at the end of a busy call; what a code doesn't set is 0
@@ -65,3 +70,20 @@ HasCommitted s code fired from to old new =
 abbrev pub OneDoesAll : AgentAt Standard → StepView → Type 0
 OneDoesAll a s =
     (groups : List (List Move)) → IsStepOn a s groups → DoesAll part (all_moves groups) (unwrap_or (one_move s.layers) [])
+
+-- the step's one move is fired, and the step is over; or the code tells why not, and the step stays
+pub record Commits (agent after step step_after : Option Content) (numbers : Numbers) (code : ℤ) : Type 0 where
+  pub codes : IsOneOf (ASM_DONE ∷ ASM_STALE ∷ ASM_CLASH ∷ ASM_MEMORY ∷ ASM_FULL ∷ ASM_EMPTY ∷ ASM_BUSY ∷ ASM_MANY ∷ []) code
+  pub committed : code ≢ ASM_EMPTY → HoldBoth agent step
+      (λ a s. Holds after (HasCommitted s code numbers.fired numbers.from numbers.to a))
+  pub does : code ≢ ASM_EMPTY → HoldBoth agent step OneDoesAll
+  pub over : code ≡ ASM_DONE → step_after ≡ None
+  pub stays : code ≢ ASM_DONE → step_after ≡ step
+  pub same : code ≢ ASM_EMPTY → Goes agent after IsSameAgent
+  pub seen : code ≢ ASM_EMPTY → Goes agent after SeesOn
+  pub few : code ≢ ASM_EMPTY → Goes agent after MissedFew
+  pub missed : code ≡ ASM_DONE → Goes agent after MissedOne
+  pub lost : code ≡ ASM_BUSY → numbers.from + offers_limit ≤ numbers.to
+  pub empty : code ≡ ASM_EMPTY → LacksOne agent step
+  pub kept : code ≡ ASM_EMPTY → after ≡ agent
+  pub no_numbers : code ≡ ASM_EMPTY → (numbers.fired ≡ 0) × (numbers.from ≡ 0) × (numbers.to ≡ 0)

@@ -1,10 +1,11 @@
 -- What is told of the bytes of a journal.
-use Rattle.std.specs.Prelude.{◌≡◌, ℕ, ℤ, List}
+use Rattle.std.specs.Prelude.{◌≡◌, ◌≢◌, ℕ, ℤ, List, [], ◌∷◌, length}
 use Rattle.serde_json.specs.Written.{compact_text}
 use Rattle.asm_update.specs.Fire.{state_of}
 use Rattle.asm_storage.specs.declared.history.History.{History}
 use Rattle.asm_storage.specs.History.{fired_moves}
 use Rattle.asm_journal.specs.declared.checking.Legality.{Legality}
+use Rattle.asm_journal.specs.declared.checking.Legality.TheVariants.{Legal, Illegal}
 use Rattle.asm_journal.specs.declared.error.JournalError.{JournalError}
 use Rattle.asm_journal.specs.declared.error.JournalError.TheVariants.{NotJson, Shape, Version, Cut, Memory}
 use Rattle.asm_journal.specs.Check.{machine_of, IsLegality}
@@ -12,8 +13,10 @@ use Rattle.asm_journal.specs.Fault.{IsRefused}
 use Rattle.asm_journal.specs.Reading.{ReadsAs}
 use Rattle.asm_journal.specs.Text.{state_json_of}
 use Rattle.asm_trace.specs.Text.{IsTrace}
-use Rattle.asm_slots.specs.Codes.{ASM_MEMORY, ASM_NOT_JSON, ASM_SHAPE, ASM_VERSION, ASM_CUT}
+use Rattle.asm_slots.specs.Codes.{IsOneOf, ASM_DONE, ASM_MEMORY, ASM_SMALL, ASM_ILLEGAL}
+use Rattle.asm_slots.specs.Codes.{ASM_NOT_JSON, ASM_SHAPE, ASM_VERSION, ASM_CUT}
 use Rattle.asm_slots.specs.Standard.{part}
+use Rattle.asm_slots.specs.Written.{IsTooLong, IsWritten}
 
 -- the bytes are a journal, and this is what its check tells
 pub record IsChecked (bytes : List ℕ) (l : Legality) : Type 0 where
@@ -46,3 +49,22 @@ pub record IsRefusal (bytes : List ℕ) (code : ℤ) (line : ℕ) : Type 0 where
   pub error : JournalError
   pub refused : IsRefused bytes error
   pub told : TellsError error code line
+
+-- the bytes are a legal journal of so many calls and moves; or the code tells why not, with the number of the call or the line
+pub record Checks (bytes : List ℕ) (calls moves : ℕ) (code : ℤ) : Type 0 where
+  pub codes : IsOneOf (ASM_DONE ∷ ASM_MEMORY ∷ ASM_ILLEGAL ∷ ASM_NOT_JSON ∷ ASM_SHAPE ∷ ASM_VERSION ∷ ASM_CUT ∷ []) code
+  pub legal : code ≡ ASM_DONE → IsChecked bytes (Legal calls moves)
+  pub illegal : code ≡ ASM_ILLEGAL → IsChecked bytes (Illegal calls)
+  pub refused : IsOneOf (ASM_NOT_JSON ∷ ASM_SHAPE ∷ ASM_VERSION ∷ ASM_CUT ∷ []) code → IsRefusal bytes code calls
+  pub no_calls : IsOneOf (ASM_MEMORY ∷ ASM_VERSION ∷ ASM_CUT ∷ []) code → calls ≡ 0
+  pub no_moves : code ≢ ASM_DONE → moves ≡ 0
+
+-- a text of this kind is told of a journal's bytes; or the code tells why not, with the number of the line at fault
+pub record Retells (IsText : List ℕ → Type 0) (bytes out out_after : List ℕ) (written line : ℕ) (code : ℤ) : Type 0 where
+  pub codes : IsOneOf (ASM_DONE ∷ ASM_MEMORY ∷ ASM_SMALL ∷ ASM_NOT_JSON ∷ ASM_SHAPE ∷ ASM_VERSION ∷ ASM_CUT ∷ []) code
+  pub told : code ≡ ASM_DONE → IsWritten IsText out_after written
+  pub small : code ≡ ASM_SMALL → IsTooLong IsText (length out) written
+  pub unwritten : code ≢ ASM_DONE → out_after ≡ out
+  pub refused : IsOneOf (ASM_NOT_JSON ∷ ASM_SHAPE ∷ ASM_VERSION ∷ ASM_CUT ∷ []) code → IsRefusal bytes code line
+  pub no_text : IsOneOf (ASM_MEMORY ∷ ASM_NOT_JSON ∷ ASM_SHAPE ∷ ASM_VERSION ∷ ASM_CUT ∷ []) code → written ≡ 0
+  pub no_line : IsOneOf (ASM_DONE ∷ ASM_MEMORY ∷ ASM_SMALL ∷ ASM_VERSION ∷ ASM_CUT ∷ []) code → line ≡ 0

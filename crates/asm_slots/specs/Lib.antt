@@ -16,6 +16,9 @@ pub mod Journals
 pub mod Moves
 pub mod Own
 pub mod Next
+pub mod Looked
+pub mod Answered
+pub mod Made
 pub mod Steps
 pub mod Grown
 pub mod Told

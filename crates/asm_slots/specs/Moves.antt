@@ -1,5 +1,5 @@
 -- What is told of a move on a state, and of two moves, that are given as texts.
-use Rattle.std.specs.Prelude.{◌≡◌, ℕ, ℤ, List, [], codes, Result, Ok, Err}
+use Rattle.std.specs.Prelude.{◌≡◌, ℕ, ℤ, List, [], ◌∷◌, codes, length, Result, Ok, Err}
 use Rattle.serde_json.specs.Written.{compact_text}
 use Rattle.asm_element.specs.Place.{Place}
 use Rattle.asm_update.specs.Move.{Move}
@@ -13,12 +13,15 @@ use Rattle.asm_aggregate.specs.declared.composition.ComposeError.{ComposeError}
 use Rattle.asm_aggregate.specs.declared.composition.ComposeError.TheVariants as compose_error
 use Rattle.asm_storage.specs.declared.call.Reply.TheVariants as reply
 use Rattle.asm_journal.specs.Element.{location_json_of}
-use Rattle.asm_journal.specs.Event.{move_json_of, reply_json_of}
+use Rattle.asm_journal.specs.Event.{IsMoveForm, move_json_of, reply_json_of}
 use Rattle.asm_journal.specs.Shape.{one_of}
 use Rattle.asm_journal.specs.Text.{state_json_of}
-use Rattle.asm_slots.specs.Bytes.{ReadAsMove, ReadAsState}
-use Rattle.asm_slots.specs.Codes.{ASM_DONE, ASM_CLASH, ASM_MANY, ASM_LARGE}
+use Rattle.asm_journal.specs.Value.{IsStateForm}
+use Rattle.asm_slots.specs.Bytes.{AreMisread, ReadAsMove, ReadAsState}
+use Rattle.asm_slots.specs.Codes.{IsOneOf, ASM_DONE, ASM_CLASH, ASM_MEMORY, ASM_SMALL, ASM_MANY}
+use Rattle.asm_slots.specs.Codes.{ASM_NOT_JSON, ASM_SHAPE, ASM_LARGE}
 use Rattle.asm_slots.specs.Standard.{standard, part}
+use Rattle.asm_slots.specs.Written.{IsTooLong, IsWritten}
 
 -- {"clash":[LOC,CAUSE]}
 abbrev pub clash_text : Clash → List ℕ
@@ -44,6 +47,15 @@ pub record IsAggregated (state instrs : List ℕ) (code : ℤ) (text : List ℕ)
   pub aggregate : IsAggregate part (val old) move answer
   pub told : TellsAggregate answer code text
 
+-- what the move of these bytes does on the state of those is told; or the code tells why not
+pub record Aggregates (state instrs out out_after : List ℕ) (written : ℕ) (code : ℤ) : Type 0 where
+  pub codes : IsOneOf (ASM_DONE ∷ ASM_CLASH ∷ ASM_MEMORY ∷ ASM_SMALL ∷ ASM_NOT_JSON ∷ ASM_SHAPE ∷ []) code
+  pub told : IsOneOf (ASM_DONE ∷ ASM_CLASH ∷ []) code → IsWritten (IsAggregated state instrs code) out_after written
+  pub small : code ≡ ASM_SMALL → IsTooLong (λ text. (c : ℤ) × IsAggregated state instrs c text) (length out) written
+  pub refused : IsOneOf (ASM_NOT_JSON ∷ ASM_SHAPE ∷ []) code → AreMisread IsStateForm IsMoveForm state instrs code
+  pub no_text : IsOneOf (ASM_MEMORY ∷ ASM_NOT_JSON ∷ ASM_SHAPE ∷ []) code → written ≡ 0
+  pub unwritten : IsOneOf (ASM_MEMORY ∷ ASM_SMALL ∷ ASM_NOT_JSON ∷ ASM_SHAPE ∷ []) code → out_after ≡ out
+
 -- the code and the text of what a composition answers: the move [INSTR, ..], the clash, the location where an amount or a
 -- sum is too large, or nothing where the move is too long
 abbrev pub TellsComposition : Result Move ComposeError → ℤ → List ℕ → Type 0
@@ -63,3 +75,14 @@ pub record IsComposed (first second : List ℕ) (code : ℤ) (text : List ℕ) :
   pub composition : IsComposition standard one two answer
   pub sequence : KeepsSequence part one two answer
   pub told : TellsComposition answer code text
+
+-- one move that does what the two moves of these bytes do in turn is told, or why there is none; or the code tells why not
+pub record Composes (first second out out_after : List ℕ) (written : ℕ) (code : ℤ) : Type 0 where
+  pub codes : IsOneOf (ASM_DONE ∷ ASM_CLASH ∷ ASM_MEMORY ∷ ASM_SMALL ∷ ASM_MANY
+      ∷ ASM_NOT_JSON ∷ ASM_SHAPE ∷ ASM_LARGE ∷ []) code
+  pub told : IsOneOf (ASM_DONE ∷ ASM_CLASH ∷ ASM_MANY ∷ ASM_LARGE ∷ []) code →
+      IsWritten (IsComposed first second code) out_after written
+  pub small : code ≡ ASM_SMALL → IsTooLong (λ text. (c : ℤ) × IsComposed first second c text) (length out) written
+  pub refused : IsOneOf (ASM_NOT_JSON ∷ ASM_SHAPE ∷ []) code → AreMisread IsMoveForm IsMoveForm first second code
+  pub no_text : IsOneOf (ASM_MEMORY ∷ ASM_NOT_JSON ∷ ASM_SHAPE ∷ []) code → written ≡ 0
+  pub unwritten : IsOneOf (ASM_MEMORY ∷ ASM_SMALL ∷ ASM_NOT_JSON ∷ ASM_SHAPE ∷ []) code → out_after ≡ out

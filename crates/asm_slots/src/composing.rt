@@ -1,16 +1,15 @@
 //! Moves without an agent: their updates on a state, and two of them composed. Both go from texts to a text.
-ghost use Rattle.std.specs.Prelude.{◌≡◌, ◌≢◌, ◌∷◌, [], ℤ, codes, length, string_bytes, IfOk, IfErr};
+ghost use Rattle.std.specs.Prelude.{◌≡◌, ◌∷◌, [], codes, string_bytes, IfOk, IfErr};
 ghost use Rattle.serde_json.specs.View.{view};
 ghost use Rattle.asm_journal.specs.Element.{location_json_of};
 ghost use Rattle.asm_journal.specs.Event.{IsMoveForm};
 ghost use Rattle.asm_journal.specs.Shape.{one_of};
 ghost use Rattle.asm_journal.specs.Value.{IsStateForm};
 ghost use Rattle.asm_slots.specs.Bytes.{AreMisread};
-ghost use Rattle.asm_slots.specs.Codes.{IsOneOf, ASM_DONE, ASM_CLASH, ASM_MEMORY, ASM_SMALL, ASM_MANY};
+ghost use Rattle.asm_slots.specs.Codes.{IsOneOf, ASM_DONE, ASM_CLASH, ASM_MEMORY, ASM_MANY};
 ghost use Rattle.asm_slots.specs.Codes.{ASM_LARGE, ASM_NOT_JSON, ASM_SHAPE};
-ghost use Rattle.asm_slots.specs.Moves.{IsAggregated, IsComposed, TellsAggregate, TellsComposition};
-ghost use Rattle.asm_slots.specs.Moves.{clash_text, large_text};
-ghost use Rattle.asm_slots.specs.Written.{IsTooLong, IsWritten};
+ghost use Rattle.asm_slots.specs.Moves.{Aggregates, Composes, IsAggregated, IsComposed};
+ghost use Rattle.asm_slots.specs.Moves.{TellsAggregate, TellsComposition, clash_text, large_text};
 
 use crate::codes::{CLASH, DONE, LARGE, MANY, MEMORY, Told, written_as};
 use crate::parsing::{code_of_text_error, read_both};
@@ -116,16 +115,7 @@ pub fn aggregate_move(
     out: &mut [u8],
     written: &mut usize,
 ) -> i32
-    ensures codes { IsOneOf (ASM_DONE ∷ ASM_CLASH ∷ ASM_MEMORY ∷ ASM_SMALL ∷ ASM_NOT_JSON ∷ ASM_SHAPE ∷ []) result }
-    ensures told { IsOneOf (ASM_DONE ∷ ASM_CLASH ∷ []) result →
-        IsWritten (IsAggregated state.now instrs.now result) out.new written.new }
-    ensures small { result ≡ ASM_SMALL → IsTooLong
-        (λ text. (code : ℤ) × IsAggregated state.now instrs.now code text) (length out.old) written.new }
-    ensures refused { IsOneOf (ASM_NOT_JSON ∷ ASM_SHAPE ∷ []) result →
-        AreMisread IsStateForm IsMoveForm state.now instrs.now result }
-    ensures no_text { IsOneOf (ASM_MEMORY ∷ ASM_NOT_JSON ∷ ASM_SHAPE ∷ []) result → written.new ≡ 0 }
-    ensures unwritten { IsOneOf (ASM_MEMORY ∷ ASM_SMALL ∷ ASM_NOT_JSON ∷ ASM_SHAPE ∷ []) result →
-        out.new ≡ out.old }
+    ensures { Aggregates state.now instrs.now out.old out.new written.new result }
 {
     *written = 0;
     match aggregated(alloc, state, instrs) {
@@ -165,17 +155,7 @@ pub fn compose_moves(
     out: &mut [u8],
     written: &mut usize,
 ) -> i32
-    ensures codes { IsOneOf (ASM_DONE ∷ ASM_CLASH ∷ ASM_MEMORY ∷ ASM_SMALL ∷ ASM_MANY
-        ∷ ASM_NOT_JSON ∷ ASM_SHAPE ∷ ASM_LARGE ∷ []) result }
-    ensures told { IsOneOf (ASM_DONE ∷ ASM_CLASH ∷ ASM_MANY ∷ ASM_LARGE ∷ []) result →
-        IsWritten (IsComposed first.now second.now result) out.new written.new }
-    ensures small { result ≡ ASM_SMALL → IsTooLong
-        (λ text. (code : ℤ) × IsComposed first.now second.now code text) (length out.old) written.new }
-    ensures refused { IsOneOf (ASM_NOT_JSON ∷ ASM_SHAPE ∷ []) result →
-        AreMisread IsMoveForm IsMoveForm first.now second.now result }
-    ensures no_text { IsOneOf (ASM_MEMORY ∷ ASM_NOT_JSON ∷ ASM_SHAPE ∷ []) result → written.new ≡ 0 }
-    ensures unwritten { IsOneOf (ASM_MEMORY ∷ ASM_SMALL ∷ ASM_NOT_JSON ∷ ASM_SHAPE ∷ []) result →
-        out.new ≡ out.old }
+    ensures { Composes first.now second.now out.old out.new written.new result }
 {
     *written = 0;
     match composed(alloc, first, second) {

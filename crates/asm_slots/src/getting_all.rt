@@ -1,8 +1,7 @@
 //! What is seen through a step at all locations with one function name.
-ghost use Rattle.std.specs.Prelude.{◌≡◌, ◌≢◌, ◌≤◌, ◌<◌, ◌∷◌, ◌++◌, [], List, length, string_bytes, IsUtf8, IfOk, IfErr, Some};
+ghost use Rattle.std.specs.Prelude.{◌≡◌, ◌≢◌, ◌≤◌, ◌∷◌, ◌++◌, [], length, string_bytes, IsUtf8, IfOk, IfErr, Some};
 ghost use Rattle.std.specs.FinMap as finite;
-ghost use Rattle.asm_element.specs.Place.{Place};
-ghost use Rattle.asm_update.specs.State.{State, IsProper, val};
+ghost use Rattle.asm_update.specs.State.{State};
 ghost use Rattle.asm_step.specs.Places.{AreEach};
 ghost use Rattle.asm_storage.specs.Limits.{reads_limit};
 ghost use Rattle.asm_slots.specs.Codes.{IsOneOf, ASM_DONE, ASM_MEMORY, ASM_SMALL, ASM_MANY};
@@ -43,6 +42,7 @@ fn found_in(
     }
     let below = state.of_name(alloc, name)?;
     let found = step.step.scan(alloc, below, name)?;
+    // The clause speaks of a state without undef, and only this call tells the proof that it is one.
     found.proper();
     Ok(found)
 }

@@ -1,5 +1,5 @@
 //! What C holds of a value of ours: a pointer that it never follows.
-ghost use Rattle.std.specs.Prelude.{◌≡◌, ℕ, Option, IfSome, IsSome, IsNone, MatchBool};
+ghost use Rattle.std.specs.Prelude.{◌≡◌, Option, IsSome, IsNone};
 ghost use Rattle.std.specs.Coded.{coded_option};
 ghost use Rattle.asm_slots.specs.contracts.content.Content.{the_row as content_row};
 ghost use Rattle.asm_slots.specs.declared.content.Content.{Content};

@@ -1,12 +1,9 @@
 //! Moves that are gathered in slots, instruction by instruction.
 ghost use Rattle.std.specs.Prelude.{◌≡◌, ◌≢◌, ◌↔◌, ◌∷◌, ◌++◌, [], IsUtf8, OnErr, OnOk, length};
-ghost use Rattle.asm_element.specs.Place.{Place};
 ghost use Rattle.asm_update.specs.Limits.{instructions_limit};
-ghost use Rattle.asm_update.specs.Move.{Move};
-ghost use Rattle.asm_update.specs.declared.action.Action.{Action};
 ghost use Rattle.asm_slots.specs.Codes.{IsOneOf, ASM_DONE, ASM_MEMORY, ASM_EMPTY, ASM_RANGE, ASM_MANY};
 ghost use Rattle.asm_slots.specs.Codes.{ASM_TAKEN, ASM_SHAPE};
-ghost use Rattle.asm_slots.specs.Kinds.{IsAction, IsInstructed, IsNoAction, ASM_KIND_TEXT};
+ghost use Rattle.asm_slots.specs.Kinds.{IsInstructed, IsNoAction, ASM_KIND_TEXT};
 ghost use Rattle.asm_slots.specs.Slots.{HasRoomForMove, HoldsLocation, HoldsMove, HoldsNoLocation};
 ghost use Rattle.asm_slots.specs.Slots.{content_of, move_of};
 

@@ -1,11 +1,8 @@
 //! Checking a journal, and the state that it leaves.
-ghost use Rattle.std.specs.Prelude.{◌≡◌, ◌≢◌, ◌∷◌, [], length, string_bytes, IfOk, IfErr};
-ghost use Rattle.asm_slots.specs.Codes.{IsOneOf, ASM_DONE, ASM_MEMORY, ASM_SMALL, ASM_ILLEGAL};
-ghost use Rattle.asm_slots.specs.Codes.{ASM_NOT_JSON, ASM_SHAPE, ASM_VERSION, ASM_CUT};
-ghost use Rattle.asm_slots.specs.Journals.{IsChecked, IsReplayed, IsRefusal, TellsError};
-ghost use Rattle.asm_slots.specs.Written.{IsTooLong, IsWritten};
+ghost use Rattle.std.specs.Prelude.{◌≡◌, ◌∷◌, [], string_bytes, IfOk, IfErr};
+ghost use Rattle.asm_slots.specs.Codes.{IsOneOf, ASM_MEMORY, ASM_NOT_JSON, ASM_SHAPE, ASM_VERSION, ASM_CUT};
+ghost use Rattle.asm_slots.specs.Journals.{Checks, IsChecked, IsReplayed, Retells, TellsError};
 ghost use Rattle.asm_journal.specs.Fault.{IsRefused};
-ghost use Rattle.asm_journal.specs.declared.checking.Legality.TheVariants as legality;
 
 use crate::codes::{CUT, DONE, ILLEGAL, MEMORY, NOT_JSON, SHAPE, VERSION, copied};
 use asm_aggregate::standard;
@@ -45,14 +42,7 @@ fn checked(alloc: Global, journal: &[u8]) -> Result<Legality, JournalError>
 /// `ASM_SHAPE`: a line is not JSON, or not that of a journal, and `calls` is the number of the line.
 /// `ASM_VERSION`, `ASM_CUT`, `ASM_MEMORY`. What a code doesn't set is 0.
 pub fn check_journal(alloc: Global, journal: &[u8], calls: &mut u64, moves: &mut u32) -> i32
-    ensures codes { IsOneOf (ASM_DONE ∷ ASM_MEMORY ∷ ASM_ILLEGAL
-        ∷ ASM_NOT_JSON ∷ ASM_SHAPE ∷ ASM_VERSION ∷ ASM_CUT ∷ []) result }
-    ensures legal { result ≡ ASM_DONE → IsChecked journal.now (legality.Legal calls.new moves.new) }
-    ensures illegal { result ≡ ASM_ILLEGAL → IsChecked journal.now (legality.Illegal calls.new) }
-    ensures refused { IsOneOf (ASM_NOT_JSON ∷ ASM_SHAPE ∷ ASM_VERSION ∷ ASM_CUT ∷ []) result →
-        IsRefusal journal.now result calls.new }
-    ensures no_calls { IsOneOf (ASM_MEMORY ∷ ASM_VERSION ∷ ASM_CUT ∷ []) result → calls.new ≡ 0 }
-    ensures no_moves { result ≢ ASM_DONE → moves.new ≡ 0 }
+    ensures { Checks journal.now calls.new moves.new result }
 {
     *calls = 0;
     *moves = 0;
@@ -105,18 +95,7 @@ pub fn replay_journal(
     written: &mut usize,
     line: &mut u64,
 ) -> i32
-    ensures codes { IsOneOf (ASM_DONE ∷ ASM_MEMORY ∷ ASM_SMALL
-        ∷ ASM_NOT_JSON ∷ ASM_SHAPE ∷ ASM_VERSION ∷ ASM_CUT ∷ []) result }
-    ensures told { result ≡ ASM_DONE → IsWritten (IsReplayed journal.now) out.new written.new }
-    ensures small { result ≡ ASM_SMALL →
-        IsTooLong (IsReplayed journal.now) (length out.old) written.new }
-    ensures unwritten { result ≢ ASM_DONE → out.new ≡ out.old }
-    ensures refused { IsOneOf (ASM_NOT_JSON ∷ ASM_SHAPE ∷ ASM_VERSION ∷ ASM_CUT ∷ []) result →
-        IsRefusal journal.now result line.new }
-    ensures no_text { IsOneOf (ASM_MEMORY ∷ ASM_NOT_JSON ∷ ASM_SHAPE ∷ ASM_VERSION ∷ ASM_CUT ∷ []) result →
-        written.new ≡ 0 }
-    ensures no_line { IsOneOf (ASM_DONE ∷ ASM_MEMORY ∷ ASM_SMALL ∷ ASM_VERSION ∷ ASM_CUT ∷ []) result →
-        line.new ≡ 0 }
+    ensures { Retells (IsReplayed journal.now) journal.now out.old out.new written.new line.new result }
 {
     *written = 0;
     *line = 0;

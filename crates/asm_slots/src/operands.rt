@@ -1,10 +1,10 @@
 //! The actions of instructions, from the numbers and bytes by which C names them.
-ghost use Rattle.std.specs.Prelude.{◌≡◌, ◌≢◌, ◌⊎◌, ◌≤◌, ◌∷◌, [], IsUtf8, IfErr, IfNone, IfOk, IfSome};
+ghost use Rattle.std.specs.Prelude.{◌≡◌, ◌≢◌, ◌∷◌, [], IsUtf8, IfErr, IfNone, IfOk, IfSome};
 ghost use Rattle.asm_element.specs.declared.element.Element.{Element};
 ghost use Rattle.asm_element.specs.declared.value.Value.TheVariants as values;
 ghost use Rattle.asm_slots.specs.Codes.{IsOneOf, ASM_MEMORY, ASM_RANGE, ASM_SHAPE};
 ghost use Rattle.asm_slots.specs.Kinds.{IsAction, IsNoAction, IsOperand, IsTold};
-ghost use Rattle.asm_slots.specs.Kinds.{ASM_INC, ASM_KIND_BOOL, ASM_KIND_LIST, ASM_KIND_TEXT};
+ghost use Rattle.asm_slots.specs.Kinds.{ASM_INC, ASM_KIND_BOOL, ASM_KIND_TEXT};
 ghost use Rattle.asm_slots.specs.Verbs.{IsNoVerb, IsVerb, action_with};
 
 use crate::codes::{MEMORY, RANGE, SHAPE};

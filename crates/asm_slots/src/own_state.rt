@@ -25,6 +25,7 @@ fn own_state(alloc: Global, agent: &OwnedAgent) -> Result<Stood, AllocError>
 {
     let state = agent.state();
     let plain = state.to_plain(alloc)?;
+    // The clause speaks of a state without undef, and only this call tells the proof that it is one.
     plain.proper();
     let text = state_text(alloc, &plain)?;
     Ok(Stood {
@@ -77,6 +78,7 @@ fn own_of_name(alloc: Global, agent: &OwnedAgent, name: &str) -> Result<Stood, A
 {
     let state = agent.state();
     let plain = state.of_name(alloc, name)?;
+    // The clause speaks of a state without undef, and only this call tells the proof that it is one.
     plain.proper();
     let text = state_text(alloc, &plain)?;
     Ok(Stood {

@@ -48,7 +48,7 @@ fn told_refusal(alloc: Global, error: StepError) -> Result<Told, AllocError>
 }
 
 // Tells why a move isn't pushed.
-fn refuse(alloc: Global, error: StepError, out: &mut [u8], written: &mut usize) -> i32
+fn tell_refusal(alloc: Global, error: StepError, out: &mut [u8], written: &mut usize) -> i32
     requires { written.old ≡ 0 }
     ensures codes { IsOneOf (ASM_CLASH ∷ ASM_MEMORY ∷ ASM_SMALL ∷ ASM_MANY ∷ ASM_LARGE ∷ ASM_DEEP ∷ []) result }
     ensures told { IsOneOf (ASM_CLASH ∷ ASM_MANY ∷ ASM_LARGE ∷ ASM_DEEP ∷ []) result →
@@ -94,7 +94,7 @@ pub(crate) fn grow_by(
         Ok(()) => return DONE,
         Err(error) => error,
     };
-    refuse(alloc, error, out, written)
+    tell_refusal(alloc, error, out, written)
 }
 
 fn grow_in(

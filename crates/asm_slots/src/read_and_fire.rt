@@ -3,15 +3,15 @@ ghost use Rattle.std.specs.Prelude.{◌≡◌, ◌≢◌, ◌≤◌, ◌+◌, �
 ghost use Rattle.asm_storage.specs.Limits.{offers_limit};
 ghost use Rattle.asm_storage.specs.declared.call.Reply.TheVariants.{Fired};
 ghost use Rattle.asm_storage.specs.Storage.{IsSameAgent};
+ghost use Rattle.asm_slots.specs.Answered.{Fires, Reads};
 ghost use Rattle.asm_slots.specs.Bytes.{AreLocations, IsFireForm, IsNoJson, IsOtherJson};
 ghost use Rattle.asm_slots.specs.Bytes.{ReadAsManyLocations, ReadAsManyReads};
 ghost use Rattle.asm_slots.specs.Calls.{HasFired, HasLooked, HasRead, IsLastAnswer, IsReplyCode, WasBusy};
 ghost use Rattle.asm_slots.specs.Calls.{MayHaveLooked, MayHaveOffered, MissedFew, MissedOne, SeesOn};
 ghost use Rattle.asm_slots.specs.Calls.{code_of, number_of};
 ghost use Rattle.asm_slots.specs.Codes.{IsOneOf, ASM_DONE, ASM_STALE, ASM_CLASH, ASM_MEMORY, ASM_FULL};
-ghost use Rattle.asm_slots.specs.Codes.{ASM_EMPTY, ASM_SMALL, ASM_BUSY, ASM_MANY, ASM_NONE};
-ghost use Rattle.asm_slots.specs.Codes.{ASM_NOT_JSON, ASM_SHAPE};
-ghost use Rattle.asm_slots.specs.Slots.{Goes, Holds, HoldsNoAgent, content_of};
+ghost use Rattle.asm_slots.specs.Codes.{ASM_EMPTY, ASM_SMALL, ASM_BUSY, ASM_MANY, ASM_NONE, ASM_NOT_JSON, ASM_SHAPE};
+ghost use Rattle.asm_slots.specs.Slots.{Holds, HoldsNoAgent, content_of};
 ghost use Rattle.asm_slots.specs.Written.{IsTooLong, IsWritten};
 ghost use Rattle.asm_slots.specs.declared.content.Content.TheVariants as content;
 
@@ -64,22 +64,7 @@ fn read_at(
 /// `ASM_EMPTY`: the slot has no agent. `ASM_MANY`: more than 256 locations. `ASM_NOT_JSON`, `ASM_SHAPE`.
 /// After these the slot is as it was. `ASM_MEMORY`: the agent has no receipt more, and may have seen more.
 pub fn read(alloc: Global, agent: &mut Slot, locations: &[u8]) -> i32
-    ensures codes { IsOneOf (ASM_DONE ∷ ASM_MEMORY ∷ ASM_EMPTY ∷ ASM_MANY
-        ∷ ASM_NOT_JSON ∷ ASM_SHAPE ∷ []) result }
-    ensures answered { result ≡ ASM_DONE →
-        Goes (content_of agent.old) (content_of agent.new) (HasRead locations.now) }
-    ensures memory { result ≡ ASM_MEMORY →
-        Goes (content_of agent.old) (content_of agent.new) MayHaveLooked }
-    ensures many { result ≡ ASM_MANY → ReadAsManyLocations locations.now }
-    ensures not_json { result ≡ ASM_NOT_JSON → IsNoJson locations.now }
-    ensures shape { result ≡ ASM_SHAPE → IsOtherJson AreLocations locations.now }
-    ensures refused { IsOneOf (ASM_MEMORY ∷ ASM_MANY ∷ ASM_NOT_JSON ∷ ASM_SHAPE ∷ []) result →
-        Goes (content_of agent.old) (content_of agent.new) HasLooked }
-    ensures same { result ≢ ASM_EMPTY → Goes (content_of agent.old) (content_of agent.new) IsSameAgent }
-    ensures seen { result ≢ ASM_EMPTY → Goes (content_of agent.old) (content_of agent.new) SeesOn }
-    ensures empty { result ≡ ASM_EMPTY → HoldsNoAgent (content_of agent.old) }
-    ensures kept { IsOneOf (ASM_EMPTY ∷ ASM_MANY ∷ ASM_NOT_JSON ∷ ASM_SHAPE ∷ []) result →
-        content_of agent.new ≡ content_of agent.old }
+    ensures { Reads locations.now (content_of agent.old) (content_of agent.new) result }
 {
     match take_agent(alloc, agent) {
         Some((shell, inner)) => read_at(alloc, agent, shell, inner, locations),
@@ -193,29 +178,7 @@ fn fire_at(
 /// with the slot as it was `ASM_MANY` (more than 256 named locations), `ASM_NOT_JSON`, `ASM_SHAPE`, and
 /// `ASM_EMPTY` (no agent). What a code doesn't set is 0.
 pub fn try_fire(alloc: Global, agent: &mut Slot, call: &[u8], numbers: &mut Numbers) -> i32
-    ensures codes { IsOneOf (ASM_DONE ∷ ASM_STALE ∷ ASM_CLASH ∷ ASM_MEMORY ∷ ASM_FULL ∷ ASM_EMPTY
-        ∷ ASM_BUSY ∷ ASM_MANY ∷ ASM_NOT_JSON ∷ ASM_SHAPE ∷ []) result }
-    ensures answered { IsReplyCode result → Goes (content_of agent.old) (content_of agent.new)
-        (HasFired call.now result numbers.new.fired) }
-    ensures unfired { result ≢ ASM_DONE → numbers.new.fired ≡ 0 }
-    ensures not_busy { result ≢ ASM_BUSY → (numbers.new.from ≡ 0) × (numbers.new.to ≡ 0) }
-    ensures few { result ≢ ASM_EMPTY → Goes (content_of agent.old) (content_of agent.new) MissedFew }
-    ensures missed { result ≡ ASM_DONE → Goes (content_of agent.old) (content_of agent.new) MissedOne }
-    ensures lost { result ≡ ASM_BUSY → numbers.new.from + offers_limit ≤ numbers.new.to }
-    ensures memory { result ≡ ASM_MEMORY →
-        Goes (content_of agent.old) (content_of agent.new) MayHaveOffered }
-    ensures many { result ≡ ASM_MANY → ReadAsManyReads call.now }
-    ensures not_json { result ≡ ASM_NOT_JSON → IsNoJson call.now }
-    ensures shape { result ≡ ASM_SHAPE → IsOtherJson IsFireForm call.now }
-    ensures refused { IsOneOf (ASM_MEMORY ∷ ASM_BUSY ∷ ASM_MANY ∷ ASM_NOT_JSON ∷ ASM_SHAPE ∷ []) result →
-        Goes (content_of agent.old) (content_of agent.new) HasLooked }
-    ensures busy { result ≡ ASM_BUSY → Goes (content_of agent.old) (content_of agent.new)
-        (WasBusy numbers.new.from numbers.new.to) }
-    ensures same { result ≢ ASM_EMPTY → Goes (content_of agent.old) (content_of agent.new) IsSameAgent }
-    ensures seen { result ≢ ASM_EMPTY → Goes (content_of agent.old) (content_of agent.new) SeesOn }
-    ensures empty { result ≡ ASM_EMPTY → HoldsNoAgent (content_of agent.old) }
-    ensures kept { IsOneOf (ASM_EMPTY ∷ ASM_MANY ∷ ASM_NOT_JSON ∷ ASM_SHAPE ∷ []) result →
-        content_of agent.new ≡ content_of agent.old }
+    ensures { Fires call.now (content_of agent.old) (content_of agent.new) numbers.new result }
 {
     let Some((shell, inner)) = take_agent(alloc, agent) else {
         *numbers = Numbers::none();

@@ -1,5 +1,5 @@
 //! What C holds.
-ghost use Rattle.std.specs.Prelude.{◌≡◌, IsNone, MatchOption};
+ghost use Rattle.std.specs.Prelude.{◌≡◌, MatchOption};
 ghost use Rattle.asm_slots.specs.Boxed.{is_some};
 
 use crate::content::Content;

@@ -1,18 +1,16 @@
 //! Beginning a step, what is seen through its pushed moves, and taking the last one away.
-ghost use Rattle.std.specs.Prelude.{◌≡◌, ◌≢◌, ◌≤◌, ◌<◌, ◌↔◌, ◌∷◌, ◌++◌, [], List, length, string_bytes, OnOk, OnErr, IfOk, IfErr, Some};
+ghost use Rattle.std.specs.Prelude.{◌≡◌, ◌≢◌, ◌≤◌, ◌<◌, ◌∷◌, ◌++◌, [], List, length, string_bytes, OnOk, OnErr, IfOk, IfErr, Some};
 ghost use Rattle.std.specs.Bool.{OnTrue, OnFalse};
 ghost use Rattle.asm_element.specs.Place.{Place};
 ghost use Rattle.asm_storage.specs.Limits.{reads_limit};
-ghost use Rattle.asm_storage.specs.Storage.{IsSameAgent};
 ghost use Rattle.asm_step.specs.Places.{AreEach};
 ghost use Rattle.asm_slots.specs.Bytes.{AreLocations, IsNoJson, IsOtherJson};
-ghost use Rattle.asm_slots.specs.Calls.{SeesOn};
 ghost use Rattle.asm_slots.specs.Codes.{IsOneOf, ASM_DONE, ASM_MEMORY, ASM_EMPTY, ASM_SMALL, ASM_MANY, ASM_NONE};
-ghost use Rattle.asm_slots.specs.Codes.{ASM_TAKEN, ASM_NOT_JSON, ASM_SHAPE, ASM_MOVED};
+ghost use Rattle.asm_slots.specs.Codes.{ASM_NOT_JSON, ASM_SHAPE, ASM_MOVED};
 ghost use Rattle.asm_slots.specs.Got.{Gets};
-ghost use Rattle.asm_slots.specs.Own.{HasFollowed, HasLookedOn, values_text};
-ghost use Rattle.asm_slots.specs.Slots.{Goes, GoesStep, HasRoomForStep, HoldsNoAgent, HoldsNoStep, HoldsStep};
-ghost use Rattle.asm_slots.specs.Slots.{IfHoldsStep, content_of};
+ghost use Rattle.asm_slots.specs.Looked.{Begins};
+ghost use Rattle.asm_slots.specs.Own.{values_text};
+ghost use Rattle.asm_slots.specs.Slots.{GoesStep, HasRoomForStep, HoldsNoStep, HoldsStep, IfHoldsStep, content_of};
 ghost use Rattle.asm_slots.specs.Steps.{HasGot, HasPopped, IsGotText, WouldGetMany, seen};
 ghost use Rattle.asm_slots.specs.Step.{begun};
 ghost use Rattle.asm_slots.specs.Written.{IsTooLong, IsWritten};
@@ -62,20 +60,8 @@ fn put_begun(alloc: Global, slot: &mut Slot, number: u32) -> Result<(), AllocErr
 /// `ASM_TAKEN`: the second slot holds something else. `ASM_EMPTY`: the first has no agent. `ASM_MEMORY`: the
 /// agent may have seen more. After these the step's slot is as it was, and `number` is 0.
 pub fn begin(alloc: Global, agent: &mut Slot, step: &mut Slot, number: &mut u32) -> i32
-    ensures codes { IsOneOf (ASM_DONE ∷ ASM_MEMORY ∷ ASM_EMPTY ∷ ASM_TAKEN ∷ []) result }
-    ensures followed { result ≡ ASM_DONE →
-        Goes (content_of agent.old) (content_of agent.new) (HasFollowed number.new) }
-    ensures begun { result ≡ ASM_DONE → HoldsStep (content_of step.new) (λ s. s ≡ begun number.new) }
-    ensures memory { result ≡ ASM_MEMORY → Goes (content_of agent.old) (content_of agent.new) HasLookedOn }
-    ensures same { IsOneOf (ASM_DONE ∷ ASM_MEMORY ∷ []) result →
-        Goes (content_of agent.old) (content_of agent.new) IsSameAgent }
-    ensures seen { IsOneOf (ASM_DONE ∷ ASM_MEMORY ∷ []) result →
-        Goes (content_of agent.old) (content_of agent.new) SeesOn }
-    ensures kept { IsOneOf (ASM_EMPTY ∷ ASM_TAKEN ∷ []) result → content_of agent.new ≡ content_of agent.old }
-    ensures stays { result ≢ ASM_DONE → content_of step.new ≡ content_of step.old }
-    ensures taken { (result ≡ ASM_TAKEN) ↔ ¬ HasRoomForStep (content_of step.old) }
-    ensures empty { result ≡ ASM_EMPTY → HoldsNoAgent (content_of agent.old) }
-    ensures none { result ≢ ASM_DONE → number.new ≡ 0 }
+    ensures { Begins (content_of agent.old) (content_of agent.new) (content_of step.old) (content_of step.new)
+        number.new result }
 {
     *number = 0;
     if !has_room(alloc, step) {

@@ -123,7 +123,7 @@ fn noted_agents(
 
 impl Store {
     /// Makes an agent, whose number is noted.
-    pub(crate) fn make_agent(self, alloc: Global, id: u32) -> (Store, Result<Box<Content>, i32>)
+    pub(crate) fn make_agent(mut self, alloc: Global, id: u32) -> (Store, Result<Box<Content>, i32>)
         requires { id < agents_limit }
         ensures agent { IfOk result.1 (λ b. Holds (Some b.value) (λ a. a ≡ at_start self.storage id)) }
         ensures made { OnOk result.1 (HasMade (id ∷ []) self result.0) }
@@ -133,24 +133,12 @@ impl Store {
         ensures fresh { OnOk result.1 (was_made self id ≡ false) }
         ensures memory { IfErr result.1 (λ code. code ≡ ASM_MEMORY → was_made self id ≡ false) }
     {
-        let Store {
-            shared,
-            mut numbers,
-            parts,
-            journal,
-        } = self;
-        let made = noted_agent(alloc, &shared, &mut numbers, id);
-        let store = Store {
-            shared,
-            numbers,
-            parts,
-            journal,
-        };
-        (store, made)
+        let made = noted_agent(alloc, &self.shared, &mut self.numbers, id);
+        (self, made)
     }
 
     /// Makes an agent in each of the slots, with the numbers from 0 up, which are noted.
-    pub(crate) fn make_agents(self, alloc: Global, agents: &mut [Slot]) -> (Store, i32)
+    pub(crate) fn make_agents(mut self, alloc: Global, agents: &mut [Slot]) -> (Store, i32)
         requires { length agents.old ≤ agents_limit }
         ensures codes { IsOneOf (ASM_DONE ∷ ASM_MEMORY ∷ ASM_NUMBER ∷ []) result.1 }
         ensures agents { result.1 ≡ ASM_DONE → AreNew self.storage agents.new }
@@ -161,19 +149,7 @@ impl Store {
             was_any_made self (length agents.old) ≡ false }
         ensures same { result.1 ≡ ASM_NUMBER → agents.new ≡ agents.old }
     {
-        let Store {
-            shared,
-            mut numbers,
-            parts,
-            journal,
-        } = self;
-        let code = noted_agents(alloc, &shared, &mut numbers, agents);
-        let store = Store {
-            shared,
-            numbers,
-            parts,
-            journal,
-        };
-        (store, code)
+        let code = noted_agents(alloc, &self.shared, &mut self.numbers, agents);
+        (self, code)
     }
 }

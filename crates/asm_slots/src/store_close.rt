@@ -35,7 +35,7 @@ fn agents_of<'s>(
     agents
 }
 
-// Their parts again, in room that was made for them.
+// Their parts again, in room that was made for them. The storage is there for the contract alone.
 fn parts_of(
     storage: &Storage<Standard>,
     agents: Vec<Agent<'_, Standard>>,
@@ -47,7 +47,6 @@ fn parts_of(
     ensures parts { All (IsPartOf meaning storage.now) result.items }
     ensures agents { map (agent_of storage.now) result.items ≡ agents.entry.items }
 {
-    let _ = storage;
     for agent in agents {
         parts.push(agent.into_part()).unwrap();
     }
@@ -134,25 +133,19 @@ impl Store {
         ensures unchanged { OnErr result.1 (result.0 ≡ self) }
         ensures err { IfErr result.1 (IsUnclosed self.storage self.agents) }
     {
+        let count = self.parts.len();
+        let (Ok(agents), Ok(room)) = (
+            Vec::with_capacity(alloc, count),
+            Vec::with_capacity(alloc, count),
+        ) else {
+            return (self, Err(Unclosed::Memory));
+        };
         let Store {
             shared,
             numbers,
             parts,
             journal,
         } = self;
-        let count = parts.len();
-        let (Ok(agents), Ok(room)) = (
-            Vec::with_capacity(alloc, count),
-            Vec::with_capacity(alloc, count),
-        ) else {
-            let store = Store {
-                shared,
-                numbers,
-                parts,
-                journal,
-            };
-            return (store, Err(Unclosed::Memory));
-        };
         let agents = agents_of(&shared.storage, parts, agents);
         let text = journal_of(alloc, &shared.storage, agents.as_slice());
         let parts = parts_of(&shared.storage, agents, room);

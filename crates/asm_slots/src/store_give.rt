@@ -52,7 +52,7 @@ fn part_of(agent: OwnedAgent) -> AgentPart
 
 impl Store {
     /// Takes the agent among those that were given back. It comes back with a code where it is refused.
-    pub(crate) fn give(self, agent: OwnedAgent) -> (Store, Result<(), (i32, OwnedAgent)>)
+    pub(crate) fn give(mut self, agent: OwnedAgent) -> (Store, Result<(), (i32, OwnedAgent)>)
         requires { agent.storage ≡ self.storage }
         ensures given { OnOk result.1 (HasTaken agent self result.0) }
         ensures codes { IfErr result.1 (λ p. IsOneOf (ASM_MEMORY ∷ ASM_NUMBER ∷ []) p.0) }
@@ -60,37 +60,14 @@ impl Store {
         ensures there { IfErr result.1 (λ p. p.0 ≡ ASM_NUMBER → HasNumber self agent.account.id) }
     {
         let (agent, id) = agent.id();
-        let Store {
-            shared,
-            numbers,
-            mut parts,
-            journal,
-        } = self;
-        let Some(at) = insert_point(&parts, id) else {
-            let store = Store {
-                shared,
-                numbers,
-                parts,
-                journal,
-            };
-            return (store, Err((NUMBER, agent)));
+        let Some(at) = insert_point(&self.parts, id) else {
+            return (self, Err((NUMBER, agent)));
         };
-        if parts.reserve(1).is_err() {
-            let store = Store {
-                shared,
-                numbers,
-                parts,
-                journal,
-            };
-            return (store, Err((MEMORY, agent)));
+        if self.parts.reserve(1).is_err() {
+            return (self, Err((MEMORY, agent)));
         }
-        parts.insert(at, part_of(agent)).unwrap();
-        let store = Store {
-            shared,
-            numbers,
-            parts,
-            journal: None,
-        };
-        (store, Ok(()))
+        self.parts.insert(at, part_of(agent)).unwrap();
+        self.journal = None;
+        (self, Ok(()))
     }
 }

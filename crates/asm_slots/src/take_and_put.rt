@@ -123,8 +123,6 @@ pub(crate) fn put_both(agent: &mut Slot, step: &mut Slot, both: Both)
 }
 
 // A claim that no goal needs, and that can only be proved at a function: what a slot contains may go from thread to thread.
-pub(crate) fn may_cross(content: &Content)
+pub(crate) fn may_cross(_content: &Content)
     ensures { IsSend content_row }
-{
-    let _ = content;
-}
+{}

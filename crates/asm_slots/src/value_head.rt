@@ -1,5 +1,5 @@
 //! Values told by kind, number and bytes.
-ghost use Rattle.std.specs.Prelude.{◌≡◌, ◌≢◌, ◌⊎◌, ◌∷◌, [], pos, IfNone, IfOk, IfSome, length, string_bytes};
+ghost use Rattle.std.specs.Prelude.{◌≡◌, ◌≢◌, ◌∷◌, [], pos, IfNone, IfOk, IfSome, length, string_bytes};
 ghost use Rattle.serde_json.specs.Written.{compact_text};
 ghost use Rattle.asm_element.specs.declared.value.Value.TheVariants as values;
 ghost use Rattle.asm_journal.specs.Value.{value_json_of};
@@ -107,25 +107,7 @@ fn json_text(alloc: Global, value: &Value) -> Result<String, AllocError>
     value_json(alloc, value)?.to_string(alloc)
 }
 
-// Writes the bytes of the value.
-fn write_bytes(alloc: Global, value: &Value, out: &mut [u8], written: &mut usize) -> i32
-    requires { written.old ≡ 0 }
-    ensures codes { IsOneOf (ASM_DONE ∷ ASM_MEMORY ∷ ASM_SMALL ∷ []) result }
-    ensures told { result ≡ ASM_DONE → IsWritten (λ bytes. bytes ≡ bytes_of value.now) out.new written.new }
-    ensures small { result ≡ ASM_SMALL →
-        IsTooLong (λ bytes. bytes ≡ bytes_of value.now) (length out.old) written.new }
-    ensures no_text { result ≡ ASM_MEMORY → written.new ≡ 0 }
-    ensures unwritten { result ≢ ASM_DONE → out.new ≡ out.old }
-{
-    if let Some(bytes) = bytes_in(value) {
-        return copied(bytes, out, written);
-    }
-    match json_text(alloc, value) {
-        Ok(text) => copied(text.as_bytes(), out, written),
-        Err(AllocError) => MEMORY,
-    }
-}
-
+// Writes the bytes of the value, and tells the rest of it.
 fn tell_value(
     alloc: Global,
     value: &Value,
@@ -143,7 +125,13 @@ fn tell_value(
     ensures no_value { result ≢ ASM_DONE → head.new ≡ head.old }
     ensures unwritten { result ≢ ASM_DONE → out.new ≡ out.old }
 {
-    let code = write_bytes(alloc, value, out, written);
+    let code = match bytes_in(value) {
+        Some(bytes) => copied(bytes, out, written),
+        None => match json_text(alloc, value) {
+            Ok(text) => copied(text.as_bytes(), out, written),
+            Err(AllocError) => MEMORY,
+        },
+    };
     if code == DONE {
         *head = ValueHead::of(value);
     }

@@ -1,23 +1,19 @@
-use Rattle.std.proofs.Common.{length, sym, ◌∙◌}
+use Rattle.std.proofs.Common.{sym, ◌∙◌}
 use Rattle.asm_slots.specs.Own.{IsOwnOfName}
-use Rattle.asm_slots.specs.Slots.{content_of}
-use Rattle.asm_slots.specs.Written.{IsTooLong, IsWritten}
-use Rattle.asm_slots.proofs.CopiedTexts.{coded, is_too_long, is_written}
-use Rattle.asm_slots.proofs.Held.{holds}
+use Rattle.asm_slots.proofs.CopiedTexts.{coded}
+use Rattle.asm_slots.proofs.Held.{holds_long, holds_written}
 use Rattle.asm_slots.proofs.own_state.scan.Goals as goal
 
 pub returns-in-Ok-clause-told : goal.returns-in-Ok-clause-told
 returns-in-Ok-clause-told c done =
     let d = sym (coded c.copied.result c.copied.ensures.codes) ∙ done in
-    holds (content_of c.args.agent.now) c.in-Some.inner
-    (λ a. IsWritten (IsOwnOfName c.args.name.now a c.in-Ok.stood.number) c.copied.new.out c.copied.new.written) c.in-Some.ensures.some
-    (is_written (IsOwnOfName c.args.name.now c.in-Some.inner c.in-Ok.stood.number) _ _ c.copied.new.out c.copied.new.written c.as_bytes.ensures.value c.in-Ok.ensures.ok
-    (c.copied.ensures.bytes d) (c.copied.ensures.fits d))
+    holds_written _ c.in-Some.inner (λ a. IsOwnOfName c.args.name.now a c.in-Ok.stood.number) c.in-Some.ensures.some
+    _ _ c.as_bytes.ensures.value c.in-Ok.ensures.ok c.copied.new.out c.copied.new.written
+    (c.copied.ensures.bytes d) (c.copied.ensures.fits d)
 
 pub returns-in-Ok-clause-small : goal.returns-in-Ok-clause-small
 returns-in-Ok-clause-small c small =
     let s = sym (coded c.copied.result c.copied.ensures.codes) ∙ small in
-    holds (content_of c.args.agent.now) c.in-Some.inner
-    (λ a. IsTooLong (IsOwnOfName c.args.name.now a c.in-Ok.stood.number) (length c.args.out.now) c.copied.new.written) c.in-Some.ensures.some
-    (is_too_long (IsOwnOfName c.args.name.now c.in-Some.inner c.in-Ok.stood.number) _ _ _ c.copied.new.written c.as_bytes.ensures.value c.in-Ok.ensures.ok c.copied.ensures.written
-    (c.copied.ensures.room s))
+    holds_long _ c.in-Some.inner (λ a. IsOwnOfName c.args.name.now a c.in-Ok.stood.number) c.in-Some.ensures.some
+    _ _ c.as_bytes.ensures.value c.in-Ok.ensures.ok _ c.copied.new.written
+    c.copied.ensures.written (c.copied.ensures.room s)

@@ -17,19 +17,20 @@ returns-in-Ok-clause-grown c _ =
 pub returns-clause-told : goal.returns-clause-told
 returns-clause-told c one =
     let inside : StepView = record { number = c.step.inside.number; layers = c.step.inside.step; got = c.step.inside.got.items } in
-    let same = to_z-of_z {w = w32} (record { sfits = c.refuse.type_inv }) in
-    subst (λ (code : ℤ). IsWritten (IsRefused c.args.way c.args.instrs.now c.args.agent.now c.args.step.now code) c.refuse.new.out c.refuse.new.written) (sym same)
+    let same = to_z-of_z {w = w32} (record { sfits = c.tell_refusal.type_inv }) in
+    subst (λ (code : ℤ). IsWritten (IsRefused c.args.way c.args.instrs.now c.args.agent.now c.args.step.now code)
+    c.tell_refusal.new.out c.tell_refusal.new.written) (sym same)
     (is_refused c.args.way c.args.agent.now c.state-state.result.now c.args.step.now inside c.grow.new.step c.args.instrs.now
-    c.in-Err.error c.refuse.result c.refuse.new.out c.refuse.new.written c.step.view_is
+    c.in-Err.error c.tell_refusal.result c.tell_refusal.new.out c.tell_refusal.new.written c.step.view_is
     c.state-state.ensures (sym c.number.ensures ∙ c.if-number-step.false) c.in-Err.ensures.deep c.in-Err.ensures.err
     c.in-Err.ensures.answer
-    (c.refuse.ensures.told (subst (IsOneOf (ASM_CLASH ∷ ASM_MANY ∷ ASM_LARGE ∷ ASM_DEEP ∷ [])) same one)))
+    (c.tell_refusal.ensures.told (subst (IsOneOf (ASM_CLASH ∷ ASM_MANY ∷ ASM_LARGE ∷ ASM_DEEP ∷ [])) same one)))
 
 pub returns-clause-small : goal.returns-clause-small
 returns-clause-small c small =
     let inside : StepView = record { number = c.step.inside.number; layers = c.step.inside.step; got = c.step.inside.got.items } in
-    let same = to_z-of_z {w = w32} (record { sfits = c.refuse.type_inv }) in
+    let same = to_z-of_z {w = w32} (record { sfits = c.tell_refusal.type_inv }) in
     is_refused_long c.args.way c.args.agent.now c.state-state.result.now c.args.step.now inside c.grow.new.step c.args.instrs.now
-    c.in-Err.error _ c.refuse.new.written c.step.view_is
+    c.in-Err.error _ c.tell_refusal.new.written c.step.view_is
     c.state-state.ensures (sym c.number.ensures ∙ c.if-number-step.false) c.in-Err.ensures.deep c.in-Err.ensures.err
-    c.in-Err.ensures.answer (c.refuse.ensures.small (sym same ∙ small))
+    c.in-Err.ensures.answer (c.tell_refusal.ensures.small (sym same ∙ small))

@@ -1,7 +1,8 @@
 use Rattle.std.proofs.Common.{◌≡◌, ◌++◌, ◌∷◌, [], All, length, subst, ap, arith}
+use Rattle.std.proofs.lemmas.List.Elements.{All-head, All-rest}
 use Rattle.asm_storage.specs.Part.{agent_of, IsPartOf}
 use Rattle.asm_slots.specs.Standard.{meaning}
-use Rattle.asm_slots.proofs.PartsAndAgents.{all_first, all_left, more_made}
+use Rattle.asm_slots.proofs.PartsAndAgents.{more_made}
 use Rattle.asm_slots.proofs.store_close.agents_of.Goals as goal
 
 pub loop-part-preserved : goal.loop-part-preserved
@@ -15,7 +16,7 @@ loop-part-preserved c =
     let pushed : c.push.new.self.items ≡ c.loop-part.agents.items ++ c.of.result ∷ [] = rw c.unwrap.ensures at c.push.ensures.items in
     record {
       made = more_made (agent_of s) c.loop-part.agents.items c.push.new.self.items c.of.result part left rest _ l.made step pushed c.of.ensures;
-      left = all_left (IsPartOf meaning s) part rest (subst (All (IsPartOf meaning s)) step l.left);
+      left = All-rest (IsPartOf meaning s) part rest left step l.left;
       room = omega (arith, l.room, ap length step, ap length pushed, c.push.ensures.capacity);
     }
 
@@ -24,4 +25,4 @@ of-requires-after_bounds c κs =
     let s = c.args.storage.now in
     let part = c.in-Some.part in
     let rest = c.next.new.self.rest.items in
-    all_first (IsPartOf meaning s) part rest (subst (All (IsPartOf meaning s)) c.in-Some.ensures.steps.0 c.loop-part.invariant.left)
+    All-head (IsPartOf meaning s) part rest (subst (All (IsPartOf meaning s)) c.in-Some.ensures.steps.0 c.loop-part.invariant.left)

@@ -1,8 +1,9 @@
 use Rattle.std.proofs.Common.{◌≡◌, ◌++◌, ◌∷◌, [], All, length, subst, sym, ap, ◌∙◌, arith}
+use Rattle.std.proofs.lemmas.List.Elements.{All-push, All-same, All-tail}
 use Rattle.asm_storage.specs.Part.{agent_of, IsPartOf}
 use Rattle.asm_storage.specs.Storage.{IsOf, StorageView}
 use Rattle.asm_slots.specs.Standard.{Standard, meaning}
-use Rattle.asm_slots.proofs.PartsAndAgents.{all_left, all_more, more_apart}
+use Rattle.asm_slots.proofs.PartsAndAgents.{more_apart}
 use Rattle.asm_slots.proofs.store_close.parts_of.Goals as goal
 
 pub loop-agent-preserved : goal.loop-agent-preserved
@@ -20,8 +21,9 @@ loop-agent-preserved c =
     let is : agent_of s part ≡ agent = ap (λ (x : StorageView Standard). agent_of x part) (sym here) ∙ sym c.into_part.ensures.agent in
     record {
       made = more_apart (agent_of s) c.loop-agent.parts.items c.push.new.self.items part agent left rest _ l.made step pushed is;
-      parts = all_more (IsPartOf meaning s) c.loop-agent.parts.items c.push.new.self.items part pushed l.parts
-          (subst (λ (x : StorageView Standard). IsPartOf meaning x part) here c.into_part.ensures.part);
-      left = all_left (IsOf s) agent rest each;
+      parts = All-same (IsPartOf meaning s) c.push.new.self.items (c.loop-agent.parts.items ++ part ∷ []) pushed
+          (All-push (IsPartOf meaning s) c.loop-agent.parts.items part l.parts
+          (subst (λ (x : StorageView Standard). IsPartOf meaning x part) here c.into_part.ensures.part));
+      left = All-tail (IsOf s) agent rest each;
       room = omega (arith, l.room, ap length step, ap length pushed, c.push.ensures.capacity);
     }

@@ -31,8 +31,8 @@ journal_of-text-requires-clause-ascending c =
     subst (λ (l : List (AgentAt Standard)). IsStrictlyIncreasing (ids (accounts l))) (sym (c.as_slice.ensures.value ∙ c.agents_of-agents.ensures))
     (subst IsStrictlyIncreasing (sym (ids_of s parts)) c.self.invariant.1)
 
-pub invariant_of-store-in-Ok : goal.invariant_of-store-in-Ok
-invariant_of-store-in-Ok c =
+pub invariant_of-store : goal.invariant_of-store
+invariant_of-store c =
     let new = c.parts_of-parts.result.items in (
       subst (λ (x : StorageView Standard). All (IsPartOf meaning x) new) (ap (λ (s : Shared). s.storage) c.deref-3.ensures) c.parts_of-parts.ensures.parts,
       rises_again c.deref-3.result.now.storage c.deref.result.now.storage new c.self.inside.parts.items (c.parts_of-parts.ensures.agents ∙ c.agents_of-agents.ensures) c.self.invariant.1,

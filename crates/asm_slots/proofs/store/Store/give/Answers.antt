@@ -18,8 +18,8 @@ returns-in_default-clause-there c _ =
     let among : IsAmong parts c.id-agent.result.1 = subst (λ (l : List AgentPart). IsAmong l c.id-agent.result.1) c.deref.ensures.value c.in_default.ensures.none in
     number_among s parts c.id-agent.result.1 c.args.agent.account.id c.args.self (ap (λ (v : StoreView). v.agents) (sym c.self.view_is)) c.id-agent.ensures.id among
 
-pub invariant_of-store-2 : goal.invariant_of-store-2
-invariant_of-store-2 c =
+pub invariant_of-self-2 : goal.invariant_of-self-2
+invariant_of-self-2 c =
     let s = (arc_value c.self.inside.shared).storage in
     let old = c.self.inside.parts.items in
     let new = c.insert.new.self.items in

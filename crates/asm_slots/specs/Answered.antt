@@ -1,0 +1,47 @@
+-- What reading and firing do.
+use Rattle.std.specs.Prelude.{◌≡◌, ◌≢◌, ◌≤◌, ◌+◌, ℤ, List, [], ◌∷◌, ℕ, Option}
+use Rattle.asm_storage.specs.Limits.{offers_limit}
+use Rattle.asm_storage.specs.Storage.{IsSameAgent}
+use Rattle.asm_slots.specs.Bytes.{AreLocations, IsFireForm, IsNoJson, IsOtherJson, ReadAsManyLocations, ReadAsManyReads}
+use Rattle.asm_slots.specs.Calls.{HasFired, HasLooked, HasRead, IsReplyCode, MayHaveLooked, MayHaveOffered}
+use Rattle.asm_slots.specs.Calls.{MissedFew, MissedOne, SeesOn, WasBusy}
+use Rattle.asm_slots.specs.Codes.{IsOneOf, ASM_DONE, ASM_STALE, ASM_CLASH, ASM_MEMORY, ASM_FULL}
+use Rattle.asm_slots.specs.Codes.{ASM_EMPTY, ASM_BUSY, ASM_MANY, ASM_NOT_JSON, ASM_SHAPE}
+use Rattle.asm_slots.specs.Slots.{Goes, HoldsNoAgent}
+use Rattle.asm_slots.specs.declared.content.Content.{Content}
+use Rattle.asm_slots.specs.declared.read_and_fire.Numbers.{Numbers}
+
+-- the locations of these bytes are read; or the code tells why not
+pub record Reads (locations : List ℕ) (agent after : Option Content) (code : ℤ) : Type 0 where
+  pub codes : IsOneOf (ASM_DONE ∷ ASM_MEMORY ∷ ASM_EMPTY ∷ ASM_MANY ∷ ASM_NOT_JSON ∷ ASM_SHAPE ∷ []) code
+  pub answered : code ≡ ASM_DONE → Goes agent after (HasRead locations)
+  pub memory : code ≡ ASM_MEMORY → Goes agent after MayHaveLooked
+  pub many : code ≡ ASM_MANY → ReadAsManyLocations locations
+  pub not_json : code ≡ ASM_NOT_JSON → IsNoJson locations
+  pub shape : code ≡ ASM_SHAPE → IsOtherJson AreLocations locations
+  pub refused : IsOneOf (ASM_MEMORY ∷ ASM_MANY ∷ ASM_NOT_JSON ∷ ASM_SHAPE ∷ []) code → Goes agent after HasLooked
+  pub same : code ≢ ASM_EMPTY → Goes agent after IsSameAgent
+  pub seen : code ≢ ASM_EMPTY → Goes agent after SeesOn
+  pub empty : code ≡ ASM_EMPTY → HoldsNoAgent agent
+  pub kept : IsOneOf (ASM_EMPTY ∷ ASM_MANY ∷ ASM_NOT_JSON ∷ ASM_SHAPE ∷ []) code → after ≡ agent
+
+-- the fire of these bytes is answered, which code and numbers tell; or the code tells why not
+pub record Fires (call : List ℕ) (agent after : Option Content) (numbers : Numbers) (code : ℤ) : Type 0 where
+  pub codes : IsOneOf (ASM_DONE ∷ ASM_STALE ∷ ASM_CLASH ∷ ASM_MEMORY ∷ ASM_FULL ∷ ASM_EMPTY
+      ∷ ASM_BUSY ∷ ASM_MANY ∷ ASM_NOT_JSON ∷ ASM_SHAPE ∷ []) code
+  pub answered : IsReplyCode code → Goes agent after (HasFired call code numbers.fired)
+  pub unfired : code ≢ ASM_DONE → numbers.fired ≡ 0
+  pub not_busy : code ≢ ASM_BUSY → (numbers.from ≡ 0) × (numbers.to ≡ 0)
+  pub few : code ≢ ASM_EMPTY → Goes agent after MissedFew
+  pub missed : code ≡ ASM_DONE → Goes agent after MissedOne
+  pub lost : code ≡ ASM_BUSY → numbers.from + offers_limit ≤ numbers.to
+  pub memory : code ≡ ASM_MEMORY → Goes agent after MayHaveOffered
+  pub many : code ≡ ASM_MANY → ReadAsManyReads call
+  pub not_json : code ≡ ASM_NOT_JSON → IsNoJson call
+  pub shape : code ≡ ASM_SHAPE → IsOtherJson IsFireForm call
+  pub refused : IsOneOf (ASM_MEMORY ∷ ASM_BUSY ∷ ASM_MANY ∷ ASM_NOT_JSON ∷ ASM_SHAPE ∷ []) code → Goes agent after HasLooked
+  pub busy : code ≡ ASM_BUSY → Goes agent after (WasBusy numbers.from numbers.to)
+  pub same : code ≢ ASM_EMPTY → Goes agent after IsSameAgent
+  pub seen : code ≢ ASM_EMPTY → Goes agent after SeesOn
+  pub empty : code ≡ ASM_EMPTY → HoldsNoAgent agent
+  pub kept : IsOneOf (ASM_EMPTY ∷ ASM_MANY ∷ ASM_NOT_JSON ∷ ASM_SHAPE ∷ []) code → after ≡ agent

@@ -1,0 +1,45 @@
+-- What looks that leave no receipt tell, and what they leave.
+use Rattle.std.specs.Prelude.{◌≡◌, ◌≢◌, ◌↔◌, ℕ, ℤ, List, [], ◌∷◌, length, Option}
+use Rattle.asm_storage.specs.Storage.{IsSameAgent}
+use Rattle.asm_slots.specs.Bytes.{AreReads, IsNoJson, IsOtherJson, ReadAsMoreReads}
+use Rattle.asm_slots.specs.Calls.{HasLooked, MayHaveLooked, SeesOn}
+use Rattle.asm_slots.specs.Codes.{IsOneOf, ASM_DONE, ASM_STALE, ASM_MEMORY, ASM_EMPTY, ASM_SMALL, ASM_MANY}
+use Rattle.asm_slots.specs.Codes.{ASM_TAKEN, ASM_NOT_JSON, ASM_SHAPE}
+use Rattle.asm_slots.specs.Own.{AllStand, HasFollowed, HasLookedOn, IsStaleOf}
+use Rattle.asm_slots.specs.Slots.{Goes, HasRoomForStep, Holds, HoldsNoAgent, HoldsStep}
+use Rattle.asm_slots.specs.Step.{begun}
+use Rattle.asm_slots.specs.Written.{IsTooLong, IsWritten}
+use Rattle.asm_slots.specs.declared.content.Content.{Content}
+
+-- the named reads of these bytes stand after what the agent has then seen, or a stale one is told; or the code tells why not
+pub record Stands (reads : List ℕ) (agent after : Option Content) (out out_after : List ℕ) (written : ℕ) (code : ℤ) : Type 0 where
+  pub codes : IsOneOf (ASM_DONE ∷ ASM_STALE ∷ ASM_MEMORY ∷ ASM_EMPTY ∷ ASM_SMALL ∷ ASM_MANY ∷ ASM_NOT_JSON ∷ ASM_SHAPE ∷ []) code
+  pub stand : code ≡ ASM_DONE → Holds after (AllStand reads)
+  pub told : code ≡ ASM_STALE → Holds after (λ a. IsWritten (IsStaleOf reads a) out_after written)
+  pub small : code ≡ ASM_SMALL → Holds after (λ a. IsTooLong (IsStaleOf reads a) (length out) written)
+  pub looked : IsOneOf (ASM_DONE ∷ ASM_STALE ∷ ASM_SMALL ∷ []) code → Goes agent after HasLookedOn
+  pub memory : code ≡ ASM_MEMORY → Goes agent after MayHaveLooked
+  pub refused : code ≢ ASM_EMPTY → Goes agent after HasLooked
+  pub same : code ≢ ASM_EMPTY → Goes agent after IsSameAgent
+  pub seen : code ≢ ASM_EMPTY → Goes agent after SeesOn
+  pub many : code ≡ ASM_MANY → ReadAsMoreReads reads
+  pub not_json : code ≡ ASM_NOT_JSON → IsNoJson reads
+  pub shape : code ≡ ASM_SHAPE → IsOtherJson AreReads reads
+  pub empty : code ≡ ASM_EMPTY → HoldsNoAgent agent
+  pub kept : IsOneOf (ASM_EMPTY ∷ ASM_MANY ∷ ASM_NOT_JSON ∷ ASM_SHAPE ∷ []) code → after ≡ agent
+  pub no_text : IsOneOf (ASM_DONE ∷ ASM_MEMORY ∷ ASM_EMPTY ∷ ASM_MANY ∷ ASM_NOT_JSON ∷ ASM_SHAPE ∷ []) code → written ≡ 0
+  pub unwritten : code ≢ ASM_STALE → out_after ≡ out
+
+-- the agent has looked on, and the other slot holds a step at so many moves; or the code tells why not, and what it held stays
+pub record Begins (agent after step step_after : Option Content) (number : ℕ) (code : ℤ) : Type 0 where
+  pub codes : IsOneOf (ASM_DONE ∷ ASM_MEMORY ∷ ASM_EMPTY ∷ ASM_TAKEN ∷ []) code
+  pub followed : code ≡ ASM_DONE → Goes agent after (HasFollowed number)
+  pub starts : code ≡ ASM_DONE → HoldsStep step_after (λ s. s ≡ begun number)
+  pub memory : code ≡ ASM_MEMORY → Goes agent after HasLookedOn
+  pub same : IsOneOf (ASM_DONE ∷ ASM_MEMORY ∷ []) code → Goes agent after IsSameAgent
+  pub seen : IsOneOf (ASM_DONE ∷ ASM_MEMORY ∷ []) code → Goes agent after SeesOn
+  pub kept : IsOneOf (ASM_EMPTY ∷ ASM_TAKEN ∷ []) code → after ≡ agent
+  pub stays : code ≢ ASM_DONE → step_after ≡ step
+  pub taken : (code ≡ ASM_TAKEN) ↔ ¬ HasRoomForStep step
+  pub empty : code ≡ ASM_EMPTY → HoldsNoAgent agent
+  pub none : code ≢ ASM_DONE → number ≡ 0

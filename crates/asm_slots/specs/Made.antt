@@ -1,0 +1,39 @@
+-- What making agents of a storage does.
+use Rattle.std.specs.Prelude.{◌≡◌, ◌≢◌, ◌≤◌, ◌<◌, ◌↔◌, ℕ, ℤ, List, [], ◌∷◌, length, true, false, Option, None}
+use Rattle.std.specs.List.{range_with_len}
+use Rattle.asm_storage.specs.Limits.{agents_limit}
+use Rattle.asm_slots.specs.Calls.{Makes}
+use Rattle.asm_slots.specs.Codes.{IsOneOf, ASM_DONE, ASM_MEMORY, ASM_EMPTY, ASM_RANGE, ASM_TAKEN, ASM_NUMBER}
+use Rattle.asm_slots.specs.Numbers.{was_any_made, was_made}
+use Rattle.asm_slots.specs.Slots.{AreEmpty, AreNew, HoldsNew, HoldsNoStore, HoldsStore}
+use Rattle.asm_slots.specs.declared.content.Content.{Content}
+use Rattle.asm_slots.specs.declared.slot.Slot.{Slot}
+
+-- an agent of the storage with this number is made; or the code tells why not
+pub record MakesAgent (id : ℕ) (store after agent agent_after : Option Content) (code : ℤ) : Type 0 where
+  pub codes : IsOneOf (ASM_DONE ∷ ASM_MEMORY ∷ ASM_EMPTY ∷ ASM_RANGE ∷ ASM_TAKEN ∷ ASM_NUMBER ∷ []) code
+  pub makes : code ≡ ASM_DONE → Makes (id ∷ []) store after
+  pub kept : code ≢ ASM_DONE → after ≡ store
+  pub made : code ≡ ASM_DONE → HoldsNew store agent_after id
+  pub refused : code ≢ ASM_DONE → agent_after ≡ agent
+  pub range : (code ≡ ASM_RANGE) ↔ (agents_limit ≤ id)
+  pub taken : code ≡ ASM_TAKEN → agent ≢ None
+  pub free : IsOneOf (ASM_DONE ∷ ASM_MEMORY ∷ ASM_EMPTY ∷ ASM_NUMBER ∷ []) code → agent ≡ None
+  pub empty : code ≡ ASM_EMPTY → HoldsNoStore store
+  pub number : code ≡ ASM_NUMBER → HoldsStore store (λ s. was_made s id ≡ true)
+  pub fresh : IsOneOf (ASM_DONE ∷ ASM_MEMORY ∷ []) code → HoldsStore store (λ s. was_made s id ≡ false)
+
+-- an agent of the storage is made in each of the slots, with the numbers from 0 up; or the code tells why not
+pub record MakesAgents (store after : Option Content) (agents agents_after : List Slot) (code : ℤ) : Type 0 where
+  pub codes : IsOneOf (ASM_DONE ∷ ASM_MEMORY ∷ ASM_EMPTY ∷ ASM_RANGE ∷ ASM_TAKEN ∷ ASM_NUMBER ∷ []) code
+  pub makes : code ≡ ASM_DONE → Makes (range_with_len 0 (length agents)) store after
+  pub unmade : code ≢ ASM_DONE → after ≡ store
+  pub made : code ≡ ASM_DONE → HoldsStore store (λ s. AreNew s.storage agents_after)
+  pub range : (code ≡ ASM_RANGE) ↔ (agents_limit < length agents)
+  pub taken : code ≡ ASM_TAKEN → ¬ AreEmpty agents
+  pub free : IsOneOf (ASM_DONE ∷ ASM_MEMORY ∷ ASM_EMPTY ∷ ASM_NUMBER ∷ []) code → AreEmpty agents
+  pub none : code ≡ ASM_MEMORY → AreEmpty agents_after
+  pub kept : IsOneOf (ASM_EMPTY ∷ ASM_RANGE ∷ ASM_TAKEN ∷ ASM_NUMBER ∷ []) code → agents_after ≡ agents
+  pub empty : code ≡ ASM_EMPTY → HoldsNoStore store
+  pub number : code ≡ ASM_NUMBER → HoldsStore store (λ s. was_any_made s (length agents) ≡ true)
+  pub fresh : IsOneOf (ASM_DONE ∷ ASM_MEMORY ∷ []) code → HoldsStore store (λ s. was_any_made s (length agents) ≡ false)
