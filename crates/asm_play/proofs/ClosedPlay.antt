@@ -14,7 +14,7 @@ use Rattle.asm_storage.specs.Storage as storage
 use Rattle.asm_storage.specs.declared.error.CloseError.{CloseError}
 use Rattle.asm_storage.specs.declared.error.CloseError.TheVariants as close_error
 use Rattle.asm_storage.specs.declared.history.Event.{Event}
-use Rattle.asm_play.proofs.Stepping.{are_told_later}
+use Rattle.asm_play.proofs.Later.{are_told_later}
 use Rattle.asm_play.proofs.ProperMoves.{proper_prefix}
 use Rattle.asm_script.specs.Plan.{Plan}
 use Rattle.asm_play.specs.Play as play

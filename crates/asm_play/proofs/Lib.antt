@@ -7,5 +7,7 @@ mod Crossing
 mod ProperMoves
 mod Properness
 mod Readings
+mod Adding
 mod Tries
+mod Later
 mod Stepping

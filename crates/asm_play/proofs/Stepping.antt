@@ -1,38 +1,33 @@
 -- Steps that were played, one after another.
-use Rattle.std.proofs.Common.{◌≡◌, ◌≢◌, inl, inr, ℕ, zero, suc, ◌+◌, ◌-◌, ◌*◌, ◌≤◌, List, [], ◌∷◌, ◌++◌, length}
-use Rattle.std.proofs.Common.{take, map, All, None, Ok, Err, append_assoc, append-nil, length-append, arith, refl, sym}
-use Rattle.std.proofs.Common.{ap, subst, ◌∙◌}
+use Rattle.std.proofs.Common.{◌≡◌, ◌≢◌, inl, inr, ℕ, zero, suc, ◌+◌, ◌*◌, ◌≤◌, List, [], ◌∷◌, ◌++◌, length}
+use Rattle.std.proofs.Common.{map, All, append_assoc, append-nil, arith, refl, sym, ap, subst, ◌∙◌}
 use Rattle.std.proofs.lemmas.List.Elements.{All-nil, All-append}
-use Rattle.std.proofs.lemmas.List.{map-append, length-map, length-take}
+use Rattle.std.proofs.lemmas.List.{map-append, length-map}
 use mathlib.Core.List.{IsPrefix}
 use Rattle.asm_element.specs.Place.{Place}
 use Rattle.asm_update.specs.Aggregator.{Meaning}
-use Rattle.asm_update.specs.Fire.{fire}
 use Rattle.asm_update.specs.Move.{Move}
 use Rattle.asm_update.specs.declared.clash.Clash.{Clash}
 use Rattle.asm_storage.specs.Agents.{event_of, moves_seen}
 use Rattle.asm_storage.specs.Limits.{offers_limit}
-use Rattle.asm_storage.specs.Machine.{Machine, machine_state}
+use Rattle.asm_storage.specs.Machine.{Machine}
 use Rattle.asm_storage.specs.Storage.{AgentAt, StorageView, IsSameAgent, machine_of}
 use Rattle.asm_storage.specs.declared.history.Event.{Event}
 use Rattle.asm_storage.specs.declared.entry.Entry.{Entry}
 use Rattle.asm_storage.specs.declared.receipt.Receipt.{Receipt}
-use Rattle.asm_storage.proofs.Lists.{take-prefix, length-prefix}
+use Rattle.asm_storage.proofs.Lists.{length-prefix}
 use Rattle.asm_play.specs.AgentPlay.{AreProper, Plays}
-use Rattle.asm_script.specs.Sequencing.{fire_blocks, step_move_on, StandsFor}
-use Rattle.asm_play.specs.StepEvents.{IsIdle, IsFiring, IsClashing, HasNoRoom, HasFault, Outgrows}
-use Rattle.asm_play.specs.StepEvents.{stale_fires, AreTries, AreInVain, IsEndedAfter, HasTriesOf, HasTries, EndsWith}
-use Rattle.asm_play.specs.StepEvents.{IsTryOf, IsVainTry}
-use Rattle.asm_play.specs.StepEvents.{IsTold, AreTold}
+use Rattle.asm_play.specs.StepEvents.{IsIdle, IsFiring, IsClashing, HasNoRoom}
+use Rattle.asm_play.specs.StepEvents.{stale_fires, AreTries, IsEndedAfter, HasTriesOf, HasTries, EndsWith}
+use Rattle.asm_play.specs.StepEvents.{IsTryOf, IsVainTry, IsTold, AreTold}
 use Rattle.asm_play.specs.Trying.{Adds, IsAgain, IsVain, Tried, IsStepPlayed}
 use Rattle.asm_script.specs.declared.step.Step.{Step}
-use Rattle.asm_script.specs.declared.step.StepFault.{StepFault}
-use Rattle.asm_script.specs.declared.step.StepFault.TheVariants as fault
 use Rattle.asm_play.specs.declared.outcome.Outcome.{Outcome}
 use Rattle.asm_play.specs.declared.outcome.Outcome.TheVariants as outcome
 use Rattle.asm_play.proofs.ProperMoves.{proper_prefix}
 use Rattle.asm_play.proofs.Counts.{stale_both}
-use Rattle.asm_play.proofs.Tries.{prefix_mapped, adds_then, adds_none}
+use Rattle.asm_play.proofs.Adding.{prefix_mapped, adds_then, adds_none}
+use Rattle.asm_play.proofs.Later.{are_tries_later, are_told_later}
 
 -- idle events in front change nothing
 idle_front : (P : Event → Type 0) (xs es : List Event) → All IsIdle xs → EndsWith P es → EndsWith P (xs ++ es)
@@ -53,163 +48,6 @@ module _ (own : Meaning) (m : Machine) (q : List Move) (step : Step) where
   idle_before (outcome.Clash c) xs es idle (inr told) = inr (All-append IsIdle xs es idle told.0, told.1)
   idle_before outcome.GaveUp xs es idle told = All-append IsIdle xs es idle told
   idle_before o xs es idle told = (All-append IsIdle xs es idle told.0, told.1)
-
--- what was told of some moves is so of more
-module _ (own : Meaning) (m : Machine) (q r : List Move) (p : IsPrefix q r) where
-  fault_later : (step : Step) (f : StepFault) → HasFault own m q step f → HasFault own m r step f
-  fault_later step f (n, le, stands) = (
-    n,
-    omega (arith, le, length-prefix q r p),
-    subst (λ w. StandsFor own (machine_state m w) step (Err f)) (take-prefix n q r p le) stands,
-  )
-
-  outgrows_later : (step : Step) → Outgrows own m q step → Outgrows own m r step
-  outgrows_later step (inl reads) = inl reads
-  outgrows_later step (inr has) = inr (fault_later step fault.Many has)
-
-  clashing_later : (step : Step) (c : Clash) (e : Event) → IsClashing own m q step c e → IsClashing own m r step c e
-  clashing_later step c e (reads, M, call, answer, n, le, move, blocks) =
-      let same = take-prefix n q r p le in (
-        reads,
-        M,
-        call,
-        answer,
-        n,
-        omega (arith, le, length-prefix q r p),
-        subst (λ w. step_move_on own (machine_state m w) None step ≡ Ok M) same move,
-        ap (λ w. fire_blocks m.part (machine_state m w) step) (sym same) ∙ blocks,
-      )
-
-  no_room_later : (step : Step) (e : Event) → HasNoRoom own m q step e → HasNoRoom own m r step e
-  no_room_later step e (reads, M, call, answer, n, le, many, move, (B, blocks)) =
-      let same = take-prefix n q r p le in (
-        reads,
-        M,
-        call,
-        answer,
-        n,
-        omega (arith, le, length-prefix q r p),
-        many,
-        subst (λ w. step_move_on own (machine_state m w) None step ≡ Ok M) same move,
-        (B, ap (λ w. fire_blocks m.part (machine_state m w) step) (sym same) ∙ blocks),
-      )
-
-  firing_later : (step : Step) (k : ℕ) (e : Event) → IsFiring own m q step k e → IsFiring own m r step k e
-  firing_later step k e (reads, M, call, answer, some, whole, move, (B, fires, blocks)) =
-      let counted = sym (length-take k q) ∙ ap length whole ∙ length-append (take (k - 1) q) (M ∷ []) in
-      let within : k ≤ length q = omega (arith, counted, length-take (k - 1) q, some) in
-      let first = take-prefix (k - 1) q r p (omega (arith, within)) in (
-        reads,
-        M,
-        call,
-        answer,
-        some,
-        sym (take-prefix k q r p within) ∙ whole ∙ ap (λ w. w ++ M ∷ []) first,
-        subst (λ w. step_move_on own (machine_state m w) None step ≡ Ok M) first move,
-        (
-          B,
-          subst (λ w. fire m.part (machine_state m w) M ≡ Ok B) first fires,
-          subst (λ w. fire_blocks m.part (machine_state m w) step ≡ Ok B) first blocks,
-        ),
-      )
-
-  told_later : (step : Step) (o : Outcome) (es : List Event) → IsTold own m q step o es → IsTold own m r step o es
-  told_later step (outcome.Fired k) es told = (told.0, told.1, told.2, told.3, firing_later step k told.1 told.4)
-  told_later step outcome.Full es told = (told.0, told.1, told.2, told.3, no_room_later step told.1 told.4)
-  told_later step (outcome.Clash c) es (inl told) =
-      inl (told.0, told.1, told.2, told.3, clashing_later step c told.1 told.4)
-  told_later step (outcome.Clash c) es (inr told) = inr (told.0, fault_later step (fault.Clash c) told.1)
-  told_later step outcome.Term es told = (told.0, fault_later step fault.Term told.1)
-  told_later step (outcome.Large l) es told = (told.0, fault_later step (fault.Large l) told.1)
-  told_later step outcome.Many es told = (told.0, outgrows_later step told.1)
-  told_later step outcome.GaveUp es told = told
-
-  try_later : (step : Step) (places : List Place) (es : List Event) → IsTryOf own m q step places es →
-      IsTryOf own m r step places es
-  try_later step places es (n, le, read, fires, is, reading, inl none) =
-      (n, omega (arith, le, length-prefix q r p), read, fires, is, reading, inl none)
-  try_later step places es (n, le, read, fires, is, reading, inr (e, M, one, asked, move)) = (
-    n,
-    omega (arith, le, length-prefix q r p),
-    read,
-    fires,
-    is,
-    reading,
-    inr (
-      e,
-      M,
-      one,
-      asked,
-      subst (λ w. step_move_on own (machine_state m w) None step ≡ Ok M) (take-prefix n q r p le) move,
-    ),
-  )
-
-  vain_try_later : (step : Step) (places : List Place) (es : List Event) → IsVainTry own m q step places es →
-      IsVainTry own m r step places es
-  vain_try_later step [] es has = has
-  vain_try_later step (l ∷ ls) es has = (try_later step (l ∷ ls) es has.0, has.1)
-
-  are_tries_later : (step : Step) (places : List Place) (n : ℕ) (es : List Event) →
-      AreTries own m q step places n es → AreTries own m r step places n es
-  are_tries_later step places zero es has = has
-  are_tries_later step places (suc n) es (first, last, is, before, once) = (
-    first,
-    last,
-    is,
-    are_tries_later step places n first before,
-    vain_try_later step places last once,
-  )
-
-  in_vain_later : (step : Step) (places : List Place) (n : ℕ) (es : List Event) →
-      AreInVain own m q step places n es → AreInVain own m r step places n es
-  in_vain_later step places n es has = record {
-    tries = are_tries_later step places n es has.tries;
-    busy = has.busy;
-    lost = omega (arith, has.lost, length-prefix q r p);
-    counted = has.counted;
-  }
-
-  ended_later : (step : Step) (places : List Place) (es : List Event) → IsEndedAfter own m q step places es →
-      IsEndedAfter own m r step places es
-  ended_later step places es has = record {
-    few = has.few;
-    tried = has.tried;
-    most = has.most;
-    first = has.first;
-    last = has.last;
-    parts = has.parts;
-    in_vain = in_vain_later step places has.tried has.first has.in_vain;
-    once = try_later step places has.last has.once;
-    fresh = has.fresh;
-  }
-
-  tries_of_later : (step : Step) (places : List Place) (o : Outcome) (es : List Event) →
-      HasTriesOf own m q step places o es → HasTriesOf own m r step places o es
-  tries_of_later step places outcome.GaveUp es has = record {
-    few = has.few;
-    tried = has.tried;
-    all = has.all;
-    in_vain = in_vain_later step places has.tried es has.in_vain;
-  }
-  tries_of_later step places outcome.Many es (inl none) = inl none
-  tries_of_later step places outcome.Many es (inr has) = inr (ended_later step places es has)
-  tries_of_later step places o es has = ended_later step places es has
-
-  tries_later : (step : Step) (o : Outcome) (es : List Event) → HasTries own m q step o es → HasTries own m r step o es
-  tries_later step o es (places, reads, has) = (places, reads, tries_of_later step places o es has)
-
-  pub are_told_later : (ss : List Step) (os : List Outcome) (es : List Event) → AreTold own m q ss os es →
-      AreTold own m r ss os es
-  are_told_later [] [] es told = told
-  are_told_later (s ∷ ss) (o ∷ os) es told = (
-    told.0,
-    told.1,
-    told.2,
-    told_later s o told.0 told.3,
-    tries_later s o told.0 told.4,
-    are_told_later ss os told.1 told.5,
-  )
-  are_told_later ss os es told = absurd told
 
 -- one step more
 are_told_more : (own : Meaning) (m : Machine) (q : List Move) (ss : List Step) (os : List Outcome)

@@ -1,6 +1,5 @@
 //! Playing the steps of one agent.
 ghost use Rattle.std.specs.Prelude.{◌≡◌, ◌≤◌, length, IfOk};
-ghost use Rattle.std.specs.Option.{option_copied};
 ghost use Rattle.asm_update.specs.Aggregator.{AggregatorLaws};
 ghost use Rattle.asm_play.specs.AgentPlay.{Plays};
 ghost use Rattle.asm_script.specs.Sequencing.{IsStepMove};

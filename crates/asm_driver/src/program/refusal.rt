@@ -1,5 +1,5 @@
 //! Why the program doesn't do what is asked, with the line and the status of each cause.
-ghost use Rattle.std.specs.Prelude.{◌≡◌, false, IfOk, IsOk, string_bytes};
+ghost use Rattle.std.specs.Prelude.{◌≡◌, false, IfOk, IsOk};
 ghost use Rattle.asm_driver.specs.Refusal.{refusal_line, refusal_status, has_number, cause_line as line_of_cause};
 ghost use Rattle.asm_driver.specs.Refusal.{journal_line as line_of_journal, journal_has_number, line_bytes};
 ghost use Rattle.asm_driver.specs.Refusal.{journal_status as status_of_journal, refusal_of_input, refusal_of_script};
