@@ -1,10 +1,17 @@
--- A bag's counts after a count was set.
-use Rattle.std.proofs.Common.{◌≡◌, ℕ, ◌≤◌, Bool, true, false, cond, zero, suc, Option, Some, None, unwrap_or, refl, ap, ◌∙◌, arith}
+-- A bag's counts, as its tree has them and after a count was set.
+use Rattle.std.proofs.Common.{◌≡◌, ℕ, ◌≤◌, Bool, true, false, cond, zero, suc, Option, Some, None, unwrap_or, refl, ap, sym, ◌∙◌, arith}
 use Rattle.std.specs.Ordering.{eq_by_cmp}
+use Rattle.std.specs.BTreeMap.{BTreeMap, get}
 use Rattle.std.specs.FinMap as map
 use Rattle.asm_element.specs.declared.element.Element.{Element}
 use Rattle.asm_element.specs.Element.{element_cmp, element_cmp_total}
 use Rattle.asm_element.specs.Bag as bag
+use Rattle.asm_element.proofs.Ordered.{get-from_tree}
+
+-- what the tree of a bag has at an element is its count
+pub count-from_tree : (m : BTreeMap Element ℕ) (b : bag.ElementBag) (e : Element) → map.from_entries m.entries ≡ b → unwrap_or (get element_cmp m e) 0 ≡ bag.count b e
+count-from_tree m b e is =
+    ap (λ o. unwrap_or o 0) (sym (get-from_tree element_cmp_total m.entries e) ∙ ap (λ c. map.get c e) is)
 
 pub set_count-positive : (b : bag.ElementBag) (e : Element) (n : ℕ) → 1 ≤ n → bag.set_count b e n ≡ map.insert b e n
 set_count-positive b e zero h = absurd (omega arith)

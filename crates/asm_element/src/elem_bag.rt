@@ -63,8 +63,8 @@ impl ElemBag {
         ensures absent { OnErr result (bag.count self.old element ≡ 0) }
     {
         element.proper();
-        let count = self.count(&element);
-        self.counts.insert(element, count + n)?;
+        let count = self.counts.entry(element)?.or_insert(0);
+        *count += n;
         Ok(())
     }
 
@@ -75,12 +75,15 @@ impl ElemBag {
         ensures { let left = bag.count self.old element.now - n in
             self.new ≡ bag.set_count self.old element.now left }
     {
-        let count = self.count(element);
-        if count == n {
-            self.counts.remove(element);
-        } else if let Some(held) = self.counts.get_mut(element) {
-            *held = count - n;
+        // An entry, which would find the place once also where none is left, asks for an element of its own.
+        let Some(count) = self.counts.get_mut(element) else {
+            return;
+        };
+        if n < *count {
+            *count -= n;
+            return;
         }
+        self.counts.remove(element);
     }
 
     /// The elements that are there with their counts, in ascending order; each is one that a program can hold.

@@ -6,10 +6,12 @@ ghost use Rattle.asm_element.specs.Limits.{args_limit};
 ghost use Rattle.asm_element.specs.Place as place;
 
 use crate::element::Element;
+use crate::parts::Parts;
 use std::alloc::{AllocError, Global};
 use std::cmp::Ordering;
 use std::fmt;
 use std::marker::Model;
+use std::sync::Arc;
 use thiserror::Error;
 
 /// The most bytes of a location's name.
@@ -34,24 +36,34 @@ pub enum LocationError {
 /// (Börger and Stärk). The rule of names, the limit of 8 arguments and the order are this project's
 /// own. Locations are ordered by the name's bytes, then the number of arguments, then the arguments
 /// from left to right.
-#[derive(Debug, Drop)]
 pub struct Location {
-    name: String,
-    args: Vec<Element>,
+    held: Held,
+}
+
+/// Where the name and the arguments lie: with one owner, or with all copies of the location. A name alone has one
+/// owner always, as its copy costs less than a count that many threads raise and lower.
+#[derive(Drop)]
+enum Held {
+    Own(Parts),
+    Shared(Arc<Parts>),
 }
 
 impl Model for Location {
-    ghost use Rattle.std.specs.Prelude.{string_bytes};
-    ghost use Rattle.asm_element.specs.Place.{Place, IsProper, place_code};
+    ghost use Rattle.asm_element.specs.Place.{Place, place_code};
+    ghost use Rattle.asm_element.specs.Held.{held_place};
 
     ghost Value = { Place };
 
     ghost coded = { place_code };
 
-    ghost view = { λ l. record { name = string_bytes l.name; args = l.args.items } };
+    ghost view = { λ l. held_place l.held };
+}
 
-    ghost invariant = { λ l.
-        IsProper (record { name = string_bytes l.name; args = l.args.items }) };
+// Written out, so that whoever drops a location sees one call, and not where its parts lie.
+impl Drop for Location {
+    fn drop(self) {
+        let Location { held: _ } = self;
+    }
 }
 
 /// Whether a name may begin with the byte.
@@ -110,7 +122,19 @@ impl Location {
         for arg in &args {
             arg.proper();
         }
-        Ok(Location { name, args })
+        Ok(Location {
+            held: Held::Own(Parts::new(name, args)),
+        })
+    }
+
+    // The name and the arguments, wherever they lie.
+    fn parts(&self) -> &Parts
+        ensures { result.now ≡ self.now }
+    {
+        match &self.held {
+            Held::Own(parts) => parts,
+            Held::Shared(parts) => parts,
+        }
     }
 
     /// The function's name, which meets the rule of names.
@@ -118,7 +142,7 @@ impl Location {
         ensures name { result.now ≡ self.now.name }
         ensures valid { IsTrue (is_name self.now.name) }
     {
-        self.name.as_str()
+        self.parts().name()
     }
 
     /// The arguments from left to right: at most 8, each one that a program can hold.
@@ -127,7 +151,7 @@ impl Location {
         ensures few { length self.now.args ≤ args_limit }
         ensures proper { All IsProper self.now.args }
     {
-        self.args.as_slice()
+        self.parts().args()
     }
 
     /// Does nothing; its contract tells that a location which a program holds is proper.
@@ -150,21 +174,67 @@ impl Location {
         }
     }
 
-    /// The same location, in memory of its own. `AllocError` comes only where memory was refused.
-    pub fn copy(&self, _alloc: Global) -> Result<Location, AllocError>
+    /// The same location; where it has arguments, as one that its copies share, so that a copy takes no memory.
+    ///
+    /// `AllocError` comes only where memory was refused.
+    pub fn share(self, alloc: Global) -> Result<Location, AllocError>
+        ensures { IfOk result (λ share. share ≡ self) }
+    {
+        let Location { held } = self;
+        match held {
+            Held::Own(parts) => shared(alloc, parts),
+            Held::Shared(parts) => Ok(Location {
+                held: Held::Shared(parts),
+            }),
+        }
+    }
+
+    /// The same location. A copy with arguments is shared by its own copies, which take no memory; a name alone is
+    /// copied each time.
+    ///
+    /// `AllocError` comes only where memory was refused, or where more copies would share the arguments than can be
+    /// counted.
+    pub fn copy(&self, alloc: Global) -> Result<Location, AllocError>
         ensures { IfOk result (λ copy. copy ≡ self.now) }
     {
-        self.clone()
+        match &self.held {
+            Held::Own(parts) => shared(alloc, parts.twin()?),
+            Held::Shared(parts) => Ok(Location {
+                held: Held::Shared(Arc::try_clone(parts)?),
+            }),
+        }
     }
+}
+
+// As a share, where there are arguments.
+fn shared(alloc: Global, parts: Parts) -> Result<Location, AllocError>
+    ensures { IfOk result (λ share. share ≡ parts) }
+{
+    if parts.args().is_empty() {
+        return Ok(Location {
+            held: Held::Own(parts),
+        });
+    }
+    let parts = Arc::new(alloc, parts)?;
+    Ok(Location {
+        held: Held::Shared(parts),
+    })
 }
 
 impl Clone for Location {
     ghost is_clone = { λ location copy. copy ≡ location };
 
     fn clone(&self) -> Result<Location, AllocError> {
-        let name = self.name.clone()?;
-        let args = self.args.clone()?;
-        Ok(Location { name, args })
+        self.copy(self.parts().allocator())
+    }
+}
+
+impl fmt::Debug for Location {
+    fn fmt<W: fmt::Write>(&self, f: &mut fmt::Formatter<W>) -> fmt::Result {
+        f.debug_struct("Location")
+            .field("name", &self.name())
+            .field("args", &self.args())
+            .finish()
     }
 }
 
@@ -189,7 +259,7 @@ impl PartialEq for Location {
         ensures eq { result ≡ eq_by_cmp place.location_cmp self.now other.now }
         ensures same { IsTrue result ↔ (self.now ≡ other.now) }
     {
-        self.name == other.name && self.args == other.args
+        self.name() == other.name() && self.args() == other.args()
     }
 }
 
@@ -217,9 +287,12 @@ impl Ord for Location {
     ghost matches_eq = { λ _ _. refl };
 
     fn cmp(&self, other: &Location) -> Ordering {
-        self.name
-            .cmp(&other.name)
-            .then_with(|| self.args.len().cmp(&other.args.len()))
-            .then_with(|| self.args.cmp(&other.args))
+        let parts = self.parts();
+        let others = other.parts();
+        parts
+            .name()
+            .cmp(others.name())
+            .then_with(|| parts.args().len().cmp(&others.args().len()))
+            .then_with(|| parts.args().cmp(others.args()))
     }
 }

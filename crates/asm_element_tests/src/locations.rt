@@ -1,6 +1,6 @@
 //! Locations: their names, arguments and order, and why there is none.
 use crate::elements::{ascend, number_elements};
-use asm_element::{Location, LocationError};
+use asm_element::{Element, Location, LocationError};
 use asm_test_support::{are_told_apart, location_at};
 use std::alloc::{AllocError, Global};
 use std::test::Fail;
@@ -70,6 +70,133 @@ fn a_location_comes_before_a_greater_one_and_before_none(rt: HostRuntime) -> Res
     let greater = location_at(rt.alloc(), "b", &[])?;
     assert!(rt; lesser.comes_before(Some(&greater)) && lesser.comes_before(None));
     assert!(rt; !greater.comes_before(Some(&lesser)) && !lesser.comes_before(Some(&lesser)));
+    Ok(())
+}
+
+/// How a location comes to be one more of the same.
+#[derive(Clone, Copy)]
+enum Turn {
+    Copy,
+    Clone,
+    Share,
+}
+
+static WAYS: [&[Turn]; 9] = [
+    &[],
+    &[Turn::Copy],
+    &[Turn::Clone],
+    &[Turn::Share],
+    &[Turn::Copy, Turn::Copy],
+    &[Turn::Copy, Turn::Share],
+    &[Turn::Share, Turn::Copy],
+    &[Turn::Share, Turn::Clone],
+    &[Turn::Share, Turn::Share],
+];
+
+/// The same location after the turn; one that was copied is let go of.
+fn turned(alloc: Global, location: Location, turn: Turn) -> Result<Location, AllocError> {
+    match turn {
+        Turn::Copy => location.copy(alloc),
+        Turn::Clone => location.clone(),
+        Turn::Share => location.share(alloc),
+    }
+}
+
+fn made(alloc: Global, name: &str, args: &[i64], way: &[Turn]) -> Result<Location, AllocError> {
+    let mut location = location_at(alloc, name, args)?;
+    for turn in way {
+        location = turned(alloc, location, *turn)?;
+    }
+    Ok(location)
+}
+
+/// The location of this name and these arguments, made in each of the ways.
+fn made_in_all_ways(alloc: Global, name: &str, args: &[i64]) -> Result<Vec<Location>, AllocError> {
+    let mut locations = Vec::new(alloc);
+    for way in WAYS {
+        let location = made(alloc, name, args, way)?;
+        locations.push(location)?;
+    }
+    Ok(locations)
+}
+
+fn have(locations: &[Location], name: &str, args: &[Element]) -> bool {
+    for location in locations {
+        if location.name() != name || location.args() != args {
+            return false;
+        }
+    }
+    locations.len() == WAYS.len()
+}
+
+/// Whether the location has this name and these arguments in whatever way it is made.
+fn is_same_in_all_ways(alloc: Global, name: &str, args: &[i64]) -> Result<bool, AllocError> {
+    let elements = number_elements(alloc, args)?;
+    let locations = made_in_all_ways(alloc, name, args)?;
+    Ok(have(locations.as_slice(), name, elements.as_slice()))
+}
+
+#[test]
+fn copies_and_shares_have_the_name_and_the_arguments(rt: HostRuntime) -> Result<(), Fail> {
+    assert!(rt; is_same_in_all_ways(rt.alloc(), "a", &[])?);
+    assert!(rt; is_same_in_all_ways(rt.alloc(), "a", &[1])?);
+    assert!(rt; is_same_in_all_ways(rt.alloc(), "at", &[1, 2, 3, 4, 5, 6, 7, 8])?);
+    Ok(())
+}
+
+/// Whether a copy of the location is the same, also once the location is let go of.
+fn has_its_copy(alloc: Global, location: Location, same: &Location) -> Result<bool, AllocError> {
+    let copy = location.copy(alloc)?;
+    let is_same = copy == location && copy == *same;
+    drop(location);
+    Ok(is_same && copy.name() == same.name() && copy.args() == same.args())
+}
+
+fn has_its_copy_in_all_ways(alloc: Global, args: &[i64]) -> Result<bool, AllocError> {
+    let same = location_at(alloc, "a", args)?;
+    for way in WAYS {
+        if !has_its_copy(alloc, made(alloc, "a", args, way)?, &same)? {
+            return Ok(false);
+        }
+    }
+    Ok(true)
+}
+
+#[test]
+fn a_copy_outlives_the_location(rt: HostRuntime) -> Result<(), Fail> {
+    assert!(rt; has_its_copy_in_all_ways(rt.alloc(), &[])?);
+    assert!(rt; has_its_copy_in_all_ways(rt.alloc(), &[1, 2])?);
+    Ok(())
+}
+
+/// How many pairs of one list and the other one are equal.
+fn equal_pairs(one: &[Location], other: &[Location]) -> usize {
+    let mut count: usize = 0;
+    for left in one {
+        for right in other {
+            if left == right {
+                count = count.saturating_add(1);
+            }
+        }
+    }
+    count
+}
+
+/// How many are equal of the 81 pairs of a location at the one arguments and one at the others, each made in nine ways.
+fn equal_pairs_at(alloc: Global, one: &[i64], other: &[i64]) -> Result<usize, AllocError> {
+    let one = made_in_all_ways(alloc, "a", one)?;
+    let other = made_in_all_ways(alloc, "a", other)?;
+    Ok(equal_pairs(one.as_slice(), other.as_slice()))
+}
+
+#[test]
+fn locations_of_one_name_are_equal_by_their_arguments(rt: HostRuntime) -> Result<(), Fail> {
+    let alloc = rt.alloc();
+    assert!(rt; equal_pairs_at(alloc, &[], &[])? == 81);
+    assert!(rt; equal_pairs_at(alloc, &[1, 2], &[1, 2])? == 81);
+    assert!(rt; equal_pairs_at(alloc, &[1], &[2])? == 0);
+    assert!(rt; equal_pairs_at(alloc, &[1], &[1, 2])? == 0);
+    assert!(rt; equal_pairs_at(alloc, &[], &[1])? == 0);
     Ok(())
 }
 

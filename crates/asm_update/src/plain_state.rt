@@ -185,7 +185,8 @@ impl PlainState {
         self.values.iter()
     }
 
-    /// The same state, in memory of its own. `AllocError` comes only where memory was refused.
+    /// The same state, which shares no more with this one than their locations' arguments. `AllocError` comes only where
+    /// memory was refused, or where more copies would share a location than can be counted.
     pub fn copy(&self, _alloc: Global) -> Result<PlainState, AllocError>
         ensures { IfOk result (λ copy. copy ≡ self.now) }
     {
