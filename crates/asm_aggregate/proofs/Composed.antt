@@ -9,28 +9,23 @@ use Rattle.asm_element.specs.Value.{undef}
 use Rattle.asm_element.specs.declared.value.Value.{Value}
 use Rattle.asm_update.specs.Action.{is_partial, regular_value, AllProper}
 use Rattle.asm_update.specs.Aggregator.{Meaning, AggregatorLaws, Joined, NoJoin, Refused, after}
-use Rattle.asm_update.specs.Fire.{Part, GroupResult, first, group_result, res}
+use Rattle.asm_update.specs.Fire.{Part, GroupResult, first, group_result}
 use Rattle.asm_update.specs.Move.{are_different}
 use Rattle.asm_update.specs.declared.action.Action.{Action}
 use Rattle.asm_update.specs.declared.action.Action.TheVariants.{Regular}
 use Rattle.asm_update.specs.declared.clash.Cause.TheVariants.{Two}
 use Rattle.asm_update.proofs.ActionLemmas.{IsRegular, IsPartial, kinds, partial_none}
 use Rattle.asm_aggregate.specs.Bundle.{bundle_of, bundle_result}
-use Rattle.asm_aggregate.specs.Compose.{cause_of, alone_clash, clash_on_any, as_regular, composed}
+use Rattle.asm_aggregate.specs.Compose.{cause_of, alone_clash, clash_on_any, as_regular, composed, gives}
 use Rattle.asm_aggregate.specs.laws.PairLaws.{passed_unless, refused_none}
 use Rattle.asm_aggregate.specs.PairMeaning.{unless}
 use Rattle.asm_aggregate.proofs.Bundles.{bundle_from}
 
-abbrev values_of : List Action → List Value
+abbrev pub values_of : List Action → List Value
 values_of G = filter_map regular_value G
 
-abbrev partials_of : List Action → List Action
+abbrev pub partials_of : List Action → List Action
 partials_of G = filter is_partial G
-
--- what a list of any actions gives on a value: an empty list leaves it as it is
-abbrev pub gives : Part → Value → List Action → GroupResult
-gives part v [] = Ok v
-gives part v (x ∷ xs) = res part v (x ∷ xs)
 
 partials_alone : (xs : List Action) → values_of xs ≡ [] → partials_of xs ≡ xs
 partials_alone [] h = refl
@@ -51,7 +46,7 @@ gives_partials a v (x ∷ xs) h =
     ap (λ vs. bundle_result a.part v (bundle_from vs (partials_of (x ∷ xs)))) h
     ∙ ap (λ ps. a.part v None ps) (partials_alone (x ∷ xs) h)
 
-gives_regulars : (part : Part) (v s : Value) (ss : List Value) (xs : List Action) → values_of xs ≡ s ∷ ss →
+pub gives_regulars : (part : Part) (v s : Value) (ss : List Value) (xs : List Action) → values_of xs ≡ s ∷ ss →
     gives part v xs ≡ bundle_result part v (bundle_from (s ∷ ss) (partials_of xs))
 gives_regulars part v s ss [] h = cc
 gives_regulars part v s ss (x ∷ xs) h = ap (λ vs. bundle_result part v (bundle_from vs (partials_of (x ∷ xs)))) h

@@ -64,7 +64,7 @@ places-units [] = refl
 places-units (e ∷ es) = ap (λ ls. e.0 ∷ ls) (places-units es)
 
 -- a map that has the locations of a move has them in the move's order
-same_places : {X : Type 0} (m : finite.FinMap location_cmp X) (W : Move) →
+pub same_places : {X : Type 0} (m : finite.FinMap location_cmp X) (W : Move) →
     ((q : Place) → is_some (finite.get m q) ≡ writes W q) → places (finite.entries m) ≡ locations W
 same_places m W has =
     let es = finite.entries m in

@@ -4,13 +4,14 @@ mod CountSteps
 mod Arranged
 mod Parted
 mod Walked
+mod Listed
 pub mod OnlyPut
 pub mod Exits
 pub mod BagTables
 mod BagRecount
 mod BagSums
-mod Bundles
-mod Grouped
-mod Composed
+pub mod Bundles
+pub mod Grouped
+pub mod Composed
 pub mod Sequence
-mod Composing
+pub mod Composing

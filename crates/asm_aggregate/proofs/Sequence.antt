@@ -24,9 +24,9 @@ use Rattle.asm_update.specs.declared.action.Instruction.{Instruction}
 use Rattle.asm_update.specs.declared.clash.Clash.{Clash}
 use Rattle.asm_update.proofs.FireLemmas.{stored, stored_or, stored_reads, get-overwrite, same_state, in_locations}
 use Rattle.asm_update.proofs.FireLemmas.{is_in, fired_updates, fired_clash, fire_clash, val-fired, val-unwritten}
-use Rattle.asm_aggregate.specs.Compose.{composition, composed_at, before, in_turn, placed, IsSequence, NeverFires}
+use Rattle.asm_aggregate.specs.Compose.{composition, composed_at, before, gives, in_turn, placed, IsSequence, NeverFires}
 use Rattle.asm_aggregate.proofs.Bundles.{no_actions}
-use Rattle.asm_aggregate.proofs.Composed.{gives, composed_is_sequence, refused_is_clash}
+use Rattle.asm_aggregate.proofs.Composed.{composed_is_sequence, refused_is_clash}
 use Rattle.asm_aggregate.proofs.Grouped.{actions_at-append, unwritten}
 use Rattle.asm_element.specs.Ascending.{both_T, not_among}
 
@@ -42,10 +42,10 @@ found_all P (e ∷ es) q v all h =
       by_test false h later = later h
 
 -- a state that keeps no undef is told by its values
-abbrev HoldsStored : State → Type 0
+abbrev pub HoldsStored : State → Type 0
 HoldsStored A = (q : Place) → finite.get A q ≡ stored (val A q)
 
-proper_stored : (A : State) → state.IsProper A → HoldsStored A
+pub proper_stored : (A : State) → state.IsProper A → HoldsStored A
 proper_stored A proper q = by_cases (finite.get A q) refl where
   by_cases : (o : Option Value) → finite.get A q ≡ o → o ≡ stored (unwrap_or o value.undef)
   by_cases None e = refl
@@ -61,30 +61,30 @@ proper_value A q proper = by_cases (finite.get A q) refl where
   by_cases None e = tt
   by_cases (Some v) e = found_all value.IsProper (finite.entries A) q v proper.values (sym (finite.get-entries A q) ∙ e)
 
-gives_some : (part : Part) (v : Value) (G : List Action) → G ≢ [] → gives part v G ≡ res part v G
+pub gives_some : (part : Part) (v : Value) (G : List Action) → G ≢ [] → gives part v G ≡ res part v G
 gives_some part v [] ne = absurd (ne refl)
 gives_some part v (x ∷ xs) ne = refl
 
 -- what a move gives at a location, which it leaves as it is where it doesn't write it
-abbrev given : Part → State → Move → Place → GroupResult
+abbrev pub given : Part → State → Move → Place → GroupResult
 given part A M l = gives part (val A l) (actions_at M l)
 
 module _ (part : Part) where
-  given_written : (A : State) (M : Move) (l : Place) → writes M l ≡ true →
+  pub given_written : (A : State) (M : Move) (l : Place) → writes M l ≡ true →
       given part A M l ≡ result_at part (val A) M l
   given_written A M l w =
       gives_some part (val A l) (actions_at M l) (λ none. absurd (false≢true (sym (no_actions M l none) ∙ w)))
 
-  given_unwritten : (A : State) (M : Move) (l : Place) → writes M l ≡ false → given part A M l ≡ Ok (val A l)
+  pub given_unwritten : (A : State) (M : Move) (l : Place) → writes M l ≡ false → given part A M l ≡ Ok (val A l)
   given_unwritten A M l w = ap (gives part (val A l)) (unwritten M l w)
 
-  given_fired : (A B : State) (M : Move) (l : Place) → fire part A M ≡ Ok B → given part A M l ≡ Ok (val B l)
+  pub given_fired : (A B : State) (M : Move) (l : Place) → fire part A M ≡ Ok B → given part A M l ≡ Ok (val B l)
   given_fired A B M l h = by_test (writes M l) refl where
     by_test : (b : Bool) → writes M l ≡ b → given part A M l ≡ Ok (val B l)
     by_test true w = given_written A M l w ∙ val-fired part A B M l h w
     by_test false w = given_unwritten A M l w ∙ ap (λ v. Ok v) (sym (val-unwritten part A B M l h w))
 
-  fired_stored : (A B : State) (M : Move) → HoldsStored A → fire part A M ≡ Ok B → HoldsStored B
+  pub fired_stored : (A B : State) (M : Move) → HoldsStored A → fire part A M ≡ Ok B → HoldsStored B
   fired_stored A B M holds h q =
       let had = fired_updates part A M B h in
       let is : finite.get B q ≡ stored_or (finite.get had.0 q) (finite.get A q) =
@@ -95,7 +95,7 @@ module _ (part : Part) where
         by_cases (Some v) = ap stored (sym (stored_reads v))
         by_cases None = holds q
 
-  clash_given : (A : State) (M : Move) (c : Clash) → IsLeastClash part (val A) M c → given part A M c.at ≡ Err c.cause
+  pub clash_given : (A : State) (M : Move) (c : Clash) → IsLeastClash part (val A) M c → given part A M c.at ≡ Err c.cause
   clash_given A M c is = given_written A M c.at is.written ∙ is.cause
 
   below_given : (A : State) (M : Move) (c : Clash) (l : Place) → IsLeastClash part (val A) M c →
@@ -129,23 +129,23 @@ module _ (part : Part) where
         fired_stored A D M a h q ∙ ap stored (ok_is _ _ (sym (given_fired A D M q h) ∙ same q ∙ given_fired B E N q k))
         ∙ sym (fired_stored B E N b k q))
 
-    same_fire : HoldsStored A → HoldsStored B → fire part A M ≡ fire part B N
+    pub same_fire : HoldsStored A → HoldsStored B → fire part A M ≡ fire part B N
     same_fire a b = by_answers (fire part A M) (fire part B N) refl refl where
       by_answers : (r s : Result State Clash) → fire part A M ≡ r → fire part B N ≡ s → r ≡ s
       by_answers (Ok D) (Ok E) h k = ap (λ S. Ok S) (same_states D E a b h k)
       by_answers (Ok D) (Err c) h k = absurd (no_clash_there D c h k)
       by_answers (Err c) s h k = sym (fire_clash part B N c (same_clash c (fired_clash part A M c h))) ∙ k
 
-abbrev Apart : List Place → Type 0
+abbrev pub Apart : List Place → Type 0
 Apart [] = Unit {0}
 Apart (l ∷ ls) = (is_in ls l ≡ false) × Apart ls
 
-all_apart : {X : Type 0} (es : List (Place × X)) → T (finite.is_sorted location_cmp es) →
+pub all_apart : {X : Type 0} (es : List (Place × X)) → T (finite.is_sorted location_cmp es) →
     Apart (map (λ (e : Place × X). e.0) es)
 all_apart [] h = tt
 all_apart (e ∷ es) h = let parts = both_T _ _ h in (not_among location_cmp e.0 es parts.0, all_apart es parts.1)
 
-actions_placed : (l q : Place) (actions : List Action) (b : Bool) → eq_by_cmp location_cmp l q ≡ b →
+pub actions_placed : (l q : Place) (actions : List Action) (b : Bool) → eq_by_cmp location_cmp l q ≡ b →
     actions_at (placed l actions) q ≡ cond b actions []
 actions_placed l q [] true e = refl
 actions_placed l q [] false e = refl
@@ -160,14 +160,14 @@ actions_placed l q (x ∷ xs) false e =
     (filter (λ (i : Instruction). eq_by_cmp location_cmp i.at q) (placed l xs)))) e ∙ actions_placed l q xs false e
 
 module _ (out : Place → Joined) where
-  abbrev outs : List Place → List (Place × Joined)
+  abbrev pub outs : List Place → List (Place × Joined)
   outs ls = map (λ l. (l, out l)) ls
 
-  abbrev IsAt : List Place → Move → Place → Type 0
+  abbrev pub IsAt : List Place → Move → Place → Type 0
   IsAt ls C q = (is_in ls q ≡ true → out q ≡ Ok (actions_at C q)) × (is_in ls q ≡ false → actions_at C q ≡ [])
 
   -- where no location refuses, each has its list
-  in_turn_lists : (ls : List Place) (C : Move) (q : Place) → Apart ls → in_turn (outs ls) ≡ Ok C → IsAt ls C q
+  pub in_turn_lists : (ls : List Place) (C : Move) (q : Place) → Apart ls → in_turn (outs ls) ≡ Ok C → IsAt ls C q
   in_turn_lists [] C q h k = (λ e. cc, λ _. ap (λ D. actions_at D q) (sym (ok_is _ _ k)))
   in_turn_lists (l ∷ ls) C q h k =
       by_answers (out l) (in_turn (outs ls)) refl refl k (λ D. in_turn_lists ls D q h.1) where
@@ -197,7 +197,7 @@ module _ (out : Place → Joined) where
         by_answers (Err r) s e f k later = cc
 
   -- the refusal is that of its location
-  in_turn_refusal : (ls : List Place) (k : Place) (refusal : NoJoin) → in_turn (outs ls) ≡ Err (k, refusal) →
+  pub in_turn_refusal : (ls : List Place) (k : Place) (refusal : NoJoin) → in_turn (outs ls) ≡ Err (k, refusal) →
       (is_in ls k ≡ true) × (out k ≡ Err refusal)
   in_turn_refusal [] k refusal h = cc
   in_turn_refusal (l ∷ ls) k refusal h =
@@ -237,7 +237,7 @@ proper_actions (x ∷ M) l h =
 
 module _ {a : Meaning} (laws : AggregatorLaws a) (M N : Move) (proper : All IsProperInstruction M)
     (proper' : All IsProperInstruction N) where
-  some_action : (l : Place) → writes (M ++ N) l ≡ true → actions_at M l ++ actions_at N l ≢ []
+  pub some_action : (l : Place) → writes (M ++ N) l ≡ true → actions_at M l ++ actions_at N l ≢ []
   some_action l w none = false≢true (sym (no_actions (M ++ N) l (actions_at-append M N l ∙ none)) ∙ w)
 
   abbrev at_locations : List Place

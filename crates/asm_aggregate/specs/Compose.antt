@@ -8,7 +8,8 @@ use Rattle.std.specs.declared.vec.Vec.{Vec}
 use Rattle.asm_element.specs.Place.{Place}
 use Rattle.asm_element.specs.Value.{undef}
 use Rattle.asm_update.specs.Aggregator.{Meaning, Joined, NoJoin, Refused, TooLarge, after}
-use Rattle.asm_update.specs.Fire.{Part, GroupResult, fire, sequence, locations}
+use Rattle.asm_element.specs.declared.value.Value.{Value}
+use Rattle.asm_update.specs.Fire.{Part, GroupResult, res, fire, sequence, locations}
 use Rattle.asm_update.specs.Limits.{instructions_limit}
 use Rattle.asm_update.specs.Move.{Move, actions_at}
 use Rattle.asm_update.specs.State.{State, IsProper}
@@ -22,6 +23,11 @@ use Rattle.asm_aggregate.specs.Bundle.{Bundle, bundle_of, bundle_result}
 use Rattle.asm_aggregate.specs.PairMeaning.{refused, unless}
 use Rattle.asm_aggregate.specs.declared.composition.ComposeError.{ComposeError}
 use Rattle.asm_aggregate.specs.declared.composition.ComposeError.TheVariants as compose_error
+
+-- what actions give on a value: none of them leave it as it is
+abbrev pub gives : Part → Value → List Action → GroupResult
+gives part v [] = Ok v
+gives part v (x ∷ xs) = res part v (x ∷ xs)
 
 -- the cause why there is no value, if there is none
 abbrev pub cause_of : GroupResult → Option Cause

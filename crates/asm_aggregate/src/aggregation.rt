@@ -8,6 +8,7 @@ ghost use Rattle.asm_aggregate.specs.Bundle.{IsWritten, IsAggregate, bundle_resu
 
 use crate::families::unchanged;
 use crate::groups::Bundle;
+use crate::result_list::Results;
 use crate::stretches::{Stretches, ascending};
 use asm_element::{Location, Value};
 use asm_update::{
@@ -94,4 +95,29 @@ pub fn aggregate<A: Aggregator, L: Lookup>(
         }
     }
     Ok(updates)
+}
+
+/// The update set of a move as `aggregate` gathers it, or the same clash, beside the move's own locations: no
+/// location is copied.
+///
+/// `AggError::Clash` and `Memory` come as from `aggregate`, and the lookup is asked as there.
+pub fn results<'a, A: Aggregator, L: Lookup>(
+    alloc: Global,
+    aggregator: &A,
+    lookup: &L,
+    instructions: &'a Instructions,
+) -> Result<Results<'a>, AggError>
+    ensures { IsAggregate (A.meaning aggregator.now).part (L.value_at lookup.now) instructions.now result }
+{
+    let list = ascending(alloc, instructions)?;
+    let mut results = Results::with_room(alloc, list.len())?;
+    let mut stretches = Stretches::of(list.as_slice());
+    while let Some(stretch) = stretches.next() {
+        let bundle = Bundle::of(alloc, stretch.instructions)?;
+        match result_at(alloc, aggregator, lookup, stretch.at, bundle) {
+            Ok(value) => results.push(stretch.at, value)?,
+            Err(error) => return Err(clash_at(alloc, stretch.at, error)),
+        }
+    }
+    Ok(results)
 }

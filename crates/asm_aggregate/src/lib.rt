@@ -12,15 +12,17 @@ mod families;
 mod groups;
 mod pair;
 mod puts;
+mod result_list;
 mod set_agg;
 mod side;
 mod stretches;
 
 pub use admission::admit;
-pub use aggregation::aggregate;
+pub use aggregation::{aggregate, results};
 pub use bag_agg::BagAgg;
 pub use composition::{ComposeError, compose};
 pub use count_agg::CountAgg;
 pub use pair::{Pair, standard};
 pub use puts::only_put;
+pub use result_list::Results;
 pub use set_agg::SetAgg;

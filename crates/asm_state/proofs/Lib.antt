@@ -10,4 +10,5 @@ pub mod Wanted
 pub mod Overwritten
 pub mod Settled
 pub mod TakenBack
+pub mod WrittenAbove
 pub mod Writers

@@ -1,13 +1,20 @@
 -- Writes that are listed with what they replaced, one more and one less.
-use Rattle.std.proofs.Common.{◌≡◌, Bool, true, false, cond, List, [], ◌∷◌, ◌++◌, Option, Some, None, refl, sym, ap, subst, ◌∙◌}
+use Rattle.std.proofs.Common.{◌≡◌, Bool, true, false, cond, List, [], ◌∷◌, ◌++◌, Option, Some, None, Bor, refl, sym, ap, subst, ◌∙◌}
 use Rattle.std.specs.Prelude.{Result, Ok, Err, OnOk, OnErr}
 use Rattle.std.specs.FinMap as map
 use Rattle.std.specs.Ordering.{eq_by_cmp}
 use Rattle.asm_element.specs.Place.{Place, location_cmp, location_cmp_total, location_cmp-IsAntisymmetric, same_location}
 use Rattle.asm_element.specs.Tests.{itself}
+use Rattle.asm_aggregate.specs.Bundle.{by_place}
 use Rattle.asm_state.specs.declared.entries.WrittenValue.{WrittenValue}
 use Rattle.asm_state.specs.Replaced.{AreReplaced}
 use Rattle.asm_state.specs.View.{Entries}
+
+-- one more location that is referred to
+pub places_more : {X : Type 0} (es : List (Bor Place × X)) (r : Bor Place) (x : X) →
+    by_place (es ++ (r, x) ∷ []) ≡ by_place es ++ (r.now, x) ∷ []
+places_more [] r x = refl
+places_more (e ∷ es) r x = ap (λ us. (e.0.now, e.1) ∷ us) (places_more es r x)
 
 -- one more write, at the end
 pub replaced_more : (us : List (Place × Option WrittenValue)) (old now : Entries) (l : Place) (found : Option WrittenValue) (w : WrittenValue) →

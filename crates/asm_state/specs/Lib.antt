@@ -1,8 +1,10 @@
 pub mod Follow
 pub mod LeastNamed
+pub mod Limits
 pub mod Named
 pub mod Plain
 pub mod Replaced
+pub mod Scans
 pub mod Stands
 pub mod Verdict
 pub mod View

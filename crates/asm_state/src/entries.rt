@@ -1,22 +1,27 @@
 //! What a state keeps of the locations that moves wrote, and how the updates of a move come in.
-ghost use Rattle.std.specs.Prelude.{◌≡◌, IfOk, IfErr, OnOk, OnErr, Some, Err};
+ghost use Rattle.std.specs.Prelude.{◌≡◌, [], IfOk, IfErr, OnOk, OnErr, Some, Err};
 ghost use Rattle.asm_update.specs.Aggregator.{IsOutcome};
 ghost use Rattle.asm_state.specs.Change.{IsChanged};
 ghost use Rattle.asm_state.specs.declared.entries.WrittenValue.{WrittenValue};
 ghost use Rattle.std.specs.Option.{option_copied};
+ghost use Rattle.std.specs.BTreeMap.Range.{entries_between};
+ghost use Rattle.std.specs.declared.ops.Bound.TheVariants.{Included, Unbounded};
 ghost use Rattle.std.specs.FinMap as map;
-ghost use Rattle.asm_element.specs.Place.{Place};
+ghost use Rattle.asm_element.specs.Place.{Place, location_cmp};
 ghost use Rattle.asm_update.specs.State.{val};
-ghost use Rattle.asm_state.specs.View.{value_of, value_over};
+ghost use Rattle.asm_state.specs.View.{value_of, value_over, writer_of};
 ghost use Rattle.asm_state.specs.Follow.{written_by, entry_after};
 ghost use Rattle.asm_state.specs.Replaced.{AreReplaced};
+ghost use Rattle.asm_state.specs.Scans.{has_name, is_newer, IsLeastOf};
 ghost use Rattle.asm_state.specs.View as view;
+ghost use Rattle.asm_aggregate.specs.Bundle.{by_place};
 
+use asm_aggregate::Results;
 use asm_element::{Location, Value};
-use asm_update::{Aggregator, Group, PlainState, ResultError, UpdateSet};
+use asm_update::{Aggregator, Group, PlainState, ResultError};
 use std::alloc::{AllocError, Global};
 use std::collections::BTreeMap;
-use std::collections::btree_map::Iter;
+use std::collections::btree_map::{Iter, Range};
 use std::marker::Model;
 use std::mem;
 
@@ -96,6 +101,20 @@ impl WrittenValue {
     }
 }
 
+/// Whether the location has the function name.
+fn has_name(name: &str, at: &Location) -> bool
+    ensures { result ≡ has_name name.now at.now }
+{
+    at.name() == name
+}
+
+/// Whether the location has the function name, and a move above the number wrote the entry.
+fn is_newer(name: &str, number: u32, at: &Location, written: &WrittenValue) -> bool
+    ensures { result ≡ is_newer name.now number at.now written.now.writer }
+{
+    has_name(name, at) && number < written.writer
+}
+
 /// Entries of locations, which contracts see as a finite map.
 #[derive(Debug, Drop)]
 pub(crate) struct Entries {
@@ -141,6 +160,62 @@ impl Entries {
         self.tree.iter()
     }
 
+    // The entries from this location on.
+    fn onward(&self, first: &Location) -> Range<'_, Location, WrittenValue>
+        ensures { result ≡ entries_between location_cmp (Included first.now) Unbounded (map.entries self.now) }
+    {
+        self.tree.range(first..)
+    }
+
+    // The least location with the name of the first one, which has no arguments, whose entry a move above the number
+    // wrote. It walks the entries of that name, up to that one.
+    fn least_from(&self, first: &Location, number: u32) -> Option<&Location>
+        requires { first.now.args ≡ [] }
+        ensures { IsLeastOf (λ l. is_newer first.now.name number l (writer_of (map.get self.now l)))
+            (option_copied result) }
+    {
+        for (at, written) in self.onward(first) {
+            if !has_name(first.name(), at) {
+                return None;
+            }
+            if number < written.writer {
+                return Some(at);
+            }
+        }
+        None
+    }
+
+    // The same for any name, by a walk of all entries up to that one.
+    fn least_of_all(&self, name: &str, number: u32) -> Option<&Location>
+        ensures { IsLeastOf (λ l. is_newer name.now number l (writer_of (map.get self.now l))) (option_copied result) }
+    {
+        for (at, written) in self.iter() {
+            if is_newer(name, number, at, written) {
+                return Some(at);
+            }
+        }
+        None
+    }
+
+    /// The least location with this function name whose entry a move above the number wrote. It walks the entries of
+    /// that name, up to that one.
+    pub(crate) fn least_written(
+        &self,
+        alloc: Global,
+        name: &str,
+        number: u32,
+    ) -> Result<Option<&Location>, AllocError>
+        ensures { IfOk result (λ found. IsLeastOf (λ l. is_newer name.now number l (writer_of (map.get self.now l)))
+            (option_copied found)) }
+    {
+        let owned = String::from_str(alloc, name)?;
+        match Location::new(owned, Vec::new(alloc)) {
+            Ok(first) => Ok(self.least_from(&first, number)),
+            // No location that a program holds has such a name.
+            Err(_) => Ok(self.least_of_all(name, number)),
+        }
+    }
+
     /// Writes an entry, and drops the one that it replaces; only a new one takes memory.
     pub(crate) fn put(&mut self, at: Location, written: WrittenValue) -> Result<(), AllocError>
         ensures ok { OnOk result (self.new ≡ map.insert self.old at written) }
@@ -157,7 +232,7 @@ impl Entries {
         self.tree.remove(at);
     }
 
-    /// The same entries, in memory of their own.
+    /// The same entries, in a tree of their own.
     pub(crate) fn copy(&self, alloc: Global) -> Result<Entries, AllocError>
         ensures { IfOk result (λ copy. copy ≡ self.now) }
     {
@@ -283,28 +358,28 @@ impl Entries {
     }
 
     /// Takes writes back by what they replaced, the last one first.
-    fn take_all_back(&mut self, mut replaced: Vec<(Location, Option<WrittenValue>)>)
-        ensures { (old : view.Entries) → AreReplaced replaced.items old self.old → self.new ≡ old }
+    fn take_all_back(&mut self, mut replaced: Vec<(&Location, Option<WrittenValue>)>)
+        ensures { (old : view.Entries) → AreReplaced (by_place replaced.entry.items) old self.old → self.new ≡ old }
     {
         while let Some((at, before)) = replaced.pop() {
-            self.take_back(&at, before);
+            self.take_back(at, before);
         }
     }
 
-    /// Writes the updates of the move with this number, and keeps what they replace until all are written.
+    /// Writes the results of the move with this number, and keeps what they replace until all are written.
     fn write_each(
         &mut self,
         alloc: Global,
         writer: u32,
-        updates: UpdateSet,
+        results: Results<'_>,
     ) -> Result<(), AllocError>
         ensures ok { OnOk result ((q : Place) →
-            map.get self.new q ≡ entry_after writer (map.get updates q) (map.get self.old q)) }
+            map.get self.new q ≡ entry_after writer (map.get results.entry q) (map.get self.old q)) }
         ensures err { OnErr result (self.new ≡ self.old) }
     {
-        let mut replaced = Vec::with_capacity(alloc, updates.len())?;
-        for (at, value) in updates {
-            match self.write_at(alloc, &at, WrittenValue::by(writer, value)) {
+        let mut replaced = Vec::with_capacity(alloc, results.len())?;
+        for (at, value) in results.into_vec() {
+            match self.write_at(alloc, at, WrittenValue::by(writer, value)) {
                 Ok(before) => replaced.push_reserved((at, before)),
                 Err(error) => {
                     self.take_all_back(replaced);
@@ -315,23 +390,27 @@ impl Entries {
         Ok(())
     }
 
-    /// Writes the updates of the move with this number: the values move in. After an error nothing is changed.
+    /// Writes the results of the move with this number: the values move in, and a location is copied only where it
+    /// is new. After an error nothing is changed.
     pub(crate) fn write(
         &mut self,
         alloc: Global,
         writer: u32,
-        updates: UpdateSet,
+        results: Results<'_>,
     ) -> Result<(), AllocError>
         ensures ok { OnOk result ((q : Place) →
-            map.get self.new q ≡ entry_after writer (map.get updates q) (map.get self.old q)) }
+            map.get self.new q ≡ entry_after writer (map.get results.entry q) (map.get self.old q)) }
         ensures err { OnErr result (self.new ≡ self.old) }
     {
-        if updates.len() > 1 {
-            return self.write_each(alloc, writer, updates);
+        if results.len() > 1 {
+            return self.write_each(alloc, writer, results);
         }
-        // An insert works or changes nothing, so what one update replaces needn't be kept.
-        match updates.into_iter().next() {
-            Some((at, value)) => self.put(at, WrittenValue::by(writer, value)),
+        // A write works or changes nothing, so what one result replaces needn't be kept.
+        match results.into_vec().into_iter().next() {
+            Some((at, value)) => {
+                self.write_at(alloc, at, WrittenValue::by(writer, value))?;
+                Ok(())
+            }
             None => Ok(()),
         }
     }

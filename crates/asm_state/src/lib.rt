@@ -6,10 +6,12 @@ mod in_place;
 pub mod laws;
 mod named;
 mod plain;
+mod scanned;
 mod state;
 mod verdict;
 
 pub use in_place::one_change;
 pub use named::Named;
+pub use scanned::Scanned;
 pub use state::State;
 pub use verdict::{Objection, Verdict};

@@ -18,9 +18,10 @@ pub struct Named {
 }
 
 impl Named {
-    /// The same named read, in memory of its own.
+    /// The same named read, with a copy of its location.
     ///
-    /// `AllocError` comes only where memory was refused.
+    /// `AllocError` comes only where memory was refused, or where more copies would share the location than can be
+    /// counted.
     pub fn copy(&self, _alloc: Global) -> Result<Named, AllocError>
         ensures { IfOk result (λ copy. copy ≡ self.now) }
     {

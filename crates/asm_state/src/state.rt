@@ -12,6 +12,8 @@ ghost use Rattle.asm_state.specs.Change.{IsOneChange};
 ghost use Rattle.asm_state.specs.View.{value_at, writer_at, holds_undef};
 ghost use Rattle.asm_state.specs.Follow.{entry_after, IsFollowed};
 ghost use Rattle.asm_state.specs.LeastNamed.{IsLeastNamed, told_stale};
+ghost use Rattle.asm_state.specs.Limits.{followed_limit};
+ghost use Rattle.asm_state.specs.Scans.{is_rewritten, IsLeastOf};
 ghost use Rattle.asm_state.specs.Stands.{Stands, IsLastWriter, is_stale};
 ghost use Rattle.asm_state.specs.Verdict.{IsObjection, IsVerdict, least_named};
 
@@ -19,11 +21,9 @@ use crate::entries::{Entries, WrittenValue};
 use crate::in_place::one_change;
 use crate::named::Named;
 use crate::verdict::{Objection, Verdict};
-use asm_aggregate::{admit, aggregate, only_put};
+use asm_aggregate::{Results, admit, aggregate, only_put, results};
 use asm_element::{Location, Value};
-use asm_update::{
-    AggError, Aggregator, Group, Instructions, Lookup, PlainState, ResultError, UpdateSet,
-};
+use asm_update::{AggError, Aggregator, Group, Instructions, Lookup, PlainState, ResultError};
 use std::alloc::{AllocError, Global};
 use std::marker::Model;
 use std::sync::Arc;
@@ -123,6 +123,22 @@ impl State {
         }
     }
 
+    /// The least location with this function name that a move above the number wrote, be it with the same value or with
+    /// undef; `None` where no move did.
+    ///
+    /// It walks what moves wrote of that name, up to that location. `AllocError` comes only where memory was refused.
+    pub fn least_written_in(
+        &self,
+        alloc: Global,
+        name: &str,
+        number: u32,
+    ) -> Result<Option<&Location>, AllocError>
+        ensures { (part : Part) (init : plain.State) (q : List Move) → Stands part init self.now q →
+            IfOk result (λ found. IsLeastOf (is_rewritten part init q name.now number) (option_copied found)) }
+    {
+        self.entries.least_written(alloc, name, number)
+    }
+
     // Whether a move after the read wrote the location.
     fn is_written_since(&self, named: &Named) -> bool
         ensures { result ≡ nat_lt named.now.number (writer_at self.now named.now.at) }
@@ -211,7 +227,7 @@ impl State {
         aggregator: &A,
         instructions: &Instructions,
     ) -> Result<(), AllocError>
-        requires { self.old.number < 4294967295 }
+        requires { self.old.number < followed_limit }
         ensures ok { OnOk result ((init : plain.State) (q : List Move) →
             Stands (A.meaning aggregator.now).part init self.old q →
             Stands (A.meaning aggregator.now).part init self.new (q ++ instructions.now ∷ [])) }
@@ -233,7 +249,7 @@ impl State {
         aggregator: &A,
         instructions: &Instructions,
     ) -> Result<(), AllocError>
-        requires { self.old.number < 4294967295 }
+        requires { self.old.number < followed_limit }
         ensures followed { OnOk result (
             IsFollowed (A.meaning aggregator.now).part self.old instructions.now self.new) }
         ensures err { OnErr result (self.new ≡ self.old) }
@@ -246,7 +262,7 @@ impl State {
 
     // Follows a move that puts the value at the location.
     fn follow_put(&mut self, alloc: Global, at: &Location, value: &Value) -> Result<(), AllocError>
-        requires { self.old.number < 4294967295 }
+        requires { self.old.number < followed_limit }
         ensures followed { OnOk result ((part : Part) (M : Move) → only_put M ≡ Some (at.now, value.now) →
             IsFollowed part self.old M self.new) }
         ensures err { OnErr result (self.new ≡ self.old) }
@@ -265,7 +281,7 @@ impl State {
         at: &Location,
         group: &Group,
     ) -> Result<(), AllocError>
-        requires { self.old.number < 4294967295 }
+        requires { self.old.number < followed_limit }
         ensures followed { OnOk result ((M : Move) → IsOneChange M at.now group.now →
             IsFollowed (A.meaning aggregator.now).part self.old M self.new) }
         ensures err { OnErr result (self.new ≡ self.old) }
@@ -287,22 +303,22 @@ impl State {
         }
     }
 
-    // Follows a move by its update set.
+    // Follows a move by its results.
     fn follow_all<A: Aggregator>(
         &mut self,
         alloc: Global,
         aggregator: &A,
         instructions: &Instructions,
     ) -> Result<(), AllocError>
-        requires { self.old.number < 4294967295 }
+        requires { self.old.number < followed_limit }
         ensures followed { OnOk result (
             IsFollowed (A.meaning aggregator.now).part self.old instructions.now self.new) }
         ensures err { OnErr result (self.new ≡ self.old) }
     {
         let number = self.number + 1;
-        match aggregate(alloc, aggregator, self, instructions) {
-            Ok(updates) => {
-                self.write_all(alloc, updates, number)?;
+        match results(alloc, aggregator, self, instructions) {
+            Ok(results) => {
+                self.write_all(alloc, results, number)?;
                 Ok(())
             }
             Err(AggError::Clash(_)) => {
@@ -320,21 +336,21 @@ impl State {
         self.number = number;
     }
 
-    // Gives each location of the updates its value, and this number.
+    // Gives each location of the results its value, and this number.
     fn write_all(
         &mut self,
         alloc: Global,
-        updates: UpdateSet,
+        results: Results<'_>,
         number: u32,
     ) -> Result<(), AllocError>
         requires { 0 < number }
         ensures number { OnOk result (self.new.number ≡ number) }
         ensures base { OnOk result (self.new.base ≡ self.old.base) }
         ensures written { OnOk result ((l : Place) → map.get self.new.entries l ≡
-            entry_after number (map.get updates l) (map.get self.old.entries l)) }
+            entry_after number (map.get results.entry l) (map.get self.old.entries l)) }
         ensures err { OnErr result (self.new ≡ self.old) }
     {
-        self.entries.write(alloc, number, updates)?;
+        self.entries.write(alloc, number, results)?;
         self.number = number;
         Ok(())
     }

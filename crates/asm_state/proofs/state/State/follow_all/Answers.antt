@@ -13,9 +13,9 @@ returns-in-Ok-clause-followed g c =
     let part = (g.A.Aggregator.meaning c.args.aggregator.now).part in
     let old = c.args.self.now in
     let number = ap (λ (s : StateView). s.number + 1) c.self.view_is in
-    followed_fired part old c.write_all.new.self c.args.instructions.now c.in-Ok.updates c.in-Ok.ensures (c.in_ok-write_all-in-Ok.ensures.number ∙ number)
+    followed_fired part old c.write_all.new.self c.args.instructions.now c.in-Ok.results c.in-Ok.ensures (c.in_ok-write_all-in-Ok.ensures.number ∙ number)
     c.in_ok-write_all-in-Ok.ensures.base
-    (subst (λ n. (l : Place) → map.get c.write_all.new.self.entries l ≡ entry_after n (map.get c.in-Ok.updates l) (map.get old.entries l)) number c.in_ok-write_all-in-Ok.ensures.written)
+    (subst (λ n. (l : Place) → map.get c.write_all.new.self.entries l ≡ entry_after n (map.get c.in-Ok.results l) (map.get old.entries l)) number c.in_ok-write_all-in-Ok.ensures.written)
 
 pub returns-in-Err-Clash-clause-followed : goal.returns-in-Err-Clash-clause-followed
 returns-in-Err-Clash-clause-followed g c =

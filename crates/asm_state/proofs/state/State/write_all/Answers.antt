@@ -16,10 +16,10 @@ returns-in_err-write-clause-err c =
 
 pub invariant_of-self-2 : goal.invariant_of-self-2
 invariant_of-self-2 c =
-    settled_after c.args.number c.args.updates c.self.inside.entries c.write.new.self c.requires c.self.invariant
+    settled_after c.args.number c.args.results c.self.inside.entries c.write.new.self c.requires c.self.invariant
     c.in_ok-write.ensures.ok
 
 pub returns-clause-written : goal.returns-clause-written
 returns-clause-written c = λ q.
     c.in_ok-write.ensures.ok q
-    ∙ ap (λ (s : StateView). entry_after c.args.number (finite.get c.args.updates q) (finite.get s.entries q)) c.self.view_is
+    ∙ ap (λ (s : StateView). entry_after c.args.number (finite.get c.args.results q) (finite.get s.entries q)) c.self.view_is
