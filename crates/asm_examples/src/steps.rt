@@ -20,7 +20,7 @@ fn one_move_does_what_three_do_in_turn(rt: HostRuntime) -> Result<(), Fail> {
     assert_eq!(rt; step.depth(), 2);
     assert_eq!(rt; step.get(&state, &at), Some(&number(5)));
 
-    let updates = aggregate(alloc, &standard(), &state, step.as_move())?;
+    let updates = aggregate(alloc, &standard(), &state, &step.as_move(alloc)?)?;
     assert_eq!(rt; updates.get(&at), Some(&number(5)));
     Ok(())
 }

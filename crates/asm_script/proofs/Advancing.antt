@@ -15,13 +15,13 @@ use Rattle.asm_update.specs.declared.clash.Clash.{Clash}
 use Rattle.asm_overlay.specs.Frames.{Frames, under, topmost, seen_through}
 use Rattle.asm_overlay.specs.Limits.{frames_limit}
 use Rattle.asm_overlay.proofs.FrameLemmas.{val-under}
-use Rattle.asm_step.specs.Answer.{composed_after, IsAnswer, IsAnswerOn, IsFollowedBy, IsLastOn}
+use Rattle.asm_step.specs.Answer.{IsAnswer, IsAnswerOn, IsContinuedBy, IsFollowedBy, IsLastOn}
+use Rattle.asm_step.specs.Continued.{composed_after}
 use Rattle.asm_step.specs.InTurn.{Agrees}
-use Rattle.asm_step.specs.Layers.{frames_of, one_move, all_moves, IsStepOf}
+use Rattle.asm_step.specs.Layers.{Layer, frames_of, one_move, all_moves, IsStepOf}
 use Rattle.asm_step.specs.Places.{partial_places, all_partial_places}
 use Rattle.asm_step.specs.declared.error.StepError.{StepError}
 use Rattle.asm_step.specs.declared.error.StepError.TheVariants as step_error
-use Rattle.asm_step.specs.declared.layer.Layer.{Layer}
 use Rattle.asm_step.proofs.Agreeing.{places-push}
 use Rattle.asm_step.proofs.Answered.{fires_there}
 use Rattle.asm_step.proofs.Layered.{moves-push}
@@ -29,7 +29,7 @@ use Rattle.asm_script.specs.Blocks.{move_in}
 use Rattle.asm_script.specs.StepReads.{taken, changed, named}
 use Rattle.asm_script.specs.Sequencing.{Stop, FaultyTerm, Clashes, fired_or_stopped, fire_move, fire_block, on_state}
 use Rattle.asm_script.specs.Sequencing.{fire_blocks, fault_of, refused_at, IsReadOf, IsStopped, IsStepMove, IsNext}
-use Rattle.asm_script.specs.Sequencing.{fitting, composed_on, on_move, on_fired, on_composed, step_move_on}
+use Rattle.asm_script.specs.Sequencing.{fitting, composed_on, continued_on, on_move, on_fired, on_composed, step_move_on}
 use Rattle.asm_script.specs.declared.block.Block.{Block}
 use Rattle.asm_script.specs.declared.step.Step.{Step}
 use Rattle.asm_script.specs.declared.step.StepFault.{StepFault}
@@ -98,27 +98,36 @@ too_many : (a : Meaning) (done : Option Move) (M : Move) → IsFollowedBy a done
 too_many a None M none = absurd none
 too_many a (Some D) M (C, is, many) = ap fitting is ∙ ap (λ b. cond b (Err Many) (Ok C)) (lt-ltb instructions_limit (length C) many)
 
+continued_is : (a : Meaning) (done : Option Move) (M C : Move) → IsContinuedBy a done M (Ok C) → continued_on a done M ≡ Ok C
+continued_is a None M C (is, few) = let same : M ≡ C = cc is in ap Ok same
+continued_is a (Some D) M C (is, few) = ap fitting is ∙ ap (λ b. cond b (Err Many) (Ok C)) (le-ltb instructions_limit (length C) few)
+
+too_many_continued : (a : Meaning) (done : Option Move) (M : Move) → IsContinuedBy a done M (Err step_error.Many) →
+    continued_on a done M ≡ Err Many
+too_many_continued a None M none = absurd none
+too_many_continued a (Some D) M (C, is, many) = ap fitting is ∙ ap (λ b. cond b (Err Many) (Ok C)) (lt-ltb instructions_limit (length C) many)
+
 -- the move of a step whose first block has this move, or none, and is followed by others
 first_move : (a : Meaning) (A : State) (done : Option Move) (b : Block) (left : List Block) (last : Block) (M : Move) →
     move_in (val A) b ≡ Some M →
     step_move_on a A done (b ∷ (left ++ last ∷ []))
-    ≡ on_fired (λ B. on_composed (λ C. step_move_on a B (Some C) (left ++ last ∷ [])) (composed_on a done M))
+    ≡ on_fired (λ B. on_composed (λ C. step_move_on a B (Some C) (left ++ last ∷ [])) (continued_on a done M))
     (fire a.part A M)
 first_move a A done b [] last M is =
-    ap (on_move (λ N. on_fired (λ B. on_composed (λ C. step_move_on a B (Some C) (last ∷ [])) (composed_on a done N))
+    ap (on_move (λ N. on_fired (λ B. on_composed (λ C. step_move_on a B (Some C) (last ∷ [])) (continued_on a done N))
     (fire a.part A N))) is
 first_move a A done b (c ∷ left) last M is =
     ap (on_move (λ N. on_fired (λ B. on_composed (λ C. step_move_on a B (Some C) (c ∷ (left ++ last ∷ [])))
-    (composed_on a done N)) (fire a.part A N))) is
+    (continued_on a done N)) (fire a.part A N))) is
 
 no_first_move : (a : Meaning) (A : State) (done : Option Move) (b : Block) (left : List Block) (last : Block) →
     move_in (val A) b ≡ None → step_move_on a A done (b ∷ (left ++ last ∷ [])) ≡ Err Term
 no_first_move a A done b [] last is =
-    ap (on_move (λ N. on_fired (λ B. on_composed (λ C. step_move_on a B (Some C) (last ∷ [])) (composed_on a done N))
+    ap (on_move (λ N. on_fired (λ B. on_composed (λ C. step_move_on a B (Some C) (last ∷ [])) (continued_on a done N))
     (fire a.part A N))) is
 no_first_move a A done b (c ∷ left) last is =
     ap (on_move (λ N. on_fired (λ B. on_composed (λ C. step_move_on a B (Some C) (c ∷ (left ++ last ∷ [])))
-    (composed_on a done N)) (fire a.part A N))) is
+    (continued_on a done N)) (fire a.part A N))) is
 
 clash_of : (r : Result State Clash) → IsErr r → (clash : Clash) × (r ≡ Err clash)
 clash_of (Ok A) h = absurd (false≢true h)
@@ -187,7 +196,7 @@ module _ (a : Meaning) (old : Old) (step : Step) (pushed : List Layer) where
 
         -- what comes after the block's move
         abbrev onward : State → Result Move StepFault
-        onward B = on_composed (λ C. step_move_on a B (Some C) (left ++ last ∷ [])) (composed_on a done M)
+        onward B = on_composed (λ C. step_move_on a B (Some C) (left ++ last ∷ [])) (continued_on a done M)
 
         goes_on : (A : State) → IsReadOf A old step →
             step_move_on a A None step ≡ on_fired onward (fire part (under A frames) M)
@@ -222,7 +231,7 @@ module _ (a : Meaning) (old : Old) (step : Step) (pushed : List Layer) where
             ∙ ap (on_fired onward)
             (fires_there a old pushed played.groups M A played.pushes read.proper (agrees_more A read) answer.0.0 answer.0.1)
             ∙ ap (on_composed (λ C. step_move_on a (overwrite (under A frames) answer.0.0) (Some C) (left ++ last ∷ [])))
-            (too_many a done M answer.1)
+            (too_many_continued a done M answer.1)
         push_fault step_error.Deep answer on room = absurd (omega (arith, answer, room))
         push_fault step_error.Memory answer on room = λ A read. tt
 
@@ -247,7 +256,7 @@ module _ (a : Meaning) (old : Old) (step : Step) (pushed : List Layer) where
           composed = λ A read.
               goes_on A read ∙ ap (on_fired onward) (on A read)
               ∙ ap (on_composed (λ C. step_move_on a (under A (frames_of new)) (Some C) (left ++ last ∷ [])))
-              (composed_is a done M answer.1.0 answer.1.2)
+              (continued_is a done M answer.1.0 answer.1.2)
               ∙ ap (λ o. step_move_on a (under A (frames_of new)) o (left ++ last ∷ [])) (sym answer.1.1);
         }
 

@@ -8,6 +8,7 @@ use Rattle.asm_update.specs.Limits.{instructions_limit}
 use Rattle.asm_update.specs.Move.{Move}
 use Rattle.asm_update.specs.State.{State, IsProper, val}
 use Rattle.asm_aggregate.specs.Compose.{composition}
+use Rattle.asm_step.specs.Continued.{continued}
 use Rattle.asm_update.specs.declared.clash.Clash.{Clash}
 use Rattle.asm_step.specs.declared.error.StepError.{StepError}
 use Rattle.asm_step.specs.declared.error.StepError.TheVariants as step_error
@@ -71,6 +72,11 @@ abbrev pub composed_on : Meaning → Option Move → Move → Result Move StepFa
 composed_on a None N = Ok N
 composed_on a (Some M) N = fitting (composition a M N)
 
+-- the one move of the earlier ones, if there are any, and then the next one, or the fault
+abbrev pub continued_on : Meaning → Option Move → Move → Result Move StepFault
+continued_on a None N = Ok N
+continued_on a (Some M) N = fitting (continued a M N)
+
 -- what comes after a block's move, if there is one; where a term was faulty there is none
 abbrev pub on_move : (Move → Result Move StepFault) → Option Move → Result Move StepFault
 on_move next (Some M) = next M
@@ -86,13 +92,14 @@ abbrev pub on_composed : (Move → Result Move StepFault) → Result Move StepFa
 on_composed next (Ok C) = next C
 on_composed next (Err fault) = Err fault
 
--- The one move of a step on a state, or why there is none; before it come moves that compose to this one. Each block's
--- terms have their values in the state that the blocks before it leave. The last block isn't fired.
+-- The one move of a step on a state, or why there is none; before it come moves whose one move is this one, which goes on
+-- with each block but the last. Each block's terms have their values in the state that the blocks before it leave. The last
+-- block isn't fired, and is composed to what comes before it.
 abbrev pub step_move_on : Meaning → State → Option Move → Step → Result Move StepFault
 step_move_on a A before [] = Ok (unwrap_or before [])
 step_move_on a A before (b ∷ []) = on_move (composed_on a before) (move_in (val A) b)
 step_move_on a A before (b ∷ c ∷ bs) =
-    on_move (λ M. on_fired (λ B. on_composed (λ C. step_move_on a B (Some C) (c ∷ bs)) (composed_on a before M))
+    on_move (λ M. on_fired (λ B. on_composed (λ C. step_move_on a B (Some C) (c ∷ bs)) (continued_on a before M))
     (fire a.part A M)) (move_in (val A) b)
 
 -- What a step's move owes to a state that was read: it is the one there. Firing it leaves what the blocks leave, and

@@ -50,7 +50,7 @@ partial_at j M l = by_test (eq_by_cmp location_cmp j.at l) refl where
   by_test false is h = inr h
 
 -- where a move has a partial update, it has that location
-partial_there : (M : Move) (l : Place) → list_any is_partial (actions_at M l) ≡ true → Contains (partial_places M) l
+pub partial_there : (M : Move) (l : Place) → list_any is_partial (actions_at M l) ≡ true → Contains (partial_places M) l
 partial_there [] l h = absurd (false≢true h)
 partial_there (j ∷ M) l h =
     ⊎_elim
@@ -92,7 +92,7 @@ same_result part v w G some same = by_test (list_any is_partial G) refl where
   by_test true is = ap (λ u. res part u G) (same is)
   by_test false is = by_list G some is
 
-some_actions : (M : Move) (l : Place) → writes M l ≡ true → actions_at M l ≢ []
+pub some_actions : (M : Move) (l : Place) → writes M l ≡ true → actions_at M l ≢ []
 some_actions [] l h = λ none. absurd (false≢true h)
 some_actions (j ∷ M) l h = by_test (eq_by_cmp location_cmp j.at l) h (some_actions M l) where
   by_test : (b : Bool) → (b || writes M l) ≡ true → (writes M l ≡ true → actions_at M l ≢ []) →

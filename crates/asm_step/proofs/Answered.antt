@@ -1,11 +1,9 @@
 -- What a push and an extension do to a step, and what they answer.
-use Rattle.std.proofs.Common.{◌≡◌, ◌↔◌, inl, inr, ⊎_elim, List, [], ◌∷◌, ◌++◌, Contains, append_assoc}
-use Rattle.std.proofs.lemmas.List.{map-append}
+use Rattle.std.proofs.Common.{◌≡◌, inl, inr, List, [], ◌∷◌, ◌++◌, Contains, append_assoc}
 use Rattle.std.proofs.Common.{Option, Some, None, unwrap_or, Result, Ok, Err, IfOk, IfErr, IsErr, refl, sym, ap, ◌∙◌, subst}
 use Rattle.std.proofs.lemmas.Bool.{false≢true}
-use Rattle.std.proofs.lemmas.List.Elements.{Contains-append_left, Contains-append_right, Contains-append_cases}
 use Rattle.std.specs.FinMap as finite
-use Rattle.std.specs.Option.{option_or, option_map, option_map_or}
+use Rattle.std.specs.Option.{option_or, option_map}
 use Rattle.asm_element.specs.Place.{Place}
 use Rattle.asm_update.specs.Aggregator.{Meaning}
 use Rattle.asm_update.specs.Fire.{Part, Old, fire, then_fire, sequence, IsUpdateSet}
@@ -13,129 +11,125 @@ use Rattle.asm_update.specs.Move.{Move}
 use Rattle.asm_update.specs.State.{State, Updates, IsProper, val, overwrite}
 use Rattle.asm_update.specs.declared.clash.Clash.{Clash}
 use Rattle.asm_update.proofs.FireLemmas.{fire_updates, fire_clash}
-use Rattle.asm_overlay.specs.Frames.{Frames, under, topmost, seen_through}
+use Rattle.asm_overlay.specs.Frames.{under, topmost, seen_through}
 use Rattle.asm_overlay.proofs.FrameLemmas.{topmost-append, val-under}
 use Rattle.asm_step.specs.Answer.{HasUpdates, IsAnswer, IsAnswerOn, IsLastOn}
+use Rattle.asm_step.specs.Column.{DoesEach}
 use Rattle.asm_step.specs.InTurn.{DoesAll, Agrees}
-use Rattle.asm_step.specs.Layers.{frames_of, top_of, one_move, partial_places_of, all_moves}
+use Rattle.asm_step.specs.Layers.{Layer, IsLayerOf, frames_of, one_move_of, top_of, one_move, all_moves}
 use Rattle.asm_step.specs.Layers.{IsStepOf, extended}
-use Rattle.asm_step.specs.Next.{AreMerged, NeverFollows, IsComposed, IsNext}
-use Rattle.asm_step.specs.Places.{partial_places, all_partial_places, AreEach}
+use Rattle.asm_step.specs.Next.{KeepsEach, KeepsOrder, NeverFollows, IsComposed, IsContinued, IsNext, IsNextLayer}
+use Rattle.asm_step.specs.Outcomes.{frame}
+use Rattle.asm_step.specs.Places.{partial_places}
+use Rattle.asm_step.specs.Resting.{KeepsGroups}
 use Rattle.asm_step.specs.declared.error.StepError.{StepError}
 use Rattle.asm_step.specs.declared.error.StepError.TheVariants as step_error
-use Rattle.asm_step.specs.declared.layer.Layer.{Layer}
-use Rattle.asm_step.proofs.Agreeing.{agrees_before, agrees_last, places-push, same_clash, same_update_set}
-use Rattle.asm_step.proofs.Layered.{extended-push, fires_all, fires_as, group_there, has_top, layers_push}
-use Rattle.asm_step.proofs.Layered.{layers_split, moves-push, no_groups, none_there, top_does, top_partials}
-use Rattle.asm_step.proofs.Stacked.{same_under, through_last, under-push, written_one, written_more}
+use Rattle.asm_step.proofs.Agreeing.{agrees_before, agrees_last, same_clash, same_update_set}
+use Rattle.asm_step.proofs.Built.{builds_push, rests_push}
+use Rattle.asm_step.proofs.Columns.{each_next, each_one}
+use Rattle.asm_step.proofs.Layered.{extended-push, fires_all, fires_as, group_there, layers_push}
+use Rattle.asm_step.proofs.Layered.{layers_split, moves-push, no_groups, none_there, seen, top_does, top_is}
+use Rattle.asm_step.proofs.Prefixes.{has_top}
+use Rattle.asm_step.proofs.Pushed.{keeps_one, keeps_push}
+use Rattle.asm_step.proofs.Stacked.{same_seen, same_under, under-push, written_more}
 use Rattle.asm_step.proofs.Turns.{does_one, does_last, does_next}
 
 -- with one more move
 
 next_does : (a : Meaning) (old : Old) (s : List Layer) (groups : List (List Move)) (M C : Move) →
-    IsStepOf a.part old s groups → IsComposed a (one_move s) M (Ok C) → DoesAll a.part (all_moves groups ++ M ∷ []) C
-next_does a old [] groups M C step composed =
-    let same : M ≡ C = cc (composed.0.0) in
+    IsStepOf a.part old s groups → (one_move s ≡ None → M ≡ C) → KeepsOrder a.part (one_move s) M (Ok C) →
+    DoesAll a.part (all_moves groups ++ M ∷ []) C
+next_does a old [] groups M C step first order =
     subst (λ gs. DoesAll a.part (all_moves gs ++ M ∷ []) C) (sym (none_there a.part old [] groups step))
-    (subst (DoesAll a.part (M ∷ [])) same (does_one a.part M))
-next_does a old (x ∷ s) groups M C step composed =
+    (subst (DoesAll a.part (M ∷ [])) (first refl) (does_one a.part M))
+next_does a old (x ∷ s) groups M C step first order =
     let top = has_top x s in
-    let after = subst (λ (o : Option Layer). IsComposed a (option_map (λ (y : Layer). y.one_move) o) M (Ok C)) top.1
-    composed in
-    does_next a.part (all_moves groups) top.0.one_move M C (top_does a.part old (x ∷ s) groups step top.0 top.1) after.1
+    let after = subst (λ (o : Option Layer). KeepsOrder a.part (option_map one_move_of o) M (Ok C)) top.1 order in
+    does_next a.part (all_moves groups) (one_move_of top.0) M C (top_does a.part old (x ∷ s) groups step top.0 top.1) after
 
-partials_are : (part : Part) (old : Old) (s : List Layer) (groups : List (List Move)) → IsStepOf part old s groups →
-    (l : Place) → Contains (partial_places_of s) l ↔ Contains (all_partial_places (all_moves groups)) l
-partials_are part old [] groups step l =
-    subst (λ gs. Contains (partial_places_of []) l ↔ Contains (all_partial_places (all_moves gs)) l)
-    (sym (none_there part old [] groups step)) ((λ there. there), (λ there. there))
-partials_are part old (x ∷ s) groups step l =
+-- where there was no move, the one move is the next one
+pub first_continued : (a : Meaning) (o : Option Move) (M C : Move) → IsContinued a o M (Ok C) → o ≡ None → M ≡ C
+first_continued a None M C h is = let same : M ≡ C = cc (h.0.0) in same
+first_continued a (Some D) M C h is = absurd (cc is)
+
+pub first_composed : (a : Meaning) (o : Option Move) (M C : Move) → IsComposed a o M (Ok C) → o ≡ None → M ≡ C
+first_composed a None M C h is = let same : M ≡ C = cc (h.0.0) in same
+first_composed a (Some D) M C h is = absurd (cc is)
+
+next_each : (a : Meaning) (old : Old) (s : List Layer) (groups : List (List Move)) (M C : Move) →
+    IsStepOf a.part old s groups → (one_move s ≡ None → M ≡ C) → KeepsEach a.part (one_move s) M C →
+    DoesEach a.part (all_moves groups ++ M ∷ []) C
+next_each a old [] groups M C step first each =
+    subst (λ gs. DoesEach a.part (all_moves gs ++ M ∷ []) C) (sym (none_there a.part old [] groups step))
+    (subst (DoesEach a.part (M ∷ [])) (first refl) (each_one a.part M))
+next_each a old (x ∷ s) groups M C step first each =
     let top = has_top x s in
-    subst (λ (o : Option Layer). Contains (option_map_or (λ (y : Layer). y.partial_locations.items) o []) l
-    ↔ Contains (all_partial_places (all_moves groups)) l) (sym top.1)
-    ((top_partials part old (x ∷ s) groups step top.0 top.1).same l)
+    let after = subst (λ (o : Option Layer). KeepsEach a.part (option_map one_move_of o) M C) top.1 each in
+    each_next a.part (all_moves groups) (one_move_of top.0) M C (top_is a.part old (x ∷ s) groups step top.0 top.1).each after
 
-grown : (ks ls ns : List Place) (l : Place) → (Contains ks l → Contains ls l) → Contains (ks ++ ns) l →
-    Contains (ls ++ ns) l
-grown ks ls ns l to there =
-    ⊎_elim (λ one. Contains-append_left ls ns l (to one)) (λ more. Contains-append_right ls ns l more)
-    (Contains-append_cases ks ns l there)
+next_keeps : (a : Meaning) (old : Old) (s : List Layer) (groups : List (List Move)) (M C : Move) →
+    IsStepOf a.part old s groups → IsContinued a (one_move s) M (Ok C) → KeepsGroups (all_moves groups ++ M ∷ []) C
+next_keeps a old [] groups M C step goes_on =
+    let same : M ≡ C = first_continued a None M C goes_on refl in
+    subst (λ gs. KeepsGroups (all_moves gs ++ M ∷ []) C) (sym (none_there a.part old [] groups step))
+    (subst (KeepsGroups (M ∷ [])) same (keeps_one M))
+next_keeps a old (x ∷ s) groups M C step goes_on =
+    let top = has_top x s in
+    let after = subst (λ (o : Option Layer). IsContinued a (option_map one_move_of o) M (Ok C)) top.1 goes_on in
+    keeps_push a (all_moves groups) (one_move_of top.0) M C (top_is a.part old (x ∷ s) groups step top.0 top.1).keeps after.0.0
 
-next_partials : (part : Part) (old : Old) (s : List Layer) (groups : List (List Move)) (M : Move) (ls : List Place) →
-    IsStepOf part old s groups → AreEach (partial_places_of s ++ partial_places M) ls →
-    AreEach (all_partial_places (all_moves groups ++ M ∷ [])) ls
-next_partials part old s groups M ls step each =
-    let before = all_partial_places (all_moves groups) in
-    subst (λ (all : List Place). AreEach all ls) (sym (places-push (all_moves groups) M)) (record {
-      ascending = each.ascending;
-      same = λ l. (
-        λ there. grown (partial_places_of s) before (partial_places M) l (partials_are part old s groups step l).0
-            ((each.same l).0 there),
-        λ there. (each.same l).1
-            (grown before (partial_places_of s) (partial_places M) l (partials_are part old s groups step l).1 there),
-      );
-    })
+-- the layer of a next move is of all moves and this one
+next_is : (a : Meaning) (old : Old) (s : List Layer) (groups : List (List Move)) (M : Move) (y : Layer) →
+    IsStepOf a.part old s groups → IsNextLayer a old s M y → IsLayerOf a.part old (all_moves groups ++ M ∷ []) y
+next_is a old s groups M y step next =
+    let is = seen a.part old s groups step in
+    let same : seen_through (frames_of s) old ≡ seen_through (is.updates ∷ []) old =
+    same_seen (frames_of s) (is.updates ∷ []) old is.show in
+    record {
+      written = written_more a.part old (all_moves groups) M is.updates next.updates (frame y.outcomes) is.written
+          (subst (λ (o : Old). IsUpdateSet a.part o M next.updates) same next.set)
+          (λ l. next.written l ∙ ap (option_or (finite.get next.updates l)) (is.show l));
+      does = next_does a old s groups M (one_move_of y) step (first_continued a (one_move s) M (one_move_of y) next.goes_on)
+          next.goes_on.1;
+      each = next_each a old s groups M (one_move_of y) step (first_continued a (one_move s) M (one_move_of y) next.goes_on)
+          next.each;
+      keeps = next_keeps a old s groups M (one_move_of y) step next.goes_on;
+      building = λ l. next.building l ∙ builds_push a.part old s groups step M l;
+      resting = λ l. next.resting l ∙ rests_push a.part old s groups step M l;
+    }
 
--- a step that has no moves, and one that was pushed, extended or popped
+-- a step that was pushed, extended or popped
 
 pub step_push : (a : Meaning) (old : Old) (s : List Layer) (groups : List (List Move)) (M : Move) (y : Layer) →
-    IsStepOf a.part old s groups → IsNext a old s M (Ok y) →
+    IsStepOf a.part old s groups → IsNextLayer a old s M y →
     IsStepOf a.part old (s ++ y ∷ []) (groups ++ (M ∷ []) ∷ [])
 step_push a old s groups M y step next =
-    layers_push a.part old [] groups s (M ∷ []) y step (record {
-      written = written_one a.part (seen_through (frames_of s) old) M y.frame next.0;
-      does = next_does a old s groups M y.one_move step next.1;
-      partials = next_partials a.part old s groups M y.partial_locations.items step next.2;
-    })
+    layers_push a.part old [] groups s (M ∷ []) y step (next_is a old s groups M y step next)
 
-pub step_extend : (a : Meaning) (old : Old) (s : List Layer) (groups : List (List Move)) (M : Move) (x y : Layer)
-    (V : Updates) →
-    IsStepOf a.part old (s ++ x ∷ []) groups →
-    IsNext a old (s ++ x ∷ []) M (Ok (record { frame = V; one_move = y.one_move; partial_locations = y.partial_locations })) →
-    AreMerged x.frame V y.frame →
+pub step_extend : (a : Meaning) (old : Old) (s : List Layer) (groups : List (List Move)) (M : Move) (x y : Layer) →
+    IsStepOf a.part old (s ++ x ∷ []) groups → IsNextLayer a old (s ++ x ∷ []) M y →
     IsStepOf a.part old (s ++ y ∷ []) (extended groups M)
-step_extend a old s groups M x y V step next merged =
+step_extend a old s groups M x y step next =
     let last = group_there a.part old [] groups s x step in
-    let parts = layers_split a.part old [] last.before s last.last x
+    let below = layers_split a.part old [] last.before s last.last x
     (subst (λ gs. IsStepOf a.part old (s ++ x ∷ []) gs) last.parts step) in
-    let seen : seen_through (frames_of (s ++ x ∷ [])) old
-    ≡ seen_through (x.frame ∷ []) (seen_through (frames_of s) old) =
-    ap (λ (Us : Frames). seen_through Us old) (map-append (λ (z : Layer). z.frame) s (x ∷ []))
-    ∙ through_last (frames_of s) x.frame old in
     let all : all_moves groups ++ M ∷ [] ≡ all_moves last.before ++ (last.last ++ M ∷ []) =
     ap (λ gs. all_moves gs ++ M ∷ []) last.parts ∙ ap (λ Ms. Ms ++ M ∷ []) (moves-push last.before last.last)
     ∙ append_assoc (all_moves last.before) last.last (M ∷ []) in
     subst (λ gs. IsStepOf a.part old (s ++ y ∷ []) gs)
     (sym (ap (λ gs. extended gs M) last.parts ∙ extended-push last.before last.last M))
-    (layers_push a.part old [] last.before s (last.last ++ M ∷ []) y parts.0 (record {
-      written = written_more a.part (seen_through (frames_of s) old) last.last M x.frame V y.frame parts.1.written
-          (subst (λ (o : Old). IsUpdateSet a.part o M V) seen next.0) merged;
-      does = subst (λ Ms. DoesAll a.part Ms y.one_move) all (next_does a old (s ++ x ∷ []) groups M y.one_move step next.1);
-      partials = subst (λ Ms. AreEach (all_partial_places Ms) y.partial_locations.items) all
-          (next_partials a.part old (s ++ x ∷ []) groups M y.partial_locations.items step next.2);
-    }))
+    (layers_push a.part old [] last.before s (last.last ++ M ∷ []) y below
+    (subst (λ Ms. IsLayerOf a.part old Ms y) all (next_is a old (s ++ x ∷ []) groups M y step next)))
 
 pub step_pop : (part : Part) (old : Old) (s : List Layer) (groups : List (List Move)) (group : List Move) (y : Layer) →
     IsStepOf part old (s ++ y ∷ []) (groups ++ group ∷ []) → IsStepOf part old s groups
-step_pop part old s groups group y step = (layers_split part old [] groups s group y step).0
+step_pop part old s groups group y step = layers_split part old [] groups s group y step
 
 -- what is answered
 
-pub answered_ok : (a : Meaning) (old : Old) (s new : List Layer) (M : Move) (y : Layer) → IsNext a old s M (Ok y) →
-    one_move new ≡ Some y.one_move → IsAnswer a old s new M (Ok tt)
-answered_ok a old s new M y next is = ((y.frame, next.0), (y.one_move, is, next.1.0))
-
-pub answered_err : (a : Meaning) (old : Old) (s : List Layer) (M : Move) (e : StepError) → IsNext a old s M (Err e) →
-    IsAnswer a old s s M (Err e)
-answered_err a old s M (step_error.Clash clash) (inl least) = inl least
-answered_err a old s M (step_error.Clash clash) (inr refused) = inr (refused.0, refused.1.0)
-answered_err a old s M (step_error.Large l) (inl least) = absurd least
-answered_err a old s M (step_error.Large l) (inr refused) = (refused.0, refused.1.0)
-answered_err a old s M step_error.Many (inl least) = absurd least
-answered_err a old s M step_error.Many (inr refused) = (refused.0, refused.1.0)
-answered_err a old s M step_error.Deep (inl least) = absurd least
-answered_err a old s M step_error.Deep (inr refused) = absurd refused.1.0
-answered_err a old s M step_error.Memory next = tt
+pub answered_ok : (a : Meaning) (old : Old) (s new : List Layer) (M : Move) (y : Layer) → IsNextLayer a old s M y →
+    one_move new ≡ Some (one_move_of y) → IsAnswer a old s new M (Ok tt)
+answered_ok a old s new M y next is = ((next.updates, next.set), (one_move_of y, is, next.goes_on.0))
 
 -- on a state that has what is below, a move that fires is not refused for those before it
 not_refused : (a : Meaning) (old : Old) (s : List Layer) (groups : List (List Move)) (M : Move) (A B : State) →
@@ -144,8 +138,8 @@ not_refused : (a : Meaning) (old : Old) (s : List Layer) (groups : List (List Mo
 not_refused a old [] groups M A B step proper has fires never = never
 not_refused a old (x ∷ s) groups M A B step proper has fires never =
     let top = has_top x s in
-    let D = top.0.one_move in
-    let after = subst (λ (o : Option Layer). NeverFollows a.part (option_map (λ (y : Layer). y.one_move) o) M) top.1 never in
+    let D = one_move_of top.0 in
+    let after = subst (λ (o : Option Layer). NeverFollows a.part (option_map one_move_of o) M) top.1 never in
     let done = (fires_as a.part old (x ∷ s) groups D B step (top_does a.part old (x ∷ s) groups step top.0 top.1) proper
     has).0 in
     let both : sequence a.part B D M ≡ Ok A = ap (λ r. then_fire a.part r M) done ∙ fires in
@@ -199,10 +193,6 @@ extend_first part old s new groups M step none pushed =
     subst (λ gs. IsStepOf part old new (extended gs M)) (sym gone)
     (subst (λ gs. IsStepOf part old new (gs ++ (M ∷ []) ∷ [])) gone pushed)
 
-pub without_layers : (s : List Layer) → top_of s ≡ None → s ≡ []
-without_layers [] none = refl
-without_layers (x ∷ s) none = let top = has_top x s in absurd (cc (none, top.1))
-
 pub not_deep : (r : Result (Unit {0}) StepError) → (r ≡ Err step_error.Deep → ⊥) →
     IfErr r (λ e. e ≡ step_error.Deep → ⊥)
 not_deep (Ok _) other = tt
@@ -214,7 +204,8 @@ pub followed_does : (a : Meaning) (old : Old) (s : List Layer) (groups : List (L
     (r : Result Move StepError) →
     IsComposed a (one_move s) M r → IsStepOf a.part old s groups →
     IfOk r (λ C. DoesAll a.part (all_moves groups ++ M ∷ []) C)
-followed_does a old s groups M (Ok C) composed step = next_does a old s groups M C step composed
+followed_does a old s groups M (Ok C) composed step =
+    next_does a old s groups M C step (first_composed a (one_move s) M C composed) composed.1
 followed_does a old s groups M (Err e) composed step = tt
 
 never_after : (a : Meaning) (old : Old) (s : List Layer) (groups : List (List Move)) (M : Move) (B : State) →
@@ -232,7 +223,7 @@ pub last_on : (a : Meaning) (old : Old) (s : List Layer) (groups : List (List Mo
 last_on a old s groups M B (Ok C) composed step proper has =
     let all = fires_all a.part old s groups B step has in
     does_last a.part (all_moves groups) M C (under B (frames_of s)) B
-    (next_does a old s groups M C step composed) proper all
+    (next_does a old s groups M C step (first_composed a (one_move s) M C composed) composed.1) proper all
 last_on a old s groups M B (Err (step_error.Clash clash)) composed step proper has =
     never_after a old s groups M B step proper has composed.1
 last_on a old s groups M B (Err (step_error.Large l)) composed step proper has =

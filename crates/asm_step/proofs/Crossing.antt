@@ -1,26 +1,38 @@
 -- A step may go to another thread.
 use denote.Param.Send.{IsSend, sendable}
+use denote.Param.SendFields.{declared_send}
 use Rattle.std.proofs.Crossing.{Vec-send}
 use Rattle.std.proofs.MapsCrossing.{BTreeMap-send}
 use Rattle.asm_element.proofs.Crossing.{location_is_sent, value_is_sent}
 use Rattle.asm_update.proofs.Crossing.{instructions_is_sent}
-use Rattle.asm_update.specs.contracts.update_set.UpdateSet as UpdateSet
-use Rattle.asm_update.specs.contracts.update_set.UpdateSet.TheInside as InsideUpdateSet
-use Rattle.asm_step.specs.contracts.layer.Layer as Layer
+use Rattle.asm_update.proofs.Crossing.{action_is_sent}
+use Rattle.asm_step.specs.contracts.layer.OwnLayer as Layer
+use Rattle.asm_step.specs.contracts.outcomes.Outcome as Outcome
+use Rattle.asm_step.specs.contracts.outcomes.Outcome.TheInside as InsideOutcome
+use Rattle.asm_step.specs.contracts.outcomes.Outcomes as Outcomes
+use Rattle.asm_step.specs.contracts.outcomes.Outcomes.TheInside as InsideOutcomes
 use Rattle.asm_step.specs.contracts.step.Step as Step
 use Rattle.asm_step.specs.contracts.step.Step.TheInside as InsideStep
 
-inside_update_set_is_sent : IsSend InsideUpdateSet.the_row
-inside_update_set_is_sent = search (sendable, BTreeMap-send, location_is_sent, value_is_sent) depth 20
+inside_outcome_is_sent : IsSend InsideOutcome.the_row
+inside_outcome_is_sent =
+    declared_send InsideOutcome.the_type
+    (value_is_sent, (search (sendable, Vec-send, action_is_sent) depth 20, (search sendable depth 20, (search sendable depth 20, tt))))
 
-update_set_is_sent : IsSend UpdateSet.the_row
-update_set_is_sent = search (sendable, inside_update_set_is_sent) depth 20
+outcome_is_sent : IsSend Outcome.the_row
+outcome_is_sent = search (sendable, inside_outcome_is_sent) depth 20
+
+inside_outcomes_is_sent : IsSend InsideOutcomes.the_row
+inside_outcomes_is_sent = search (sendable, BTreeMap-send, location_is_sent, outcome_is_sent) depth 20
+
+outcomes_is_sent : IsSend Outcomes.the_row
+outcomes_is_sent = search (sendable, inside_outcomes_is_sent) depth 20
 
 layer_is_sent : IsSend Layer.the_row
-layer_is_sent = search (sendable, Vec-send, update_set_is_sent, instructions_is_sent, location_is_sent) depth 20
+layer_is_sent = search (sendable, outcomes_is_sent, instructions_is_sent) depth 20
 
 inside_step_is_sent : IsSend InsideStep.the_row
-inside_step_is_sent = search (sendable, Vec-send, layer_is_sent, instructions_is_sent) depth 20
+inside_step_is_sent = search (sendable, Vec-send, layer_is_sent) depth 20
 
 pub step_is_sent : IsSend Step.the_row
 step_is_sent = search (sendable, inside_step_is_sent) depth 20

@@ -1,9 +1,8 @@
 -- What is seen through frames, and the states that they leave.
-use Rattle.std.proofs.Common.{◌≡◌, Bool, true, false, cond, List, [], ◌∷◌, ◌++◌, Option, Some, None, unwrap_or, refl, sym, ap, ◌∙◌, subst}
+use Rattle.std.proofs.Common.{◌≡◌, List, [], ◌∷◌, ◌++◌, Option, Some, None, unwrap_or, refl, sym, ap, ◌∙◌, subst}
 use Rattle.std.specs.FinMap as map
 use Rattle.std.specs.Option.{option_or}
-use Rattle.std.specs.Ordering.{eq_by_cmp}
-use Rattle.asm_element.specs.Place.{Place, location_cmp, location_cmp_total, same_location}
+use Rattle.asm_element.specs.Place.{Place}
 use Rattle.asm_element.specs.declared.value.Value.{Value}
 use Rattle.asm_update.specs.Fire.{Part, Old, IsUpdateSet}
 use Rattle.asm_update.specs.Move.{Move}
@@ -11,7 +10,7 @@ use Rattle.asm_update.specs.State.{State, Updates, overwrite}
 use Rattle.asm_update.proofs.FireLemmas.{get-overwrite, same_state, stored_or}
 use Rattle.asm_overlay.specs.Frames.{Frames, under, topmost, seen_through}
 use Rattle.asm_overlay.proofs.FrameLemmas.{topmost-append}
-use Rattle.asm_step.specs.InTurn.{AreUpdateSets, IsWritten}
+use Rattle.asm_step.specs.InTurn.{AreUpdateSets, IsWrittenInTurn}
 use Rattle.asm_step.specs.Next.{AreMerged}
 
 pub option_or-none : (x : Option Value) → option_or x None ≡ x
@@ -34,12 +33,6 @@ stored_or-option_or None y z = refl
 pub through_first : (U : Updates) (Us : Frames) (old : Old) →
     seen_through (U ∷ Us) old ≡ seen_through Us (seen_through (U ∷ []) old)
 through_first U Us old i l = unwrap_or-option_or (topmost Us l) (map.get U l) (old l) i
-
--- or through the others and then through the last
-pub through_last : (Us : Frames) (U : Updates) (old : Old) →
-    seen_through (Us ++ U ∷ []) old ≡ seen_through (U ∷ []) (seen_through Us old)
-through_last Us U old i l =
-    (ap (λ o. unwrap_or o (old l)) (topmost-append Us U l) ∙ unwrap_or-option_or (map.get U l) (topmost Us l) (old l)) i
 
 -- what is seen is the same through frames that show the same
 pub same_seen : (Us Vs : Frames) (old : Old) → ((l : Place) → topmost Us l ≡ topmost Vs l) →
@@ -80,14 +73,9 @@ sets_both part old (M ∷ Ms) Ns (U ∷ Us) Vs h later = (
 sets_both part old [] Ns (U ∷ Us) Vs h later = absurd h
 sets_both part old (M ∷ Ms) Ns [] Vs h later = absurd h
 
--- what one move writes is its update set
-pub written_one : (part : Part) (old : Old) (M : Move) (U : Updates) → IsUpdateSet part old M U →
-    IsWritten part old (M ∷ []) U
-written_one part old M U h = (U ∷ [], (h, tt), (λ l. refl))
-
 -- and with one more move, what was written, merged with the update set of the move
-pub written_more : (part : Part) (old : Old) (Ms : List Move) (M : Move) (U V W : Updates) → IsWritten part old Ms U →
-    IsUpdateSet part (seen_through (U ∷ []) old) M V → AreMerged U V W → IsWritten part old (Ms ++ M ∷ []) W
+pub written_more : (part : Part) (old : Old) (Ms : List Move) (M : Move) (U V W : Updates) → IsWrittenInTurn part old Ms U →
+    IsUpdateSet part (seen_through (U ∷ []) old) M V → AreMerged U V W → IsWrittenInTurn part old (Ms ++ M ∷ []) W
 written_more part old Ms M U V W h updates merged =
     let seen : seen_through (U ∷ []) old ≡ seen_through h.0 old = same_seen (U ∷ []) h.0 old (λ l. h.2 l) in
     let last : AreUpdateSets part (seen_through h.0 old) (M ∷ []) (V ∷ []) =
@@ -96,37 +84,3 @@ written_more part old Ms M U V W h updates merged =
       sets_both part old Ms (M ∷ []) h.0 (V ∷ []) h.1 last,
       (λ l. merged l ∙ ap (option_or (map.get V l)) (h.2 l) ∙ sym (topmost-append h.0 V l)),
     )
-
--- a value that comes in where there is none
-pub filled : (U W : Updates) (l : Place) (v : Value) → W ≡ map.insert U l v → map.get U l ≡ None → (q : Place) →
-    map.get W q ≡ option_or (map.get U q) (cond (eq_by_cmp location_cmp q l) (Some v) None)
-filled U W l v is none q =
-    ap (λ (V : Updates). map.get V q) is ∙ map.get-insert location_cmp_total U l v q ∙ by_test (eq_by_cmp location_cmp q l) refl
-  where
-    by_test : (b : Bool) → eq_by_cmp location_cmp q l ≡ b →
-        cond b (Some v) (map.get U q) ≡ option_or (map.get U q) (cond b (Some v) None)
-    by_test true e = ap (λ o. option_or o (Some v)) (sym (ap (map.get U) (same_location q l e) ∙ none))
-    by_test false e = sym (option_or-none (map.get U q))
-
--- and where there is one, nothing
-pub not_filled : (U : Updates) (l : Place) (v w : Value) → map.get U l ≡ Some w → (q : Place) →
-    map.get U q ≡ option_or (map.get U q) (cond (eq_by_cmp location_cmp q l) (Some v) None)
-not_filled U l v w is q = by_test (eq_by_cmp location_cmp q l) refl where
-  by_test : (b : Bool) → eq_by_cmp location_cmp q l ≡ b → map.get U q ≡ option_or (map.get U q) (cond b (Some v) None)
-  by_test true e =
-      let there = ap (map.get U) (same_location q l e) ∙ is in there ∙ ap (λ o. option_or o (Some v)) (sym there)
-  by_test false e = sym (option_or-none (map.get U q))
-
--- what is left of the updates below goes on coming in
-pub filled_more : (U W : Updates) (k : Place) (v : Value) (rest : List (Place × Value)) →
-    ((q : Place) → map.get W q ≡ option_or (map.get U q) (cond (eq_by_cmp location_cmp q k) (Some v) None)) →
-    (q : Place) → option_or (map.get W q) (map.find location_cmp q rest)
-    ≡ option_or (map.get U q) (map.find location_cmp q ((k, v) ∷ rest))
-filled_more U W k v rest fills q =
-    ap (λ o. option_or o (map.find location_cmp q rest)) (fills q)
-    ∙ option_or-assoc (map.get U q) (cond (eq_by_cmp location_cmp q k) (Some v) None) (map.find location_cmp q rest)
-    ∙ ap (option_or (map.get U q)) (by_test (eq_by_cmp location_cmp q k)) where
-      by_test : (b : Bool) → option_or (cond b (Some v) None) (map.find location_cmp q rest)
-          ≡ cond b (Some v) (map.find location_cmp q rest)
-      by_test true = refl
-      by_test false = refl

@@ -34,8 +34,8 @@ AreUpdateSets part old (M ∷ Ms) (U ∷ Us) =
 AreUpdateSets part old _ _ = ⊥
 
 -- the updates are what the moves write in turn: at each location the value of the last of their update sets that has it
-abbrev pub IsWritten : Part → Old → List Move → Updates → Type 0
-IsWritten part old Ms U = (Us : Frames) × AreUpdateSets part old Ms Us × ((l : Place) → map.get U l ≡ topmost Us l)
+abbrev pub IsWrittenInTurn : Part → Old → List Move → Updates → Type 0
+IsWrittenInTurn part old Ms U = (Us : Frames) × AreUpdateSets part old Ms Us × ((l : Place) → map.get U l ≡ topmost Us l)
 
 -- the state has what is looked up, at each location of a partial update of the moves
 abbrev pub Agrees : State → Old → List Move → Type 0

@@ -1,17 +1,41 @@
 -- What contracts see of a step, and of which moves it is one.
-use Rattle.std.specs.Prelude.{List, [], ◌∷◌, ◌++◌, Option, None, Some, map}
+use Rattle.std.specs.Prelude.{◌≡◌, ◌≤◌, ℕ, Bool, List, [], ◌∷◌, ◌++◌, length, Option, None, Some, unwrap_or, refl}
+use Rattle.std.specs.Coded.{Coded, code_by, coded×, coded_ℕ, coded_option}
+use Rattle.std.specs.FinMap as finite
 use Rattle.std.specs.Option.{option_map, option_map_or}
 use Rattle.asm_element.specs.Place.{Place}
 use Rattle.asm_update.specs.Fire.{Part, Old}
-use Rattle.asm_update.specs.Move.{Move}
-use Rattle.asm_overlay.specs.Frames.{Frames, seen_through}
-use Rattle.asm_step.specs.InTurn.{DoesAll, IsWritten}
-use Rattle.asm_step.specs.Places.{all_partial_places, AreEach}
-use Rattle.asm_step.specs.declared.layer.Layer.{Layer}
+use Rattle.asm_update.specs.Limits.{instructions_limit}
+use Rattle.asm_update.specs.Move.{Move, actions_at}
+use Rattle.asm_overlay.specs.Frames.{Frames}
+use Rattle.asm_step.specs.Column.{DoesEach}
+use Rattle.asm_step.specs.InTurn.{DoesAll, IsWrittenInTurn}
+use Rattle.asm_step.specs.Outcomes.{Outcomes, actions_in, builds_at, frame, laid, listed, resting_in, rests_at, sees_at}
+use Rattle.asm_step.specs.Resting.{builds, rests, KeepsGroups}
+use Rattle.asm_step.specs.declared.layer.OwnLayer.{OwnLayer}
 
--- the update sets of the layers, the oldest first
-abbrev pub frames_of : List Layer → Frames
-frames_of s = map (λ y. y.frame) s
+-- what all moves up to a layer come to at each location that one of them writes; the move, where it is one alone; and how
+-- many instructions the outcomes have
+pub record Layer : Type 0 where
+  pub outcomes : Outcomes
+  pub alone : Option Move
+  pub count : ℕ
+
+-- it is stored as a tuple
+abbrev pub layer_code : Coded Outcomes → Coded Move → Coded Layer
+layer_code os m =
+    code_by (Outcomes × (Option Move × ℕ)) (coded× os (coded× (coded_option m) coded_ℕ))
+    (λ y. (y.outcomes, (y.alone, y.count)))
+    (λ p. record { outcomes = p.0; alone = p.1.0; count = p.1.1 }) (λ _. refl)
+
+-- a layer over what is below it, of which its own outcomes are kept
+abbrev pub laid_on : Outcomes → OwnLayer → Layer
+laid_on below y = record { outcomes = laid below y.own; alone = y.alone; count = y.count }
+
+-- the layers, each over those below it
+abbrev pub layers_on : Outcomes → List OwnLayer → List Layer
+layers_on below [] = []
+layers_on below (y ∷ s) = laid_on below y ∷ layers_on (laid below y.own) s
 
 -- the topmost layer, if there is one
 abbrev pub top_of : List Layer → Option Layer
@@ -19,31 +43,57 @@ top_of [] = None
 top_of (y ∷ []) = Some y
 top_of (y ∷ z ∷ s) = top_of (z ∷ s)
 
+-- what all moves of a step come to
+abbrev pub outcomes_of : List Layer → Outcomes
+outcomes_of s = option_map_or (λ y. y.outcomes) (top_of s) finite.empty
+
+-- what the moves of a step write, as one frame; without moves there is none
+abbrev pub frames_of : List Layer → Frames
+frames_of s = option_map_or (λ y. frame y.outcomes ∷ []) (top_of s) []
+
+-- the one move of all moves up to a layer: one alone is as it is
+abbrev pub one_move_of : Layer → Move
+one_move_of y = unwrap_or y.alone (listed y.outcomes)
+
 -- the one move of a step that has moves
 abbrev pub one_move : List Layer → Option Move
-one_move s = option_map (λ y. y.one_move) (top_of s)
+one_move s = option_map one_move_of (top_of s)
 
--- where the moves of a step have partial updates
-abbrev pub partial_places_of : List Layer → List Place
-partial_places_of s = option_map_or (λ y. y.partial_locations.items) (top_of s) []
+-- where the moves of a step rest on what is below
+abbrev pub resting_of : List Layer → List Place
+resting_of s = option_map_or (λ y. resting_in y.outcomes) (top_of s) []
+
+-- whether what is seen at the location through the layers is made from what is below: none writes there, or they build on it
+abbrev pub shows_below : List Layer → Place → Bool
+shows_below s l = sees_at (outcomes_of s) l
+
+-- how many instructions a layer has, at most 4,096; and a move alone does what the outcomes say
+pub record IsSound (y : Layer) : Type 0 where
+  pub count : y.count ≡ length (listed y.outcomes)
+  pub few : y.count ≤ instructions_limit
+  pub alone : (M : Move) → y.alone ≡ Some M → (l : Place) → actions_at M l ≡ actions_in y.outcomes l
 
 -- all moves of the groups, in turn
 abbrev pub all_moves : List (List Move) → List Move
 all_moves [] = []
 all_moves (group ∷ groups) = group ++ all_moves groups
 
--- a layer of a group of moves, after those before it: what the group writes in turn, the one move that does what all of
--- them do, and where they have partial updates
-pub record IsLayerOf (part : Part) (old : Old) (before group : List Move) (y : Layer) : Type 0 where
-  pub written : IsWritten part old group y.frame
-  pub does : DoesAll part (before ++ group) y.one_move
-  pub partials : AreEach (all_partial_places (before ++ group)) y.partial_locations.items
+-- what all moves up to a layer come to: what they write in turn; the one move, which does what they do, on states and
+-- location by location, and keeps the group of a location that one of them alone writes; where they build on what is below,
+-- and where they rest on it
+pub record IsLayerOf (part : Part) (old : Old) (Ms : List Move) (y : Layer) : Type 0 where
+  pub written : IsWrittenInTurn part old Ms (frame y.outcomes)
+  pub does : DoesAll part Ms (one_move_of y)
+  pub each : DoesEach part Ms (one_move_of y)
+  pub keeps : KeepsGroups Ms (one_move_of y)
+  pub building : (l : Place) → builds_at y.outcomes l ≡ builds Ms l
+  pub resting : (l : Place) → rests_at y.outcomes l ≡ rests Ms l
 
--- each group of moves has its layer, on what is seen through those before it
+-- each group of moves has its layer, which is of all moves up to there
 abbrev pub AreLayers : Part → Old → List Move → List (List Move) → List Layer → Type 0
 AreLayers part old before [] [] = Unit {0}
 AreLayers part old before (group ∷ groups) (y ∷ s) =
-    IsLayerOf part old before group y × AreLayers part (seen_through (y.frame ∷ []) old) (before ++ group) groups s
+    IsLayerOf part old (before ++ group) y × AreLayers part old (before ++ group) groups s
 AreLayers part old before _ _ = ⊥
 
 -- the step is of these groups of moves, over what is looked up below it: each is a pushed move with those that extend it

@@ -1,6 +1,10 @@
 pub mod Answer
+pub mod Column
+pub mod Continued
 pub mod InTurn
 pub mod Layers
 pub mod Next
+pub mod Outcomes
 pub mod Places
+pub mod Resting
 pub mod Scan

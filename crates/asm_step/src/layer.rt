@@ -1,27 +1,42 @@
-//! What a group of moves comes to.
-ghost use Rattle.std.specs.Prelude.{◌≡◌, if◌then◌else◌, Some, None, IfOk, OnOk};
+//! What a layer keeps, and how its parts are made.
+ghost use Rattle.std.specs.Prelude.{◌≡◌, Some, None, IfOk, OnErr, OnOk};
 ghost use Rattle.std.specs.FinMap as map;
-ghost use Rattle.std.specs.Ordering.{eq_by_cmp};
-ghost use Rattle.asm_element.specs.Place.{Place, location_cmp};
+ghost use Rattle.asm_element.specs.Place.{Place};
 ghost use Rattle.asm_update.specs.Aggregator.{Meaning};
 ghost use Rattle.std.specs.Option.{option_copied, option_or};
-ghost use Rattle.asm_step.specs.Next.{AreMerged, IsComposed, IsFrame};
+ghost use Rattle.asm_step.specs.Next.{IsComposed, IsFrame};
 
 use crate::error::StepError;
+use crate::outcomes::Outcomes;
 use asm_aggregate::{ComposeError, aggregate, compose};
-use asm_element::{Location, Value};
 use asm_update::{AggError, Aggregator, Instructions, Lookup, UpdateSet};
 use std::alloc::{AllocError, Global};
 
-/// What a pushed move and those that extend it come to.
+/// What a pushed move and those that extend it write.
 #[derive(Drop)]
-pub(crate) struct Layer {
-    /// What they write in turn.
-    pub(crate) frame: UpdateSet,
-    /// The one move that does what all moves of the step up to here do.
-    pub(crate) one_move: Instructions,
-    /// Where these have partial updates, each location once, in ascending order.
-    pub(crate) partial_locations: Vec<Location>,
+pub(crate) struct OwnLayer {
+    /// What all moves of the step up to here come to, where these write.
+    pub(crate) own: Outcomes,
+    /// The step's one move, if it is one that was pushed alone.
+    pub(crate) alone: Option<Instructions>,
+    /// How many instructions all moves up to here come to.
+    pub(crate) count: usize,
+}
+
+impl OwnLayer {
+    /// Takes in the layer of a move that extends this one. After an error nothing is changed.
+    pub(crate) fn extend(&mut self, alloc: Global, next: OwnLayer) -> Result<(), AllocError>
+        ensures own { OnOk result ((q : Place) →
+            map.get self.new.own q ≡ option_or (map.get next.own q) (map.get self.old.own q)) }
+        ensures alone { OnOk result (self.new.alone ≡ next.alone) }
+        ensures count { OnOk result (self.new.count ≡ next.count) }
+        ensures err { OnErr result (self.new ≡ self.old) }
+    {
+        self.own.take_in(alloc, next.own)?;
+        self.alone = next.alone;
+        self.count = next.count;
+        Ok(())
+    }
 }
 
 /// The update set of the instructions on what is seen.
@@ -68,48 +83,4 @@ pub(crate) fn move_after<A: Aggregator>(
         Err(ComposeError::ManyInstructions) => Err(StepError::Many),
         Err(ComposeError::Memory) => Err(StepError::Memory),
     }
-}
-
-/// Writes a copy of the value at the location.
-fn put_copy(
-    alloc: Global,
-    updates: &mut UpdateSet,
-    at: &Location,
-    value: &Value,
-) -> Result<(), AllocError>
-    ensures { OnOk result (updates.new ≡ map.insert updates.old at.now value.now) }
-{
-    let at = at.copy(alloc)?;
-    updates.put(at, value.copy(alloc)?)
-}
-
-/// The same, if the updates have no value there.
-fn fill(
-    alloc: Global,
-    updates: &mut UpdateSet,
-    at: &Location,
-    value: &Value,
-) -> Result<(), AllocError>
-    ensures { OnOk result ((q : Place) → map.get updates.new q
-        ≡ option_or (map.get updates.old q) (if eq_by_cmp location_cmp q at.now then Some value.now else None)) }
-{
-    match updates.get(at) {
-        Some(_) => Ok(()),
-        None => put_copy(alloc, updates, at, value),
-    }
-}
-
-/// The updates above, and at the other locations those below.
-pub(crate) fn merged(
-    alloc: Global,
-    below: &UpdateSet,
-    above: UpdateSet,
-) -> Result<UpdateSet, AllocError>
-    ensures { IfOk result (λ U. AreMerged below.now above U) }
-{
-    let mut merged = above;
-    for (at, value) in below.iter() {
-        fill(alloc, &mut merged, at, value)?;
-    }
-    Ok(merged)
 }

@@ -7,8 +7,10 @@
 
 mod error;
 mod layer;
+mod listing;
+mod next;
+mod outcomes;
 mod over;
-mod places;
 mod scan;
 mod step;
 

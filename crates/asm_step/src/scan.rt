@@ -4,11 +4,13 @@ ghost use Rattle.std.specs.Cmp.Lexicographic.{pointwise};
 ghost use Rattle.asm_element.specs.Place.{Place};
 ghost use Rattle.asm_update.specs.State.{val, write};
 ghost use Rattle.asm_step.specs.Layers.{frames_of};
+ghost use Rattle.asm_step.specs.Outcomes.{frame};
 ghost use Rattle.asm_step.specs.Scan.{scanned};
 
+use crate::outcomes::Outcomes;
 use crate::step::Step;
 use asm_element::{Location, Value};
-use asm_update::{PlainState, UpdateSet};
+use asm_update::PlainState;
 use std::alloc::{AllocError, Global};
 
 // Gives the location a copy of the value, if it has the name; undef takes it out.
@@ -29,17 +31,18 @@ fn put_named(
     plain.set(at, value.copy(alloc)?)
 }
 
-// Writes the frame's values at the locations with the name.
-fn put_frame(
+// Writes the outcomes' values at the locations with the name.
+fn put_values(
     alloc: Global,
     plain: &mut PlainState,
     name: &str,
-    frame: &UpdateSet,
+    outcomes: &Outcomes,
 ) -> Result<(), AllocError>
-    ensures { OnOk result ((l : Place) → val plain.new l ≡ scanned (frame.now ∷ []) (val plain.old) name.now l) }
+    ensures { OnOk result ((l : Place) →
+        val plain.new l ≡ scanned (frame outcomes.now ∷ []) (val plain.old) name.now l) }
 {
-    for (at, value) in frame.iter() {
-        put_named(alloc, plain, name, at, value)?;
+    for (at, outcome) in outcomes.iter() {
+        put_named(alloc, plain, name, at, outcome.value())?;
     }
     Ok(())
 }
@@ -61,7 +64,7 @@ impl Step {
     {
         let mut plain = below;
         for layer in &self.layers {
-            put_frame(alloc, &mut plain, name, &layer.frame)?;
+            put_values(alloc, &mut plain, name, &layer.own)?;
         }
         Ok(plain)
     }

@@ -1,28 +1,33 @@
 ghost use Rattle.std.specs.Prelude.{◌≡◌, ◌≢◌, ◌↔◌, ◌++◌, ◌∷◌, ◌≤◌, [], List, length, unwrap_or};
-ghost use Rattle.std.specs.Prelude.{OnOk, OnErr, IfOk, IfErr, IsErrOf, IsNone, Ok};
+ghost use Rattle.std.specs.Prelude.{OnOk, OnErr, IfOk, IfErr, IsErrOf, IsNone, Ok, Err};
 ghost use Rattle.std.specs.Bool.{OnTrue, OnFalse};
-ghost use Rattle.std.specs.Option.{option_copied};
+ghost use Rattle.std.specs.FinMap as finite;
+ghost use Rattle.std.specs.Option.{option_copied, option_map};
 ghost use Rattle.asm_element.specs.Value.{undef};
+ghost use Rattle.asm_update.specs.Aggregator.{AggregatorLaws, Meaning};
 ghost use Rattle.asm_update.specs.Fire.{Part, Old, fire};
+ghost use Rattle.asm_update.specs.declared.clash.Clash.{Clash};
 ghost use Rattle.asm_update.specs.Move.{Move};
 ghost use Rattle.asm_update.specs.State.{State, IsProper, val};
 ghost use Rattle.asm_overlay.specs.Frames.{under, seen_through, topmost};
 ghost use Rattle.asm_overlay.specs.Limits.{frames_limit};
 ghost use Rattle.asm_step.specs.Answer.{IsAnswer, IsAnswerOn, IsFollowedBy, IsLastOn};
+ghost use Rattle.asm_step.specs.Column.{IsClashOfOne};
 ghost use Rattle.asm_step.specs.InTurn.{fire_all, all_but_last, Agrees, DoesAll};
-ghost use Rattle.asm_step.specs.Layers.{frames_of, top_of, one_move, all_moves, partial_places_of, extended, IsStepOf};
-ghost use Rattle.asm_step.specs.Next.{IsNext};
-ghost use Rattle.asm_step.specs.Places.{all_partial_places, AreEach};
-ghost use Rattle.asm_step.specs.declared.layer.Layer.{Layer};
+ghost use Rattle.asm_step.specs.Layers.{Layer, frames_of, outcomes_of, one_move, all_moves, resting_of, shows_below};
+ghost use Rattle.asm_step.specs.Layers.{extended, laid_on, top_of, IsSound, IsStepOf};
+ghost use Rattle.asm_step.specs.Next.{alone_of};
+ghost use Rattle.asm_step.specs.Resting.{left_by, rests, sees_below, AgreesAtRests, AgreesIfSeen, AreThose};
 
 use crate::error::StepError;
-use crate::layer::{Layer, frame_on, merged, move_after};
+use crate::layer::{OwnLayer, move_after};
+use crate::listing::{listing, resting_places};
+use crate::outcomes::{Outcome, Outcomes};
 use crate::over::OverStep;
-use crate::places::with_partials;
 use asm_element::{Location, Value};
 use asm_overlay::FRAMES_LIMIT;
 use asm_update::{Aggregator, Instructions, Lookup};
-use std::alloc::Global;
+use std::alloc::{AllocError, Global};
 use std::marker::Model;
 
 /// At most 64 pushed moves, each with any number of moves that extend it.
@@ -32,25 +37,26 @@ use std::marker::Model;
 /// `IsStepOf` tells of which moves it is a step, over what is looked up below it.
 #[derive(Drop)]
 pub struct Step {
-    pub(crate) layers: Vec<Layer>,
-    // The one move of a step without moves.
-    none: Instructions,
+    pub(crate) layers: Vec<OwnLayer>,
 }
 
 impl Model for Step {
-    ghost use Rattle.std.specs.Prelude.{◌≡◌, ◌≤◌, [], List, length};
+    ghost use Rattle.std.specs.Prelude.{◌≤◌, All, List, length};
     ghost use Rattle.std.specs.Coded.{coded_list};
+    ghost use Rattle.std.specs.FinMap as finite;
     ghost use Rattle.asm_overlay.specs.Limits.{frames_limit};
-    ghost use Rattle.asm_step.specs.declared.layer.Layer.{Layer};
-    ghost use Rattle.asm_step.specs.contracts.layer.Layer.{the_row as layer_row};
+    ghost use Rattle.asm_step.specs.Layers.{Layer, IsSound, layer_code, layers_on};
+    ghost use Rattle.asm_step.specs.contracts.outcomes.Outcomes.{the_row as outcomes_row};
+    ghost use Rattle.asm_update.specs.contracts.instructions.Instructions.{the_row as move_row};
 
     ghost Value = { List Layer };
 
-    ghost coded = { coded_list layer_row.coded };
+    ghost coded = { coded_list (layer_code outcomes_row.coded move_row.coded) };
 
-    ghost view = { λ s. s.layers.items };
+    ghost view = { λ s. layers_on finite.empty s.layers.items };
 
-    ghost invariant = { λ s. (length s.layers.items ≤ frames_limit) × (s.none ≡ []) };
+    ghost invariant = { λ s. (length s.layers.items ≤ frames_limit)
+        × All IsSound (layers_on finite.empty s.layers.items) };
 }
 
 impl Step {
@@ -61,7 +67,6 @@ impl Step {
     {
         Step {
             layers: Vec::new(alloc),
-            none: Instructions::new(alloc),
         }
     }
 
@@ -74,54 +79,30 @@ impl Step {
     }
 
     // The topmost layer, if there is one.
-    fn top(&self) -> Option<&Layer>
-        ensures { option_copied result ≡ top_of self.now }
+    pub(crate) fn top(&self) -> Option<&OwnLayer>
+        ensures alone { option_map (λ y. y.alone) (option_copied result) ≡ option_map (λ y. y.alone) (top_of self.now) }
+        ensures count { option_map (λ y. y.count) (option_copied result) ≡ option_map (λ y. y.count) (top_of self.now) }
     {
         self.layers.as_slice().last()
     }
 
-    // The one move of the step, if it has moves.
-    fn earlier(&self) -> Option<&Instructions>
-        ensures { option_copied result ≡ one_move self.now }
-    {
-        match self.top() {
-            Some(top) => Some(&top.one_move),
-            None => None,
-        }
-    }
-
-    // The layer of a move that is next.
-    fn next_layer<A: Aggregator, L: Lookup>(
-        &self,
-        alloc: Global,
-        aggregator: &A,
-        below: &L,
-        instructions: &Instructions,
-    ) -> Result<Layer, StepError>
-        ensures { IsNext (A.meaning aggregator.now) (L.value_at below.now) self.now instructions.now result }
-    {
-        let frame = frame_on(alloc, aggregator, &self.over(below), instructions)?;
-        let one_move = move_after(alloc, aggregator, self.earlier(), instructions)?;
-        let earlier = self.partial_locations();
-        let partial_locations = with_partials(alloc, earlier, instructions.as_slice())?;
-        Ok(Layer {
-            frame,
-            one_move,
-            partial_locations,
-        })
-    }
-
-    // Puts a layer in the place of the topmost one.
-    fn put_on_top(&mut self, layer: Layer)
-        requires { self.old ≢ [] }
-        ensures { self.new ≡ all_but_last self.old ++ layer ∷ [] }
+    // Lets the topmost layer take in the layer of a move that extends it. After an error nothing is changed.
+    fn extend_top(&mut self, alloc: Global, next: OwnLayer) -> Result<(), AllocError>
+        requires some { self.old ≢ [] }
+        requires sound { IsSound (laid_on (outcomes_of self.old) next) }
+        ensures ok { OnOk result (self.new ≡ all_but_last self.old ++ laid_on (outcomes_of self.old) next ∷ []) }
+        ensures err { OnErr result (self.new ≡ self.old) }
     {
         let last = self.layers.len() - 1;
-        self.layers[last] = layer;
+        self.layers[last].extend(alloc, next)?;
+        Ok(())
     }
 
-    /// Pushes a move: its instructions are aggregated on what is seen through the step's moves, and the one
-    /// move is what that and this compose to.
+    /// Pushes a move: its instructions are aggregated on what is seen through the step's moves, and the one move goes
+    /// on with it. At a location that both write the two are composed; elsewhere each stays as it is. The step's first
+    /// move is its one move, as it was pushed.
+    ///
+    /// It costs by its own instructions: of what was pushed before, the layers are asked at its locations alone.
     ///
     /// `Deep` comes exactly where 64 are pushed, before anything else; `Clash` where the move clashes there,
     /// `Many` where the one move would have more than 4,096 instructions, and `Memory` only where memory was
@@ -147,7 +128,7 @@ impl Step {
         ensures err { OnErr result (self.new ≡ self.old) }
         ensures deep { IsErrOf result StepError.Deep ↔ (length self.old ≡ frames_limit) }
     {
-        if self.layers.len() >= FRAMES_LIMIT {
+        if self.depth() >= FRAMES_LIMIT {
             return Err(StepError::Deep);
         }
         let layer = self.next_layer(alloc, aggregator, below, instructions)?;
@@ -155,10 +136,11 @@ impl Step {
         Ok(())
     }
 
-    /// Extends the move that was pushed last: what the instructions write goes into its frame, and the step is
+    /// Extends the move that was pushed last: what the instructions write goes into its layer, and the step is
     /// no deeper. A step without moves has one after it, as after a push.
     ///
-    /// The errors come where a push would answer them, but never `Deep`. After an error nothing is changed.
+    /// It costs by its own instructions, as a push does. The errors come where a push would answer them, but never
+    /// `Deep`. After an error nothing is changed.
     pub fn extend<A: Aggregator, L: Lookup>(
         &mut self,
         alloc: Global,
@@ -180,20 +162,16 @@ impl Step {
         ensures err { OnErr result (self.new ≡ self.old) }
         ensures deep { IfErr result (λ e. ¬ (e ≡ StepError.Deep)) }
     {
-        let Some(top) = self.top() else {
+        if self.top().is_none() {
             return self.push(alloc, aggregator, below, instructions);
-        };
+        }
         let next = self.next_layer(alloc, aggregator, below, instructions)?;
-        let frame = merged(alloc, &top.frame, next.frame)?;
-        self.put_on_top(Layer {
-            frame,
-            one_move: next.one_move,
-            partial_locations: next.partial_locations,
-        });
+        self.extend_top(alloc, next)?;
         Ok(())
     }
 
-    /// Takes the move that was pushed last away, with those that extend it; false where there is none.
+    /// Takes the move that was pushed last away, with those that extend it; false where there is none. It takes no
+    /// memory, and what was seen before that push is seen again.
     pub fn pop(&mut self) -> bool
         ensures less { OnTrue result ((y : Layer) × (self.old ≡ self.new ++ y ∷ [])) }
         ensures none { OnFalse result ((self.old ≡ []) × (self.new ≡ [])) }
@@ -206,19 +184,29 @@ impl Step {
         true
     }
 
-    // The value of the topmost frame that has the location.
-    fn held(&self, at: &Location) -> Option<&Value>
-        ensures { option_copied result ≡ topmost (frames_of self.now) at.now }
+    // What the step's moves come to at the location: the topmost layer that has it tells.
+    pub(crate) fn held(&self, at: &Location) -> Option<&Outcome>
+        ensures { option_copied result ≡ finite.get (outcomes_of self.now) at.now }
     {
         for layer in self.layers.iter().rev() {
-            if let Some(value) = layer.frame.get(at) {
-                return Some(value);
+            if let Some(outcome) = layer.own.get(at) {
+                return Some(outcome);
             }
         }
         None
     }
 
-    /// The value that the step's moves leave at the location; None exactly where it is undef.
+    // The value that the step's moves write at the location, if one writes it.
+    fn written(&self, at: &Location) -> Option<&Value>
+        ensures { option_copied result ≡ topmost (frames_of self.now) at.now }
+    {
+        match self.held(at) {
+            Some(outcome) => Some(outcome.value()),
+            None => None,
+        }
+    }
+
+    /// The value that the step's moves leave at the location, or else the one below; None exactly where it is undef.
     pub fn get<'a, L: Lookup>(&'a self, below: &'a L, at: &Location) -> Option<&'a Value>
         ensures value { unwrap_or (option_copied result) undef
             ≡ seen_through (frames_of self.now) (L.value_at below.now) at.now }
@@ -228,8 +216,16 @@ impl Step {
         // Over a state: the value in the state that is overwritten by each frame in turn.
         ensures overwritten { (A : State) → val A at.now ≡ L.value_at below.now at.now →
             unwrap_or (option_copied result) undef ≡ val (under A (frames_of self.now)) at.now }
+
+        // Where all moves fire in turn on a state that has the value below, if what is seen is made from that: the value
+        // that they leave there.
+        ensures stands { (a : Meaning) (groups : List (List Move)) (B D : State) →
+            AggregatorLaws a → IsStepOf a.part (L.value_at below.now) self.now groups →
+            AgreesIfSeen B (L.value_at below.now) (all_moves groups) at.now →
+            fire_all a.part (Ok B) (all_moves groups) ≡ Ok D →
+            unwrap_or (option_copied result) undef ≡ val D at.now }
     {
-        match self.held(at) {
+        match self.written(at) {
             Some(value) if value.is_undef() => None,
             Some(value) => Some(value),
             None => below.get(at),
@@ -243,25 +239,67 @@ impl Step {
         OverStep::new(self, below)
     }
 
-    /// The one move that does what the step's moves do in turn; without moves it has no instructions.
-    ///
-    /// On a state on which all but the last of the moves fire in turn, it does what they do, clashes of the last
-    /// included. On one that has what is below at each of the `partial_locations`, all of them fire, and it leaves
-    /// what is seen through the step. Elsewhere it may fire where an earlier move clashes, so name these locations
-    /// where it is fired.
-    pub fn as_move(&self) -> &Instructions
-        ensures all { (part : Part) (old : Old) (groups : List (List Move)) →
-            IsStepOf part old self.now groups → DoesAll part (all_moves groups) result.now }
-        ensures fires { (part : Part) (old : Old) (groups : List (List Move)) (B : State) →
-            IsStepOf part old self.now groups → IsProper B → Agrees B old (all_moves groups) →
-            (fire part B result.now ≡ Ok (under B (frames_of self.now)))
-            × (fire_all part (Ok B) (all_moves groups) ≡ Ok (under B (frames_of self.now))) }
-        ensures one { result.now ≡ unwrap_or (one_move self.now) [] }
+    // What all moves come to, copied.
+    fn outcomes(&self, alloc: Global) -> Result<Outcomes, AllocError>
+        ensures { IfOk result (λ all. all ≡ outcomes_of self.now) }
+    {
+        let mut all = Outcomes::new(alloc);
+        for layer in &self.layers {
+            all.take_copies(alloc, &layer.own)?;
+        }
+        Ok(all)
+    }
+
+    // The move, if it is one that was pushed alone.
+    fn alone_move(&self) -> Option<&Instructions>
+        ensures { option_copied result ≡ alone_of self.now }
     {
         match self.top() {
-            Some(top) => &top.one_move,
-            None => &self.none,
+            Some(top) => top.alone.as_ref(),
+            None => None,
         }
+    }
+
+    // The one move.
+    fn one(&self, alloc: Global) -> Result<Instructions, AllocError>
+        ensures { IfOk result (λ one. one ≡ unwrap_or (one_move self.now) []) }
+    {
+        // That there are at most 4,096 is what a listing asks.
+        let _few = self.count();
+        match self.alone_move() {
+            Some(alone) => alone.copy(alloc),
+            None => listing(alloc, &self.outcomes(alloc)?),
+        }
+    }
+
+    /// The one move that does what the step's moves do in turn; without moves it has no instructions.
+    ///
+    /// A move that was pushed alone is as it was. Else the instructions are listed by location, in ascending order: at
+    /// each location, what the first move that writes there does, and what the next ones compose it to. `AllocError`
+    /// comes only where memory was refused.
+    ///
+    /// On a state on which all but the last of the moves fire in turn, it does what they do, clashes of the last
+    /// included. On one that has what is below at each of the `resting_locations`, it fires exactly where all of them
+    /// fire in turn, and leaves what they leave. Elsewhere it may fire where an earlier move clashes, so name these
+    /// locations where it is fired.
+    pub fn as_move(&self, alloc: Global) -> Result<Instructions, AllocError>
+        ensures all { (part : Part) (old : Old) (groups : List (List Move)) →
+            IsStepOf part old self.now groups → IfOk result (DoesAll part (all_moves groups)) }
+        ensures fires { (part : Part) (old : Old) (groups : List (List Move)) (B : State) →
+            IsStepOf part old self.now groups → IsProper B → Agrees B old (all_moves groups) →
+            IfOk result (λ one. (fire part B one ≡ Ok (under B (frames_of self.now)))
+            × (fire_all part (Ok B) (all_moves groups) ≡ Ok (under B (frames_of self.now)))) }
+        ensures one { IfOk result (λ one. one ≡ unwrap_or (one_move self.now) []) }
+        ensures stands { (a : Meaning) (old : Old) (groups : List (List Move)) (B : State) →
+            AggregatorLaws a → IsStepOf a.part old self.now groups → IsProper B →
+            AgreesAtRests B old (all_moves groups) →
+            IfOk result (λ one. left_by (fire a.part B one) ≡ left_by (fire_all a.part (Ok B) (all_moves groups))) }
+        ensures clash { (a : Meaning) (old : Old) (groups : List (List Move)) (B : State) (c : Clash) →
+            AggregatorLaws a → IsStepOf a.part old self.now groups → IsProper B →
+            AgreesAtRests B old (all_moves groups) →
+            IfOk result (λ one. fire a.part B one ≡ Err c → IsClashOfOne a.part B (all_moves groups) c) }
+    {
+        self.one(alloc)
     }
 
     /// The one move that does what the step's moves and then this one do. The step stays as it was, and the move
@@ -284,22 +322,38 @@ impl Step {
             IsProper B → Agrees B old (all_moves groups) →
             IsLastOn (A.meaning aggregator.now).part B self.now instructions.now result }
     {
-        move_after(alloc, aggregator, self.earlier(), instructions)
+        if self.top().is_none() {
+            return move_after(alloc, aggregator, None, instructions);
+        }
+        let earlier = self.as_move(alloc)?;
+        move_after(alloc, aggregator, Some(&earlier), instructions)
     }
 
-    /// The locations of partial updates of the step's moves, each once, in ascending order; those of moves
-    /// that were popped aren't among them.
+    /// The locations on whose values below the one move rests, each once, in ascending order: where the first of the
+    /// moves that writes has partial updates alone, and a later one writes too. Moves that were popped don't count.
+    /// `AllocError` comes only where memory was refused.
     ///
-    /// What the one move leaves rests on their values below, besides what was read.
-    pub fn partial_locations(&self) -> &[Location]
-        ensures each { (part : Part) (old : Old) (groups : List (List Move)) →
-            IsStepOf part old self.now groups →
-            AreEach (all_partial_places (all_moves groups)) result.now }
-        ensures kept { result.now ≡ partial_places_of self.now }
+    /// Where one move alone writes, by partial updates, nothing has to be named: the one move has these too, and fires or
+    /// clashes there as that move does.
+    pub fn resting_locations(&self, alloc: Global) -> Result<Vec<Location>, AllocError>
+        ensures those { (part : Part) (old : Old) (groups : List (List Move)) →
+            IsStepOf part old self.now groups → IfOk result (λ ls. AreThose (rests (all_moves groups)) ls.items) }
+        ensures kept { IfOk result (λ ls. ls.items ≡ resting_of self.now) }
     {
-        match self.top() {
-            Some(top) => top.partial_locations.as_slice(),
-            None => &[],
+        let all = self.outcomes(alloc)?;
+        resting_places(alloc, &all)
+    }
+
+    /// Whether what is seen at the location is made from the value below it, which has then to be named: no move writes
+    /// there, or the first that does has partial updates alone.
+    pub fn sees_below(&self, at: &Location) -> bool
+        ensures sees { (part : Part) (old : Old) (groups : List (List Move)) →
+            IsStepOf part old self.now groups → result ≡ sees_below (all_moves groups) at.now }
+        ensures shows { result ≡ shows_below self.now at.now }
+    {
+        match self.held(at) {
+            Some(outcome) => outcome.builds(),
+            None => true,
         }
     }
 }

@@ -1,7 +1,7 @@
 //! What is done with a step, and what comes of it, as rows of a table.
 use crate::plain_data::{Line, NAMES, is_same, move_of, opening, updates_on, write};
 use asm_aggregate::standard;
-use asm_element::Value;
+use asm_element::{Location, Value};
 use asm_step::{Step, StepError};
 use asm_test_support::{location, number};
 use asm_update::{Cause, Instructions, PlainState};
@@ -30,8 +30,10 @@ pub(crate) enum Act {
     Depth(usize),
     /// So many instructions has the one move.
     Size(usize),
-    /// There the moves have partial updates.
-    Partial(&'static [&'static str]),
+    /// On what is below there the moves rest.
+    Rests(&'static [&'static str]),
+    /// Whether what is seen there is made from what is below.
+    Sees(&'static str, bool),
     /// The one move leaves below what is seen.
     Fires,
     /// So the one move with a last one is answered.
@@ -122,8 +124,7 @@ fn scans(
     differs_at(alloc, &plain, below, name, n)
 }
 
-fn has_partials(step: &Step, names: &[&str]) -> bool {
-    let locations = step.partial_locations();
+fn are_named(locations: &[Location], names: &[&str]) -> bool {
     if locations.len() != names.len() {
         return false;
     }
@@ -138,7 +139,7 @@ fn has_partials(step: &Step, names: &[&str]) -> bool {
 /// Whether the one move, fired on what is below, leaves what is seen through the step.
 pub(crate) fn fires(alloc: Global, step: &Step, below: &PlainState) -> Result<bool, Fail> {
     let mut state = opening(alloc)?;
-    let Ok(updates) = updates_on(alloc, below, step.as_move().copy(alloc)?) else {
+    let Ok(updates) = updates_on(alloc, below, step.as_move(alloc)?) else {
         return Ok(false);
     };
     write(&mut state, updates)?;
@@ -188,8 +189,9 @@ fn comes_out(alloc: Global, step: &mut Step, below: &PlainState, act: Act) -> Re
         Act::Gives(name, n) => gives(alloc, step, below, name, n),
         Act::Scans(name, n) => scans(alloc, step, below, name, n),
         Act::Depth(depth) => Ok(step.depth() == depth),
-        Act::Size(size) => Ok(step.as_move().len() == size),
-        Act::Partial(names) => Ok(has_partials(step, names)),
+        Act::Size(size) => Ok(step.as_move(alloc)?.len() == size),
+        Act::Rests(names) => Ok(are_named(step.resting_locations(alloc)?.as_slice(), names)),
+        Act::Sees(name, is_below) => Ok(step.sees_below(&location(alloc, name)?) == is_below),
         Act::Fires => fires(alloc, step, below),
         Act::Ends(lines, want) => is_ended(ended(alloc, step, move_of(alloc, lines)?), want),
         Act::Leaves(lines, name, n) => leaves(alloc, step, below, lines, (name, n)),

@@ -13,3 +13,5 @@ mod pushes;
 mod random_steps;
 #[cfg(test)]
 mod scans;
+#[cfg(test)]
+mod sizes;

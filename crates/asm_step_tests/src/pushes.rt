@@ -1,17 +1,19 @@
 //! What a step takes, sees, leaves and gives back.
-use crate::acts::Act::{self, Depth, Ends, Extend, Fires, Gives, Leaves, Partial, Pop, Push, Size};
-use crate::acts::Answer::{Clashes, Deep, Many, Taken};
+use crate::acts::Act::{
+    self, Depth, Ends, Extend, Fires, Gives, Leaves, Pop, Push, Rests, Sees, Size,
+};
+use crate::acts::Answer::{Clashes, Deep, Taken};
 use crate::acts::{played, played_anew, take};
 use crate::plain_data::Do::{Add, BagAdd, BagRemove, Inc, Put, Remove, Undef};
-use crate::plain_data::{Line, append_put, move_of, opening};
+use crate::plain_data::{Line, move_of, opening};
 use asm_step::Step;
-use asm_update::{Cause, Instructions, PlainState};
+use asm_update::{Cause, PlainState};
 use std::alloc::Global;
 use std::test::Fail;
 
 static PUSHES: [Act; 22] = [
     Size(0),
-    Partial(&[]),
+    Rests(&[]),
     Fires,
     Push(&[Line("x", Inc(2))], Taken),
     Gives("x", Some(3)),
@@ -22,11 +24,11 @@ static PUSHES: [Act; 22] = [
     Push(&[Line("z", Inc(1)), Line("s", Remove(1))], Taken),
     Gives("z", Some(6)),
     Depth(4),
-    Partial(&["s", "x", "z"]),
+    Rests(&["s", "x"]),
     Fires,
     Pop(true),
     Pop(true),
-    Partial(&["x"]),
+    Rests(&["x"]),
     Gives("z", None),
     Size(2),
     Pop(true),
@@ -59,7 +61,7 @@ static REFUSALS: [Act; 16] = [
     ),
     Depth(1),
     Gives("x", Some(1)),
-    Partial(&["b"]),
+    Rests(&[]),
     Size(1),
     Fires,
     Push(&[Line("b", BagRemove(7)), Line("y", Inc(1))], Taken),
@@ -89,13 +91,13 @@ static EXTENSIONS: [Act; 24] = [
     Gives("x", Some(6)),
     Gives("y", None),
     Gives("z", Some(2)),
-    Partial(&["s", "x", "y"]),
+    Rests(&["s", "x"]),
     Fires,
     Pop(true),
     Depth(1),
     Gives("y", Some(7)),
     Gives("z", None),
-    Partial(&["x"]),
+    Rests(&["x"]),
     Fires,
     Pop(true),
     Gives("x", Some(1)),
@@ -107,12 +109,58 @@ fn an_extension_goes_into_the_topmost_frame(rt: HostRuntime) -> Result<(), Fail>
     Ok(())
 }
 
+static RESTING: [Act; 34] = [
+    Rests(&[]),
+    Sees("x", true),
+    Push(&[Line("x", Inc(2)), Line("z", Put(5))], Taken),
+    Rests(&[]),
+    Sees("x", true),
+    Sees("z", false),
+    Sees("y", true),
+    // What a pushed move put rests on nothing, whatever comes after it.
+    Push(&[Line("z", Inc(1)), Line("b", BagAdd(1))], Taken),
+    Rests(&[]),
+    Sees("z", false),
+    Sees("b", true),
+    // Increments that come to 0 stay, as no other move writes there.
+    Extend(&[Line("y", Inc(1)), Line("y", Inc(-1))], Taken),
+    Rests(&[]),
+    Size(5),
+    // A second move at a location makes it rest on what is below, whether it puts or not.
+    Push(&[Line("x", Inc(1))], Taken),
+    Rests(&["x"]),
+    Extend(&[Line("b", BagRemove(1)), Line("s", Add(3))], Taken),
+    Rests(&["b", "x"]),
+    Push(&[Line("s", Put(1)), Line("z", Undef)], Taken),
+    Rests(&["b", "s", "x"]),
+    Sees("s", true),
+    Sees("z", false),
+    Fires,
+    Pop(true),
+    Rests(&["b", "x"]),
+    Pop(true),
+    Rests(&[]),
+    Sees("x", true),
+    Sees("s", true),
+    Pop(true),
+    Sees("z", false),
+    Pop(true),
+    Sees("z", true),
+    Rests(&[]),
+];
+
+#[test]
+fn a_step_rests_on_what_two_of_its_moves_change(rt: HostRuntime) -> Result<(), Fail> {
+    assert_eq!(rt; played_anew(rt.alloc(), &RESTING)?, RESTING.len());
+    Ok(())
+}
+
 // An addition and a removal of the same compose to nothing, and still rest on what is below.
 static GONE: [Act; 4] = [
     Push(&[Line("b", BagAdd(1))], Taken),
     Push(&[Line("b", BagRemove(1))], Taken),
     Size(0),
-    Partial(&["b"]),
+    Rests(&["b"]),
 ];
 
 #[test]
@@ -166,7 +214,7 @@ static A_THOUSAND: [Act; 7] = [
     Depth(1),
     Size(2),
     Gives("x", Some(1001)),
-    Partial(&["x"]),
+    Rests(&["x"]),
     Fires,
     Pop(true),
     Gives("x", Some(1)),
@@ -203,39 +251,5 @@ fn the_65th_push_is_deep(rt: HostRuntime) -> Result<(), Fail> {
     let mut step = Step::new(rt.alloc());
     assert_eq!(rt; taken(rt.alloc(), &mut step, &below, 64, true)?, 64);
     assert_eq!(rt; played(rt.alloc(), &mut step, &below, &AT_64)?, AT_64.len());
-    Ok(())
-}
-
-/// A move that puts at 4,096 locations.
-fn largest(alloc: Global) -> Result<Instructions, Fail> {
-    let mut list = Instructions::new(alloc);
-    for n in 0..4096 {
-        append_put(alloc, &mut list, n)?;
-    }
-    Ok(list)
-}
-
-static AT_4096: [Act; 7] = [
-    Size(4096),
-    Push(&[Line("x", Put(2))], Many),
-    Extend(&[Line("x", Inc(1))], Many),
-    Ends(&[Line("x", Put(2))], Many),
-    Push(
-        &[Line("x", Put(2)), Line("x", Put(3))],
-        Clashes("x", Cause::Two),
-    ),
-    Depth(1),
-    Gives("x", Some(1)),
-];
-
-#[test]
-fn the_one_move_has_at_most_4096_instructions(rt: HostRuntime) -> Result<(), Fail> {
-    let below = opening(rt.alloc())?;
-    let mut step = Step::new(rt.alloc());
-    assert!(rt; take(rt.alloc(), &mut step, &below, largest(rt.alloc())?, true).is_ok());
-    assert_eq!(rt;
-        played(rt.alloc(), &mut step, &below, &AT_4096)?,
-        AT_4096.len()
-    );
     Ok(())
 }

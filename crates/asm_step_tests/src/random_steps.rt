@@ -2,7 +2,9 @@
 use crate::acts::{fires, take};
 use crate::plain_data::Do::{Add, BagAdd, BagRemove, Inc, Put, Remove, Undef};
 use crate::plain_data::{Line, NAMES, append, is_same, opening, updates_on, write};
+use asm_element::{Element, Value};
 use asm_step::{Step, StepError};
+use asm_test_support::location;
 use asm_update::{AggError, Clash, Instructions, PlainState, UpdateSet};
 use std::alloc::Global;
 use std::test::Fail;
@@ -67,32 +69,103 @@ fn left_by(alloc: Global, turns: &[Turn]) -> Result<PlainState, Fail> {
     Ok(state)
 }
 
-/// Whether the moves have a partial update at the location of this name.
-fn is_partial_at(alloc: Global, turns: &[Turn], name: &str) -> Result<bool, Fail> {
+/// Whether the move writes at the location of this name, and whether it puts a value there.
+fn writes(alloc: Global, turn: Turn, name: &str) -> Result<(bool, bool), Fail> {
+    let instructions = random_move(alloc, turn.number)?;
+    let is_written = instructions.iter().any(|i| i.at.name() == name);
+    let is_put = instructions
+        .iter()
+        .any(|i| i.at.name() == name && i.action.family().is_none());
+    Ok((is_written, is_put))
+}
+
+/// Whether what is seen there is made from what is below, and whether the moves rest on it.
+fn rests(alloc: Global, turns: &[Turn], name: &str) -> Result<(bool, bool), Fail> {
+    let mut is_first = true;
+    let mut is_built = false;
+    let mut is_resting = false;
     for turn in turns {
-        let instructions = random_move(alloc, turn.number)?;
-        if instructions
-            .iter()
-            .any(|i| i.at.name() == name && i.action.family().is_some())
-        {
-            return Ok(true);
+        let (is_written, is_put) = writes(alloc, *turn, name)?;
+        if is_written && is_first {
+            is_built = !is_put;
+        } else if is_written {
+            is_resting = is_built;
         }
+        is_first = is_first && !is_written;
     }
-    Ok(false)
+    Ok((is_first || is_built, is_resting))
 }
 
-fn names(step: &Step, name: &str) -> bool {
-    step.partial_locations().iter().any(|at| at.name() == name)
+/// Whether the step tells so.
+fn is_told(alloc: Global, step: &Step, turns: &[Turn], name: &str) -> Result<bool, Fail> {
+    let (is_below, is_resting) = rests(alloc, turns, name)?;
+    let locations = step.resting_locations(alloc)?;
+    let is_named = locations.iter().any(|at| at.name() == name);
+    Ok(step.sees_below(&location(alloc, name)?) == is_below && is_named == is_resting)
 }
 
-/// Whether the step names exactly the locations of the moves' partial updates.
-fn is_named(alloc: Global, step: &Step, turns: &[Turn]) -> Result<bool, Fail> {
+/// Whether it tells so at each of the names.
+fn is_rested(alloc: Global, step: &Step, turns: &[Turn]) -> Result<bool, Fail> {
     for name in NAMES {
-        if names(step, name) != is_partial_at(alloc, turns, name)? {
+        if !is_told(alloc, step, turns, name)? {
             return Ok(false);
         }
     }
     Ok(true)
+}
+
+/// The opening with undef at each name on which the step doesn't rest, or with what it had.
+fn elsewhere(alloc: Global, step: &Step, is_undef: bool) -> Result<PlainState, Fail> {
+    let mut state = opening(alloc)?;
+    let locations = step.resting_locations(alloc)?;
+    for name in NAMES {
+        let is_named = locations.iter().any(|at| at.name() == name);
+        if is_undef && !is_named {
+            state.set(location(alloc, name)?, Value::Plain(Element::Undef))?;
+        }
+    }
+    Ok(state)
+}
+
+/// What the moves leave there in turn, if they fire.
+fn left_there(
+    alloc: Global,
+    mut state: PlainState,
+    turns: &[Turn],
+) -> Result<Option<PlainState>, Fail> {
+    for turn in turns {
+        match updates_on(alloc, &state, random_move(alloc, turn.number)?) {
+            Ok(updates) => write(&mut state, updates)?,
+            Err(_) => return Ok(None),
+        }
+    }
+    Ok(Some(state))
+}
+
+/// What the one move leaves there, if it fires.
+fn one_there(
+    alloc: Global,
+    mut state: PlainState,
+    step: &Step,
+) -> Result<Option<PlainState>, Fail> {
+    match updates_on(alloc, &state, step.as_move(alloc)?) {
+        Ok(updates) => {
+            write(&mut state, updates)?;
+            Ok(Some(state))
+        }
+        Err(_) => Ok(None),
+    }
+}
+
+/// Whether the one move leaves what the moves leave, where what they don't rest on is undef.
+fn stands_elsewhere(alloc: Global, step: &Step, turns: &[Turn]) -> Result<bool, Fail> {
+    let turn = left_there(alloc, elsewhere(alloc, step, true)?, turns)?;
+    let one = one_there(alloc, elsewhere(alloc, step, true)?, step)?;
+    match (turn, one) {
+        (Some(left), Some(right)) => is_same(alloc, &left, &right),
+        (None, None) => Ok(true),
+        _ => Ok(false),
+    }
 }
 
 fn pushed(turns: &[Turn]) -> usize {
@@ -105,7 +178,12 @@ fn is_of(alloc: Global, step: &Step, below: &PlainState, turns: &[Turn]) -> Resu
     if !is_same(alloc, &state, &step.over(below))? {
         return Ok(false);
     }
-    Ok(step.depth() == pushed(turns) && fires(alloc, step, below)? && is_named(alloc, step, turns)?)
+    Ok(
+        step.depth() == pushed(turns)
+            && fires(alloc, step, below)?
+            && is_rested(alloc, step, turns)?
+            && stands_elsewhere(alloc, step, turns)?,
+    )
 }
 
 /// What the move comes to where those before it fired.

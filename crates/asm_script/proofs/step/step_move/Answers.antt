@@ -3,7 +3,7 @@ use Rattle.std.proofs.lemmas.Result.{err_from_is_err_and}
 use Rattle.asm_aggregate.proofs.Exits.{handed_on}
 use Rattle.asm_overlay.specs.Limits.{frames_limit}
 use Rattle.asm_step.specs.Answer.{IsAnswer, IsAnswerOn}
-use Rattle.asm_step.specs.declared.layer.Layer.{Layer}
+use Rattle.asm_step.specs.Layers.{Layer}
 use Rattle.asm_script.specs.Sequencing.{IsStepMove}
 use Rattle.asm_script.specs.declared.block.Block.{Block}
 use Rattle.asm_script.proofs.Advancing.{AreSequenced, agrees_last, agrees_more, at_start, last_answer, last_fault}

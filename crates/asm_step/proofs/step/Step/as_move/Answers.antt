@@ -1,21 +1,31 @@
-use Rattle.std.proofs.Common.{sym, ap, ◌∙◌}
-use Rattle.std.specs.Option.{option_copied}
-use Rattle.asm_step.proofs.Layered.{does_nothing, fires_as, top_does}
+use Rattle.asm_step.proofs.Layered.{fires_as}
+use Rattle.asm_step.proofs.OkWeaker.{if_ok_weaker}
+use Rattle.asm_step.proofs.OneMove.{one_does, one_each, one_keeps}
+use Rattle.asm_step.proofs.Standing.{clash_stands, stands}
 use Rattle.asm_step.proofs.step.Step.as_move.Goals as goal
 
-pub returns-in-Some-clause-all : goal.returns-in-Some-clause-all
-returns-in-Some-clause-all c part old groups step =
-    top_does part old c.args.self.now groups step c.in-Some.top.now (sym c.top.ensures ∙ ap option_copied c.in-Some.is)
+pub returns-clause-all : goal.returns-clause-all
+returns-clause-all c part old groups step =
+    if_ok_weaker c.one.result (λ one is. one_does part old c.args.self.now groups one step is) c.one.ensures
 
-pub returns-in-Some-clause-fires : goal.returns-in-Some-clause-fires
-returns-in-Some-clause-fires c part old groups B step =
-    fires_as part old c.args.self.now groups c.in-Some.top.now.one_move B step (returns-in-Some-clause-all c part old groups step)
+pub returns-clause-fires : goal.returns-clause-fires
+returns-clause-fires c part old groups B step proper has =
+    if_ok_weaker c.one.result
+    (λ one is. fires_as part old c.args.self.now groups one B step (one_does part old c.args.self.now groups one step is) proper has)
+    c.one.ensures
 
-pub returns-in-None-clause-all : goal.returns-in-None-clause-all
-returns-in-None-clause-all c part old groups step =
-    does_nothing part old c.args.self.now groups step c.self.inside.none
-    (sym c.top.ensures ∙ ap option_copied c.in-None.is) c.self.invariant.1
+pub returns-clause-stands : goal.returns-clause-stands
+returns-clause-stands c a old groups B laws step proper has =
+    let s = c.args.self.now in
+    if_ok_weaker c.one.result
+    (λ one is. stands laws old s groups step one B (one_does a.part old s groups one step is)
+    (one_keeps a.part old s groups one step is) proper has)
+    c.one.ensures
 
-pub returns-in-None-clause-fires : goal.returns-in-None-clause-fires
-returns-in-None-clause-fires c part old groups B step =
-    fires_as part old c.args.self.now groups c.self.inside.none B step (returns-in-None-clause-all c part old groups step)
+pub returns-clause-clash : goal.returns-clause-clash
+returns-clause-clash c a old groups B clash laws step proper has =
+    let s = c.args.self.now in
+    if_ok_weaker c.one.result
+    (λ one is. clash_stands laws old s groups step one B (one_does a.part old s groups one step is)
+    (one_keeps a.part old s groups one step is) proper has (one_each a.part old s groups one step is) clash)
+    c.one.ensures

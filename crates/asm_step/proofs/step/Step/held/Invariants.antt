@@ -1,8 +1,10 @@
 use Rattle.std.proofs.Common.{◌≡◌}
-use Rattle.asm_overlay.specs.Frames.{topmost}
-use Rattle.asm_step.specs.Layers.{frames_of}
+use Rattle.std.specs.FinMap as finite
+use Rattle.asm_step.specs.Layers.{layers_on, outcomes_of}
 use Rattle.asm_step.proofs.step.Step.held.Given as goal
 
--- the layers that are left show what all of them show
+-- the layers that are left have what all of them have
 abbrev pub invariant-loop-layer : goal.invariant-loop-layer
-invariant-loop-layer l = topmost (frames_of l.layer-iterator.iter.rest.now) l.at ≡ topmost (frames_of l.self) l.at
+invariant-loop-layer l =
+    finite.get (outcomes_of (layers_on finite.empty l.layer-iterator.iter.rest.now)) l.at
+    ≡ finite.get (outcomes_of l.self) l.at

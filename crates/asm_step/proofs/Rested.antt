@@ -1,0 +1,168 @@
+-- Where outcomes rest on what is below, and build on it.
+use Rattle.std.proofs.Common.{◌≡◌, ◌↔◌, Bool, true, false, cond, ◌&&◌, ◌||◌, T, List, [], ◌∷◌, map, filter, Contains, ◌⊎◌, ⊎_elim, Option, Some, None, is_some, refl, sym, ap, subst, ◌∙◌, arith}
+use Rattle.std.proofs.lemmas.Bool.{false≢true}
+use Rattle.std.proofs.lemmas.List.Elements.{Contains-append_left, Contains-append_right, Contains-append_cases, Contains-push_cases}
+use Rattle.std.specs.FinMap as finite
+use Rattle.std.specs.FinMap.Entries.{below_all}
+use Rattle.std.specs.List.{AllByRecursion, list_any}
+use Rattle.std.specs.List.Sorted.{IsStrictlySortedBy}
+use Rattle.std.specs.Option.{option_map, option_map_or, option_or}
+use Rattle.std.specs.Ordering.{eq_by_cmp, is_lt}
+use Rattle.std.specs.declared.cmp.Ordering.TheVariants.{Less}
+use Rattle.asm_element.specs.Ascending.{both_T, first_gone, is_less, rising_rest}
+use Rattle.asm_element.specs.Place.{Place, location_cmp, location_cmp_total, same_location}
+use Rattle.asm_element.specs.Tests.{itself}
+use Rattle.asm_element.specs.declared.value.Value.{Value}
+use Rattle.asm_update.specs.Action.{is_regular}
+use Rattle.asm_update.specs.Move.{Move, actions_at, writes}
+use Rattle.asm_update.specs.State.{Updates}
+use Rattle.asm_update.specs.declared.action.Instruction.{Instruction}
+use Rattle.asm_step.specs.Next.{AreNext, builds_next, next_at, rests_next}
+use Rattle.asm_step.specs.Outcomes.{Outcome, Outcomes, builds_at, laid, resting_in, rests_at, sees_at}
+use Rattle.asm_step.specs.Resting.{puts, AreThose}
+use Rattle.asm_step.proofs.Laid.{get-laid, resting_from}
+
+-- they ascend
+
+below_resting : (k : Place) (es : List (Place × Outcome)) → T (below_all location_cmp k es) →
+    AllByRecursion (λ q. location_cmp k q ≡ Less) (resting_from es)
+below_resting k [] h = tt
+below_resting k (e ∷ es) h =
+    let parts = both_T (is_lt (location_cmp k e.0)) (below_all location_cmp k es) h in
+    by_test e.1.rests (is_less _ parts.0) (below_resting k es parts.1) where
+      by_test : (b : Bool) → location_cmp k e.0 ≡ Less → AllByRecursion (λ q. location_cmp k q ≡ Less) (resting_from es) →
+          AllByRecursion (λ q. location_cmp k q ≡ Less)
+          (map (λ (x : Place × Outcome). x.0)
+          (cond b (e ∷ filter (λ (x : Place × Outcome). x.1.rests) es) (filter (λ (x : Place × Outcome). x.1.rests) es)))
+      by_test true lt rest = (lt, rest)
+      by_test false lt rest = rest
+
+ascend_from : (es : List (Place × Outcome)) → T (finite.is_sorted location_cmp es) →
+    IsStrictlySortedBy location_cmp (resting_from es)
+unfolding IsStrictlySortedBy
+ascend_from [] sorted = tt
+ascend_from (e ∷ es) sorted =
+    let parts = both_T (below_all location_cmp e.0 es) (finite.is_sorted location_cmp es) sorted in
+    by_test e.1.rests (below_resting e.0 es parts.0) (ascend_from es parts.1) where
+      by_test : (b : Bool) → AllByRecursion (λ q. location_cmp e.0 q ≡ Less) (resting_from es) →
+          IsStrictlySortedBy location_cmp (resting_from es) →
+          IsStrictlySortedBy location_cmp
+          (map (λ (x : Place × Outcome). x.0)
+          (cond b (e ∷ filter (λ (x : Place × Outcome). x.1.rests) es) (filter (λ (x : Place × Outcome). x.1.rests) es)))
+      by_test true below rest = (below, rest)
+      by_test false below rest = rest
+
+pub resting_ascend : (os : Outcomes) → IsStrictlySortedBy location_cmp (resting_in os)
+resting_ascend os = ascend_from (finite.entries os) (finite.entries_sorted os)
+
+-- one is among them where the outcome says so
+
+abbrev says : Place → List (Place × Outcome) → Bool
+says l es = option_map_or (λ (o : Outcome). o.rests) (finite.find location_cmp l es) false
+
+none_contained : (l : Place) → Contains [] l → ⊥
+none_contained l there = omega (arith, there.1)
+
+one_contained : (k l : Place) → Contains (k ∷ []) l → k ≡ l
+one_contained k l there = ⊎_elim (λ none. absurd (none_contained l none)) (λ is. is) (Contains-push_cases [] k l there)
+
+itself_contained : (k : Place) → Contains (k ∷ []) k
+itself_contained k = (0, omega arith, refl)
+
+abbrev left_of : List (Place × Outcome) → List (Place × Outcome)
+left_of es = filter (λ (x : Place × Outcome). x.1.rests) es
+
+said_from : (es : List (Place × Outcome)) (l : Place) → T (finite.is_sorted location_cmp es) →
+    Contains (resting_from es) l ↔ (says l es ≡ true)
+said_from [] l sorted = ((λ there. absurd (none_contained l there)), (λ said. absurd (false≢true said)))
+said_from ((k, o) ∷ es) l sorted =
+    let rest = said_from es l (rising_rest location_cmp k o es sorted) in
+    by_tests (eq_by_cmp location_cmp l k) o.rests refl rest where
+      gone : eq_by_cmp location_cmp l k ≡ true → says l es ≡ false
+      gone e =
+          ap (λ (x : Option Outcome). option_map_or (λ (o : Outcome). o.rests) x false)
+          (ap (λ p. finite.find location_cmp p es) (same_location l k e) ∙ first_gone location_cmp k o es sorted)
+
+      to : (t p : Bool) → eq_by_cmp location_cmp l k ≡ t → o.rests ≡ p → (Contains (resting_from es) l ↔ (says l es ≡ true)) →
+          Contains (map (λ (x : Place × Outcome). x.0) (cond p ((k, o) ∷ left_of es) (left_of es))) l →
+          option_map_or (λ (x : Outcome). x.rests) (cond t (Some o) (finite.find location_cmp l es)) false ≡ true
+      to true true e is rest there = is
+      to true false e is rest there = absurd (false≢true (sym (gone e) ∙ rest.0 there))
+      to false true e is rest there =
+          ⊎_elim
+          (λ first. absurd (false≢true (sym e ∙ ap (λ q. eq_by_cmp location_cmp q k) (sym (one_contained k l first)) ∙ itself location_cmp_total k)))
+          (λ later. rest.0 later)
+          (Contains-append_cases (k ∷ []) (resting_from es) l there)
+      to false false e is rest there = rest.0 there
+
+      from : (t p : Bool) → eq_by_cmp location_cmp l k ≡ t → o.rests ≡ p → (Contains (resting_from es) l ↔ (says l es ≡ true)) →
+          option_map_or (λ (x : Outcome). x.rests) (cond t (Some o) (finite.find location_cmp l es)) false ≡ true →
+          Contains (map (λ (x : Place × Outcome). x.0) (cond p ((k, o) ∷ left_of es) (left_of es))) l
+      from true true e is rest said =
+          Contains-append_left (k ∷ []) (resting_from es) l
+          (subst (λ q. Contains (k ∷ []) q) (sym (same_location l k e)) (itself_contained k))
+      from true false e is rest said = absurd (false≢true (sym is ∙ said))
+      from false true e is rest said = Contains-append_right (k ∷ []) (resting_from es) l (rest.1 said)
+      from false false e is rest said = rest.1 said
+
+      by_tests : (t p : Bool) → eq_by_cmp location_cmp l k ≡ t → (Contains (resting_from es) l ↔ (says l es ≡ true)) →
+          Contains (map (λ (x : Place × Outcome). x.0) (cond o.rests ((k, o) ∷ left_of es) (left_of es))) l
+          ↔ (option_map_or (λ (x : Outcome). x.rests) (cond (eq_by_cmp location_cmp l k) (Some o) (finite.find location_cmp l es)) false ≡ true)
+      by_tests t p e rest = (
+        to (eq_by_cmp location_cmp l k) o.rests refl refl rest,
+        from (eq_by_cmp location_cmp l k) o.rests refl refl rest,
+      )
+
+pub said : (os : Outcomes) (l : Place) → Contains (resting_in os) l ↔ (rests_at os l ≡ true)
+said os l =
+    subst (λ (x : Option Outcome). Contains (resting_in os) l ↔ (option_map_or (λ (o : Outcome). o.rests) x false ≡ true))
+    (sym (finite.get-entries os l))
+    (said_from (finite.entries os) l (finite.entries_sorted os))
+
+-- with the ones for which this test says so
+pub are_resting : (os : Outcomes) (test : Place → Bool) → ((l : Place) → rests_at os l ≡ test l) → AreThose test (resting_in os)
+are_resting os test is = record {
+  ascending = resting_ascend os;
+  same = λ l.
+      let says = said os l in (λ there. sym (is l) ∙ says.0 there, λ passes. says.1 (is l ∙ passes));
+}
+
+-- whether a move puts a value is told by its actions there
+puts_is : (M : Move) (l : Place) → puts M l ≡ list_any is_regular (actions_at M l)
+puts_is [] l = refl
+puts_is (i ∷ M) l = by_test (eq_by_cmp location_cmp i.at l) (puts_is M l) where
+  by_test : (b : Bool) → puts M l ≡ list_any is_regular (actions_at M l) →
+      ((b && is_regular i.action) || puts M l)
+      ≡ list_any is_regular (map (λ (j : Instruction). j.action)
+      (cond b (i ∷ filter (λ (j : Instruction). eq_by_cmp location_cmp j.at l) M)
+      (filter (λ (j : Instruction). eq_by_cmp location_cmp j.at l) M)))
+  by_test true later = ap (λ b. is_regular i.action || b) later
+  by_test false later = later
+
+-- with a next move
+module _ (os own : Outcomes) (U : Updates) (C M : Move) (next : AreNext os U C M own)
+    (has : (l : Place) → is_some (finite.get U l) ≡ writes M l) where
+  found_next : (l : Place) → finite.get (laid os own) l ≡ option_or (option_map (next_at os C M l) (finite.get U l)) (finite.get os l)
+  found_next l = get-laid os own l ∙ ap (λ (x : Option Outcome). option_or x (finite.get os l)) (next l)
+
+  pub next_building : (l : Place) → builds_at (laid os own) l ≡ builds_next os M l
+  next_building l =
+      ap (λ (x : Option Outcome). option_map_or (λ (o : Outcome). o.builds) x false) (found_next l)
+      ∙ by_update (finite.get U l) refl where
+        by_update : (u : Option Value) → finite.get U l ≡ u →
+            option_map_or (λ (o : Outcome). o.builds) (option_or (option_map (next_at os C M l) u) (finite.get os l)) false
+            ≡ builds_next os M l
+        by_update (Some v) e =
+            (λ i. cond ((sym (ap is_some e) ∙ has l) i) (cond (sym (puts_is M l) i) (builds_at os l) (sees_at os l)) (builds_at os l))
+        by_update None e =
+            (λ i. cond ((sym (ap is_some e) ∙ has l) i) (cond (puts M l) (builds_at os l) (sees_at os l)) (builds_at os l))
+
+  pub next_resting : (l : Place) → rests_at (laid os own) l ≡ rests_next os M l
+  next_resting l =
+      ap (λ (x : Option Outcome). option_map_or (λ (o : Outcome). o.rests) x false) (found_next l)
+      ∙ by_update (finite.get U l) refl where
+        by_update : (u : Option Value) → finite.get U l ≡ u →
+            option_map_or (λ (o : Outcome). o.rests) (option_or (option_map (next_at os C M l) u) (finite.get os l)) false
+            ≡ rests_next os M l
+        by_update (Some v) e = (λ i. cond ((sym (ap is_some e) ∙ has l) i) (builds_at os l) (rests_at os l))
+        by_update None e = (λ i. cond ((sym (ap is_some e) ∙ has l) i) (builds_at os l) (rests_at os l))

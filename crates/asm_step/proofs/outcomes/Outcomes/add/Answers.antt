@@ -1,0 +1,24 @@
+use Rattle.std.proofs.Common.{◌++◌, ◌∷◌, [], IsSome, is_some, ap, sym, subst, refl, ◌∙◌}
+use Rattle.std.specs.BTreeMap.{get_by}
+use Rattle.asm_element.specs.Place.{location_cmp}
+use Rattle.asm_update.specs.declared.action.Action.{Action}
+use Rattle.asm_step.proofs.Held.{changed_there, held_there, not_there}
+use Rattle.asm_step.proofs.outcomes.Outcomes.add.Goals as goal
+
+pub returns : goal.returns
+returns c =
+    let wrote = c.get_mut.follows.holds c.add.new.self in
+    let there : IsSome (get_by (location_cmp c.args.at.now) c.self.inside.tree) = subst IsSome c.in-Some.ensures.value refl in (
+      changed_there c.self.inside.tree (c.get_mut.follows.lender c.add.new.self) c.args.self.now c.args.at.now
+          c.in-Some.outcome.now c.add.new.self (λ o. record o { actions = o.actions ++ c.args.action.now ∷ [] }) c.self.view_is
+          c.in-Some.ensures.value (wrote.3 there).0
+          (c.in_ok-add.ensures ∙ ap (λ (x : Action). record c.in-Some.outcome.now { actions = c.in-Some.outcome.now.actions ++ x ∷ [] }) c.in_ok-action.ensures.cases),
+      sym (ap is_some (held_there c.self.inside.tree c.args.self.now c.args.at.now _ c.self.view_is c.in-Some.ensures.value)),
+    )
+
+pub returns-in_default : goal.returns-in_default
+returns-in_default c = (
+  not_there c.self.inside.tree _ c.args.self.now c.args.at.now (λ o. record o { actions = o.actions ++ c.args.action.now ∷ [] })
+      c.self.view_is c.in_default.ensures.value c.get_mut.follows.holds-at-none,
+  sym (ap is_some (held_there c.self.inside.tree c.args.self.now c.args.at.now _ c.self.view_is c.in_default.ensures.value)),
+)

@@ -1,0 +1,65 @@
+use Rattle.std.proofs.Common.{◌<◌, true, false, take, length, ap, sym, ◌∙◌, arith}
+use Rattle.asm_step.specs.Layers.{outcomes_of}
+use Rattle.asm_step.specs.Next.{those}
+use Rattle.asm_step.proofs.Filled.{taken_all, taken_one}
+use Rattle.asm_step.proofs.Prefixes.{no_top_by_test, outcomes_without}
+use Rattle.asm_step.proofs.Split.{acts_nowhere, all_others, none_shared, one_fits, one_more}
+use Rattle.asm_step.proofs.step.Step.split.Goals as goal
+
+pub loop-instruction-init : goal.loop-instruction-init
+loop-instruction-init c = record { shared = c.new-shared.ensures; apart = c.new-apart.ensures }
+
+pub take_one-requires : goal.take_one-requires
+take_one-requires c =
+    let os = outcomes_of c.args.self.now in
+    let i = c.loop-instruction.instruction-index in
+    let M = c.args.instructions.now in
+    let all = ap length c.as_slice-instruction-items.ensures in
+    let within : i < length M = omega (arith, all, c.loop-instruction-test.true) in
+    let had = c.loop-instruction.invariant in
+    record {
+      shared = one_fits true os M c.loop-instruction.shared i had.shared within c.len-few.ensures.few;
+      apart = one_fits false os M c.loop-instruction.apart i had.apart within c.len-few.ensures.few;
+    }
+
+pub loop-instruction-preserved : goal.loop-instruction-preserved
+loop-instruction-preserved c =
+    let os = outcomes_of c.args.self.now in
+    let i = c.loop-instruction.instruction-index in
+    let M = c.args.instructions.now in
+    let x = c.instruction-item.result in
+    let more =
+    taken_one c.as_slice-instruction-items.result.now M i x c.as_slice-instruction-items.ensures c.loop-instruction-test.true c.instruction-item.is in
+    let had = c.loop-instruction.invariant in
+    record {
+      shared = one_more true os (take i M) _ c.loop-instruction.shared c.take_one.new.shared x had.shared
+          c.in_ok-take_one.ensures.shared more;
+      apart = one_more false os (take i M) _ c.loop-instruction.apart c.take_one.new.apart x had.apart
+          c.in_ok-take_one.ensures.apart more;
+    }
+
+pub returns-clause-shared : goal.returns-clause-shared
+returns-clause-shared c =
+    c.loop-instruction.invariant.shared
+    ∙ ap (those true (outcomes_of c.args.self.now))
+    (taken_all c.as_slice-instruction-items.result.now c.args.instructions.now c.loop-instruction.instruction-index
+    c.as_slice-instruction-items.ensures c.loop-instruction-test.false)
+
+pub returns-clause-apart : goal.returns-clause-apart
+returns-clause-apart c =
+    c.loop-instruction.invariant.apart
+    ∙ ap (those false (outcomes_of c.args.self.now))
+    (taken_all c.as_slice-instruction-items.result.now c.args.instructions.now c.loop-instruction.instruction-index
+    c.as_slice-instruction-items.ensures c.loop-instruction-test.false)
+
+pub returns-then-is_none-clause-shared : goal.returns-then-is_none-clause-shared
+returns-then-is_none-clause-shared c =
+    let s = c.args.self.now in
+    let none = outcomes_without s (no_top_by_test s c.top.result c.top.ensures.count c.if-is_none.ensures) in
+    c.new-none.ensures ∙ sym (none_shared (outcomes_of s) c.args.instructions.now (acts_nowhere (outcomes_of s) none))
+
+pub returns-then-is_none-clause-apart : goal.returns-then-is_none-clause-apart
+returns-then-is_none-clause-apart c =
+    let s = c.args.self.now in
+    let none = outcomes_without s (no_top_by_test s c.top.result c.top.ensures.count c.if-is_none.ensures) in
+    c.in_ok-all.ensures ∙ sym (all_others (outcomes_of s) c.args.instructions.now (acts_nowhere (outcomes_of s) none))

@@ -1,0 +1,88 @@
+-- What moves come to at the locations that they write.
+use Rattle.std.specs.Prelude.{◌≡◌, Bool, true, false, List, [], ◌∷◌, ◌++◌, map, filter, Option, refl}
+use Rattle.std.specs.Coded.{Coded, code_by, coded×, coded_bool, coded_list}
+use Rattle.std.specs.FinMap as finite
+use Rattle.std.specs.List.{flat_map}
+use Rattle.std.specs.Option.{option_map_or}
+use Rattle.asm_element.specs.Place.{Place, location_cmp}
+use Rattle.asm_element.specs.declared.value.Value.{Value}
+use Rattle.asm_update.specs.Move.{Move}
+use Rattle.asm_update.specs.State.{Updates}
+use Rattle.asm_update.specs.declared.action.Action.{Action}
+use Rattle.asm_aggregate.specs.Compose.{placed}
+
+-- what moves come to at a location that one of them writes: the value that they leave, the actions that do there what they
+-- do in turn, whether they build on the value below (the first of them that writes there has partial updates alone), and
+-- whether they rest on it (a later one writes there too)
+pub record Outcome : Type 0 where
+  pub value : Value
+  pub actions : List Action
+  pub builds : Bool
+  pub rests : Bool
+
+-- it is stored as a tuple
+abbrev pub outcome_code : Coded Value → Coded Action → Coded Outcome
+outcome_code v a =
+    code_by (Value × (List Action × (Bool × Bool))) (coded× v (coded× (coded_list a) (coded× coded_bool coded_bool)))
+    (λ o. (o.value, (o.actions, (o.builds, o.rests))))
+    (λ p. record { value = p.0; actions = p.1.0; builds = p.1.1.0; rests = p.1.1.1 }) (λ _. refl)
+
+-- an outcome for each of some locations
+abbrev pub Outcomes : Type 0
+Outcomes = finite.FinMap location_cmp Outcome
+
+-- what the moves do at a location
+abbrev pub actions_in : Outcomes → Place → List Action
+actions_in os l = option_map_or (λ o. o.actions) (finite.get os l) []
+
+-- whether there are actions
+abbrev pub acts : List Action → Bool
+acts [] = false
+acts (x ∷ xs) = true
+
+-- whether the moves do anything at a location
+abbrev pub acts_at : Outcomes → Place → Bool
+acts_at os l = acts (actions_in os l)
+
+-- the outcomes above, and at the other locations those below
+abbrev pub laid : Outcomes → Outcomes → Outcomes
+laid below above = finite.from_entries (finite.entries above ++ finite.entries below)
+
+-- the values that are left
+abbrev pub frame : Outcomes → Updates
+frame os = finite.from_entries (map (λ e. (e.0, e.1.value)) (finite.entries os))
+
+-- the instructions that do what the moves do in turn, by location in ascending order
+abbrev pub listed : Outcomes → Move
+listed os = flat_map (λ e. placed e.0 e.1.actions) (finite.entries os)
+
+-- where the moves rest on what is below
+abbrev pub resting_in : Outcomes → List Place
+resting_in os = map (λ e. e.0) (filter (λ e. e.1.rests) (finite.entries os))
+
+-- one more action at a location, if that has an outcome
+abbrev pub with_action : Place → Action → Outcomes → Outcomes
+with_action l x os =
+    option_map_or (λ o. finite.insert os l (record o { actions = o.actions ++ x ∷ [] })) (finite.get os l) os
+
+-- a regular update of the next move at a location, if that has an outcome: nothing is built there by this move
+abbrev pub with_put : Place → Outcomes → Outcomes
+with_put l os = option_map_or (λ o. finite.insert os l (record o { builds = o.rests })) (finite.get os l) os
+
+-- writes at these locations in turn lead from the old outcomes to the new, and each is listed with what it replaced
+abbrev pub AreReplaced : List (Place × Option Outcome) → Outcomes → Outcomes → Type 0
+AreReplaced [] old new = old ≡ new
+AreReplaced ((l, found) ∷ rest) old new =
+    (found ≡ finite.get old l) × (w : Outcome) × AreReplaced rest (finite.insert old l w) new
+
+-- whether the moves build at a location on the value below
+abbrev pub builds_at : Outcomes → Place → Bool
+builds_at os l = option_map_or (λ o. o.builds) (finite.get os l) false
+
+-- whether what they leave there is made from it: they build on it, or none writes there
+abbrev pub sees_at : Outcomes → Place → Bool
+sees_at os l = option_map_or (λ o. o.builds) (finite.get os l) true
+
+-- whether they rest on it there
+abbrev pub rests_at : Outcomes → Place → Bool
+rests_at os l = option_map_or (λ o. o.rests) (finite.get os l) false

@@ -1,0 +1,265 @@
+//! The layer of a move that is next.
+ghost use Rattle.std.specs.Prelude.{◌≡◌, ◌≤◌, ◌+◌, ◌++◌, ◌∷◌, [], true, false, length, IfOk, OnOk, if◌then◌else◌};
+ghost use Rattle.std.specs.List.{flat_map};
+ghost use Rattle.std.specs.Option.{option_copied, option_map};
+ghost use Rattle.std.specs.FinMap as finite;
+ghost use Rattle.asm_aggregate.specs.Compose.{placed};
+ghost use Rattle.asm_update.specs.Limits.{instructions_limit};
+ghost use Rattle.asm_step.specs.Layers.{outcomes_of, top_of};
+ghost use Rattle.asm_step.specs.Next.{IsNext, AreFilled, AreMarked, AreOpened, IsLayerFrom, count_of, first_alone, on_top, opened_at, those};
+ghost use Rattle.asm_update.specs.Action.{is_regular};
+ghost use Rattle.asm_step.specs.Outcomes.{acts_at, actions_in, listed, with_put};
+
+use crate::error::StepError;
+use crate::layer::{OwnLayer, frame_on, move_after};
+use crate::listing::{append, push_within};
+use crate::outcomes::{Outcome, Outcomes};
+use crate::step::Step;
+use asm_element::{Location, Value};
+use asm_update::{Aggregator, INSTRUCTIONS_LIMIT, Instruction, Instructions, Lookup, UpdateSet};
+use std::alloc::{AllocError, Global};
+
+fn one_if(test: bool) -> usize
+    ensures { result ≡ if test then 1 else 0 }
+{
+    if test { 1 } else { 0 }
+}
+
+// Appends a copy of each of the instructions' actions to those at its location; how many were.
+fn fill(outcomes: &mut Outcomes, instructions: &Instructions) -> Result<usize, AllocError>
+    ensures filled { OnOk result (AreFilled instructions.now outcomes.old outcomes.new) }
+    ensures count { IfOk result (λ n. n + length (listed outcomes.old) ≡ length (listed outcomes.new)) }
+    ensures few { IfOk result (λ n. n ≤ length instructions.now) }
+{
+    let mut count: usize = 0;
+    for instruction in instructions.as_slice() {
+        let is_there = outcomes.add(&instruction.at, &instruction.action)?;
+        count += one_if(is_there);
+    }
+    Ok(count)
+}
+
+// Notes the instruction's location, if it is a regular update.
+fn mark(outcomes: &mut Outcomes, instruction: &Instruction)
+    ensures { outcomes.new ≡
+        if is_regular instruction.now.action then with_put instruction.now.at outcomes.old else outcomes.old }
+{
+    if instruction.action.family().is_some() {
+        return;
+    }
+    outcomes.mark(&instruction.at);
+}
+
+// Notes where the instructions have regular updates.
+fn mark_each(outcomes: &mut Outcomes, instructions: &Instructions)
+    ensures { AreMarked instructions.now outcomes.old outcomes.new }
+{
+    for instruction in instructions.as_slice() {
+        mark(outcomes, instruction);
+    }
+}
+
+impl Step {
+    // How many instructions the moves come to.
+    pub(crate) fn count(&self) -> usize
+        ensures count { result ≡ count_of self.now }
+        ensures listed { count_of self.now ≡ length (listed (outcomes_of self.now)) }
+        ensures few { count_of self.now ≤ instructions_limit }
+    {
+        // The invariant is known once a field is read.
+        let _ = &self.layers;
+        match self.top() {
+            Some(top) => top.count,
+            None => 0,
+        }
+    }
+
+    // Appends what the moves so far do at the location.
+    fn append_earlier(
+        &self,
+        alloc: Global,
+        list: &mut Instructions,
+        at: &Location,
+    ) -> Result<(), AllocError>
+        requires { length list.old + length (actions_in (outcomes_of self.now) at.now) ≤ instructions_limit }
+        ensures { OnOk result (list.new ≡ list.old ++ placed at.now (actions_in (outcomes_of self.now) at.now)) }
+    {
+        match self.held(at) {
+            Some(outcome) => append(alloc, list, at, outcome.actions()),
+            None => Ok(()),
+        }
+    }
+
+    // What the moves so far do at the locations of the frame.
+    fn earlier_at(&self, alloc: Global, frame: &UpdateSet) -> Result<Instructions, AllocError>
+        ensures { IfOk result (λ earlier. earlier
+            ≡ flat_map (λ e. placed e.0 (actions_in (outcomes_of self.now) e.0)) (finite.entries frame.now)) }
+    {
+        // That all moves have at most 4,096 is what an append asks.
+        let _few = self.count();
+        let mut list = Instructions::new(alloc);
+        for (at, _) in frame.iter() {
+            self.append_earlier(alloc, &mut list, at)?;
+        }
+        Ok(list)
+    }
+
+    // The value as an outcome without actions, over what the moves so far come to at the location.
+    fn opened_at(&self, alloc: Global, at: &Location, value: Value) -> Outcome
+        ensures { result ≡ opened_at (outcomes_of self.now) at.now value }
+    {
+        match self.held(at) {
+            Some(earlier) => Outcome::new(alloc, value, earlier.builds(), earlier.builds()),
+            None => Outcome::new(alloc, value, true, false),
+        }
+    }
+
+    // The values of the frame as outcomes without actions.
+    fn opened(&self, alloc: Global, frame: UpdateSet) -> Result<Outcomes, AllocError>
+        ensures { IfOk result (λ opened. AreOpened (outcomes_of self.now) frame opened) }
+    {
+        let mut opened = Outcomes::new(alloc);
+        for (at, value) in frame {
+            let outcome = self.opened_at(alloc, &at, value);
+            opened.put(at, outcome)?;
+        }
+        Ok(opened)
+    }
+
+    // The earlier instructions, if there are earlier moves.
+    fn if_later<'a>(&self, earlier: &'a Instructions) -> Option<&'a Instructions>
+        ensures { option_copied result ≡ option_map (λ _. earlier.now) (top_of self.now) }
+    {
+        match self.top() {
+            Some(_) => Some(earlier),
+            None => None,
+        }
+    }
+
+    // The move, if it is the first one.
+    fn alone(
+        &self,
+        alloc: Global,
+        instructions: &Instructions,
+    ) -> Result<Option<Instructions>, AllocError>
+        ensures { IfOk result (λ alone. alone ≡ first_alone self.now instructions.now) }
+    {
+        match self.top() {
+            Some(_) => Ok(None),
+            None => Ok(Some(instructions.copy(alloc)?)),
+        }
+    }
+
+    // Whether the moves so far do anything at the location.
+    fn acts_at(&self, at: &Location) -> bool
+        ensures { result ≡ acts_at (outcomes_of self.now) at.now }
+    {
+        match self.held(at) {
+            Some(outcome) => outcome.acts(),
+            None => false,
+        }
+    }
+
+    // Appends a copy of the instruction to those where the moves so far do anything, or to the others.
+    fn take_one(
+        &self,
+        alloc: Global,
+        shared: &mut Instructions,
+        apart: &mut Instructions,
+        instruction: &Instruction,
+    ) -> Result<(), AllocError>
+        requires shared { length shared.old + 1 ≤ instructions_limit }
+        requires apart { length apart.old + 1 ≤ instructions_limit }
+        ensures shared { OnOk result (shared.new ≡ shared.old ++ those true (outcomes_of self.now) (instruction.now ∷ [])) }
+        ensures apart { OnOk result (apart.new ≡ apart.old ++ those false (outcomes_of self.now) (instruction.now ∷ [])) }
+    {
+        let one = Instruction {
+            at: instruction.at.copy(alloc)?,
+            action: instruction.action.clone()?,
+        };
+        if self.acts_at(&instruction.at) {
+            return push_within(shared, one);
+        }
+        push_within(apart, one)
+    }
+
+    // The instructions at the locations where the moves so far do anything, and those at the others.
+    fn split(
+        &self,
+        alloc: Global,
+        instructions: &Instructions,
+    ) -> Result<(Instructions, Instructions), AllocError>
+        ensures shared { IfOk result (λ parts. parts.0 ≡ those true (outcomes_of self.now) instructions.now) }
+        ensures apart { IfOk result (λ parts. parts.1 ≡ those false (outcomes_of self.now) instructions.now) }
+    {
+        if self.top().is_none() {
+            // All are at the others; both share one list, which takes no memory.
+            let none = Instructions::new(alloc);
+            let all = instructions.copy(alloc)?;
+            return Ok((none, all));
+        }
+        // That there are at most 4,096 is what an append asks.
+        let _few = instructions.len();
+        let mut shared = Instructions::new(alloc);
+        let mut apart = Instructions::new(alloc);
+        for instruction in instructions.as_slice() {
+            self.take_one(alloc, &mut shared, &mut apart, instruction)?;
+        }
+        Ok((shared, apart))
+    }
+
+    // The layer of the frame, once it is known what is composed at its locations and what stands apart there, and how many
+    // instructions there are at the others.
+    fn layer_of(
+        &self,
+        alloc: Global,
+        frame: UpdateSet,
+        others: usize,
+        composed: &Instructions,
+        apart: &Instructions,
+        instructions: &Instructions,
+    ) -> Result<OwnLayer, StepError>
+        requires { others ≤ instructions_limit }
+        ensures { IsLayerFrom self.now frame others (composed.now ++ apart.now) instructions.now result }
+    {
+        let mut own = self.opened(alloc, frame)?;
+        mark_each(&mut own, instructions);
+        let added = fill(&mut own, composed)?;
+        let more = fill(&mut own, apart)?;
+        // That there are at most 4,096 is what the sum needs.
+        let _few = composed.len();
+        let _few_apart = apart.len();
+        let count = others + added + more;
+        if count > INSTRUCTIONS_LIMIT {
+            return Err(StepError::Many);
+        }
+        let alone = self.alone(alloc, instructions)?;
+        Ok(OwnLayer { own, alone, count })
+    }
+
+    /// The layer of a move that is next.
+    pub(crate) fn next_layer<A: Aggregator, L: Lookup>(
+        &self,
+        alloc: Global,
+        aggregator: &A,
+        below: &L,
+        instructions: &Instructions,
+    ) -> Result<OwnLayer, StepError>
+        ensures { IsNext (A.meaning aggregator.now) (L.value_at below.now) self.now instructions.now
+            (on_top self.now result) }
+    {
+        // The invariant is known once a field is read.
+        let _ = &self.layers;
+        // That there are at most 4,096 is what a first move's layer needs.
+        let _few = instructions.len();
+        let frame = frame_on(alloc, aggregator, &self.over(below), instructions)?;
+        let earlier = self.earlier_at(alloc, &frame)?;
+        let (shared, apart) = self.split(alloc, instructions)?;
+        // The sequence is promised of proper moves.
+        earlier.proper();
+        shared.proper();
+        let composed = move_after(alloc, aggregator, self.if_later(&earlier), &shared)?;
+        let others = self.count() - earlier.len();
+        self.layer_of(alloc, frame, others, &composed, &apart, instructions)
+    }
+}

@@ -1,0 +1,301 @@
+//! What moves come to at each location that they write, and how more comes in.
+ghost use Rattle.std.specs.Prelude.{◌≡◌, ◌++◌, ◌∷◌, [], true, IfOk, OnOk, OnErr, IfErr, Some, None};
+ghost use Rattle.std.specs.Option.{option_copied, option_or};
+ghost use Rattle.std.specs.FinMap as map;
+ghost use Rattle.asm_element.specs.Place.{Place};
+ghost use Rattle.asm_step.specs.Outcomes.{Outcome, Outcomes, acts, with_action, with_put, AreReplaced};
+
+use asm_element::{Location, Value};
+use asm_update::Action;
+use std::alloc::{AllocError, Global};
+use std::collections::BTreeMap;
+use std::collections::btree_map::{IntoIter, Iter};
+use std::marker::Model;
+use std::mem;
+
+/// What moves come to at a location that one of them writes.
+#[derive(Drop)]
+pub(crate) struct Outcome {
+    /// The value that they leave there.
+    value: Value,
+    /// What does there what they do in turn.
+    actions: Vec<Action>,
+    /// Whether they build on the value below: the first that writes there has partial updates alone.
+    builds: bool,
+    /// Whether they rest on it: a later one writes there too.
+    rests: bool,
+}
+
+impl Model for Outcome {
+    ghost use Rattle.asm_element.specs.contracts.value.Value.{the_row as value_row};
+    ghost use Rattle.asm_update.specs.contracts.action.Action.{the_row as action_row};
+    ghost use Rattle.asm_step.specs.Outcomes.{Outcome, outcome_code};
+
+    ghost Value = { Outcome };
+
+    ghost coded = { outcome_code value_row.coded action_row.coded };
+
+    ghost view = { λ o. record { value = o.value; actions = o.actions.items; builds = o.builds; rests = o.rests } };
+}
+
+impl Outcome {
+    /// The value, of no actions so far.
+    pub(crate) fn new(alloc: Global, value: Value, builds: bool, rests: bool) -> Outcome
+        ensures { result ≡ record { value = value; actions = []; builds = builds; rests = rests } }
+    {
+        Outcome {
+            value,
+            actions: Vec::new(alloc),
+            builds,
+            rests,
+        }
+    }
+
+    pub(crate) fn value(&self) -> &Value
+        ensures { result.now ≡ self.now.value }
+    {
+        &self.value
+    }
+
+    pub(crate) fn actions(&self) -> &[Action]
+        ensures { result.now ≡ self.now.actions }
+    {
+        self.actions.as_slice()
+    }
+
+    /// Whether there are actions.
+    pub(crate) fn acts(&self) -> bool
+        ensures { result ≡ acts self.now.actions }
+    {
+        !self.actions.is_empty()
+    }
+
+    pub(crate) fn builds(&self) -> bool
+        ensures { result ≡ self.now.builds }
+    {
+        self.builds
+    }
+
+    pub(crate) fn rests(&self) -> bool
+        ensures { result ≡ self.now.rests }
+    {
+        self.rests
+    }
+
+    fn add(&mut self, action: Action) -> Result<(), AllocError>
+        ensures { OnOk result (self.new ≡ record self.old { actions = self.old.actions ++ action ∷ [] }) }
+    {
+        self.actions.push(action)?;
+        Ok(())
+    }
+
+    fn mark(&mut self)
+        ensures { self.new ≡ record self.old { builds = self.old.rests } }
+    {
+        self.builds = self.rests;
+    }
+
+    fn copy(&self, alloc: Global) -> Result<Outcome, AllocError>
+        ensures { IfOk result (λ copy. copy ≡ self.now) }
+    {
+        Ok(Outcome {
+            value: self.value.copy(alloc)?,
+            actions: copies(alloc, self.actions.as_slice())?,
+            builds: self.builds,
+            rests: self.rests,
+        })
+    }
+}
+
+fn copies(alloc: Global, actions: &[Action]) -> Result<Vec<Action>, AllocError>
+    ensures { IfOk result (λ copied. copied.items ≡ actions.now) }
+{
+    let mut copied = Vec::new(alloc);
+    for action in actions {
+        copied.push(action.clone()?)?;
+    }
+    Ok(copied)
+}
+
+/// Outcomes of locations, which contracts see as a finite map.
+#[derive(Drop)]
+pub(crate) struct Outcomes {
+    tree: BTreeMap<Location, Outcome>,
+}
+
+impl Model for Outcomes {
+    ghost use Rattle.std.specs.FinMap as map;
+    ghost use Rattle.std.specs.List.Sorted.{IsStrictlySortedBy};
+    ghost use Rattle.std.specs.Map.{keys_of};
+    ghost use Rattle.asm_element.specs.Place.{location_cmp};
+    ghost use Rattle.asm_element.specs.contracts.location.Location.{the_row as location_row};
+    ghost use Rattle.asm_step.specs.Outcomes.{Outcome};
+    ghost use Rattle.asm_step.specs.contracts.outcomes.Outcome.{the_row as outcome_row};
+
+    ghost Value = { map.FinMap location_cmp Outcome };
+
+    ghost coded = { map.code location_row.coded outcome_row.coded };
+
+    ghost view = { λ s. map.from_entries s.tree.entries };
+
+    ghost invariant = { λ s. IsStrictlySortedBy location_cmp (keys_of s.tree.entries) };
+}
+
+impl Outcomes {
+    pub(crate) fn new(alloc: Global) -> Outcomes
+        ensures { result ≡ map.empty }
+    {
+        Outcomes {
+            tree: BTreeMap::new(alloc),
+        }
+    }
+
+    pub(crate) fn get(&self, at: &Location) -> Option<&Outcome>
+        ensures { option_copied result ≡ map.get self.now at.now }
+    {
+        self.tree.get(at)
+    }
+
+    pub(crate) fn iter(&self) -> Iter<'_, Location, Outcome>
+        ensures { result ≡ map.entries self.now }
+    {
+        self.tree.iter()
+    }
+
+    /// How many locations there are.
+    fn len(&self) -> usize
+        ensures { result ≡ map.len self.now }
+    {
+        self.tree.len()
+    }
+
+    fn into_entries(self) -> IntoIter<Location, Outcome>
+        ensures { result ≡ map.entries self }
+    {
+        self.tree.into_iter()
+    }
+
+    /// Gives the location this outcome. After an error nothing is changed.
+    pub(crate) fn put(&mut self, at: Location, outcome: Outcome) -> Result<(), AllocError>
+        ensures ok { OnOk result (self.new ≡ map.insert self.old at outcome) }
+        ensures err { OnErr result (self.new ≡ self.old) }
+    {
+        self.tree.insert(at, outcome)?;
+        Ok(())
+    }
+
+    /// Appends a copy of the action to those at the location; whether that has an outcome.
+    pub(crate) fn add(&mut self, at: &Location, action: &Action) -> Result<bool, AllocError>
+        ensures { IfOk result (λ is_there.
+            (self.new ≡ with_action at.now action.now self.old) × (is_there ≡ map.contains_key self.old at.now)) }
+    {
+        let action = action.clone()?;
+        let Some(outcome) = self.tree.get_mut(at) else {
+            return Ok(false);
+        };
+        outcome.add(action)?;
+        Ok(true)
+    }
+
+    /// Notes a regular update of the next move at the location, if that has an outcome: what was built there by
+    /// earlier moves stays, and this one builds nothing.
+    pub(crate) fn mark(&mut self, at: &Location)
+        ensures { self.new ≡ with_put at.now self.old }
+    {
+        let Some(outcome) = self.tree.get_mut(at) else {
+            return;
+        };
+        outcome.mark();
+    }
+
+    /// Replaces the outcome of the location by this one and hands the old one back; where there is none,
+    /// hands this one back.
+    fn exchange(&mut self, at: &Location, outcome: Outcome) -> Result<Outcome, Outcome>
+        ensures there { IfOk result (λ old. map.get self.old at.now ≡ Some old) }
+        ensures ok { OnOk result (self.new ≡ map.insert self.old at.now outcome) }
+        ensures absent { OnErr result (map.get self.old at.now ≡ None) }
+        ensures handed_back { IfErr result (λ handed. handed ≡ outcome) }
+        ensures err { OnErr result (self.new ≡ self.old) }
+    {
+        let Some(now) = self.tree.get_mut(at) else {
+            return Err(outcome);
+        };
+        Ok(mem::replace(now, outcome))
+    }
+
+    /// Gives the location this outcome, and hands back what it had before; after an error nothing is changed.
+    fn write_at(
+        &mut self,
+        alloc: Global,
+        at: &Location,
+        outcome: Outcome,
+    ) -> Result<Option<Outcome>, AllocError>
+        ensures before { IfOk result (λ before. before ≡ map.get self.old at.now) }
+        ensures ok { OnOk result (self.new ≡ map.insert self.old at.now outcome) }
+        ensures err { OnErr result (self.new ≡ self.old) }
+    {
+        match self.exchange(at, outcome) {
+            Ok(old) => Ok(Some(old)),
+            Err(outcome) => {
+                self.put(at.copy(alloc)?, outcome)?;
+                Ok(None)
+            }
+        }
+    }
+
+    fn take_out(&mut self, at: &Location)
+        ensures { self.new ≡ map.remove self.old at.now }
+    {
+        self.tree.remove(at);
+    }
+
+    /// Takes the last write of a location back, which takes no memory.
+    fn take_back(&mut self, at: &Location, before: Option<Outcome>)
+        ensures { (old : Outcomes) (w : Outcome) → before ≡ map.get old at.now →
+            self.old ≡ map.insert old at.now w → self.new ≡ old }
+    {
+        match before {
+            Some(outcome) => {
+                let _ = self.exchange(at, outcome);
+            }
+            None => self.take_out(at),
+        }
+    }
+
+    /// Takes writes back by what they replaced, the last one first.
+    fn take_all_back(&mut self, mut replaced: Vec<(Location, Option<Outcome>)>)
+        ensures { (old : Outcomes) → AreReplaced replaced.items old self.old → self.new ≡ old }
+    {
+        while let Some((at, before)) = replaced.pop() {
+            self.take_back(&at, before);
+        }
+    }
+
+    /// Gives each location of the outcomes above what these have there. After an error nothing is changed.
+    pub(crate) fn take_in(&mut self, alloc: Global, above: Outcomes) -> Result<(), AllocError>
+        ensures ok { OnOk result ((q : Place) → map.get self.new q ≡ option_or (map.get above q) (map.get self.old q)) }
+        ensures err { OnErr result (self.new ≡ self.old) }
+    {
+        let mut replaced = Vec::with_capacity(alloc, above.len())?;
+        for (at, outcome) in above.into_entries() {
+            match self.write_at(alloc, &at, outcome) {
+                Ok(before) => replaced.push_reserved((at, before)),
+                Err(error) => {
+                    self.take_all_back(replaced);
+                    return Err(error);
+                }
+            }
+        }
+        Ok(())
+    }
+
+    /// Gives each location of the outcomes above a copy of what these have there.
+    pub(crate) fn take_copies(&mut self, alloc: Global, above: &Outcomes) -> Result<(), AllocError>
+        ensures { OnOk result ((q : Place) → map.get self.new q ≡ option_or (map.get above.now q) (map.get self.old q)) }
+    {
+        for (at, outcome) in above.iter() {
+            self.put(at.copy(alloc)?, outcome.copy(alloc)?)?;
+        }
+        Ok(())
+    }
+}
