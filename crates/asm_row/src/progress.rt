@@ -15,8 +15,8 @@ use std::marker::Model;
 /// It borrows nothing, so one value may hold it beside an owner of the row, which it may outlive. Each
 /// call that touches a cell is passed the row, which must be the one that made the progress; no call tests
 /// this. Contracts see it as they see a seat: its row, the entries that were seen, how many offers won, and
-/// how many looks found an empty cell. It is
-/// `Send` and `Sync` for every `T`. No call waits, takes a lock or asks for memory.
+/// how many looks found an empty cell. It is `Send` and `Sync` for every `T`. No call waits, takes a lock or asks for
+/// memory.
 #[derive(Drop)]
 pub struct Progress<T> {
     capacity: u32,

@@ -14,6 +14,8 @@ enum Step {
     Loses(char, char),
     /// It looks, and finds this entry, or nothing.
     Looks(Option<char>),
+    /// It looks so many times, and finds nothing.
+    Misses(u32),
     /// It has won so many offers, found so many cells empty, and seen these entries.
     Shows(u32, u64, &'static [char]),
     /// It has seen an entry in each cell.
@@ -35,11 +37,23 @@ struct Case {
     steps: &'static [(Who, Step)],
 }
 
+// How many of so many looks find nothing.
+fn misses_in(seat: &mut Seat<'_, char>, looks: u32) -> u32 {
+    let mut misses: u32 = 0;
+    for _ in 0..looks {
+        if seat.next().is_none() {
+            misses = misses.saturating_add(1);
+        }
+    }
+    misses
+}
+
 fn takes(alloc: Global, seat: &mut Seat<'_, char>, step: Step) -> Result<bool, AllocError> {
     match step {
         Step::Wins(entry) => offers(alloc, seat, entry, None),
         Step::Loses(entry, standing) => offers(alloc, seat, entry, Some(standing)),
         Step::Looks(found) => Ok(seat.next().copied() == found),
+        Step::Misses(looks) => Ok(misses_in(seat, looks) == looks),
         Step::Shows(won, misses, entries) => {
             Ok(seat.won() == won && seat.misses() == misses && shows(seat, entries))
         }
@@ -229,6 +243,35 @@ static LATE: [Case; 4] = [
 #[test]
 fn a_seat_that_missed_wins_loses_and_finds(rt: HostRuntime) -> Result<(), Fail> {
     for case in LATE {
+        check(&rt, rt.alloc(), case)?;
+    }
+    Ok(())
+}
+
+// However often a seat has missed, it looks, wins and loses as before.
+static QUIET: [Case; 1] = [Case {
+    capacity: 3,
+    steps: &[
+        (Who::A, Step::Misses(5_000)),
+        (Who::B, Step::Misses(5_000)),
+        (Who::B, Step::Wins('p')),
+        (Who::A, Step::Looks(Some('p'))),
+        (Who::A, Step::Misses(5_000)),
+        (Who::C, Step::Looks(Some('p'))),
+        (Who::C, Step::Misses(5_000)),
+        (Who::A, Step::Wins('q')),
+        (Who::B, Step::Looks(Some('q'))),
+        (Who::B, Step::Misses(5_000)),
+        (Who::C, Step::Loses('r', 'q')),
+        (Who::A, Step::Shows(1, 10_000, &['p', 'q'])),
+        (Who::B, Step::Shows(1, 10_000, &['p', 'q'])),
+        (Who::C, Step::Shows(0, 5_000, &['p', 'q'])),
+    ],
+}];
+
+#[test]
+fn an_entry_is_found_after_thousands_of_misses(rt: HostRuntime) -> Result<(), Fail> {
+    for case in QUIET {
         check(&rt, rt.alloc(), case)?;
     }
     Ok(())

@@ -10,10 +10,10 @@ use Rattle.asm_storage.specs.declared.call.Reply.TheVariants as reply
 use Rattle.asm_storage.specs.History.{IsCoherentAt}
 use Rattle.asm_storage.specs.Agents.{moves_seen}
 use Rattle.asm_storage.specs.Storage.{AgentAt, StorageView, machine_of}
-use Rattle.asm_storage.specs.Calls.{judged_on, fired, IsAnswered, IsCoherentReply}
+use Rattle.asm_storage.specs.Calls.{after_fire, judged_on, IsAnswered, IsCoherentReply}
 use Rattle.asm_storage.proofs.Run.{coherent_at}
 
-same_storage : {A : Type 0} (old new : AgentAt A) (reads : List Named) (M : Move) (r : Reply) → new ≡ fired old new reads M r → new.storage ≡ old.storage
+same_storage : {A : Type 0} (old new : AgentAt A) (reads : List Named) (M : Move) (r : Reply) → new ≡ after_fire old new reads M r → new.storage ≡ old.storage
 same_storage {A} old new reads M (reply.Fired k) is = ap (λ (a : AgentAt A). a.storage) is
 same_storage {A} old new reads M (reply.Stale l) is = ap (λ (a : AgentAt A). a.storage) is
 same_storage {A} old new reads M (reply.Clash c) is = ap (λ (a : AgentAt A). a.storage) is

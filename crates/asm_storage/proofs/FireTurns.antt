@@ -18,18 +18,18 @@ use Rattle.asm_storage.specs.declared.part.AgentPart.{AgentPart}
 use Rattle.asm_storage.specs.declared.entry.Entry.{Entry}
 use Rattle.asm_storage.specs.declared.receipt.Receipt.{Receipt}
 use Rattle.asm_storage.specs.Agents.{moves_seen}
-use Rattle.asm_storage.specs.Calls.{receipt_at, answered, judged_on, fired, HasOffered, IsAnswered, MadeOffers, Ran}
+use Rattle.asm_storage.specs.Calls.{receipt_at, after_answer, after_fire, judged_on, HasOffered, IsAnswered, MadeOffers, Ran}
 use Rattle.asm_storage.specs.History.{fired_move}
 use Rattle.asm_storage.specs.Machine.{reply_to}
 use Rattle.asm_storage.specs.Offering.{IsOffering}
-use Rattle.asm_storage.specs.Part.{agent_of, HasFired, IsLost, IsPartOf, IsTurn, LooksOn, offers_in, misses_in}
+use Rattle.asm_storage.specs.Part.{agent_of, HasWon, IsLost, IsPartOf, IsTurn, LooksOn, offers_in, misses_in}
 use Rattle.asm_storage.specs.Limits.{offers_limit}
-use Rattle.asm_storage.specs.Storage.{AgentAt, StorageView, machine_of, has_looked, has_seen, has_fired, with_receipt}
+use Rattle.asm_storage.specs.Storage.{AgentAt, StorageView, machine_of, has_looked, has_seen, with_fired, with_receipt}
 use Rattle.asm_storage.specs.Storage.{last_look, IsReplyOf, Missed}
 use Rattle.asm_row.proofs.Prefixes.{IsPrefix-trans}
 use Rattle.asm_storage.proofs.Lists.{length-prefix}
 
-take_before : {X : Type 0} (xs : List X) (x : X) → take (length xs + 1 - 1) (xs ++ x ∷ []) ≡ xs
+pub take_before : {X : Type 0} (xs : List X) (x : X) → take (length xs + 1 - 1) (xs ++ x ∷ []) ≡ xs
 take_before xs x =
     let n : length xs + 1 - 1 ≡ length xs = omega arith in
     ap (λ k. take k (xs ++ x ∷ [])) n ∙ take-append-le (length xs) xs (x ∷ []) (omega arith)
@@ -39,7 +39,7 @@ module _ {A : Type 0} (meaning : A → Meaning) (old mid : AgentAt A) (reads : L
   -- a reply that fired nothing was judged on all that was seen, and its receipt is kept
   quiet_as : (r : Reply) (new : AgentAt A) (seen : List Entry) →
       fired_move (call.Fire reads M) (answer.Fire r) ≡ None →
-      (judged_on r seen ≡ seen) × (fired old new reads M r ≡ answered old new (call.Fire reads M) (answer.Fire r))
+      (judged_on r seen ≡ seen) × (after_fire old new reads M r ≡ after_answer old new (call.Fire reads M) (answer.Fire r))
   quiet_as (reply.Fired k) new seen quiet = absurd cc
   quiet_as (reply.Stale l) new seen quiet = (refl, refl)
   quiet_as (reply.Clash c) new seen quiet = (refl, refl)
@@ -68,7 +68,7 @@ module _ {A : Type 0} (meaning : A → Meaning) (old mid : AgentAt A) (reads : L
   pub answered_fired : (new : AgentAt A) → mid ≡ has_looked old mid.account.seen mid.misses →
       IsPrefix old.account.seen mid.account.seen →
       IsReplyOf meaning mid (call.Fire reads M) (answer.Fire (reply.Fired (length mid.account.seen + 1))) →
-      new ≡ has_fired mid (receipt_at (length mid.account.seen) (call.Fire reads M)
+      new ≡ with_fired mid (receipt_at (length mid.account.seen) (call.Fire reads M)
       (answer.Fire (reply.Fired (length mid.account.seen + 1)))) M →
       IsAnswered meaning old new reads M (reply.Fired (length mid.account.seen + 1))
   answered_fired new looked begins told is =
@@ -85,9 +85,9 @@ module _ {A : Type 0} (meaning : A → Meaning) (old mid : AgentAt A) (reads : L
       subst (λ (a : AgentAt A). IsAnswered meaning old a reads M r) (sym is) (record {
         reply = subst (λ s. replies s grown) (ap (λ (a : AgentAt A). a.storage) looked) there;
         begins = subst (IsPrefix old.account.seen) (sym before) begins;
-        agent = ap (λ (a : AgentAt A). has_fired a (receipt n) M) looked
-            ∙ ap (λ k. has_fired (has_looked old mid.account.seen mid.misses) (receipt k) M) number
-            ∙ ap (λ seen. has_fired (has_looked old seen mid.misses) (receipt (n + 1 - 1)) M) (sym before);
+        agent = ap (λ (a : AgentAt A). with_fired a (receipt n) M) looked
+            ∙ ap (λ k. with_fired (has_looked old mid.account.seen mid.misses) (receipt k) M) number
+            ∙ ap (λ seen. with_fired (has_looked old seen mid.misses) (receipt (n + 1 - 1)) M) (sym before);
       })
 
   -- what a turn answers after others were lost is an answer of the whole call
@@ -101,11 +101,11 @@ module _ {A : Type 0} (meaning : A → Meaning) (old mid : AgentAt A) (reads : L
     begins = IsPrefix-trans old.account.seen mid.account.seen (judged_on r new.account.seen) begins is.begins;
     agent = is.agent ∙ refired r;
   } where
-    refired : (s : Reply) → fired mid new reads M s ≡ fired old new reads M s
-    refired (reply.Fired k) = ap (λ (a : AgentAt A). fired a new reads M (reply.Fired k)) looked
-    refired (reply.Stale l) = ap (λ (a : AgentAt A). fired a new reads M (reply.Stale l)) looked
-    refired (reply.Clash c) = ap (λ (a : AgentAt A). fired a new reads M (reply.Clash c)) looked
-    refired reply.Full = ap (λ (a : AgentAt A). fired a new reads M reply.Full) looked
+    refired : (s : Reply) → after_fire mid new reads M s ≡ after_fire old new reads M s
+    refired (reply.Fired k) = ap (λ (a : AgentAt A). after_fire a new reads M (reply.Fired k)) looked
+    refired (reply.Stale l) = ap (λ (a : AgentAt A). after_fire a new reads M (reply.Stale l)) looked
+    refired (reply.Clash c) = ap (λ (a : AgentAt A). after_fire a new reads M (reply.Clash c)) looked
+    refired reply.Full = ap (λ (a : AgentAt A). after_fire a new reads M reply.Full) looked
 
 -- an agent that looked on keeps its number
 pub looked_id : {A : Type 0} (meaning : A → Meaning) (s : StorageView A) (old new : AgentPart) →
@@ -139,11 +139,11 @@ module _ {A : Type 0} (meaning : A → Meaning) (s : StorageView A) (old mid new
   -- what an offer of a move that was judged to fire makes of the turn
   pub attempted : (r : Result (Option Reply) AllocError) → IsPartOf meaning s new →
       IsReplyOf meaning (agent_of s mid) (call.Fire reads M) (answer.Fire (reply.Fired (length mid.progress.seen + 1))) →
-      IfOk r (λ o. IfSome o (HasFired s mid new reads M)) → IfOk r (λ o. IfNone o (IsLost s mid new)) →
+      IfOk r (λ o. IfSome o (HasWon s mid new reads M)) → IfOk r (λ o. IfNone o (IsLost s mid new)) →
       IfOk r (IsTurn meaning s old new reads M)
   attempted (Ok (Some r)) part told won lost =
       let first = agent_of s old in
-      let is = won.agent ∙ ap (λ t. has_fired (agent_of s mid)
+      let is = won.agent ∙ ap (λ t. with_fired (agent_of s mid)
       (receipt_at (length mid.progress.seen) (call.Fire reads M) (answer.Fire t)) M) won.reply in
       subst (IsAnswered meaning first (agent_of s new) reads M) (sym won.reply)
       (answered_fired meaning first (agent_of s mid) reads M (agent_of s new) looks.agent looks.seen told is)
@@ -152,7 +152,7 @@ module _ {A : Type 0} (meaning : A → Meaning) (s : StorageView A) (old mid new
 
   -- what was seen begins with what had been seen
   pub attempt_seen : (r : Result (Option Reply) AllocError) →
-      IfOk r (λ o. IfSome o (HasFired s mid new reads M)) → IfOk r (λ o. IfNone o (IsLost s mid new)) →
+      IfOk r (λ o. IfSome o (HasWon s mid new reads M)) → IfOk r (λ o. IfNone o (IsLost s mid new)) →
       OnErr r (agent_of s new ≡ agent_of s mid) → IsPrefix old.progress.seen new.progress.seen
   attempt_seen (Ok (Some r)) won lost err =
       let entry : Entry = record { agent = mid.id; instrs = M } in
@@ -166,7 +166,7 @@ module _ {A : Type 0} (meaning : A → Meaning) (s : StorageView A) (old mid new
   -- an offer that was made adds one entry, and one that was not adds none
   pub attempt_counted : (r : Result (Option Reply) AllocError) → length mid.progress.seen < length s.row →
       Missed (agent_of s old) (last_look (agent_of s mid)) (agent_of s mid) →
-      IfOk r (λ o. IfSome o (HasFired s mid new reads M)) → IfOk r (λ o. IfNone o (IsLost s mid new)) →
+      IfOk r (λ o. IfSome o (HasWon s mid new reads M)) → IfOk r (λ o. IfNone o (IsLost s mid new)) →
       OnErr r (agent_of s new ≡ agent_of s mid) →
       HasOffered (agent_of s old) (agent_of s new) (offers_in r) (misses_in (agent_of s new) r)
   attempt_counted (Ok (Some r)) room missed won lost err =
@@ -212,7 +212,7 @@ module _ {A : Type 0} (old mid new : AgentAt A) (n : ℕ) (lost : HasOffered old
 -- an offer that was made calls the closure once
 pub attempt_ran : {A F : Type 0} (step : F → F → Type 0) (f g : F) (s : StorageView A) (old new : AgentPart)
     (reads : List Named) (M : Move) (r : Result (Option Reply) AllocError) →
-    IfOk r (λ o. IfSome o (HasFired s old new reads M)) → IfOk r (λ o. step f g) → OnErr r (g ≡ f) →
+    IfOk r (λ o. IfSome o (HasWon s old new reads M)) → IfOk r (λ o. step f g) → OnErr r (g ≡ f) →
     Ran step f (offers_in r) g
 attempt_ran step f g s old new reads M (Ok (Some r)) won called uncalled =
     subst (λ (q : Reply). Ran step f (offers_in (Ok (Some q))) g) (sym won.reply) (g, called, refl)

@@ -17,3 +17,4 @@ pub mod PartKept
 pub mod ProperResults
 pub mod Rounds
 pub mod Run
+pub mod Scanning

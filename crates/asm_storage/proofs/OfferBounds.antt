@@ -27,7 +27,7 @@ module _ {A : Type 0} (old new : AgentAt A) where
       omega (arith, lt, offered.missed, last)
 
   -- no more looks find nothing than a fire makes offers
-  few_misses : (r : Result Reply FireError) (n : ℕ) → MadeOffers old new r n → new.misses ≤ old.misses + offers_limit
+  pub few_misses : (r : Result Reply FireError) (n : ℕ) → MadeOffers old new r n → new.misses ≤ old.misses + offers_limit
   few_misses (Ok (reply.Fired k)) n made = omega (arith, made.1, made.2.missed)
   few_misses (Ok (reply.Stale l)) n made = after_last n made.0 made.1
   few_misses (Ok (reply.Clash c)) n made = after_last n made.0 made.1
@@ -37,14 +37,14 @@ module _ {A : Type 0} (old new : AgentAt A) where
   few_misses (Err fire_error.Memory) n made = after_last n made.0 made.1
 
   -- a look that found nothing comes before the move that fired
-  fired_missed : (r : Result Reply FireError) (n : ℕ) → MadeOffers old new r n →
+  pub fired_missed : (r : Result Reply FireError) (n : ℕ) → MadeOffers old new r n →
       (k : ℕ) → r ≡ Ok (reply.Fired k) → min (old.misses + 1) (2 ^ 64 - 1) ≤ new.misses
   fired_missed r n made k is =
       let fired = subst (λ (q : Result Reply FireError). MadeOffers old new q n) is made in
       omega (arith, fired.0, fired.2.missed)
 
   -- a busy fire saw at least as many moves as it lost offers
-  busy_lost : (r : Result Reply FireError) (n : ℕ) → MadeOffers old new r n → IfErr r (IsBusy old new) →
+  pub busy_lost : (r : Result Reply FireError) (n : ℕ) → MadeOffers old new r n → IfErr r (IsBusy old new) →
       (from to : ℕ) → r ≡ Err (fire_error.Busy from to) → from + offers_limit ≤ to
   busy_lost r n made busy from to is =
       let lost = subst (λ (q : Result Reply FireError). MadeOffers old new q n) is made in

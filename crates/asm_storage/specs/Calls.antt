@@ -9,6 +9,7 @@ use Rattle.asm_update.specs.Aggregator.{Meaning}
 use Rattle.asm_update.specs.Move.{Move}
 use Rattle.asm_state.specs.Verdict.{least_stale}
 use Rattle.asm_state.specs.declared.named.Named.{Named}
+use Rattle.asm_state.specs.declared.scanned.Scanned.{Scanned}
 use Rattle.asm_storage.specs.declared.call.Answer.{Answer}
 use Rattle.asm_storage.specs.declared.call.Answer.TheVariants as answer
 use Rattle.asm_storage.specs.declared.call.Call.{Call}
@@ -25,7 +26,8 @@ use Rattle.asm_storage.specs.Limits.{offers_limit, reads_limit}
 use Rattle.asm_storage.specs.Machine.{reply_to}
 use Rattle.asm_storage.specs.History.{IsCoherentAt}
 use Rattle.asm_storage.specs.Agents.{moves_seen}
-use Rattle.asm_storage.specs.Storage.{AgentAt, IsSameAgent, machine_of, has_looked, with_receipt, has_fired, last_look, Missed}
+use Rattle.asm_storage.specs.Scans.{with_found, RestsOn}
+use Rattle.asm_storage.specs.Storage.{AgentAt, IsSameAgent, machine_of, has_looked, with_receipt, with_fired, last_look, Missed}
 
 -- what was read: the number of moves, the locations and their values
 pub record ReadingView : Type 0 where
@@ -48,8 +50,8 @@ abbrev pub receipt_at : ℕ → Call → Answer → Receipt
 receipt_at stood call answer = record { call = call; answer = answer; stood = stood }
 
 -- an agent that looked on and then answered: with what it has then seen, and a receipt of the call
-abbrev pub answered : {A : Type 0} → AgentAt A → AgentAt A → Call → Answer → AgentAt A
-answered old new call answer =
+abbrev pub after_answer : {A : Type 0} → AgentAt A → AgentAt A → Call → Answer → AgentAt A
+after_answer old new call answer =
     with_receipt (has_looked old new.account.seen new.misses) (receipt_at (length new.account.seen) call answer)
 
 -- what a fire was judged on: all that the agent has then seen, without the move that it fired
@@ -58,11 +60,11 @@ judged_on (reply.Fired k) seen = take (k - 1) seen
 judged_on r seen = seen
 
 -- an agent after an answered fire: `Fired` has the move as its last entry and one won offer more
-abbrev pub fired : {A : Type 0} → AgentAt A → AgentAt A → List Named → Move → Reply → AgentAt A
-fired old new reads M (reply.Fired k) =
-    has_fired (has_looked old (judged_on (reply.Fired k) new.account.seen) new.misses)
+abbrev pub after_fire : {A : Type 0} → AgentAt A → AgentAt A → List Named → Move → Reply → AgentAt A
+after_fire old new reads M (reply.Fired k) =
+    with_fired (has_looked old (judged_on (reply.Fired k) new.account.seen) new.misses)
     (receipt_at (k - 1) (call.Fire reads M) (answer.Fire (reply.Fired k))) M
-fired old new reads M r = answered old new (call.Fire reads M) (answer.Fire r)
+after_fire old new reads M r = after_answer old new (call.Fire reads M) (answer.Fire r)
 
 -- a read was answered so: as the storage of one thread does after what the agent has then seen, which begins with
 -- all that it had seen
@@ -71,7 +73,7 @@ pub record IsRead {A : Type 0} (meaning : A → Meaning) (old new : AgentAt A) (
   pub reply : read_answer r ≡ reply_to (machine_of meaning old.storage) (moves_seen new.account.seen) (call.Read places)
   pub begins : IsPrefix old.account.seen new.account.seen
   pub locations : r.places ≡ places
-  pub agent : new ≡ answered old new (call.Read places) (read_answer r)
+  pub agent : new ≡ after_answer old new (call.Read places) (read_answer r)
 
 -- what an agent's own state has at these locations, which no look is made for: the answer of the storage of one thread
 -- after the first moves that the agent has seen, as many as the number says
@@ -95,7 +97,7 @@ pub record IsAnswered {A : Type 0} (meaning : A → Meaning) (old new : AgentAt 
   pub reply : answer.Fire r ≡
       reply_to (machine_of meaning old.storage) (moves_seen (judged_on r new.account.seen)) (call.Fire reads M)
   pub begins : IsPrefix old.account.seen (judged_on r new.account.seen)
-  pub agent : new ≡ fired old new reads M r
+  pub agent : new ≡ after_fire old new reads M r
 
 -- a move that fired finds each location that it names as it was at the number under which it names it, as far as these
 -- moves stand before it
@@ -139,6 +141,27 @@ pub record IsFire {A : Type 0} (meaning : A → Meaning) (old new : AgentAt A) (
   pub many : IsErrOf result fire_error.ManyReads ↔ (reads_limit < length reads)
   -- how many offers it made; the looks that found nothing are one at least before a fired move, counted up to
   -- 2^64 - 1, and 64 at most; and a busy fire saw as many moves as it lost offers
+  pub offers : (n : ℕ) × MadeOffers old new result n
+  pub missed : (k : ℕ) → result ≡ Ok (reply.Fired k) → min (old.misses + 1) (2 ^ 64 - 1) ≤ new.misses
+  pub few : new.misses ≤ old.misses + offers_limit
+  pub lost : (from to : ℕ) → result ≡ Err (fire_error.Busy from to) → from + offers_limit ≤ to
+
+-- what a fire gives that rests on scans: what a fire gives that names, behind the reads, what was found of the scans
+pub record IsFireOver {A : Type 0} (meaning : A → Meaning) (old new : AgentAt A) (reads : List Named)
+    (scans : List Scanned) (M : Move) (result : Result Reply FireError) : Type 0 where
+  pub same : IsSameAgent old new
+  pub seen : IsPrefix old.account.seen new.account.seen
+  -- a reply is that of the storage of one thread to the fire that names what was found too, and rests on the scans
+  pub found : Option Named
+  pub answered : IfOk result (IsAnswered meaning old new (with_found reads found) M)
+  pub coherent : IfOk result (IsCoherentReply meaning new (with_found reads found) M)
+  pub rests : IfOk result (λ r.
+      RestsOn (machine_of meaning new.storage) (moves_seen (judged_on r new.account.seen)) scans found r)
+  -- as many reads and scans together as a fire may have reads
+  pub many : IsErrOf result fire_error.ManyReads ↔ (reads_limit < length reads + length scans)
+  -- the rest is as of any fire
+  pub refused : OnErr result (new ≡ has_looked old new.account.seen new.misses)
+  pub busy : IfErr result (IsBusy old new)
   pub offers : (n : ℕ) × MadeOffers old new result n
   pub missed : (k : ℕ) → result ≡ Ok (reply.Fired k) → min (old.misses + 1) (2 ^ 64 - 1) ≤ new.misses
   pub few : new.misses ≤ old.misses + offers_limit

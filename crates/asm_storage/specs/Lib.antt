@@ -7,4 +7,5 @@ pub mod Offering
 pub mod Part
 pub mod Proper
 pub mod ReceiptOrder
+pub mod Scans
 pub mod Storage

@@ -1,6 +1,6 @@
 -- The part of an agent that is no borrow: what is true of it beside its storage, and what its calls do.
 use Rattle.std.specs.Prelude.{◌≡◌, ℕ, ◌+◌, ◌-◌, ◌^◌, ◌<◌, ◌≤◌, List, length, take, Option, Some, None, Result, Ok, Err}
-use Rattle.std.specs.Prelude.{[], ◌∷◌, Bool, false, ◌&&◌, nat_lt, IsOk, IsTrue}
+use Rattle.std.specs.Prelude.{[], ◌∷◌, Bool, false, ◌&&◌, nat_le, IsOk, IsTrue}
 use Rattle.std.specs.declared.alloc.AllocError.{AllocError}
 use mathlib.Core.List.{IsPrefix}
 use Rattle.asm_update.specs.Aggregator.{Meaning}
@@ -11,18 +11,20 @@ use Rattle.asm_state.specs.Stands.{Stands}
 use Rattle.asm_state.specs.Verdict.{least_stale}
 use Rattle.asm_state.specs.View.{StateView}
 use Rattle.asm_state.specs.declared.named.Named.{Named}
+use Rattle.asm_state.specs.declared.scanned.Scanned.{Scanned}
 use Rattle.asm_storage.specs.declared.call.Answer.TheVariants as answer
 use Rattle.asm_storage.specs.declared.call.Call.TheVariants as call
 use Rattle.asm_storage.specs.declared.call.Reply.{Reply}
 use Rattle.asm_storage.specs.declared.call.Reply.TheVariants as reply
 use Rattle.asm_storage.specs.declared.part.AgentPart.{AgentPart}
 use Rattle.asm_storage.specs.declared.entry.Entry.{Entry}
-use Rattle.asm_storage.specs.Limits.{agents_limit}
+use Rattle.asm_storage.specs.Limits.{agents_limit, most_plain}
 use Rattle.asm_storage.specs.Machine.{Machine, reply_to}
 use Rattle.asm_storage.specs.History.{fired_move}
 use Rattle.asm_storage.specs.Agents.{AgentView, IsAgent, moves_seen}
-use Rattle.asm_storage.specs.Calls.{receipt_at, IsAnswered}
-use Rattle.asm_storage.specs.Storage.{AgentAt, StorageView, machine_of, has_seen, has_looked, has_fired, last_look}
+use Rattle.asm_storage.specs.Calls.{receipt_at, judged_on, IsAnswered}
+use Rattle.asm_storage.specs.Scans.{with_found, RestsOn}
+use Rattle.asm_storage.specs.Storage.{AgentAt, StorageView, machine_of, has_seen, has_looked, with_fired, last_look}
 
 -- the agent that the part is of
 abbrev pub account_of : AgentPart → AgentView
@@ -58,16 +60,21 @@ pub record IsLost {A : Type 0} (s : StorageView A) (old new : AgentPart) : Type 
   pub longer : length new.progress.seen ≡ length old.progress.seen + 1
 
 -- the offer of the move was won, and this is the reply: the move is the one after those that had been seen
-pub record HasFired {A : Type 0} (s : StorageView A) (old new : AgentPart) (reads : List Named) (M : Move) (r : Reply)
+pub record HasWon {A : Type 0} (s : StorageView A) (old new : AgentPart) (reads : List Named) (M : Move) (r : Reply)
     : Type 0 where
   pub reply : r ≡ reply.Fired (length old.progress.seen + 1)
-  pub agent : agent_of s new ≡ has_fired (agent_of s old)
+  pub agent : agent_of s new ≡ with_fired (agent_of s old)
       (receipt_at (length old.progress.seen) (call.Fire reads M) (answer.Fire r)) M
 
--- whether a move is judged alike on every state: it has no named read and no partial update, and at most 16 instructions
+-- whether a move is judged alike on every state: it has no named read, no partial update and few instructions
 abbrev pub is_plain : List Named → Move → Bool
-is_plain [] M = nat_lt (length M) 17 && all_regular M
+is_plain [] M = nat_le (length M) most_plain && all_regular M
 is_plain (r ∷ rs) M = false
+
+-- whether it is so of one that rests on scans: on none
+abbrev pub is_plain_over : List Named → List Scanned → Move → Bool
+is_plain_over reads [] M = is_plain reads M
+is_plain_over reads (s ∷ ss) M = false
 
 -- the reply to a fire after these moves, where it fires nothing; with None it is to fire
 abbrev pub IsReplyAt : Part → State → List Move → Bool → List Named → Move → Option Reply → Type 0
@@ -94,6 +101,14 @@ abbrev pub IsTurn : {A : Type 0} → (A → Meaning) → StorageView A → Agent
     Option Reply → Type 0
 IsTurn meaning s old new reads M (Some r) = IsAnswered meaning (agent_of s old) (agent_of s new) reads M r
 IsTurn meaning s old new reads M None = LooksOn meaning s old new
+
+-- one turn of a fire that rests on scans: it was answered, and rests on what was found; or an offer was lost
+abbrev pub IsTurnOver : {A : Type 0} → (A → Meaning) → StorageView A → AgentPart → AgentPart → List Named →
+    List Scanned → Move → Option Reply → Type 0
+IsTurnOver meaning s old new reads scans M (Some r) = (found : Option Named)
+    × IsAnswered meaning (agent_of s old) (agent_of s new) (with_found reads found) M r
+    × RestsOn (machine_of meaning s) (moves_seen (judged_on r new.progress.seen)) scans found r
+IsTurnOver meaning s old new reads scans M None = LooksOn meaning s old new
 
 -- how many offers the turn made
 abbrev pub offers_in : Result (Option Reply) AllocError → ℕ

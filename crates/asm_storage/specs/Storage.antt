@@ -76,8 +76,8 @@ abbrev pub with_receipt : {A : Type 0} → AgentAt A → Receipt → AgentAt A
 with_receipt a r = record a { account = record a.account { receipts = a.account.receipts ++ r ∷ [] } }
 
 -- the agent when it has fired a move, with the receipt of it
-abbrev pub has_fired : {A : Type 0} → AgentAt A → Receipt → Move → AgentAt A
-has_fired a r M =
+abbrev pub with_fired : {A : Type 0} → AgentAt A → Receipt → Move → AgentAt A
+with_fired a r M =
     record a {
       account = record {
         id = a.account.id;

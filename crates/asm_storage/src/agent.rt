@@ -2,7 +2,7 @@ ghost use Rattle.std.specs.Prelude.{filter, ◌≡◌, ◌↔◌, ◌<◌, ℕ, 
 ghost use mathlib.Core.List.{IsPrefix};
 ghost use Rattle.asm_storage.specs.declared.error.ReadError.TheVariants.{ManyLocations};
 ghost use Rattle.asm_storage.specs.Agents.{IsAgent, is_fired};
-ghost use Rattle.asm_storage.specs.Calls.{HasLookedFor, IsFire, IsPeek, IsRead, IsStaleRead, MadeOffers, Ran};
+ghost use Rattle.asm_storage.specs.Calls.{HasLookedFor, IsFire, IsFireOver, IsPeek, IsRead, IsStaleRead, MadeOffers, Ran};
 ghost use Rattle.asm_storage.specs.Limits.{agents_limit, reads_limit};
 ghost use Rattle.asm_storage.specs.Part.{agent_of, IsFollowing, IsPartOf};
 ghost use Rattle.asm_storage.specs.Storage.{machine_of, has_seen, has_looked, last_look, IsSameAgent, Missed};
@@ -17,7 +17,7 @@ use crate::receipt::Receipt;
 use crate::shared_lists::copied_named;
 use crate::storage::Storage;
 use asm_element::Location;
-use asm_state::{Named, State};
+use asm_state::{Named, Scanned, State};
 use asm_update::{Aggregator, Instructions};
 use std::alloc::{AllocError, Global};
 use std::marker::Model;
@@ -146,7 +146,8 @@ impl<'s, A: Aggregator + Sync + Drop> Agent<'s, A> {
     /// answers how many moves it has then seen.
     ///
     /// `AllocError` comes only where memory was refused; it may then have seen more. Between this call and the
-    /// next that looks or fires, `state` and `peek` stand at this number.
+    /// next that looks or fires, `state` and `peek` stand at this number. What contracts see of an agent leaves out
+    /// where its state stands, so that is proved of its part alone, and tested.
     pub fn follow(&mut self, alloc: Global) -> Result<u32, AllocError>
         ensures same { IsSameAgent self.old self.new }
         ensures number { IfOk result (λ n. n ≡ length self.new.account.seen) }
@@ -155,8 +156,7 @@ impl<'s, A: Aggregator + Sync + Drop> Agent<'s, A> {
         ensures kept { self.new ≡ has_looked self.old self.new.account.seen self.new.misses }
     {
         let storage = self.storage;
-        self.part.follow_row(alloc, storage)?;
-        Ok(self.part.progress.seen_len())
+        self.part.follow(alloc, storage)
     }
 
     /// Its own state, which stands for the first moves that it has seen, as many as the state's number says.
@@ -173,7 +173,8 @@ impl<'s, A: Aggregator + Sync + Drop> Agent<'s, A> {
     /// The values of the locations in its own state, with the number of moves at which it stands, without a look
     /// and without a receipt.
     ///
-    /// `AllocError` comes only where memory was refused.
+    /// `AllocError` comes only where memory was refused. What contracts see of an agent leaves out where its state
+    /// stands, so that the number is that of `state` is proved of its part alone, and tested.
     pub fn peek(&self, alloc: Global, places: &[Location]) -> Result<Reading, AllocError>
         ensures { IfOk result (IsPeek A.meaning self.now places.now) }
     {
@@ -232,6 +233,71 @@ impl<'s, A: Aggregator + Sync + Drop> Agent<'s, A> {
         Ok(reading)
     }
 
+    /// Fires a move, if none of the named locations was written since it was read, and no location of a scanned name
+    /// since that was scanned: at most 256 reads and scans together.
+    ///
+    /// A scan rests on a whole function: on each location of its name, whether it has a value or none, so a move that
+    /// gives a value to a further one overtakes it. It names no location; a turn walks
+    /// what moves wrote of that name, up to the first location that overtakes the scan.
+    ///
+    /// It goes in turns. A turn looks at the row until it finds nothing more and has the agent's state follow
+    /// what it found. Where a scan was overtaken, the call is from then on the one that names, behind the reads, the
+    /// least location that was written, at the number of the scan: its reply is `Stale`. Else it answers `Stale` with
+    /// the least stale location, else the move's `Clash`, else `Full` where it has seen as many moves as the
+    /// capacity, and else it calls `between` and offers the move for the next place of the row. A won offer answers
+    /// `Fired`; a lost one begins a new turn. A receipt is kept of each answer.
+    ///
+    /// `FireError::ManyReads` comes exactly for more reads and scans, before anything else; `Busy` where 64
+    /// offers of this call were lost, with what had been seen at its start and at its end; `Memory` only
+    /// where memory was refused, and never after an offer that was won. After an error the agent has won no
+    /// offer more and no receipt was added, and after `Busy` and `Memory` it may have seen more.
+    ///
+    /// Contracts don't tell what stands in the row: that the call adds the move that it fires, and no other,
+    /// and that `between` is called before each offer is tested.
+    pub fn try_fire_over_with<F: FnMut()>(
+        &mut self,
+        alloc: Global,
+        reads: &[Named],
+        scans: &[Scanned],
+        instrs: &Instructions,
+        between: &mut F,
+    ) -> Result<Reply, FireError>
+        requires { F.IsAlwaysCallable between.old }
+        ensures fire { IsFireOver A.meaning self.old self.new reads.now scans.now instrs.now result }
+        // The closure was called as often as offers were made.
+        ensures callable { F.IsAlwaysCallable between.new }
+        ensures offers { (n : ℕ) × MadeOffers self.old self.new result n ×
+            Ran (λ f g. F.step f tt g) between.old n between.new }
+    {
+        if reads.len() > READS_LIMIT || scans.len() > READS_LIMIT - reads.len() {
+            return Err(FireError::ManyReads);
+        }
+        let storage = self.storage;
+        match copied_named(alloc, reads) {
+            Ok(named) => self
+                .part
+                .fire(alloc, storage, &named, scans, instrs, between),
+            Err(_) => {
+                self.part.look(storage);
+                Err(FireError::Memory)
+            }
+        }
+    }
+
+    /// Fires a move, if none of the named locations was written since it was read, and no location of a scanned name
+    /// since that was scanned: the same as `try_fire_over_with` with a closure that does nothing.
+    pub fn try_fire_over(
+        &mut self,
+        alloc: Global,
+        reads: &[Named],
+        scans: &[Scanned],
+        instrs: &Instructions,
+    ) -> Result<Reply, FireError>
+        ensures { IsFireOver A.meaning self.old self.new reads.now scans.now instrs.now result }
+    {
+        self.try_fire_over_with(alloc, reads, scans, instrs, &mut || {})
+    }
+
     /// Fires a move, if none of the at most 256 named locations was written since it was read.
     ///
     /// It goes in turns. A turn looks at the row until it finds nothing more and has the agent's state follow
@@ -261,17 +327,7 @@ impl<'s, A: Aggregator + Sync + Drop> Agent<'s, A> {
         ensures offers { (n : ℕ) × MadeOffers self.old self.new result n ×
             Ran (λ f g. F.step f tt g) between.old n between.new }
     {
-        if reads.len() > READS_LIMIT {
-            return Err(FireError::ManyReads);
-        }
-        let storage = self.storage;
-        match copied_named(alloc, reads) {
-            Ok(named) => self.part.fire(alloc, storage, &named, instrs, between),
-            Err(_) => {
-                self.part.look(storage);
-                Err(FireError::Memory)
-            }
-        }
+        self.try_fire_over_with(alloc, reads, &[], instrs, between)
     }
 
     /// Fires a move, if none of the at most 256 named locations was written since it was read: the same as

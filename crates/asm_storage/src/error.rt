@@ -21,7 +21,7 @@ pub enum ReadError {
 /// Why a fire wasn't answered.
 #[derive(Debug, Drop, PartialEq, Eq, Error)]
 pub enum FireError {
-    /// More than 256 named reads. This is found before anything else.
+    /// More than 256 named reads and scans together. This is found before anything else.
     #[error("more than 256 named reads")]
     ManyReads,
     /// 64 offers of the call were lost.

@@ -1,6 +1,7 @@
 ghost use Rattle.std.specs.Prelude.{◌≡◌, ◌↔◌, length, min, All, IsTrue};
 ghost use Rattle.std.specs.Option.{option_copied};
 ghost use Rattle.asm_storage.specs.History.{move_of, fired_moves, EventFits, CallFits, Fits};
+ghost use Rattle.asm_storage.specs.Limits.{most_counted};
 
 use crate::call::{Answer, Call, Reply};
 use crate::limits::{AGENTS_LIMIT, EVENTS_LIMIT, READS_LIMIT};
@@ -69,7 +70,7 @@ pub struct History {
 impl History {
     /// How many moves were fired; 4,294,967,295 where there are more.
     pub fn moves(&self) -> u32
-        ensures { result ≡ min (length (fired_moves self.now.events)) 4294967295 }
+        ensures { result ≡ min (length (fired_moves self.now.events)) most_counted }
     {
         let mut count = 0u32;
         for event in self.events.as_slice() {

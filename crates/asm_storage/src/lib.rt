@@ -4,6 +4,9 @@
 //! with a state of its own: it looks for new moves, judges its call on what it has then seen, and offers its move
 //! for the next place of the row. `Storage::close` merges the receipts of agents into one history, in which each
 //! answer is the one that a storage of one thread gives. No call waits or takes a lock.
+//!
+//! Where a comment says that memory was refused, it may also be that more copies would share a list or an opening
+//! state than can be counted.
 #![tactic(auto)]
 
 mod agent;

@@ -1,7 +1,7 @@
 /// The most agents of a storage: their numbers are below it.
 pub const AGENTS_LIMIT: u32 = 256;
 
-/// The most locations of a read, and the most named reads of a fire.
+/// The most locations of a read, and the most named reads and scans of a fire together.
 pub const READS_LIMIT: usize = 256;
 
 /// The most offers of a fire, which answers `Busy` where all of them are lost.

@@ -8,6 +8,7 @@ mod fire;
 mod judging;
 mod offering;
 mod read;
+mod scanning;
 
 use crate::agent::Mark;
 use crate::entry::Entry;
@@ -110,6 +111,23 @@ impl AgentPart {
     {
         self.look(storage);
         self.catch_up(alloc, storage)
+    }
+
+    /// Looks on, has the state follow, and tells at which number the state then stands.
+    pub(crate) fn follow<A: Aggregator + Sync + Drop>(
+        &mut self,
+        alloc: Global,
+        storage: &Storage<A>,
+    ) -> Result<u32, AllocError>
+        requires { IsPartOf A.meaning storage.now self.old }
+        ensures looks { LooksOn A.meaning storage.now self.old self.new }
+        ensures missed { Missed (agent_of storage.now self.old) (last_look (agent_of storage.now self.new))
+            (agent_of storage.now self.new) }
+        ensures number { IfOk result (λ n. n ≡ self.new.state.number) }
+        ensures level { IfOk result (λ n. n ≡ length self.new.progress.seen) }
+    {
+        self.follow_row(alloc, storage)?;
+        Ok(self.progress.seen_len())
     }
 
     /// Takes in what the mark holds, as far as it was not seen.

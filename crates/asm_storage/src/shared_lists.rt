@@ -1,5 +1,6 @@
 //! Lists that calls, answers, receipts and events share, so that a copy of one takes no memory.
 ghost use Rattle.std.specs.Prelude.{◌≡◌, IfOk};
+ghost use Rattle.asm_storage.specs.Scans.{with_found};
 
 use asm_element::{Items, Location};
 use asm_state::Named;
@@ -22,7 +23,7 @@ pub(crate) fn same_list<T: Clone>(items: &Items<T>) -> Result<Items<T>, AllocErr
     items.clone()
 }
 
-// The same locations, in memory of their own.
+// The same locations, in a list of their own.
 fn copied_places(alloc: Global, places: &[Location]) -> Result<Items<Location>, AllocError>
     ensures { IfOk result (λ copy. copy ≡ places.now) }
 {
@@ -48,14 +49,40 @@ pub(crate) fn places_again(
     }
 }
 
-/// The same named reads, in memory of their own.
-pub(crate) fn copied_named(alloc: Global, reads: &[Named]) -> Result<Items<Named>, AllocError>
-    ensures { IfOk result (λ copy. copy ≡ reads.now) }
+// Copies of the named reads.
+fn named_copies(alloc: Global, reads: &[Named]) -> Result<Vec<Named>, AllocError>
+    ensures { IfOk result (λ copies. copies.items ≡ reads.now) }
 {
     let mut items = Vec::with_capacity(alloc, reads.len())?;
     for named in reads {
         let copy = named.copy(alloc)?;
         items.push(copy)?;
     }
+    Ok(items)
+}
+
+/// The same named reads, in a list of their own.
+pub(crate) fn copied_named(alloc: Global, reads: &[Named]) -> Result<Items<Named>, AllocError>
+    ensures { IfOk result (λ copy. copy ≡ reads.now) }
+{
+    let items = named_copies(alloc, reads)?;
     shared_list(alloc, items)
+}
+
+/// The same named reads, and one more behind them if one was found.
+pub(crate) fn named_with(
+    alloc: Global,
+    reads: &Items<Named>,
+    found: Option<Named>,
+) -> Result<Items<Named>, AllocError>
+    ensures { IfOk result (λ named. named ≡ with_found reads.now found) }
+{
+    match found {
+        None => same_list(reads),
+        Some(named) => {
+            let mut items = named_copies(alloc, reads.as_slice())?;
+            items.push(named)?;
+            shared_list(alloc, items)
+        }
+    }
 }

@@ -1,1 +1,2 @@
 pub mod AgentIds
+pub mod RanKeeps

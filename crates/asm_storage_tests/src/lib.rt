@@ -46,6 +46,8 @@ mod telling;
 #[cfg(test)]
 mod two_agents;
 #[cfg(test)]
+mod whole_functions;
+#[cfg(test)]
 mod wide_moves;
 #[cfg(test)]
 mod workers;

@@ -10,6 +10,7 @@ use crate::limits::{names_many, reads_many};
 use crate::named_readings::{Round, rests};
 use crate::performing::{Standard, asks, counts, learns, learns_from_before, performs_in_the_end};
 use crate::plain_moves::puts_often;
+use crate::whole_functions::{Turn, is_many, is_over};
 use crate::wide_moves::{Wide, sees};
 use asm_aggregate::standard;
 use asm_element::{ElemSet, Value};
@@ -56,6 +57,10 @@ pub(crate) enum Step {
     Wide(&'static Wide),
     /// The first reads, the second fires, and the first fires by its reading.
     Rest(&'static Round),
+    /// It fires what rests on whole functions, while the other may fire.
+    Over(Who, &'static Turn),
+    /// The first fires by so many named reads and so many scans; whether that is refused for their number.
+    OverMany(usize, usize, bool),
     /// The first reads so many locations; whether that isn't refused for their number.
     ReadMany(usize, bool),
     /// The first fires by so many named reads; whether that isn't refused for their number.
@@ -164,6 +169,11 @@ impl Two<'_> {
             Step::Wide(wide) => sees(alloc, &mut self.a, &mut self.b, wide),
             Step::Contend(contest) => contends(alloc, &mut self.a, &mut self.b, contest),
             Step::Rest(round) => rests(alloc, &mut self.a, &mut self.b, round),
+            Step::Over(Who::A, turn) => is_over(alloc, &mut self.a, &mut self.b, turn),
+            Step::Over(Who::B, turn) => is_over(alloc, &mut self.b, &mut self.a, turn),
+            Step::OverMany(reads, scans, is_refused) => {
+                Ok(is_many(alloc, &mut self.a, reads, scans)? == is_refused)
+            }
             Step::ReadMany(n, is_good) => reads_many(alloc, &mut self.a, n, is_good),
             Step::NameMany(n, is_good) => names_many(alloc, &mut self.a, n, is_good),
             Step::Retry(act, want, seen) => retries(alloc, &mut self.a, act, want, seen),

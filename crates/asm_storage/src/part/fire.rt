@@ -5,12 +5,12 @@ ghost use Rattle.asm_storage.specs.declared.call.Answer.TheVariants as answer;
 ghost use Rattle.asm_storage.specs.declared.call.Call.TheVariants as call;
 ghost use Rattle.asm_storage.specs.declared.call.Reply.TheVariants as reply;
 ghost use Rattle.asm_storage.specs.History.{fired_move};
-ghost use Rattle.asm_storage.specs.Storage.{machine_of, has_fired, with_receipt, last_look, IsReplyOf, Missed};
+ghost use Rattle.asm_storage.specs.Storage.{machine_of, with_fired, with_receipt, last_look, IsReplyOf, Missed};
 ghost use Rattle.asm_storage.specs.Limits.{reads_limit};
 ghost use Rattle.asm_storage.specs.Offering.{IsOffering, IsSameOffering};
-ghost use Rattle.asm_storage.specs.Calls.{receipt_at, HasOffered, IsFire, MadeOffers, Ran};
-ghost use Rattle.asm_storage.specs.Part.{agent_of, is_plain, offers_in, misses_in};
-ghost use Rattle.asm_storage.specs.Part.{HasFired, IsJudged, IsLost, IsPartOf, IsTurn, LooksOn};
+ghost use Rattle.asm_storage.specs.Calls.{receipt_at, HasOffered, IsFireOver, MadeOffers, Ran};
+ghost use Rattle.asm_storage.specs.Part.{agent_of, is_plain, is_plain_over, offers_in, misses_in};
+ghost use Rattle.asm_storage.specs.Part.{HasWon, IsJudged, IsLost, IsPartOf, IsTurnOver, LooksOn};
 
 use crate::call::{Answer, Call, Reply, fire_call};
 use crate::error::FireError;
@@ -18,10 +18,11 @@ use crate::limits::OFFERS_LIMIT;
 use crate::part::AgentPart;
 use crate::part::judging::{is_plain, judged, judged_plain};
 use crate::part::offering::Offering;
+use crate::part::scanning::is_plain_over;
 use crate::receipt::Receipt;
 use crate::storage::Storage;
 use asm_element::Items;
-use asm_state::Named;
+use asm_state::{Named, Scanned};
 use asm_update::{Aggregator, Instructions};
 use std::alloc::{AllocError, Global};
 
@@ -32,16 +33,17 @@ impl AgentPart {
         alloc: Global,
         storage: &Storage<A>,
         reads: &[Named],
+        scans: &[Scanned],
         instrs: &Instructions,
     ) -> Result<(), AllocError>
         requires { IsPartOf A.meaning storage.now self.old }
         ensures looks { LooksOn A.meaning storage.now self.old self.new }
         ensures missed { Missed (agent_of storage.now self.old) (last_look (agent_of storage.now self.new))
             (agent_of storage.now self.new) }
-        ensures level { OnOk result (is_plain reads.now instrs.now ≡ false →
+        ensures level { OnOk result (is_plain_over reads.now scans.now instrs.now ≡ false →
             self.new.state.number ≡ length self.new.progress.seen) }
     {
-        if is_plain(reads, instrs) {
+        if is_plain_over(reads, scans, instrs) {
             self.look(storage);
             return Ok(());
         }
@@ -142,7 +144,7 @@ impl AgentPart {
 
         // A won offer has its receipt; a lost one comes back.
         ensures won { IfOk result (λ o. IfNone o (
-            agent_of storage.now self.new ≡ has_fired (agent_of storage.now self.old)
+            agent_of storage.now self.new ≡ with_fired (agent_of storage.now self.old)
             (receipt_at (length self.old.progress.seen) offering.call answer) offering.entry.value.instrs)) }
         ensures lost { IfOk result (λ o. IfSome o (λ back. IsLost storage.now self.old self.new)) }
         ensures back { IfOk result (λ o. IfSome o (IsSameOffering offering)) }
@@ -194,7 +196,7 @@ impl AgentPart {
         ensures err { OnErr result (agent_of storage.now self.new ≡ agent_of storage.now self.old) }
 
         // The offer won or lost, and what a lost one offered is kept.
-        ensures won { IfOk result (λ o. IfSome o (HasFired storage.now self.old self.new reads.now instrs.now)) }
+        ensures won { IfOk result (λ o. IfSome o (HasWon storage.now self.old self.new reads.now instrs.now)) }
         ensures lost { IfOk result (λ o. IfNone o (IsLost storage.now self.old self.new)) }
         ensures pending { IfSome pending.new (IsOffering self.old.id reads.now instrs.now) }
         ensures kept { result ≡ Ok None → IsSome pending.new }
@@ -218,12 +220,14 @@ impl AgentPart {
         }
     }
 
-    // One turn of a fire: the reply, or None where an offer was lost.
+    // One turn of a fire: the reply, or None where an offer was lost. Where a scan was overtaken, the call that is
+    // judged and kept is the one that names what was written, so it is stale.
     fn turn<A: Aggregator + Sync + Drop, F: FnMut()>(
         &mut self,
         alloc: Global,
         storage: &Storage<A>,
         reads: &Items<Named>,
+        scans: &[Scanned],
         instrs: &Instructions,
         pending: &mut Option<Offering>,
         between: &mut F,
@@ -239,7 +243,8 @@ impl AgentPart {
         ensures err { OnErr result (LooksOn A.meaning storage.now self.old self.new) }
 
         // It was answered, or an offer was lost, and what that offered is kept.
-        ensures turn { IfOk result (IsTurn A.meaning storage.now self.old self.new reads.now instrs.now) }
+        ensures turn { IfOk result (
+            IsTurnOver A.meaning storage.now self.old self.new reads.now scans.now instrs.now) }
         ensures pending { IfSome pending.new (IsOffering self.old.id reads.now instrs.now) }
 
         // Offers and misses are counted, and the closure was called as often as offers were made.
@@ -248,10 +253,11 @@ impl AgentPart {
         ensures callable { F.IsAlwaysCallable between.new }
         ensures calls { Ran (λ f g. F.step f tt g) between.old (offers_in result) between.new }
     {
-        self.make_ready(alloc, storage, reads.as_slice(), instrs)?;
-        match self.judge(alloc, storage, reads.as_slice(), instrs)? {
+        self.make_ready(alloc, storage, reads.as_slice(), scans, instrs)?;
+        let named = self.named_over(alloc, storage, reads, scans)?;
+        match self.judge(alloc, storage, named.as_slice(), instrs)? {
             Some(reply) => {
-                self.keep_reply(alloc, storage, reads, instrs, &reply)?;
+                self.keep_reply(alloc, storage, &named, instrs, &reply)?;
                 Ok(Some(reply))
             }
             None => self.attempt(alloc, storage, reads, instrs, pending, between),
@@ -265,15 +271,16 @@ impl AgentPart {
         alloc: Global,
         storage: &Storage<A>,
         reads: &Items<Named>,
+        scans: &[Scanned],
         instrs: &Instructions,
         between: &mut F,
     ) -> Result<Reply, FireError>
         requires part { IsPartOf A.meaning storage.now self.old }
-        requires few { length reads.now ≤ reads_limit }
+        requires few { length reads.now + length scans.now ≤ reads_limit }
         requires callable { F.IsAlwaysCallable between.old }
         ensures part { IsPartOf A.meaning storage.now self.new }
-        ensures fire { IsFire A.meaning (agent_of storage.now self.old) (agent_of storage.now self.new)
-            reads.now instrs.now result }
+        ensures fire { IsFireOver A.meaning (agent_of storage.now self.old) (agent_of storage.now self.new)
+            reads.now scans.now instrs.now result }
         ensures callable { F.IsAlwaysCallable between.new }
         ensures offers { (n : ℕ) ×
             MadeOffers (agent_of storage.now self.old) (agent_of storage.now self.new) result n ×
@@ -282,7 +289,7 @@ impl AgentPart {
         let from = self.progress.seen_len();
         let mut pending = None;
         for lost in 0..OFFERS_LIMIT {
-            match self.turn(alloc, storage, reads, instrs, &mut pending, between)? {
+            match self.turn(alloc, storage, reads, scans, instrs, &mut pending, between)? {
                 Some(reply) => return Ok(reply),
                 None => {}
             }

@@ -1,12 +1,14 @@
-use Rattle.std.proofs.Common.{◌+◌, Err, Ok, Option, Some, arith, refl, ap, sym, ◌∙◌, subst}
+use Rattle.std.proofs.Common.{◌+◌, Err, Ok, Option, None, Some, arith, refl, ap, sym, ◌∙◌, subst}
 use Rattle.std.proofs.lemmas.Result.{err_from_is_err_and}
 use Rattle.asm_storage.specs.declared.call.Reply.{Reply}
-use Rattle.asm_storage.specs.Calls.{HasOffered, IsFire, MadeOffers, Ran}
-use Rattle.asm_storage.specs.Part.{agent_of, IsTurn, offers_in, misses_in}
+use Rattle.asm_storage.specs.declared.error.FireError.TheVariants as fire_error
+use Rattle.asm_storage.specs.Calls.{HasOffered, IsFireOver, MadeOffers, Ran}
+use Rattle.asm_storage.specs.Part.{agent_of, IsTurnOver, offers_in, misses_in}
+use Rattle.asm_storage.specs.Scans.{with_found}
 use Rattle.asm_row.proofs.Prefixes.{IsPrefix-trans}
-use Rattle.asm_storage.proofs.OfferBounds.{is_fire}
 use Rattle.asm_storage.proofs.PartKept.{looks_then}
 use Rattle.asm_storage.proofs.FireTurns.{answered_after, offered_then, offers_answered, offers_refused, looked_id, ran_then, same_offering}
+use Rattle.asm_storage.proofs.Scanning.{is_over}
 use Rattle.asm_storage.proofs.part.AgentPart.fire.Goals as goal
 
 -- memory was refused in a turn
@@ -54,7 +56,7 @@ loop-lost-preserved g c =
     let new = c.turn.new.self in
     let lost = c.loop-lost.lost in
     let before = c.loop-lost.invariant in
-    let is = subst (λ (o : Option Reply). IsTurn meaning s mid new c.args.reads.now c.args.instrs.now o) c.in-None.is
+    let is = subst (λ (o : Option Reply). IsTurnOver meaning s mid new c.args.reads.now c.args.scans.now c.args.instrs.now o) c.in-None.is
     c.in_ok-reply.ensures.turn in
     let counted = subst (λ (o : Option Reply). HasOffered (agent_of s mid) (agent_of s new) (offers_in (Ok o))
     (misses_in (agent_of s new) (Ok o))) c.in-None.is c.in_ok-reply.ensures.counted in
@@ -87,9 +89,9 @@ returns-in_err-reply-clause-fire g c =
     let told = err_from_is_err_and c.from_residual.result c.from_residual.ensures.1 in
     let refused = told.1 ∙ ap Err told.2 in
     let offers = returns-in_err-reply-clause-offers g c in
-    subst (λ r. IsFire meaning (agent_of s old) (agent_of s new) c.args.reads.now c.args.instrs.now r) (sym refused)
-    (is_fire (agent_of s old) (agent_of s new) meaning c.args.reads.now c.args.instrs.now _ offers.0
-    (record { storage = refl; id = looked_id meaning s old new is }) is.seen tt is.agent tt
+    subst (λ r. IsFireOver meaning (agent_of s old) (agent_of s new) c.args.reads.now c.args.scans.now c.args.instrs.now r) (sym refused)
+    (is_over meaning (agent_of s old) (agent_of s new) c.args.reads.now c.args.scans.now c.args.instrs.now _ None offers.0
+    (record { storage = refl; id = looked_id meaning s old new is }) is.seen tt tt is.agent tt
     (λ e. absurd cc, λ lt. absurd (omega (arith, lt, c.requires.few)))
     (subst (λ r. MadeOffers (agent_of s old) (agent_of s new) r offers.0) refused offers.1))
 
@@ -102,11 +104,28 @@ returns-in-Some-clause-fire g c =
     let new = c.turn.new.self in
     let looks = c.loop-lost.invariant.looks in
     let offers = returns-in-Some-clause-offers g c in
-    let is = subst (λ (o : Option Reply). IsTurn meaning s mid new c.args.reads.now c.args.instrs.now o) c.in-Some.is
+    let (found, answered, rests) = subst (λ (o : Option Reply).
+    IsTurnOver meaning s mid new c.args.reads.now c.args.scans.now c.args.instrs.now o) c.in-Some.is
     c.in_ok-reply.ensures.turn in
-    is_fire (agent_of s old) (agent_of s new) meaning c.args.reads.now c.args.instrs.now (Ok c.in-Some.reply) offers.0
+    is_over meaning (agent_of s old) (agent_of s new) c.args.reads.now c.args.scans.now c.args.instrs.now (Ok c.in-Some.reply) found offers.0
     (record { storage = refl; id = c.turn.ensures.id ∙ looked_id meaning s old mid looks })
     (IsPrefix-trans old.progress.seen mid.progress.seen new.progress.seen looks.seen c.turn.ensures.seen)
-    (answered_after meaning (agent_of s old) (agent_of s mid) c.args.reads.now c.args.instrs.now (agent_of s new)
-    c.in-Some.reply looks.agent looks.seen is)
+    (answered_after meaning (agent_of s old) (agent_of s mid) (with_found c.args.reads.now found) c.args.instrs.now (agent_of s new)
+    c.in-Some.reply looks.agent looks.seen answered) rests
     tt tt (λ e. absurd cc, λ lt. absurd (omega (arith, lt, c.requires.few))) offers.1
+
+-- all offers were lost
+pub returns-clause-fire : goal.returns-clause-fire
+returns-clause-fire g c =
+    let meaning = g.A.Aggregator.meaning in
+    let s = c.args.storage.now in
+    let old = c.args.self.now in
+    let new = c.loop-lost.self in
+    let before = c.loop-lost.invariant in
+    let looks = before.looks in
+    is_over meaning (agent_of s old) (agent_of s new) c.args.reads.now c.args.scans.now c.args.instrs.now
+    (Err (fire_error.Busy c.seen_len-from.result c.seen_len.result)) None c.loop-lost.lost
+    (record { storage = refl; id = looked_id meaning s old new looks }) looks.seen tt tt looks.agent
+    (c.seen_len-from.ensures.value, c.seen_len.ensures.value)
+    (λ e. absurd cc, λ lt. absurd (omega (arith, lt, c.requires.few)))
+    (omega (arith, c.loop-lost-test.false, c.loop-lost.auto.lost-end), before.counted)

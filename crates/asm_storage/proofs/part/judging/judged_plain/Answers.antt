@@ -1,5 +1,5 @@
-use Rattle.std.proofs.Common.{◌≡◌, true, List, [], ◌∷◌, None, Err, refl, ap, sym, subst, ◌∙◌, nat_lt, length}
-use Rattle.std.specs.Prelude.{IsOk}
+use Rattle.std.proofs.Common.{◌≡◌, true, List, [], ◌∷◌, None, Err, refl, ap, sym, subst, ◌∙◌, length}
+use Rattle.std.specs.Prelude.{IsOk, nat_le}
 use Rattle.asm_element.specs.Place.{Place}
 use Rattle.asm_element.specs.Tests.{both}
 use Rattle.asm_update.specs.Fire.{Part, state_of}
@@ -9,6 +9,7 @@ use Rattle.asm_update.specs.declared.clash.Cause.TheVariants.{Two}
 use Rattle.asm_update.proofs.PlainLemmas.{plain_fires, plain_clashes}
 use Rattle.asm_state.specs.Verdict.{least_stale}
 use Rattle.asm_state.specs.declared.named.Named.{Named}
+use Rattle.asm_storage.specs.Limits.{most_plain}
 use Rattle.asm_storage.specs.Part.{is_plain}
 use Rattle.asm_storage.proofs.Judging.{full_or_none}
 use Rattle.asm_storage.proofs.part.judging.judged_plain.Goals as goal
@@ -19,7 +20,7 @@ none_stale part A q [] M h = refl
 none_stale part A q (r ∷ rs) M h = absurd cc
 
 regular : (reads : List Named) (M : Move) → is_plain reads M ≡ true → all_regular M ≡ true
-regular [] M h = (both (nat_lt (length M) 17) (all_regular M) h).1
+regular [] M h = (both (nat_le (length M) most_plain) (all_regular M) h).1
 regular (r ∷ rs) M h = absurd cc
 
 pub returns-in_ok-copy-in-Some : goal.returns-in_ok-copy-in-Some
