@@ -1,5 +1,5 @@
 //! Whether a history is one that the storage of one thread could have.
-ghost use Rattle.std.specs.Prelude.{◌≡◌, ◌↔◌, IsTrue, IfOk};
+ghost use Rattle.std.specs.Prelude.{◌≡◌, ◌↔◌, IsTrue, IfOk, OnErr};
 ghost use Rattle.asm_journal.specs.Check.{machine_of, IsLegality, objection_reply, judged_reply, was_fired, IsStep};
 ghost use Rattle.asm_storage.specs.Machine.{taken_reply};
 
@@ -69,8 +69,9 @@ pub fn judge_event<A: Aggregator>(
     capacity: u32,
     event: &Event,
 ) -> Result<bool, AllocError>
-    ensures { IfOk result (IsStep (A.meaning aggregator.now).part capacity
+    ensures step { IfOk result (IsStep (A.meaning aggregator.now).part capacity
         event.now state.old state.new) }
+    ensures err { OnErr result (state.new ≡ state.old) }
 {
     match (&event.call, &event.answer) {
         (Call::Read(locations), Answer::Read { number, values }) => {

@@ -1,4 +1,7 @@
 //! Journals of histories: their JSON forms, their check, and the states that they leave.
+//!
+//! Where a comment says that memory was refused, it may also be that more copies would share a list than can be
+//! counted.
 #![tactic(auto)]
 
 mod checking;

@@ -18,7 +18,7 @@ returns-then-not-branch g c =
     let h = c.args.history.now in
     let l = c.loop-index in
     let e = c.index-events-index in
-    let wrong = first_wrong part h.init h.capacity c.as_slice-events.result.now l.index e.result l.state c.judge_event.new.state c.in_ok-judge_event.field-0 c.loop-index-test.true e.is c.in_ok-judge_event.ensures l.invariant c.if-not-branch.true in
+    let wrong = first_wrong part h.init h.capacity c.as_slice-events.result.now l.index e.result l.state c.judge_event.new.state c.in_ok-judge_event.field-0 c.loop-index-test.true e.is c.in_ok-judge_event.ensures.step l.invariant c.if-not-branch.true in
     subst (λ es. IsFirstWrong (machine_of part h) es l.index) c.as_slice-events.ensures wrong
 
 pub loop-index-preserved : goal.loop-index-preserved
@@ -27,7 +27,7 @@ loop-index-preserved g c =
     let h = c.args.history.now in
     let l = c.loop-index in
     let e = c.index-events-index in
-    checked_more part h.init h.capacity c.as_slice-events.result.now l.index e.result l.state c.judge_event.new.state c.in_ok-judge_event.field-0 c.loop-index-test.true e.is c.in_ok-judge_event.ensures l.invariant c.if-not-branch.false
+    checked_more part h.init h.capacity c.as_slice-events.result.now l.index e.result l.state c.judge_event.new.state c.in_ok-judge_event.field-0 c.loop-index-test.true e.is c.in_ok-judge_event.ensures.step l.invariant c.if-not-branch.false
 
 pub returns : goal.returns
 returns g c =

@@ -7,8 +7,8 @@ use Rattle.asm_journal.proofs.Parsed.{true_and_false}
 use Rattle.asm_journal.proofs.checking.judge_event.Goals as goal
 use Rattle.asm_journal.proofs.checking.judge_event.Goals.{then-is_fired+in_ok-follow-in-Fire-Fire, else-is_fired}
 
-pub returns-then-number : goal.returns-then-number
-returns-then-number g c =
+pub returns-then-number-clause-step : goal.returns-then-number-clause-step
+returns-then-number-clause-step g c =
     let part = (g.A.Aggregator.meaning c.args.aggregator.now).part in
     let locations = c.as_slice.result.now in
     let values = c.as_slice-then-number.result.now in
@@ -17,8 +17,8 @@ returns-then-number g c =
     (c.in-Read-Read.is-0 ∙ ap call.Read (sym c.as_slice.ensures)) (c.in-Read-Read.is-1 ∙ ap (answer.Read c.in-Read-Read.number) (sym c.as_slice-then-number.ensures))
     (λ t. (number, c.have_values.ensures.0 t), λ h. c.have_values.ensures.1 h.1)
 
-pub returns-then-not-is_reply : goal.returns-then-not-is_reply
-returns-then-not-is_reply g c =
+pub returns-then-not-is_reply-clause-step : goal.returns-then-not-is_reply-clause-step
+returns-then-not-is_reply-clause-step g c =
     let part = (g.A.Aggregator.meaning c.args.aggregator.now).part in
     let f = c.in-Fire-Fire in
     let v = c.in_ok-objection-in-Fire-Fire.objection in
@@ -27,8 +27,8 @@ returns-then-not-is_reply g c =
     (f.is-0 ∙ ap (λ rs. call.Fire rs f.instrs) (sym c.as_slice-in-Fire-Fire.ensures)) f.is-1 c.in_ok-objection-in-Fire-Fire.ensures
     (λ e. true_and_false c.is_reply.result (c.is_reply.ensures.1 (e ∙ ap (λ n. judged_reply c.args.capacity n v) (sym c.number-in-Fire-Fire.ensures))) c.if-not-is_reply.true)
 
-pub returns-after-is_fired : goal.returns-after-is_fired
-returns-after-is_fired g c =
+pub returns-after-is_fired-clause-step : goal.returns-after-is_fired-clause-step
+returns-after-is_fired-clause-step g c =
     let part = (g.A.Aggregator.meaning c.args.aggregator.now).part in
     let f = c.in-Fire-Fire in
     let v = c.in_ok-objection-in-Fire-Fire.objection in
