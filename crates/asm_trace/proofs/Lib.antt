@@ -3,5 +3,8 @@ pub mod Floats
 pub mod Noted
 pub mod Once
 pub mod Making
+pub mod Local
+pub mod Kept
+pub mod Alone
 pub mod Properness
 pub mod Leaving

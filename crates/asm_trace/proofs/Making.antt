@@ -47,7 +47,7 @@ has-filter p (e ∷ es) q = at (p e) refl (has-filter p es q) where
   at false is later =
       later ∙ passed_over (eq_by_cmp element_cmp q e) (has q es) (p q) (λ i. ap p (same_element q e i) ∙ is)
 
-has-without : (s t : ElementSet) (q : Element) → has q (without s t) ≡ (contains s q && not (contains t q))
+pub has-without : (s t : ElementSet) (q : Element) → has q (without s t) ≡ (contains s q && not (contains t q))
 has-without s t q =
     has-filter (is_missing t) (set.elements s) q ∙ ap (λ b. b && not (contains t q)) (sym (contains-elements s q))
 
@@ -74,7 +74,8 @@ none_counted b q h = at (finite.get b q) (finite.contains_key-keys b q ∙ h) wh
   at None is = refl
   at (Some n) is = cc
 
-same_count : (a b : ElementBag) (q : Element) →
+-- bags that differ at no element of theirs differ at none
+pub same_count : (a b : ElementBag) (q : Element) →
     ((has q (bag.elements a) || has q (bag.elements b)) && differ_at a b q) ≡ false → count a q ≡ count b q
 same_count a b q h = at (nat_eq (count a q) (count b q)) refl h where
   only : (t : Bool) → (t && true) ≡ false → t ≡ false

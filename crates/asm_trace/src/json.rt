@@ -14,6 +14,13 @@ pub(crate) fn array_of(list: Vec<Json>) -> Json
     Json::Array(list)
 }
 
+/// An array of one value.
+pub(crate) fn array_of_one(alloc: Global, json: Json) -> Result<Json, AllocError>
+    ensures { IfOk result (λ array. view array ≡ list_of (view json ∷ [])) }
+{
+    Ok(Json::Array(vec![in alloc; json]?))
+}
+
 /// An array of two values.
 pub(crate) fn array_of_two(alloc: Global, first: Json, second: Json) -> Result<Json, AllocError>
     ensures { IfOk result (λ json. view json ≡ pair_of (view first) (view second)) }

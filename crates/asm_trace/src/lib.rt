@@ -5,8 +5,9 @@ mod bags;
 mod changes;
 mod json;
 pub mod laws;
+mod named;
 mod notes;
 mod sets;
 mod tracing;
 
-pub use tracing::trace_text;
+pub use tracing::{standard_trace_text, trace_text};

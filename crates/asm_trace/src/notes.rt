@@ -1,5 +1,5 @@
 //! Events, judged and noted one by one.
-ghost use Rattle.std.specs.Prelude.{◌≡◌, ◌<◌, List, IfOk, OnOk, map, option_map, string_bytes};
+ghost use Rattle.std.specs.Prelude.{◌≡◌, ◌<◌, true, List, IfOk, OnOk, map, option_map, string_bytes};
 ghost use Rattle.serde_json.specs.View.{view};
 ghost use Rattle.asm_update.specs.State as plain;
 ghost use Rattle.asm_update.specs.Move.{Move};
@@ -9,6 +9,7 @@ ghost use Rattle.asm_storage.specs.Limits.{events_limit};
 ghost use Rattle.asm_storage.specs.Machine.{reply_to};
 ghost use Rattle.asm_journal.specs.Check.{machine, judged_reply, moves_with};
 ghost use Rattle.asm_journal.specs.Event.{answer_json_of};
+ghost use Rattle.asm_trace.specs.Local.{IsLocal};
 ghost use Rattle.asm_trace.specs.Note.{IsJudged};
 ghost use Rattle.asm_trace.specs.Text.{event_with, IsNoted};
 
@@ -160,17 +161,19 @@ fn note_json(
 pub(crate) fn push_note<A: Aggregator>(
     alloc: Global,
     aggregator: &A,
+    is_local: bool,
     text: &mut String,
     state: &mut State,
     capacity: u32,
     number: u64,
     event: &Event,
 ) -> Result<(), AllocError>
-    requires { state.old.number < events_limit }
+    requires few { state.old.number < events_limit }
+    requires local { is_local ≡ true → IsLocal (A.meaning aggregator.now).part }
     ensures { OnOk result (IsNoted (A.meaning aggregator.now).part capacity number event.now state.old state.new
         (string_bytes text.old) (string_bytes text.new)) }
 {
-    let changes = event_changes(alloc, aggregator, state, event)?;
+    let changes = event_changes(alloc, aggregator, is_local, state, event)?;
     let right = other_answer(alloc, aggregator, state, capacity, event)?;
     let json = note_json(alloc, number, event, &right, changes)?;
     push_line(alloc, text, &json)

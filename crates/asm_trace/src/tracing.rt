@@ -1,11 +1,13 @@
 //! The text of a trace.
-ghost use Rattle.std.specs.Prelude.{◌≡◌, ◌≤◌, IfOk, length, string_bytes};
+ghost use Rattle.std.specs.Prelude.{◌≡◌, ◌≤◌, true, IfOk, length, string_bytes};
 ghost use Rattle.serde_json.specs.View.{view};
 ghost use Rattle.asm_storage.specs.History.{Fits};
 ghost use Rattle.asm_storage.specs.Limits.{events_limit};
+ghost use Rattle.asm_trace.specs.Local.{standard_part, IsLocal};
 ghost use Rattle.asm_trace.specs.Text.{header_of, IsTrace};
 
 use crate::notes::push_note;
+use asm_aggregate::standard;
 use asm_journal::{ToJson, push_line};
 use asm_state::State;
 use asm_storage::History;
@@ -28,6 +30,36 @@ fn header_json(alloc: Global, history: &History) -> Result<Json, AllocError>
     Ok(Json::Object(header))
 }
 
+/// Writes what each event of a history did. Where partial updates are known to change what they name alone, those of one
+/// location are told by what they name.
+fn traced<A: Aggregator>(
+    alloc: Global,
+    aggregator: &A,
+    is_local: bool,
+    history: &History,
+) -> Result<String, AllocError>
+    requires fits { Fits history.now }
+    requires local { is_local ≡ true → IsLocal (A.meaning aggregator.now).part }
+    ensures { IfOk result (λ s. IsTrace (A.meaning aggregator.now).part history.now (string_bytes s)) }
+{
+    let mut text = String::new(alloc);
+    push_line(alloc, &mut text, &header_json(alloc, history)?)?;
+    let mut state = State::new(alloc, history.init.copy(alloc)?)?;
+    for (index, event) in history.events.as_slice().iter().enumerate() {
+        push_note(
+            alloc,
+            aggregator,
+            is_local,
+            &mut text,
+            &mut state,
+            history.capacity,
+            index as u64,
+            event,
+        )?;
+    }
+    Ok(text)
+}
+
 /// Writes what each event of a history did, as a trace of version 1: a header line, and for each event a line with its
 /// call and its reply. A fired move has each location that it writes, in ascending order, with what differs there: of a
 /// set the elements that come and those that go, of a bag the counts that differ, else the value before and the new one,
@@ -45,19 +77,17 @@ pub fn trace_text<A: Aggregator>(
     requires { Fits history.now }
     ensures { IfOk result (λ s. IsTrace (A.meaning aggregator.now).part history.now (string_bytes s)) }
 {
-    let mut text = String::new(alloc);
-    push_line(alloc, &mut text, &header_json(alloc, history)?)?;
-    let mut state = State::new(alloc, history.init.copy(alloc)?)?;
-    for (index, event) in history.events.as_slice().iter().enumerate() {
-        push_note(
-            alloc,
-            aggregator,
-            &mut text,
-            &mut state,
-            history.capacity,
-            index as u64,
-            event,
-        )?;
-    }
-    Ok(text)
+    traced(alloc, aggregator, false, history)
+}
+
+/// Writes the trace of a history as `trace_text` does with the aggregator of sets, bags and counters, `standard` of
+/// `asm_aggregate`.
+///
+/// A move of partial updates of one location costs as much as they name of a set or a bag, whatever else it has; any
+/// other move costs what it costs there.
+pub fn standard_trace_text(alloc: Global, history: &History) -> Result<String, AllocError>
+    requires { Fits history.now }
+    ensures { IfOk result (λ s. IsTrace standard_part history.now (string_bytes s)) }
+{
+    traced(alloc, &standard(), true, history)
 }

@@ -1,6 +1,7 @@
 //! A trace is about as long as its journal, however large a set or a bag grows.
-use crate::traced::trace_of;
-use asm_journal::JournalError;
+use asm_aggregate::standard;
+use asm_journal::{JournalError, from_text};
+use asm_trace::trace_text;
 use std::alloc::{AllocError, Global};
 use std::test::Fail;
 
@@ -26,6 +27,11 @@ fn growing(
         )?;
     }
     Ok(text)
+}
+
+fn trace_of(alloc: Global, journal: &str) -> Result<String, JournalError> {
+    let history = from_text(alloc, journal.as_bytes())?;
+    Ok(trace_text(alloc, &standard(), &history)?)
 }
 
 /// Whether the trace is longer than the journal, and less than twice as long.

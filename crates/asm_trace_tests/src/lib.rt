@@ -2,14 +2,6 @@
 #![tactic(auto)]
 
 #[cfg(test)]
-mod answers;
-#[cfg(test)]
-mod changes;
-#[cfg(test)]
-mod histories;
-#[cfg(test)]
 mod judging;
 #[cfg(test)]
 mod lengths;
-#[cfg(test)]
-mod traced;

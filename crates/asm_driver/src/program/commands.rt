@@ -11,7 +11,7 @@ use asm_journal::{Legality, check, from_text, to_text};
 use asm_play::aggregator::chosen;
 use asm_play::{Open, Played, run_script};
 use asm_script::parse_script;
-use asm_trace::trace_text;
+use asm_trace::standard_trace_text;
 use std::alloc::{AllocError, Global};
 use std::sync::Wait;
 use std::thread::Threads;
@@ -95,7 +95,7 @@ fn trace(alloc: Global, bytes: &[u8]) -> Result<String, Refusal>
     ensures err { IfErr result (IsNoJournal bytes.now) }
 {
     let history = from_text(alloc, bytes)?;
-    Ok(trace_text(alloc, &chosen(), &history)?)
+    Ok(standard_trace_text(alloc, &history)?)
 }
 
 /// Does what is asked with the bytes of the input.

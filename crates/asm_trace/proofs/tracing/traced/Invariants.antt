@@ -1,6 +1,6 @@
 use Rattle.std.proofs.Common.{string_bytes}
 use Rattle.asm_trace.proofs.Noted.{IsNotedTo}
-use Rattle.asm_trace.proofs.tracing.trace_text.Given as goal
+use Rattle.asm_trace.proofs.tracing.traced.Given as goal
 
 -- the events so far are noted, and the state stands for their moves
 abbrev pub invariant-loop-index : goal.invariant-loop-index

@@ -1,0 +1,7 @@
+use Rattle.std.proofs.Common.{take}
+use Rattle.asm_trace.proofs.Kept.{HasCounts}
+use Rattle.asm_trace.proofs.named.named_of_bag.Given as goal
+
+-- the part has what the actions so far name
+abbrev pub invariant-loop-action : goal.invariant-loop-action
+invariant-loop-action l = HasCounts l.whole l.part (take l.action-index l.actions)
