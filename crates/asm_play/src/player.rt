@@ -17,9 +17,13 @@ use asm_storage::{Agent, FireError, READS_LIMIT, ReadError, Reading, Reply};
 use asm_update::{Aggregator, Instructions};
 use std::alloc::{AllocError, Global};
 use std::sync::Wait;
+use std::thread;
 
 /// The most tries of a step.
 const TRIES_LIMIT: u32 = 1001;
+
+/// The most times that an agent lets other threads run before it tries a step again.
+const PAUSES_LIMIT: u32 = 64;
 
 /// An agent after its steps were played, with the outcome of each.
 #[derive(Drop)]
@@ -76,6 +80,14 @@ fn stopped(fault: StepFault) -> Result<Outcome, AllocError>
         StepFault::Large(at) => Ok(Outcome::Large(at)),
         StepFault::Many => Ok(Outcome::Many),
         StepFault::Memory => Err(AllocError),
+    }
+}
+
+// Lets other threads run, longer with each further try in vain: tries that follow at once would each meet the next fire
+// of the same agent, and the step would be given up within a few milliseconds.
+fn pause(tried: u32) {
+    for _ in 0..tried.min(PAUSES_LIMIT) {
+        thread::yield_now();
     }
 }
 
@@ -187,7 +199,7 @@ impl<'a, A: Aggregator + Sync + Drop, P: Passage> Player<'a, A, P> {
         for tried in 0..TRIES_LIMIT {
             match self.one_try(rt, agent, calls, step, places)? {
                 Some(outcome) => return Ok(outcome),
-                None => {}
+                None => pause(tried),
             }
         }
         Ok(Outcome::GaveUp)
