@@ -30,7 +30,7 @@ type Row = (Call, usize, Instr, i32, i32, i64, &'static [u8]);
 const NO: Instr = (0, 0, 0, b"", 0);
 
 // The locations are x, which has 7, and s, which has a set.
-static STEP: [Row; 24] = [
+static STEP: [Row; 26] = [
     (Call::Begin, 0, NO, 0, 0, 0, b""),
     (Call::Get, 0, NO, 0, 2, 7, b""),
     (Call::Get, 1, NO, 0, 5, 0, b"{\"set\":[1,\"two\"]}"),
@@ -42,6 +42,8 @@ static STEP: [Row; 24] = [
     (Call::Instruct, 1, (3, 2, 1, b"", 0), 6, 0, 0, b""),
     (Call::Instruct, 1, (6, 2, 1, b"", 0), 6, 0, 0, b""),
     (Call::Instruct, 1, (1, 3, 0, b"\xff", 0), 17, 0, 0, b""),
+    (Call::Instruct, 1, (1, 3, 1, b"\xff", 0), 6, 0, 0, b""),
+    (Call::Instruct, 1, (1, 3, 0, b"\xff", 1), 6, 0, 0, b""),
     (Call::Push, 0, NO, 0, 0, 0, b""),
     (Call::Get, 0, NO, 0, 2, 8, b""),
     (Call::Get, 1, NO, 0, 5, 0, b"{\"set\":[\"two\",\"z\"]}"),
@@ -213,7 +215,7 @@ fn each_kind_is_told(rt: HostRuntime) {
 }
 
 // Which codes locations answer that are none, or go into a full slot.
-fn codes_of_locations(alloc: Global) -> [i32; 5] {
+fn codes_of_locations(alloc: Global) -> [i32; 6] {
     let mut at = Slot::empty(alloc);
     [
         asm_location(alloc, b"[\"x\"", &mut at),
@@ -221,10 +223,20 @@ fn codes_of_locations(alloc: Global) -> [i32; 5] {
         asm_location(alloc, b"[\"x\",{\"list\":[null]}]", &mut at),
         asm_location(alloc, b"[\"x\"]", &mut at),
         asm_instruct(alloc, &mut at, &mut Slot::empty(alloc), 0, 2, 1, b"", 0),
+        asm_instruct(
+            alloc,
+            &mut Slot::empty(alloc),
+            &mut Slot::empty(alloc),
+            9,
+            2,
+            1,
+            b"",
+            0,
+        ),
     ]
 }
 
 #[test]
 fn locations_are_prepared(rt: HostRuntime) {
-    assert!(rt; codes_of_locations(rt.alloc()) == [16, 17, 0, 11, 11]);
+    assert!(rt; codes_of_locations(rt.alloc()) == [16, 17, 0, 11, 11, 5]);
 }

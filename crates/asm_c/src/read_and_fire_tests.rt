@@ -87,13 +87,18 @@ fn fired_by_two(alloc: Global) -> ([(i32, u32); 5], [bool; 5]) {
 }
 
 // The codes of fires that aren't answered, and whether the answer before them is still told.
-fn refused_fires(alloc: Global) -> ([(i32, u32); 3], bool) {
+fn refused_fires(alloc: Global) -> ([(i32, u32); 4], bool) {
     let (mut agent, _other) = two(alloc);
     let _code = fire(alloc, &mut agent, INC);
     let codes = [
         fire(alloc, &mut agent, b"{"),
         fire(alloc, &mut agent, b"{\"fire\":[]}"),
         fire(alloc, &mut agent, b"{\"read\":[]}"),
+        fire(
+            alloc,
+            &mut agent,
+            b"{\"fire\":[],\"reads\":[[[\"x\"],1],[[\"x\"],2]]}",
+        ),
     ];
     (codes, answers(alloc, &mut agent, b"{\"fired\":1}"))
 }
@@ -102,7 +107,7 @@ fn refused_fires(alloc: Global) -> ([(i32, u32); 3], bool) {
 fn fires_are_answered_or_refused(rt: HostRuntime) {
     let alloc = rt.alloc();
     assert!(rt; fired_by_two(alloc) == ([(0, 1), (1, 0), (2, 0), (0, 2), (4, 0)], [true; 5]));
-    assert!(rt; refused_fires(alloc) == ([(16, 0), (17, 0), (17, 0)], true));
+    assert!(rt; refused_fires(alloc) == ([(16, 0), (17, 0), (17, 0), (6, 0)], true));
 }
 
 // The item so many times, between these.

@@ -22,8 +22,9 @@ pub(crate) enum Call {
 /// A call of the first or the second agent, with its text, and the code, the number and the text that it answers.
 pub(crate) type Row = (Call, usize, &'static [u8], i32, u32, &'static [u8]);
 
-// What is got is seen through what was pushed, at one number, and one move does it all.
-pub(crate) static STEP: [Row; 34] = [
+// What is got is seen through what was pushed, at one number, and one move does it all. Then a read is named at a number
+// that is yet to come, and an agent that is behind is handed the other one's step.
+pub(crate) static STEP: [Row; 46] = [
     (Call::Answer, 0, b"", 10, 0, b""),
     (Call::Begin, 0, b"", 0, 0, b""),
     (
@@ -142,10 +143,36 @@ pub(crate) static STEP: [Row; 34] = [
         b"{\"stale\":[\"x\"]}",
     ),
     (Call::Stands, 0, b"[[[\"s\"],0],[[\"x\"],1]]", 0, 0, b""),
+    (Call::Stands, 0, b"[[[\"s\"],0],[[\"x\"],2]]", 6, 0, b""),
+    (Call::Stands, 1, b"[[[\"x\"],1]]", 6, 0, b""),
+    (
+        Call::Fire,
+        1,
+        b"{\"fire\":[[\"put\",[\"x\"],1]],\"reads\":[[[\"x\"],1]]}",
+        6,
+        0,
+        b"",
+    ),
+    (Call::Answer, 1, b"", 10, 0, b""),
+    (Call::Begin, 0, b"", 0, 1, b""),
+    (
+        Call::Get,
+        0,
+        b"[[\"x\"]]",
+        0,
+        0,
+        b"{\"number\":1,\"values\":[11]}",
+    ),
+    (Call::Get, 1, b"[[\"x\"]]", 21, 0, b""),
+    (Call::GetAll, 1, b"x", 21, 0, b""),
+    (Call::Push, 1, b"[]", 21, 0, b""),
+    (Call::Extend, 1, b"[]", 21, 0, b""),
+    (Call::Commit, 1, b"", 0, 2, b""),
+    (Call::Depth, 1, b"", 0, 0, b""),
 ];
 
-// Another agent writes what was got, and what a pushed partial update changes; then the storage is full.
-pub(crate) static RIVAL: [Row; 25] = [
+// Another agent writes what was got, and what pushed partial updates rest on; then the storage is full.
+pub(crate) static RIVAL: [Row; 26] = [
     (Call::Pop, 0, b"", 5, 0, b""),
     (Call::Begin, 0, b"", 0, 0, b""),
     (Call::Pop, 0, b"", 10, 0, b""),
@@ -185,6 +212,7 @@ pub(crate) static RIVAL: [Row; 25] = [
     (Call::Begin, 0, b"", 0, 1, b""),
     (Call::Depth, 0, b"", 0, 0, b""),
     (Call::Push, 0, b"[[\"inc\",[\"x\"],1]]", 0, 0, b""),
+    (Call::Extend, 0, b"[[\"inc\",[\"x\"],1]]", 0, 0, b""),
     (
         Call::Fire,
         1,
@@ -261,7 +289,16 @@ pub(crate) static DEEP: [Row; 6] = [
     ),
 ];
 
-pub(crate) static NEXT: [Row; 2] = [
+// Numbers begin anew: one from the storage before is yet to come.
+pub(crate) static NEXT: [Row; 3] = [
+    (
+        Call::Fire,
+        0,
+        b"{\"fire\":[[\"put\",[\"x\"],1]],\"reads\":[[[\"x\"],1]]}",
+        6,
+        0,
+        b"",
+    ),
     (
         Call::State,
         0,

@@ -1,32 +1,43 @@
 -- Where the one move of a step fires, the pushed moves fire in turn there.
-use Rattle.std.specs.Option.{option_map_or}
-use Rattle.std.proofs.Common.{Option, Some, None, Result, IfOk, OnErr, IfErr, unwrap_or, inl, inr, ℤ, w32, to_z, of_z, ◌≡◌, ◌≤◌, ◌-◌, ℕ, zero, suc, List, [], ◌∷◌, All, Ok, length, map, take, get_or, arith, ap, refl, subst, sym, ◌∙◌}
+use Rattle.std.proofs.Common.{Option, Some, None, Result, IfOk, OnErr, IfErr, IsErrOf, unwrap_or, inl, inr, ℤ, w32, to_z, of_z, ◌≡◌, ◌≤◌, ◌<◌, ◌↔◌, ◌-◌, ℕ, zero, suc, List, [], ◌∷◌, All, Ok, Err, Contains, length, map, take, get_or, arith, ap, refl, subst, sym, ◌∙◌}
 use Rattle.std.proofs.lemmas.List.{length-take}
-use Rattle.std.proofs.lemmas.List.Elements.{All-contains, All-map, Contains-append_right}
+use Rattle.std.proofs.lemmas.List.Elements.{All-contains, All-map, Contains-append_left, Contains-append_right}
 use Rattle.asm_update.specs.Fire.{Part, Old, fire, state_of}
 use Rattle.asm_update.specs.Move.{Move}
 use Rattle.asm_update.specs.State.{State, IsProper, val}
-use Rattle.asm_overlay.specs.Frames.{under}
 use Rattle.asm_state.specs.declared.named.Named.{Named}
-use Rattle.asm_step.specs.InTurn.{Agrees, fire_all}
-use Rattle.asm_step.proofs.Layered.{no_partials, top_partials}
-use Rattle.asm_step.specs.Layers.{all_moves, frames_of, one_move, partial_places_of, top_of, IsStepOf}
-use Rattle.asm_step.specs.declared.layer.Layer.{Layer}
-use Rattle.asm_step.specs.Places.{all_partial_places, AreEach}
+use Rattle.asm_step.specs.InTurn.{fire_all}
+use Rattle.asm_step.specs.Resting.{left_by, AgreesAtRests}
+use Rattle.asm_step.proofs.Built.{resting_those, sees_there}
+use Rattle.asm_step.proofs.Standing.{told_stands}
+use Rattle.asm_step.specs.Layers.{Layer, all_moves, one_move, resting_of, IsStepOf}
+use Rattle.asm_update.specs.Aggregator.{AggregatorLaws, Meaning}
+use Rattle.asm_update.specs.declared.clash.Clash.{Clash}
+use Rattle.asm_element.specs.Place.{Place}
+use Rattle.asm_aggregate.specs.laws.BagLaws.{bag_laws}
+use Rattle.asm_aggregate.specs.laws.CountLaws.{count_laws}
+use Rattle.asm_aggregate.specs.laws.PairLaws.{pair_laws}
+use Rattle.asm_aggregate.specs.laws.SetLaws.{set_laws}
 use Rattle.asm_storage.proofs.AgentKept.{take-moves_seen}
 use Rattle.asm_storage.proofs.Lists.{length-prefix}
 use Rattle.asm_storage.specs.Agents.{moves_seen}
 use Rattle.asm_storage.specs.Calls.{IsAnswered, IsBusy, IsCoherentReply, MadeOffers}
-use Rattle.asm_storage.specs.Storage.{AgentAt, StorageView}
+use Rattle.asm_storage.specs.Machine.{fire_reply, firing_reply, machine_state, reply_to, Machine}
+use Rattle.asm_state.specs.Verdict.{least_stale}
+use Rattle.asm_storage.specs.Storage.{AgentAt, StorageView, machine_of}
+use Rattle.asm_storage.specs.declared.call.Answer.TheVariants as answer
+use Rattle.asm_storage.specs.declared.call.Call.TheVariants as call
 use Rattle.asm_storage.specs.declared.call.Reply.{Reply}
 use Rattle.asm_storage.specs.declared.call.Reply.TheVariants.{Fired}
 use Rattle.asm_storage.specs.declared.error.FireError.{FireError}
+use Rattle.asm_storage.specs.declared.error.FireError.TheVariants.{ManyReads}
+use Rattle.asm_storage.specs.Limits.{reads_limit}
 use Rattle.asm_storage.specs.declared.entry.Entry.{Entry}
 use Rattle.asm_slots.specs.Codes.{IsOneOf, ASM_DONE, ASM_STALE, ASM_CLASH, ASM_MEMORY, ASM_FULL, ASM_BUSY, ASM_MANY}
 use Rattle.asm_slots.specs.Calls.{HasLooked}
-use Rattle.asm_slots.specs.Committed.{FiresAll, HasFiredStep, NamesAll, TellsFire}
+use Rattle.asm_slots.specs.Committed.{FiresAll, GotStands, HasFiredStep, NamesAll, TellsFire}
 use Rattle.asm_slots.specs.Own.{state_at}
-use Rattle.asm_slots.specs.Standard.{Standard, meaning, part}
+use Rattle.asm_slots.specs.Standard.{Standard, meaning, part, standard}
 use Rattle.asm_slots.specs.Step.{StepView}
 use Rattle.asm_slots.specs.Steps.{IsStepOn, below}
 
@@ -45,6 +56,38 @@ take_twice : (n : ℕ) (xs : List Entry) → take n (moves_seen (take n xs)) ≡
 take_twice zero xs = refl
 take_twice (suc n) [] = refl
 take_twice (suc n) (x ∷ xs) = ap (λ l. x.instrs ∷ l) (take_twice n xs)
+
+take_all_seen : (n : ℕ) (xs : List Entry) → moves_seen (take n xs) ≡ take n (moves_seen xs)
+take_all_seen zero xs = refl
+take_all_seen (suc n) [] = refl
+take_all_seen (suc n) (x ∷ xs) = ap (λ l. x.instrs ∷ l) (take_all_seen n xs)
+
+-- a move that fires leaves a state
+has_state : (m : Machine) (q : List Move) (reads : List Named) (M : Move) (k : ℕ) →
+    answer.Fire (Fired k) ≡ reply_to m q (call.Fire reads M) → (D : State) × (fire m.part (machine_state m q) M ≡ Ok D)
+has_state m q reads M k h = by_stale (least_stale m.part m.init q reads) h where
+  by_fire : (r : Result State Clash) → answer.Fire (Fired k) ≡ answer.Fire (firing_reply m q r) → (D : State) × (r ≡ Ok D)
+  by_fire (Ok D) h = (D, refl)
+  by_fire (Err c) h = cc
+
+  by_stale : (o : Option Place) → answer.Fire (Fired k) ≡ answer.Fire (fire_reply m q M o) →
+      (D : State) × (fire m.part (machine_state m q) M ≡ Ok D)
+  by_stale (Some l) h = cc
+  by_stale None h = by_fire (fire m.part (machine_state m q) M) h
+
+left_is : (r : Result State Clash) (D : State) → left_by r ≡ Some D → r ≡ Ok D
+left_is (Ok A) D h = cc
+left_is (Err c) D h = cc
+
+-- what a step's one move does, of a step with these layers
+abbrev StandsAs : List Layer → Move → Type 0
+StandsAs layers M =
+    (m : Meaning) (old : Old) (groups : List (List Move)) (B : State) → AggregatorLaws m → IsStepOf m.part old layers groups →
+    IsProper B → AgreesAtRests B old (all_moves groups) →
+    left_by (fire m.part B M) ≡ left_by (fire_all m.part (Ok B) (all_moves groups))
+
+standard_laws : AggregatorLaws standard
+standard_laws = pair_laws (pair_laws set_laws bag_laws) count_laws
 
 module _ (a new : AgentAt Standard) (s : StepView) (reads : List Named) (M : Move) (k : ℕ) (names : NamesAll s reads)
     (answered : IsAnswered meaning a new reads M (Fired k)) (coherent : IsCoherentReply meaning new reads M (Fired k)) where
@@ -73,69 +116,78 @@ module _ (a new : AgentAt Standard) (s : StepView) (reads : List Named) (M : Mov
   before_is : after (k - 1) ≡ val (state_at new (k - 1))
   before_is = ap (λ (q : List Move). val (state_of part new.storage.init q)) (take_twice (k - 1) new.account.seen)
 
-  agrees : (groups : List (List Move)) → IsStepOn a s groups → AreEach (all_partial_places (all_moves groups)) (partial_places_of s.layers) →
-      Agrees (state_at new (k - 1)) (below a s) (all_moves groups)
-  agrees groups is each l there =
-      let stand = named_stand after s.number (k - 1) reads (within is.0) names.numbers coherent in
-      let partial = (each.same l).1 there in
-      let named = (names.locations.same l).1 (Contains-append_right s.got (partial_places_of s.layers) l partial) in
+  -- what is named stands on the state before the fired move
+  stands_at : s.number ≤ length a.account.seen → (l : Place) → Contains (map (λ r. r.at) reads) l →
+      val (state_at new (k - 1)) l ≡ below a s l
+  stands_at le l named =
+      let stand = named_stand after s.number (k - 1) reads (within le) names.numbers coherent in
       let here : after s.number l ≡ after (k - 1) l =
       All-contains (λ l. after s.number l ≡ after (k - 1) l) (map (λ r. r.at) reads) l stand named in
-      sym (ap (λ (o : Old). o l) before_is) ∙ sym here ∙ ap (λ (o : Old). o l) (below_is is.0)
+      sym (ap (λ (o : Old). o l) before_is) ∙ sym here ∙ ap (λ (o : Old). o l) (below_is le)
 
-  pub fires_all :
-      ((part : Part) (old : Old) (groups : List (List Move)) → IsStepOf part old s.layers groups →
-      AreEach (all_partial_places (all_moves groups)) (partial_places_of s.layers)) →
-      ((part : Part) (old : Old) (groups : List (List Move)) (B : State) → IsStepOf part old s.layers groups → IsProper B →
-      Agrees B old (all_moves groups) →
-      (fire part B M ≡ Ok (under B (frames_of s.layers)))
-      × (fire_all part (Ok B) (all_moves groups) ≡ Ok (under B (frames_of s.layers)))) →
-      FiresAll a s M k new
-  fires_all each fires groups is proper =
-      fires part (below a s) groups (state_at new (k - 1)) is.1 proper
-      (agrees groups is (each part (below a s) groups is.1))
+  agrees : (groups : List (List Move)) → IsStepOn a s groups →
+      AgreesAtRests (state_at new (k - 1)) (below a s) (all_moves groups)
+  agrees groups is l rested =
+      stands_at is.0 l ((names.locations.same l).1 (Contains-append_right s.got (resting_of s.layers) l
+      (((resting_those part (below a s) s.layers groups is.1).same l).1 rested)))
 
--- where the moves of a step have partial updates
-each_partial : (part : Part) (old : Old) (s : List Layer) (groups : List (List Move)) → IsStepOf part old s groups →
-    AreEach (all_partial_places (all_moves groups)) (partial_places_of s)
-each_partial part old s groups is = by_top (top_of s) refl where
-  by_top : (o : Option Layer) → top_of s ≡ o →
-      AreEach (all_partial_places (all_moves groups)) (option_map_or (λ y. y.partial_locations.items) o [])
-  by_top None e = no_partials part old s groups is e
-  by_top (Some y) e = top_partials part old s groups is y e
+  -- the fired move has a state there
+  fired_there : (D : State) × (fire part (state_at new (k - 1)) M ≡ Ok D)
+  fired_there =
+      let had = has_state (machine_of meaning a.storage) moves reads M k answered.reply in
+      (had.0, ap (λ (t : State). fire part t M) same_state ∙ had.1)
+    where
+      same_state : state_at new (k - 1) ≡ machine_state (machine_of meaning a.storage) moves
+      same_state =
+          ap (λ (q : List Move). state_of part new.storage.init q) (sym (take_all_seen (k - 1) new.account.seen))
+          ∙ ap (λ (t : StorageView Standard). state_of part t.init moves) same_storage
 
--- what a step's one move does, of a step with these layers
-abbrev FiresAs : List Layer → Move → Type 0
-FiresAs layers M =
-    (part : Part) (old : Old) (groups : List (List Move)) (B : State) → IsStepOf part old layers groups → IsProper B →
-    Agrees B old (all_moves groups) →
-    (fire part B M ≡ Ok (under B (frames_of layers)))
-    × (fire_all part (Ok B) (all_moves groups) ≡ Ok (under B (frames_of layers)))
+  pub fires_all : StandsAs s.layers M → FiresAll a s M k new
+  fires_all stands groups is proper =
+      let one = fired_there in
+      let same = stands standard (below a s) groups (state_at new (k - 1)) standard_laws is.1 proper (agrees groups is) in (
+        one.0,
+        one.1,
+        left_is (fire_all part (Ok (state_at new (k - 1))) (all_moves groups)) one.0
+            (sym same ∙ ap left_by one.1),
+      )
+
+  pub got_stands : s.number ≤ length a.account.seen → GotStands a s k new
+  got_stands le then groups l D is same fired named =
+      told_stands standard_laws (below a then) then.layers groups is.1 (state_at new (k - 1)) D l
+      (λ sees. stands_at le l ((names.locations.same l).1 (Contains-append_left s.got (resting_of s.layers) l
+      (named (sees_there part (below a then) then.layers groups is.1 l ∙ sees))))
+      ∙ ap (λ n. val (state_at a n) l) (sym same)) fired
 
 -- the answer to the fire of a step's one move
 pub has_fired : (s : StepView) (code : ℤ) (fired from to : ℕ) (a new : AgentAt Standard) (reads : List Named) (M : Move)
-    (answer : Result Reply FireError) → NamesAll s reads → M ≡ unwrap_or (one_move s.layers) [] → FiresAs s.layers M →
-    TellsFire answer code fired from to → IfOk answer (IsAnswered meaning a new reads M) →
+    (answer : Result Reply FireError) → NamesAll s reads → M ≡ unwrap_or (one_move s.layers) [] → StandsAs s.layers M →
+    TellsFire answer code fired from to → (IsErrOf answer ManyReads ↔ (reads_limit < length reads)) →
+    IfOk answer (IsAnswered meaning a new reads M) →
     IfOk answer (IsCoherentReply meaning new reads M) → OnErr answer (HasLooked a new) → IfErr answer (IsBusy a new) →
     ((n : ℕ) × MadeOffers a new answer n) → HasFiredStep s code fired from to a new
-has_fired s code fired from to a new reads M answer names one fires told answered coherent refused busy offers = record {
+has_fired s code fired from to a new reads M answer names one fires told many answered coherent refused busy offers = record {
   reads = reads;
   answer = answer;
   names = names;
   told = told;
+  many = many;
   answered = subst (λ (x : Move). IfOk answer (IsAnswered meaning a new reads x)) one answered;
   coherent = subst (λ (x : Move). IfOk answer (IsCoherentReply meaning new reads x)) one coherent;
   refused = refused;
   busy = busy;
   offers = offers;
   fires = λ k is. subst (λ (x : Move). FiresAll a s x k new) one (by_answer k is);
+  got = λ k le is.
+      got_stands a new s reads M k names
+      (subst (λ (r : Result Reply FireError). IfOk r (IsAnswered meaning a new reads M)) is answered)
+      (subst (λ (r : Result Reply FireError). IfOk r (IsCoherentReply meaning new reads M)) is coherent) le;
 } where
   by_answer : (k : ℕ) → answer ≡ Ok (Fired k) → FiresAll a s M k new
   by_answer k is =
       fires_all a new s reads M k names
       (subst (λ (r : Result Reply FireError). IfOk r (IsAnswered meaning a new reads M)) is answered)
-      (subst (λ (r : Result Reply FireError). IfOk r (IsCoherentReply meaning new reads M)) is coherent)
-      (λ part old groups step. each_partial part old s.layers groups step) fires
+      (subst (λ (r : Result Reply FireError). IfOk r (IsCoherentReply meaning new reads M)) is coherent) fires
 
 -- one of these codes as an i32
 pub coded : (code : ℤ) →

@@ -1,38 +1,57 @@
 -- A step that grows or shrinks over the state at its number.
-use Rattle.std.proofs.Common.{Bool, true, false, ℕ, ℤ, slice_range, ◌≡◌, List, [], ◌∷◌, ◌++◌, Ok, Err, refl, subst, sym}
+use Rattle.std.proofs.Common.{Bool, true, false, ℕ, ℤ, slice_range, ◌≡◌, ◌≤◌, length, List, [], ◌∷◌, ◌++◌, Result, Ok, Err, refl, ap, subst, sym}
 use Rattle.std.specs.Bool.{OnTrue}
 use Rattle.asm_update.specs.Fire.{Part, Old}
 use Rattle.asm_update.specs.Move.{Move}
+use Rattle.asm_update.specs.State.{State, IsProper}
 use Rattle.asm_state.specs.View.{StateView, value_at}
-use Rattle.asm_step.specs.Answer.{IsAnswer}
-use Rattle.asm_step.specs.Layers.{IsStepOf}
+use Rattle.asm_step.specs.Answer.{IsAnswer, IsAnswerOn}
+use Rattle.asm_step.specs.InTurn.{Agrees}
+use Rattle.asm_step.specs.Layers.{Layer, all_moves, IsStepOf}
 use Rattle.asm_step.specs.declared.error.StepError.{StepError}
 use Rattle.asm_step.specs.declared.error.StepError.TheVariants.{Deep}
-use Rattle.asm_step.specs.declared.layer.Layer.{Layer}
 use Rattle.asm_storage.specs.Storage.{AgentAt}
 use Rattle.asm_slots.specs.Bytes.{ReadAsMove}
 use Rattle.asm_slots.specs.Written.{IsTooLong, IsWritten}
+use Rattle.asm_slots.specs.Own.{state_at}
 use Rattle.asm_slots.specs.Standard.{Standard, standard, part}
 use Rattle.asm_slots.specs.Step.{StepView}
-use Rattle.asm_slots.specs.Steps.{HasPopped, IsGrown, IsLayered, IsNotGrown, IsPushError, IsRefused, TellsRefusal, below, grown}
+use Rattle.asm_slots.specs.Steps.{HasPopped, HasReached, IsAnsweredBelow, IsGrown, IsLayered, IsNotGrown, IsPushError, IsRefused, TellsRefusal, below, grown}
 use Rattle.asm_slots.specs.declared.owned_step.Way.{Way}
 use Rattle.asm_slots.specs.declared.owned_step.Way.TheVariants as ways
 use Rattle.asm_slots.proofs.OwnStates.{IsOwn, below_is}
 
+-- what a push or an extension owes to proper states that have what is below the step where partial updates are
+abbrev AnswersOn : Old → List Layer → List Layer → Move → Result (Unit {0}) StepError → Type 0
+AnswersOn o layers new M r =
+    (groups : List (List Move)) (B : State) → IsStepOf part o layers groups → IsProper B →
+    Agrees B o (all_moves groups ++ M ∷ []) → IsAnswerOn part B layers new M r
+
+-- so to the state below the step
+below_answers : (a : AgentAt Standard) (s : StateView) (t : StepView) (new : List Layer) (M : Move)
+    (r : Result (Unit {0}) StepError) → IsOwn a s → s.number ≡ t.number → AnswersOn (value_at s) t.layers new M r →
+    IsAnsweredBelow M a t new r
+below_answers a s t new M r own same on groups is proper =
+    let at = below_is a s t own same in
+    on groups (state_at a t.number) (subst (λ (o : Old). IsStepOf part o t.layers groups) (sym at) is.1) proper
+    (λ l there. sym (ap (λ (o : Old). o l) at))
+
 -- what a push or an extension tells over a look-up is so over what is below the step
 pub is_grown : (way : Way) (a : AgentAt Standard) (s : StateView) (old : StepView) (ls : List Layer) (M : Move) →
     IsOwn a s → s.number ≡ old.number → IsLayered way old.layers ls →
-    IsAnswer standard (value_at s) old.layers ls M (Ok tt) →
+    IsAnswer standard (value_at s) old.layers ls M (Ok tt) → AnswersOn (value_at s) old.layers ls M (Ok tt) →
     ((groups : List (List Move)) → IsStepOf part (value_at s) old.layers groups →
     IsStepOf part (value_at s) ls (grown way groups M)) →
     IsGrown way M a old (record old { layers = ls })
-is_grown way a s old ls M own same layers answer step =
+is_grown way a s old ls M own same layers answer on step =
     let at = below_is a s old own same in
     record {
       same = refl;
+      reached = subst (λ (n : ℕ). n ≤ length a.account.seen) same own.within;
       layers = layers;
       answer = subst (λ (o : Old). IsAnswer standard o old.layers ls M (Ok tt)) at
           answer;
+      fires = below_answers a s old ls M (Ok tt) own same on;
       step = λ groups is. (is.0, moved groups is.1);
     } where
       moved : (groups : List (List Move)) → IsStepOf part (below a old) old.layers groups → IsStepOf part (below a old) ls (grown way groups M)
@@ -44,12 +63,18 @@ is_grown way a s old ls M own same layers answer step =
 -- why a move isn't taken, over what is below the step
 pub is_push_error : (way : Way) (a : AgentAt Standard) (s : StateView) (t : StepView) (M : Move) (e : StepError) →
     IsOwn a s → s.number ≡ t.number → (way ≡ ways.Extend → ¬ (e ≡ Deep)) →
-    IsAnswer standard (value_at s) t.layers t.layers M (Err e) → IsPushError way M a t e
-is_push_error way a s t M e own same deep answer =
+    IsAnswer standard (value_at s) t.layers t.layers M (Err e) → AnswersOn (value_at s) t.layers t.layers M (Err e) →
+    IsPushError way M a t e
+is_push_error way a s t M e own same deep answer on =
     let at = below_is a s t own same in
-    by_way way e deep
-    (subst (λ (o : Old). IsAnswer standard o t.layers t.layers M (Err e)) at answer) where
-      by_way : (way : Way) (e : StepError) → (way ≡ ways.Extend → ¬ (e ≡ Deep)) → IsAnswer standard (below a t) t.layers t.layers M (Err e) → IsPushError way M a t e
+    by_way way e deep (
+      subst (λ (n : ℕ). n ≤ length a.account.seen) same own.within,
+      subst (λ (o : Old). IsAnswer standard o t.layers t.layers M (Err e)) at answer,
+      below_answers a s t t.layers M (Err e) own same on,
+    ) where
+      by_way : (way : Way) (e : StepError) → (way ≡ ways.Extend → ¬ (e ≡ Deep)) →
+          HasReached a t × IsAnswer standard (below a t) t.layers t.layers M (Err e) × IsAnsweredBelow M a t t.layers (Err e) →
+          IsPushError way M a t e
       by_way ways.Push e deep is = is
       by_way ways.Extend Deep deep is = absurd (deep refl refl)
       by_way ways.Extend e deep is = is
@@ -57,38 +82,41 @@ is_push_error way a s t M e own same deep answer =
 -- the same, of a step whose contents are these
 pub is_grown_of : (way : Way) (a : AgentAt Standard) (s : StateView) (t inside : StepView) (ls : List Layer) (M : Move) →
     inside ≡ t → IsOwn a s → s.number ≡ inside.number → IsLayered way inside.layers ls →
-    IsAnswer standard (value_at s) inside.layers ls M (Ok tt) →
+    IsAnswer standard (value_at s) inside.layers ls M (Ok tt) → AnswersOn (value_at s) inside.layers ls M (Ok tt) →
     ((groups : List (List Move)) → IsStepOf part (value_at s) inside.layers groups →
     IsStepOf part (value_at s) ls (grown way groups M)) →
     IsGrown way M a t (record inside { layers = ls })
-is_grown_of way a s t inside ls M view own same layers answer step =
+is_grown_of way a s t inside ls M view own same layers answer on step =
     subst (λ (x : StepView). IsGrown way M a x (record inside { layers = ls })) view
-    (is_grown way a s inside ls M own same layers answer step)
+    (is_grown way a s inside ls M own same layers answer on step)
 
 -- a move that wasn't taken changes no layer, and is told by its text
 module _ (way : Way) (a : AgentAt Standard) (s : StateView) (t inside : StepView) (ls : List Layer) (M : Move) (e : StepError) where
   told_of : (code : ℤ) (text : List ℕ) → inside ≡ t → IsOwn a s → s.number ≡ inside.number →
       (way ≡ ways.Extend → ¬ (e ≡ Deep)) → ls ≡ inside.layers →
-      IsAnswer standard (value_at s) inside.layers ls M (Err e) → TellsRefusal e code text → IsRefused way M a t code text
-  told_of code text view own same deep kept answer told =
+      IsAnswer standard (value_at s) inside.layers ls M (Err e) → AnswersOn (value_at s) inside.layers ls M (Err e) →
+      TellsRefusal e code text → IsRefused way M a t code text
+  told_of code text view own same deep kept answer on told =
       let error = is_push_error way a s inside M e own same deep
-      (subst (λ (x : List Layer). IsAnswer standard (value_at s) inside.layers x M (Err e)) kept answer) in
+      (subst (λ (x : List Layer). IsAnswer standard (value_at s) inside.layers x M (Err e)) kept answer)
+      (subst (λ (x : List Layer). AnswersOn (value_at s) inside.layers x M (Err e)) kept on) in
       (e, subst (λ (x : StepView). IsPushError way M a x e) view error, told)
 
   pub is_refused : (code : ℤ) (out : List ℕ) (written : ℕ) → inside ≡ t → IsOwn a s → s.number ≡ inside.number →
       (way ≡ ways.Extend → ¬ (e ≡ Deep)) → ls ≡ inside.layers →
-      IsAnswer standard (value_at s) inside.layers ls M (Err e) → IsWritten (TellsRefusal e code) out written →
+      IsAnswer standard (value_at s) inside.layers ls M (Err e) → AnswersOn (value_at s) inside.layers ls M (Err e) →
+      IsWritten (TellsRefusal e code) out written →
       IsWritten (IsRefused way M a t code) out written
-  is_refused code out written view own same deep kept answer (told, fits) =
-      (told_of code (slice_range out 0 written) view own same deep kept answer told, fits)
+  is_refused code out written view own same deep kept answer on (told, fits) =
+      (told_of code (slice_range out 0 written) view own same deep kept answer on told, fits)
 
   pub is_refused_long : (room written : ℕ) → inside ≡ t → IsOwn a s → s.number ≡ inside.number →
       (way ≡ ways.Extend → ¬ (e ≡ Deep)) → ls ≡ inside.layers →
-      IsAnswer standard (value_at s) inside.layers ls M (Err e) →
+      IsAnswer standard (value_at s) inside.layers ls M (Err e) → AnswersOn (value_at s) inside.layers ls M (Err e) →
       IsTooLong (λ text. (code : ℤ) × TellsRefusal e code text) room written →
       IsTooLong (λ text. (code : ℤ) × IsRefused way M a t code text) room written
-  is_refused_long room written view own same deep kept answer (text, (code, told), is, less) =
-      (text, (code, told_of code text view own same deep kept answer told), is, less)
+  is_refused_long room written view own same deep kept answer on (text, (code, told), is, less) =
+      (text, (code, told_of code text view own same deep kept answer on told), is, less)
 
 -- the same of a move that the bytes are JSON of
 module _ (way : Way) (bytes : List ℕ) (M : Move) (a : AgentAt Standard) (t : StepView) (reads : ReadAsMove bytes M) where

@@ -1,5 +1,5 @@
 -- A location that is got besides others.
-use Rattle.std.proofs.Common.{◌≡◌, ◌≤◌, ◌<◌, ◌∙◌, ℕ, true, false, List, [], ◌∷◌, ◌++◌, Contains, Option, length, get_or, arith, ⊎_elim, subst, sym, ap}
+use Rattle.std.proofs.Common.{◌≡◌, ◌≤◌, ◌<◌, ◌∙◌, ℕ, Bool, true, false, cond, filter, append-nil, List, [], ◌∷◌, ◌++◌, Contains, Option, length, get_or, arith, ⊎_elim, subst, sym, ap}
 use Rattle.std.specs.List.{HoldsAt, AllWithin}
 use Rattle.std.specs.List.Retain.{IsFiltered, DiffersFromLast}
 use Rattle.std.specs.List.Sorted.{IsPermutation, IsSorted, IsStrictlySortedBy}
@@ -59,3 +59,14 @@ pub noted_in : (old mid new : List Place) (l : Place) (copy : Option Place) → 
 noted_in old mid new l copy same is each few =
     let here : IsCopyFor mid l copy = subst (λ (ls : List Place). IsCopyFor ls l copy) (sym same) is in
     (subst (λ (ls : List Place). AreEach (ls ++ l ∷ []) new) same (each l here), few l here)
+
+-- a location that passes the test is got, and another isn't
+pub kept_one : (t : Place → Bool) (old new : List Place) (l : Place) → t l ≡ true → AreEach (old ++ l ∷ []) new →
+    AreEach (old ++ filter t (l ∷ [])) new
+kept_one t old new l is each = subst (λ b. AreEach (old ++ cond b (l ∷ []) []) new) (sym is) each
+
+pub kept_none : (t : Place → Bool) (old : List Place) (l : Place) → t l ≡ false → IsStrictlySortedBy location_cmp old →
+    AreEach (old ++ filter t (l ∷ [])) old
+kept_none t old l is ascending =
+    subst (λ b. AreEach (old ++ cond b (l ∷ []) []) old) (sym is)
+    (subst (λ ls. AreEach ls old) (sym (append-nil old)) (record { ascending = ascending; same = λ k. (λ h. h, λ h. h) }))

@@ -1,20 +1,20 @@
 -- What the commit of a step does.
-use Rattle.std.specs.Prelude.{◌≡◌, ◌≢◌, ◌⊎◌, ◌-◌, ◌+◌, ◌≤◌, ℕ, ℤ, List, [], ◌∷◌, ◌++◌, All, map}
-use Rattle.std.specs.Prelude.{Option, None, Result, Ok, Err, IfOk, OnErr, IfErr, unwrap_or}
+use Rattle.std.specs.Prelude.{◌≡◌, ◌≢◌, ◌↔◌, ◌⊎◌, ◌-◌, ◌+◌, ◌≤◌, ◌<◌, ℕ, ℤ, List, [], ◌∷◌, ◌++◌, All, map}
+use Rattle.std.specs.Prelude.{Option, None, Result, Ok, Err, IfOk, OnErr, IfErr, IsErrOf, unwrap_or, Contains, true, length}
 use Rattle.asm_update.specs.Fire.{fire}
 use Rattle.asm_update.specs.Move.{Move}
-use Rattle.asm_update.specs.State.{IsProper}
-use Rattle.asm_overlay.specs.Frames.{under}
+use Rattle.asm_update.specs.State.{State, IsProper, val}
+use Rattle.asm_element.specs.Place.{Place}
 use Rattle.asm_state.specs.declared.named.Named.{Named}
 use Rattle.asm_storage.specs.Calls.{IsAnswered, IsBusy, IsCoherentReply, MadeOffers}
-use Rattle.asm_storage.specs.Limits.{offers_limit}
+use Rattle.asm_storage.specs.Limits.{offers_limit, reads_limit}
 use Rattle.asm_storage.specs.Storage.{AgentAt, IsSameAgent}
 use Rattle.asm_storage.specs.declared.call.Reply.{Reply}
 use Rattle.asm_storage.specs.declared.call.Reply.TheVariants.{Fired}
 use Rattle.asm_storage.specs.declared.error.FireError.{FireError}
 use Rattle.asm_storage.specs.declared.error.FireError.TheVariants.{Busy, ManyReads, Memory}
 use Rattle.asm_step.specs.InTurn.{DoesAll, fire_all}
-use Rattle.asm_step.specs.Layers.{all_moves, frames_of, one_move, partial_places_of}
+use Rattle.asm_step.specs.Layers.{all_moves, one_move, resting_of, shows_below}
 use Rattle.asm_step.specs.Places.{AreEach}
 use Rattle.asm_slots.specs.Calls.{HasLooked, MissedFew, MissedOne, SeesOn, code_of, number_of}
 use Rattle.asm_slots.specs.Codes.{IsOneOf, ASM_DONE, ASM_STALE, ASM_CLASH, ASM_MEMORY, ASM_FULL, ASM_EMPTY, ASM_BUSY, ASM_MANY}
@@ -22,7 +22,7 @@ use Rattle.asm_slots.specs.Own.{state_at}
 use Rattle.asm_slots.specs.Slots.{Goes, HoldBoth, Holds, LacksOne}
 use Rattle.asm_slots.specs.Standard.{Standard, meaning, part}
 use Rattle.asm_slots.specs.Step.{StepView}
-use Rattle.asm_slots.specs.Steps.{IsStepOn}
+use Rattle.asm_slots.specs.Steps.{IsStepOn, seen}
 use Rattle.asm_slots.specs.declared.content.Content.{Content}
 use Rattle.asm_slots.specs.declared.read_and_fire.Numbers.{Numbers}
 
@@ -34,31 +34,42 @@ TellsFire (Err (Busy f t)) code fired from to = (code ≡ ASM_BUSY) × (fired �
 TellsFire (Err ManyReads) code fired from to = (code ≡ ASM_MANY) × (fired ≡ 0) × (from ≡ 0) × (to ≡ 0)
 TellsFire (Err Memory) code fired from to = (code ≡ ASM_MEMORY) × (fired ≡ 0) × (from ≡ 0) × (to ≡ 0)
 
--- all that the step rests on is named at its number: each location that was got, and each of a partial update of a pushed move
+-- all that the step rests on is named at its number: each location that was got where what was seen was made from the state
+-- below, and each on which the pushed moves rest
 pub record NamesAll (s : StepView) (reads : List Named) : Type 0 where
-  pub locations : AreEach (s.got ++ partial_places_of s.layers) (map (λ r. r.at) reads)
+  pub locations : AreEach (s.got ++ resting_of s.layers) (map (λ r. r.at) reads)
   pub numbers : All (λ r. r.number ≡ s.number) reads
 
--- where the move M fired with this number: on the state before it, which is proper, the pushed moves fire in turn and leave what
--- is seen through them there, and so does M
+-- where the move M fired with this number: on the state before it, which is proper, the pushed moves fire in turn, and leave
+-- what M leaves
 abbrev pub FiresAll : AgentAt Standard → StepView → Move → ℕ → AgentAt Standard → Type 0
 FiresAll a s M k new = (groups : List (List Move)) → IsStepOn a s groups → IsProper (state_at new (k - 1)) →
-    (fire part (state_at new (k - 1)) M ≡ Ok (under (state_at new (k - 1)) (frames_of s.layers)))
-    × (fire_all part (Ok (state_at new (k - 1))) (all_moves groups)
-    ≡ Ok (under (state_at new (k - 1)) (frames_of s.layers)))
+    (D : State) × (fire part (state_at new (k - 1)) M ≡ Ok D)
+    × (fire_all part (Ok (state_at new (k - 1))) (all_moves groups) ≡ Ok D)
 
--- the step's one move was fired with all named that it rests on, and was answered so
+-- and what was got through some of them, which the others follow, is what these leave there: at a location that is named,
+-- or where what is seen isn't made from the state below
+abbrev pub GotStands : AgentAt Standard → StepView → ℕ → AgentAt Standard → Type 0
+GotStands a s k new = (then : StepView) (groups : List (List Move)) (l : Place) (D : State) →
+    IsStepOn a then groups → then.number ≡ s.number →
+    fire_all part (Ok (state_at new (k - 1))) (all_moves groups) ≡ Ok D →
+    (shows_below then.layers l ≡ true → Contains s.got l) → seen a then l ≡ val D l
+
+-- the step's one move was fired with all named that it rests on, and was answered so; that these are too many, where they
+-- are more than 256, each location counted once
 pub record HasFiredStep (s : StepView) (code : ℤ) (fired from to : ℕ) (old new : AgentAt Standard) : Type 0 where
   pub reads : List Named
   pub answer : Result Reply FireError
   pub names : NamesAll s reads
   pub told : TellsFire answer code fired from to
+  pub many : IsErrOf answer ManyReads ↔ (reads_limit < length reads)
   pub answered : IfOk answer (IsAnswered meaning old new reads (unwrap_or (one_move s.layers) []))
   pub coherent : IfOk answer (IsCoherentReply meaning new reads (unwrap_or (one_move s.layers) []))
   pub refused : OnErr answer (HasLooked old new)
   pub busy : IfErr answer (IsBusy old new)
   pub offers : (n : ℕ) × MadeOffers old new answer n
   pub fires : (k : ℕ) → answer ≡ Ok (Fired k) → FiresAll old s (unwrap_or (one_move s.layers) []) k new
+  pub got : (k : ℕ) → s.number ≤ length old.account.seen → answer ≡ Ok (Fired k) → GotStands old s k new
 
 -- the step's move was fired; or nothing was done, for want of memory
 abbrev pub HasCommitted : StepView → ℤ → ℕ → ℕ → ℕ → AgentAt Standard → AgentAt Standard → Type 0

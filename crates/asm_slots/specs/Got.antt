@@ -4,7 +4,7 @@ use Rattle.asm_slots.specs.Bytes.{AreLocations, IsNoJson, IsOtherJson}
 use Rattle.asm_slots.specs.Codes.{IsOneOf, ASM_DONE, ASM_MEMORY, ASM_EMPTY, ASM_SMALL, ASM_MANY}
 use Rattle.asm_slots.specs.Codes.{ASM_NOT_JSON, ASM_SHAPE, ASM_MOVED}
 use Rattle.asm_slots.specs.Slots.{GoesStep, HoldBoth, HoldsStep, LacksOne}
-use Rattle.asm_slots.specs.Steps.{HasGot, HasGotAll, IsFoundText, IsGotText, WouldGetMany, WouldGetManyMore}
+use Rattle.asm_slots.specs.Steps.{HasGot, HasGotAll, HasReached, IsFoundText, IsGotText, WouldGetMany, WouldGetManyMore}
 use Rattle.asm_slots.specs.Written.{IsTooLong, IsWritten}
 use Rattle.asm_slots.specs.declared.content.Content.{Content}
 
@@ -14,6 +14,7 @@ pub record Gets (bytes : List ℕ) (agent step after : Option Content) (out out_
   pub told : code ≡ ASM_DONE → HoldBoth agent step (λ a s. IsWritten (IsGotText bytes a s) out_after written)
   pub got : code ≡ ASM_DONE → GoesStep step after (HasGot bytes)
   pub small : code ≡ ASM_SMALL → HoldBoth agent step (λ a s. IsTooLong (IsGotText bytes a s) (length out) written)
+  pub reached : IsOneOf (ASM_DONE ∷ ASM_SMALL ∷ ASM_MANY ∷ []) code → HoldBoth agent step HasReached
   pub many : code ≡ ASM_MANY → HoldsStep step (WouldGetMany bytes)
   pub not_json : code ≡ ASM_NOT_JSON → IsNoJson bytes
   pub shape : code ≡ ASM_SHAPE → IsOtherJson AreLocations bytes
@@ -28,6 +29,7 @@ pub record GetsAll (name : List ℕ) (agent step after : Option Content) (out ou
   pub told : code ≡ ASM_DONE → HoldBoth agent step (λ a s. IsWritten (IsFoundText name a s) out_after written)
   pub got : code ≡ ASM_DONE → HoldBoth agent step (λ a s. HoldsStep after (HasGotAll name a s))
   pub small : code ≡ ASM_SMALL → HoldBoth agent step (λ a s. IsTooLong (IsFoundText name a s) (length out) written)
+  pub reached : IsOneOf (ASM_DONE ∷ ASM_SMALL ∷ ASM_MANY ∷ []) code → HoldBoth agent step HasReached
   pub many : code ≡ ASM_MANY → HoldBoth agent step (WouldGetManyMore name)
   pub shape : code ≡ ASM_SHAPE → ¬ IsUtf8 name
   pub empty : code ≡ ASM_EMPTY → LacksOne agent step

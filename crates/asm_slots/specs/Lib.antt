@@ -16,6 +16,7 @@ pub mod Journals
 pub mod Moves
 pub mod Own
 pub mod Next
+pub mod Ahead
 pub mod Looked
 pub mod Answered
 pub mod Made

@@ -1,19 +1,22 @@
 -- What looks that leave no receipt tell, and what they leave.
 use Rattle.std.specs.Prelude.{◌≡◌, ◌≢◌, ◌↔◌, ℕ, ℤ, List, [], ◌∷◌, length, Option}
 use Rattle.asm_storage.specs.Storage.{IsSameAgent}
+use Rattle.asm_slots.specs.Ahead.{ReadsAhead, ReadsWithin}
 use Rattle.asm_slots.specs.Bytes.{AreReads, IsNoJson, IsOtherJson, ReadAsMoreReads}
 use Rattle.asm_slots.specs.Calls.{HasLooked, MayHaveLooked, SeesOn}
 use Rattle.asm_slots.specs.Codes.{IsOneOf, ASM_DONE, ASM_STALE, ASM_MEMORY, ASM_EMPTY, ASM_SMALL, ASM_MANY}
-use Rattle.asm_slots.specs.Codes.{ASM_TAKEN, ASM_NOT_JSON, ASM_SHAPE}
+use Rattle.asm_slots.specs.Codes.{ASM_RANGE, ASM_TAKEN, ASM_NOT_JSON, ASM_SHAPE}
 use Rattle.asm_slots.specs.Own.{AllStand, HasFollowed, HasLookedOn, IsStaleOf}
 use Rattle.asm_slots.specs.Slots.{Goes, HasRoomForStep, Holds, HoldsNoAgent, HoldsStep}
 use Rattle.asm_slots.specs.Step.{begun}
 use Rattle.asm_slots.specs.Written.{IsTooLong, IsWritten}
 use Rattle.asm_slots.specs.declared.content.Content.{Content}
 
--- the named reads of these bytes stand after what the agent has then seen, or a stale one is told; or the code tells why not
+-- the named reads of these bytes stand after what the agent has then seen, or a stale one is told; or the code tells why not.
+-- A number that is yet to come is told before the agent looks, and before more than 256 reads are
 pub record Stands (reads : List ℕ) (agent after : Option Content) (out out_after : List ℕ) (written : ℕ) (code : ℤ) : Type 0 where
-  pub codes : IsOneOf (ASM_DONE ∷ ASM_STALE ∷ ASM_MEMORY ∷ ASM_EMPTY ∷ ASM_SMALL ∷ ASM_MANY ∷ ASM_NOT_JSON ∷ ASM_SHAPE ∷ []) code
+  pub codes : IsOneOf (ASM_DONE ∷ ASM_STALE ∷ ASM_MEMORY ∷ ASM_EMPTY ∷ ASM_RANGE ∷ ASM_SMALL ∷ ASM_MANY
+      ∷ ASM_NOT_JSON ∷ ASM_SHAPE ∷ []) code
   pub stand : code ≡ ASM_DONE → Holds after (AllStand reads)
   pub told : code ≡ ASM_STALE → Holds after (λ a. IsWritten (IsStaleOf reads a) out_after written)
   pub small : code ≡ ASM_SMALL → Holds after (λ a. IsTooLong (IsStaleOf reads a) (length out) written)
@@ -22,12 +25,14 @@ pub record Stands (reads : List ℕ) (agent after : Option Content) (out out_aft
   pub refused : code ≢ ASM_EMPTY → Goes agent after HasLooked
   pub same : code ≢ ASM_EMPTY → Goes agent after IsSameAgent
   pub seen : code ≢ ASM_EMPTY → Goes agent after SeesOn
+  pub range : code ≡ ASM_RANGE → Holds agent (ReadsAhead reads)
+  pub within : IsOneOf (ASM_DONE ∷ ASM_STALE ∷ ASM_SMALL ∷ ASM_MANY ∷ []) code → Holds agent (ReadsWithin reads)
   pub many : code ≡ ASM_MANY → ReadAsMoreReads reads
   pub not_json : code ≡ ASM_NOT_JSON → IsNoJson reads
   pub shape : code ≡ ASM_SHAPE → IsOtherJson AreReads reads
   pub empty : code ≡ ASM_EMPTY → HoldsNoAgent agent
-  pub kept : IsOneOf (ASM_EMPTY ∷ ASM_MANY ∷ ASM_NOT_JSON ∷ ASM_SHAPE ∷ []) code → after ≡ agent
-  pub no_text : IsOneOf (ASM_DONE ∷ ASM_MEMORY ∷ ASM_EMPTY ∷ ASM_MANY ∷ ASM_NOT_JSON ∷ ASM_SHAPE ∷ []) code → written ≡ 0
+  pub kept : IsOneOf (ASM_EMPTY ∷ ASM_RANGE ∷ ASM_MANY ∷ ASM_NOT_JSON ∷ ASM_SHAPE ∷ []) code → after ≡ agent
+  pub no_text : IsOneOf (ASM_DONE ∷ ASM_MEMORY ∷ ASM_EMPTY ∷ ASM_RANGE ∷ ASM_MANY ∷ ASM_NOT_JSON ∷ ASM_SHAPE ∷ []) code → written ≡ 0
   pub unwritten : code ≢ ASM_STALE → out_after ≡ out
 
 -- the agent has looked on, and the other slot holds a step at so many moves; or the code tells why not, and what it held stays

@@ -2,7 +2,7 @@
 use Rattle.std.specs.Prelude.{ℕ, List, [], refl}
 use Rattle.std.specs.Coded.{Coded, code_by, coded×, coded_ℕ}
 use Rattle.asm_element.specs.Place.{Place}
-use Rattle.asm_step.specs.declared.layer.Layer.{Layer}
+use Rattle.asm_step.specs.Layers.{Layer}
 
 -- the number of moves at which it began, the layers of what is pushed, and the locations that were got, each once
 pub record StepView : Type 0 where

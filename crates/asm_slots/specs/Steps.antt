@@ -1,5 +1,5 @@
 -- What the calls do with the step in a slot.
-use Rattle.std.specs.Prelude.{◌≡◌, ◌≢◌, ◌≤◌, ◌<◌, ℕ, ℤ, List, [], ◌∷◌, ◌++◌, length, Contains, Option, None, Some, Ok, Err}
+use Rattle.std.specs.Prelude.{◌≡◌, ◌≢◌, ◌≤◌, ◌<◌, ℕ, ℤ, List, [], ◌∷◌, ◌++◌, length, Contains, Option, None, Some, Result, Ok, Err, filter, true}
 use Rattle.std.specs.FinMap as finite
 use Rattle.asm_element.specs.Place.{Place}
 use Rattle.asm_update.specs.Fire.{Old}
@@ -9,13 +9,12 @@ use Rattle.asm_overlay.specs.Limits.{frames_limit}
 use Rattle.asm_overlay.specs.Frames.{seen_through}
 use Rattle.asm_storage.specs.Limits.{reads_limit}
 use Rattle.asm_storage.specs.Storage.{AgentAt}
-use Rattle.asm_step.specs.Answer.{IsAnswer}
+use Rattle.asm_step.specs.Answer.{IsAnswer, IsAnswerOn}
 use Rattle.asm_step.specs.InTurn.{all_but_last}
-use Rattle.asm_step.specs.Layers.{extended, frames_of, IsStepOf}
+use Rattle.asm_step.specs.Layers.{Layer, extended, frames_of, shows_below, IsStepOf}
 use Rattle.asm_step.specs.Places.{AreEach}
 use Rattle.asm_step.specs.declared.error.StepError.{StepError}
 use Rattle.asm_step.specs.declared.error.StepError.TheVariants.{Clash, Large, Many, Deep, Memory}
-use Rattle.asm_step.specs.declared.layer.Layer.{Layer}
 use Rattle.asm_slots.specs.Bytes.{ReadAsLocations, ReadAsMove}
 use Rattle.asm_slots.specs.Codes.{ASM_CLASH, ASM_MANY, ASM_LARGE, ASM_DEEP}
 use Rattle.asm_slots.specs.Moves.{clash_text, large_text}
@@ -39,6 +38,10 @@ seen a s = seen_through (frames_of s.layers) (below a s)
 abbrev pub IsStepOn : AgentAt Standard → StepView → List (List Move) → Type 0
 IsStepOn a s groups = (s.number ≤ length a.account.seen) × IsStepOf part (below a s) s.layers groups
 
+-- the agent has seen as many moves as the step's number says
+abbrev pub HasReached : AgentAt Standard → StepView → Type 0
+HasReached a s = s.number ≤ length a.account.seen
+
 -- ---- getting
 
 -- the bytes are JSON of locations, and the text tells what is seen there
@@ -46,10 +49,14 @@ abbrev pub IsGotText : List ℕ → AgentAt Standard → StepView → List ℕ �
 IsGotText bytes a s text =
     (locations : List Place) × ReadAsLocations bytes locations × (text ≡ values_text s.number (seen a s) locations)
 
--- the locations are got too
+-- those of the locations at which what is seen through the pushed moves is made from the state below them
+abbrev pub from_below : StepView → List Place → List Place
+from_below s locations = filter (shows_below s.layers) locations
+
+-- the locations are got too, where what is seen rests on the state below
 abbrev pub HasGotEach : List Place → StepView → StepView → Type 0
 HasGotEach locations old new =
-    (new ≡ record old { got = new.got }) × AreEach (old.got ++ locations) new.got × (length new.got ≤ reads_limit)
+    (new ≡ record old { got = new.got }) × AreEach (old.got ++ from_below old locations) new.got × (length new.got ≤ reads_limit)
 
 -- the locations of these bytes are got too
 abbrev pub HasGot : List ℕ → StepView → StepView → Type 0
@@ -59,9 +66,9 @@ HasGot bytes old new = (locations : List Place) × ReadAsLocations bytes locatio
 abbrev pub HasGotOne : Place → StepView → StepView → Type 0
 HasGotOne l = HasGotEach (l ∷ [])
 
--- 256 locations are got, and this one isn't among them
+-- 256 locations are got, and this one isn't among them, and what is seen there rests on the state below
 abbrev pub WouldGetOneMore : Place → StepView → Type 0
-WouldGetOneMore l s = (reads_limit ≤ length s.got) × ¬ Contains s.got l
+WouldGetOneMore l s = (reads_limit ≤ length s.got) × ¬ Contains s.got l × (shows_below s.layers l ≡ true)
 
 -- the location is among the others; or it isn't, and this is a copy of it, for which there is room among 256
 abbrev pub IsCopyFor : List Place → Place → Option Place → Type 0
@@ -71,7 +78,7 @@ IsCopyFor got l (Some copy) = (copy ≡ l) × (length got < reads_limit)
 -- more than 256 would be got, with the locations of these bytes
 abbrev pub WouldGetMany : List ℕ → StepView → Type 0
 WouldGetMany bytes s =
-    (locations ls : List Place) × ReadAsLocations bytes locations × AreEach (s.got ++ locations) ls × (reads_limit < length ls)
+    (locations ls : List Place) × ReadAsLocations bytes locations × AreEach (s.got ++ from_below s locations) ls × (reads_limit < length ls)
 
 -- the text tells what is seen at the locations with this function name
 abbrev pub IsFoundText : List ℕ → AgentAt Standard → StepView → List ℕ → Type 0
@@ -85,12 +92,12 @@ IsFound name a s S = IsProper S × ((l : Place) → val S l ≡ of_name name (se
 abbrev pub HasGotAll : List ℕ → AgentAt Standard → StepView → StepView → Type 0
 HasGotAll name a old new =
     (S : State) × IsFound name a old S × (new ≡ record old { got = new.got })
-    × AreEach (old.got ++ finite.keys S) new.got × (length new.got ≤ reads_limit)
+    × AreEach (old.got ++ from_below old (finite.keys S)) new.got × (length new.got ≤ reads_limit)
 
 -- more than 256 would be got, with those that are found
 abbrev pub WouldGetManyMore : List ℕ → AgentAt Standard → StepView → Type 0
 WouldGetManyMore name a s =
-    (S : State) × (ls : List Place) × IsFound name a s S × AreEach (s.got ++ finite.keys S) ls × (reads_limit < length ls)
+    (S : State) × (ls : List Place) × IsFound name a s S × AreEach (s.got ++ from_below s (finite.keys S)) ls × (reads_limit < length ls)
 
 -- ---- pushing
 
@@ -104,17 +111,28 @@ abbrev pub IsLayered : Way → List Layer → List Layer → Type 0
 IsLayered ways.Push old new = ((y : Layer) × (new ≡ old ++ y ∷ [])) × (length old ≢ frames_limit)
 IsLayered ways.Extend old new = (y : Layer) × (new ≡ all_but_last old ++ y ∷ [])
 
+-- so the move is answered on the state below the step, if that is proper: after the step's moves it fires there, or has the
+-- clash that is told, and nothing is too large
+abbrev pub IsAnsweredBelow : Move → AgentAt Standard → StepView → List Layer → Result (Unit {0}) StepError → Type 0
+IsAnsweredBelow M a s new r =
+    (groups : List (List Move)) → IsStepOn a s groups → IsProper (state_at a s.number) →
+    IsAnswerOn part (state_at a s.number) s.layers new M r
+
 -- the move is pushed, or extends the one that was pushed last
 pub record IsGrown (way : Way) (M : Move) (a : AgentAt Standard) (old new : StepView) : Type 0 where
   pub same : new ≡ record old { layers = new.layers }
+  pub reached : HasReached a old
   pub layers : IsLayered way old.layers new.layers
   pub answer : IsAnswer standard (below a old) old.layers new.layers M (Ok tt)
+  pub fires : IsAnsweredBelow M a old new.layers (Ok tt)
   pub step : (groups : List (List Move)) → IsStepOn a old groups → IsStepOn a new (grown way groups M)
 
--- why it isn't; 64 moves don't keep one from extending the last
+-- why it isn't, never that something is too large where the step is one of the agent over a proper state; 64 moves don't keep
+-- one from extending the last
 abbrev pub IsPushError : Way → Move → AgentAt Standard → StepView → StepError → Type 0
 IsPushError ways.Extend M a s Deep = ⊥
-IsPushError way M a s e = IsAnswer standard (below a s) s.layers s.layers M (Err e)
+IsPushError way M a s e =
+    HasReached a s × IsAnswer standard (below a s) s.layers s.layers M (Err e) × IsAnsweredBelow M a s s.layers (Err e)
 
 -- the bytes are JSON of a move, which is pushed or extends the one that was pushed last
 abbrev pub HasGrown : Way → List ℕ → AgentAt Standard → StepView → StepView → Type 0

@@ -4,7 +4,7 @@ use Rattle.asm_slots.specs.Codes.{IsOneOf, ASM_DONE, ASM_MEMORY, ASM_EMPTY, ASM_
 use Rattle.asm_slots.specs.Kinds.{IsTold, bytes_of}
 use Rattle.asm_slots.specs.Own.{HasBytesAt, IsToldAt}
 use Rattle.asm_slots.specs.Slots.{GoesStep, HoldBoth, Holds, HoldsLocation, HoldsNoAgent, HoldsNoLocation, HoldsStep, LacksOne}
-use Rattle.asm_slots.specs.Steps.{HasGotOne, WouldGetOneMore, seen}
+use Rattle.asm_slots.specs.Steps.{HasGotOne, HasReached, WouldGetOneMore, seen}
 use Rattle.asm_slots.specs.Written.{IsTooLong, IsWritten}
 use Rattle.asm_slots.specs.declared.content.Content.{Content}
 use Rattle.asm_slots.specs.declared.value_head.ValueHead.{ValueHead}
@@ -33,6 +33,7 @@ pub record GetsAt (at agent step after : Option Content) (value : ValueHead) (ou
   pub got : code ≡ ASM_DONE → HoldsLocation at (λ l. GoesStep step after (HasGotOne l))
   pub small : code ≡ ASM_SMALL → HoldsLocation at (λ l. HoldBoth agent step
       (λ a s. IsTooLong (λ bytes. bytes ≡ bytes_of (seen a s l)) (length out) written))
+  pub reached : IsOneOf (ASM_DONE ∷ ASM_SMALL ∷ ASM_MANY ∷ []) code → HoldBoth agent step HasReached
   pub many : code ≡ ASM_MANY → HoldsLocation at (λ l. HoldsStep step (WouldGetOneMore l))
   pub empty : code ≡ ASM_EMPTY → HoldsNoLocation at ⊎ LacksOne agent step
   pub stays : code ≢ ASM_DONE → after ≡ step

@@ -52,17 +52,20 @@ fn fire_step(alloc: Global, agent: OwnedAgent, step: &OwnedStep) -> (OwnedAgent,
     ensures missed { result.1 ≡ ASM_DONE → MissedOne agent result.0 }
     ensures lost { result.1 ≡ ASM_BUSY → result.2.from + offers_limit ≤ result.2.to }
 {
-    let instrs = step.step.as_move();
+    let Ok(instrs) = step.step.as_move(alloc) else {
+        return (agent, MEMORY, Numbers::none());
+    };
     let Ok(reads) = step.reads(alloc) else {
         return (agent, MEMORY, Numbers::none());
     };
-    let (agent, answer) = agent.fire(alloc, &reads, instrs);
+    let (agent, answer) = agent.fire(alloc, &reads, &instrs);
     let (code, numbers) = told_fire(answer);
     (agent, code, numbers)
 }
 
 /// Fires the one move that does what the pushed moves do in turn, with each location named that was got, and each
-/// of a partial update of a pushed move, at the step's number: the codes, numbers and receipt of `try_fire`.
+/// that a pushed move with partial updates alone writes first and another one later, at the step's number: the codes,
+/// numbers and receipt of `try_fire`.
 ///
 /// With `ASM_DONE` the step is over, and its slot is empty. After any other code it stays as it was. `ASM_MANY`:
 /// more than 256 locations would be named. `ASM_EMPTY`: the first slot has no agent, the second no step, or the

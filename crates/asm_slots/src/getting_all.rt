@@ -1,5 +1,5 @@
 //! What is seen through a step at all locations with one function name.
-ghost use Rattle.std.specs.Prelude.{◌≡◌, ◌≢◌, ◌≤◌, ◌∷◌, ◌++◌, [], length, string_bytes, IsUtf8, IfOk, IfErr, Some};
+ghost use Rattle.std.specs.Prelude.{◌≡◌, ◌≢◌, ◌≤◌, ◌∷◌, ◌++◌, [], length, string_bytes, IsUtf8, IfOk, IfErr, OnOk, Some};
 ghost use Rattle.std.specs.FinMap as finite;
 ghost use Rattle.asm_update.specs.State.{State};
 ghost use Rattle.asm_step.specs.Places.{AreEach};
@@ -8,13 +8,13 @@ ghost use Rattle.asm_slots.specs.Codes.{IsOneOf, ASM_DONE, ASM_MEMORY, ASM_SMALL
 ghost use Rattle.asm_slots.specs.Codes.{ASM_SHAPE, ASM_MOVED};
 ghost use Rattle.asm_slots.specs.Got.{GetsAll};
 ghost use Rattle.asm_slots.specs.Slots.{content_of};
-ghost use Rattle.asm_slots.specs.Steps.{HasGotAll, IsFound, IsFoundText, WouldGetManyMore};
+ghost use Rattle.asm_slots.specs.Steps.{HasGotAll, HasReached, IsFound, IsFoundText, WouldGetManyMore, from_below};
 ghost use Rattle.asm_slots.specs.Written.{IsTooLong, IsWritten};
 
 use crate::codes::{DONE, EMPTY, MANY, MEMORY, MOVED, SHAPE, copied};
 use crate::content::Content;
 use crate::owned_agent::OwnedAgent;
-use crate::owned_step::{OwnedStep, each_of};
+use crate::owned_step::{OwnedStep, each_of, from_below};
 use crate::slot::Slot;
 use crate::steps::{GetError, Got};
 use crate::take_and_put::{agent_in, put_both, take_both};
@@ -33,6 +33,7 @@ fn found_in(
     name: &str,
 ) -> Result<PlainState, GetError>
     ensures found { IfOk result (IsFound name.now agent.now step.now) }
+    ensures reached { OnOk result (HasReached agent.now step.now) }
     ensures many { IfErr result (λ e. ¬ (e ≡ GetError.Many)) }
     ensures shape { IfErr result (λ e. ¬ (e ≡ GetError.Shape)) }
 {
@@ -55,6 +56,7 @@ fn found_of(
     name: &[u8],
 ) -> Result<PlainState, GetError>
     ensures found { IfOk result (IsFound name.now agent.now step.now) }
+    ensures reached { OnOk result (HasReached agent.now step.now) }
     ensures many { IfErr result (λ e. ¬ (e ≡ GetError.Many)) }
     ensures shape { IfErr result (λ e. e ≡ GetError.Shape → ¬ IsUtf8 name.now) }
 {
@@ -83,14 +85,17 @@ fn got_all_at(
 ) -> Result<Got, GetError>
     ensures text { IfOk result (λ g. IsFoundText name.now agent.now step.now (string_bytes g.text)) }
     ensures all { IfOk result (λ g. (S : State) × IsFound name.now agent.now step.now S
-        × AreEach (step.now.got ++ finite.keys S) g.all.items) }
+        × AreEach (step.now.got ++ from_below step.now (finite.keys S)) g.all.items) }
     ensures few { IfOk result (λ g. length g.all.items ≤ reads_limit) }
     ensures many { IfErr result (λ e. e ≡ GetError.Many → WouldGetManyMore name.now agent.now step.now) }
+    ensures reached { OnOk result (HasReached agent.now step.now) }
+    ensures many_reached { IfErr result (λ e. e ≡ GetError.Many → HasReached agent.now step.now) }
     ensures shape { IfErr result (λ e. e ≡ GetError.Shape → ¬ IsUtf8 name.now) }
 {
     let found = found_of(alloc, agent, step, name)?;
     let locations = locations_of_state(alloc, &found)?;
-    let all = each_of(alloc, &step.got, locations)?;
+    let below = from_below(alloc, &step.step, locations)?;
+    let all = each_of(alloc, &step.got, below)?;
     if all.len() > READS_LIMIT {
         return Err(GetError::Many);
     }
@@ -113,6 +118,7 @@ fn get_all_in(
     ensures got { result ≡ ASM_DONE → HasGotAll name.now agent.now step.old step.new }
     ensures small { result ≡ ASM_SMALL →
         IsTooLong (IsFoundText name.now agent.now step.old) (length out.old) written.new }
+    ensures reached { IsOneOf (ASM_DONE ∷ ASM_SMALL ∷ ASM_MANY ∷ []) result → HasReached agent.now step.old }
     ensures many { result ≡ ASM_MANY → WouldGetManyMore name.now agent.now step.old }
     ensures shape { result ≡ ASM_SHAPE → ¬ IsUtf8 name.now }
     ensures stays { result ≢ ASM_DONE → step.new ≡ step.old }
@@ -156,8 +162,8 @@ fn get_all_of(
 }
 
 /// Writes `[PAIR, ..]`: what is seen through the pushed moves at all locations with the function name, a text in
-/// UTF-8 without quotes, in ascending order. Each location that is found is got, and is named by the commit; that
-/// a further location of the name is written later isn't noticed by it.
+/// UTF-8 without quotes, in ascending order. Each location that is found is got, and is named by the commit, unless
+/// pushed moves put what is seen there; that a further location of the name is written later isn't noticed by it.
 ///
 /// It makes no look and no receipt, and the agent's slot stays as it was. `ASM_SHAPE`: the name isn't UTF-8.
 /// `ASM_MOVED`, `ASM_MANY`, `ASM_SMALL`, `ASM_EMPTY` and `ASM_MEMORY` come as of `get`; after each of these the

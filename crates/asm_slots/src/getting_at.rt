@@ -9,9 +9,10 @@ ghost use Rattle.asm_storage.specs.Limits.{reads_limit};
 ghost use Rattle.asm_slots.specs.Codes.{IsOneOf, ASM_DONE, ASM_MEMORY, ASM_SMALL, ASM_MANY, ASM_MOVED};
 ghost use Rattle.asm_slots.specs.Kinds.{IsTold, bytes_of};
 ghost use Rattle.asm_slots.specs.Slots.{content_of};
-ghost use Rattle.asm_slots.specs.Steps.{HasGotOne, IsCopyFor, WouldGetOneMore, seen};
+ghost use Rattle.asm_slots.specs.Steps.{HasGotOne, HasReached, IsCopyFor, WouldGetOneMore, seen};
 ghost use Rattle.asm_slots.specs.Told.{GetsAt, IsNoValue};
 ghost use Rattle.asm_slots.specs.Written.{IsTooLong, IsWritten};
+ghost use Rattle.asm_slots.specs.declared.content.Content.TheVariants as content;
 
 use crate::codes::{DONE, EMPTY, MANY, MEMORY, MOVED};
 use crate::content::Content;
@@ -81,6 +82,7 @@ fn get_one(
     ensures got { result ≡ ASM_DONE → HasGotOne at.now step.old step.new }
     ensures small { result ≡ ASM_SMALL →
         IsTooLong (λ bytes. bytes ≡ bytes_of (seen agent.now step.old at.now)) (length out.old) written.new }
+    ensures reached { IsOneOf (ASM_DONE ∷ ASM_SMALL ∷ ASM_MANY ∷ []) result → HasReached agent.now step.old }
     ensures many { result ≡ ASM_MANY → WouldGetOneMore at.now step.old }
     ensures stays { result ≢ ASM_DONE → step.new ≡ step.old }
     ensures no_text { IsOneOf (ASM_MEMORY ∷ ASM_MANY ∷ ASM_MOVED ∷ []) result → written.new ≡ 0 }
@@ -90,6 +92,9 @@ fn get_one(
     let state = agent.state();
     if state.number() != step.number {
         return MOVED;
+    }
+    if !step.step.sees_below(at) {
+        return tell_at(alloc, &step.step.over(state), at, value, out, written);
     }
     let copy = match copy_for(alloc, &mut step.got, at) {
         Ok(copy) => copy,
@@ -101,6 +106,30 @@ fn get_one(
         note(&mut step.got, copy);
     }
     code
+}
+
+// The same, where the boxes hold an agent and a step.
+fn get_one_of(
+    alloc: Global,
+    agent: &Content,
+    step: &mut Content,
+    at: &Location,
+    value: &mut ValueHead,
+    out: &mut [u8],
+    written: &mut usize,
+) -> i32
+    requires no_text { written.old ≡ 0 }
+    requires no_value { IsNoValue value.old }
+    ensures { GetsAt (Some (content.Location at.now)) (Some agent.now) (Some step.old) (Some step.new) value.new out.old
+        out.new written.new result }
+{
+    let Some(agent) = agent_in(agent) else {
+        return EMPTY;
+    };
+    match step {
+        Content::Step(step) => get_one(alloc, agent, step, at, value, out, written),
+        _ => EMPTY,
+    }
 }
 
 fn get_in_both(
@@ -124,21 +153,17 @@ fn get_in_both(
     let Some(mut both) = take_both(alloc, agent, step) else {
         return EMPTY;
     };
-    let code = match (agent_in(&both.agent), &mut *both.step) {
-        (Some(agent), Content::Step(step)) => {
-            get_one(alloc, agent, step, at, value, out, written)
-        }
-        _ => EMPTY,
-    };
+    let code = get_one_of(alloc, &both.agent, &mut both.step, at, value, out, written);
     put_both(agent, step, both);
     code
 }
 
 /// Tells what is seen at the prepared location through the pushed moves. The bytes of a text, and the JSON of a
-/// list, a set or a bag, are written. The location is got, and is named by the commit.
+/// list, a set or a bag, are written. The location is got, and is named by the commit, unless pushed moves put what is
+/// seen there.
 ///
 /// It makes no look and no receipt, and the slots of the agent and the location stay as they were. `ASM_MOVED`: the
-/// agent's own state stands no longer at the step's number. `ASM_MANY`: 256 other locations are got. `ASM_SMALL`:
+/// agent's own state doesn't stand at the step's number. `ASM_MANY`: 256 other locations are got. `ASM_SMALL`:
 /// `written` is the room that the bytes need. `ASM_EMPTY`: the first slot has no agent, the second no step, the
 /// third no location, or two of them are one. `ASM_MEMORY`. After each of these the step's slot is as it was, and
 /// `value` is 0. The step has to be one of the agent's storage.

@@ -125,7 +125,9 @@ fn code_of_unclosed(error: Unclosed) -> (i32, u32)
 
 /// Closes the agents that were given back into one journal, which the storage keeps for `write_journal`.
 ///
-/// It looks along the storage's row first, so it tells of a move that none of them has seen too.
+/// Where each move that they have seen has a receipt among them, it looks along the storage's row, so it tells of a
+/// move that none of them has seen too. Contracts don't tell what stands in a row: that it tells of no such move where
+/// there is none is tested.
 ///
 /// `ASM_MISSING`: the move with this number, the least such, has no receipt among them; give back the agent
 /// that fired it, and close again. The moves of an agent that was freed without being given back are missing

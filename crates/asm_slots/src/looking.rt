@@ -1,10 +1,11 @@
 //! Values in an agent's own state, and whether named reads still stand: looks that leave no receipt.
 ghost use Rattle.std.specs.Prelude.{◌≡◌, ◌≢◌, ◌∷◌, [], length, map, string_bytes, IfOk, IfErr, Some};
 ghost use Rattle.asm_storage.specs.Storage.{IsSameAgent};
+ghost use Rattle.asm_slots.specs.Ahead.{ReadsAhead, ReadsWithin};
 ghost use Rattle.asm_slots.specs.Bytes.{AreLocations, AreReads, IsNoJson, IsOtherJson, ReadAsMoreReads};
 ghost use Rattle.asm_slots.specs.Calls.{HasLooked, MayHaveLooked, SeesOn};
 ghost use Rattle.asm_slots.specs.Codes.{IsOneOf, ASM_DONE, ASM_STALE, ASM_MEMORY, ASM_EMPTY, ASM_SMALL};
-ghost use Rattle.asm_slots.specs.Codes.{ASM_MANY, ASM_NOT_JSON, ASM_SHAPE};
+ghost use Rattle.asm_slots.specs.Codes.{ASM_RANGE, ASM_MANY, ASM_NOT_JSON, ASM_SHAPE};
 ghost use Rattle.asm_slots.specs.Looked.{Stands};
 ghost use Rattle.asm_slots.specs.Own.{AllStand, HasFollowed, HasLookedOn, IsPeekOf};
 ghost use Rattle.asm_slots.specs.Own.{IsStaleOf, IsStaleText, values_text};
@@ -12,7 +13,7 @@ ghost use Rattle.asm_slots.specs.Slots.{Goes, Holds, HoldsNoAgent, content_of};
 ghost use Rattle.asm_slots.specs.Written.{IsTooLong, IsWritten};
 ghost use Rattle.asm_slots.specs.declared.content.Content.TheVariants as content;
 
-use crate::codes::{DONE, EMPTY, MANY, MEMORY, STALE, Told, copied, written_as};
+use crate::codes::{DONE, EMPTY, MANY, MEMORY, RANGE, STALE, Told, copied, written_as};
 use crate::content::Content;
 use crate::owned_agent::OwnedAgent;
 use crate::parsing::{code_of_text_error, locations_of, reads_of};
@@ -170,7 +171,7 @@ fn stands_at(
     written: &mut usize,
 ) -> i32
     requires { written.old ≡ 0 }
-    ensures codes { IsOneOf (ASM_DONE ∷ ASM_STALE ∷ ASM_MEMORY ∷ ASM_SMALL ∷ ASM_MANY
+    ensures codes { IsOneOf (ASM_DONE ∷ ASM_STALE ∷ ASM_MEMORY ∷ ASM_RANGE ∷ ASM_SMALL ∷ ASM_MANY
         ∷ ASM_NOT_JSON ∷ ASM_SHAPE ∷ []) result }
     ensures stand { result ≡ ASM_DONE → Holds (content_of slot.new) (AllStand reads.now) }
     ensures told { result ≡ ASM_STALE → Holds (content_of slot.new)
@@ -183,12 +184,14 @@ fn stands_at(
     ensures refused { Holds (content_of slot.new) (HasLooked agent) }
     ensures same { Holds (content_of slot.new) (IsSameAgent agent) }
     ensures seen { Holds (content_of slot.new) (SeesOn agent) }
+    ensures range { result ≡ ASM_RANGE → ReadsAhead reads.now agent }
+    ensures within { IsOneOf (ASM_DONE ∷ ASM_STALE ∷ ASM_SMALL ∷ ASM_MANY ∷ []) result → ReadsWithin reads.now agent }
     ensures many { result ≡ ASM_MANY → ReadAsMoreReads reads.now }
     ensures not_json { result ≡ ASM_NOT_JSON → IsNoJson reads.now }
     ensures shape { result ≡ ASM_SHAPE → IsOtherJson AreReads reads.now }
-    ensures kept { IsOneOf (ASM_MANY ∷ ASM_NOT_JSON ∷ ASM_SHAPE ∷ []) result →
+    ensures kept { IsOneOf (ASM_RANGE ∷ ASM_MANY ∷ ASM_NOT_JSON ∷ ASM_SHAPE ∷ []) result →
         content_of slot.new ≡ Some (content.Agent agent) }
-    ensures no_text { IsOneOf (ASM_DONE ∷ ASM_MEMORY ∷ ASM_MANY ∷ ASM_NOT_JSON ∷ ASM_SHAPE ∷ []) result →
+    ensures no_text { IsOneOf (ASM_DONE ∷ ASM_MEMORY ∷ ASM_RANGE ∷ ASM_MANY ∷ ASM_NOT_JSON ∷ ASM_SHAPE ∷ []) result →
         written.new ≡ 0 }
     ensures unwritten { result ≢ ASM_STALE → out.new ≡ out.old }
 {
@@ -199,6 +202,11 @@ fn stands_at(
             return code_of_text_error(error);
         }
     };
+    let (agent, is_behind) = agent.is_behind(&reads);
+    if is_behind {
+        put_agent(slot, shell, agent);
+        return RANGE;
+    }
     let (agent, stale) = agent.stale_of(alloc, &reads);
     put_agent(slot, shell, agent);
     match stale {
@@ -215,8 +223,9 @@ fn stands_at(
 /// The agent looks on until it finds nothing more, and its own state follows; no receipt is made. A fire that
 /// names the same reads may still be refused, by a move that comes in between. `ASM_STALE`: one doesn't stand,
 /// and `{"stale":LOC}` with the least such location is written. `ASM_SMALL`: `written` is the room that it
-/// needs. `ASM_EMPTY`: the slot has no agent. `ASM_MANY`: more than 256 reads. `ASM_NOT_JSON`, `ASM_SHAPE`.
-/// After these three the slot is as it was. `ASM_MEMORY`: the agent may have seen more.
+/// needs. `ASM_EMPTY`: the slot has no agent. `ASM_NOT_JSON`, `ASM_SHAPE`. `ASM_RANGE`: a read has a number above
+/// what the agent had seen, so nothing can be told of it. `ASM_MANY`, after it: more than 256 reads. After these
+/// five the slot is as it was. `ASM_MEMORY`: the agent may have seen more.
 pub fn stands(
     alloc: Global,
     agent: &mut Slot,

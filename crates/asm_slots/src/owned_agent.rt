@@ -11,6 +11,7 @@ ghost use Rattle.asm_storage.specs.Storage.{at_start, last_look, machine_of, IsS
 ghost use Rattle.asm_storage.specs.Calls.{HasLookedFor, IsAnswered, IsBusy, IsCoherentReply, IsRead};
 ghost use Rattle.asm_storage.specs.Calls.{IsStaleRead, MadeOffers};
 ghost use Rattle.asm_slots.specs.Standard.{meaning};
+ghost use Rattle.asm_slots.specs.Ahead.{is_any_above};
 ghost use Rattle.asm_slots.specs.Own.{HasLookedOn};
 ghost use Rattle.asm_slots.specs.Calls.{HasLearnt, HasLooked, MissedFew, MissedOne, SeesOn, TellsLast};
 
@@ -122,7 +123,8 @@ impl OwnedAgent {
 
     /// Its own state.
     pub(crate) fn state(&self) -> &State
-        ensures { IsFollowing (machine_of meaning self.now.storage) self.now.account.seen result.now }
+        ensures following { IsFollowing (machine_of meaning self.now.storage) self.now.account.seen result.now }
+        ensures within { result.now.number ≤ length self.now.account.seen }
     {
         self.part.state()
     }
@@ -187,6 +189,15 @@ impl OwnedAgent {
         (OwnedAgent { shared, part }, seen)
     }
 
+    /// Whether one of the reads has a number above what it has seen.
+    pub(crate) fn is_behind(self, reads: &[Named]) -> (OwnedAgent, bool)
+        ensures same { result.0 ≡ self }
+        ensures behind { result.1 ≡ is_any_above reads.now (length self.account.seen) }
+    {
+        let (agent, seen) = self.seen();
+        (agent, has_above(reads, seen))
+    }
+
     /// How many of its offers won.
     pub(crate) fn won(self) -> (OwnedAgent, u32)
         ensures same { result.0 ≡ self }
@@ -246,6 +257,13 @@ impl OwnedAgent {
         let part = agent.into_part();
         (OwnedAgent { shared, part }, answer)
     }
+}
+
+// Whether one of the reads has a number above this one.
+fn has_above(reads: &[Named], seen: u32) -> bool
+    ensures { result ≡ is_any_above reads.now seen }
+{
+    reads.iter().any(|read| seen < read.number)
 }
 
 fn last_answer(alloc: Global, agent: &Agent<'_, Standard>) -> Result<Option<String>, AllocError>

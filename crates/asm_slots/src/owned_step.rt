@@ -1,8 +1,10 @@
 //! A step of an engine: moves pushed over the state at one number of moves, and the locations that were got.
-ghost use Rattle.std.specs.Prelude.{◌≡◌, ◌++◌, [], All, List, map, IfOk, OnOk, OnErr, IfErr};
+ghost use Rattle.std.specs.Prelude.{◌≡◌, ◌++◌, ◌∷◌, [], All, List, filter, map, IfOk, OnOk, OnErr, IfErr};
 ghost use Rattle.std.specs.Bool.{OnTrue, OnFalse};
 ghost use Rattle.asm_update.specs.Move.{Move};
-ghost use Rattle.asm_step.specs.Layers.{IsStepOf};
+ghost use Rattle.asm_update.specs.State as plain;
+ghost use Rattle.asm_step.specs.InTurn.{Agrees};
+ghost use Rattle.asm_step.specs.Layers.{all_moves, shows_below, IsStepOf};
 ghost use Rattle.asm_step.specs.Places.{AreEach};
 ghost use Rattle.asm_slots.specs.Committed.{NamesAll};
 ghost use Rattle.asm_slots.specs.Step.{begun};
@@ -10,7 +12,7 @@ ghost use Rattle.asm_slots.specs.Standard.{part, standard};
 ghost use Rattle.asm_slots.specs.Steps.{HasPopped, IsLayered, grown};
 ghost use Rattle.asm_slots.specs.declared.owned_step.Way.TheVariants as ways;
 ghost use Rattle.asm_state.specs.View.{value_at};
-ghost use Rattle.asm_step.specs.Answer.{IsAnswer};
+ghost use Rattle.asm_step.specs.Answer.{IsAnswer, IsAnswerOn};
 
 use asm_aggregate::standard;
 use asm_element::Location;
@@ -70,6 +72,23 @@ fn push_copies(
     Ok(())
 }
 
+/// Those of the locations at which what is seen is made from what is below the step.
+pub(crate) fn from_below(
+    alloc: Global,
+    step: &Step,
+    locations: Vec<Location>,
+) -> Result<Vec<Location>, AllocError>
+    ensures { IfOk result (λ kept. kept.items ≡ filter (shows_below step.now) locations.items) }
+{
+    let mut kept = Vec::new(alloc);
+    for at in locations {
+        if step.sees_below(&at) {
+            kept.push(at)?;
+        }
+    }
+    Ok(kept)
+}
+
 /// The locations of both lists, each once, in ascending order.
 pub(crate) fn each_of(
     alloc: Global,
@@ -98,6 +117,10 @@ pub(crate) fn grow(
     ensures step { OnOk result ((groups : List (List Move)) →
         IsStepOf part (value_at state.now) step.old groups →
         IsStepOf part (value_at state.now) step.new (grown way groups instrs.now)) }
+    ensures answer_on { (groups : List (List Move)) (B : plain.State) →
+        IsStepOf part (value_at state.now) step.old groups →
+        plain.IsProper B → Agrees B (value_at state.now) (all_moves groups ++ instrs.now ∷ []) →
+        IsAnswerOn part B step.old step.new instrs.now result }
     ensures err { OnErr result (step.new ≡ step.old) }
     ensures deep { IfErr result (λ e. way ≡ ways.Extend → ¬ (e ≡ StepError.Deep)) }
 {
@@ -144,9 +167,8 @@ impl OwnedStep {
     pub(crate) fn reads(&self, alloc: Global) -> Result<Vec<Named>, AllocError>
         ensures { IfOk result (λ reads. NamesAll self.now reads.items) }
     {
-        let mut partials = Vec::new(alloc);
-        push_copies(alloc, &mut partials, self.step.partial_locations())?;
-        let locations = each_of(alloc, &self.got, partials)?;
+        let resting = self.step.resting_locations(alloc)?;
+        let locations = each_of(alloc, &self.got, resting)?;
         named_at(alloc, locations, self.number)
     }
 }

@@ -46,6 +46,9 @@ fn prepared(alloc: Global, location: &[u8]) -> Result<Box<Content>, i32>
         Ok(at) => at,
         Err(error) => return Err(code_of_text_error(error)),
     };
+    let Ok(at) = at.share(alloc) else {
+        return Err(MEMORY);
+    };
     let Ok(made) = Box::new(alloc, Content::Location(at)) else {
         return Err(MEMORY);
     };

@@ -155,7 +155,7 @@ fn grow_of(
 /// It makes no look and no receipt, and the agent's slot stays as it was. `ASM_CLASH`: its updates clash on what
 /// is seen, and `{"clash":[LOC,CAUSE]}` is written. `ASM_DEEP`: 64 moves are pushed. `ASM_MANY`: the one move of
 /// all that is pushed would have more than 4,096 instructions. `ASM_LARGE`, with `{"large":LOC}`, never comes
-/// for a step of the agent's storage. `ASM_MOVED`: the agent's own state stands no longer at the step's number.
+/// for a step of the agent's storage. `ASM_MOVED`: the agent's own state doesn't stand at the step's number.
 /// `ASM_SMALL`: `written` is the room that the text of a refusal needs. `ASM_EMPTY`: the first slot has no agent,
 /// the second no step, or the two are one. `ASM_NOT_JSON`, `ASM_SHAPE`, `ASM_MEMORY`. After each of these the
 /// step's slot is as it was, so a push that is refused, or is popped, is a dry run. The step has to be one of the

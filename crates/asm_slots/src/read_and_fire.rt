@@ -3,6 +3,7 @@ ghost use Rattle.std.specs.Prelude.{◌≡◌, ◌≢◌, ◌≤◌, ◌+◌, �
 ghost use Rattle.asm_storage.specs.Limits.{offers_limit};
 ghost use Rattle.asm_storage.specs.declared.call.Reply.TheVariants.{Fired};
 ghost use Rattle.asm_storage.specs.Storage.{IsSameAgent};
+ghost use Rattle.asm_slots.specs.Ahead.{FiresAhead, FiresWithin};
 ghost use Rattle.asm_slots.specs.Answered.{Fires, Reads};
 ghost use Rattle.asm_slots.specs.Bytes.{AreLocations, IsFireForm, IsNoJson, IsOtherJson};
 ghost use Rattle.asm_slots.specs.Bytes.{ReadAsManyLocations, ReadAsManyReads};
@@ -10,12 +11,12 @@ ghost use Rattle.asm_slots.specs.Calls.{HasFired, HasLooked, HasRead, IsLastAnsw
 ghost use Rattle.asm_slots.specs.Calls.{MayHaveLooked, MayHaveOffered, MissedFew, MissedOne, SeesOn};
 ghost use Rattle.asm_slots.specs.Calls.{code_of, number_of};
 ghost use Rattle.asm_slots.specs.Codes.{IsOneOf, ASM_DONE, ASM_STALE, ASM_CLASH, ASM_MEMORY, ASM_FULL};
-ghost use Rattle.asm_slots.specs.Codes.{ASM_EMPTY, ASM_SMALL, ASM_BUSY, ASM_MANY, ASM_NONE, ASM_NOT_JSON, ASM_SHAPE};
+ghost use Rattle.asm_slots.specs.Codes.{ASM_EMPTY, ASM_RANGE, ASM_SMALL, ASM_BUSY, ASM_MANY, ASM_NONE, ASM_NOT_JSON, ASM_SHAPE};
 ghost use Rattle.asm_slots.specs.Slots.{Holds, HoldsNoAgent, content_of};
 ghost use Rattle.asm_slots.specs.Written.{IsTooLong, IsWritten};
 ghost use Rattle.asm_slots.specs.declared.content.Content.TheVariants as content;
 
-use crate::codes::{BUSY, CLASH, DONE, EMPTY, FULL, MANY, MEMORY, NONE, STALE, copied};
+use crate::codes::{BUSY, CLASH, DONE, EMPTY, FULL, MANY, MEMORY, NONE, RANGE, STALE, copied};
 use crate::content::Content;
 use crate::owned_agent::OwnedAgent;
 use crate::parsing::{code_of_text_error, fire_of, locations_of};
@@ -121,7 +122,7 @@ fn fire_at(
     agent: OwnedAgent,
     call: &[u8],
 ) -> (i32, Numbers)
-    ensures codes { IsOneOf (ASM_DONE ∷ ASM_STALE ∷ ASM_CLASH ∷ ASM_MEMORY ∷ ASM_FULL ∷ ASM_BUSY ∷ ASM_MANY
+    ensures codes { IsOneOf (ASM_DONE ∷ ASM_STALE ∷ ASM_CLASH ∷ ASM_MEMORY ∷ ASM_FULL ∷ ASM_RANGE ∷ ASM_BUSY ∷ ASM_MANY
         ∷ ASM_NOT_JSON ∷ ASM_SHAPE ∷ []) result.0 }
     ensures answered { IsReplyCode result.0 →
         Holds (content_of slot.new) (HasFired call.now result.0 result.1.fired agent) }
@@ -137,10 +138,13 @@ fn fire_at(
     ensures few { Holds (content_of slot.new) (MissedFew agent) }
     ensures missed { result.0 ≡ ASM_DONE → Holds (content_of slot.new) (MissedOne agent) }
     ensures memory { result.0 ≡ ASM_MEMORY → Holds (content_of slot.new) (MayHaveOffered agent) }
+    ensures range { result.0 ≡ ASM_RANGE → FiresAhead call.now agent }
+    ensures within { IsOneOf (ASM_DONE ∷ ASM_STALE ∷ ASM_CLASH ∷ ASM_FULL ∷ ASM_BUSY ∷ ASM_MANY ∷ []) result.0 →
+        FiresWithin call.now agent }
     ensures many { result.0 ≡ ASM_MANY → ReadAsManyReads call.now }
     ensures not_json { result.0 ≡ ASM_NOT_JSON → IsNoJson call.now }
     ensures shape { result.0 ≡ ASM_SHAPE → IsOtherJson IsFireForm call.now }
-    ensures kept { IsOneOf (ASM_MANY ∷ ASM_NOT_JSON ∷ ASM_SHAPE ∷ []) result.0 →
+    ensures kept { IsOneOf (ASM_RANGE ∷ ASM_MANY ∷ ASM_NOT_JSON ∷ ASM_SHAPE ∷ []) result.0 →
         content_of slot.new ≡ Some (content.Agent agent) }
 {
     let fire = match fire_of(alloc, call) {
@@ -150,6 +154,11 @@ fn fire_at(
             return (code_of_text_error(error), Numbers::none());
         }
     };
+    let (agent, is_behind) = agent.is_behind(fire.reads.as_slice());
+    if is_behind {
+        put_agent(slot, shell, agent);
+        return (RANGE, Numbers::none());
+    }
     let (agent, answer) = agent.fire(alloc, fire.reads.as_slice(), &fire.instrs);
     put_agent(slot, shell, agent);
     match answer {
@@ -175,8 +184,9 @@ fn fire_at(
 /// `ASM_DONE`: fired, with the number of the move. `ASM_STALE`, `ASM_CLASH`, `ASM_FULL`: answers too, which
 /// `write_answer` tells whole. With any other code nothing was fired and there is no receipt more:
 /// `ASM_BUSY`: 64 offers were lost, with what had been seen at the start and at the end; `ASM_MEMORY`; and
-/// with the slot as it was `ASM_MANY` (more than 256 named locations), `ASM_NOT_JSON`, `ASM_SHAPE`, and
-/// `ASM_EMPTY` (no agent). What a code doesn't set is 0.
+/// with the slot as it was `ASM_EMPTY` (no agent), `ASM_NOT_JSON`, `ASM_SHAPE`, `ASM_RANGE` (a location is named
+/// at a number above what the agent had seen, which would guard nothing), and after it `ASM_MANY` (more than 256
+/// named locations). What a code doesn't set is 0.
 pub fn try_fire(alloc: Global, agent: &mut Slot, call: &[u8], numbers: &mut Numbers) -> i32
     ensures { Fires call.now (content_of agent.old) (content_of agent.new) numbers.new result }
 {

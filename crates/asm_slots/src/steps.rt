@@ -11,7 +11,7 @@ ghost use Rattle.asm_slots.specs.Got.{Gets};
 ghost use Rattle.asm_slots.specs.Looked.{Begins};
 ghost use Rattle.asm_slots.specs.Own.{values_text};
 ghost use Rattle.asm_slots.specs.Slots.{GoesStep, HasRoomForStep, HoldsNoStep, HoldsStep, IfHoldsStep, content_of};
-ghost use Rattle.asm_slots.specs.Steps.{HasGot, HasPopped, IsGotText, WouldGetMany, seen};
+ghost use Rattle.asm_slots.specs.Steps.{HasGot, HasPopped, HasReached, IsGotText, WouldGetMany, from_below, seen};
 ghost use Rattle.asm_slots.specs.Step.{begun};
 ghost use Rattle.asm_slots.specs.Written.{IsTooLong, IsWritten};
 
@@ -19,7 +19,7 @@ use crate::codes::{DONE, EMPTY, MANY, MEMORY, MOVED, NONE, SHAPE, TAKEN, copied}
 use crate::content::Content;
 use crate::looking::text_of_values;
 use crate::owned_agent::OwnedAgent;
-use crate::owned_step::{OwnedStep, each_of};
+use crate::owned_step::{OwnedStep, each_of, from_below};
 use crate::parsing::{code_of_text_error, locations_of};
 use crate::slot::Slot;
 use crate::take_and_put::{
@@ -159,10 +159,12 @@ fn got_at(
 ) -> Result<Got, GetError>
     ensures text { IfOk result (λ g. string_bytes g.text
         ≡ values_text step.now.number (seen agent.now step.now) locations.items) }
-    ensures all { IfOk result (λ g. AreEach (step.now.got ++ locations.items) g.all.items) }
+    ensures reached { OnOk result (HasReached agent.now step.now) }
+    ensures all { IfOk result (λ g. AreEach (step.now.got ++ from_below step.now locations.items) g.all.items) }
     ensures few { IfOk result (λ g. length g.all.items ≤ reads_limit) }
     ensures many { IfErr result (λ e. e ≡ GetError.Many → (ls : List Place)
-        × AreEach (step.now.got ++ locations.items) ls × (reads_limit < length ls)) }
+        × AreEach (step.now.got ++ from_below step.now locations.items) ls × (reads_limit < length ls)) }
+    ensures many_reached { IfErr result (λ e. e ≡ GetError.Many → HasReached agent.now step.now) }
     ensures shape { IfErr result (λ e. ¬ (e ≡ GetError.Shape)) }
 {
     let state = agent.state();
@@ -170,7 +172,8 @@ fn got_at(
         return Err(GetError::Moved);
     }
     let text = text_of_values(alloc, step.number, &step.step.over(state), &locations)?;
-    let all = each_of(alloc, &step.got, locations)?;
+    let below = from_below(alloc, &step.step, locations)?;
+    let all = each_of(alloc, &step.got, below)?;
     if all.len() > READS_LIMIT {
         return Err(GetError::Many);
     }
@@ -193,6 +196,7 @@ fn get_in(
     ensures got { result ≡ ASM_DONE → HasGot locations.now step.old step.new }
     ensures small { result ≡ ASM_SMALL →
         IsTooLong (IsGotText locations.now agent.now step.old) (length out.old) written.new }
+    ensures reached { IsOneOf (ASM_DONE ∷ ASM_SMALL ∷ ASM_MANY ∷ []) result → HasReached agent.now step.old }
     ensures many { result ≡ ASM_MANY → WouldGetMany locations.now step.old }
     ensures not_json { result ≡ ASM_NOT_JSON → IsNoJson locations.now }
     ensures shape { result ≡ ASM_SHAPE → IsOtherJson AreLocations locations.now }
@@ -242,11 +246,12 @@ fn get_of(
 }
 
 /// Writes `{"number":N,"values":[VALUE, ..]}`: what is seen at the locations `[LOC, ..]` through the pushed
-/// moves, with the step's number. Each location is got, and is named by the commit.
+/// moves, with the step's number. Each location at which what is seen rests on the state below is got, and is named by
+/// the commit; what pushed moves put there rests on nothing.
 ///
 /// It makes no look and no receipt, and the agent's slot stays as it was. `ASM_MOVED`: the agent's own state
-/// stands no longer at the step's number. `ASM_MANY`: more than 256 locations would be got. `ASM_SMALL`:
-/// `written` is the room that it needs. `ASM_EMPTY`: the first slot has no agent, the second no step, or the two
+/// doesn't stand at the step's number, which another agent may not have reached. `ASM_MANY`: more than 256
+/// locations would be got. `ASM_SMALL`: `written` is the room that it needs. `ASM_EMPTY`: the first slot has no agent, the second no step, or the two
 /// are one. `ASM_NOT_JSON`, `ASM_SHAPE`, `ASM_MEMORY`. After each of these the step's slot is as it was. The step
 /// has to be one of the agent's storage.
 pub fn get(

@@ -5,9 +5,8 @@ ghost use Rattle.asm_slots.specs.Journals.{IsTraceOf, Retells};
 
 use crate::codes::copied;
 use crate::journals::code_of_error;
-use asm_aggregate::standard;
 use asm_journal::{JournalError, from_text};
-use asm_trace::trace_text;
+use asm_trace::standard_trace_text;
 use std::alloc::{AllocError, Global};
 
 fn traced(alloc: Global, journal: &[u8]) -> Result<String, JournalError>
@@ -15,7 +14,7 @@ fn traced(alloc: Global, journal: &[u8]) -> Result<String, JournalError>
     ensures err { IfErr result (IsRefused journal.now) }
 {
     let history = from_text(alloc, journal)?;
-    match trace_text(alloc, &standard(), &history) {
+    match standard_trace_text(alloc, &history) {
         Ok(text) => Ok(text),
         Err(AllocError) => Err(JournalError::Memory),
     }

@@ -1,8 +1,11 @@
-use Rattle.std.proofs.Common.{rules, ◌≡◌, ◌<◌, ◌++◌, List, length, ap, subst, ◌∙◌}
+use Rattle.std.proofs.Common.{rules, ◌≡◌, ◌<◌, ◌++◌, List, length, filter, ap, subst, ◌∙◌}
 use Rattle.asm_element.specs.Place.{Place}
 use Rattle.asm_storage.specs.Limits.{reads_limit}
 use Rattle.asm_step.specs.Places.{AreEach}
+use Rattle.std.specs.FinMap as finite
+use Rattle.asm_step.specs.Layers.{shows_below}
 use Rattle.asm_slots.specs.Step.{StepView}
+use Rattle.asm_slots.specs.Steps.{from_below}
 use Rattle.asm_slots.proofs.getting_all.got_all_at.Goals as goal
 
 -- each of two lists that are these
@@ -19,7 +22,8 @@ returns-then-len-gt-READS_LIMIT-clause-many c _ = (
   c.in_ok-all.all.items,
   c.in_ok-found.ensures.found,
   each _ _ _ _ c.in_ok-all.all.items (c.deref.ensures.value ∙ ap (λ (s : StepView). s.got) c.step.view_is)
-      c.in_ok-locations.ensures c.in_ok-all.ensures,
+      (c.in_ok-below.ensures ∙ ap (λ (ls : List Place). filter (shows_below c.step.inside.step) ls) c.in_ok-locations.ensures
+      ∙ ap (λ (s : StepView). from_below s (finite.keys c.in_ok-found.found)) c.step.view_is) c.in_ok-all.ensures,
   many_of c,
 )
 
@@ -32,5 +36,6 @@ returns-clause-all c = (
   c.in_ok-found.found,
   c.in_ok-found.ensures.found,
   each _ _ _ _ c.in_ok-all.all.items (c.deref.ensures.value ∙ ap (λ (s : StepView). s.got) c.step.view_is)
-      c.in_ok-locations.ensures c.in_ok-all.ensures,
+      (c.in_ok-below.ensures ∙ ap (λ (ls : List Place). filter (shows_below c.step.inside.step) ls) c.in_ok-locations.ensures
+      ∙ ap (λ (s : StepView). from_below s (finite.keys c.in_ok-found.found)) c.step.view_is) c.in_ok-all.ensures,
 )

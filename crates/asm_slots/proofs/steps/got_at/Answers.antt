@@ -12,5 +12,5 @@ returns-clause-text c =
     subst (λ (ls : List Place). string_bytes c.in_ok-text.text ≡ values_text c.args.step.now.number (seen c.args.agent.now c.args.step.now) ls)
     c.deref.ensures.value
     (own_got c.args.agent.now c.state-state.result.now c.args.step.now inside c.number.result c.over.result
-    c.deref.result.now (string_bytes c.in_ok-text.text) c.step.view_is c.state-state.ensures c.number.ensures
+    c.deref.result.now (string_bytes c.in_ok-text.text) c.step.view_is c.state-state.ensures.following c.number.ensures
     c.if-number-step.false c.over.ensures c.in_ok-text.ensures)
