@@ -1,7 +1,6 @@
-//! Journals that are cut, altered or written to an output that fails.
-use crate::check_tests::{SEQUENCE, SEQUENCE_JOURNAL, SEQUENCE_JOURNAL_1};
+//! Journals that are written to an output that fails.
 use crate::port_tests::{Failing, Short};
-use crate::running::{CHECK, JOURNAL, REWRITE, assert_ends, ends, words_of};
+use crate::running::{JOURNAL, REWRITE, words_of};
 use asm_driver::run_main;
 use std::alloc::{AllocError, Global};
 use std::io::ErrorKind;
@@ -10,130 +9,21 @@ use std::sync::Wait;
 use std::test::Fail;
 use std::thread::Threads;
 
-/// What is told of the journal where it ends before this place: at the end of a line, before its line feed or after it,
-/// that it is cut, and inside a line that the line is no JSON.
-fn line_of_cut(alloc: Global, journal: &str, place: usize) -> Result<String, AllocError> {
-    let text = journal.as_bytes();
-    let mut line: usize = 1;
-    let mut begins = true;
-    for byte in text[..place.min(text.len())].iter() {
-        begins = *byte == b'\n';
-        if begins {
-            line = line.saturating_add(1);
-        }
-    }
-    if begins || matches!(text.get(place), Some(b'\n')) {
-        return String::from_str(alloc, "journal cut\n");
-    }
-    format!(in alloc; "journal line {line}: not JSON\n")
-}
+const SEQUENCE: &str =
+    r#"{"init":[[["s"],{"set":[]}]],"agents":[[[[["add",["s"],1]],[["put",["y"],{"val":["s"]}]]]]]}"#;
 
-/// Whether the program tells that of the journal that ends before this place.
-fn is_told_as_cut<T: Threads + Wait + Sync>(
-    rt: &T,
-    alloc: Global,
-    words: &[&str],
-    journal: &str,
-    place: usize,
-) -> Result<bool, AllocError> {
-    let wanted = line_of_cut(alloc, journal, place)?;
-    let Some(first) = journal.get(..place) else {
-        return Ok(false);
-    };
-    ends(rt, alloc, words, first, (2, wanted.as_str()))
-}
-
-/// Asserts that each place is told at which the journal can be cut.
-fn assert_told<T: Threads + Wait + Sync + Abort>(
-    rt: &T,
-    alloc: Global,
-    words: &[&str],
-    journal: &str,
-) -> Result<(), AllocError> {
-    for place in 0..journal.len() {
-        assert!(rt;
-            is_told_as_cut(rt, alloc, words, journal, place)?,
-            "{place}"
-        );
-    }
-    Ok(())
-}
-
-#[test]
-fn journals_that_are_cut_are_told(rt: HostRuntime) -> Result<(), Fail> {
-    assert_told(&rt, rt.alloc(), &CHECK, SEQUENCE_JOURNAL)?;
-    Ok(assert_told(&rt, rt.alloc(), &REWRITE, SEQUENCE_JOURNAL_1)?)
-}
-
-static ALTERED: [(&str, &str); 7] = [
-    (
-        r#"{"agents":1,"capacity":4096,"events":2,"init":[[["s"],{"set":[]}]],"version":1}
-{"agent":1,"call":{"read":[["s"]]},"reply":{"number":0,"values":[{"set":[]}]}}
-{"agent":0,"call":{"fire":[["add",["s"],1],["put",["y"],{"set":[1]}]],"reads":[[["s"],0]]},"reply":{"fired":1}}
-"#,
-        "journal line 2: shape\n",
-    ),
-    (
-        r#"{"agents":1,"capacity":4096,"events":2,"init":[[["s"],{"set":[]}]],"version":1}
-{"agent":0,"call":{"read":[["s"]]},"reply":{"number":0,"values":[]}}
-{"agent":0,"call":{"fire":[["add",["s"],1],["put",["y"],{"set":[1]}]],"reads":[[["s"],0]]},"reply":{"fired":1}}
-"#,
-        "journal line 2: shape\n",
-    ),
-    (
-        r#"{"agents":1,"capacity":4096,"events":2,"init":[[["s"],{"set":[]}]],"version":1}
-{"agent":0,"call":{"read":[["s"]]},"reply":{"number":0,"values":[{"set":[]}]}}
-{"agent":0,"call":{"fire":[["add",["s"],1],["put",["y"],{"set":[1]}]],"reads":[[["s"],0]]},"reply":{"fired":1.0}}
-"#,
-        "journal line 3: shape\n",
-    ),
-    (
-        r#"{"agents":1,"capacity":0,"events":2,"init":[[["s"],{"set":[]}]],"version":1}
+const SEQUENCE_JOURNAL: &str =
+    r#"{"agents":1,"capacity":4096,"events":2,"init":[[["s"],{"set":[]}]],"version":2}
 {"agent":0,"call":{"read":[["s"]]},"reply":{"number":0,"values":[{"set":[]}]}}
 {"agent":0,"call":{"fire":[["add",["s"],1],["put",["y"],{"set":[1]}]],"reads":[[["s"],0]]},"reply":{"fired":1}}
-"#,
-        "journal line 1: shape\n",
-    ),
-    (
-        r#"{"agents":1,"capacity":4096,"events":2,"init":[[["s"],{"set":[]}]],"version":"1"}
-{"agent":0,"call":{"read":[["s"]]},"reply":{"number":0,"values":[{"set":[]}]}}
-{"agent":0,"call":{"fire":[["add",["s"],1],["put",["y"],{"set":[1]}]],"reads":[[["s"],0]]},"reply":{"fired":1}}
-"#,
-        "journal line 1: shape\n",
-    ),
-    (
-        r#"{"agents":1,"capacity":4096,"events":2,"init":[[["s"],{"set":[]}]],"version":1}
-{"agent":0,"call":{"read":[["s"]]},"reply":{"number":0,"values":[{"set":[]}]}}
-
-"#,
-        "journal line 3: not JSON\n",
-    ),
-    (
-        r#"{"agents":1,"capacity":4096,"events":2,"init":[[["s"],{"set":[]}]],"version":1}
-{"agent":0,"call":{"read":[["s"]]},"reply":{"number":0,"values":[{"set":[]}]}}
-{"agent":0,"call":{"fire":[["add",["s"],1],["put",["y"],{"set":[1]}]],"reads":[[["s"],0]]},"reply":{"fired":1}}
-{"agent":0,"call":{"read":[["s"]]},"reply":{"number":1,"values":[{"set":[1]}]}}
-"#,
-        "journal line 4: shape\n",
-    ),
-];
-
-#[test]
-fn journals_that_are_altered_are_refused(rt: HostRuntime) -> Result<(), Fail> {
-    assert_ends(&rt, rt.alloc(), &CHECK, 2, &ALTERED)?;
-    assert_ends(&rt, rt.alloc(), &REWRITE, 2, &ALTERED)?;
-    Ok(())
-}
-
-#[test]
-fn a_full_storage_has_as_many_moves_as_it_takes(rt: HostRuntime) -> Result<(), Fail> {
-    let journal = r#"{"agents":1,"capacity":4096,"events":2,"init":[[["s"],{"set":[]}]],"version":1}
-{"agent":0,"call":{"read":[["s"]]},"reply":{"number":0,"values":[{"set":[]}]}}
-{"agent":0,"call":{"fire":[["add",["s"],1],["put",["y"],{"set":[1]}]],"reads":[[["s"],0]]},"reply":"full"}
 "#;
-    assert!(rt; ends(&rt, rt.alloc(), &CHECK, journal, (1, "illegal 1\n"))?);
-    Ok(())
-}
+
+/// The same journal in the version before.
+const SEQUENCE_JOURNAL_1: &str =
+    r#"{"agents":1,"capacity":4096,"events":2,"init":[[["s"],{"set":[]}]],"version":1}
+{"agent":0,"call":{"read":[["s"]]},"reply":{"number":0,"values":[{"set":[]}]}}
+{"agent":0,"call":{"fire":[["add",["s"],1],["put",["y"],{"set":[1]}]],"reads":[[["s"],0]]},"reply":{"fired":1}}
+"#;
 
 /// Whether the program with these words and this input, when its output fails or takes nothing after so many bytes, or
 /// when its flush fails, ends with status 4, and these bytes of the journal went out. The error is an allocation failure: its

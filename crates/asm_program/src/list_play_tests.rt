@@ -1,9 +1,12 @@
 //! Agents on eight threads that put, add and read lists on one storage.
-use crate::list_tests::DEEP;
-use crate::run_tests::calls_in_journal;
 use crate::running::{RUN, run};
+use crate::thread_tests::calls_in_journal;
 use std::alloc::{AllocError, Global};
 use std::test::Fail;
+
+/// A list that is nested as deep as a list may be.
+const DEEP: &str =
+    r#"{"list":[{"list":[{"list":[{"list":[{"list":[{"list":[{"list":[{"list":[]}]}]}]}]}]}]}]}"#;
 
 /// The numbers of the agents, each with that of the agent whose list it reads.
 static AGENTS: [(&str, &str); 8] = [

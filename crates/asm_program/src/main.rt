@@ -20,32 +20,16 @@ fn words_given<R: std::rt::Env + AllocGlobal>(rt: &R, alloc: Global) -> io::Resu
 }
 
 #[cfg(test)]
-mod check_tests;
-#[cfg(test)]
-mod count_tests;
-#[cfg(test)]
-mod example_tests;
-#[cfg(test)]
 mod journal_tests;
 #[cfg(test)]
-mod list_journal_tests;
-#[cfg(test)]
 mod list_play_tests;
-#[cfg(test)]
-mod list_tests;
 #[cfg(test)]
 mod meeting_tests;
 #[cfg(test)]
 mod port_tests;
 #[cfg(test)]
-mod report_tests;
-#[cfg(test)]
-mod rewrite_tests;
-#[cfg(test)]
-mod run_tests;
-#[cfg(test)]
 mod running;
 #[cfg(test)]
-mod trace_tests;
+mod thread_tests;
 #[cfg(test)]
 mod words_tests;

@@ -1,7 +1,6 @@
 //! Runs of the program, from the words to what is written.
 use asm_driver::run_main;
 use std::alloc::{AllocError, Global};
-use std::process::Abort;
 use std::sync::Wait;
 use std::thread::Threads;
 
@@ -12,8 +11,6 @@ pub(crate) const JOURNAL: [&str; 3] = ["asm_driver", "run", "--journal"];
 pub(crate) const CHECK: [&str; 2] = ["asm_driver", "check"];
 
 pub(crate) const REWRITE: [&str; 2] = ["asm_driver", "rewrite"];
-
-pub(crate) const TRACE: [&str; 2] = ["asm_driver", "trace"];
 
 pub(crate) const ONE_PUT: &str = r#"{"init":[],"agents":[[[[["put",["x"],1]]]]]}"#;
 
@@ -53,25 +50,6 @@ pub(crate) fn ends<T: Threads + Wait + Sync>(
     let (status, written) = run(rt, alloc, words, input.as_bytes())?;
     Ok(status == wanted.0 && written.as_slice() == wanted.1.as_bytes())
 }
-
-/// Asserts of each row, an input and what is to be written, that the program ends with this status and writes that.
-pub(crate) fn assert_ends<T: Threads + Wait + Sync + Abort>(
-    rt: &T,
-    alloc: Global,
-    words: &[&str],
-    status: u8,
-    rows: &[(&str, &str)],
-) -> Result<(), AllocError> {
-    for (input, wanted) in rows {
-        assert!(rt;
-            ends(rt, alloc, words, input, (status, *wanted))?,
-            "{input}"
-        );
-    }
-    Ok(())
-}
-
-pub(crate) const SUM_STEP: &str = r#"[[["put",["n"],{"sum":[{"val":["n"]},1]}]]]"#;
 
 /// A script of so many agents with so many steps each, all alike.
 pub(crate) fn script_of(

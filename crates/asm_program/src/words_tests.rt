@@ -1,4 +1,4 @@
-//! Words that are refused, and those that ask for help or the version.
+//! Words that ask for help, which names the program as its words do, and words that the system doesn't give.
 use crate::running::{ONE_PUT, ends};
 use asm_driver::run_given;
 use std::alloc::{AllocError, Global};
@@ -7,33 +7,6 @@ use std::io::ErrorKind;
 use std::sync::Wait;
 use std::test::Fail;
 use std::thread::Threads;
-
-static REFUSED: [&[&str]; 16] = [
-    &["asm_driver"],
-    &["asm_driver", "play"],
-    &["asm_driver", "check", "more"],
-    &["asm_driver", "check", "--journal"],
-    &["asm_driver", "rewrite", "more"],
-    &["asm_driver", "rewrite", "--journal"],
-    &["asm_driver", "rewrite", "rewrite"],
-    &["asm_driver", "trace", "more"],
-    &["asm_driver", "trace", "--journal"],
-    &["asm_driver", "trace", "check"],
-    &["asm_driver", "run", "--journal", "--journal"],
-    &["asm_driver", "run", "--journal=true"],
-    &["asm_driver", "run", "--capacity", "0"],
-    &["asm_driver", "run", "--capacity", "1048577"],
-    &["asm_driver", "run", "more"],
-    &["asm_driver", "run", "--version"],
-];
-
-#[test]
-fn wrong_words_are_refused(rt: HostRuntime) -> Result<(), Fail> {
-    for words in REFUSED.iter() {
-        assert!(rt; ends(&rt, rt.alloc(), words, ONE_PUT, (2, "bad words\n"))?);
-    }
-    Ok(())
-}
 
 const HELP: &str =
     r#"Plays the steps of an abstract state machine's agents on one storage, and checks, rewrites and traces journals
@@ -105,16 +78,6 @@ static HELPS: [(&[&str], &str); 9] = [
 fn help_is_no_mistake(rt: HostRuntime) -> Result<(), Fail> {
     for (words, want) in HELPS.iter() {
         assert!(rt; ends(&rt, rt.alloc(), words, "", (0, *want))?, "{want}");
-    }
-    Ok(())
-}
-
-static VERSIONS: [&[&str]; 2] = [&["asm_driver", "--version"], &["asm_driver", "-V"]];
-
-#[test]
-fn the_version_is_told(rt: HostRuntime) -> Result<(), Fail> {
-    for words in VERSIONS.iter() {
-        assert!(rt; ends(&rt, rt.alloc(), words, "", (0, "asm_driver 0.2.0\n"))?);
     }
     Ok(())
 }

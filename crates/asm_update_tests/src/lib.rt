@@ -6,4 +6,6 @@ mod errors;
 #[cfg(test)]
 mod moves;
 #[cfg(test)]
+mod sizes;
+#[cfg(test)]
 mod states;

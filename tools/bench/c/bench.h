@@ -8,7 +8,7 @@
 #include <stdio.h>
 #include <stdlib.h>
 
-enum { THREADS = 4, LOCATIONS = 64 };
+enum { THREADS = 16, LOCATIONS = 64 };
 
 /* READ_FIRE: read, answer, and a fire of one put that names what was read. STEP: begin, get, push
  * of one put, commit. PUSH_POP: a push on a step that was begun before, and its pop. The PLAIN ones

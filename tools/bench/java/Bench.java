@@ -12,7 +12,7 @@ import java.util.Arrays;
  * word --quick it takes fewer.
  */
 final class Bench {
-    static final int THREADS = 4;
+    static final int THREADS = 16;
     static final int LOCATIONS = 64;
     static final int LEAST = 5;
     static final int MOST = 9;
@@ -26,8 +26,12 @@ final class Bench {
     private record Crowd(String name, int threads, boolean shares) {}
 
     private static final Crowd[] CROWDS = {new Crowd("1 thread", 1, false),
-            new Crowd("4 threads, a location each", THREADS, false),
-            new Crowd("4 threads, one location", THREADS, true)};
+            new Crowd("4 threads, a location each", 4, false),
+            new Crowd("4 threads, one location", 4, true),
+            new Crowd("8 threads, a location each", 8, false),
+            new Crowd("8 threads, one location", 8, true),
+            new Crowd("16 threads, a location each", THREADS, false),
+            new Crowd("16 threads, one location", THREADS, true)};
 
     private static final OperatingSystemMXBean PROCESS =
             (OperatingSystemMXBean) ManagementFactory.getOperatingSystemMXBean();

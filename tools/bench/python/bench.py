@@ -16,7 +16,7 @@ from folugben import Agent, Busy, Move, Stale, Storage
 from folugben import Location as Prepared
 from twin import Location, Moved, Twin
 
-THREADS, LOCATIONS, LEAST, MOST = 4, 64, 5, 9
+THREADS, LOCATIONS, LEAST, MOST = 16, 64, 5, 9
 # The twin's rounds have so many times as many steps, so that they are as long.
 TWIN_TIMES = 8
 
@@ -99,8 +99,12 @@ class Crowd(NamedTuple):
 
 CROWDS = [
     Crowd("1 thread", 1, False),
-    Crowd("4 threads, a location each", THREADS, False),
-    Crowd("4 threads, one location", THREADS, True),
+    Crowd("4 threads, a location each", 4, False),
+    Crowd("4 threads, one location", 4, True),
+    Crowd("8 threads, a location each", 8, False),
+    Crowd("8 threads, one location", 8, True),
+    Crowd("16 threads, a location each", THREADS, False),
+    Crowd("16 threads, one location", THREADS, True),
 ]
 
 

@@ -1,0 +1,121 @@
+"""What tools/cases, tools/sizes and ../test share: cases of the program, and how they are run."""
+
+import os
+import re
+import subprocess
+import sys
+from concurrent.futures import ThreadPoolExecutor
+from dataclasses import dataclass
+from pathlib import Path
+
+ROOT = Path(__file__).resolve().parent.parent
+CASES, EXAMPLES = ROOT / "crates/asm_program/cases", ROOT / "examples"
+MOVES = re.compile(rb"^moves (\d+)$", re.M)
+LIMIT = 120
+ENDINGS = (".args", ".stdout", ".status")
+
+
+@dataclass(frozen=True)
+class Case:
+    """An input and words, and what the program then writes, and its status."""
+
+    name: str
+    words: tuple[str, ...]
+    given: bytes
+    wanted: bytes
+    status: int = 0
+
+    def fault(self, program: str) -> str | None:
+        """How the program ends otherwise, or None."""
+        status, written = ended(program, self.words, self.given)
+        if (status, written) == (self.status, self.wanted):
+            return None
+        told = f"status {status}, where {self.status} is wanted"
+        at = next((k for k, (one, two) in enumerate(zip(written, self.wanted)) if one != two), None)
+        if at is None:
+            at = min(len(written), len(self.wanted))
+        if written != self.wanted:
+            told += f"; from byte {at} on {shown(written, at)}, where {shown(self.wanted, at)} is wanted"
+        return told
+
+
+def shown(text: bytes, at: int) -> str:
+    return ascii(text[at : at + 60].decode(errors="replace"))
+
+
+def ended(program: str, words: tuple[str, ...], given: bytes) -> tuple[int, bytes]:
+    """The program's status, -1 where it doesn't end, and what it writes."""
+    try:
+        ran = subprocess.run([program, *words], input=given, stdout=subprocess.PIPE, stderr=subprocess.DEVNULL, timeout=LIMIT)
+    except subprocess.TimeoutExpired:
+        return -1, b""
+    return ran.returncode, ran.stdout
+
+
+def cases_of(folder: Path) -> list[Case]:
+    """The cases of a folder; a file that belongs to none, or is missing, ends the tool."""
+    names = {it.name for it in folder.iterdir()}
+    found = []
+    for name in sorted(it for it in names if not it.endswith(ENDINGS)):
+        lacking = [name + it for it in ENDINGS if name + it not in names]
+        if lacking:
+            sys.exit(f"{folder}: no {', no '.join(lacking)}")
+        args, wanted, status = ((folder / (name + it)).read_bytes() for it in ENDINGS)
+        found.append(Case(name, tuple(args.decode().splitlines()), (folder / name).read_bytes(), wanted, int(status)))
+    lone = names - {it.name + end for it in found for end in ("", *ENDINGS)}
+    if lone or not found:
+        sys.exit(f"{folder}: no case, or of none: {' '.join(sorted(lone))}")
+    return found
+
+
+def examples() -> list[Case]:
+    """The examples, each a script with its report."""
+    scripts = sorted(EXAMPLES.glob("*.json"))
+    return [Case(it.stem, ("run",), it.read_bytes(), it.with_suffix(".report").read_bytes()) for it in scripts]
+
+
+def write(cases: list[Case], folder: Path, status: bool = True) -> None:
+    """Writes the cases as files, as `cases_of` reads them, or without the status, as `rt try --cases` does."""
+    for it in cases:
+        (folder / it.name).write_bytes(it.given)
+        (folder / f"{it.name}.args").write_text("".join(f"{word}\n" for word in it.words), encoding="utf-8")
+        (folder / f"{it.name}.stdout").write_bytes(it.wanted)
+        if status:
+            (folder / f"{it.name}.status").write_text(f"{it.status}\n", encoding="utf-8")
+
+
+def is_played(case: Case) -> bool:
+    return case.words[:1] == ("run",) and "--journal" not in case.words and "--help" not in case.words and case.status == 0
+
+
+def journal_fault(program: str, case: Case) -> str | None:
+    """What is wrong with the journal that the played script leaves, or None: it is legal, its own rewriting, and its trace
+    has a line for each of its own and tells no other answer."""
+    status, journal = ended(program, (*case.words, "--journal"), case.given)
+    if status != 0:
+        return f"no journal: status {status}"
+    legal = b"legal %d %s\n" % (journal.count(b"\n") - 1, MOVES.findall(case.wanted)[-1])
+    checked = ended(program, ("check",), journal)
+    if checked != (0, legal):
+        return f"check answers {checked}, where {legal} is wanted"
+    if ended(program, ("rewrite",), journal) != (0, journal):
+        return "it isn't its own rewriting"
+    status, trace = ended(program, ("trace",), journal)
+    if status != 0 or trace.count(b"\n") != journal.count(b"\n") or b',"right":' in trace:
+        return f"its trace has status {status}, or not a line for each, or another answer"
+    return None
+
+
+def run_all(program: str, cases: list[Case], jobs: int) -> int:
+    """Runs all cases, and checks the journals of those that play a script; prints what failed and the sum, and answers the
+    status."""
+    if not os.access(program, os.X_OK):
+        sys.exit(f"{program} is no program")
+    works = [(it.name, it.fault, (program,)) for it in cases]
+    works += [(f"{it.name}: its journal", journal_fault, (program, it)) for it in cases if is_played(it)]
+    with ThreadPoolExecutor(jobs) as pool:
+        faults = [(name, it) for (name, *_), it in zip(works, pool.map(lambda work: work[1](*work[2]), works)) if it]
+    for name, told in faults:
+        print(f"case {name}: {told}")
+    print(f"{len(works) - len(faults)} passed, {len(faults)} failed")
+    return 1 if faults else 0

@@ -1,0 +1,135 @@
+"""Cases of long journals, of journals that are cut at each byte, and of journals with a list in each place."""
+
+from collections.abc import Iterator
+
+from casing import Case
+from sized import B, N, S, X, report, script, text
+
+CAPACITY = ("--capacity", "1048576")
+
+
+def header(events: int, agents: int = 1, init: list | None = None, capacity: int = 1048576, version: int = 2) -> str:
+    head = {"agents": agents, "capacity": capacity, "events": events, "init": init or [], "version": version}
+    return text(head) + "\n"
+
+
+def event(call: str, told: str) -> str:
+    return f'{{"agent":0,"call":{call},"reply":{told}}}\n'
+
+
+def raises(n: int) -> Iterator[Case]:
+    """One agent fires n moves, and a storage is full after as many as its capacity."""
+    init, step = [[N, 0]], [[["inc", N, 1]]]
+    yield Case(f"{n}_moves", ("run", *CAPACITY), script(init, [step] * n), report([[N, n]], n))
+    lines = [event('{"fire":[["inc",["n"],1]],"reads":[]}', f'{{"fired":{k + 1}}}') for k in range(n)]
+    journal = (header(n, init=init) + "".join(lines)).encode()
+    yield Case(f"{n}_moves_in_a_journal", ("run", *CAPACITY, "--journal"), script(init, [step] * n), journal)
+    full = report([[N, n]], n, f"agent 0 step {n} full")
+    yield Case(f"one_move_more_than_{n}", ("run", "--capacity", str(n)), script(init, [step] * (n + 1)), full)
+
+
+def default() -> Iterator[Case]:
+    """Where no capacity is given, 4,096 moves are fired."""
+    full = [f"agent 0 step {k} full" for k in (4096, 4097)]
+    yield Case("the_default_capacity", ("run",), script([], [[[["put", X, 1]]]] * 4098), report([[X, 1]], 4096, *full))
+
+
+def plain(n: int) -> Iterator[Case]:
+    """Moves that need no state are read once they are many."""
+    steps = [[[["put", X, k]]] for k in range(n - 1)] + [[[["put", ["y"], {"val": X}]]]]
+    yield Case(f"a_read_after_{n - 1}_puts", ("run", *CAPACITY), script([], steps), report([[X, n - 2], [["y"], n - 2]], n))
+
+
+def long(pairs: int) -> Iterator[Case]:
+    """A journal of so many reads, each with a fire that names it: legal, and with a wrong answer in its last line."""
+    init = [[N, 0]]
+    reads = [event('{"read":[["n"]]}', f'{{"number":{k},"values":[{k}]}}') for k in range(pairs)]
+    calls = [f'{{"fire":[["put",["n"],{k + 1}]],"reads":[[["n"],{k}]]}}' for k in range(pairs)]
+    fires = [event(it, f'{{"fired":{k + 1}}}') for k, it in enumerate(calls)]
+    lines = [it for pair in zip(reads, fires) for it in pair]
+    name, journal = f"journal_of_{2 * pairs}_events", header(2 * pairs, init=init) + "".join(lines)
+    yield Case(f"check_{name}", ("check",), journal.encode(), f"legal {2 * pairs} {pairs}\n".encode())
+    yield Case(f"rewrite_{name}", ("rewrite",), journal.replace('"version":2', '"version":1').encode(), journal.encode())
+    wrong = header(2 * pairs, init=init) + "".join(lines[:-1]) + event(calls[-1], '"full"')
+    yield Case(f"check_wrong_{name}", ("check",), wrong.encode(), f"illegal {2 * pairs - 1}\n".encode(), 1)
+    traced = [text({"agents": 1, "capacity": 1048576, "events": 2 * pairs, "init": init, "trace": 1}) + "\n"]
+    for k in range(pairs):
+        traced.append(reads[k].replace(',"reply"', f',"event":{2 * k},"reply"'))
+        fire = fires[k].replace(',"reply"', f',"event":{2 * k + 1},"reply"')
+        traced.append(f'{fire[:-2]},"updates":[[["n"],{k},{k + 1}]]}}\n')
+    yield Case(f"trace_{name}", ("trace",), journal.encode(), "".join(traced).encode())
+
+
+def cut() -> Iterator[Case]:
+    """A journal that ends before each of its bytes: at the end of a line, before its line feed or after it, it is cut, and
+    inside a line the line is no JSON."""
+    lines = event('{"read":[["s"]]}', '{"number":0,"values":[{"set":[]}]}')
+    lines += event('{"fire":[["add",["s"],1],["put",["y"],{"set":[1]}]],"reads":[[["s"],0]]}', '{"fired":1}')
+    for word, version in (("check", 2), ("rewrite", 1)):
+        journal = header(2, init=[[S, {"set": []}]], capacity=4096, version=version) + lines
+        for at in range(len(journal)):
+            inside = journal[:at] and journal[at - 1] != "\n" and journal[at] != "\n"
+            told = f"journal line {1 + journal[:at].count(chr(10))}: not JSON\n" if inside else "journal cut\n"
+            yield Case(f"{word}_journal_cut_at_{at}", (word,), journal[:at].encode(), told.encode(), 2)
+
+
+EMPTY_SET, EMPTY_BAG = [[["a"], {"set": []}]], [[["a"], {"bag": []}]]
+FIRED, CLASH = '{"fired":1}', '{"clash":[["a"],"Short"]}'
+# Where an element stands in a header.
+OPENINGS = {
+    "an_opening_argument": '[[["a",@],1]]',
+    "an_opening_value": '[[["a"],@]]',
+    "an_opening_set": '[[["a"],{"set":[@]}]]',
+    "an_opening_bag": '[[["a"],{"bag":[[@,1]]}]]',
+}
+# Where an element stands in an event: the opening state, the call, the answer, and whether that is right.
+PLACES = {
+    "a_read_location": ([], '{"read":[["a",@]]}', '{"number":0,"values":[null]}', True),
+    "a_read_value": ([], '{"read":[["a"]]}', '{"number":0,"values":[@]}', False),
+    "a_put_location": ([], '{"fire":[["put",["a",@],1]],"reads":[]}', FIRED, True),
+    "a_put_value": ([], '{"fire":[["put",["a"],@]],"reads":[]}', FIRED, True),
+    "a_put_set": ([], '{"fire":[["put",["a"],{"set":[1,@]}]],"reads":[]}', FIRED, True),
+    "a_put_bag": ([], '{"fire":[["put",["a"],{"bag":[[@,1]]}]],"reads":[]}', FIRED, True),
+    "an_added_element": (EMPTY_SET, '{"fire":[["add",["a"],@]],"reads":[]}', FIRED, True),
+    "a_removed_element": (EMPTY_SET, '{"fire":[["remove",["a"],@]],"reads":[]}', FIRED, True),
+    "an_element_added_to_a_bag": (EMPTY_BAG, '{"fire":[["bagadd",["a"],@,1]],"reads":[]}', FIRED, True),
+    "an_element_removed_from_a_bag": (EMPTY_BAG, '{"fire":[["bagremove",["a"],@,1]],"reads":[]}', CLASH, True),
+    "a_raised_location": ([], '{"fire":[["inc",["a",@],1]],"reads":[]}', '"full"', False),
+    "a_named_location": ([], '{"fire":[],"reads":[[["a",@],0]]}', FIRED, True),
+    "a_stale_location": ([], '{"fire":[],"reads":[]}', '{"stale":["a",@]}', False),
+    "a_clashing_location": ([], '{"fire":[],"reads":[]}', '{"clash":[["a",@],"Two"]}', False),
+}
+
+
+def placed() -> Iterator[Case]:
+    for name, opening in OPENINGS.items():
+        head = '{"agents":0,"capacity":8,"events":0,"init":%s,"version":#}\n' % opening
+        yield from judged(name, head, "legal 0 0\n", 1)
+    for name, (init, call, told, right) in PLACES.items():
+        journal = header(1, init=init, capacity=8).replace('"version":2', '"version":#') + event(call, told)
+        line = f"legal 1 {int(told == FIRED)}\n" if right else "illegal 0\n"
+        yield from judged(name, journal, line, 2)
+
+
+def judged(name: str, journal: str, line: str, at: int) -> Iterator[Case]:
+    """A journal of version 2 may have a list in the place, as deep as a list may be, and one of version 1 a number, but no
+    list."""
+    deep, deeper = ('{"list":[' * depth + "]}" * depth for depth in (8, 9))
+
+    def with_(version: int, element: str) -> bytes:
+        return journal.replace("#", str(version)).replace("@", element).encode()
+
+    status = int(line.startswith("illegal"))
+    for kind, version, element in (("list", 2, deep), ("number", 1, "7")):
+        given = with_(version, element)
+        yield Case(f"check_{kind}_as_{name}", ("check",), given, line.encode(), status)
+        yield Case(f"rewrite_{kind}_as_{name}", ("rewrite",), given, with_(2, element))
+    shape = f"journal line {at}: shape\n".encode()
+    for kind, version, element in (("list_in_version_1", 1, '{"list":[]}'), ("too_deep_list", 2, deeper)):
+        for word in ("check", "rewrite"):
+            yield Case(f"{word}_{kind}_as_{name}", (word,), with_(version, element), shape, 2)
+
+
+def journals() -> list[Case]:
+    found = [it for n in (4097, 16385, 65537) for make in (raises, plain) for it in make(n)]
+    return [*found, *default(), *long(35000), *cut(), *placed()]
