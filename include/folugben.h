@@ -2,12 +2,15 @@
  *
  * A storage holds the state of an abstract state machine. Its agents read that state and fire moves
  * on it, each in a thread of its own and without locks: a move fires only if no location that it
- * names was written since the agent read it. Agents that are given back are closed into a journal,
- * which tells what each call was answered, and which can be checked again.
+ * names was written since the number of moves at which it is named. So no update is lost where an
+ * agent names what it rests on as it read it itself, or as an agent did of which it has learnt.
+ * Agents that are given back are closed into a journal, which tells what each call was answered, and
+ * which can be checked again.
  *
  * An engine's agent works in steps: asm_begin; asm_get and asm_push in any order, all of which see
  * one state; and asm_commit, which fires one move that does what the pushed ones do in turn, unless
- * something was written since that the step rests on.
+ * something was written since that the step rests on. The commit names that by itself. A step that
+ * is stale by then, or clashes with what was written since, is begun anew.
  *
  * WHAT THE CALLER OWES
  *
@@ -139,7 +142,7 @@ enum asm_code {
     ASM_CUT = 19,      /* the journal ends too early */
     ASM_LARGE = 20,    /* more calls than the 4,294,967,295 that a journal holds; or too large an
                           amount or sum */
-    ASM_MOVED = 21,    /* the agent's own state has moved on since the step began */
+    ASM_MOVED = 21,    /* the agent's own state doesn't stand at the number of the step */
     ASM_DEEP = 22      /* 64 moves are pushed already */
 };
 
@@ -186,10 +189,12 @@ typedef struct asm_numbers {
 
 /* Fires the move {"fire":[INSTR, ..],"reads":[NAMED, ..]} of at most 4,096 instructions (else
  * ASM_SHAPE), unless one of the at most 256 named locations (else ASM_MANY) was written since the
- * number of moves under which it is named. ASM_DONE: fired. ASM_STALE, ASM_CLASH and ASM_FULL are
- * answers too: asm_answer writes {"fired":N}, {"stale":LOC}, {"clash":[LOC,CAUSE]} or "full".
- * ASM_BUSY, ASM_EMPTY, ASM_NOT_JSON, ASM_SHAPE, ASM_MANY, ASM_MEMORY: not answered, and nothing was
- * fired. */
+ * number of moves under which it is named: that of a reading of this agent, or of one of which it has
+ * learnt. A number above what asm_seen tells when the call begins would guard nothing: ASM_RANGE,
+ * before a look is made and before ASM_MANY. After asm_next numbers begin anew. ASM_DONE: fired.
+ * ASM_STALE, ASM_CLASH and ASM_FULL are answers too: asm_answer writes {"fired":N}, {"stale":LOC},
+ * {"clash":[LOC,CAUSE]} or "full". ASM_BUSY, ASM_EMPTY, ASM_NOT_JSON, ASM_SHAPE, ASM_RANGE, ASM_MANY,
+ * ASM_MEMORY: not answered, and nothing was fired. */
 int32_t asm_try_fire(asm_slot *agent, const uint8_t *call, size_t len, asm_numbers *numbers);
 
 /* Writes the text of the answer to the agent's last answered call.
@@ -229,56 +234,71 @@ int32_t asm_scan(asm_slot *agent, const uint8_t *name, size_t len, uint32_t *num
 
 /* Tells whether the named reads [NAMED, ..], at most 256, still stand: it looks on, as asm_follow does.
  * ASM_DONE: none of the locations was written since. ASM_STALE, with the text {"stale":LOC}: the least
- * location that was. A fire may still be refused, by a move that comes in between. ASM_EMPTY, ASM_MANY,
- * ASM_SMALL, ASM_NOT_JSON, ASM_SHAPE, ASM_MEMORY. */
+ * location that was. A fire may still be refused, by a move that comes in between. ASM_RANGE as of
+ * asm_try_fire. ASM_EMPTY, ASM_MANY, ASM_SMALL, ASM_NOT_JSON, ASM_SHAPE, ASM_MEMORY. */
 int32_t asm_stands(asm_slot *agent, const uint8_t *reads, size_t len, uint8_t *out, size_t room,
                    size_t *written);
 
 /* A STEP is what an engine does between a look and a fire. Its slot keeps the number of moves at
- * which it began, the moves that were pushed, and the locations that were got. asm_free abandons it. */
+ * which it began, the moves that were pushed, and the locations that were got. asm_free abandons it.
+ *
+ * A location is got where what is told of it is made from the state at the step's number: where no
+ * pushed move writes it, or the first that does has partial updates alone there (it adds, removes or
+ * increments). Where that one puts a value, what is told is the step's own. A step rests on what was
+ * got, and on each location where the first of its moves that writes has partial updates alone and
+ * another one writes too; asm_commit names these, and no others. So steps that each add to one set
+ * don't make each other stale; what one move alone adds, removes or increments is judged when it is
+ * fired.
+ *
+ * ASM_MOVED: the agent's own state has moved on since the step began, which is to be begun again; or
+ * it is that of a second agent, which hasn't come so far and has to follow. */
 
 /* Follows, and begins a step at `*number` moves, in a slot that is empty or holds a step, which is
  * dropped. ASM_TAKEN (`step` holds something else), ASM_EMPTY (`agent`), ASM_MEMORY. */
 int32_t asm_begin(asm_slot *agent, asm_slot *step, uint32_t *number);
 
 /* Writes {"number":N,"values":[VALUE, ..]}: what is seen through the pushed moves at the locations
- * [LOC, ..]. They are got, and asm_commit names them. ASM_MOVED: begin again. ASM_MANY: more than 256
- * would be got. ASM_EMPTY (one of the slots), ASM_SMALL, ASM_NOT_JSON, ASM_SHAPE, ASM_MEMORY. */
+ * [LOC, ..], any number of them. Those are got where that is made from the state. ASM_MANY: more than
+ * 256 different ones would be got. ASM_MOVED, ASM_EMPTY (one of the slots), ASM_SMALL, ASM_NOT_JSON,
+ * ASM_SHAPE, ASM_MEMORY. */
 int32_t asm_get(asm_slot *agent, asm_slot *step, const uint8_t *locations, size_t len, uint8_t *out,
                 size_t room, size_t *written);
 
 /* Writes [PAIR, ..]: what is seen through the pushed moves at all locations with a function name,
- * which is passed in UTF-8 without quotes. The locations that are found are got; that a further one
- * is written later isn't noticed. ASM_SHAPE: the name isn't UTF-8. Else as asm_get. */
+ * which is passed in UTF-8 without quotes. The locations that are found are got as by asm_get; that a
+ * further one is written later isn't noticed. ASM_SHAPE: the name isn't UTF-8. Else as asm_get. */
 int32_t asm_get_all(asm_slot *agent, asm_slot *step, const uint8_t *name, size_t len, uint8_t *out,
                     size_t room, size_t *written);
 
 /* Pushes the move [INSTR, ..]: what is got and pushed later is seen through what it leaves. A push
  * that is refused, or is popped, is a dry run. ASM_CLASH, with the text {"clash":[LOC,CAUSE]}: its
  * updates clash on what is seen. ASM_DEEP. ASM_MANY: the one move of all would have more than 4,096
- * instructions. ASM_LARGE, with {"large":LOC}: never for a step of the agent's storage. ASM_MOVED:
- * begin again. ASM_EMPTY (one of the slots), ASM_SMALL (for the text of a refusal), ASM_NOT_JSON,
- * ASM_SHAPE, ASM_MEMORY. */
+ * instructions. ASM_LARGE, with {"large":LOC}: never for a step of the agent's storage. ASM_MOVED,
+ * ASM_EMPTY (one of the slots), ASM_SMALL (for the text of a refusal), ASM_NOT_JSON, ASM_SHAPE,
+ * ASM_MEMORY. It costs by the move's own instructions, however many others are pushed. */
 int32_t asm_push(asm_slot *agent, asm_slot *step, const uint8_t *move, size_t len, uint8_t *out,
                  size_t room, size_t *written);
 
 /* The same, but the move joins the one that was pushed last, and is popped with it: a loop of a
- * thousand rounds is one move deep. Without a pushed move it is pushed. Never ASM_DEEP. */
+ * thousand rounds is one move deep, and each round costs by what it does itself. Without a pushed
+ * move it is pushed. Never ASM_DEEP. */
 int32_t asm_extend(asm_slot *agent, asm_slot *step, const uint8_t *move, size_t len, uint8_t *out,
                    size_t room, size_t *written);
 
-/* Takes away the move that was pushed last. What was got stays got; the locations that its partial
- * updates change are no longer named. ASM_NONE, ASM_EMPTY. */
+/* Takes away the move that was pushed last, with those that joined it. What was got stays got; the
+ * step no longer rests on what these changed. ASM_NONE, ASM_EMPTY. */
 int32_t asm_pop(asm_slot *step);
 
 /* How many moves are pushed; 0 for a slot without a step. */
 uint32_t asm_depth(asm_slot *step);
 
-/* Fires one move that does what the pushed moves do in turn, with all named, at the step's number,
- * that was got or that a pushed partial update changes: codes, numbers and receipt as of
- * asm_try_fire, and asm_answer tells the reply whole. With ASM_DONE the step is over, and its slot is
- * empty; with any other code it stays, until asm_begin or asm_free. ASM_MANY: more than 256 locations
- * would be named. */
+/* Fires one move that does what the pushed moves do in turn, with each location named, at the step's
+ * number, on which the step rests: codes, numbers and receipt as of asm_try_fire, and asm_answer tells
+ * the reply whole. With ASM_DONE the step is over, and its slot is empty; with any other code it
+ * stays, until asm_begin or asm_free. ASM_CLASH: each push was taken on what was seen, and something
+ * was written since that one of the moves doesn't fit, such as a bag out of which another agent took
+ * what it removes; begin again, as after ASM_STALE. ASM_MANY: more than 256 different locations would
+ * be named. It looks on, so it answers neither ASM_MOVED nor ASM_RANGE. */
 int32_t asm_commit(asm_slot *agent, asm_slot *step, asm_numbers *numbers);
 
 /* WITHOUT TEXT: calls that do what asm_peek, asm_get, asm_push and asm_extend do, with a location
@@ -324,9 +344,8 @@ int32_t asm_peek_at(asm_slot *agent, asm_slot *at, uint32_t *number, asm_value *
                     size_t room, size_t *written);
 
 /* Tells what is seen through the pushed moves at a prepared location, as asm_peek_at does. The
- * location is got, and asm_commit names it. `*value` is 0 with each code but ASM_DONE. ASM_MOVED:
- * begin again. ASM_MANY: more than 256 would be got. ASM_EMPTY (one of the slots), ASM_SMALL,
- * ASM_MEMORY. */
+ * location is got as by asm_get. `*value` is 0 with each code but ASM_DONE. ASM_MANY: more than 256
+ * would be got. ASM_MOVED, ASM_EMPTY (one of the slots), ASM_SMALL, ASM_MEMORY. */
 int32_t asm_get_at(asm_slot *agent, asm_slot *step, asm_slot *at, asm_value *value, uint8_t *out,
                    size_t room, size_t *written);
 
@@ -336,8 +355,8 @@ int32_t asm_get_at(asm_slot *agent, asm_slot *step, asm_slot *at, asm_value *val
  * `amount` is 1 or above for ASM_BAGADD and ASM_BAGREMOVE, and 0 for any other verb. ASM_INC takes a
  * number alone. ASM_TAKEN (`move` holds something else than a move), ASM_EMPTY (`at`), ASM_RANGE (the
  * verb, the kind, the number or the bytes of this kind, the amount), ASM_SHAPE (the bytes of a text
- * aren't UTF-8), ASM_MANY (the move has 4,096 instructions), ASM_MEMORY; the first of these that
- * holds is answered, but that ASM_MEMORY may come before ASM_MANY. */
+ * aren't UTF-8), ASM_MANY (the move has 4,096 instructions), ASM_MEMORY. ASM_TAKEN comes before
+ * all others; where several of these hold, one of them is answered. */
 int32_t asm_instruct(asm_slot *move, asm_slot *at, int32_t verb, int32_t kind, int64_t number,
                      const uint8_t *bytes, size_t len, uint32_t amount);
 
@@ -374,7 +393,9 @@ int32_t asm_close(asm_slot *storage, uint32_t *number);
 int32_t asm_journal(asm_slot *storage, uint8_t *out, size_t room, size_t *written);
 
 /* Opens a storage for 1 to 1,048,576 moves, in an empty slot, that goes on where a closed one ended:
- * its opening state is the one that the moves of the kept journal leave, and its agents start anew.
+ * its opening state is the one that the moves of the kept journal leave, its agents start anew, and
+ * numbers begin at 0: keep none of a reading before, as it is taken for one of this storage once so
+ * many moves were seen.
  * The journals of both, one after the other, tell one run; moves that were fired after asm_close
  * are in neither. ASM_TAKEN (`next`), ASM_EMPTY (`storage`), ASM_NONE, ASM_RANGE (the capacity),
  * ASM_MEMORY. */

@@ -57,7 +57,7 @@ static int32_t fire_long(asm_slot *agent, asm_numbers *numbers) {
     size_t room = strlen(move) + 64;
     char *call = malloc(room);
     REQUIRE(call != NULL);
-    snprintf(call, room, "{\"fire\":%s,\"reads\":[[[\"y\",0],%d]]}", move, CAPACITY);
+    snprintf(call, room, "{\"fire\":%s,\"reads\":[[[\"z\"],0]]}", move);
     int32_t code = asm_try_fire(agent, bytes(call), strlen(call), numbers);
     free(call);
     return code;

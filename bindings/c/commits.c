@@ -1,87 +1,7 @@
-/* Commits of steps: what they fire, name and leave, and when the agent's own state has moved on. */
-#include "tests.h"
+/* Commits of steps: what they fire and leave, and when an agent's own state has moved on. */
+#include "commits.h"
 
 #include <sys/resource.h>
-
-static const char *opening = "[[['c'],0],[['s'],{'set':[1]}],[['x'],7],[['y'],9]]";
-
-static asm_slot storage, agents[2], step;
-
-static void begin_with(uint32_t capacity) {
-    uint32_t number = 9;
-    open_with(opening, capacity, &storage);
-    REQUIRE(asm_agents(&storage, agents, 2) == ASM_DONE);
-    REQUIRE(asm_begin(&agents[0], &step, &number) == ASM_DONE && number == 0);
-}
-
-static void end_all(void) {
-    asm_free(&storage);
-    asm_free(&agents[0]);
-    asm_free(&agents[1]);
-    asm_free(&step);
-}
-
-static void begins_at(uint32_t wanted) {
-    uint32_t number = 99;
-    REQUIRE(asm_begin(&agents[0], &step, &number) == ASM_DONE && number == wanted);
-    REQUIRE(asm_depth(&step) == 0);
-}
-
-static void push(const char *instructions) {
-    ANSWERS(ASM_DONE, asm_push(&agents[0], &step, TEXT(instructions), OUT));
-}
-
-static void pop(void) { REQUIRE(asm_pop(&step) == ASM_DONE); }
-
-/* What is got at the location, at this number. */
-static void gets(const char *location, uint32_t number, const char *value) {
-    char locations[64], text[128];
-    snprintf(locations, sizeof locations, "[%s]", location);
-    snprintf(text, sizeof text, "{'number':%" PRIu32 ",'values':[%s]}", number, value);
-    TELLS(ASM_DONE, text, asm_get(&agents[0], &step, TEXT(locations), OUT));
-}
-
-/* The commit is refused with this code and this answer, and the step stays. */
-static void refused(int32_t wanted, const char *answer) {
-    asm_slot was[2] = {agents[0], step};
-    asm_numbers numbers = {9, 9, 9};
-    uint32_t depth = asm_depth(&step), won = asm_won(&agents[0]);
-    REQUIRE(asm_commit(&agents[0], &step, &numbers) == wanted);
-    REQUIRE(numbers.fired == 0 && numbers.from == 0 && numbers.to == 0);
-    REQUIRE(is_same(agents[0], was[0]) && is_same(step, was[1]));
-    REQUIRE(asm_depth(&step) == depth && asm_won(&agents[0]) == won);
-    if (answer)
-        TELLS(ASM_DONE, answer, asm_answer(&agents[0], OUT));
-}
-
-/* The commit fires the move with this number; the step is over, and its slot is empty. */
-static void fired(uint32_t move) {
-    char answer[32];
-    asm_numbers numbers = {9, 9, 9};
-    uint32_t won = asm_won(&agents[0]);
-    REQUIRE(asm_commit(&agents[0], &step, &numbers) == ASM_DONE);
-    REQUIRE(numbers.fired == move && numbers.from == 0 && numbers.to == 0);
-    REQUIRE(!step.full && step.at == NULL && asm_depth(&step) == 0);
-    REQUIRE(asm_won(&agents[0]) == won + 1 && asm_seen(&agents[0]) == move);
-    snprintf(answer, sizeof answer, "{'fired':%" PRIu32 "}", move);
-    TELLS(ASM_DONE, answer, asm_answer(&agents[0], OUT));
-    ANSWERS(ASM_EMPTY, asm_get(&agents[0], &step, TEXT("[]"), OUT));
-    REQUIRE(asm_pop(&step) == ASM_EMPTY);
-}
-
-/* All that follows the header in the journal of both agents. */
-static void journal_is(const char *events, uint64_t calls, uint32_t moves) {
-    REQUIRE(asm_give(&storage, &agents[0]) == ASM_DONE);
-    REQUIRE(asm_give(&storage, &agents[1]) == ASM_DONE);
-    char *journal = journal_of(&storage);
-    is_legal(journal, calls, moves);
-    const char *told = strchr(journal, '\n') + 1;
-    if (strcmp(told, json(events))) {
-        fprintf(stderr, "%s: told\n%swanted\n%s", __FILE__, told, json(events));
-        exit(1);
-    }
-    free(journal);
-}
 
 /* Five gets, two pushes and looks of each kind leave the one receipt of the commit. */
 static void one_receipt(void) {
@@ -137,26 +57,7 @@ static void stale_reads(void) {
     end_all();
 }
 
-/* The locations of pushed partial updates are named without being got; those of puts aren't. */
-static void partial_locations(void) {
-    begin_with(8);
-    push("[['inc',['c'],1],['put',['x'],1]]");
-    fire(&agents[1], "[['put',['x'],70],['put',['y'],70]]");
-    fired(2);
-    begins_at(2);
-    ANSWERS(ASM_DONE, asm_extend(&agents[0], &step, TEXT("[['add',['s'],2]]"), OUT));
-    fire(&agents[1], "[['remove',['s'],1]]");
-    refused(ASM_STALE, "{'stale':['s']}");
-    /* They hold together: one of several is enough. */
-    begins_at(3);
-    push("[['inc',['c'],1]]");
-    push("[['put',['c'],5],['put',['y'],0]]");
-    fire(&agents[1], "[['inc',['c'],1]]");
-    refused(ASM_STALE, "{'stale':['c']}");
-    end_all();
-}
-
-/* A pop forgets the partial updates of the popped move, and not what was got. */
+/* A pop forgets what the popped move rests on, and not what was got. */
 static void popped_moves(void) {
     begin_with(8);
     push("[['add',['s'],2]]");
@@ -171,13 +72,20 @@ static void popped_moves(void) {
     pop();
     fire(&agents[1], "[['inc',['x'],1]]");
     refused(ASM_STALE, "{'stale':['x']}");
-    /* With the step that is begun anew, what was got and pushed is dropped. */
+    /* Where the second of two moves is popped, the first is alone. */
     begins_at(3);
-    gets("['x']", 3, "9");
     push("[['inc',['c'],1]]");
-    begins_at(3);
-    fire(&agents[1], "[['inc',['x'],1],['inc',['c'],1]]");
+    push("[['inc',['c'],1]]");
+    pop();
+    fire(&agents[1], "[['inc',['c'],1]]");
     fired(5);
+    /* With the step that is begun anew, what was got and pushed is dropped. */
+    begins_at(5);
+    gets("['x']", 5, "9");
+    push("[['inc',['c'],1]]");
+    begins_at(5);
+    fire(&agents[1], "[['inc',['x'],1],['inc',['c'],1]]");
+    fired(7);
     end_all();
 }
 
@@ -269,27 +177,6 @@ static void full_storages(void) {
     end_all();
 }
 
-/* More than 256 locations would be named: 256 that were got, and one of a partial update. */
-static void many_named(void) {
-    static char locations[2 * LONGEST], out[2 * LONGEST];
-    size_t written;
-    char *at = locations + sprintf(locations, "[");
-    for (int i = 0; i < 256; i++)
-        at += sprintf(at, "%s[\"w\",%d]", i ? "," : "", i);
-    sprintf(at, "]");
-    begin_with(8);
-    REQUIRE(asm_get(&agents[0], &step, bytes(locations), strlen(locations), (uint8_t *)out,
-                    sizeof out, &written) == ASM_DONE);
-    push("[['put',['w',0],1]]");
-    push("[['inc',['w',0],1]]");
-    push("[['inc',['c'],1]]");
-    refused(ASM_MANY, NULL);
-    ANSWERS(ASM_NONE, asm_answer(&agents[0], OUT));
-    pop();
-    fired(1);
-    end_all();
-}
-
 /* Two agents of one storage at one number may share a step; one that stands elsewhere can't. */
 static void shared_steps(void) {
     asm_numbers numbers = {9, 9, 9};
@@ -310,6 +197,62 @@ static void shared_steps(void) {
                "{'agent':1,'call':{'fire':[['inc',['x'],2]],'reads':[[['c'],0],[['x'],0]]},"
                "'reply':{'fired':2}}\n",
                2, 2);
+    end_all();
+}
+
+/* A second agent that is behind, or whose own state is, neither gets nor pushes through another's
+ * step, until it has followed. */
+static void is_behind(void) {
+    asm_value value = {9, 9};
+    asm_slot at = {0}, move = {0};
+    REQUIRE(asm_location(TEXT("['x']"), &at) == ASM_DONE);
+    REQUIRE(asm_instruct(&move, &at, ASM_INC, ASM_KIND_NUM, 1, NULL, 0, 0) == ASM_DONE);
+    asm_slot was[2] = {agents[1], step};
+    uint32_t depth = asm_depth(&step), seen = asm_seen(&agents[1]);
+    ANSWERS(ASM_MOVED, asm_get(&agents[1], &step, TEXT("[['x']]"), OUT));
+    ANSWERS(ASM_MOVED, asm_get_all(&agents[1], &step, TEXT("x"), OUT));
+    ANSWERS(ASM_MOVED, asm_get_at(&agents[1], &step, &at, &value, OUT));
+    ANSWERS(ASM_MOVED, asm_push(&agents[1], &step, TEXT("[['inc',['x'],1]]"), OUT));
+    ANSWERS(ASM_MOVED, asm_extend(&agents[1], &step, TEXT("[['inc',['x'],1]]"), OUT));
+    ANSWERS(ASM_MOVED, asm_push_move(&agents[1], &step, &move, OUT));
+    ANSWERS(ASM_MOVED, asm_extend_move(&agents[1], &step, &move, OUT));
+    REQUIRE(is_same(agents[1], was[0]) && is_same(step, was[1]) && asm_depth(&step) == depth);
+    REQUIRE(asm_seen(&agents[1]) == seen && value.kind == 0 && value.number == 0);
+    asm_free(&at);
+    asm_free(&move);
+}
+
+static void agents_behind(void) {
+    asm_numbers numbers = {9, 9, 9};
+    uint32_t number;
+    begin_with(8);
+    fire(&agents[0], "[['put',['x'],70]]");
+    begins_at(1);
+    gets("['x']", 1, "70");
+    push("[['put',['y'],1]]");
+    is_behind();
+    /* It has seen as much now, and its own state doesn't stand there yet. */
+    REQUIRE(asm_learn(&agents[1], &agents[0]) == ASM_DONE && asm_seen(&agents[1]) == 1);
+    is_behind();
+    REQUIRE(asm_follow(&agents[1], &number) == ASM_DONE && number == 1);
+    TELLS(ASM_DONE, "{'number':1,'values':[70]}",
+          asm_get(&agents[1], &step, TEXT("[['x']]"), OUT));
+    ANSWERS(ASM_DONE, asm_push(&agents[1], &step, TEXT("[['inc',['x'],1]]"), OUT));
+    gets("['x']", 1, "71");
+    /* One that is behind may commit: it looks on first, and all is named at the step's number. */
+    asm_slot third = {0};
+    REQUIRE(asm_agent(&storage, 2, &third) == ASM_DONE && asm_seen(&third) == 0);
+    REQUIRE(asm_commit(&third, &step, &numbers) == ASM_DONE && numbers.fired == 2);
+    REQUIRE(!step.full && asm_seen(&third) == 2 && asm_won(&third) == 1);
+    asm_free(&third);
+    /* And is stale where something was written since, though it saw neither. */
+    REQUIRE(asm_agent(&storage, 3, &third) == ASM_DONE);
+    begins_at(2);
+    gets("['x']", 2, "71");
+    fire(&agents[0], "[['put',['x'],7]]");
+    REQUIRE(asm_commit(&third, &step, &numbers) == ASM_STALE && step.full);
+    TELLS(ASM_DONE, "{'stale':['x']}", asm_answer(&third, OUT));
+    asm_free(&third);
     end_all();
 }
 
@@ -374,12 +317,11 @@ int main(void) {
     one_receipt();
     empty_steps();
     stale_reads();
-    partial_locations();
     popped_moves();
     moved_agents();
     full_storages();
-    many_named();
     shared_steps();
+    agents_behind();
     steps_of_another_storage();
     steady_memory();
     puts("passed");

@@ -1,5 +1,5 @@
-/* Looks at an agent's own state, which make no receipt; whether reads still stand; and a run that
- * goes on in a storage of its own. */
+/* Looks at an agent's own state, which make no receipt; whether reads still stand; numbers that are
+ * yet to come; and a run that goes on in a storage of its own. */
 #include "tests.h"
 
 static const char *opening = "[[['s'],{'set':[1]}],[['x'],7],[['y',1],'one'],[['y',2],'two']]";
@@ -146,6 +146,81 @@ static void fires_on_looks(void) {
     end_all();
 }
 
+/* The reads are refused as out of range before anything is done, and the agent is as it was. */
+static void are_ahead(asm_slot *agent, const char *reads) {
+    static char call[4 * LONGEST];
+    asm_slot was = *agent;
+    asm_numbers numbers = {9, 9, 9};
+    uint32_t seen = asm_seen(agent), won = asm_won(agent);
+    uint64_t misses = asm_misses(agent);
+    snprintf(call, sizeof call, "{\"fire\":[[\"put\",[\"x\"],9]],\"reads\":%s}", reads);
+    REQUIRE(asm_try_fire(agent, bytes(call), strlen(call), &numbers) == ASM_RANGE);
+    REQUIRE(numbers.fired == 0 && numbers.from == 0 && numbers.to == 0);
+    ANSWERS(ASM_RANGE, asm_stands(agent, bytes(reads), strlen(reads), OUT));
+    REQUIRE(is_same(*agent, was) && asm_seen(agent) == seen && asm_won(agent) == won);
+    REQUIRE(asm_misses(agent) == misses);
+}
+
+/* A number may be named that the agent has seen, and no greater one, whatever the storage has. */
+static void numbers_to_come(void) {
+    static char many[2 * LONGEST];
+    asm_numbers numbers;
+    begin_all();
+    are_ahead(&agents[0], json("[[['y',1],0],[['x'],1]]"));
+    fire(&agents[1], "[['put',['x'],8]]");
+    are_ahead(&agents[0], json("[[['y',1],0],[['x'],1]]"));
+    are_ahead(&agents[0], json("[[['z'],4294967295]]"));
+    ANSWERS(ASM_NONE, asm_answer(&agents[0], OUT));
+    follows_to(&agents[0], 1);
+    ANSWERS(ASM_DONE, asm_stands(&agents[0], TEXT("[[['y',1],0],[['x'],1]]"), OUT));
+    are_ahead(&agents[0], json("[[['x'],2]]"));
+    REQUIRE(asm_try_fire(&agents[0], TEXT("{'fire':[],'reads':[[['x'],1]]}"), &numbers) ==
+            ASM_DONE);
+    /* What another agent has seen is learnt without a look. */
+    are_ahead(&agents[2], json("[[['x'],2]]"));
+    REQUIRE(asm_learn(&agents[2], &agents[0]) == ASM_DONE);
+    ANSWERS(ASM_DONE, asm_stands(&agents[2], TEXT("[[['x'],2]]"), OUT));
+    /* It comes after what is no read at all, and before there are too many. */
+    ANSWERS(ASM_EMPTY, asm_stands(&storage, TEXT("[[['x'],9]]"), OUT));
+    ANSWERS(ASM_NOT_JSON, asm_stands(&agents[0], TEXT("[[['x'],9]"), OUT));
+    ANSWERS(ASM_SHAPE, asm_stands(&agents[0], TEXT("[[['x'],9],['x']]"), OUT));
+    REQUIRE(asm_try_fire(&agents[0], TEXT("{'fire':[7],'reads':[[['x'],9]]}"), &numbers) ==
+            ASM_SHAPE);
+    snprintf(many, sizeof many, "%.*s,[[\"x\"],9]]", (int)strlen(reads_of(256)) - 1,
+             reads_of(256));
+    are_ahead(&agents[0], many);
+    end_all();
+}
+
+/* A number that was kept from the storage before is none of the next one's, in which numbers begin
+ * anew: with it a fire would guard nothing, and overwrite what another agent wrote. */
+static void numbers_of_the_storage_before(void) {
+    asm_slot next = {0}, rival = {0};
+    asm_numbers numbers;
+    uint32_t number;
+    open_with("[[['x'],0]]", 8, &storage);
+    REQUIRE(asm_agents(&storage, agents, 1) == ASM_DONE);
+    fire(&agents[0], "[['inc',['x'],1]]");
+    fire(&agents[0], "[['inc',['x'],1]]");
+    follows_to(&agents[0], 2);
+    TELLS(ASM_DONE, "{'number':2,'values':[2]}", asm_peek(&agents[0], TEXT("[['x']]"), OUT));
+    REQUIRE(asm_give(&storage, &agents[0]) == ASM_DONE);
+    REQUIRE(asm_close(&storage, &number) == ASM_DONE);
+    REQUIRE(asm_next(&storage, 8, &next) == ASM_DONE);
+    REQUIRE(asm_agents(&next, agents, 1) == ASM_DONE && asm_agent(&next, 1, &rival) == ASM_DONE);
+    fire(&rival, "[['inc',['x'],1]]");
+    are_ahead(&agents[0], json("[[['x'],2]]"));
+    REQUIRE(asm_try_fire(&agents[0], TEXT("{'fire':[['put',['x'],3]],'reads':[[['x'],0]]}"),
+                         &numbers) == ASM_STALE);
+    follows_to(&agents[0], 1);
+    TELLS(ASM_DONE, "{'number':1,'values':[3]}", asm_peek(&agents[0], TEXT("[['x']]"), OUT));
+    REQUIRE(asm_try_fire(&agents[0], TEXT("{'fire':[['put',['x'],4]],'reads':[[['x'],1]]}"),
+                         &numbers) == ASM_DONE);
+    asm_free(&rival);
+    asm_free(&next);
+    end_all();
+}
+
 static void refused_next(asm_slot *next, uint32_t capacity, int32_t wanted) {
     asm_slot was[2] = {storage, *next};
     REQUIRE(asm_next(&storage, capacity, next) == wanted);
@@ -236,6 +311,8 @@ int main(void) {
     scans_and_peeks();
     standing_reads();
     fires_on_looks();
+    numbers_to_come();
+    numbers_of_the_storage_before();
     refused_nexts();
     a_run_goes_on();
     moves_after_the_journal();

@@ -24,13 +24,13 @@ typedef struct world {
     unsigned x_at, y_at, s_at, v_at;
 } world;
 
-/* What is seen through a pushed move with those before it, how often they raise x, whether they put
- * y and v, and whether they change s; of a step's locations the raised and the changed are named.
- */
+/* What is seen through a pushed move with those before it, how often they raise x, how many of them
+ * do, whether they put y and v, and how many of them change s, by adding 1 and removing 2. Of a
+ * step's locations those are named that two of its moves raise or change. */
 typedef struct layer {
     world seen;
-    unsigned raises;
-    bool puts, puts_v, changes;
+    unsigned raises, raising, changing;
+    bool puts, puts_v, adds, removes;
 } layer;
 
 /* What a move that is gathered does: how often it raises x, whether it puts y, which values it puts
@@ -42,7 +42,8 @@ typedef struct gathered {
 
 /* What a slot has to hold: nothing, a storage, an agent with its number and a bit for each move
  * that it fired, a step, a location or a move; of which storage. `stood` is the number of moves at
- * which the agent's own state stands, or at which the step began. */
+ * which the agent's own state stands, or at which the step began. A location is got where no pushed
+ * move had put what was seen. */
 typedef struct account {
     enum { NOTHING, STORAGE, AGENT, STEP, LOCATION, MOVE } kind;
     unsigned storage, number, fired, stood, depth;

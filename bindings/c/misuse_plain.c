@@ -89,8 +89,10 @@ static void gets_at(unsigned at, unsigned of_step, unsigned of_place) {
     if (wanted.code == ASM_DONE)
         wanted.text = parts_of(top_of(s).seen, l->place, &told_value);
     int32_t code = asm_get_at(&slots[at], &slots[of_step], &slots[of_place], &value, OUT(b));
+    layer top = wanted.code == ASM_DONE ? top_of(s) : (layer){0};
+    bool is_put = l->place == Y_PLACE ? top.puts : l->place == V_PLACE && top.puts_v;
     if (is_value(code, wanted, &b, value, told_value) && wanted.code == ASM_DONE)
-        s->has_got[l->place] = true;
+        s->has_got[l->place] |= !is_put;
 }
 
 /* Instructions: those that are done go with one place alone, and a put of v with one of its values.
@@ -160,9 +162,12 @@ static const char *is_done(const gathered *move, layer *on) {
     w->x += (int)move->raises;
     w->y = move->puts ? 2 : w->y;
     on->raises += move->raises;
+    on->raising += move->raises > 0;
     on->puts |= move->puts;
     on->puts_v |= move->values > 0;
-    on->changes |= changes;
+    on->changing += changes;
+    on->adds |= move->adds;
+    on->removes |= move->removes;
     return NULL;
 }
 

@@ -101,8 +101,12 @@ static void stands(unsigned at) {
     const text *t = any_text();
     account *a = &accounts[at];
     buffer b = any_buffer();
-    bool is_looked = a->kind == AGENT && t->reads == ASM_DONE;
-    told wanted = {a->kind != AGENT ? ASM_EMPTY : t->reads, NULL};
+    bool is_read = a->kind == AGENT && t->reads == ASM_DONE;
+    bool is_looked = is_read && (t->x < 0 || (unsigned)t->x <= asm_seen(&slots[at]));
+    told wanted = {a->kind != AGENT       ? ASM_EMPTY
+                   : is_read && !is_looked ? ASM_RANGE
+                                          : t->reads,
+                   NULL};
     if (is_looked)
         a->stood = stories[a->storage].moves;
     if (is_looked && t->x >= 0 && own_world(a).x_at > (unsigned)t->x)
@@ -151,7 +155,7 @@ static void gets(unsigned at, unsigned of_step) {
     int32_t code = asm_get(&slots[at], &slots[of_step], bytes(t), strlen(t->bytes), OUT(b));
     if (is_written(code, wanted, &b) && wanted.text) {
         s->has_got[X_PLACE] |= t->asks;
-        s->has_got[Y_PLACE] |= t->asks;
+        s->has_got[Y_PLACE] |= t->asks && !top_of(s).puts;
     }
 }
 
@@ -168,7 +172,7 @@ static void gets_all(unsigned at, unsigned of_step) {
                     strlen(names[name]), OUT(b));
     if (is_written(code, wanted, &b) && wanted.text) {
         s->has_got[X_PLACE] |= name == 0 && top_of(s).seen.x >= 0;
-        s->has_got[Y_PLACE] |= name == 1 && top_of(s).seen.y >= 0;
+        s->has_got[Y_PLACE] |= name == 1 && top_of(s).seen.y >= 0 && !top_of(s).puts;
     }
 }
 
@@ -182,6 +186,7 @@ static void grows(unsigned at, unsigned of_step, bool is_push) {
     if (wanted.code == ASM_DONE) {
         next = top_of(s);
         next.raises += t->does == RAISE_X;
+        next.raising += t->does == RAISE_X;
         next.puts |= t->does == PUT_Y;
         if (is_push && s->depth == DEEPEST)
             wanted.code = ASM_DEEP;
@@ -206,18 +211,18 @@ static void pops(unsigned at) {
 /* What the commit is answered on the latest world, which then is the one after it. */
 static int32_t commit_answer(const account *s, const story *of, world *w) {
     layer top = top_of(s);
-    if ((s->has_got[X_PLACE] || top.raises > 0) && w->x_at > s->stood)
+    if ((s->has_got[X_PLACE] || top.raising > 1) && w->x_at > s->stood)
         return ASM_STALE;
     if (s->has_got[Y_PLACE] && w->y_at > s->stood)
         return ASM_STALE;
-    if ((s->has_got[S_PLACE] || top.changes) && w->s_at > s->stood)
+    if ((s->has_got[S_PLACE] || top.changing > 1) && w->s_at > s->stood)
         return ASM_STALE;
     if (s->has_got[V_PLACE] && w->v_at > s->stood)
         return ASM_STALE;
     if (of->moves == of->capacity)
         return ASM_FULL;
-    w->s = top.changes ? top.seen.s : w->s;
-    w->s_at = top.changes ? of->moves + 1 : w->s_at;
+    w->s = top.changing ? (w->s | (top.adds ? 1 : 0)) & ~(top.removes ? 2 : 0) : w->s;
+    w->s_at = top.changing ? of->moves + 1 : w->s_at;
     w->v = top.puts_v ? top.seen.v : w->v;
     w->v_at = top.puts_v ? of->moves + 1 : w->v_at;
     w->x += (int)top.raises;

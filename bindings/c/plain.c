@@ -246,6 +246,31 @@ static void out_of_range(void) {
     end_all();
 }
 
+/* Of several codes of asm_instruct that hold, the first in the header's order is answered. */
+static void order_of_codes(void) {
+    asm_slot none = {0}, most = {0};
+    begin_all();
+    does(X, ASM_INC, ASM_KIND_NUM, 1, "", 0);
+    for (int i = 0; i < 4096; i++)
+        REQUIRE(asm_instruct(&most, &at[X], ASM_INC, ASM_KIND_NUM, 1, NULL, 0, 0) == ASM_DONE);
+    asm_slot *moves[] = {&step, &most, &move}, *locations[] = {&none, &at[X]};
+    for (int i = 0; i < 24; i++) {
+        asm_slot *of = moves[i / 8], *place = locations[i / 4 % 2], was = *of;
+        bool is_in_range = i / 2 % 2, is_utf8 = i % 2;
+        int32_t wanted = of == &step      ? ASM_TAKEN
+                         : place == &none ? ASM_EMPTY
+                         : !is_in_range   ? ASM_RANGE
+                         : !is_utf8       ? ASM_SHAPE
+                         : of == &most    ? ASM_MANY
+                                          : ASM_DONE;
+        REQUIRE(asm_instruct(of, place, ASM_PUT, ASM_KIND_TEXT, is_in_range ? 0 : 1,
+                             bytes(is_utf8 ? "a" : "\xff"), 1, 0) == wanted);
+        REQUIRE(is_same(*of, was));
+    }
+    asm_free(&most);
+    end_all();
+}
+
 /* A move of 4,096 instructions has no room for another, and one of 256 locations that were got for
  * a further one. */
 static void full(void) {
@@ -332,6 +357,7 @@ int main(void) {
     what_is_got_is_named();
     clashes();
     out_of_range();
+    order_of_codes();
     full();
     other_slots();
     puts("passed");

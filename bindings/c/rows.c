@@ -59,41 +59,45 @@ static void aggregates(const group *g) {
     TELLS(g->cause ? ASM_CLASH : ASM_DONE, text, asm_aggregate(TEXT(state), TEXT(move), OUT));
 }
 
-/* What two moves come to, with an old value on which both fire, where there is one. */
+/* What two moves come to, with an old value on which both fire, where there is one. `kept` is what
+ * a step with both fires there, where that is no composition: what one of them alone does stands as
+ * it is. */
 typedef struct row {
     const char *first, *second;
     int32_t code;
-    const char *composed, *old;
+    const char *composed, *old, *kept;
 } row;
 
-#define CLASH(cause) ASM_CLASH, "{'clash':[" AT ",'" cause "']}", NULL
-#define LARGE ASM_LARGE, "{'large':" AT "}", NULL
+#define CLASH(cause) ASM_CLASH, "{'clash':[" AT ",'" cause "']}", NULL, NULL
+#define LARGE ASM_LARGE, "{'large':" AT "}", NULL, NULL
 #define ONE(move) ASM_DONE, "[" move "]"
 
 static const row rows[] = {
-    {PUT("1"), PUT("2"), ONE(PUT("2")), "null"},
-    {PUT(SET("1")), ADD("2") "," REMOVE("1"), ONE(PUT(SET("2"))), "7"},
-    {PUT(SET("1")) "," ADD("1"), ADD("3"), ONE(PUT(SET("1,3"))), "null"},
-    {ADD("1"), PUT("5"), ONE(PUT("5")), SET("")},
+    {PUT("1"), PUT("2"), ONE(PUT("2")), "null", NULL},
+    {PUT(SET("1")), ADD("2") "," REMOVE("1"), ONE(PUT(SET("2"))), "7", NULL},
+    {PUT(SET("1")) "," ADD("1"), ADD("3"), ONE(PUT(SET("1,3"))), "null", NULL},
+    {ADD("1"), PUT("5"), ONE(PUT("5")), SET(""), NULL},
     {ADD("1") "," REMOVE("1"), PUT("5"), CLASH("Both")},
-    {ADD("1"), ADD("2") "," REMOVE("1"), ONE(ADD("2") "," REMOVE("1")), SET("1,3")},
-    {BAGADD("'e'", "3"), BAGREMOVE("'e'", "5"), ONE(BAGREMOVE("'e'", "2")), BAG("['e',2]")},
+    {ADD("1"), ADD("2") "," REMOVE("1"), ONE(ADD("2") "," REMOVE("1")), SET("1,3"), NULL},
+    {BAGADD("'e'", "3"), BAGREMOVE("'e'", "5"), ONE(BAGREMOVE("'e'", "2")), BAG("['e',2]"), NULL},
     {BAGADD("'e'", "3") "," BAGREMOVE("'f'", "1"), BAGREMOVE("'e'", "1") "," BAGADD("'f'", "4"),
-     ONE(BAGADD("'e'", "2") "," BAGADD("'f'", "4") "," BAGREMOVE("'f'", "1")), BAG("['f',1]")},
+     ONE(BAGADD("'e'", "2") "," BAGADD("'f'", "4") "," BAGREMOVE("'f'", "1")), BAG("['f',1]"),
+     NULL},
     {BAGREMOVE("'e'", COUNTS), BAGREMOVE("'e'", "1"), LARGE},
-    {BAGADD("'e'", "1") "," BAGADD("'e'", "1"), "", ONE(BAGADD("'e'", "2")), BAG("")},
-    {PUT("1"), INC("2"), ONE(PUT("3")), "null"},
-    {INC("1"), INC("-1"), ASM_DONE, "[]", "4"},
-    {"", INC("1") "," INC("-1"), ONE(INC("0")), "4"},
+    {BAGADD("'e'", "1") "," BAGADD("'e'", "1"), "", ONE(BAGADD("'e'", "2")), BAG(""),
+     "[" BAGADD("'e'", "1") "," BAGADD("'e'", "1") "]"},
+    {PUT("1"), INC("2"), ONE(PUT("3")), "null", NULL},
+    {INC("1"), INC("-1"), ASM_DONE, "[]", "4", NULL},
+    {"", INC("1") "," INC("-1"), ONE(INC("0")), "4", "[" INC("1") "," INC("-1") "]"},
     {ADD("1"), INC("1"), CLASH("Kind")},
-    {INC(MOST) "," INC(MOST), INC("1"), ONE(INC(MOST) "," INC(MOST) "," INC("1")), NULL},
+    {INC(MOST) "," INC(MOST), INC("1"), ONE(INC(MOST) "," INC(MOST) "," INC("1")), NULL, NULL},
     {INC(MOST) "," INC(MOST), INC("2"), LARGE},
-    {INC(LEAST), INC(MOST), ONE(INC("-1")), "0"},
+    {INC(LEAST), INC(MOST), ONE(INC("-1")), "0", NULL},
     {PUT("1") "," PUT("2"), PUT("3"), CLASH("Two")},
     {PUT("1"), PUT("2") "," PUT("3"), CLASH("Two")},
     {PUT("1"), ADD("1"), CLASH("Kind")},
-    {PUT("null"), "", ONE(PUT("null")), "7"},
-    {"", "", ASM_DONE, "[]", "7"},
+    {PUT("null"), "", ONE(PUT("null")), "7", NULL},
+    {"", "", ASM_DONE, "[]", "7", NULL},
 };
 
 static void composes(const row *r) {
@@ -114,7 +118,8 @@ static void go_on(char *state, const char *move) {
     }
 }
 
-/* A step with both pushed leaves this state, and its commit fires the composed move. */
+/* A step with both pushed leaves this state, and its commit fires the composed move, or what is
+ * kept. */
 static void commits(const row *r, const char *state, const char *left) {
     asm_slot storage = {0}, agent = {0}, step = {0};
     asm_numbers numbers;
@@ -137,7 +142,8 @@ static void commits(const row *r, const char *state, const char *left) {
     REQUIRE(asm_give(&storage, &agent) == ASM_DONE);
     char *journal = journal_of(&storage);
     is_legal(journal, 1, 1);
-    snprintf(call, sizeof call, "\n{'agent':0,'call':{'fire':%s,", r->composed);
+    snprintf(call, sizeof call, "\n{'agent':0,'call':{'fire':%s,",
+             r->kept ? r->kept : r->composed);
     REQUIRE(strstr(journal, json(call)) != NULL);
     free(journal);
     asm_free(&storage);

@@ -198,9 +198,28 @@ static void gets(void) {
     end_all();
 }
 
-/* All locations with a name are seen through the pushed moves, and got. */
+/* A move that puts to so many locations. */
+static const char *puts_to(int count) {
+    static char text[32 * LONGEST];
+    char *at = text + sprintf(text, "[");
+    for (int i = 0; i < count; i++)
+        at += sprintf(at, "%s[\"put\",[\"w\",%d],1]", i ? "," : "", i);
+    sprintf(at, "]");
+    return text;
+}
+
+static int32_t get_all_puts(void) {
+    static uint8_t out[4 * LONGEST];
+    size_t written;
+    return asm_get_all(&agents[0], &step, TEXT("w"), out, sizeof out, &written);
+}
+
+/* All locations with a name are seen through the pushed moves, and got, but for those that these
+ * put. */
 static void gets_all(void) {
-    static char move[4 * LONGEST];
+    const char *move = puts_to(257);
+    asm_numbers numbers;
+    uint32_t number;
     begin_all();
     TELLS(ASM_DONE, "[[['y',1],'one'],[['y',2],'two']]",
           asm_get_all(&agents[0], &step, TEXT("y"), OUT));
@@ -214,14 +233,20 @@ static void gets_all(void) {
     REQUIRE(asm_pop(&step) == ASM_DONE && asm_pop(&step) == ASM_DONE);
     begins(&agents[0], &step, ASM_DONE);
     look();
-    char *at = move + sprintf(move, "[");
-    for (int i = 0; i < 257; i++)
-        at += sprintf(at, "%s[\"put\",[\"w\",%d],1]", i ? "," : "", i);
-    sprintf(at, "]");
+    /* What the step puts itself isn't got, however much that is. */
     ANSWERS(ASM_DONE, asm_push(&agents[0], &step, bytes(move), strlen(move), OUT));
-    KEEPS(ANSWERS(ASM_MANY, asm_get_all(&agents[0], &step, TEXT("w"), OUT)));
+    KEEPS(REQUIRE(get_all_puts() == ASM_DONE));
     REQUIRE(get_places(2, 251, 4 * LONGEST) == ASM_DONE);
     REQUIRE(get_places(253, 1, 4 * LONGEST) == ASM_MANY);
+    REQUIRE(get_all_puts() == ASM_DONE);
+    REQUIRE(asm_commit(&agents[0], &step, &numbers) == ASM_DONE && numbers.fired == 1);
+    /* What the state has is. */
+    REQUIRE(asm_begin(&agents[0], &step, &number) == ASM_DONE && number == 1);
+    TELLS(ASM_DONE, "{'number':1,'values':[7]}", asm_get(&agents[0], &step, TEXT("[['x']]"), OUT));
+    REQUIRE(get_all_puts() == ASM_MANY);
+    REQUIRE(push("[['put',['w',0],1]]") == ASM_DONE && get_all_puts() == ASM_MANY);
+    REQUIRE(push("[['put',['w',1],1]]") == ASM_DONE && get_all_puts() == ASM_DONE);
+    REQUIRE(get_places(0, 1, 4 * LONGEST) == ASM_MANY);
     end_all();
 }
 
@@ -311,16 +336,6 @@ static void depths(void) {
     for (uint32_t i = 64; i > 0; i--)
         REQUIRE(asm_depth(&step) == i && asm_pop(&step) == ASM_DONE);
     end_all();
-}
-
-/* A move that puts to so many locations. */
-static const char *puts_to(int count) {
-    static char text[32 * LONGEST];
-    char *at = text + sprintf(text, "[");
-    for (int i = 0; i < count; i++)
-        at += sprintf(at, "%s[\"put\",[\"w\",%d],1]", i ? "," : "", i);
-    sprintf(at, "]");
-    return text;
 }
 
 /* The one move has 4,096 instructions at most, in one push or in all. */

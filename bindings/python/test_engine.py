@@ -1,13 +1,15 @@
 """Tests of the engine's rules and machines, and of the page on it: python3 test.py runs all tests."""
+import json
 import pathlib
 import re
 import unittest
+from threading import Event
 
 import engine
 from checkout import ROOT
 from engine import bank, crossing, philosophers
-from engine.agents import run, states
-from engine.rules import Add, Choose, Forall, If, Instruction, Iterate, Let, Par, Remove, Seq, Update
+from engine.agents import live, run, states
+from engine.rules import Add, Choose, Forall, If, Instruction, Iterate, Let, Par, Remove, Rule, Seq, Update
 from folugben import Clash, Stale, Storage, check
 from threads import in_threads
 
@@ -95,6 +97,29 @@ class Rules(unittest.TestCase):
             with self.assertRaises(Stale) as caught:
                 step.fire()
         self.assertEqual(caught.exception.at, COUNT)
+
+    def test_a_step_that_clashes_with_what_a_rival_wrote_is_begun_anew(self):
+        rival, texts = self.rival, ["no number", "none"]
+
+        class Raised(Rule):
+            """Raises the count, on which it rests in no other way, and has a rival overwrite it twice."""
+
+            def play(self, step):
+                step.push([["inc", COUNT, 1]])
+                if texts:
+                    rival.fire([["put", COUNT, texts.pop()]])
+                return [[["inc", COUNT, 1]]]
+
+        def is_over(agent):
+            rival.fire([["put", COUNT, 7]])
+            return agent.won == 1
+
+        live(self.storage, 2, (Raised(), is_over), Event())
+        self.agent.give()
+        rival.give()
+        events = map(json.loads, self.storage.close_journal().splitlines()[1:])
+        replies = [event["reply"] for event in events if event["agent"] == 2]
+        self.assertEqual(replies, [{"clash": [COUNT, "Kind"]}] * 2 + [{"fired": 6}])
 
     def test_a_clash_in_a_sequence_is_told(self):
         for rule in (Seq(Par(raised(), Update(COUNT, 9)), raised()), Par(Seq(Update(["s"], 1), Add(["s"], 2)))):

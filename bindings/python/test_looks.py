@@ -64,6 +64,25 @@ class Looks(unittest.TestCase):
         self.assertEqual(self.agent.peek([["g"]]), (1, [1]))
         self.assertIsNone(self.agent.stands([[["g"], 1], [["f", True], 0]]))
 
+    def test_a_number_that_is_yet_to_come_is_refused(self):
+        where = folugben.error_text(folugben.RANGE) + ": read 2: "
+        reads = [[["g"], 0], [["f", 1], 1]]
+        for _ in range(2):
+            for call, *arguments in [(self.agent.fire, [], reads), (self.agent.stands, reads)]:
+                with self.assertRaises(Error) as caught:
+                    call(*arguments)
+                self.assertEqual(caught.exception.code, folugben.RANGE)
+                self.assertEqual(str(caught.exception), where + '["f", 1] is named at 1, and the agent has seen 0')
+            # It is none that the agent has seen, though it was fired.
+            self.rival.fire([])
+        self.assertEqual((self.agent.seen, self.agent.misses), (0, 0))
+        self.assertEqual(self.agent.follow(), 2)
+        self.assertIsNone(self.agent.stands(reads))
+        self.assertEqual(self.agent.fire([], reads), 3)
+        self.assertEqual(self.code_of(self.rival.stands, [[["g"], 3]] + [[["g"], 0]] * 256), folugben.RANGE)
+        self.rival.learn(self.agent)
+        self.assertIsNone(self.rival.stands([[["g"], 3]]))
+
     def test_looks_leave_no_receipt(self):
         for _ in range(50):
             self.agent.follow()
@@ -129,6 +148,25 @@ class Next(unittest.TestCase):
         header = json.loads(later.splitlines()[0])
         self.assertEqual(repr(header["init"]), repr(replay(journal)))
         self.assertEqual(header["capacity"], 3)
+
+    def test_a_number_of_the_storage_before_is_none_of_the_next_one(self):
+        with Storage(STATE) as first, first.agent(0) as agent:
+            for count in (1, 2):
+                agent.fire([["put", ["count"], count]])
+            number, (count,) = agent.read(COUNT)
+            agent.give()
+            first.close_journal()
+            second = first.next()
+        with second, second.agent(0) as agent, second.agent(1) as rival:
+            rival.fire([["put", ["count"], 3]])
+            # Nothing was written above this number, so that the rival's update would be lost.
+            with self.assertRaises(Error) as caught:
+                agent.fire([["put", ["count"], count + 1]], [[["count"], number]])
+            self.assertEqual(caught.exception.code, folugben.RANGE)
+            self.assertIn(': read 1: ["count"] is named at 2, and the agent has seen 0', str(caught.exception))
+            number, (count,) = agent.read(COUNT)
+            self.assertEqual(agent.fire([["put", ["count"], count + 1]], [[["count"], number]]), 2)
+            self.assertEqual(rival.read(COUNT), (2, [4]))
 
     def test_numbers_and_slots(self):
         storage = Storage()

@@ -116,7 +116,7 @@ class Plain(unittest.TestCase):
             self.assertRaises(Deep, step.push, move.put(at, 1))
             step.extend(move)
             self.assertEqual((step.get(at), step.depth), (1, 64))
-            for k in range(255):
+            for k in range(256):
                 step.get(Location(["w", k]))
             self.assertRaises(Many, step.get, Location(["w"]))
             self.assertEqual(self.agent.peek(Location(["w"])), (0, None))

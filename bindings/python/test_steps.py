@@ -124,13 +124,48 @@ class Steps(unittest.TestCase):
     def test_what_was_not_got_does_not_matter(self):
         with self.agent.step() as step:
             step.push(put(1))
+            # Of the state below it sees nothing through a put, and rests on nothing there.
+            self.assertEqual((step.get(COUNT), step.scan("count")), ([1], [[["count"], 1]]))
+            step.extend([["inc", ["count"], 1]])
             step.get(COUNT)
             step.pop()
             step.push(put("g", "g"))
-            self.rival.fire([["put", ["g"], 1], ["put", ["f", 1], 7]])
+            self.rival.fire([["put", ["g"], 1], ["put", ["f", 1], 7], ["put", ["count"], 9]])
             self.assertEqual(step.fire(), 2)
 
-    def test_partial_updates_are_named(self):
+    def test_what_one_move_adds_rests_on_nothing(self):
+        raise_, add = [["inc", ["count"], 1]], [["bagadd", ["bag"], "e", 1]]
+        with self.agent.step() as step, self.rival.step() as other:
+            for one in (step, other):
+                one.push(raise_)
+                one.push(add)
+            self.assertEqual((step.fire(), other.fire()), (1, 2))
+        # A get through it does rest on what is there.
+        for at, move in ((["count"], raise_), (["bag"], add)):
+            with self.agent.step() as step:
+                step.push(move)
+                step.get([at])
+                self.rival.fire(move)
+                with self.assertRaises(Stale) as caught:
+                    step.fire()
+                self.assertEqual(caught.exception.at, at)
+        self.assertEqual(self.rival.read([["count"], ["bag"]]), (4, [3, {"bag": [["e", 4]]}]))
+
+    def test_a_fire_that_clashes_is_begun_anew(self):
+        remove = [["bagremove", ["bag"], "e", 1]]
+        with self.agent.step() as step:
+            step.push(remove)
+            self.rival.fire(remove)
+            with self.assertRaises(Clash) as caught:
+                step.fire()
+            self.assertEqual((caught.exception.at, caught.exception.cause), (["bag"], "Short"))
+            self.assertEqual((step.try_fire(), step.depth), (0, 1))
+            self.assertEqual(self.agent.answer(), {"clash": [["bag"], "Short"]})
+            self.assertRaises(Moved, step.get, COUNT)
+        with self.agent.step() as step:
+            self.assertRaises(Clash, step.push, remove)
+
+    def test_what_two_moves_change_is_named(self):
         # In sequence they come to nothing, but on a bag and on a number alone.
         for at, moves in [
             (["bag"], [[["bagadd", ["bag"], "e", 1]], [["bagremove", ["bag"], "e", 1]]]),
@@ -194,6 +229,7 @@ class Steps(unittest.TestCase):
             self.assertRaises(Many, step.scan, "f")
             self.assertEqual(step.scan("none"), [])
             step.push([["inc", ["count"], 1]])
+            step.extend([["inc", ["count"], 1]])
             self.assertRaises(Many, step.fire)
             step.pop()
             step.push([["put", ["y", k], k] for k in range(4096)])

@@ -25,9 +25,16 @@ public final class Agent implements AutoCloseable {
 
     /**
      * What became of a fire, or of reads that were looked at again. `answer` is the text
-     * {"stale":LOC} or {"clash":[LOC,CAUSE]} of what was answered so, and else null.
+     * {"stale":LOC} or {"clash":[LOC,CAUSE]} of what was answered so, and else null; `isOfStep`
+     * tells whether it was a step that was fired.
      */
-    public record Reply(int code, int move, int from, int to, String answer) {
+    public record Reply(
+            int code, int move, int from, int to, String answer, boolean isOfStep) {
+        /** What became of a fire that was none of a step, or of reads. */
+        public Reply(int code, int move, int from, int to, String answer) {
+            this(code, move, from, to, answer, false);
+        }
+
         /** Whether a move was fired; `move` is then its number, from 1 up. */
         public boolean isFired() {
             return code == FolugbenException.DONE && move != 0;
@@ -38,9 +45,17 @@ public final class Agent implements AutoCloseable {
             return code == FolugbenException.STALE;
         }
 
-        /** Whether a named location was written since it was read, or 64 offers were lost. */
+        /** Whether the updates clash. */
+        public boolean isClash() {
+            return code == FolugbenException.CLASH;
+        }
+
+        /**
+         * Whether a named location was written since it was read, or 64 offers were lost; of a step
+         * also whether its updates clash, as they do only with what was written since it began.
+         */
         public boolean shouldRetry() {
-            return isStale() || code == FolugbenException.BUSY;
+            return isStale() || code == FolugbenException.BUSY || (isOfStep && isClash());
         }
 
         /** The least location that is stale or clashes; else null. */
@@ -98,8 +113,12 @@ public final class Agent implements AutoCloseable {
      * Fires the instructions, at most 4,096, which rest on the reads, at most 256. The reply may be
      * thrown by its {@link Reply#orThrow}.
      *
+     * <p>No update is lost where each number is that of a reading of this agent, or of one of which
+     * it has learnt. After {@link Storage#next} numbers begin anew: keep none.
+     *
      * @throws FolugbenException as a {@link ManyException} if there are more reads; SHAPE if there
-     *         are more instructions
+     *         are more instructions; RANGE, which says of which location, if a number is above that
+     *         of the moves that the agent has seen, as it would guard nothing
      */
     public Reply fire(List<? extends Instruction> instructions, List<Named> reads) {
         return fire(JsonWriter.move(instructions, "instructions"), JsonWriter.reads(reads));
@@ -108,7 +127,8 @@ public final class Agent implements AutoCloseable {
     /**
      * Fires the instructions [INSTR, ..], which rest on the reads [NAMED, ..].
      *
-     * @throws FolugbenException NOT_JSON, which names the argument, if one isn't one value
+     * @throws FolugbenException NOT_JSON, which names the argument, if one isn't one value; RANGE
+     *         as of reads that are objects
      */
     public Reply fire(String instructions, String reads) {
         byte[] call = Texts.utf8("{\"fire\":" + Texts.oneValue(instructions, "instructions")
@@ -119,12 +139,14 @@ public final class Agent implements AutoCloseable {
                             -> Calls.asm_try_fire(slot.at, text, call.length, room.numbers()));
             if (code == FolugbenException.NOT_JSON || code == FolugbenException.SHAPE)
                 FolugbenException.expectRead(code, Storage.Form.MOVE, call);
-            return reply(code);
+            if (code == FolugbenException.RANGE)
+                throw FolugbenException.ahead(reads, Calls.asm_seen(slot.at));
+            return reply(code, false);
         }
     }
 
     /** What became of a fire with this code, on which the agent's lock is still held. */
-    Reply reply(int code) {
+    Reply reply(int code, boolean isOfStep) {
         int move = room.number(0);
         int from = room.number(1);
         int to = room.number(2);
@@ -134,7 +156,7 @@ public final class Agent implements AutoCloseable {
             case FolugbenException.FULL, FolugbenException.BUSY -> {}
             default -> FolugbenException.expect(code);
         }
-        return new Reply(code, move, from, to, answer);
+        return new Reply(code, move, from, to, answer, isOfStep);
     }
 
     /**
@@ -245,6 +267,9 @@ public final class Agent implements AutoCloseable {
      * Looks on, as follow does, and tells whether the named reads [NAMED, ..], at most 256, still
      * stand: the reply is DONE, or STALE for the least location that was written since. A fire may
      * still be refused, by a move that comes in between.
+     *
+     * @throws FolugbenException RANGE, which says of which location, if a number is above that of
+     *         the moves that the agent had seen
      */
     public Reply stands(String reads) {
         byte[] call = Texts.utf8(reads, "reads");
@@ -255,6 +280,8 @@ public final class Agent implements AutoCloseable {
                                     slot.at, text, call.length, out, length, written));
             if (told.code() == FolugbenException.STALE)
                 return new Reply(told.code(), 0, 0, 0, told.text());
+            if (told.code() == FolugbenException.RANGE)
+                throw FolugbenException.ahead(reads, Calls.asm_seen(slot.at));
             FolugbenException.expectReads(told.code(), reads);
             return new Reply(told.code(), 0, 0, 0, null);
         }

@@ -1,6 +1,9 @@
 package folugben;
 
-/** The updates of a move clash; nothing was fired or pushed. */
+/**
+ * The updates of a move clash; nothing was fired or pushed. Those of a step that is fired do so
+ * only with what another agent wrote since the step began: begin another step.
+ */
 public final class ClashException extends FolugbenException {
     private static final long serialVersionUID = 1;
 

@@ -66,6 +66,20 @@ public sealed class FolugbenException extends RuntimeException
         };
     }
 
+    /** The exception of named reads of which one has a number above what the agent has seen. */
+    static FolugbenException ahead(String reads, int seen) {
+        int place = 0;
+        for (JsonReader.Read read : JsonReader.reads(reads)) {
+            place++;
+            if (read.number() > seen)
+                return of(RANGE, 0,
+                        "read " + place + ": " + read.location().json() + " is named at "
+                                + read.number() + ", and the agent has seen " + seen,
+                        "");
+        }
+        return of(RANGE, 0, "", "");
+    }
+
     /** What the code means, with what is said of the text that is refused. */
     private static String message(int code, String said) {
         if (said.isEmpty())

@@ -75,6 +75,19 @@ final class JsonReader {
         });
     }
 
+    /** A location as a text names it, at a number that may be of moves that are yet to come. */
+    record Read(Location location, long number) {}
+
+    static List<Read> reads(String reads) {
+        return parsed(reads, "reads", reader -> reader.list(JsonReader::read));
+    }
+
+    private Read read() throws IOException {
+        begin(JsonToken.START_ARRAY, "no read");
+        Location location = location();
+        return ended(new Read(location, nextNumber()), JsonToken.END_ARRAY);
+    }
+
     /** What {"stale":LOC}, {"large":LOC} or {"clash":[LOC,CAUSE]} tells. */
     record Objection(Location at, Cause cause) {}
 

@@ -1,7 +1,8 @@
 package folugben;
 
 /**
- * More than 256 locations are read or named, or a composed move has more than 4,096 instructions.
+ * More than 256 locations are read, got or named, or a composed move has more than 4,096
+ * instructions.
  */
 public final class ManyException extends FolugbenException {
     private static final long serialVersionUID = 1;

@@ -1,6 +1,9 @@
 package folugben;
 
-/** The agent's own state has moved on since the step began: begin another step. */
+/**
+ * The agent's own state doesn't stand at the number of the step, as it has moved on since: begin
+ * another step.
+ */
 public final class MovedException extends FolugbenException {
     private static final long serialVersionUID = 1;
 

@@ -202,7 +202,7 @@ final class PlainTests {
             refused(FolugbenException.DEEP, () -> step.push(move));
             step.extend(move);
             equal(step.getNumber(x), 7L);
-            for (int i = 1; i < 256; i++)
+            for (int i = 1; i <= 256; i++)
                 try (PreparedLocation w = Location.of("w", i).prepare()) {
                     equal(step.get(w).isUndef(), true);
                 }
@@ -295,7 +295,7 @@ final class PlainTests {
                 step.push(move.inc(x, 1));
                 rival.fire(List.of(Instruction.put(X, Value.set())), List.of());
                 equal(step.tryFire(), 0);
-                equal(agent.answer(), "{\"stale\":[\"x\"]}");
+                equal(agent.answer(), "{\"clash\":[[\"x\"],\"Kind\"]}");
                 equal(step.tryFire(), 0);
             }
             try (Step step = agent.step()) {

@@ -82,7 +82,9 @@ public final class Step implements AutoCloseable {
 
     /**
      * What is seen through the pushed moves at the locations [LOC, ..], as
-     * {"number":N,"values":[VALUE, ..]}. They are got: the fire names them.
+     * {"number":N,"values":[VALUE, ..]}. A location is got, and the fire names it, where its value
+     * is made from that of the state below; what a pushed move put there, and all that was done to
+     * it since, rests on nothing.
      *
      * @throws FolugbenException MOVED; MANY if more than 256 would be got
      */
@@ -94,7 +96,8 @@ public final class Step implements AutoCloseable {
     }
 
     /**
-     * What is seen through the pushed moves at the locations, in their order. They are got.
+     * What is seen through the pushed moves at the locations, in their order. They are got where
+     * their values are made from those of the state below.
      *
      * @throws FolugbenException as a {@link MovedException}; as a {@link ManyException} if more
      *         than 256 would be got
@@ -122,8 +125,8 @@ public final class Step implements AutoCloseable {
     }
 
     /**
-     * The number there, of which no object is made. The location is got, also where the value is
-     * another one.
+     * The number there, of which no object is made. The location is got as by get, also where the
+     * value is another one.
      *
      * @throws IllegalStateException if the value is no number
      */
@@ -172,7 +175,7 @@ public final class Step implements AutoCloseable {
 
     /**
      * What is seen through the pushed moves at all locations with a function name, as [PAIR, ..].
-     * Those that are found are got; that a further one is written later isn't noticed.
+     * Those that are found are got, as by get; that a further one is written later isn't noticed.
      *
      * @throws FolugbenException MOVED; MANY if more than 256 would be got
      */
@@ -288,7 +291,7 @@ public final class Step implements AutoCloseable {
     }
 
     /**
-     * Takes away the move that was pushed last; what was got stays got.
+     * Takes away the move that was pushed last, and what it rests on; what was got stays got.
      *
      * @throws FolugbenException NONE if no move is pushed
      */
@@ -306,33 +309,36 @@ public final class Step implements AutoCloseable {
     }
 
     /**
-     * Fires one move that does what the pushed moves do in turn, unless something was written since
-     * the step began that was got or that a pushed partial update changes. Where it fires, the step
-     * is over; else it stays until it is closed. That it is stale, or clashes, is a reply, which
-     * {@link Agent.Reply#orThrow} throws.
+     * Fires one move that does what the pushed moves do in turn, unless a location was written
+     * since the step began that was got, or where the first of the moves that write there has
+     * partial updates alone and another one writes too. What one move alone adds, removes or
+     * increments is named by nothing: it clashes where it doesn't fit what is there by now, as
+     * where another agent took out what it removes. Where it fires, the step is over; else it stays
+     * until it is closed. That it is stale, or clashes, is a reply, which asks to begin another
+     * step ({@link Agent.Reply#shouldRetry}), and which {@link Agent.Reply#orThrow} throws.
      *
      * @throws FolugbenException MANY if more than 256 locations would be named
      */
     public Agent.Reply fire() {
         synchronized (agent.slot) {
-            return agent.reply(commit());
+            return agent.reply(commit(), true);
         }
     }
 
     /**
      * As fire, where it is enough to know that the step has to be begun again: the number of the
-     * move that was fired, from 1 up, or 0 where it was stale or lost 64 offers.
+     * move that was fired, from 1 up, or 0 where it was stale, clashed or lost 64 offers.
      *
-     * @throws FolugbenException as a {@link ClashException}, {@link FullException} or {@link
-     *         ManyException}
+     * @throws FolugbenException as a {@link FullException} or {@link ManyException}
      */
     public int tryFire() {
         synchronized (agent.slot) {
             int code = commit();
             return switch (code) {
                 case FolugbenException.DONE -> room.number(0);
-                case FolugbenException.STALE, FolugbenException.BUSY -> 0;
-                default -> agent.reply(code).orThrow();
+                case FolugbenException.STALE, FolugbenException.CLASH,
+                        FolugbenException.BUSY -> 0;
+                default -> agent.reply(code, true).orThrow();
             };
         }
     }

@@ -4,6 +4,8 @@ import static folugben.Checks.equal;
 import static folugben.Checks.refused;
 import static folugben.Checks.refusedAt;
 
+import java.util.List;
+
 /** Tests of looks, steps, moves without an agent, and runs that go on. */
 final class StepTests {
     private static final String TWICE = "[[\"put\",[\"x\"],{\"set\":[1,1]}]]";
@@ -69,7 +71,7 @@ final class StepTests {
             step.push(put("x", "0"));
             step.pop();
             equal(step.depth(), 2);
-            equal(step.fire(), new Agent.Reply(0, 1, 0, 0, null));
+            equal(step.fire(), new Agent.Reply(0, 1, 0, 0, null, true));
             equal(agent.answer(), "{\"fired\":1}");
             equal(step.depth(), 0);
             refused(FolugbenException.EMPTY, step::fire);
@@ -84,7 +86,8 @@ final class StepTests {
             agent.give();
             String journal = storage.closeJournal();
             equal(Storage.check(journal), new Storage.Checked(1, 1));
-            String named = "[[\"s\"],0],[[\"x\"],0],[[\"y\",1],0],[[\"y\",2],0]";
+            // What the step put itself isn't named.
+            String named = "[[\"s\"],0],[[\"x\"],0],[[\"y\",1],0]";
             equal(journal.endsWith("\"reads\":[" + named + "]},\"reply\":{\"fired\":1}}\n"), true);
         }
     }
@@ -132,6 +135,7 @@ final class StepTests {
             try (Step another = agent.step()) {
                 another.get(many + "]");
                 another.push(inc("x", 1));
+                another.push(inc("x", 1));
                 refused(FolugbenException.MANY, another::fire);
                 another.pop();
                 equal(another.fire().move(), 1);
@@ -147,8 +151,8 @@ final class StepTests {
             step.push(inc("x", 1));
             rival.fire(put("x", "70"), "[]");
             equal(step.get("[[\"x\"]]"), seen(0, "8"));
-            equal(step.fire(), new Agent.Reply(
-                                       FolugbenException.STALE, 0, 0, 0, "{\"stale\":[\"x\"]}"));
+            equal(step.fire(), new Agent.Reply(FolugbenException.STALE, 0, 0, 0,
+                                       "{\"stale\":[\"x\"]}", true));
             equal(step.depth(), 1);
             refused(FolugbenException.MOVED, () -> step.get("[]"));
             refused(FolugbenException.MOVED, () -> step.push("[]"));
@@ -165,9 +169,97 @@ final class StepTests {
             try (Step last = agent.step()) {
                 last.push(inc("x", 1));
                 rival.fire("[]", "[]");
-                equal(last.fire(), new Agent.Reply(FolugbenException.FULL, 0, 0, 0, null));
+                equal(last.fire(), new Agent.Reply(FolugbenException.FULL, 0, 0, 0, null, true));
                 equal(last.depth(), 1);
             }
+        }
+    }
+
+    /** What one move alone adds rests on nothing, and clashes where it fits no longer. */
+    static void restingOnNothing() {
+        String one = "[[\"bagremove\",[\"b\"],1,1]]";
+        try (Storage storage = new Storage("[[[\"b\"],{\"bag\":[[1,2]]}],[[\"x\"],7]]", 8);
+                Agent agent = storage.agent(0); Agent rival = storage.agent(1);
+                Step first = agent.step(); Step second = rival.step()) {
+            for (Step step : new Step[] {first, second}) {
+                step.push(one);
+                step.push(inc("x", 1));
+            }
+            equal(first.fire().move(), 1);
+            equal(second.fire().move(), 2);
+        }
+        try (Storage storage = new Storage("[[[\"b\"],{\"bag\":[[1,1]]}]]", 8);
+                Agent agent = storage.agent(0); Agent rival = storage.agent(1);
+                Step step = agent.step()) {
+            step.push(one);
+            Agent.Reply taken = rival.fire(one, "[]");
+            equal(taken.isFired() && !taken.shouldRetry() && !taken.isClash(), true);
+            Agent.Reply clash = step.fire();
+            equal(clash, new Agent.Reply(FolugbenException.CLASH, 0, 0, 0,
+                                 "{\"clash\":[[\"b\"],\"Short\"]}", true));
+            equal(clash.isClash() && clash.shouldRetry(), true);
+            equal(refused(FolugbenException.CLASH, clash::orThrow).answer(), clash.answer());
+            equal(step.tryFire(), 0);
+            equal(step.depth(), 1);
+            refused(FolugbenException.MOVED, () -> step.get("[]"));
+            // Of a move that is fired alone its caller decides.
+            Agent.Reply alone = agent.fire(one, "[]");
+            equal(alone.isClash() && !alone.shouldRetry(), true);
+            try (Step again = agent.step()) {
+                refused(FolugbenException.CLASH, () -> again.push(one));
+            }
+        }
+    }
+
+    /** A number above what the agent has seen is refused, with its location. */
+    static void numbersToCome() {
+        int range = FolugbenException.RANGE;
+        String seen = " is named at 1, and the agent has seen 0";
+        String reads = "[[[\"s\"],0], [[\"y\",1],1]]";
+        try (Storage storage = new Storage(INIT, 8); Agent agent = storage.agent(0);
+                Agent rival = storage.agent(1)) {
+            for (int round = 0; round < 2; round++) {
+                String told = ": read 2: [\"y\",1]" + seen;
+                refusedAt(range, 0, told, () -> agent.fire("[]", reads));
+                refusedAt(range, 0, told, () -> agent.stands(reads));
+                List<Named> named = List.of(new Named(Location.of("x"), 1));
+                told = ": read 1: [\"x\"]" + seen;
+                refusedAt(range, 0, told, () -> agent.fire(List.of(), named));
+                refusedAt(range, 0, told, () -> agent.stands(named));
+                rival.fire("[]", "[]");
+            }
+            equal(agent.seen(), 0);
+            equal(agent.misses(), 0L);
+            refusedAt(range, 0,
+                    ": read 1: [\"x\"] is named at 4294967295, and the agent has seen 0",
+                    () -> agent.stands("[[[\"x\"],4294967295]]"));
+            agent.learn(rival);
+            equal(agent.stands(reads).isStale(), false);
+            equal(agent.fire("[]", reads).move(), 3);
+        }
+    }
+
+    /** A number that was kept from the storage before is none of the next one's. */
+    static void numbersOfTheStorageBefore() {
+        Location x = Location.of("x");
+        Storage storage = new Storage(INIT, 8);
+        Reading kept;
+        try (Agent agent = storage.agent(0)) {
+            agent.fire(inc("x", 1), "[]");
+            kept = agent.read(List.of(x));
+            agent.give();
+        }
+        storage.closeJournal();
+        List<Instruction> raised = List.of(Instruction.put(x, kept.value(x).asLong() + 1));
+        try (Storage next = storage.next(8); Agent agent = next.agent(0);
+                Agent rival = next.agent(1)) {
+            storage.close();
+            rival.fire(inc("x", 1), "[]");
+            // Nothing was written above this number, so that the rival's update would be lost.
+            refusedAt(FolugbenException.RANGE, 0,
+                    ": read 1: [\"x\"] is named at 1, and the agent has seen 0",
+                    () -> agent.fire(raised, kept.named()));
+            equal(agent.read(List.of(x)).value(x).asLong(), 9L);
         }
     }
 
@@ -251,6 +343,12 @@ final class StepTests {
         System.out.println("refusals");
         rivals();
         System.out.println("rivals");
+        restingOnNothing();
+        System.out.println("resting on nothing");
+        numbersToCome();
+        System.out.println("numbers to come");
+        numbersOfTheStorageBefore();
+        System.out.println("numbers of the storage before");
         moves();
         System.out.println("moves");
         goingOn();

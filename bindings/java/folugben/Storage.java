@@ -92,8 +92,8 @@ public final class Storage implements AutoCloseable {
 
     /**
      * A storage for 1 to 1,048,576 moves that goes on where this one, whose journal was closed,
-     * ended: it opens with the state that the journal's moves leave, and its agents start anew. The
-     * journals of both, one after the other, tell one run.
+     * ended: it opens with the state that the journal's moves leave, and its agents start anew, as
+     * numbers do. The journals of both, one after the other, tell one run.
      *
      * @throws FolugbenException NONE if no journal was closed since an agent was given back
      */

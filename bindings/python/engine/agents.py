@@ -3,11 +3,10 @@ import json
 import time
 from collections.abc import Iterator
 from concurrent.futures import ThreadPoolExecutor, as_completed
-from contextlib import suppress
 from threading import Event
 from typing import Any
 
-from folugben import Agent, Busy, Stale, Storage
+from folugben import Agent, Storage
 
 from .rules import Program
 
@@ -16,15 +15,15 @@ def live(storage: Storage, number: int, program: Program, stop: Event) -> None:
     rule, is_over = program
     with storage.agent(number) as agent:
         while not (stop.is_set() or is_over(agent)):
-            with suppress(Stale, Busy), agent.step() as step:  # the next step sees what others did
+            with agent.step() as step:
                 if any(rule.play(step)):
-                    step.fire()
+                    step.try_fire()  # or others were quicker, and the next step sees what they did
                 else:
                     time.sleep(0.001)  # nothing to do until others have fired
 
 
 def run(init: list[Any], programs: list[Program]) -> bytes:
-    """The journal of a run of all programs. A clash, or any other error of one, ends all and is raised."""
+    """The journal of a run of all programs. A clash of a rule, or any other error of one, ends all and is raised."""
     stop = Event()
     with Storage(init, 10_000) as storage, ThreadPoolExecutor(len(programs)) as pool:
         try:

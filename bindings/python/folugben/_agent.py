@@ -3,9 +3,9 @@ import ctypes
 from collections.abc import Callable, Iterable, Sequence
 from typing import TYPE_CHECKING, Any, overload
 
-from ._errors import READS, Busy, expect, expect_part, expect_read, refusal
+from ._errors import READS, Busy, ahead, expect, expect_part, expect_read, refusal
 from ._held import Held, here, marked, nested, one_call
-from ._library import BUSY, CLASH, DONE, LOCATIONS, MOVE, SMALL, STALE, Buffer, Numbers, Slot, lib, quick
+from ._library import BUSY, CLASH, DONE, LOCATIONS, MOVE, RANGE, SMALL, STALE, Buffer, Numbers, Slot, lib, quick
 from ._location import Location
 from ._step import Step
 from ._texts import Form, decoded, encoded, told_value, unsigned
@@ -58,6 +58,10 @@ class Agent(Held):
 
         `Stale` where one of the locations was written since that number of moves, `Clash` where the updates clash, `Full`
         where as many moves were fired as the capacity, `Busy` where 64 offers were lost to other agents.
+
+        No update is lost where each number is that of a reading of this agent, or of one of which it has learnt. A number
+        above that of the moves that it has seen guards nothing, and is an `Error` with the code RANGE, which says of which
+        location. After `Storage.next` numbers begin anew: keep none.
         """
         return self._fire(encoded({"fire": instructions, "reads": list(reads)}))
 
@@ -73,6 +77,8 @@ class Agent(Held):
             raise refusal(code, self._answer())
         if code == BUSY:
             raise Busy(code, (numbers.from_, numbers.to))
+        if code == RANGE:
+            raise ahead(decoded(call)["reads"], lib.asm_seen(self._slot))
         expect_read(code, MOVE, call)
         return numbers.fired
 
@@ -169,8 +175,8 @@ class Agent(Held):
     def stands(self, reads: Iterable[Form]) -> list[Any] | None:
         """Looks on, as `follow` does: the least of the named locations that was written since its number of moves, or None.
 
-        The reads are pairs of a location and a number, at most 256, else `Many`. A fire that names them may still be stale,
-        by a move that comes in between.
+        The reads are pairs of a location and a number, at most 256, else `Many`; a number is refused as by `fire`. A fire
+        that names them may still be stale, by a move that comes in between.
         """
         return self._stands(encoded(list(reads)))
 
@@ -178,6 +184,8 @@ class Agent(Held):
     def _stands(self, reads: bytes) -> list[Any] | None:
         with self._lock:
             code, text = self._buffer.text(lib.asm_stands, self._slot, reads, len(reads))
+            if code == RANGE:
+                raise ahead(decoded(reads), lib.asm_seen(self._slot))
         if code == STALE:
             at: list[Any] = decoded(text)["stale"]
             return at

@@ -30,7 +30,8 @@ def error_text(code: int) -> str:
 class Error(Exception):
     """A call that wasn't answered, with its code, and its numbers where the code has some.
 
-    Of a text that was refused `said` tells where and why, as `explain` does; of a move that was, at which location.
+    Of a text that was refused `said` tells where and why, as `explain` does; of a move that was, at which location; and of
+    named reads that were, which location is named at a number that the agent hasn't seen.
     """
 
     def __init__(self, code: int, numbers: Iterable[int] = (), said: str = "") -> None:
@@ -54,7 +55,10 @@ class Stale(Error):
 
 
 class Clash(Error):
-    """The updates of the move clash; `at` is the location and `cause` the cause."""
+    """The updates of the move clash; `at` is the location and `cause` the cause.
+
+    A fire of a step clashes only where another agent wrote there since the step began: begin another step.
+    """
 
     at: list[Any]
     cause: str
@@ -75,7 +79,7 @@ class Busy(Error):
 
 
 class Many(Error):
-    """More than 256 locations are read or named, or a composed move has more than 4,096 instructions."""
+    """More than 256 locations are read, got or named, or a composed move has more than 4,096 instructions."""
 
 
 class Deep(Error):
@@ -83,7 +87,7 @@ class Deep(Error):
 
 
 class Moved(Error):
-    """The agent's own state has moved on since the step began: begin another step."""
+    """The agent's own state doesn't stand at the number of the step, as it has moved on since: begin another step."""
 
 
 class Over(Error):
@@ -129,6 +133,15 @@ def refusal(code: int, told: Any) -> Stale | Clash | Large:
     clash = Clash(code, said=f"{json.dumps(at)}, {cause}")
     clash.at, clash.cause = at, cause
     return clash
+
+
+def ahead(reads: Iterable[Any], seen: int) -> Error:
+    """The exception of named reads of which one has a number above that of the moves which the agent has seen."""
+    for place, (at, number) in enumerate(reads, 1):
+        if number > seen:
+            said = f"read {place}: {json.dumps(at)} is named at {number}, and the agent has seen {seen}"
+            return Error(RANGE, said=said)
+    return Error(RANGE)
 
 
 def explain(form: int, text: bytes) -> str:

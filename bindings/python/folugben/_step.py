@@ -17,8 +17,8 @@ class Step(Held):
     """A step of an agent: what it does between a look and a fire, on the state that `number` moves have led to.
 
     `push` puts a move over that state, through which all is seen that is got and pushed later. `fire` fires one move that
-    does what the pushed ones do in turn, unless something was written since that the step rests on. A refused call leaves
-    the step as it was.
+    does what the pushed ones do in turn, unless something was written since that the step rests on: what it got of that
+    state, and what two of its moves change there. A refused call leaves the step as it was.
 
     The step is over once it is fired, and at the end of its `with` in any case; `get`, `scan`, `push`, `extend`, `pop` and
     `fire` then raise `Over`. One that isn't fired leaves no trace. Where the agent's own state has moved on since, in a call
@@ -76,7 +76,8 @@ class Step(Held):
     def get(self, places: Location | Sequence[Form]) -> Any:
         """The values of the locations, as they are seen through the pushed moves; of a `Location` its value.
 
-        The fire names each location that was got, at most 256 in all, else `Many`.
+        A location is got where its value is made from that of the state below, and the fire names it: at most 256 in all,
+        else `Many`. What a pushed move put there, and all that was done to it since, rests on nothing.
         """
         if not isinstance(places, Location):
             return self._get(encoded(places))
@@ -110,7 +111,7 @@ class Step(Held):
     def scan(self, name: str) -> list[list[Any]]:
         """Each location with this function name and its value, as seen through the pushed moves: a list of pairs, ascending.
 
-        The locations that are found are got; that a further one is written later isn't noticed.
+        The locations that are found are got, as by `get`; that a further one is written later isn't noticed.
         """
         return self._scan(name.encode())
 
@@ -174,7 +175,7 @@ class Step(Held):
 
     @one_call
     def pop(self) -> None:
-        """Takes away the move that was pushed last, with those that extend it; what was got stays got.
+        """Takes away the move that was pushed last, with those that extend it, and what these rest on; what was got stays got.
 
         `Error` with the code NONE where none is pushed.
         """
@@ -185,14 +186,19 @@ class Step(Held):
     def fire(self) -> int:
         """Fires one move that does what the pushed moves do in turn. The number of the move; the step is over then.
 
-        It names, at the step's number, each location that was got or that a pushed partial update changes. It raises what
-        a fire of the agent does, `Stale`, `Clash`, `Full` and `Busy`, and `Many` where it would name more than 256.
+        It names, at the step's number, each location that was got, and each where the first of the moves that write there
+        has partial updates alone and another one writes too. So what one move alone adds, removes or increments is named
+        by nothing, and steps that do so fire beside each other.
+
+        It raises `Stale`, `Full` and `Busy` as a fire of the agent does, `Many` where it would name more than 256, and
+        `Clash` where what is written by now doesn't bear such a partial update, as where another agent took out what this
+        one removes: begin the step again, as after `Stale`.
         """
         return self._fire(())
 
     def try_fire(self) -> int:
-        """The same, but 0 where the step is to be begun again, as it is `Stale` or `Busy`: that makes no exception."""
-        return self._fire((STALE, BUSY))
+        """The same, but 0 where the step is to be begun again, for `Stale`, `Clash` or `Busy`: that makes no exception."""
+        return self._fire((STALE, CLASH, BUSY))
 
     def _fire(self, vain: tuple[int, ...]) -> int:
         mark = here.mark or marked()

@@ -1,0 +1,207 @@
+/* What the commit of a step rests on, and so names: what rivals write elsewhere leaves it be. */
+#include "commits.h"
+
+/* Puts, and partial updates of one move alone, rest on nothing: what a rival writes there stays. */
+static void resting_on_nothing(void) {
+    begin_with(8);
+    push("[['inc',['c'],1],['put',['x'],1]]");
+    fire(&agents[1], "[['inc',['c'],5],['put',['x'],70],['put',['y'],70]]");
+    fired(2);
+    begins_at(2);
+    gets("['c']", 2, "6");
+    begins_at(2);
+    ANSWERS(ASM_DONE, asm_extend(&agents[0], &step, TEXT("[['add',['s'],2]]"), OUT));
+    fire(&agents[1], "[['remove',['s'],1]]");
+    fired(4);
+    begins_at(4);
+    gets("['s']", 4, "{'set':[2]}");
+    /* A put, and all that is done and got after it. */
+    begins_at(4);
+    push("[['put',['c'],5]]");
+    push("[['inc',['c'],1]]");
+    gets("['c']", 4, "6");
+    push("[['inc',['c'],1]]");
+    fire(&agents[1], "[['put',['c'],null]]");
+    fired(6);
+    begins_at(6);
+    gets("['c']", 6, "7");
+    end_all();
+}
+
+/* What two moves change is named without being got, where the first has partial updates alone
+ * there: whether the second is pushed or extends it, puts, or changes it back. */
+static void resting_locations(void) {
+    static const char *const seconds[] = {"[['inc',['c'],1]]", "[['inc',['c'],-1]]",
+                                          "[['put',['c'],5],['put',['y'],0]]"};
+    for (int is_push = 0; is_push < 2; is_push++)
+        for (size_t i = 0; i < sizeof seconds / sizeof *seconds; i++) {
+            begin_with(8);
+            push("[['inc',['c'],1]]");
+            ANSWERS(ASM_DONE, (is_push ? asm_push : asm_extend)(&agents[0], &step,
+                                                                TEXT(seconds[i]), OUT));
+            fire(&agents[1], "[['inc',['c'],1]]");
+            refused(ASM_STALE, "{'stale':['c']}");
+            end_all();
+        }
+}
+
+/* A get through partial updates sees what is below them, and is named. */
+static void gets_below(void) {
+    begin_with(8);
+    push("[['inc',['c'],1],['put',['x'],1]]");
+    gets("['c']", 0, "1");
+    gets("['x']", 0, "1");
+    TELLS(ASM_DONE, "[[['x'],1]]", asm_get_all(&agents[0], &step, TEXT("x"), OUT));
+    fire(&agents[1], "[['put',['x'],70]]");
+    fired(2);
+    begins_at(2);
+    push("[['inc',['c'],1],['put',['x'],1]]");
+    TELLS(ASM_DONE, "[[['c'],2]]", asm_get_all(&agents[0], &step, TEXT("c"), OUT));
+    fire(&agents[1], "[['inc',['c'],1]]");
+    refused(ASM_STALE, "{'stale':['c']}");
+    end_all();
+}
+
+/* A push was taken, and what it rests on is gone by the time of the commit: that clashes. The step
+ * stays, and is begun anew. */
+static void clashes_at_the_commit(void) {
+    open_with("[[['b'],{'bag':[['e',1]]}],[['c'],0]]", 8, &storage);
+    REQUIRE(asm_agents(&storage, agents, 2) == ASM_DONE);
+    begins_at(0);
+    push("[['bagremove',['b'],'e',1]]");
+    push("[['put',['x'],1]]");
+    fire(&agents[1], "[['bagremove',['b'],'e',1]]");
+    refused(ASM_CLASH, "{'clash':[['b'],'Short']}");
+    refused(ASM_CLASH, "{'clash':[['b'],'Short']}");
+    ANSWERS(ASM_MOVED, asm_push(&agents[0], &step, TEXT("[]"), OUT));
+    /* Begun anew, it is the push that clashes. */
+    begins_at(1);
+    TELLS(ASM_CLASH, "{'clash':[['b'],'Short']}",
+          asm_push(&agents[0], &step, TEXT("[['bagremove',['b'],'e',1]]"), OUT));
+    push("[['inc',['c'],1]]");
+    fire(&agents[1], "[['put',['c'],'none'],['bagadd',['b'],'e',1]]");
+    refused(ASM_CLASH, "{'clash':[['c'],'Kind']}");
+    /* What is named goes before: stale, and no clash. */
+    begins_at(2);
+    gets("['b']", 2, "{'bag':[['e',1]]}");
+    push("[['bagremove',['b'],'e',1]]");
+    fire(&agents[1], "[['bagremove',['b'],'e',1]]");
+    refused(ASM_STALE, "{'stale':['b']}");
+    journal_is("{'agent':1,'call':{'fire':[['bagremove',['b'],'e',1]],'reads':[]},"
+               "'reply':{'fired':1}}\n"
+               "{'agent':0,'call':{'fire':[['bagremove',['b'],'e',1],['put',['x'],1]],'reads':[]},"
+               "'reply':{'clash':[['b'],'Short']}}\n"
+               "{'agent':0,'call':{'fire':[['bagremove',['b'],'e',1],['put',['x'],1]],'reads':[]},"
+               "'reply':{'clash':[['b'],'Short']}}\n"
+               "{'agent':1,'call':{'fire':[['put',['c'],'none'],['bagadd',['b'],'e',1]],"
+               "'reads':[]},'reply':{'fired':2}}\n"
+               "{'agent':0,'call':{'fire':[['inc',['c'],1]],'reads':[]},"
+               "'reply':{'clash':[['c'],'Kind']}}\n"
+               "{'agent':1,'call':{'fire':[['bagremove',['b'],'e',1]],'reads':[]},"
+               "'reply':{'fired':3}}\n"
+               "{'agent':0,'call':{'fire':[['bagremove',['b'],'e',1]],'reads':[[['b'],2]]},"
+               "'reply':{'stale':['b']}}\n",
+               7, 3);
+    end_all();
+}
+
+/* For each number below the count the text with it, in an array. */
+static const char *each(const char *format, int count) {
+    static char text[8 * LONGEST];
+    char *at = text + sprintf(text, "[");
+    for (int i = 0; i < count; i++) {
+        at += sprintf(at, "%s", i ? "," : "");
+        at += sprintf(at, format, i);
+    }
+    sprintf(at, "]");
+    return text;
+}
+
+static void gets_each(int count) {
+    static char out[2 * LONGEST];
+    const char *locations = each("[\"w\",%d]", count);
+    size_t written;
+    REQUIRE(asm_get(&agents[0], &step, bytes(locations), strlen(locations), (uint8_t *)out,
+                    sizeof out, &written) == ASM_DONE);
+}
+
+static void raises_each(bool is_push, int count) {
+    const char *move = each("[\"inc\",[\"w\",%d],1]", count);
+    ANSWERS(ASM_DONE, (is_push ? asm_push : asm_extend)(&agents[0], &step, bytes(move),
+                                                        strlen(move), OUT));
+}
+
+/* More than 256 locations would be named: 256 that were got, and one that two moves change. */
+static void many_named(void) {
+    begin_with(8);
+    gets_each(256);
+    push("[['put',['w',0],1]]");
+    push("[['inc',['w',0],1]]");
+    push("[['inc',['c'],1]]");
+    push("[['inc',['c'],1]]");
+    refused(ASM_MANY, NULL);
+    ANSWERS(ASM_NONE, asm_answer(&agents[0], OUT));
+    pop();
+    fired(1);
+    end_all();
+}
+
+/* Begins on 300 numbers. */
+static void begins_wide(void) {
+    const char *init = each("[[\"w\",%d],0]", 300);
+    REQUIRE(asm_open(bytes(init), strlen(init), 8, &storage) == ASM_DONE);
+    REQUIRE(asm_agents(&storage, agents, 2) == ASM_DONE);
+    begins_at(0);
+}
+
+/* As many locations are named as the moves rest on and were got, each counted once. */
+static void many_rested_on(void) {
+    begins_wide();
+    /* One move of any number of increments rests on nothing. */
+    raises_each(true, 300);
+    fired(1);
+    begins_at(1);
+    raises_each(true, 257);
+    raises_each(false, 256);
+    raises_each(true, 256);
+    gets_each(256);
+    fire(&agents[1], "[['inc',['w',256],1]]");
+    fired(3);
+    begins_at(3);
+    raises_each(true, 257);
+    raises_each(false, 257);
+    refused(ASM_MANY, NULL);
+    TELLS(ASM_DONE, "{'fired':3}", asm_answer(&agents[0], OUT));
+    begins_at(3);
+    raises_each(true, 256);
+    raises_each(true, 256);
+    fire(&agents[1], "[['inc',['w',255],1]]");
+    refused(ASM_STALE, "{'stale':['w',255]}");
+    end_all();
+    /* And the journal tells each once. */
+    begins_wide();
+    gets_each(128);
+    raises_each(true, 256);
+    raises_each(true, 256);
+    fired(1);
+    REQUIRE(asm_give(&storage, &agents[0]) == ASM_DONE);
+    char *journal = journal_of(&storage);
+    is_legal(journal, 1, 1);
+    const char *named = strstr(journal, "\"reads\":");
+    char wanted[8 * LONGEST];
+    int length = snprintf(wanted, sizeof wanted, "\"reads\":%s}", each("[[\"w\",%d],0]", 256));
+    REQUIRE(named && !strncmp(named, wanted, (size_t)length));
+    free(journal);
+    end_all();
+}
+
+int main(void) {
+    resting_on_nothing();
+    resting_locations();
+    gets_below();
+    clashes_at_the_commit();
+    many_named();
+    many_rested_on();
+    puts("passed");
+    return 0;
+}
