@@ -1,5 +1,5 @@
 -- Finite bags of elements, as finite maps from the elements that are there to their counts.
-use Rattle.std.specs.Prelude.{ℕ, Bool, ◌&&◌, ◌==◌, zero, suc, ◌<◌, ◌^◌, List, All, unwrap_or}
+use Rattle.std.specs.Prelude.{ℕ, Bool, ◌&&◌, ◌==◌, zero, suc, ◌<◌, ◌^◌, nat_lt, if◌then◌else◌, List, All, unwrap_or}
 use Rattle.std.specs.Cmp.Lexicographic.{pointwise}
 use Rattle.std.specs.Ordering.{on, eq_by_cmp}
 use Rattle.std.specs.FinMap as map
@@ -25,6 +25,14 @@ count b e = unwrap_or (map.get b e) 0
 abbrev pub set_count : ElementBag → Element → ℕ → ElementBag
 set_count b e zero = map.remove b e
 set_count b e (suc n) = map.insert b e (suc n)
+
+-- the bag with the element's count brought up to this one, where it is below it
+abbrev pub raised_to : ElementBag → Element → ℕ → ElementBag
+raised_to b e n = if nat_lt (count b e) n then set_count b e n else b
+
+-- the bag with the element's count brought down to this one, where it is above it
+abbrev pub lowered_to : ElementBag → Element → ℕ → ElementBag
+lowered_to b e n = if nat_lt n (count b e) then set_count b e n else b
 
 -- the elements that are there, in ascending order
 abbrev pub elements : ElementBag → List Element

@@ -1,4 +1,5 @@
-ghost use Rattle.std.specs.Prelude.{◌≡◌, ◌↔◌, IsTrue, ◌+◌, ◌-◌, ◌<◌, ◌≤◌, ◌^◌, OnOk, OnErr, IfOk, All};
+ghost use Rattle.std.specs.Prelude.{◌≡◌, ◌↔◌, IsTrue, ◌+◌, ◌-◌, ◌<◌, ◌≤◌, ◌^◌, OnOk, OnErr, IfOk};
+ghost use Rattle.std.specs.Prelude.{All, if◌then◌else◌};
 ghost use Rattle.std.specs.Cmp.{partial_equiv_from_equiv};
 ghost use Rattle.std.specs.List.Sorted.{IsStrictlySortedBy};
 ghost use Rattle.asm_element.specs.Element.{element_cmp, IsProper};
@@ -75,15 +76,109 @@ impl ElemBag {
         ensures { let left = bag.count self.old element.now - n in
             self.new ≡ bag.set_count self.old element.now left }
     {
+        let _taken = self.checked_take(element, n);
+    }
+
+    /// Adds the element `n` times where the new count fits `u32`, and answers whether it does; else the bag is
+    /// unchanged. `n` is at least 1.
+    ///
+    /// A copy of the element is made only where it isn't there. `AllocError` is an allocation failure, and comes
+    /// only there. After it the bag is unchanged.
+    pub fn checked_put(
+        &mut self,
+        alloc: Global,
+        element: &Element,
+        n: u32,
+    ) -> Result<bool, AllocError>
+        requires positive { 1 ≤ n }
+        ensures fits { IfOk result (λ put. IsTrue put ↔ (bag.count self.old element.now + n < 2 ^ 32)) }
+        ensures ok { IfOk result (λ put. self.new ≡ (if put
+            then bag.set_count self.old element.now (bag.count self.old element.now + n) else self.old)) }
+        ensures err { OnErr result (self.new ≡ self.old) }
+        ensures absent { OnErr result (bag.count self.old element.now ≡ 0) }
+    {
+        let Some(count) = self.counts.get_mut(element) else {
+            self.put_first(alloc, element, n)?;
+            return Ok(true);
+        };
+        if n > u32::MAX - *count {
+            return Ok(false);
+        }
+        *count += n;
+        Ok(true)
+    }
+
+    /// Takes the element out `n` times where it is there as often, and answers whether it is; else the bag is
+    /// unchanged. `n` is at least 1.
+    pub fn checked_take(&mut self, element: &Element, n: u32) -> bool
+        requires positive { 1 ≤ n }
+        ensures enough { IsTrue result ↔ (n ≤ bag.count self.old element.now) }
+        ensures new { self.new ≡ (if result
+            then bag.set_count self.old element.now (bag.count self.old element.now - n) else self.old) }
+    {
         // An entry, which would find the place once also where none is left, asks for an element of its own.
+        let Some(count) = self.counts.get_mut(element) else {
+            return false;
+        };
+        if *count < n {
+            return false;
+        }
+        if n < *count {
+            *count -= n;
+            return true;
+        }
+        self.counts.remove(element);
+        true
+    }
+
+    /// Brings the element's count up to `to` where it is below that.
+    ///
+    /// A copy of the element is made only where it isn't there. `AllocError` is an allocation failure, and comes
+    /// only there. After it the bag is unchanged.
+    pub fn raise_to(&mut self, alloc: Global, element: &Element, to: u32) -> Result<(), AllocError>
+        ensures ok { OnOk result (self.new ≡ bag.raised_to self.old element.now to) }
+        ensures err { OnErr result (self.new ≡ self.old) }
+        ensures absent { OnErr result (bag.count self.old element.now ≡ 0) }
+    {
+        let Some(count) = self.counts.get_mut(element) else {
+            if to > 0 {
+                self.put_first(alloc, element, to)?;
+            }
+            return Ok(());
+        };
+        if *count < to {
+            *count = to;
+        }
+        Ok(())
+    }
+
+    /// Brings the element's count down to `to` where it is above that. It takes no memory.
+    pub fn lower_to(&mut self, element: &Element, to: u32)
+        ensures { self.new ≡ bag.lowered_to self.old element.now to }
+    {
         let Some(count) = self.counts.get_mut(element) else {
             return;
         };
-        if n < *count {
-            *count -= n;
+        if *count <= to {
+            return;
+        }
+        if to > 0 {
+            *count = to;
             return;
         }
         self.counts.remove(element);
+    }
+
+    /// Puts an element that isn't there, by a copy.
+    fn put_first(&mut self, alloc: Global, element: &Element, n: u32) -> Result<(), AllocError>
+        requires positive { 1 ≤ n }
+        requires absent { bag.count self.old element.now ≡ 0 }
+        ensures ok { OnOk result (self.new ≡ bag.set_count self.old element.now n) }
+        ensures err { OnErr result (self.new ≡ self.old) }
+    {
+        element.proper();
+        self.counts.insert(element.copy(alloc)?, n)?;
+        Ok(())
     }
 
     /// The elements that are there with their counts, in ascending order; each is one that a program can hold.

@@ -1,4 +1,5 @@
-ghost use Rattle.std.specs.Prelude.{◌≡◌, ◌↔◌, IfOk, IsTrue};
+ghost use Rattle.std.specs.Prelude.{◌≡◌, ◌↔◌, IfOk, IsTrue, unwrap_or};
+ghost use Rattle.std.specs.Option.{option_copied};
 ghost use Rattle.std.specs.Cmp.{partial_equiv_from_equiv};
 ghost use Rattle.asm_element.specs.Value as value;
 ghost use Rattle.asm_element.specs.Same.{value_eq-equiv};
@@ -33,6 +34,17 @@ impl Value {
         ensures { IfOk result (λ copy. copy ≡ self.now) }
     {
         self.clone()
+    }
+
+    /// A copy of the value, and undef where there is none, as a look-up answers it. `AllocError` comes only where
+    /// memory was refused.
+    pub fn copy_or_undef(alloc: Global, found: Option<&Value>) -> Result<Value, AllocError>
+        ensures { IfOk result (λ copy. copy ≡ unwrap_or (option_copied found.entry) value.undef) }
+    {
+        match found {
+            Some(value) => value.copy(alloc),
+            None => Ok(Value::Plain(Element::Undef)),
+        }
     }
 
     /// Does nothing. Its contract tells that the value is one that a program can hold: its elements

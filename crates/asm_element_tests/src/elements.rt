@@ -198,6 +198,81 @@ fn a_bag_holds_no_count_of_zero(rt: HostRuntime) -> Result<(), Fail> {
     Ok(())
 }
 
+/// A call on how often a bag has an element.
+#[derive(Clone, Copy)]
+enum Recount {
+    Put(u32),
+    Take(u32),
+    Raise(u32),
+    Lower(u32),
+}
+
+/// Calls one after the other, whether each was carried out, and how often the element is there then.
+static RECOUNTS: [(Recount, bool, u32); 19] = [
+    (Recount::Take(1), false, 0),
+    (Recount::Lower(0), true, 0),
+    (Recount::Raise(0), true, 0),
+    (Recount::Put(3), true, 3),
+    (Recount::Put(4_294_967_293), false, 3),
+    (Recount::Put(4_294_967_292), true, 4_294_967_295),
+    (Recount::Put(1), false, 4_294_967_295),
+    (Recount::Lower(5), true, 5),
+    (Recount::Lower(6), true, 5),
+    (Recount::Raise(5), true, 5),
+    (Recount::Raise(4), true, 5),
+    (Recount::Raise(7), true, 7),
+    (Recount::Take(8), false, 7),
+    (Recount::Take(2), true, 5),
+    (Recount::Take(5), true, 0),
+    (Recount::Raise(9), true, 9),
+    (Recount::Lower(0), true, 0),
+    (Recount::Put(4_294_967_295), true, 4_294_967_295),
+    (Recount::Take(4_294_967_295), true, 0),
+];
+
+fn is_recounted(
+    alloc: Global,
+    bag: &mut ElemBag,
+    element: &Element,
+    call: Recount,
+) -> Result<bool, AllocError> {
+    match call {
+        Recount::Put(n) if n > 0 => bag.checked_put(alloc, element, n),
+        Recount::Take(n) if n > 0 => Ok(bag.checked_take(element, n)),
+        Recount::Put(_) | Recount::Take(_) => Ok(false),
+        Recount::Raise(to) => {
+            bag.raise_to(alloc, element, to)?;
+            Ok(true)
+        }
+        Recount::Lower(to) => {
+            bag.lower_to(element, to);
+            Ok(true)
+        }
+    }
+}
+
+/// How many of the calls come out right on the bag, which has 0 once beside the element.
+fn right_recounts(alloc: Global, mut bag: ElemBag, element: &Element) -> Result<usize, AllocError> {
+    let mut right: usize = 0;
+    for (call, carried, count) in &RECOUNTS {
+        let is_carried = is_recounted(alloc, &mut bag, element, *call)?;
+        let held = 1 + usize::from(*count > 0);
+        let is_left = has_count(&bag, 0, 1) && bag.iter().count() == held;
+        if is_carried == *carried && bag.count(element) == *count && is_left {
+            right = right.saturating_add(1);
+        }
+    }
+    Ok(right)
+}
+
+#[test]
+fn a_count_is_put_taken_raised_and_lowered(rt: HostRuntime) -> Result<(), Fail> {
+    let alloc = rt.alloc();
+    let element = text(alloc, "e")?;
+    assert!(rt; right_recounts(alloc, bag_below(alloc, 1)?, &element)? == RECOUNTS.len());
+    Ok(())
+}
+
 fn items(alloc: Global, numbers: &[i64]) -> Result<Items<Element>, AllocError> {
     Ok(Items::new(number_elements(alloc, numbers)?))
 }
@@ -276,5 +351,14 @@ fn undef_alone_is_undef(rt: HostRuntime) -> Result<(), Fail> {
     assert!(rt; Value::Plain(Element::Undef).is_undef());
     assert!(rt; !Value::Plain(Element::Bool(false)).is_undef());
     assert!(rt; !Value::Set(ElemSet::new(alloc)).is_undef());
+    Ok(())
+}
+
+#[test]
+fn where_no_value_is_found_the_copy_is_undef(rt: HostRuntime) -> Result<(), Fail> {
+    let alloc = rt.alloc();
+    assert!(rt; Value::copy_or_undef(alloc, None)?.is_undef());
+    let number = Value::Plain(Element::Num(1));
+    assert!(rt; Value::copy_or_undef(alloc, Some(&number))? == number);
     Ok(())
 }
