@@ -1,5 +1,7 @@
 ghost use Rattle.std.specs.Prelude.{◌≡◌, ◌↔◌, IsNone, IsTrue, IsOk, None, OnOk, OnErr, IfOk, IfErr, Err, false};
 ghost use Rattle.std.specs.Option.{option_copied};
+ghost use Rattle.std.specs.BTreeMap.Range.{entries_between};
+ghost use Rattle.std.specs.declared.ops.Bound.TheVariants.{Included, Unbounded};
 ghost use Rattle.std.specs.FinMap as map;
 ghost use Rattle.asm_element.specs.Place.{location_cmp};
 ghost use Rattle.asm_element.specs.Value as held;
@@ -17,7 +19,7 @@ use crate::group::Group;
 use asm_element::{Location, Value};
 use std::alloc::{AllocError, Global};
 use std::collections::BTreeMap;
-use std::collections::btree_map::{IntoIter, Iter};
+use std::collections::btree_map::{IntoIter, Iter, Range};
 use std::iter::IntoIterator;
 use std::marker::Model;
 
@@ -183,6 +185,16 @@ impl PlainState {
         ensures ascending { IsStrictlySortedBy location_cmp (map.keys self.now) }
     {
         self.values.iter()
+    }
+
+    /// The locations from this one on that aren't undef with their values, in ascending order of locations.
+    ///
+    /// It walks no location below the first, so who wants those of one function name, which stand side by side, walks
+    /// these alone.
+    pub fn onward(&self, first: &Location) -> Range<'_, Location, Value>
+        ensures { result ≡ entries_between location_cmp (Included first.now) Unbounded (map.entries self.now) }
+    {
+        self.values.range(first..)
     }
 
     /// The same state, which shares no more with this one than their locations' arguments. `AllocError` comes only where
