@@ -5,6 +5,7 @@ mod ChangedInPlace
 pub mod InPlace
 pub mod Judged
 pub mod LeastFound
+pub mod Onward
 pub mod OpeningState
 pub mod Wanted
 pub mod Overwritten

@@ -102,7 +102,7 @@ impl WrittenValue {
 }
 
 /// Whether the location has the function name.
-fn has_name(name: &str, at: &Location) -> bool
+pub(crate) fn has_name(name: &str, at: &Location) -> bool
     ensures { result ≡ has_name name.now at.now }
 {
     at.name() == name
@@ -161,7 +161,7 @@ impl Entries {
     }
 
     // The entries from this location on.
-    fn onward(&self, first: &Location) -> Range<'_, Location, WrittenValue>
+    pub(crate) fn onward(&self, first: &Location) -> Range<'_, Location, WrittenValue>
         ensures { result ≡ entries_between location_cmp (Included first.now) Unbounded (map.entries self.now) }
     {
         self.tree.range(first..)

@@ -1,12 +1,14 @@
 //! The values of a state without the numbers of their writers.
-ghost use Rattle.std.specs.Prelude.{◌≡◌, IfOk, OnOk, unwrap_or, if◌then◌else◌};
+ghost use Rattle.std.specs.Prelude.{◌≡◌, [], IfOk, OnOk, unwrap_or, if◌then◌else◌};
 ghost use Rattle.std.specs.Option.{option_copied};
 ghost use Rattle.asm_element.specs.Place.{Place};
 ghost use Rattle.asm_element.specs.Value.{undef};
 ghost use Rattle.asm_update.specs.State.{val, write};
 ghost use Rattle.asm_state.specs.Plain.{is_wanted, wanted_value, value_of_name};
+ghost use Rattle.asm_state.specs.Scans.{has_name};
 ghost use Rattle.asm_state.specs.View.{value_at};
 
+use crate::entries::has_name;
 use crate::state::State;
 use asm_element::{Element, Location, Value};
 use asm_update::PlainState;
@@ -18,11 +20,27 @@ fn is_wanted(name: Option<&str>, at: &Location) -> bool
 {
     match name {
         None => true,
-        Some(name) => at.name() == name,
+        Some(name) => has_name(name, at),
     }
 }
 
-// Gives a wanted location a copy of the value, which is undef for `None`.
+// Gives a location a copy of the value, which is undef for `None`.
+fn put_copy(
+    alloc: Global,
+    plain: &mut PlainState,
+    at: &Location,
+    value: Option<&Value>,
+) -> Result<(), AllocError>
+    ensures { OnOk result (plain.new ≡ write plain.old at.now (unwrap_or (option_copied value.entry) undef)) }
+{
+    let value = match value {
+        Some(value) => value.copy(alloc)?,
+        None => Value::Plain(Element::Undef),
+    };
+    plain.set(at.copy(alloc)?, value)
+}
+
+// The same where the location is wanted.
 fn put_wanted(
     alloc: Global,
     plain: &mut PlainState,
@@ -38,11 +56,7 @@ fn put_wanted(
     if !is_wanted(name, at) {
         return Ok(());
     }
-    let value = match value {
-        Some(value) => value.copy(alloc)?,
-        None => Value::Plain(Element::Undef),
-    };
-    plain.set(at.copy(alloc)?, value)
+    put_copy(alloc, plain, at, value)
 }
 
 // The wanted values of the opening state.
@@ -61,7 +75,42 @@ fn opening_values(
     Ok(plain)
 }
 
+// The opening values at the locations with the name of the first one, which has no arguments: it walks these alone.
+fn opening_from(
+    alloc: Global,
+    opening: &PlainState,
+    first: &Location,
+) -> Result<PlainState, AllocError>
+    requires { first.now.args ≡ [] }
+    ensures { IfOk result (λ plain. (l : Place) → val plain l ≡
+        if has_name first.now.name l then val opening.now l else undef) }
+{
+    let mut plain = PlainState::new(alloc);
+    for (at, value) in opening.onward(first) {
+        if !has_name(first.name(), at) {
+            return Ok(plain);
+        }
+        put_copy(alloc, &mut plain, at, Some(value))?;
+    }
+    Ok(plain)
+}
+
 impl State {
+    // The values at the locations with the name of the first one, which has no arguments: it walks these alone.
+    fn from_first(&self, alloc: Global, first: &Location) -> Result<PlainState, AllocError>
+        requires { first.now.args ≡ [] }
+        ensures { IfOk result (λ plain. (l : Place) → val plain l ≡ value_of_name self.now first.now.name l) }
+    {
+        let mut plain = opening_from(alloc, &self.base, first)?;
+        for (at, written) in self.entries.onward(first) {
+            if !has_name(first.name(), at) {
+                return Ok(plain);
+            }
+            put_copy(alloc, &mut plain, at, written.value.as_ref())?;
+        }
+        Ok(plain)
+    }
+
     // The values of the wanted locations.
     fn wanted(&self, alloc: Global, name: Option<&str>) -> Result<PlainState, AllocError>
         ensures { IfOk result (λ plain. (l : Place) → val plain l ≡ wanted_value self.now name.entry l) }
@@ -85,11 +134,17 @@ impl State {
     /// The values at the locations with this function name, as a plain state of their own, in which every
     /// other location is undef.
     ///
-    /// It walks the whole state, and copies the values that it answers. `AllocError` comes only where memory
+    /// It walks the locations of that name alone, what moves wrote undef among them, and copies the values that it
+    /// answers; with a text that is no name of a function it walks the whole state. `AllocError` comes only where memory
     /// was refused.
     pub fn of_name(&self, alloc: Global, name: &str) -> Result<PlainState, AllocError>
         ensures { IfOk result (λ plain. (l : Place) → val plain l ≡ value_of_name self.now name.now l) }
     {
-        self.wanted(alloc, Some(name))
+        let owned = String::from_str(alloc, name)?;
+        match Location::new(owned, Vec::new(alloc)) {
+            Ok(first) => self.from_first(alloc, &first),
+            // No location that a program holds has such a name.
+            Err(_) => self.wanted(alloc, Some(name)),
+        }
     }
 }
