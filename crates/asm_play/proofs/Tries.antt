@@ -264,8 +264,8 @@ module _ {A : Type 0} (meaning : A → Meaning) where
 
       -- another answer keeps what was seen
       answered_adds : (r : Reply) → IsPrefix mid.account.seen new.account.seen →
-          new ≡ record (has_looked mid new.account.seen new.misses) {
-            account = record (has_looked mid new.account.seen new.misses).account {
+          new ≡ record (has_looked mid new.account.seen new.misses new.number) {
+            account = record (has_looked mid new.account.seen new.misses new.number).account {
               receipts = mid.account.receipts ++ receipt_at (length new.account.seen) (call.Fire reads_named M)
                   (answer.Fire r) ∷ [];
             };

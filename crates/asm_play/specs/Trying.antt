@@ -53,7 +53,7 @@ HasRead meaning old new places (Some r) = (places ≢ []) × IsRead meaning old 
 pub record WasBusy {A : Type 0} (old new : AgentAt A) : Type 0 where
   pub begins : IsPrefix old.account.seen new.account.seen
   pub longer : length old.account.seen + offers_limit ≤ length new.account.seen
-  pub agent : new ≡ has_looked old new.account.seen new.misses
+  pub agent : new ≡ has_looked old new.account.seen new.misses new.number
 
 -- the fire of a step was answered by this reply; by none where it was busy
 abbrev pub HasTried : {A : Type 0} → (A → Meaning) → AgentAt A → AgentAt A → List Named → Move → Option Reply → Type 0

@@ -80,7 +80,7 @@ WasBusy from to old new = IsBusy old new (Busy from to) × ((n : ℕ) × MadeOff
 
 -- it has looked on, and nothing else
 abbrev pub HasLooked : AgentAt Standard → AgentAt Standard → Type 0
-HasLooked old new = new ≡ has_looked old new.account.seen new.misses
+HasLooked old new = new ≡ has_looked old new.account.seen new.misses new.number
 
 -- it has seen what it had seen before, and maybe more
 abbrev pub SeesOn : AgentAt Standard → AgentAt Standard → Type 0

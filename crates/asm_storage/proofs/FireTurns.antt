@@ -35,6 +35,16 @@ take_before xs x =
     ap (λ k. take k (xs ++ x ∷ [])) n ∙ take-append-le (length xs) xs (x ∷ []) (omega arith)
     ∙ take_all (length xs) xs (omega arith)
 
+-- a move that fired was judged on all that had been seen
+pub won_judged : {A : Type 0} (s : StorageView A) (mid new : AgentPart) (reads : List Named) (M : Move) (r : Reply) →
+    HasWon s mid new reads M r → judged_on r new.progress.seen ≡ mid.progress.seen
+won_judged {A} s mid new reads M r won =
+    let seen = mid.progress.seen in
+    let entry : Entry = record { agent = mid.id; instrs = M } in
+    let grown : new.progress.seen ≡ seen ++ entry ∷ [] = ap (λ (a : AgentAt A). a.account.seen) won.agent in
+    ap (λ (t : Reply). judged_on t new.progress.seen) won.reply ∙ ap (take (length seen + 1 - 1)) grown
+    ∙ take_before seen entry
+
 module _ {A : Type 0} (meaning : A → Meaning) (old mid : AgentAt A) (reads : List Named) (M : Move) where
   -- a reply that fired nothing was judged on all that was seen, and its receipt is kept
   quiet_as : (r : Reply) (new : AgentAt A) (seen : List Entry) →
@@ -46,7 +56,7 @@ module _ {A : Type 0} (meaning : A → Meaning) (old mid : AgentAt A) (reads : L
   quiet_as reply.Full new seen quiet = (refl, refl)
 
   -- an agent that looked on and then kept the receipt of a reply that fired nothing
-  pub answered_quiet : (new : AgentAt A) (r : Reply) → mid ≡ has_looked old mid.account.seen mid.misses →
+  pub answered_quiet : (new : AgentAt A) (r : Reply) → mid ≡ has_looked old mid.account.seen mid.misses mid.number →
       IsPrefix old.account.seen mid.account.seen → IsReplyOf meaning mid (call.Fire reads M) (answer.Fire r) →
       fired_move (call.Fire reads M) (answer.Fire r) ≡ None →
       new ≡ with_receipt mid (receipt_at (length mid.account.seen) (call.Fire reads M) (answer.Fire r)) →
@@ -65,7 +75,7 @@ module _ {A : Type 0} (meaning : A → Meaning) (old mid : AgentAt A) (reads : L
       })
 
   -- an agent that looked on and then fired
-  pub answered_fired : (new : AgentAt A) → mid ≡ has_looked old mid.account.seen mid.misses →
+  pub answered_fired : (new : AgentAt A) → mid ≡ has_looked old mid.account.seen mid.misses mid.number →
       IsPrefix old.account.seen mid.account.seen →
       IsReplyOf meaning mid (call.Fire reads M) (answer.Fire (reply.Fired (length mid.account.seen + 1))) →
       new ≡ with_fired mid (receipt_at (length mid.account.seen) (call.Fire reads M)
@@ -86,12 +96,12 @@ module _ {A : Type 0} (meaning : A → Meaning) (old mid : AgentAt A) (reads : L
         reply = subst (λ s. replies s grown) (ap (λ (a : AgentAt A). a.storage) looked) there;
         begins = subst (IsPrefix old.account.seen) (sym before) begins;
         agent = ap (λ (a : AgentAt A). with_fired a (receipt n) M) looked
-            ∙ ap (λ k. with_fired (has_looked old mid.account.seen mid.misses) (receipt k) M) number
-            ∙ ap (λ seen. with_fired (has_looked old seen mid.misses) (receipt (n + 1 - 1)) M) (sym before);
+            ∙ ap (λ k. with_fired (has_looked old mid.account.seen mid.misses mid.number) (receipt k) M) number
+            ∙ ap (λ seen. with_fired (has_looked old seen mid.misses mid.number) (receipt (n + 1 - 1)) M) (sym before);
       })
 
   -- what a turn answers after others were lost is an answer of the whole call
-  pub answered_after : (new : AgentAt A) (r : Reply) → mid ≡ has_looked old mid.account.seen mid.misses →
+  pub answered_after : (new : AgentAt A) (r : Reply) → mid ≡ has_looked old mid.account.seen mid.misses mid.number →
       IsPrefix old.account.seen mid.account.seen → IsAnswered meaning mid new reads M r →
       IsAnswered meaning old new reads M r
   answered_after new r looked begins is = record {
@@ -122,8 +132,10 @@ module _ {A : Type 0} (meaning : A → Meaning) (s : StorageView A) (old mid new
   lost_after : IsLost s mid new → IsPartOf meaning s new → LooksOn meaning s old new
   lost_after lost part = record {
     agent = lost.agent ∙ ap (λ (a : AgentAt A). has_seen a new.progress.seen) looks.agent
-        ∙ ap (λ k. has_looked (agent_of s old) new.progress.seen k) (sym (ap (λ (a : AgentAt A). a.misses) lost.agent));
+        ∙ (λ i. has_looked (agent_of s old) new.progress.seen (sym (ap (λ (a : AgentAt A). a.misses) lost.agent) i)
+        (sym (ap (λ (a : AgentAt A). a.number) lost.agent) i));
     seen = IsPrefix-trans old.progress.seen mid.progress.seen new.progress.seen looks.seen lost.seen;
+    onward = omega (arith, looks.onward, ap (λ (a : AgentAt A). a.number) lost.agent);
     part = part;
   }
 

@@ -13,6 +13,7 @@ pub mod MergedReceipts
 pub mod Moves
 pub mod OfferBounds
 pub mod OwnReceipts
+pub mod OwnState
 pub mod PartKept
 pub mod ProperResults
 pub mod Rounds

@@ -1,20 +1,14 @@
 -- What a fire gives, from its reply and how many offers it made: how many looks found nothing, and how many offers a busy
 -- one lost, come of those.
 use Rattle.std.proofs.Common.{◌≡◌, ℕ, ◌+◌, ◌-◌, ◌^◌, ◌<◌, ◌≤◌, Bool, true, false, cond, min, nat_lt, length}
-use Rattle.std.proofs.Common.{◌↔◌, List, Result, Ok, Err, IfOk, IfErr, OnErr, arith, subst}
-use Rattle.std.specs.Prelude.{IsErrOf}
-use mathlib.Core.List.{IsPrefix}
-use Rattle.asm_update.specs.Aggregator.{Meaning}
-use Rattle.asm_update.specs.Move.{Move}
-use Rattle.asm_state.specs.declared.named.Named.{Named}
+use Rattle.std.proofs.Common.{Result, Ok, Err, IfErr, arith, subst}
 use Rattle.asm_storage.specs.declared.call.Reply.{Reply}
 use Rattle.asm_storage.specs.declared.call.Reply.TheVariants as reply
 use Rattle.asm_storage.specs.declared.error.FireError.{FireError}
 use Rattle.asm_storage.specs.declared.error.FireError.TheVariants as fire_error
-use Rattle.asm_storage.specs.Calls.{HasOffered, IsAnswered, IsBusy, IsCoherentReply, IsFire, MadeOffers}
-use Rattle.asm_storage.specs.Limits.{offers_limit, reads_limit}
-use Rattle.asm_storage.specs.Storage.{AgentAt, IsSameAgent, has_looked, last_look}
-use Rattle.asm_storage.proofs.Coherent.{answered_coherent}
+use Rattle.asm_storage.specs.Calls.{HasOffered, IsBusy, MadeOffers}
+use Rattle.asm_storage.specs.Limits.{offers_limit}
+use Rattle.asm_storage.specs.Storage.{AgentAt, last_look}
 
 one_at_most : (b : Bool) → cond b 1 0 ≤ 1
 one_at_most true = omega arith
@@ -50,26 +44,3 @@ module _ {A : Type 0} (old new : AgentAt A) where
       let lost = subst (λ (q : Result Reply FireError). MadeOffers old new q n) is made in
       let told = subst (λ (q : Result Reply FireError). IfErr q (IsBusy old new)) is busy in
       omega (arith, lost.0, lost.1.longer, told.0, told.1)
-
-  pub is_fire : (meaning : A → Meaning) (reads : List Named) (M : Move) (r : Result Reply FireError) (n : ℕ) →
-      IsSameAgent old new → IsPrefix old.account.seen new.account.seen → IfOk r (IsAnswered meaning old new reads M) →
-      OnErr r (new ≡ has_looked old new.account.seen new.misses) → IfErr r (IsBusy old new) →
-      IsErrOf r fire_error.ManyReads ↔ (reads_limit < length reads) → MadeOffers old new r n →
-      IsFire meaning old new reads M r
-  is_fire meaning reads M r n same seen answered refused busy many made = record {
-    same = same;
-    seen = seen;
-    answered = answered;
-    coherent = coherent r answered;
-    refused = refused;
-    busy = busy;
-    many = many;
-    offers = (n, made);
-    missed = fired_missed r n made;
-    few = few_misses r n made;
-    lost = busy_lost r n made busy;
-  } where
-    coherent : (q : Result Reply FireError) → IfOk q (IsAnswered meaning old new reads M) →
-        IfOk q (IsCoherentReply meaning new reads M)
-    coherent (Ok q) is = answered_coherent meaning old new reads M q is
-    coherent (Err e) is = tt

@@ -72,10 +72,22 @@ module _ {A : Type 0} (meaning : A → Meaning) (s : StorageView A) where
   pub looks_then : (old mid new : AgentPart) → LooksOn meaning s old mid → LooksOn meaning s mid new →
       LooksOn meaning s old new
   looks_then old mid new first more = record {
-    agent = more.agent ∙ ap (λ (a : AgentAt A). has_looked a new.progress.seen new.progress.misses) first.agent;
+    agent = more.agent ∙ ap (λ (a : AgentAt A). has_looked a new.progress.seen new.progress.misses new.state.number) first.agent;
     seen = IsPrefix-trans old.progress.seen mid.progress.seen new.progress.seen first.seen more.seen;
+    onward = omega (arith, first.onward, more.onward);
     part = more.part;
   }
+
+  -- an agent that looked on, and whose state then followed more
+  pub followed_then : (old mid new : AgentPart) → LooksOn meaning s old mid → new ≡ record mid { state = new.state } →
+      mid.state.number ≤ new.state.number → IsPartOf meaning s new → LooksOn meaning s old new
+  followed_then old mid new looks kept more part =
+      subst (LooksOn meaning s old) (sym kept) (record {
+        agent = ap (λ (a : AgentAt A). has_looked a mid.progress.seen mid.progress.misses new.state.number) looks.agent;
+        seen = looks.seen;
+        onward = omega (arith, looks.onward, more);
+        part = subst (IsPartOf meaning s) kept part;
+      })
 
   -- more was seen
   pub seen_part : (old : AgentPart) (new : SeatView Entry) → IsPartOf meaning s old →
@@ -97,10 +109,11 @@ module _ {A : Type 0} (meaning : A → Meaning) (s : StorageView A) where
       IsPrefix old.progress.seen new.seen → LooksOn meaning s old (record old { progress = new })
   looks_with old new part row won counted more =
       let account : ℕ → AgentView = λ w. record (account_of old) { seen = new.seen; won = w } in
-      let agent : ℕ → AgentAt A = λ w. record { storage = s; misses = new.misses; account = account w } in
+      let agent : ℕ → AgentAt A = λ w. record { storage = s; misses = new.misses; number = old.state.number; account = account w } in
       record {
         agent = ap agent won;
         seen = more;
+        onward = omega arith;
         part = seen_part old new part row won counted more;
       }
 

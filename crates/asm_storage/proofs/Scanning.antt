@@ -27,14 +27,15 @@ use Rattle.asm_storage.specs.declared.error.FireError.{FireError}
 use Rattle.asm_storage.specs.declared.error.FireError.TheVariants as fire_error
 use Rattle.asm_storage.specs.declared.part.AgentPart.{AgentPart}
 use Rattle.asm_storage.specs.Agents.{moves_seen}
-use Rattle.asm_storage.specs.Calls.{judged_on, IsAnswered, IsBusy, IsCoherentReply, IsFire, IsFireOver, MadeOffers}
+use Rattle.asm_storage.specs.Calls.{judged_on, IsAnswered, IsBusy, IsCoherentReply, IsFire, IsFireOver, MadeOffers, StandsAfter}
 use Rattle.asm_storage.specs.History.{fired_move}
 use Rattle.asm_storage.specs.Limits.{reads_limit}
 use Rattle.asm_storage.specs.Machine.{Machine, fire_reply, reply_to}
-use Rattle.asm_storage.specs.Part.{agent_of, is_plain, is_plain_over, HasWon, IsTurn, IsTurnOver}
+use Rattle.asm_storage.specs.Part.{agent_of, HasWon, IsTurn, IsTurnOver}
+use Rattle.asm_storage.specs.Plain.{is_plain, is_plain_over}
 use Rattle.asm_storage.specs.Scans.{with_found, IsUnwritten, IsOvertaken, IsFound, IsNamedOver, IsKept, RestsOn}
-use Rattle.asm_storage.specs.Storage.{AgentAt, StorageView, IsSameAgent, machine_of, has_looked}
-use Rattle.asm_storage.proofs.FireTurns.{take_before}
+use Rattle.asm_storage.specs.Storage.{AgentAt, FollowsOn, StorageView, IsSameAgent, machine_of, has_looked}
+use Rattle.asm_storage.proofs.FireTurns.{won_judged}
 use Rattle.asm_storage.proofs.Lists.{Each-rest}
 use Rattle.asm_storage.proofs.Coherent.{answered_coherent}
 use Rattle.asm_storage.proofs.OfferBounds.{busy_lost, few_misses, fired_missed}
@@ -190,10 +191,7 @@ module _ {A : Type 0} (meaning : A → Meaning) (s : StorageView A) (old mid new
   turn_offered (Ok (Some r)) none won is =
       let m = machine_of meaning s in
       let seen = mid.progress.seen in
-      let entry : Entry = record { agent = mid.id; instrs = M } in
-      let grown : new.progress.seen ≡ seen ++ entry ∷ [] = ap (λ (a : AgentAt A). a.account.seen) won.agent in
-      let judged : judged_on r new.progress.seen ≡ seen =
-      ap (λ (t : Reply). judged_on t new.progress.seen) won.reply ∙ ap (take (length seen + 1 - 1)) grown ∙ take_before seen entry in
+      let judged : judged_on r new.progress.seen ≡ seen = won_judged s mid new reads M r won in
       (None, is, subst (λ q. RestsOn m (moves_seen q) scans None r) (sym judged) (unfound_rests m (moves_seen seen) scans r none))
   turn_offered (Ok None) none won is = is
   turn_offered (Err e) none won is = tt
@@ -204,16 +202,19 @@ module _ {A : Type 0} (meaning : A → Meaning) (old new : AgentAt A) (reads : L
       IsSameAgent old new → IsPrefix old.account.seen new.account.seen →
       IfOk r (IsAnswered meaning old new (with_found reads found) M) →
       IfOk r (λ t. RestsOn (machine_of meaning new.storage) (moves_seen (judged_on t new.account.seen)) scans found t) →
-      OnErr r (new ≡ has_looked old new.account.seen new.misses) → IfErr r (IsBusy old new) →
+      OnErr r (new ≡ has_looked old new.account.seen new.misses new.number) → IfErr r (IsBusy old new) →
       IsErrOf r fire_error.ManyReads ↔ (reads_limit < length reads + length scans) → MadeOffers old new r n →
+      FollowsOn old new → IfOk r (StandsAfter old new (is_plain_over reads scans M)) →
       IsFireOver meaning old new reads scans M r
-  is_over r found n same seen answered rests refused busy many made = record {
+  is_over r found n same seen answered rested refused busy many made follows stands = record {
     same = same;
     seen = seen;
+    follows = follows;
+    stands = stands;
     found = found;
     answered = answered;
     coherent = coherent r answered;
-    rests = rests;
+    rests = rested;
     many = many;
     refused = refused;
     busy = busy;
@@ -233,6 +234,8 @@ pub no_scans : {A : Type 0} (meaning : A → Meaning) (old new : AgentAt A) (rea
 no_scans meaning old new reads M r over = record {
   same = over.same;
   seen = over.seen;
+  follows = over.follows;
+  stands = over.stands;
   answered = names_none r over.rests over.answered;
   coherent = coherent_none r over.rests over.coherent;
   refused = over.refused;

@@ -1,6 +1,6 @@
 -- The calls of an agent: a reading, an agent after an answered call, and how many offers and looks the call made.
 use Rattle.std.specs.Prelude.{◌≡◌, ◌↔◌, ℕ, zero, suc, ◌+◌, ◌-◌, ◌^◌, ◌≤◌, ◌<◌, min, List, length, take, Option}
-use Rattle.std.specs.Prelude.{Result, Ok, Err, IfOk, IfErr, OnErr, IsErrOf, refl}
+use Rattle.std.specs.Prelude.{Bool, true, false, Result, Ok, Err, IfOk, IfErr, OnErr, IsErrOf, refl}
 use Rattle.std.specs.Coded.{Coded, code_by, coded×, coded_ℕ, coded_list}
 use mathlib.Core.List.{IsPrefix}
 use Rattle.asm_element.specs.Place.{Place}
@@ -26,8 +26,9 @@ use Rattle.asm_storage.specs.Limits.{offers_limit, reads_limit}
 use Rattle.asm_storage.specs.Machine.{reply_to}
 use Rattle.asm_storage.specs.History.{IsCoherentAt}
 use Rattle.asm_storage.specs.Agents.{moves_seen}
+use Rattle.asm_storage.specs.Plain.{is_plain, is_plain_over}
 use Rattle.asm_storage.specs.Scans.{with_found, RestsOn}
-use Rattle.asm_storage.specs.Storage.{AgentAt, IsSameAgent, machine_of, has_looked, with_receipt, with_fired, last_look, Missed}
+use Rattle.asm_storage.specs.Storage.{AgentAt, FollowsOn, IsLevel, IsSameAgent, machine_of, has_looked, with_receipt, with_fired, last_look, Missed}
 
 -- what was read: the number of moves, the locations and their values
 pub record ReadingView : Type 0 where
@@ -52,33 +53,41 @@ receipt_at stood call answer = record { call = call; answer = answer; stood = st
 -- an agent that looked on and then answered: with what it has then seen, and a receipt of the call
 abbrev pub after_answer : {A : Type 0} → AgentAt A → AgentAt A → Call → Answer → AgentAt A
 after_answer old new call answer =
-    with_receipt (has_looked old new.account.seen new.misses) (receipt_at (length new.account.seen) call answer)
+    with_receipt (has_looked old new.account.seen new.misses new.number) (receipt_at (length new.account.seen) call answer)
 
 -- what a fire was judged on: all that the agent has then seen, without the move that it fired
 abbrev pub judged_on : Reply → List Entry → List Entry
 judged_on (reply.Fired k) seen = take (k - 1) seen
 judged_on r seen = seen
 
+-- where the agent's own state stands after a reply: at all that the fire was judged on; or where it stood, as a plain move
+-- is judged without it
+abbrev pub StandsAfter : {A : Type 0} → AgentAt A → AgentAt A → Bool → Reply → Type 0
+StandsAfter old new true r = new.number ≡ old.number
+StandsAfter old new false r = new.number ≡ length (judged_on r new.account.seen)
+
 -- an agent after an answered fire: `Fired` has the move as its last entry and one won offer more
 abbrev pub after_fire : {A : Type 0} → AgentAt A → AgentAt A → List Named → Move → Reply → AgentAt A
 after_fire old new reads M (reply.Fired k) =
-    with_fired (has_looked old (judged_on (reply.Fired k) new.account.seen) new.misses)
+    with_fired (has_looked old (judged_on (reply.Fired k) new.account.seen) new.misses new.number)
     (receipt_at (k - 1) (call.Fire reads M) (answer.Fire (reply.Fired k))) M
 after_fire old new reads M r = after_answer old new (call.Fire reads M) (answer.Fire r)
 
 -- a read was answered so: as the storage of one thread does after what the agent has then seen, which begins with
--- all that it had seen
+-- all that it had seen, and which its own state has then followed
 pub record IsRead {A : Type 0} (meaning : A → Meaning) (old new : AgentAt A) (places : List Place) (r : ReadingView)
     : Type 0 where
   pub reply : read_answer r ≡ reply_to (machine_of meaning old.storage) (moves_seen new.account.seen) (call.Read places)
   pub begins : IsPrefix old.account.seen new.account.seen
   pub locations : r.places ≡ places
   pub agent : new ≡ after_answer old new (call.Read places) (read_answer r)
+  pub level : IsLevel new
 
 -- what an agent's own state has at these locations, which no look is made for: the answer of the storage of one thread
--- after the first moves that the agent has seen, as many as the number says
+-- after the first moves that the agent has seen, as many as the number says, which is that of the state
 pub record IsPeek {A : Type 0} (meaning : A → Meaning) (a : AgentAt A) (places : List Place) (r : ReadingView) : Type 0
   where
+    pub number : r.number ≡ a.number
     pub within : r.number ≤ length a.account.seen
     pub reply : read_answer r ≡
         reply_to (machine_of meaning a.storage) (take r.number (moves_seen a.account.seen)) (call.Read places)
@@ -132,11 +141,14 @@ pub record IsFire {A : Type 0} (meaning : A → Meaning) (old new : AgentAt A) (
   -- the agent stays itself, and what it has seen stays seen
   pub same : IsSameAgent old new
   pub seen : IsPrefix old.account.seen new.account.seen
+  -- its own state stands where it stood or further on, and after a reply just so far
+  pub follows : FollowsOn old new
+  pub stands : IfOk result (StandsAfter old new (is_plain reads M))
   -- a reply is that of the storage of one thread, and what fired finds what it named as it was
   pub answered : IfOk result (IsAnswered meaning old new reads M)
   pub coherent : IfOk result (IsCoherentReply meaning new reads M)
   -- after an error it has looked on, and no more
-  pub refused : OnErr result (new ≡ has_looked old new.account.seen new.misses)
+  pub refused : OnErr result (new ≡ has_looked old new.account.seen new.misses new.number)
   pub busy : IfErr result (IsBusy old new)
   pub many : IsErrOf result fire_error.ManyReads ↔ (reads_limit < length reads)
   -- how many offers it made; the looks that found nothing are one at least before a fired move, counted up to
@@ -151,6 +163,9 @@ pub record IsFireOver {A : Type 0} (meaning : A → Meaning) (old new : AgentAt 
     (scans : List Scanned) (M : Move) (result : Result Reply FireError) : Type 0 where
   pub same : IsSameAgent old new
   pub seen : IsPrefix old.account.seen new.account.seen
+  -- its own state stands where it stood or further on, and after a reply just so far
+  pub follows : FollowsOn old new
+  pub stands : IfOk result (StandsAfter old new (is_plain_over reads scans M))
   -- a reply is that of the storage of one thread to the fire that names what was found too, and rests on the scans
   pub found : Option Named
   pub answered : IfOk result (IsAnswered meaning old new (with_found reads found) M)
@@ -160,7 +175,7 @@ pub record IsFireOver {A : Type 0} (meaning : A → Meaning) (old new : AgentAt 
   -- as many reads and scans together as a fire may have reads
   pub many : IsErrOf result fire_error.ManyReads ↔ (reads_limit < length reads + length scans)
   -- the rest is as of any fire
-  pub refused : OnErr result (new ≡ has_looked old new.account.seen new.misses)
+  pub refused : OnErr result (new ≡ has_looked old new.account.seen new.misses new.number)
   pub busy : IfErr result (IsBusy old new)
   pub offers : (n : ℕ) × MadeOffers old new result n
   pub missed : (k : ℕ) → result ≡ Ok (reply.Fired k) → min (old.misses + 1) (2 ^ 64 - 1) ≤ new.misses

@@ -5,6 +5,7 @@ pub mod Limits
 pub mod Machine
 pub mod Offering
 pub mod Part
+pub mod Plain
 pub mod Proper
 pub mod ReceiptOrder
 pub mod Scans

@@ -1,11 +1,11 @@
 -- The part of an agent that is no borrow: what is true of it beside its storage, and what its calls do.
 use Rattle.std.specs.Prelude.{◌≡◌, ℕ, ◌+◌, ◌-◌, ◌^◌, ◌<◌, ◌≤◌, List, length, take, Option, Some, None, Result, Ok, Err}
-use Rattle.std.specs.Prelude.{[], ◌∷◌, Bool, false, ◌&&◌, nat_le, IsOk, IsTrue}
+use Rattle.std.specs.Prelude.{Bool, false, IsOk, IsTrue}
 use Rattle.std.specs.declared.alloc.AllocError.{AllocError}
 use mathlib.Core.List.{IsPrefix}
 use Rattle.asm_update.specs.Aggregator.{Meaning}
 use Rattle.asm_update.specs.Fire.{Part, fire, state_of}
-use Rattle.asm_update.specs.Move.{Move, all_regular}
+use Rattle.asm_update.specs.Move.{Move}
 use Rattle.asm_update.specs.State.{State}
 use Rattle.asm_state.specs.Stands.{Stands}
 use Rattle.asm_state.specs.Verdict.{least_stale}
@@ -18,7 +18,7 @@ use Rattle.asm_storage.specs.declared.call.Reply.{Reply}
 use Rattle.asm_storage.specs.declared.call.Reply.TheVariants as reply
 use Rattle.asm_storage.specs.declared.part.AgentPart.{AgentPart}
 use Rattle.asm_storage.specs.declared.entry.Entry.{Entry}
-use Rattle.asm_storage.specs.Limits.{agents_limit, most_plain}
+use Rattle.asm_storage.specs.Limits.{agents_limit}
 use Rattle.asm_storage.specs.Machine.{Machine, reply_to}
 use Rattle.asm_storage.specs.History.{fired_move}
 use Rattle.asm_storage.specs.Agents.{AgentView, IsAgent, moves_seen}
@@ -32,7 +32,7 @@ account_of p = record { id = p.id; seen = p.progress.seen; won = p.progress.won;
 
 -- the same, at its storage
 abbrev pub agent_of : {A : Type 0} → StorageView A → AgentPart → AgentAt A
-agent_of s p = record { storage = s; misses = p.progress.misses; account = account_of p }
+agent_of s p = record { storage = s; misses = p.progress.misses; number = p.state.number; account = account_of p }
 
 -- the state stands for the first moves that were seen
 pub record IsFollowing (m : Machine) (seen : List Entry) (s : StateView) : Type 0 where
@@ -47,10 +47,12 @@ pub record IsPartOf {A : Type 0} (meaning : A → Meaning) (s : StorageView A) (
   pub agent : IsAgent (machine_of meaning s) (account_of p)
   pub following : IsFollowing (machine_of meaning s) p.progress.seen p.state
 
--- the agent has looked on: it has seen more, or counted misses, and nothing else of it has changed
+-- the agent has looked on: it has seen more, or counted misses, its state may have followed more, and nothing else of it
+-- has changed
 pub record LooksOn {A : Type 0} (meaning : A → Meaning) (s : StorageView A) (old new : AgentPart) : Type 0 where
-  pub agent : agent_of s new ≡ has_looked (agent_of s old) new.progress.seen new.progress.misses
+  pub agent : agent_of s new ≡ has_looked (agent_of s old) new.progress.seen new.progress.misses new.state.number
   pub seen : IsPrefix old.progress.seen new.progress.seen
+  pub onward : old.state.number ≤ new.state.number
   pub part : IsPartOf meaning s new
 
 -- an offer was lost: one entry more was seen, which is another's
@@ -65,16 +67,6 @@ pub record HasWon {A : Type 0} (s : StorageView A) (old new : AgentPart) (reads 
   pub reply : r ≡ reply.Fired (length old.progress.seen + 1)
   pub agent : agent_of s new ≡ with_fired (agent_of s old)
       (receipt_at (length old.progress.seen) (call.Fire reads M) (answer.Fire r)) M
-
--- whether a move is judged alike on every state: it has no named read, no partial update and few instructions
-abbrev pub is_plain : List Named → Move → Bool
-is_plain [] M = nat_le (length M) most_plain && all_regular M
-is_plain (r ∷ rs) M = false
-
--- whether it is so of one that rests on scans: on none
-abbrev pub is_plain_over : List Named → List Scanned → Move → Bool
-is_plain_over reads [] M = is_plain reads M
-is_plain_over reads (s ∷ ss) M = false
 
 -- the reply to a fire after these moves, where it fires nothing; with None it is to fire
 abbrev pub IsReplyAt : Part → State → List Move → Bool → List Named → Move → Option Reply → Type 0

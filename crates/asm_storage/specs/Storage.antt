@@ -1,5 +1,5 @@
 -- What contracts see of a storage, and of an agent with its storage.
-use Rattle.std.specs.Prelude.{◌≡◌, ℕ, ◌+◌, ◌-◌, ◌^◌, min, List, [], ◌∷◌, ◌++◌, length, map, nat_lt, refl, if◌then◌else◌}
+use Rattle.std.specs.Prelude.{◌≡◌, ℕ, ◌+◌, ◌-◌, ◌^◌, ◌≤◌, min, List, [], ◌∷◌, ◌++◌, length, map, nat_lt, refl, if◌then◌else◌}
 use Rattle.std.specs.Coded.{Coded, code_by, coded×, coded_ℕ, coded_list}
 use Rattle.asm_update.specs.Aggregator.{Meaning}
 use Rattle.asm_update.specs.Move.{Move}
@@ -23,10 +23,12 @@ pub record StorageView (A : Type 0) : Type 0 where
 abbrev pub machine_of : {A : Type 0} → (A → Meaning) → StorageView A → Machine
 machine_of meaning s = record { part = (meaning s.agg).part; init = s.init; capacity = length s.row }
 
--- an agent, the storage that it works on, and how many of its looks found an empty cell
+-- an agent, the storage that it works on, how many of its looks found an empty cell, and the number at which its own
+-- state stands: how many of the moves that it has seen that state has followed
 pub record AgentAt (A : Type 0) : Type 0 where
   pub storage : StorageView A
   pub misses : ℕ
+  pub number : ℕ
   pub account : AgentView
 
 -- it is stored as a tuple
@@ -38,8 +40,9 @@ storage_code {A} a s =
 -- it is stored as a tuple
 abbrev pub agent_code : {A : Type 0} → Coded (StorageView A) → Coded AgentView → Coded (AgentAt A)
 agent_code {A} s a =
-    code_by (StorageView A × (ℕ × AgentView)) (coded× s (coded× coded_ℕ a)) (λ v. (v.storage, (v.misses, v.account)))
-    (λ p. record { storage = p.0; misses = p.1.0; account = p.1.1 }) (λ _. refl)
+    code_by (StorageView A × (ℕ × (ℕ × AgentView))) (coded× s (coded× coded_ℕ (coded× coded_ℕ a)))
+    (λ v. (v.storage, (v.misses, (v.number, v.account))))
+    (λ p. record { storage = p.0; misses = p.1.0; number = p.1.1.0; account = p.1.1.1 }) (λ _. refl)
 
 -- the agents without their storage
 abbrev pub accounts : {A : Type 0} → List (AgentAt A) → List AgentView
@@ -61,15 +64,25 @@ IsMissing agents Memory = Unit {0}
 
 -- an agent of the storage that has made no call
 abbrev pub at_start : {A : Type 0} → StorageView A → ℕ → AgentAt A
-at_start s id = record { storage = s; misses = 0; account = record { id = id; seen = []; won = 0; receipts = [] } }
+at_start s id =
+    record { storage = s; misses = 0; number = 0; account = record { id = id; seen = []; won = 0; receipts = [] } }
 
 -- the agent when it has seen this
 abbrev pub has_seen : {A : Type 0} → AgentAt A → List Entry → AgentAt A
 has_seen a seen = record a { account = record a.account { seen = seen } }
 
--- the agent when it has seen this, after looks
-abbrev pub has_looked : {A : Type 0} → AgentAt A → List Entry → ℕ → AgentAt A
-has_looked a seen misses = record a { misses = misses; account = record a.account { seen = seen } }
+-- the agent when it has seen this, after looks, and its state stands at this number
+abbrev pub has_looked : {A : Type 0} → AgentAt A → List Entry → ℕ → ℕ → AgentAt A
+has_looked a seen misses number = record a { misses = misses; number = number; account = record a.account { seen = seen } }
+
+-- its own state has followed all that it has seen
+abbrev pub IsLevel : {A : Type 0} → AgentAt A → Type 0
+IsLevel a = a.number ≡ length a.account.seen
+
+-- its own state didn't go back, and has followed no more than was seen
+pub record FollowsOn {A : Type 0} (old new : AgentAt A) : Type 0 where
+  pub onward : old.number ≤ new.number
+  pub within : new.number ≤ length new.account.seen
 
 -- the agent when it has one receipt more
 abbrev pub with_receipt : {A : Type 0} → AgentAt A → Receipt → AgentAt A

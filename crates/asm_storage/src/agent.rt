@@ -1,11 +1,12 @@
-ghost use Rattle.std.specs.Prelude.{filter, ◌≡◌, ◌↔◌, ◌<◌, ℕ, length, max, IfOk, IfErr, OnErr, IsOk, IsErrOf};
+ghost use Rattle.std.specs.Prelude.{filter, ◌≡◌, ◌↔◌, ◌<◌, ℕ, length, max, IfOk, IfErr, OnOk, OnErr, IsOk, IsErrOf};
 ghost use mathlib.Core.List.{IsPrefix};
 ghost use Rattle.asm_storage.specs.declared.error.ReadError.TheVariants.{ManyLocations};
 ghost use Rattle.asm_storage.specs.Agents.{IsAgent, is_fired};
 ghost use Rattle.asm_storage.specs.Calls.{HasLookedFor, IsFire, IsFireOver, IsPeek, IsRead, IsStaleRead, MadeOffers, Ran};
 ghost use Rattle.asm_storage.specs.Limits.{agents_limit, reads_limit};
 ghost use Rattle.asm_storage.specs.Part.{agent_of, IsFollowing, IsPartOf};
-ghost use Rattle.asm_storage.specs.Storage.{machine_of, has_seen, has_looked, last_look, IsSameAgent, Missed};
+ghost use Rattle.asm_storage.specs.Storage.{machine_of, has_seen, has_looked, last_look};
+ghost use Rattle.asm_storage.specs.Storage.{FollowsOn, IsLevel, IsSameAgent, Missed};
 
 use crate::call::Reply;
 use crate::entry::Entry;
@@ -29,8 +30,8 @@ pub type Mark = asm_row::Mark<Entry>;
 /// receipt of each of its answered calls.
 ///
 /// Contracts see its storage, its number, the entries of the row that it has seen, how many of its offers
-/// won, how many of its looks found an empty cell, and its receipts. Each answer is the one that a storage of
-/// one thread gives after the moves that the agent has then seen. It may be moved into any thread. No call
+/// won, how many of its looks found an empty cell, at which number its own state stands, and its receipts. Each answer
+/// is the one that a storage of one thread gives after the moves that the agent has then seen. It may be moved into any thread. No call
 /// waits, and each returns: it follows at most as many entries as the capacity. `try_fire_with` returns if
 /// the calls of its closure do.
 #[derive(Drop)]
@@ -145,15 +146,16 @@ impl<'s, A: Aggregator + Sync + Drop> Agent<'s, A> {
     /// Looks at the row until it finds nothing more, and has its state follow what it found, without a receipt;
     /// answers how many moves it has then seen.
     ///
-    /// `AllocError` comes only where memory was refused; it may then have seen more. Between this call and the
-    /// next that looks or fires, `state` and `peek` stand at this number. What contracts see of an agent leaves out
-    /// where its state stands, so that is proved of its part alone, and tested.
+    /// Until the next call that looks, `state` and `peek` stand at this number. `AllocError` comes only where memory was
+    /// refused; it may then have seen more, and its state may lag behind.
     pub fn follow(&mut self, alloc: Global) -> Result<u32, AllocError>
         ensures same { IsSameAgent self.old self.new }
         ensures number { IfOk result (λ n. n ≡ length self.new.account.seen) }
+        ensures stands { IfOk result (λ n. n ≡ self.new.number) }
+        ensures follows { FollowsOn self.old self.new }
         ensures looked { Missed self.old (last_look self.new) self.new }
         ensures seen { IsPrefix self.old.account.seen self.new.account.seen }
-        ensures kept { self.new ≡ has_looked self.old self.new.account.seen self.new.misses }
+        ensures kept { self.new ≡ has_looked self.old self.new.account.seen self.new.misses self.new.number }
     {
         let storage = self.storage;
         self.part.follow(alloc, storage)
@@ -165,7 +167,8 @@ impl<'s, A: Aggregator + Sync + Drop> Agent<'s, A> {
     /// fire that rests on a value names its location with that number. The state lags behind what was seen
     /// after a fire, a `learn` or refused memory, until the next `follow`.
     pub fn state(&self) -> &State
-        ensures { IsFollowing (machine_of A.meaning self.now.storage) self.now.account.seen result.now }
+        ensures following { IsFollowing (machine_of A.meaning self.now.storage) self.now.account.seen result.now }
+        ensures number { result.now.number ≡ self.now.number }
     {
         &self.part.state
     }
@@ -173,8 +176,7 @@ impl<'s, A: Aggregator + Sync + Drop> Agent<'s, A> {
     /// The values of the locations in its own state, with the number of moves at which it stands, without a look
     /// and without a receipt.
     ///
-    /// `AllocError` comes only where memory was refused. What contracts see of an agent leaves out where its state
-    /// stands, so that the number is that of `state` is proved of its part alone, and tested.
+    /// `AllocError` comes only where memory was refused.
     pub fn peek(&self, alloc: Global, places: &[Location]) -> Result<Reading, AllocError>
         ensures { IfOk result (IsPeek A.meaning self.now places.now) }
     {
@@ -194,14 +196,16 @@ impl<'s, A: Aggregator + Sync + Drop> Agent<'s, A> {
         ensures stale { IfOk result (IsStaleRead A.meaning self.new named.now) }
         ensures looked { IfOk result (λ found. Missed self.old (last_look self.new) self.new) }
         ensures seen { IsPrefix self.old.account.seen self.new.account.seen }
-        ensures kept { self.new ≡ has_looked self.old self.new.account.seen self.new.misses }
+        ensures kept { self.new ≡ has_looked self.old self.new.account.seen self.new.misses self.new.number }
+        ensures level { OnOk result (IsLevel self.new) }
+        ensures follows { FollowsOn self.old self.new }
         ensures unread { IfErr result (HasLookedFor self.old self.new) }
         ensures many { IsErrOf result ManyLocations ↔ (reads_limit < length named.now) }
     {
+        let storage = self.storage;
         if named.len() > READS_LIMIT {
             return Err(ReadError::ManyLocations);
         }
-        let storage = self.storage;
         self.part.follow_row(alloc, storage)?;
         let stale = self.part.stale_read(alloc, storage, named)?;
         Ok(stale)
@@ -219,14 +223,15 @@ impl<'s, A: Aggregator + Sync + Drop> Agent<'s, A> {
         ensures answered { IfOk result (IsRead A.meaning self.old self.new places.now) }
         ensures looked { IfOk result (λ r. Missed self.old (last_look self.new) self.new) }
         ensures seen { IsPrefix self.old.account.seen self.new.account.seen }
-        ensures refused { OnErr result (self.new ≡ has_looked self.old self.new.account.seen self.new.misses) }
+        ensures refused { OnErr result (self.new ≡ has_looked self.old self.new.account.seen self.new.misses self.new.number) }
+        ensures follows { FollowsOn self.old self.new }
         ensures unread { IfErr result (HasLookedFor self.old self.new) }
         ensures many { IsErrOf result ManyLocations ↔ (reads_limit < length places.now) }
     {
+        let storage = self.storage;
         if places.len() > READS_LIMIT {
             return Err(ReadError::ManyLocations);
         }
-        let storage = self.storage;
         self.part.follow_row(alloc, storage)?;
         let reading = self.part.take_reading(alloc, storage, places)?;
         self.part.keep_reading(alloc, storage, &reading)?;
@@ -269,10 +274,10 @@ impl<'s, A: Aggregator + Sync + Drop> Agent<'s, A> {
         ensures offers { (n : ℕ) × MadeOffers self.old self.new result n ×
             Ran (λ f g. F.step f tt g) between.old n between.new }
     {
+        let storage = self.storage;
         if reads.len() > READS_LIMIT || scans.len() > READS_LIMIT - reads.len() {
             return Err(FireError::ManyReads);
         }
-        let storage = self.storage;
         match copied_named(alloc, reads) {
             Ok(named) => self
                 .part

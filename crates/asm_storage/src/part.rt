@@ -1,4 +1,4 @@
-ghost use Rattle.std.specs.Prelude.{◌≡◌, ◌<◌, length, max, IfOk, OnOk};
+ghost use Rattle.std.specs.Prelude.{◌≡◌, ◌<◌, ◌≤◌, length, max, IfOk, OnOk};
 ghost use mathlib.Core.List.{IsPrefix};
 ghost use Rattle.asm_storage.specs.Storage.{at_start, has_seen, last_look, Missed};
 ghost use Rattle.asm_storage.specs.Limits.{agents_limit};
@@ -74,6 +74,7 @@ impl AgentPart {
         ensures looks { LooksOn A.meaning storage.now self.old self.new }
         ensures missed { Missed (agent_of storage.now self.old) (last_look (agent_of storage.now self.new))
             (agent_of storage.now self.new) }
+        ensures state { self.new.state ≡ self.old.state }
     {
         while storage.finds_next(&mut self.progress) {}
     }
@@ -87,6 +88,7 @@ impl AgentPart {
         requires { IsPartOf A.meaning storage.now self.old }
         ensures part { IsPartOf A.meaning storage.now self.new }
         ensures kept { self.new ≡ record self.old { state = self.new.state } }
+        ensures onward { self.old.state.number ≤ self.new.state.number }
         ensures level { OnOk result (self.new.state.number ≡ length self.new.progress.seen) }
     {
         while self.state.number() < self.progress.seen_len() {

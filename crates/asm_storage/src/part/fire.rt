@@ -1,4 +1,4 @@
-ghost use Rattle.std.specs.Prelude.{◌≡◌, ◌+◌, ◌<◌, ◌≤◌, ℕ, length, IfOk, OnOk, OnErr, Some, None, Ok, IsSome, false};
+ghost use Rattle.std.specs.Prelude.{◌≡◌, ◌+◌, ◌<◌, ◌≤◌, ℕ, length, IfOk, OnOk, OnErr, Some, None, Ok, IsSome, true, false};
 ghost use Rattle.std.specs.Prelude.{IfSome, IfNone};
 ghost use mathlib.Core.List.{IsPrefix};
 ghost use Rattle.asm_storage.specs.declared.call.Answer.TheVariants as answer;
@@ -8,8 +8,9 @@ ghost use Rattle.asm_storage.specs.History.{fired_move};
 ghost use Rattle.asm_storage.specs.Storage.{machine_of, with_fired, with_receipt, last_look, IsReplyOf, Missed};
 ghost use Rattle.asm_storage.specs.Limits.{reads_limit};
 ghost use Rattle.asm_storage.specs.Offering.{IsOffering, IsSameOffering};
-ghost use Rattle.asm_storage.specs.Calls.{receipt_at, HasOffered, IsFireOver, MadeOffers, Ran};
-ghost use Rattle.asm_storage.specs.Part.{agent_of, is_plain, is_plain_over, offers_in, misses_in};
+ghost use Rattle.asm_storage.specs.Calls.{receipt_at, HasOffered, IsFireOver, MadeOffers, Ran, StandsAfter};
+ghost use Rattle.asm_storage.specs.Plain.{is_plain, is_plain_over};
+ghost use Rattle.asm_storage.specs.Part.{agent_of, offers_in, misses_in};
 ghost use Rattle.asm_storage.specs.Part.{HasWon, IsJudged, IsLost, IsPartOf, IsTurnOver, LooksOn};
 
 use crate::call::{Answer, Call, Reply, fire_call};
@@ -42,6 +43,8 @@ impl AgentPart {
             (agent_of storage.now self.new) }
         ensures level { OnOk result (is_plain_over reads.now scans.now instrs.now ≡ false →
             self.new.state.number ≡ length self.new.progress.seen) }
+        ensures unmoved { is_plain_over reads.now scans.now instrs.now ≡ true →
+            self.new.state.number ≡ self.old.state.number }
     {
         if is_plain_over(reads, scans, instrs) {
             self.look(storage);
@@ -245,6 +248,11 @@ impl AgentPart {
         // It was answered, or an offer was lost, and what that offered is kept.
         ensures turn { IfOk result (
             IsTurnOver A.meaning storage.now self.old self.new reads.now scans.now instrs.now) }
+        ensures stands { IfOk result (λ o. IfSome o (StandsAfter (agent_of storage.now self.old)
+            (agent_of storage.now self.new) (is_plain_over reads.now scans.now instrs.now))) }
+        ensures unmoved { is_plain_over reads.now scans.now instrs.now ≡ true →
+            self.new.state.number ≡ self.old.state.number }
+        ensures onward { self.old.state.number ≤ self.new.state.number }
         ensures pending { IfSome pending.new (IsOffering self.old.id reads.now instrs.now) }
 
         // Offers and misses are counted, and the closure was called as often as offers were made.

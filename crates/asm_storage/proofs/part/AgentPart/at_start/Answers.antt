@@ -1,4 +1,4 @@
-use Rattle.std.proofs.Common.{[], ap, arith, sym, ◌∙◌, subst}
+use Rattle.std.proofs.Common.{◌≡◌, [], ap, arith, sym, ◌∙◌, subst}
 use Rattle.asm_row.specs.Seat.{SeatView}
 use Rattle.asm_state.specs.Stands.{Stands}
 use Rattle.asm_storage.specs.declared.entry.Entry.{Entry}
@@ -7,6 +7,18 @@ use Rattle.asm_storage.specs.Storage.{machine_of}
 use Rattle.asm_storage.proofs.PartKept.{fresh_agent, fresh_following}
 use Rattle.asm_storage.proofs.AgentKept.{same_agent}
 use Rattle.asm_storage.proofs.part.AgentPart.at_start.Goals as goal
+
+pub returns-clause-agent : goal.returns-clause-agent
+returns-clause-agent g c =
+    let m = machine_of g.A.Aggregator.meaning c.args.storage.now in
+    let fresh = c.progress-progress.ensures in
+    let number : c.in_ok-state.state.number ≡ 0 = (c.in_ok-state.ensures m.part).number in
+    λ i. record {
+      storage = c.args.storage.now;
+      misses = (fresh i).misses;
+      number = number i;
+      account = record { id = c.args.id; seen = (fresh i).seen; won = (fresh i).won; receipts = c.new.ensures.items i };
+    }
 
 pub returns-clause-part : goal.returns-clause-part
 returns-clause-part g c =

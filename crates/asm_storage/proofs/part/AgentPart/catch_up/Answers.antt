@@ -1,4 +1,4 @@
-use Rattle.std.proofs.Common.{◌≡◌, List, [], ◌∷◌, ◌++◌, Some, slice_get, ap, subst}
+use Rattle.std.proofs.Common.{◌≡◌, List, [], ◌∷◌, ◌++◌, Some, slice_get, arith, ap, subst}
 use Rattle.asm_update.specs.Move.{Move}
 use Rattle.asm_update.specs.State.{State}
 use Rattle.asm_state.specs.Stands.{Stands}
@@ -28,4 +28,5 @@ loop-alloc-preserved g c =
             part.following here c.in_ok-follow.ensures.number next;
       };
       kept = ap (λ (old : AgentPart). record old { state = c.follow.new.self }) c.loop-alloc.invariant.kept;
+      onward = omega (arith, c.loop-alloc.invariant.onward, c.in_ok-follow.ensures.number);
     }

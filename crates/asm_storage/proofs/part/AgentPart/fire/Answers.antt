@@ -1,11 +1,13 @@
-use Rattle.std.proofs.Common.{◌+◌, Err, Ok, Option, None, Some, arith, refl, ap, sym, ◌∙◌, subst}
+use Rattle.std.proofs.Common.{◌+◌, Err, Ok, IfSome, Option, None, Some, arith, refl, ap, sym, ◌∙◌, subst}
 use Rattle.std.proofs.lemmas.Result.{err_from_is_err_and}
 use Rattle.asm_storage.specs.declared.call.Reply.{Reply}
 use Rattle.asm_storage.specs.declared.error.FireError.TheVariants as fire_error
-use Rattle.asm_storage.specs.Calls.{HasOffered, IsFireOver, MadeOffers, Ran}
+use Rattle.asm_storage.specs.Calls.{HasOffered, IsFireOver, MadeOffers, Ran, StandsAfter}
 use Rattle.asm_storage.specs.Part.{agent_of, IsTurnOver, offers_in, misses_in}
+use Rattle.asm_storage.specs.Plain.{is_plain_over}
 use Rattle.asm_storage.specs.Scans.{with_found}
 use Rattle.asm_row.proofs.Prefixes.{IsPrefix-trans}
+use Rattle.asm_storage.proofs.OwnState.{looked_follows, stands_later}
 use Rattle.asm_storage.proofs.PartKept.{looks_then}
 use Rattle.asm_storage.proofs.FireTurns.{answered_after, offered_then, offers_answered, offers_refused, looked_id, ran_then, same_offering}
 use Rattle.asm_storage.proofs.Scanning.{is_over}
@@ -65,6 +67,7 @@ loop-lost-preserved g c =
       callable = c.turn.ensures.callable;
       pending = same_offering mid.id old.id c.args.reads.now c.args.instrs.now c.turn.new.pending same c.turn.ensures.pending;
       looks = looks_then meaning s old mid new before.looks is;
+      unmoved = λ plain. c.turn.ensures.unmoved plain ∙ before.unmoved plain;
       counted = offered_then (agent_of s old) (agent_of s mid) (agent_of s new) lost before.counted 1 1 counted;
       calls = ran_then _ c.args.between.now c.loop-lost.between c.turn.new.between lost 1 before.calls
           (subst (λ (o : Option Reply). Ran (λ p q. goal.F-step g p tt q) c.loop-lost.between (offers_in (Ok o)) c.turn.new.between) c.in-None.is
@@ -93,7 +96,8 @@ returns-in_err-reply-clause-fire g c =
     (is_over meaning (agent_of s old) (agent_of s new) c.args.reads.now c.args.scans.now c.args.instrs.now _ None offers.0
     (record { storage = refl; id = looked_id meaning s old new is }) is.seen tt tt is.agent tt
     (λ e. absurd cc, λ lt. absurd (omega (arith, lt, c.requires.few)))
-    (subst (λ r. MadeOffers (agent_of s old) (agent_of s new) r offers.0) refused offers.1))
+    (subst (λ r. MadeOffers (agent_of s old) (agent_of s new) r offers.0) refused offers.1)
+    (looked_follows meaning s old new is) tt)
 
 pub returns-in-Some-clause-fire : goal.returns-in-Some-clause-fire
 returns-in-Some-clause-fire g c =
@@ -113,6 +117,11 @@ returns-in-Some-clause-fire g c =
     (answered_after meaning (agent_of s old) (agent_of s mid) (with_found c.args.reads.now found) c.args.instrs.now (agent_of s new)
     c.in-Some.reply looks.agent looks.seen answered) rests
     tt tt (λ e. absurd cc, λ lt. absurd (omega (arith, lt, c.requires.few))) offers.1
+    (record { onward = omega (arith, looks.onward, c.turn.ensures.onward); within = c.turn.ensures.part.following.within })
+    (stands_later (agent_of s old) (agent_of s mid) (agent_of s new)
+    (is_plain_over c.args.reads.now c.args.scans.now c.args.instrs.now) c.in-Some.reply c.loop-lost.invariant.unmoved
+    (subst (λ (o : Option Reply). IfSome o (StandsAfter (agent_of s mid) (agent_of s new)
+    (is_plain_over c.args.reads.now c.args.scans.now c.args.instrs.now))) c.in-Some.is c.in_ok-reply.ensures.stands))
 
 -- all offers were lost
 pub returns-clause-fire : goal.returns-clause-fire
@@ -129,3 +138,4 @@ returns-clause-fire g c =
     (c.seen_len-from.ensures.value, c.seen_len.ensures.value)
     (λ e. absurd cc, λ lt. absurd (omega (arith, lt, c.requires.few)))
     (omega (arith, c.loop-lost-test.false, c.loop-lost.auto.lost-end), before.counted)
+    (looked_follows meaning s old new looks) tt

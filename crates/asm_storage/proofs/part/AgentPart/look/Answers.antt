@@ -16,4 +16,5 @@ loop-preserved g c =
       looks = looks_then meaning s c.args.self.now mid _ before.looks
           (found_next meaning s mid c.finds_next.new.progress found.0 before.looks.part found.1);
       misses = ap (λ (p : SeatView Entry). p.misses) found.1 ∙ before.misses;
+      state = before.state;
     }

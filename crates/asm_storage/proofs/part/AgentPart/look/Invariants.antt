@@ -7,6 +7,7 @@ abbrev pub invariant-loop : goal.invariant-loop
 invariant-loop g l = record {
   looks : LooksOn g.A.Aggregator.meaning l.storage l.initial.self l.self;
   misses : l.self.progress.misses ≡ l.initial.self.progress.misses;
+  state : l.self.state ≡ l.initial.self.state;
 }
 
 abbrev pub decreases-loop : goal.decreases-loop

@@ -10,7 +10,7 @@ use Rattle.asm_update.proofs.PlainLemmas.{plain_fires, plain_clashes}
 use Rattle.asm_state.specs.Verdict.{least_stale}
 use Rattle.asm_state.specs.declared.named.Named.{Named}
 use Rattle.asm_storage.specs.Limits.{most_plain}
-use Rattle.asm_storage.specs.Part.{is_plain}
+use Rattle.asm_storage.specs.Plain.{is_plain}
 use Rattle.asm_storage.proofs.Judging.{full_or_none}
 use Rattle.asm_storage.proofs.part.judging.judged_plain.Goals as goal
 
