@@ -1,26 +1,17 @@
 -- The walks along the entries find the least location of a name that was written above a number.
-use Rattle.std.proofs.Common.{◌≡◌, ℕ, Bool, true, false, cond, ◌&&◌, ◌||◌, ◌==◌, not, nat_eq, nat_lt, is_some, T, List, [], ◌∷◌, length, Option, Some, None, Result, Ok, Err, IfOk, refl, sym, ap, ◌∙◌, subst, arith}
+use Rattle.std.proofs.Common.{◌≡◌, ℕ, Bool, true, false, cond, ◌&&◌, not, nat_lt, is_some, T, List, [], ◌∷◌, Option, Some, None, Result, Ok, Err, IfOk, refl, sym, ap, ◌∙◌, arith}
 use Rattle.std.proofs.lemmas.Bool.{false≢true}
 use Rattle.std.proofs.lemmas.Bool.Decides.{nat_tests}
-use Rattle.std.proofs.lemmas.Cmp.{tied_itself}
 use Rattle.std.specs.Borrow.{Bor}
 use Rattle.std.specs.Option.{option_copied}
-use Rattle.std.specs.BTreeMap.Range.{entries_between, range_contains}
-use Rattle.std.specs.Cmp.{unsigned_Decides}
-use Rattle.std.specs.Cmp.Lexicographic.{slice_cmp, nat_list_cmp_total}
+use Rattle.std.specs.BTreeMap.Range.{entries_between}
 use Rattle.std.specs.FinMap as finite
-use Rattle.std.specs.FinMap.{nat_cmp-IsAntisymmetric, slice_cmp-IsAntisymmetric}
-use Rattle.std.specs.FinMap.Entries.{below_all, is_sorted, is_sorted-where_key, find-where_key, where_key}
-use Rattle.std.specs.Ordering.{eq_by_cmp, is_gt, is_le, is_lt, nat_cmp, ordering_reverse, ordering_then}
-use Rattle.std.specs.declared.cmp.Ordering.{Ordering}
-use Rattle.std.specs.declared.cmp.Ordering.TheVariants.{Less, Equal, Greater}
+use Rattle.std.specs.FinMap.Entries.{is_sorted}
+use Rattle.std.specs.Ordering.{eq_by_cmp}
 use Rattle.std.specs.declared.ops.Bound.TheVariants.{Included, Unbounded}
-use Rattle.asm_element.specs.declared.element.Element.{Element}
-use Rattle.asm_element.specs.Ascending.{both_T, first_gone, is_less, rising_rest}
-use Rattle.asm_element.specs.Element.{element_cmp}
-use Rattle.asm_element.specs.Place.{Place, location_cmp, location_cmp_total, location_cmp-IsAntisymmetric, same_location}
-use Rattle.asm_element.specs.Same.{pointwise-IsIdentity}
-use Rattle.asm_element.specs.Tests.{both, itself, is_some-cond, or_right}
+use Rattle.asm_element.specs.Ascending.{first_gone}
+use Rattle.asm_element.specs.Place.{Place, location_cmp, location_cmp_total, same_location}
+use Rattle.asm_element.specs.Tests.{both, itself}
 use Rattle.asm_update.specs.Fire.{Part}
 use Rattle.asm_update.specs.Move.{IsLeast, Move}
 use Rattle.asm_update.specs.State.{State}

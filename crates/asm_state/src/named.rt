@@ -20,8 +20,7 @@ pub struct Named {
 impl Named {
     /// The same named read, with a copy of its location.
     ///
-    /// `AllocError` comes only where memory was refused, or where more copies would share the location than can be
-    /// counted.
+    /// `AllocError` comes only where memory was refused.
     pub fn copy(&self, _alloc: Global) -> Result<Named, AllocError>
         ensures { IfOk result (λ copy. copy ≡ self.now) }
     {

@@ -30,10 +30,10 @@ pub type Mark = asm_row::Mark<Entry>;
 /// receipt of each of its answered calls.
 ///
 /// Contracts see its storage, its number, the entries of the row that it has seen, how many of its offers
-/// won, how many of its looks found an empty cell, at which number its own state stands, and its receipts. Each answer
-/// is the one that a storage of one thread gives after the moves that the agent has then seen. It may be moved into any thread. No call
-/// waits, and each returns: it follows at most as many entries as the capacity. `try_fire_with` returns if
-/// the calls of its closure do.
+/// won, how many of its looks found an empty cell, at which number its own state stands, and its receipts. Each
+/// answer is the one that a storage of one thread gives after the moves that the agent has then seen. It may be
+/// moved into any thread. No call waits, and each returns: it follows at most as many entries as the capacity.
+/// `try_fire_with` returns if the calls of its closure do.
 #[derive(Drop)]
 pub struct Agent<'s, A: Aggregator + Sync + Drop> {
     storage: &'s Storage<A>,
@@ -164,8 +164,10 @@ impl<'s, A: Aggregator + Sync + Drop> Agent<'s, A> {
     /// Its own state, which stands for the first moves that it has seen, as many as the state's number says.
     ///
     /// It makes no look and keeps no receipt: all that is looked up in the state stands at one number, and a
-    /// fire that rests on a value names its location with that number. The state lags behind what was seen
-    /// after a fire, a `learn` or refused memory, until the next `follow`.
+    /// fire that rests on a value names its location with that number. It has followed all that was seen after a
+    /// `follow`, a `read` or a `stands`, and after a fire that fired nothing. It lags behind after a won offer, which
+    /// it hasn't followed yet, after a `learn` and after refused memory; and a fire that names no read and no scan and
+    /// puts at most 16 values, without partial updates, is judged without it and leaves it where it stands.
     pub fn state(&self) -> &State
         ensures following { IsFollowing (machine_of A.meaning self.now.storage) self.now.account.seen result.now }
         ensures number { result.now.number ≡ self.now.number }

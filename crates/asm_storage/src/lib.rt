@@ -5,8 +5,8 @@
 //! for the next place of the row. `Storage::close` merges the receipts of agents into one history, in which each
 //! answer is the one that a storage of one thread gives. No call waits or takes a lock.
 //!
-//! Where a comment says that memory was refused, it may also be that more copies would share a list or an opening
-//! state than can be counted.
+//! Where a comment says that memory was refused, it may also be that more copies would share a list, a location's
+//! arguments or an opening state than can be counted.
 #![tactic(auto)]
 
 mod agent;
