@@ -56,7 +56,7 @@ known_version a c n i version v is (inl one) h = let same : h.0 ≡ unsigned v =
 known_version a c n i version v is (inr two) h = let same : h.0 ≡ unsigned v = cc in h.4 (same ∙ ap unsigned two)
 
 -- a header that stands has no fault
-header_stands : (text : List ℕ) (d : Data) (rest : List ℕ) (v agents capacity count : ℕ) (init : State) (e : JournalError)
+pub header_stands : (text : List ℕ) (d : Data) (rest : List ℕ) (v agents capacity count : ℕ) (init : State) (e : JournalError)
     → e ≢ Memory → HasLine text d rest → IsHeader v agents capacity count init d → BreaksHeader text e → ⊥
 header_stands text d rest v agents capacity count init Cut other line header b =
     not_broken 1 text d rest Cut line other b
@@ -71,7 +71,7 @@ header_stands text d rest v agents capacity count init (Shape n) other line head
     b.1.4 _ _ _ _ _ (subst (IsHeader v agents capacity count init) (sym same.0) header)
 header_stands text d rest v agents capacity count init Memory other line header b = other refl
 
-event_stands : (v agents k : ℕ) (text : List ℕ) (x : Event) (d : Data) (r : List ℕ) (e : JournalError) → e ≢ Memory
+pub event_stands : (v agents k : ℕ) (text : List ℕ) (x : Event) (d : Data) (r : List ℕ) (e : JournalError) → e ≢ Memory
     → HasLine text d r → IsEventBelow v agents x d → BreaksEvent v agents k text e → ⊥
 event_stands v agents k text x d r Cut other h is b = not_broken k text d r Cut h other b
 event_stands v agents k text x d r (NotJson n) other h is b = not_broken k text d r (NotJson n) h other b
@@ -82,7 +82,7 @@ event_stands v agents k text x d r (Shape n) other h is b =
 event_stands v agents k text x d r Memory other h is b = other refl
 
 -- the event that stands behind fewer ones
-next_event : (v agents : ℕ) (text : List ℕ) (es fs : List Event) (left end : List ℕ) → HasEvents v agents text es left
+pub next_event : (v agents : ℕ) (text : List ℕ) (es fs : List Event) (left end : List ℕ) → HasEvents v agents text es left
     → HasEvents v agents text fs end → length es < length fs
     → (x : Event) × (d : Data) × (r : List ℕ) × HasLine left d r × IsEventBelow v agents x d
 next_event v agents text es [] left end h k less = absurd (omega arith)
@@ -91,7 +91,7 @@ next_event v agents text (e ∷ es) (f ∷ fs) left end h k less =
     let same = line_once text k.0 h.0 k.1 h.1 k.2 h.2 in
     next_event v agents h.1 es fs left end h.4 (subst (λ t. HasEvents v agents t fs end) same.1 k.4) (omega arith)
 
-same_left : (v agents : ℕ) (text : List ℕ) (es fs : List Event) (left end : List ℕ) → HasEvents v agents text es left
+pub same_left : (v agents : ℕ) (text : List ℕ) (es fs : List Event) (left end : List ℕ) → HasEvents v agents text es left
     → HasEvents v agents text fs end → length es ≡ length fs → left ≡ end
 same_left v agents text [] [] left end h k same = sym h ∙ k
 same_left v agents text [] (f ∷ fs) left end h k same = absurd (omega arith)
@@ -155,7 +155,7 @@ one_line_fault k text e Version p q b c = absurd c
 one_line_fault k text e Memory p q b c = absurd (q refl)
 
 -- a line that is whole has no fault of a line
-one_header_fault : (text : List ℕ) (e f : JournalError) → e ≢ Memory → f ≢ Memory → BreaksHeader text e
+pub one_header_fault : (text : List ℕ) (e f : JournalError) → e ≢ Memory → f ≢ Memory → BreaksHeader text e
     → BreaksHeader text f → e ≡ f
 one_header_fault text Version Version p q b c = refl
 one_header_fault text Version (Shape m) p q b c =
@@ -206,13 +206,13 @@ one_event_fault v agents k text (NotJson n) Version p q b c = absurd c
 one_event_fault v agents k text (NotJson n) Memory p q b c = absurd (q refl)
 
 -- behind these events the next line is at fault, or all events are there and a byte is left
-abbrev StopsBehind : ℕ → ℕ → ℕ → List Event → List ℕ → JournalError → Type 0
+abbrev pub StopsBehind : ℕ → ℕ → ℕ → List Event → List ℕ → JournalError → Type 0
 StopsBehind v agents count es left e =
     ((length es < count) × BreaksEvent v agents (length es + 2) left e)
     ⊎ ((length es ≡ count) × (left ≢ []) × (e ≡ Shape (count + 2)))
 
 -- two first faults behind one header have the same events before them
-one_behind : (v agents count : ℕ) (text : List ℕ) (e f : JournalError) (es fs : List Event) (left end : List ℕ)
+pub one_behind : (v agents count : ℕ) (text : List ℕ) (e f : JournalError) (es fs : List Event) (left end : List ℕ)
     → e ≢ Memory → f ≢ Memory
     → HasEvents v agents text es left → HasEvents v agents text fs end
     → StopsBehind v agents count es left e → StopsBehind v agents count fs end f → e ≡ f

@@ -25,11 +25,13 @@ use asm_update::PlainState;
 use serde_json::Value as Json;
 use std::alloc::{AllocError, Global};
 
-/// A header of a journal.
+/// What the header of a journal tells.
 #[derive(Drop)]
-struct Header {
-    limits: Limits,
-    init: PlainState,
+pub struct Header {
+    /// The numbers of the journal.
+    pub limits: Limits,
+    /// The state with which the storage opened.
+    pub init: PlainState,
 }
 
 /// Whether the value is an object whose version is a whole number other than 1 and 2.
@@ -44,13 +46,17 @@ fn has_other_version(json: &Json) -> bool
     }
 }
 
-/// The numbers of a header.
+/// The numbers that the header of a journal tells.
 #[derive(Clone, Copy, Drop)]
-struct Limits {
-    agents: u32,
-    capacity: u32,
-    events: u32,
-    version: u32,
+pub struct Limits {
+    /// How many agents there are, at most 256: each agent's number is below.
+    pub agents: u32,
+    /// The most moves that the storage takes, from 1 to 1,048,576.
+    pub capacity: u32,
+    /// How many events stand behind the header, each on a line of its own.
+    pub events: u32,
+    /// The version of the journal, 1 or 2.
+    pub version: u32,
 }
 
 /// Whether a journal of this version is read, and may have so many agents and this capacity.
@@ -104,8 +110,14 @@ fn header_from(alloc: Global, json: &Json) -> Result<Option<Header>, AllocError>
     }
 }
 
-/// Reads the header line, and gives the rest of the text too.
-fn read_header(alloc: Global, text: &[u8]) -> Result<(Header, &[u8]), JournalError>
+/// Reads a header from the first line of a text, and gives the text behind that line too.
+///
+/// `Cut`: the text is empty, or its first line is JSON that no line feed ends. `NotJson(1)`: the first line isn't JSON.
+/// `Version`: it is an object whose version is a whole number other than 1 and 2. `Shape(1)`: it is other JSON, and no
+/// header. `Memory` comes only where memory was refused.
+///
+/// It costs one pass over the line, and doesn't look behind it.
+pub fn read_header(alloc: Global, text: &[u8]) -> Result<(Header, &[u8]), JournalError>
     ensures ok { IfOk result (λ p. (d : Data) × HasLine text.now d p.1.now
         × IsHeader p.0.limits.version p.0.limits.agents p.0.limits.capacity p.0.limits.events p.0.init d) }
     ensures err { IfErr result (BreaksHeader text.now) }
@@ -120,8 +132,16 @@ fn read_header(alloc: Global, text: &[u8]) -> Result<(Header, &[u8]), JournalErr
     }
 }
 
-/// Reads the event in the line with this number, of a journal with these limits, and gives the rest of the text too.
-fn read_event(
+/// Reads an event from the first line of a text, as one of a journal with this version and so many agents, and gives the
+/// text behind that line too.
+///
+/// `number` is the line's number in the journal, which the errors tell. `Cut`: the text is empty, or its first line is
+/// JSON that no line feed ends. `NotJson(number)`: the first line isn't JSON. `Shape(number)`: it is JSON, and no event
+/// of such a journal, perhaps as its agent's number isn't below the number of agents or, in version 1, as it has a list.
+/// `Memory` comes only where memory was refused.
+///
+/// It costs one pass over the line, in version 1 one more over its value, and doesn't look behind it.
+pub fn read_event(
     alloc: Global,
     text: &[u8],
     number: u64,
