@@ -1,0 +1,11 @@
+pub mod SameState
+pub mod Extended
+pub mod Chains
+pub mod Steps
+pub mod Telling
+pub mod Fed
+pub mod Through
+pub mod OneJournal
+pub mod Endings
+pub mod OneVerdict
+pub mod OneRun

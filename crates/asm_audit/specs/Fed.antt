@@ -1,0 +1,46 @@
+-- Texts whose bytes come in pieces.
+use Rattle.std.specs.Prelude.{◌≡◌, ℕ, List, [], ◌++◌, Result, Ok, Err}
+use Rattle.asm_update.specs.Fire.{Part}
+use Rattle.asm_audit.specs.declared.error.AuditError.{AuditError}
+use Rattle.asm_audit.specs.declared.progress.Progress.{Progress}
+use Rattle.asm_audit.specs.declared.progress.Told.{Told}
+use Rattle.asm_audit.specs.declared.progress.Told.TheVariants.{Legal, Illegal}
+use Rattle.asm_audit.specs.declared.reading.Verdict.{Verdict}
+use Rattle.asm_audit.specs.Text.{IsShortLine, IsShortLines}
+use Rattle.asm_audit.specs.Fault.{IsFaulty}
+use Rattle.asm_audit.specs.Audited.{IsAudited, IsFirstIllegal, IsVerdict}
+
+-- the lines of the text that have ended were read, and these bytes begin the next one; no line is too long
+pub record IsFed (part : Part) (text : List ℕ) (p : Progress) (line : List ℕ) : Type 0 where
+  pub ended : List ℕ
+  pub all : ended ++ line ≡ text
+  pub short : IsShortLines ended
+  pub open_line : IsShortLine line
+  pub audited : IsAudited part ended p
+
+-- these bytes were taken behind any text that was fed
+abbrev pub HasTaken : Part → List ℕ → Progress → List ℕ → Progress → List ℕ → Type 0
+HasTaken part bytes p line q left = (text : List ℕ) → IsFed part text p line → IsFed part (text ++ bytes) q left
+
+-- the first of these bytes were taken, and the others weren't
+abbrev pub HasTakenSome : Part → List ℕ → Progress → List ℕ → Progress → List ℕ → Type 0
+HasTakenSome part bytes p line q left =
+    (front behind : List ℕ) × (front ++ behind ≡ bytes) × HasTaken part front p line q left
+
+-- what is told of bytes that come behind any text that was fed, whatever comes behind them
+abbrev pub IsFedAnswer : Part → List ℕ → Progress → List ℕ → Progress → List ℕ → Result Told AuditError → Type 0
+IsFedAnswer part bytes p line q left (Ok Legal) = HasTaken part bytes p line q left
+IsFedAnswer part bytes p line q left (Ok (Illegal j c)) =
+    (text more : List ℕ) → IsFed part text p line → IsFirstIllegal part (text ++ (bytes ++ more)) j c
+IsFedAnswer part bytes p line q left (Err e) =
+    (text more : List ℕ) → IsFed part text p line → IsFaulty part (text ++ (bytes ++ more)) e
+
+-- what is told where no byte comes behind
+abbrev pub IsFedEnd : Part → Progress → List ℕ → Result Verdict AuditError → Type 0
+IsFedEnd part p line r = (text : List ℕ) → IsFed part text p line → IsVerdict part text r
+
+-- a line that was told legal is let go; else it is as it was
+abbrev pub LeavesLine : List ℕ → List ℕ → Result Told AuditError → Type 0
+LeavesLine old new (Ok Legal) = new ≡ []
+LeavesLine old new (Ok (Illegal j c)) = new ≡ old
+LeavesLine old new (Err e) = new ≡ old

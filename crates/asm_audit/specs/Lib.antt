@@ -1,0 +1,11 @@
+pub mod Limits
+pub mod Text
+pub mod Chain
+pub mod Opened
+pub mod Fault
+pub mod Audited
+pub mod Kept
+pub mod Step
+pub mod Fed
+pub mod Run
+pub mod Laws

@@ -1,0 +1,6 @@
+-- The number of audits. Source: this project's profile.
+use Rattle.std.specs.Prelude.{ℕ}
+
+-- the most bytes of a line that an audit of bytes keeps, the line feed apart
+abbrev pub line_limit : ℕ
+line_limit = 16777216

@@ -1,0 +1,36 @@
+-- What the steps of an audit do.
+use Rattle.std.specs.Prelude.{◌≡◌, ◌≤◌, ◌+◌, ◌↔◌, Bool, IsTrue, Option, Some, None}
+use Rattle.asm_element.specs.Place.{Place}
+use Rattle.asm_update.specs.State.{State, IsProper, val}
+use Rattle.asm_state.specs.View.{StateView, value_at}
+use Rattle.asm_audit.specs.declared.opened.Opened.{Opened}
+use Rattle.asm_audit.specs.declared.progress.Counts.{Counts}
+use Rattle.asm_audit.specs.Fault.{counted}
+
+-- the numbers with those of the part that is read
+abbrev pub whole_with : Counts → Opened → Counts
+whole_with w o =
+    record {
+      calls = counted (w.calls + o.taken);
+      moves = counted (w.moves + o.state.number);
+      parts = counted (w.parts + 1);
+    }
+
+abbrev pub all_with : Counts → Option Opened → Counts
+all_with w None = w
+all_with w (Some o) = whole_with w o
+
+-- no part is read, or all its events were taken
+abbrev pub is_between : Option Opened → Type 0
+is_between None = Unit {0}
+is_between (Some o) = o.limits.events ≤ o.taken
+
+-- the test tells whether this is the state with these values
+abbrev pub IsNextTest : StateView → State → Bool → Type 0
+IsNextTest s init b =
+    (left : State) × ((l : Place) → val left l ≡ value_at s l) × IsProper left × (IsTrue b ↔ (left ≡ init))
+
+-- the test tells so of the part that was read; where there is none, it is met
+abbrev pub IsOnTest : Option Opened → State → Bool → Type 0
+IsOnTest None init b = IsTrue b
+IsOnTest (Some o) init b = IsNextTest o.state init b

@@ -1,0 +1,124 @@
+//! The audit of a run, as its bytes come.
+ghost use Rattle.std.specs.Prelude.{◌≡◌, ◌≤◌, length};
+ghost use Rattle.asm_journal.specs.Reading.{HasNoLineFeed};
+ghost use Rattle.asm_audit.specs.Limits.{line_limit};
+
+use crate::auditor::Auditor;
+use crate::error::AuditError;
+use crate::progress::Told;
+use crate::reading::Verdict;
+use asm_update::Aggregator;
+use std::alloc::Global;
+
+/// The most bytes of a line that an audit of bytes keeps, the line feed apart.
+pub const LINE_LIMIT: usize = 16_777_216;
+
+/// Audits a run as its bytes come, in pieces that may begin and end anywhere. Beside an `Auditor` it holds the bytes of
+/// the line that hasn't ended, of which there are at most 16,777,216.
+#[derive(Drop)]
+pub struct ByteAuditor<A: Aggregator + Drop> {
+    auditor: Auditor<A>,
+    line: Vec<u8>,
+    ghost open_line: { HasNoLineFeed line.items },
+    ghost within: { length line.items ≤ line_limit },
+}
+
+impl<A: Aggregator + Drop> ByteAuditor<A> {
+    ghost use Rattle.std.specs.Prelude.{◌++◌, ◌∷◌, []};
+    ghost use Rattle.asm_audit.specs.Audited.{IsAnswer};
+    ghost use Rattle.asm_audit.specs.Kept.{IsKept};
+    ghost use Rattle.asm_audit.specs.Fed.{IsFed, IsFedAnswer, HasTakenSome, IsFedEnd, LeavesLine};
+
+    /// An auditor that has read nothing.
+    pub fn new(alloc: Global, aggregator: A) -> ByteAuditor<A>
+        ensures aggregator { result.auditor.aggregator ≡ aggregator }
+        ensures fed { IsFed (A.meaning aggregator).part [] result.auditor.progress result.line.items }
+    {
+        ByteAuditor {
+            auditor: Auditor::new(aggregator),
+            line: Vec::new(alloc),
+        }
+    }
+
+    // Takes the line feed that ends the line.
+    fn end_line(&mut self, alloc: Global) -> Result<Told, AuditError>
+        ensures aggregator { self.new.auditor.aggregator ≡ self.old.auditor.aggregator }
+        ensures told { IsAnswer (A.meaning self.old.auditor.aggregator).part (self.old.line.items ++ 10 ∷ [])
+            self.old.auditor.progress self.new.auditor.progress result }
+        ensures kept { IsKept self.old.auditor.progress self.new.auditor.progress result }
+        ensures line { LeavesLine self.old.line.items self.new.line.items result }
+    {
+        let length = self.line.len();
+        self.line.push(b'\n')?;
+        match self.auditor.line(alloc, self.line.as_slice()) {
+            Ok(Told::Legal) => {
+                self.line.clear();
+                Ok(Told::Legal)
+            }
+            Ok(Told::Illegal { part, call }) => {
+                self.line.truncate(length);
+                Ok(Told::Illegal { part, call })
+            }
+            Err(error) => {
+                self.line.truncate(length);
+                Err(error)
+            }
+        }
+    }
+
+    // Takes one byte.
+    fn feed_byte(&mut self, alloc: Global, byte: u8) -> Result<Told, AuditError>
+        ensures aggregator { self.new.auditor.aggregator ≡ self.old.auditor.aggregator }
+        ensures told { IsFedAnswer (A.meaning self.old.auditor.aggregator).part (byte ∷ [])
+            self.old.auditor.progress self.old.line.items self.new.auditor.progress self.new.line.items result }
+        ensures kept { IsKept self.old.auditor.progress self.new.auditor.progress result }
+        ensures line { IsKept self.old.line.items self.new.line.items result }
+    {
+        if byte == b'\n' {
+            return self.end_line(alloc);
+        }
+        if LINE_LIMIT <= self.line.len() {
+            return Err(AuditError::LongLine);
+        }
+        self.line.push(byte)?;
+        Ok(Told::Legal)
+    }
+
+    /// Takes the next bytes.
+    ///
+    /// What is told is so whatever bytes come behind these, as `Auditor::line` tells it, at the line feed of the line;
+    /// `LongLine` comes at the byte that makes a line longer than 16,777,216 bytes. After any answer but `Legal` the
+    /// bytes before the one at which it came were taken, and no others. `Memory` comes only where memory was refused.
+    pub fn feed(&mut self, alloc: Global, bytes: &[u8]) -> Result<Told, AuditError>
+        ensures aggregator { self.new.auditor.aggregator ≡ self.old.auditor.aggregator }
+        ensures told { IsFedAnswer (A.meaning self.old.auditor.aggregator).part bytes.now
+            self.old.auditor.progress self.old.line.items self.new.auditor.progress self.new.line.items result }
+        ensures taken { HasTakenSome (A.meaning self.old.auditor.aggregator).part bytes.now
+            self.old.auditor.progress self.old.line.items self.new.auditor.progress self.new.line.items }
+    {
+        for byte in bytes {
+            match self.feed_byte(alloc, *byte)? {
+                Told::Legal => {}
+                Told::Illegal { part, call } => return Ok(Told::Illegal { part, call }),
+            }
+        }
+        Ok(Told::Legal)
+    }
+
+    /// What is told of the run if no further byte comes.
+    ///
+    /// `Legal`: the bytes are whole legal parts, one at least. Behind them stands no line without its line feed: such a
+    /// line is told as `Auditor::line` tells it.
+    pub fn finish(&mut self, alloc: Global) -> Result<Verdict, AuditError>
+        ensures { IsFedEnd (A.meaning self.old.auditor.aggregator).part self.old.auditor.progress
+            self.old.line.items result }
+    {
+        if self.line.is_empty() {
+            return Ok(Verdict::Legal(self.auditor.finish()?));
+        }
+        match self.auditor.line(alloc, self.line.as_slice())? {
+            Told::Legal => Ok(Verdict::Legal(self.auditor.finish()?)),
+            Told::Illegal { part, call } => Ok(Verdict::Illegal { part, call }),
+        }
+    }
+}

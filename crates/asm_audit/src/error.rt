@@ -1,0 +1,57 @@
+//! Why an audit ends without an answer on the calls.
+ghost use Rattle.std.specs.Prelude.{◌≡◌};
+ghost use Rattle.asm_audit.specs.Fault.{told_fault};
+ghost use Rattle.asm_audit.specs.declared.error.AuditError.TheVariants as audit_error;
+
+use asm_journal::JournalError;
+use std::alloc::{AllocError, AllocFailed};
+use thiserror::Error;
+
+/// Why an audit ends before it has judged each call. The parts of a run count from 0.
+#[derive(Clone, Copy, Debug, Drop, PartialEq, Eq, Error)]
+pub enum AuditError {
+    /// The journal of this part has this fault, which is the first; its lines count from 1.
+    #[error("part {part}: {fault}")]
+    Journal { part: u64, fault: JournalError },
+    /// This part opens with another state than the part before it leaves.
+    #[error("part {part} opens with another state")]
+    Apart { part: u64 },
+    /// A line has more than 16,777,216 bytes.
+    #[error("a line is too long")]
+    LongLine,
+    /// A read of the input failed.
+    #[error("the input failed")]
+    Input,
+    /// The memory that the call asked for was refused.
+    #[error("out of memory")]
+    Memory,
+}
+
+impl From<AllocError> for AuditError {
+    ghost from_gives = { λ _ e. e ≡ audit_error.Memory };
+
+    fn from(_error: AllocError) -> AuditError {
+        AuditError::Memory
+    }
+}
+
+impl<T: Drop> From<AllocFailed<T>> for AuditError {
+    ghost from_gives = { λ _ e. e ≡ audit_error.Memory };
+
+    fn from(_error: AllocFailed<T>) -> AuditError {
+        AuditError::Memory
+    }
+}
+
+/// The fault of the journal of the part with this number.
+pub(crate) fn told_fault(number: u64, fault: JournalError) -> AuditError
+    ensures { result ≡ told_fault number fault }
+{
+    match fault {
+        JournalError::Memory => AuditError::Memory,
+        fault => AuditError::Journal {
+            part: number,
+            fault,
+        },
+    }
+}

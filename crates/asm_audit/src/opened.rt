@@ -1,0 +1,77 @@
+//! The part that is read.
+ghost use Rattle.std.specs.Prelude.{◌≡◌, ◌<◌, ◌≤◌, ◌+◌, ◌↔◌, [], IsTrue, IfOk, IfErr};
+ghost use Rattle.asm_update.specs.Fire.{Part};
+ghost use Rattle.asm_state.specs.Stands.{Stands};
+ghost use Rattle.asm_journal.specs.Fault.{BreaksEvent};
+ghost use Rattle.asm_audit.specs.Kept.{StaysUnlessTrue};
+ghost use Rattle.asm_audit.specs.Opened.{IsTaken};
+
+use asm_journal::{Header, JournalError, Limits, judge_event, read_event};
+use asm_state::State;
+use asm_update::Aggregator;
+use std::alloc::{AllocError, Global};
+
+/// A part whose header was read, and some of its events.
+#[derive(Drop)]
+pub(crate) struct Opened {
+    /// What its header says.
+    pub(crate) limits: Limits,
+    /// How many of its events were read.
+    pub(crate) taken: u32,
+    /// The state that the moves of these leave.
+    pub(crate) state: State,
+}
+
+impl Opened {
+    /// A part of which the header was read.
+    pub(crate) fn new(alloc: Global, header: Header) -> Result<Opened, AllocError>
+        ensures limits { IfOk result (λ o. o.limits ≡ header.limits) }
+        ensures taken { IfOk result (λ o. o.taken ≡ 0) }
+        ensures stands { IfOk result (λ o. (part : Part) → Stands part header.init o.state []) }
+    {
+        let state = State::new(alloc, header.init)?;
+        Ok(Opened {
+            limits: header.limits,
+            taken: 0,
+            state,
+        })
+    }
+
+    /// Whether all its events were read.
+    pub(crate) fn is_whole(&self) -> bool
+        ensures { IsTrue result ↔ (self.now.limits.events ≤ self.now.taken) }
+    {
+        self.limits.events <= self.taken
+    }
+
+    /// Reads the next event from its line. Whether its answer is right; if so, the state follows its move, and else all
+    /// is as it was.
+    pub(crate) fn take<A: Aggregator>(
+        &mut self,
+        alloc: Global,
+        aggregator: &A,
+        line: &[u8],
+    ) -> Result<bool, JournalError>
+        requires { self.old.taken < self.old.limits.events }
+        ensures ok { IfOk result (IsTaken (A.meaning aggregator.now).part line.now self.old self.new) }
+        ensures err { IfErr result (BreaksEvent self.old.limits.version self.old.limits.agents
+            (self.old.taken + 2) line.now) }
+        ensures kept { StaysUnlessTrue self.old self.new result }
+    {
+        // That one more event can be counted rests on the range of this number.
+        let _events = self.limits.events;
+        let number = u64::from(self.taken) + 2;
+        let (event, _) = read_event(alloc, line, number, self.limits)?;
+        if !judge_event(
+            alloc,
+            aggregator,
+            &mut self.state,
+            self.limits.capacity,
+            &event,
+        )? {
+            return Ok(false);
+        }
+        self.taken += 1;
+        Ok(true)
+    }
+}

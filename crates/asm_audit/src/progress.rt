@@ -1,0 +1,181 @@
+//! How far an audit is.
+ghost use Rattle.std.specs.Prelude.{◌≡◌, ◌<◌, [], List, ℕ, IfOk};
+ghost use Rattle.asm_update.specs.Fire.{Part};
+ghost use Rattle.asm_audit.specs.Text.{IsLineBefore};
+ghost use Rattle.asm_audit.specs.Opened.{IsEventAnswer};
+ghost use Rattle.asm_audit.specs.Step.{whole_with, all_with, is_between, IsNextTest, IsOnTest};
+ghost use Rattle.asm_audit.specs.Kept.{IsKept};
+ghost use Rattle.asm_audit.specs.Audited.{IsAudited, IsAnswer, IsEnd, IsCutEnd};
+
+use crate::error::{AuditError, told_fault};
+use crate::opened::Opened;
+use asm_journal::{Header, JournalError, read_header};
+use asm_update::Aggregator;
+use std::alloc::{AllocError, Global};
+
+/// What is told as lines or bytes come.
+#[derive(Clone, Copy, Debug, Drop, PartialEq, Eq)]
+pub enum Told {
+    /// Each answer so far is right.
+    Legal,
+    /// The first answer that isn't the one of the storage of one thread is that to this call of this part, both
+    /// counted from 0.
+    Illegal { part: u64, call: u64 },
+}
+
+/// How much whole legal parts have. A number stops at 18,446,744,073,709,551,615.
+#[derive(Clone, Copy, Debug, Drop, PartialEq, Eq)]
+pub struct Counts {
+    /// The answered calls.
+    pub calls: u64,
+    /// The fired moves.
+    pub moves: u64,
+    /// The parts.
+    pub parts: u64,
+}
+
+/// How far an audit is.
+#[derive(Drop)]
+pub(crate) struct Progress {
+    /// What the parts before the one that is read have.
+    pub(crate) before: Counts,
+    /// The part that is read; none before the first header.
+    pub(crate) opened: Option<Opened>,
+}
+
+impl Counts {
+    /// With the part that is read.
+    fn with(&self, opened: &Opened) -> Counts
+        ensures { result ≡ whole_with self.now opened.now }
+    {
+        Counts {
+            calls: self.calls.saturating_add(u64::from(opened.taken)),
+            moves: self.moves.saturating_add(u64::from(opened.state.number())),
+            parts: self.parts.saturating_add(1),
+        }
+    }
+}
+
+/// Whether the part leaves the state that the header opens with.
+fn is_next(alloc: Global, opened: &Opened, header: &Header) -> Result<bool, AllocError>
+    ensures { IfOk result (IsNextTest opened.now.state header.now.init) }
+{
+    let left = opened.state.to_plain(alloc)?;
+    left.proper();
+    Ok(left == header.init)
+}
+
+/// Takes the next event of the part with this number.
+fn take_event<A: Aggregator>(
+    alloc: Global,
+    aggregator: &A,
+    number: u64,
+    opened: &mut Opened,
+    line: &[u8],
+) -> Result<Told, AuditError>
+    requires { opened.old.taken < opened.old.limits.events }
+    ensures told { IsEventAnswer (A.meaning aggregator.now).part number line.now opened.old opened.new result }
+    ensures kept { IsKept opened.old opened.new result }
+{
+    let call = u64::from(opened.taken);
+    match opened.take(alloc, aggregator, line) {
+        Ok(true) => Ok(Told::Legal),
+        Ok(false) => Ok(Told::Illegal { part: number, call }),
+        Err(fault) => Err(told_fault(number, fault)),
+    }
+}
+
+impl Progress {
+    /// Nothing was read.
+    pub(crate) fn new() -> Progress
+        ensures { (part : Part) → IsAudited part [] result }
+    {
+        Progress {
+            before: Counts {
+                calls: 0,
+                moves: 0,
+                parts: 0,
+            },
+            opened: None,
+        }
+    }
+
+    /// What all parts have, with the one that is read.
+    fn all(&self) -> Counts
+        ensures { result ≡ all_with self.now.before self.now.opened }
+    {
+        match &self.opened {
+            Some(opened) => self.before.with(opened),
+            None => self.before,
+        }
+    }
+
+    /// Whether the header goes on from the part that was read; the first one does.
+    fn goes_on(&self, alloc: Global, header: &Header) -> Result<bool, AllocError>
+        ensures { IfOk result (IsOnTest self.now.opened header.now.init) }
+    {
+        match &self.opened {
+            Some(opened) => is_next(alloc, opened, header),
+            None => Ok(true),
+        }
+    }
+
+    /// Takes the header of the next part.
+    fn open(&mut self, alloc: Global, line: &[u8]) -> Result<Told, AuditError>
+        requires line { IsLineBefore line.now [] }
+        requires between { is_between self.old.opened }
+        ensures told { (part : Part) → IsAnswer part line.now self.old self.new result }
+        ensures kept { IsKept self.old self.new result }
+    {
+        let before = self.all();
+        let header = match read_header(alloc, line) {
+            Ok((header, _)) => header,
+            Err(fault) => return Err(told_fault(before.parts, fault)),
+        };
+        if !self.goes_on(alloc, &header)? {
+            return Err(AuditError::Apart { part: before.parts });
+        }
+        let opened = Opened::new(alloc, header)?;
+        self.before = before;
+        self.opened = Some(opened);
+        Ok(Told::Legal)
+    }
+
+    /// Takes the next line.
+    pub(crate) fn line<A: Aggregator>(
+        &mut self,
+        alloc: Global,
+        aggregator: &A,
+        line: &[u8],
+    ) -> Result<Told, AuditError>
+        requires { IsLineBefore line.now [] }
+        ensures told { IsAnswer (A.meaning aggregator.now).part line.now self.old self.new result }
+        ensures kept { IsKept self.old self.new result }
+    {
+        match &mut self.opened {
+            Some(opened) => {
+                if opened.is_whole() {
+                    return self.open(alloc, line);
+                }
+                take_event(alloc, aggregator, self.before.parts, opened, line)
+            }
+            None => self.open(alloc, line),
+        }
+    }
+
+    /// What is told of all that was read, where no line comes behind it.
+    pub(crate) fn finish(&self) -> Result<Counts, AuditError>
+        ensures told { (part : Part) → IsEnd part self.now result }
+        ensures cut { IsCutEnd result }
+    {
+        match &self.opened {
+            Some(opened) => {
+                if opened.is_whole() {
+                    return Ok(self.before.with(opened));
+                }
+                Err(told_fault(self.before.parts, JournalError::Cut))
+            }
+            None => Err(told_fault(0, JournalError::Cut)),
+        }
+    }
+}
