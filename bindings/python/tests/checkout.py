@@ -2,4 +2,4 @@
 import os
 import pathlib
 
-ROOT = pathlib.Path(os.environ.get("FOLUGBEN_ROOT") or pathlib.Path(__file__).resolve().parents[2])
+ROOT = pathlib.Path(os.environ.get("FOLUGBEN_ROOT") or pathlib.Path(__file__).resolve().parents[3])

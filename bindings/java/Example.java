@@ -1,5 +1,9 @@
-package folugben;
-
+import folugben.Agent;
+import folugben.Instruction;
+import folugben.Location;
+import folugben.Step;
+import folugben.Storage;
+import folugben.Value;
 import java.nio.charset.StandardCharsets;
 import java.nio.file.Files;
 import java.nio.file.Path;

@@ -196,7 +196,7 @@ public final class Test {
             System.setProperty(key, was);
     }
 
-    public static void main(String[] arguments) throws Exception {
+    public static void main(String[] arguments) throws InterruptedException {
         answers();
         System.out.println("answers");
         codes();
@@ -221,7 +221,5 @@ public final class Test {
         StepTests.all();
         KindTests.all();
         PlainTests.all();
-        Example.play();
-        System.out.println("threads");
     }
 }
