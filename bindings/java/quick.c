@@ -11,19 +11,19 @@
 #define TEXTS jlong out, jlong room, jlong written
 #define TEXTS_AT AT(out), (size_t)room, AT(written)
 
-typedef int32_t text_call(asm_slot *, asm_slot *, const uint8_t *, size_t, uint8_t *, size_t, size_t *);
-typedef int32_t move_call(asm_slot *, asm_slot *, asm_slot *, uint8_t *, size_t, size_t *);
-
-/* Where the library's calls are. */
+/* Where the library's calls are, each of the type that the header tells. */
 static struct {
-    int32_t (*begin)(asm_slot *, asm_slot *, uint32_t *);
-    text_call *get, *push, *extend;
-    int32_t (*commit)(asm_slot *, asm_slot *, asm_numbers *);
-    int32_t (*peek_at)(asm_slot *, asm_slot *, uint32_t *, asm_value *, uint8_t *, size_t, size_t *);
-    int32_t (*get_at)(asm_slot *, asm_slot *, asm_slot *, asm_value *, uint8_t *, size_t, size_t *);
-    int32_t (*instruct)(asm_slot *, asm_slot *, int32_t, int32_t, int64_t, const uint8_t *, size_t, uint32_t);
-    move_call *push_move, *extend_move;
-    void (*free)(asm_slot *);
+    __typeof__(asm_begin) *begin;
+    __typeof__(asm_get) *get;
+    __typeof__(asm_push) *push;
+    __typeof__(asm_extend) *extend;
+    __typeof__(asm_commit) *commit;
+    __typeof__(asm_peek_at) *peek_at;
+    __typeof__(asm_get_at) *get_at;
+    __typeof__(asm_instruct) *instruct;
+    __typeof__(asm_push_move) *push_move;
+    __typeof__(asm_extend_move) *extend_move;
+    __typeof__(asm_free) *free;
 } library;
 
 static jint JNICALL begin(OWN, jlong agent, jlong step, jlong number) {

@@ -109,6 +109,7 @@ def load_quick() -> ctypes.PyDLL:
     library = ctypes.PyDLL(path())
     for name in QUICK:
         getattr(library, name).restype = ctypes.c_int32
+    library.asm_free.restype = None
     return library
 
 
