@@ -116,7 +116,7 @@ class View:
         self.opened.mkdir()
         shutil.copy(ROOT / "view", self.root / "view")
         shutil.copy(PAGE, self.root / "viewer" / "index.html")
-        self.write("asm_driver", f'exec python3 "{ROOT}/tools/model/model.py" "$@"')
+        self.write("asm_driver", f'[ -z "$2" ] || exec <"$2"\nexec python3 "{ROOT}/tools/model/model.py" "$1"')
         self.write("opened/xdg-open", f'echo "$1" >"{self.opened}/file"')
 
     def write(self, name: str, line: str) -> None:
@@ -125,7 +125,7 @@ class View:
 
     def __call__(self, *words: str, text: bytes, path: str = os.environ["PATH"]) -> subprocess.CompletedProcess[bytes]:
         environment = os.environ | {"PATH": path, "TMPDIR": str(self.room)}
-        return subprocess.run([self.root / "view", *words], input=text, capture_output=True, env=environment, check=False)
+        return subprocess.run([self.root / "view", *words], input=text, capture_output=True, env=environment, cwd=self.room, check=False)
 
 
 def try_view(tries: Tries, browser: Browser) -> None:
@@ -140,20 +140,24 @@ def try_view(tries: Tries, browser: Browser) -> None:
     tries.same("no more than the one file was written", sorted(it.name for it in tries.room.glob("*.html")), [page.name])
     ran = view(text=write_journal(strange()), path=f"{view.opened}:{os.environ['PATH']}")
     named = ran.stdout.decode().strip()
-    tries.same("without --page a browser is started with the page, which is named", ((view.opened / "file").read_text().strip(), named.endswith(".html"), ran.returncode), (named, True, 0))
-    ran = view(text=write_journal(strange()), path=poor_path(tries.room))
-    tries.claim("where none is there it is named", Path(ran.stdout.decode().strip()).exists() and b"no browser could be started" in ran.stderr, ran)
+    tries.same("without --page a browser is started with the page, which is named", ((view.opened / "file").read_text().strip(), named, ran.returncode), (named, "./run.html", 0))
+    journal = tries.file("bank.journal", write_journal(strange()))
+    ran = view(str(journal), text=b"", path=poor_path(tries.room))
+    tries.same("where none is there it is named, and is named as its journal", (ran.stdout, (tries.room / "bank.html").exists(), b"no browser could be started" in ran.stderr), (b"./bank.html\n", True, True))
+    (tries.room / "bank.html").write_text("a page of a bank")
+    ran = view(str(journal), text=b"")
+    tries.same("another file of that name is left as it is", (ran.returncode, (tries.room / "bank.html").read_text()), (4, "a page of a bank"))
     ran = view("--page", str(tries.room / "none.html"), text=b"hello\n")
     tries.same("what is no journal is refused as the program does", (ran.returncode, ran.stderr, (tries.room / "none.html").exists()), (2, b"journal line 1: not JSON\n", False))
     ran = view("--pages", "x", text=b"")
-    tries.same("other words are refused", (ran.returncode, ran.stderr[:12]), (2, b"view: usage:"))
+    tries.same("other words are refused", (ran.returncode, b"view: there is no option '--pages'" in ran.stderr, b"usage:" in ran.stderr), (2, True, True))
 
 
 def poor_path(room: Path) -> str:
     """A path on which no browser is, but what ./view and the model need."""
     folder = room / "poor"
     folder.mkdir()
-    for name in ("bash", "sh", "env", "dirname", "basename", "realpath", "mktemp", "cat", "head", "grep", "sed", "mv", "rm", "python3"):
+    for name in ("bash", "sh", "env", "dirname", "basename", "readlink", "realpath", "mktemp", "cat", "head", "grep", "sed", "mv", "rm", "python3"):
         found = shutil.which(name)
         if found:
             (folder / name).symlink_to(os.path.realpath(found) if name != "python3" else "/usr/bin/python3")
