@@ -1,0 +1,22 @@
+"""Two tellers on threads each add 10 to one balance, a hundred times, and no deposit is lost: python3 tellers.py"""
+from concurrent.futures import ThreadPoolExecutor
+from folugben import Storage, check
+
+
+def teller(agent):
+    for _ in range(100):
+        fired = 0
+        while not fired:                        # 0: the other was quicker, so begin again
+            with agent.step() as step:
+                (balance,) = step.get([["balance"]])
+                step.push([["put", ["balance"], balance + 10]])
+                fired = step.try_fire()
+
+
+with Storage([[["balance"], 0]], 1000) as storage:
+    with storage.agent(0) as anna, storage.agent(1) as ben, ThreadPoolExecutor() as pool:
+        list(pool.map(teller, [anna, ben]))
+        anna.follow()
+        number, (balance,) = anna.peek([["balance"]])
+    check(storage.close_journal())              # raises where an answer wasn't right
+    print(f"{number} moves, balance {balance}")
