@@ -440,20 +440,23 @@ int32_t asm_aggregate(const uint8_t *state, size_t state_len, const uint8_t *mov
 int32_t asm_compose(const uint8_t *first, size_t first_len, const uint8_t *second,
                     size_t second_len, uint8_t *out, size_t room, size_t *written);
 
-/* The forms that asm_explain knows, by the calls that take them. */
+/* The forms that asm_explain knows, by the calls that take them; a script, which no call takes. */
 enum asm_form {
     ASM_FORM_LOCATIONS = 0, /* [LOC, ..], of asm_read */
     ASM_FORM_MOVE = 1,      /* {"fire":[INSTR, ..],"reads":[NAMED, ..]}, of asm_try_fire */
     ASM_FORM_STATE = 2,     /* [PAIR, ..], of asm_open */
-    ASM_FORM_EVENT = 3      /* {"agent":N,"call":..,"reply":..}, a journal's line but the first */
+    ASM_FORM_EVENT = 3,     /* {"agent":N,"call":..,"reply":..}, a journal's line but the first */
+    ASM_FORM_SCRIPT = 4     /* {"agents":[AGENT, ..],"init":[PAIR, ..]}, which asm_driver plays */
 };
 
 /* Writes a sentence that says where and why a text is refused as ASM_NOT_JSON or ASM_SHAPE, such
  * as "instruction 3: a set can't hold a set", "4,097 instructions, at most 4,096" or "not JSON at
- * byte 17"; the parts and the bytes of a text are counted from 1. The text is empty, with
- * `*written` 0, exactly where the form's readers accept what they are passed: nothing is said of
- * what makes ASM_MANY, nor of an event that doesn't fit the journal's first line. The sentences
- * may change with the version. ASM_RANGE (the form), ASM_SMALL, ASM_MEMORY. */
+ * byte 17"; the parts, the lines and the bytes of a text are counted from 1. Of a script it tells
+ * "agent 1 step 0 block 0 instruction 2: unknown word \"putt\"", all counted from 0. The text is
+ * empty, with `*written` 0, exactly where the form's readers accept what they are passed: nothing
+ * is said of what makes ASM_MANY, nor of an event that doesn't fit the journal's first line; a
+ * script is within its limits. The sentences may change with the version. ASM_RANGE (the form),
+ * ASM_SMALL, ASM_MEMORY. */
 int32_t asm_explain(int32_t form, const uint8_t *text, size_t len, uint8_t *out, size_t room,
                     size_t *written);
 

@@ -255,12 +255,12 @@ static void explains(void) {
     const text *t = any_text();
     uint8_t out[ROOM];
     size_t written = 9, room = below(2) ? sizeof out : 0;
-    int32_t form = (int32_t)below(6) - 1;
+    int32_t form = (int32_t)below(7) - 1;
     int32_t found = form == ASM_FORM_LOCATIONS ? t->locations
                     : form == ASM_FORM_MOVE    ? t->fire
                     : form == ASM_FORM_STATE   ? t->state
                                                : ASM_SHAPE;
-    int32_t wanted = form < 0 || form > ASM_FORM_EVENT ? ASM_RANGE
+    int32_t wanted = form < 0 || form > ASM_FORM_SCRIPT ? ASM_RANGE
                      : found == ASM_DONE || room       ? ASM_DONE
                                                        : ASM_SMALL;
     REQUIRE(asm_explain(form, bytes(t), strlen(t->bytes), room ? out : NULL, room, &written) ==

@@ -355,12 +355,16 @@ static void sentences(void) {
              "{\"set\":[{\"set\":[]}]}]],\"reads\":[]}",
              "instruction 3: a set can't hold a set");
     explains(ASM_FORM_STATE, "[[[\"x\"],1],[[\"x\"],2]]", "a location stands twice");
+    explains(ASM_FORM_SCRIPT, "{\"agents\":[[[[[\"inc\",[\"x\"],1]]]]],\"init\":[]}", "");
+    explains(ASM_FORM_SCRIPT,
+             "{\"agents\":[[],[[[[\"inc\",[\"x\"],1],[\"putt\",[\"x\"],1]]]]],\"init\":[]}",
+             "agent 1 step 0 block 0 instruction 1: unknown word \"putt\"");
     char *at = text + sprintf(text, "{\"fire\":[");
     for (int i = 0; i < 4097; i++)
         at += sprintf(at, "%s[\"put\",[\"x\"],1]", i ? "," : "");
     sprintf(at, "],\"reads\":[]}");
     explains(ASM_FORM_MOVE, text, "4,097 instructions, at most 4,096");
-    for (int32_t form = -1; form <= 4; form += 5)
+    for (int32_t form = -1; form <= 5; form += 6)
         REQUIRE(asm_explain(form, bytes("[]"), 2, out, sizeof out, &written) == ASM_RANGE &&
                 written == 0);
 }

@@ -164,7 +164,7 @@ public final class Storage implements AutoCloseable {
     }
 
     /** The forms that explain knows; of a journal, the lines behind the first are events. */
-    public enum Form { LOCATIONS, MOVE, STATE, EVENT }
+    public enum Form { LOCATIONS, MOVE, STATE, EVENT, SCRIPT }
 
     /** Where and why a text isn't of a form; empty for a text that is. */
     public static String explain(Form form, String text) {

@@ -49,7 +49,7 @@ from ._errors import error_text, explain
 from ._functions import aggregate, check, compose, replay, trace, version
 from ._held import Nested
 from ._library import BUSY, CLASH, CUT, DEEP, DONE, EMPTY, EVENT, FULL, ILLEGAL, LARGE, LOCATIONS, MANY, MEMORY, MISSING
-from ._library import MOVE, MOVED, NONE, NOT_JSON, NUMBER, OTHER, RANGE, SHAPE, SMALL, STALE, STATE, TAKEN, VERSION
+from ._library import MOVE, MOVED, NONE, NOT_JSON, NUMBER, OTHER, RANGE, SCRIPT, SHAPE, SMALL, STALE, STATE, TAKEN, VERSION
 from ._location import Location
 from ._move import Move
 from ._step import Step
@@ -61,7 +61,7 @@ __all__ = [
     "Agent", "BadJournal", "Busy", "Clash", "Deep", "Error", "Full", "Large", "Location", "Many", "Missing", "Move", "Moved",
     "Nested", "Over", "Stale", "Step", "Storage",
     "aggregate", "check", "compose", "error_text", "explain", "replay", "trace", "version",
-    "EVENT", "LOCATIONS", "MOVE", "STATE",
+    "EVENT", "LOCATIONS", "MOVE", "SCRIPT", "STATE",
     "BUSY", "CLASH", "CUT", "DEEP", "DONE", "EMPTY", "FULL", "ILLEGAL", "LARGE", "MANY", "MEMORY", "MISSING", "MOVED",
     "NONE", "NOT_JSON", "NUMBER", "OTHER", "RANGE", "SHAPE", "SMALL", "STALE", "TAKEN", "VERSION",
 ]

@@ -145,7 +145,7 @@ def ahead(reads: Iterable[Any], seen: int) -> Error:
 
 
 def explain(form: int, text: bytes) -> str:
-    """Where and why a text isn't of a form, LOCATIONS, MOVE, STATE or EVENT; empty for a text that is."""
+    """Where and why a text isn't of a form, LOCATIONS, MOVE, STATE, EVENT or SCRIPT; empty for a text that is."""
     if not 0 <= form < 2**31:
         raise Error(RANGE)
     code, said = Buffer().text(lib.asm_explain, form, text, len(text))

@@ -19,7 +19,7 @@ STEPS = ["asm_peek", "asm_begin", "asm_get", "asm_push", "asm_extend"]
 QUICK = ["asm_peek_at", "asm_get_at", "asm_instruct", "asm_push_move", "asm_extend_move", "asm_commit", "asm_free"]
 
 # The forms of texts that `explain` knows.
-LOCATIONS, MOVE, STATE, EVENT = range(4)
+LOCATIONS, MOVE, STATE, EVENT, SCRIPT = range(5)
 
 # The kinds of values in calls without text: those above TEXT come as texts of JSON.
 UNDEF, BOOL, NUM, TEXT = range(4)

@@ -267,7 +267,13 @@ class Agents(unittest.TestCase):
     def test_texts_are_explained(self):
         self.assertEqual(folugben.explain(folugben.LOCATIONS, b'[["x"]]'), "")
         self.assertEqual(folugben.explain(folugben.MOVE, b'[["x"]'), "not JSON: cut off after byte 6")
-        for form in (-1, 4, 2**32):
+        script = b'{"agents":[[[[["inc",["x"],1],["putt",["x"],1]]]]],"init":[]}'
+        self.assertEqual(folugben.explain(folugben.SCRIPT, script.replace(b"putt", b"put")), "")
+        self.assertEqual(
+            folugben.explain(folugben.SCRIPT, script),
+            'agent 0 step 0 block 0 instruction 1: unknown word "putt"',
+        )
+        for form in (-1, 5, 2**32):
             self.assertEqual(self.code_of(folugben.explain, form, b"[]"), folugben.RANGE)
 
     def test_texts_of_codes(self):

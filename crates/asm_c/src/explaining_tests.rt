@@ -18,7 +18,9 @@ const STATE: i32 = 2;
 
 const EVENT: i32 = 3;
 
-static ROWS: [Row; 59] = [
+const SCRIPT: i32 = 4;
+
+static ROWS: [Row; 62] = [
     Row {
         form: LOCATIONS,
         text: "[[\"x\"],[\"y\",1,\"a\",{\"list\":[]}]]",
@@ -314,6 +316,21 @@ static ROWS: [Row; 59] = [
         text: "{\"agent\":0,\"call\":{\"read\":[]},\"reply\":\"full\",\"more\":1}",
         said: "an event is an object with the members agent, call and reply",
     },
+    Row {
+        form: SCRIPT,
+        text: "{\"agents\":[[[[[\"put\",[\"x\"],{\"val\":[\"y\"]}]]]]],\"init\":[]}",
+        said: "",
+    },
+    Row {
+        form: SCRIPT,
+        text: "{\"agents\":[[],[[[[\"inc\",[\"x\"],1],[\"putt\",[\"x\"],1]]]]],\"init\":[]}",
+        said: "agent 1 step 0 block 0 instruction 1: unknown word \"putt\"",
+    },
+    Row {
+        form: SCRIPT,
+        text: "{\"agents\":[[[]]],\"init\":[]}",
+        said: "agent 0 step 0: no block, at least 1",
+    },
 ];
 
 // Whether this is said of the text, in a buffer that has just the room; one less is too little.
@@ -349,11 +366,11 @@ fn codes_of_no_form(alloc: Global) -> ([i32; 2], bool) {
     let mut written = 9;
     let below = asm_explain(alloc, -1, b"[]", &mut [0, 0], &mut written);
     let is_none = written == 0;
-    let above = asm_explain(alloc, 4, b"[]", &mut [0, 0], &mut written);
+    let above = asm_explain(alloc, 5, b"[]", &mut [0, 0], &mut written);
     ([below, above], is_none && written == 0)
 }
 
 #[test]
-fn there_are_four_forms(rt: HostRuntime) {
+fn there_are_five_forms(rt: HostRuntime) {
     assert!(rt; codes_of_no_form(rt.alloc()) == ([6, 6], true));
 }

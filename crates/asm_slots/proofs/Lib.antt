@@ -13,4 +13,3 @@ pub mod Growing
 pub mod Commits
 pub mod Unwritten
 pub mod Noting
-pub mod Misread

@@ -10,7 +10,6 @@ mod composing;
 mod content;
 mod counts_and_learning;
 mod explaining;
-mod faults;
 mod getting_all;
 mod getting_at;
 mod give_and_close;

@@ -1,31 +1,20 @@
 //! What bytes from C read as.
 ghost use Rattle.std.specs.Prelude.{◌≡◌, ◌∷◌, [], IfOk, IfErr};
-ghost use Rattle.serde_json.specs.View.{view};
-ghost use Rattle.asm_journal.specs.Reading.{IsJson};
 ghost use Rattle.asm_journal.specs.Value.{IsStateForm};
-ghost use Rattle.asm_slots.specs.Bytes.{AreLocations, AreReads, IsEitherMisread, IsFireForm, IsMisread, IsUnread};
-ghost use Rattle.asm_slots.specs.Bytes.{ReadAs, ReadAsMove, ReadAsReads};
+ghost use Rattle.asm_explain.specs.Bytes.{AreLocations, IsMisread, ReadAs};
+ghost use Rattle.asm_explain.specs.declared.reading.TextError.TheVariants as text_errors;
+ghost use Rattle.asm_slots.specs.Bytes.{AreReads, IsEitherMisread, ReadAsMove, ReadAsReads};
 ghost use Rattle.asm_journal.specs.Event.{IsMoveForm};
-ghost use Rattle.asm_slots.specs.Bytes.{ReadAsFire, ReadAsLocations, ReadAsState, text_error_code};
+ghost use Rattle.asm_slots.specs.Bytes.{ReadAsLocations, ReadAsState, text_error_code};
 ghost use Rattle.asm_slots.specs.Codes.{IsOneOf, ASM_MEMORY, ASM_NOT_JSON, ASM_SHAPE};
-ghost use Rattle.asm_slots.specs.declared.parsing.TextError.TheVariants as text_errors;
 
 use crate::codes::{MEMORY, NOT_JSON, SHAPE};
-use asm_element::{Items, Location};
+use asm_element::Location;
+use asm_explain::{TextError, read_as};
 use asm_journal::{FromJson, Listed};
 use asm_state::Named;
-use asm_storage::Call;
 use asm_update::{Instructions, PlainState};
-use serde_json::Value as Json;
-use std::alloc::{AllocError, Global};
-
-/// Why bytes weren't read.
-#[derive(Clone, Copy, Drop)]
-pub(crate) enum TextError {
-    NotJson,
-    Shape,
-    Memory,
-}
+use std::alloc::Global;
 
 /// The code of the error.
 pub(crate) fn code_of_text_error(error: TextError) -> i32
@@ -38,33 +27,6 @@ pub(crate) fn code_of_text_error(error: TextError) -> i32
         TextError::Memory => MEMORY,
         TextError::NotJson => NOT_JSON,
         TextError::Shape => SHAPE,
-    }
-}
-
-fn json_of(alloc: Global, bytes: &[u8]) -> Result<Json, TextError>
-    ensures ok { IfOk result (λ v. IsJson bytes.now (view v)) }
-    ensures err { IfErr result (IsUnread bytes.now) }
-{
-    match Json::from_slice(alloc, bytes) {
-        Ok(json) => Ok(json),
-        Err(error) if error.is_memory() => Err(TextError::Memory),
-        Err(_) => Err(TextError::NotJson),
-    }
-}
-
-// The value of this type whose JSON the bytes are.
-pub(crate) fn read_as<T: FromJson>(alloc: Global, bytes: &[u8]) -> Result<T, TextError>
-    ensures ok { IfOk result (ReadAs T.is_form bytes.now) }
-    ensures err { IfErr result (IsMisread T.is_form bytes.now) }
-{
-    let json = match json_of(alloc, bytes) {
-        Ok(json) => json,
-        Err(error) => return Err(error),
-    };
-    match T::from_json(alloc, &json) {
-        Ok(Some(read)) => Ok(read),
-        Ok(None) => Err(TextError::Shape),
-        Err(AllocError) => Err(TextError::Memory),
     }
 }
 
@@ -124,23 +86,4 @@ pub(crate) fn state_of(alloc: Global, bytes: &[u8]) -> Result<PlainState, TextEr
     ensures err { IfErr result (IsMisread IsStateForm bytes.now) }
 {
     read_as::<PlainState>(alloc, bytes)
-}
-
-/// A move with its named reads.
-#[derive(Drop)]
-pub(crate) struct Fire {
-    pub(crate) reads: Items<Named>,
-    pub(crate) instrs: Instructions,
-}
-
-/// The move of `{"fire":[INSTR, ..],"reads":[NAMED, ..]}`.
-pub(crate) fn fire_of(alloc: Global, bytes: &[u8]) -> Result<Fire, TextError>
-    ensures ok { IfOk result (λ f. ReadAsFire bytes.now f.reads f.instrs) }
-    ensures err { IfErr result (IsMisread IsFireForm bytes.now) }
-{
-    match read_as::<Call>(alloc, bytes) {
-        Ok(Call::Fire { reads, instrs }) => Ok(Fire { reads, instrs }),
-        Ok(Call::Read(_)) => Err(TextError::Shape),
-        Err(error) => Err(error),
-    }
 }

@@ -8,9 +8,10 @@ ghost use Rattle.asm_slots.specs.declared.content.Content.TheVariants as content
 
 use crate::codes::{DONE, MEMORY, TAKEN};
 use crate::content::Content;
-use crate::parsing::{code_of_text_error, read_as};
+use crate::parsing::code_of_text_error;
 use crate::slot::Slot;
 use asm_element::Location;
+use asm_explain::read_as;
 use asm_update::Instructions;
 use std::alloc::Global;
 

@@ -19,9 +19,10 @@ ghost use Rattle.asm_slots.specs.declared.content.Content.TheVariants as content
 use crate::codes::{BUSY, CLASH, DONE, EMPTY, FULL, MANY, MEMORY, NONE, RANGE, STALE, copied};
 use crate::content::Content;
 use crate::owned_agent::OwnedAgent;
-use crate::parsing::{code_of_text_error, fire_of, locations_of};
+use crate::parsing::{code_of_text_error, locations_of};
 use crate::slot::Slot;
 use crate::take_and_put::{put_agent, take_agent};
+use asm_explain::fire_of;
 use asm_storage::{FireError, ReadError, Reply};
 use std::alloc::Global;
 

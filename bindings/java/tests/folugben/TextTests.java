@@ -25,6 +25,9 @@ final class TextTests {
         equal(Storage.explain(Storage.Form.LOCATIONS, "[[\"x\"]]"), "");
         equal(Storage.explain(Storage.Form.EVENT, "{}"),
                 "an event is an object with the members agent, call and reply");
+        equal(Storage.explain(Storage.Form.SCRIPT,
+                      "{\"agents\":[[[[[\"putt\",[\"x\"],1]]]]],\"init\":[]}"),
+                "agent 0 step 0 block 0 instruction 0: unknown word \"putt\"");
     }
 
     /** A lone surrogate isn't taken for the question mark that getBytes writes in its place. */

@@ -1,5 +1,6 @@
-//! Why JSON has another form than a reader wants, in words. The readers themselves decide what is accepted; what is
-//! looked at here only finds the part that they refuse.
+//! Why JSON has another form than the reader of a location, a state, a move or an event wants, in words. The readers
+//! themselves decide what is accepted; what is looked at here only finds the part that they refuse.
+use crate::sentence::{Fault, Why};
 use asm_element::{ARGS_LIMIT, Element, ITEMS_LIMIT, Location, Value};
 use asm_journal::{FromJson, instruction_parts, one_member, read_amount, two_items, two_members};
 use asm_state::Named;
@@ -8,67 +9,14 @@ use asm_update::{INSTRUCTIONS_LIMIT, Instruction};
 use serde_json::Value as Json;
 use std::alloc::{AllocError, Global};
 
-/// What is wrong.
-#[derive(Clone, Copy, Drop)]
-pub(crate) enum Why {
-    Says(&'static str),
-    /// A kind of value can't hold another one.
-    Holds(&'static str, &'static str),
-    /// So many instructions.
-    Many(usize),
-}
-
-/// What is wrong, in which part, by its number from 1 up, or in the whole.
-#[derive(Clone, Copy, Drop)]
-pub(crate) struct Fault {
-    part: Option<(&'static str, usize)>,
-    why: Why,
-}
-
-impl Fault {
-    fn of(why: Why) -> Fault {
-        Fault { part: None, why }
-    }
-
-    fn in_part(name: &'static str, index: usize, why: Why) -> Fault {
-        Fault {
-            part: Some((name, index.saturating_add(1))),
-            why,
-        }
-    }
-
-    /// The fault in words.
-    pub(crate) fn sentence(self, alloc: Global) -> Result<String, AllocError> {
-        let mut text = String::new(alloc);
-        if let Some((name, number)) = self.part {
-            text.push_str(format!(in alloc; "{name} {number}: ")?.as_str())?;
-        }
-        match self.why {
-            Why::Says(words) => text.push_str(words)?,
-            Why::Holds(holder, held) => {
-                text.push_str(format!(in alloc; "a {holder} can't hold a {held}")?.as_str())?;
-            }
-            Why::Many(count) => {
-                let rest = count % 1000;
-                let digits = (count / 1000, rest / 100, rest / 10 % 10, rest % 10);
-                let (thousands, hundreds, tens, ones) = digits;
-                text.push_str(format!(in alloc;
-                    "{thousands},{hundreds}{tens}{ones} instructions, at most 4,096"
-                )?.as_str())?;
-            }
-        }
-        Ok(text)
-    }
-}
-
-const WHOLE: &str =
+pub(crate) const WHOLE: &str =
     "a number is whole, from -9,223,372,036,854,775,808 to 9,223,372,036,854,775,807";
 
 const NAME: &str = "a name has 1 to 64 letters, digits and _, and begins with no digit";
 
 const LOCATION: &str = "a location is an array of a name and at most 8 arguments";
 
-const AMOUNT: &str = "an amount or a count is a whole number, from 1 to 4,294,967,295";
+pub(crate) const AMOUNT: &str = "an amount or a count is a whole number, from 1 to 4,294,967,295";
 
 const LIST: &str = "a list is written {\"list\":[..]}";
 
@@ -76,7 +24,7 @@ const MOVE: &str = "a move is an object with the members fire and reads";
 
 const EVENT: &str = "an event is an object with the members agent, call and reply";
 
-fn is_of<T: FromJson>(alloc: Global, json: &Json) -> Result<bool, AllocError> {
+pub(crate) fn is_of<T: FromJson>(alloc: Global, json: &Json) -> Result<bool, AllocError> {
     Ok(T::from_json(alloc, json)?.is_some())
 }
 
@@ -139,7 +87,7 @@ fn is_name(alloc: Global, name: &str) -> Result<bool, AllocError> {
     Ok(Location::new(name, Vec::new(alloc)).is_ok())
 }
 
-fn why_no_location(alloc: Global, json: &Json) -> Result<Why, AllocError> {
+pub(crate) fn why_no_location(alloc: Global, json: &Json) -> Result<Why, AllocError> {
     let Some((Json::String(name), args)) = json.as_array().and_then(|items| items.split_first())
     else {
         return Ok(Why::Says(LOCATION));
@@ -196,7 +144,7 @@ fn why_no_bag(alloc: Global, json: &Json) -> Result<Why, AllocError> {
     Ok(Why::Says("an element stands twice in a bag"))
 }
 
-fn why_no_value(alloc: Global, json: &Json) -> Result<Why, AllocError> {
+pub(crate) fn why_no_value(alloc: Global, json: &Json) -> Result<Why, AllocError> {
     if let Some(items) = one_member(json, "set") {
         return why_no_set(alloc, items);
     }
@@ -289,7 +237,7 @@ pub(crate) fn fault_of_move(alloc: Global, json: &Json) -> Result<Fault, AllocEr
 }
 
 // Why JSON is no location with its value; `None` where it is.
-fn why_no_pair(alloc: Global, json: &Json) -> Result<Option<Why>, AllocError> {
+pub(crate) fn why_no_pair(alloc: Global, json: &Json) -> Result<Option<Why>, AllocError> {
     let Some((at, value)) = json.as_array().and_then(|items| two_items(items)) else {
         return Ok(Some(Why::Says("a pair is an array of a location and its value")));
     };

@@ -2,9 +2,9 @@
 use Rattle.std.proofs.Common.{List, ℕ}
 use Rattle.asm_storage.specs.declared.call.Call.TheVariants as call
 use Rattle.asm_journal.specs.Event.{IsCallForm}
-use Rattle.asm_slots.specs.Bytes.{IsFireForm, IsMisread}
-use Rattle.asm_slots.specs.declared.parsing.TextError.{TextError}
-use Rattle.asm_slots.specs.declared.parsing.TextError.TheVariants as error
+use Rattle.asm_explain.specs.Bytes.{IsFireForm, IsMisread}
+use Rattle.asm_explain.specs.declared.reading.TextError.{TextError}
+use Rattle.asm_explain.specs.declared.reading.TextError.TheVariants as error
 
 -- what isn't read as a call isn't read as a fire
 pub misread_fire : (bytes : List ℕ) (e : TextError) → IsMisread IsCallForm bytes e → IsMisread IsFireForm bytes e

@@ -1,0 +1,7 @@
+use Rattle.std.proofs.Common.{string_bytes}
+use Rattle.std.proofs.lemmas.Result.{IfOk-weaker}
+use Rattle.asm_explain.proofs.journal.at_line.Goals as goal
+
+pub returns : goal.returns
+returns c =
+    IfOk-weaker c.format.result _ _ (λ s is. (string_bytes c.in_ok-why.why', c.in_ok-why.ensures, is)) c.format.ensures

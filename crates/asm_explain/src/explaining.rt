@@ -1,0 +1,125 @@
+//! Whether a text reads as a form, and a sentence that says where and why it doesn't.
+ghost use Rattle.std.specs.Prelude.{◌≡◌, ◌≢◌, ◌⊎◌, [], true, false, string_bytes};
+ghost use Rattle.std.specs.Prelude.{IfOk, IfNone, IfSome};
+ghost use Rattle.asm_explain.specs.Bytes.{IsNoJson, IsOtherJson, ReadAs};
+ghost use Rattle.asm_explain.specs.Forms.{IsOfForm, IsOfNoForm};
+ghost use Rattle.asm_explain.specs.declared.explaining.Form.TheVariants as forms;
+
+use crate::faults::{fault_of_event, fault_of_locations, fault_of_move, fault_of_state};
+use crate::reading::{TextError, fire_of, read_as};
+use crate::script::wrong_script;
+use crate::sentence::{not_json, told};
+use asm_element::Location;
+use asm_journal::{FromJson, Listed};
+use asm_script::{ScriptError, parse_script};
+use asm_storage::Event;
+use asm_update::PlainState;
+use serde_json::Value as Json;
+use std::alloc::{AllocError, Global};
+
+/// The forms of texts that are explained.
+#[derive(Clone, Copy, Debug, PartialEq, Eq)]
+pub enum Form {
+    /// Locations, `[LOC, ..]`.
+    Locations,
+    /// A move with its named reads, `{"fire":[INSTR, ..],"reads":[NAMED, ..]}`.
+    Move,
+    /// A state, `[PAIR, ..]`.
+    State,
+    /// An event, as a journal's lines behind the first.
+    Event,
+    /// A script.
+    Script,
+}
+
+// Whether the text is JSON of a value of this type.
+fn reads_as<T: FromJson>(alloc: Global, text: &[u8]) -> Result<bool, AllocError>
+    ensures reads { IfOk result (λ b. b ≡ true → (x : T) × ReadAs T.is_form text.now x) }
+    ensures other { IfOk result (λ b. b ≡ false → IsNoJson text.now ⊎ IsOtherJson T.is_form text.now) }
+{
+    match read_as::<T>(alloc, text) {
+        Ok(_) => Ok(true),
+        Err(TextError::Memory) => Err(AllocError),
+        Err(_) => Ok(false),
+    }
+}
+
+fn reads_as_move(alloc: Global, text: &[u8]) -> Result<bool, AllocError>
+    ensures reads { IfOk result (λ b. b ≡ true → IsOfForm forms.Move text.now) }
+    ensures other { IfOk result (λ b. b ≡ false → IsOfNoForm forms.Move text.now) }
+{
+    match fire_of(alloc, text) {
+        Ok(_) => Ok(true),
+        Err(TextError::Memory) => Err(AllocError),
+        Err(_) => Ok(false),
+    }
+}
+
+fn reads_as_script(alloc: Global, text: &[u8]) -> Result<bool, AllocError>
+    ensures reads { IfOk result (λ b. b ≡ true → IsOfForm forms.Script text.now) }
+    ensures other { IfOk result (λ b. b ≡ false → IsOfNoForm forms.Script text.now) }
+{
+    let refused = match parse_script(alloc, text) {
+        Ok(_script) => return Ok(true),
+        Err(refused) => refused,
+    };
+    match refused {
+        ScriptError::BadScript(_) => Ok(false),
+        ScriptError::Memory => Err(AllocError),
+    }
+}
+
+// Whether the reader of this form accepts the text.
+fn accepts(alloc: Global, form: Form, text: &[u8]) -> Result<bool, AllocError>
+    ensures reads { IfOk result (λ b. b ≡ true → IsOfForm form text.now) }
+    ensures other { IfOk result (λ b. b ≡ false → IsOfNoForm form text.now) }
+{
+    match form {
+        Form::Locations => reads_as::<Listed<Location>>(alloc, text),
+        Form::Move => reads_as_move(alloc, text),
+        Form::State => reads_as::<PlainState>(alloc, text),
+        Form::Event => reads_as::<Event>(alloc, text),
+        Form::Script => reads_as_script(alloc, text),
+    }
+}
+
+// What is said of JSON that has another form.
+fn said_of(alloc: Global, form: Form, json: &Json) -> Result<String, AllocError> {
+    let fault = match form {
+        Form::Locations => fault_of_locations(alloc, json)?,
+        Form::Move => fault_of_move(alloc, json)?,
+        Form::State => fault_of_state(alloc, json)?,
+        Form::Event => fault_of_event(alloc, json)?,
+        Form::Script => return wrong_script(alloc, json),
+    };
+    fault.sentence(alloc)
+}
+
+// The sentence on a text that has another form.
+fn sentence(alloc: Global, form: Form, text: &[u8]) -> Result<String, AllocError>
+    ensures { IfOk result (λ s. string_bytes s ≢ []) }
+{
+    let said = match Json::from_slice(alloc, text) {
+        Ok(json) => said_of(alloc, form, &json)?,
+        Err(error) if error.is_memory() => return Err(AllocError),
+        Err(error) => not_json(alloc, text, &error, form == Form::Script)?,
+    };
+    told(alloc, said)
+}
+
+/// Where and why a text isn't of this form, in a sentence that isn't empty; `None` where it is.
+///
+/// It tells what the readers of these forms accept, and nothing that another call is refused for: more than 256
+/// locations are locations. A script is accepted where `parse_script` reads it, within its limits. Agents, steps,
+/// blocks, instructions and pairs of a script are counted from 0, as in its report; the parts of other texts, bytes and
+/// lines from 1. Which sentence comes is tested. `AllocError` comes only where memory was refused.
+pub fn explain(alloc: Global, form: Form, text: &[u8]) -> Result<Option<String>, AllocError>
+    ensures accepted { IfOk result (λ said. IfNone said (IsOfForm form text.now)) }
+    ensures refused { IfOk result (λ said. IfSome said (λ s. IsOfNoForm form text.now)) }
+    ensures tells { IfOk result (λ said. IfSome said (λ s. string_bytes s ≢ [])) }
+{
+    if accepts(alloc, form, text)? {
+        return Ok(None);
+    }
+    Ok(Some(sentence(alloc, form, text)?))
+}

@@ -1,0 +1,239 @@
+//! Where and why a text is no journal: its line, counted from 1, and a sentence.
+ghost use Rattle.std.specs.Prelude.{IfOk, IfNone, IfSome, ◌≢◌, [], string_bytes};
+ghost use Rattle.asm_storage.specs.declared.history.History.{History};
+ghost use Rattle.asm_journal.specs.Reading.{ReadsAs};
+ghost use Rattle.asm_explain.specs.Lines.{TellsFault, TellsOfLine, TellsRefusal};
+
+use crate::faults::{fault_of_event, is_of};
+use crate::script::wrong_init;
+use crate::sentence::{not_json, told};
+use asm_journal::{FromJson, JournalError, from_text};
+use asm_row::CAPACITY_LIMIT;
+use asm_storage::{AGENTS_LIMIT, Event};
+use asm_update::PlainState;
+use serde_json::Value as Json;
+use std::alloc::{AllocError, Global};
+
+const HEADER: &str =
+    "the first line of a journal is an object with the members agents, capacity, events, init and version";
+
+const VERSION: &str = "a journal has version 1 or 2";
+
+const EMPTY: &str = "an empty line";
+
+const LISTS: &str = "a journal of version 1 has no lists";
+
+// The whole number that the member of a header is, if it is one up to 4,294,967,295.
+fn number_in(header: &Json, key: &str) -> Option<u32> {
+    u32::try_from(header.get(key)?.as_u64()?).ok()
+}
+
+// The line with this number, which is counted from 1, without its line feed.
+fn line_of(text: &[u8], number: u64) -> &[u8] {
+    let mut left = number;
+    let mut rest = text;
+    while left > 1 {
+        let Some(end) = rest.iter().position(|byte| *byte == b'\n') else {
+            return b"";
+        };
+        rest = &rest[end + 1..];
+        left -= 1;
+    }
+    match rest.iter().position(|byte| *byte == b'\n') {
+        Some(end) => &rest[..end],
+        None => rest,
+    }
+}
+
+// The header, where the first line is JSON.
+fn header_of(alloc: Global, text: &[u8]) -> Result<Option<Json>, AllocError> {
+    match Json::from_slice(alloc, line_of(text, 1)) {
+        Ok(header) => Ok(Some(header)),
+        Err(error) if error.is_memory() => Err(AllocError),
+        Err(_) => Ok(None),
+    }
+}
+
+// Whether the member of a header is a number in this range.
+fn is_between(header: &Json, key: &str, least: u32, most: u32) -> bool {
+    match number_in(header, key) {
+        Some(number) => least <= number && number <= most,
+        None => false,
+    }
+}
+
+// Which of a header's numbers is none, if one is.
+fn wrong_number(header: &Json) -> Option<&'static str> {
+    if !is_between(header, "agents", 0, AGENTS_LIMIT) {
+        return Some("agents is a whole number, from 0 to 256");
+    }
+    if !is_between(header, "capacity", 1, CAPACITY_LIMIT) {
+        return Some("capacity is a whole number, from 1 to 1,048,576");
+    }
+    if !is_between(header, "events", 0, u32::MAX) {
+        return Some("events is a whole number, from 0 to 4,294,967,295");
+    }
+    if !is_between(header, "version", 1, 2) {
+        return Some(VERSION);
+    }
+    None
+}
+
+fn has_five_members(header: &Json) -> bool {
+    let keys = ["agents", "capacity", "events", "init", "version"];
+    match header.as_object() {
+        Some(members) => {
+            members.len() == keys.len() && keys.iter().all(|key| header.get(*key).is_some())
+        }
+        None => false,
+    }
+}
+
+// Why JSON is no header of a journal.
+fn wrong_header(alloc: Global, header: &Json) -> Result<String, AllocError> {
+    if !has_five_members(header) {
+        return String::from_str(alloc, HEADER);
+    }
+    if let Some(why) = wrong_number(header) {
+        return String::from_str(alloc, why);
+    }
+    match header.get("init") {
+        Some(init) if !is_of::<PlainState>(alloc, init)? => wrong_init(alloc, init),
+        _ => String::from_str(alloc, LISTS),
+    }
+}
+
+// Why JSON is no event of a journal of so many agents.
+fn wrong_event(alloc: Global, agents: u32, json: &Json) -> Result<String, AllocError> {
+    let Some(event) = Event::from_json(alloc, json)? else {
+        return fault_of_event(alloc, json)?.sentence(alloc);
+    };
+    if event.agent >= agents {
+        let agent = event.agent;
+        return format!(in alloc;
+            "the agent is {agent}, and has to be below {agents}, the number of agents in line 1"
+        );
+    }
+    if !event.fits(agents) {
+        return String::from_str(
+            alloc,
+            "the call has more than 256 locations or reads, or its reply answers another call",
+        );
+    }
+    String::from_str(alloc, LISTS)
+}
+
+// The number of the line of the last event, by the number of events that the header tells.
+fn last_by(header: &Json) -> u64 {
+    match number_in(header, "events") {
+        Some(events) => u64::from(events) + 1,
+        None => 1,
+    }
+}
+
+// Why the line with this number has a wrong shape, behind the first line.
+fn wrong_line(
+    alloc: Global,
+    header: &Json,
+    line: &[u8],
+    number: u64,
+) -> Result<String, AllocError> {
+    let last = last_by(header);
+    if number > last {
+        if line.is_empty() {
+            return format!(in alloc; "an empty line, the journal ends with line {last}");
+        }
+        return format!(in alloc; "one line too many, the journal ends with line {last}");
+    }
+    match Json::from_slice(alloc, line) {
+        Ok(json) => wrong_event(alloc, number_in(header, "agents").unwrap_or(0), &json),
+        Err(error) if error.is_memory() => Err(AllocError),
+        Err(error) => not_json(alloc, line, &error, false),
+    }
+}
+
+// Why the line with this number has a wrong shape.
+fn why_shape(alloc: Global, text: &[u8], number: u64) -> Result<String, AllocError> {
+    let Some(header) = header_of(alloc, text)? else {
+        return String::from_str(alloc, HEADER);
+    };
+    if number == 1 {
+        return wrong_header(alloc, &header);
+    }
+    wrong_line(alloc, &header, line_of(text, number), number)
+}
+
+// Why the line with this number isn't JSON.
+fn why_not_json(alloc: Global, text: &[u8], number: u64) -> Result<String, AllocError> {
+    let line = line_of(text, number);
+    if line.is_empty() {
+        return String::from_str(alloc, EMPTY);
+    }
+    match Json::from_slice(alloc, line) {
+        Ok(_) => String::from_str(alloc, EMPTY),
+        Err(error) if error.is_memory() => Err(AllocError),
+        Err(error) => not_json(alloc, line, &error, false),
+    }
+}
+
+// The number of the last line, which has no line feed or isn't there.
+fn last_line(text: &[u8]) -> u64 {
+    let feeds = text.iter().filter(|byte| **byte == b'\n').count();
+    (feeds as u64).saturating_add(1)
+}
+
+// Why a journal is cut at the line with this number.
+fn why_cut(alloc: Global, text: &[u8], number: u64) -> Result<String, AllocError> {
+    if text.is_empty() {
+        return String::from_str(alloc, "the text is empty");
+    }
+    if !line_of(text, number).is_empty() {
+        return String::from_str(alloc, "cut off, it has no line feed at its end");
+    }
+    match header_of(alloc, text)? {
+        Some(header) => {
+            let last = last_by(&header);
+            format!(in alloc; "missing, the journal ends with line {last}")
+        }
+        None => String::from_str(alloc, "missing"),
+    }
+}
+
+// The sentence that tells this of the line.
+fn at_line(alloc: Global, line: u64, why: String) -> Result<String, AllocError>
+    ensures { IfOk result (λ s. TellsOfLine line (string_bytes s)) }
+{
+    let why = told(alloc, why)?;
+    format!(in alloc; "journal line {line}: {why}")
+}
+
+// The sentence that tells of this fault of the text.
+fn sentence(alloc: Global, text: &[u8], fault: JournalError) -> Result<String, AllocError>
+    ensures { IfOk result (λ s. TellsFault fault (string_bytes s)) }
+{
+    match fault {
+        JournalError::NotJson(line) => at_line(alloc, line, why_not_json(alloc, text, line)?),
+        JournalError::Shape(line) => at_line(alloc, line, why_shape(alloc, text, line)?),
+        JournalError::Version => { at_line(alloc, 1, String::from_str(alloc, VERSION)?) }
+        JournalError::Cut => {
+            let line = last_line(text);
+            at_line(alloc, line, why_cut(alloc, text, line)?)
+        }
+        JournalError::Memory => Err(AllocError),
+    }
+}
+
+/// Where and why a text is no journal, in a sentence that begins with the line: `journal line 12: an empty line`.
+///
+/// `None` where `from_text` reads the text; else the sentence names the line of the first fault, and of a journal that
+/// is cut the line that is missing or has no line feed. What it says of the line is tested. `AllocError` comes only
+/// where memory was refused.
+pub fn explain_journal(alloc: Global, text: &[u8]) -> Result<Option<String>, AllocError>
+    ensures accepted { IfOk result (λ said. IfNone said ((h : History) × ReadsAs text.now h)) }
+    ensures refused { IfOk result (λ said. IfSome said (λ s. TellsRefusal text.now (string_bytes s))) }
+{
+    match from_text(alloc, text) {
+        Ok(_) => Ok(None),
+        Err(fault) => Ok(Some(sentence(alloc, text, fault)?)),
+    }
+}

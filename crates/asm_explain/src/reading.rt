@@ -1,0 +1,77 @@
+//! What bytes read as.
+ghost use Rattle.std.specs.Prelude.{IfOk, IfErr};
+ghost use Rattle.serde_json.specs.View.{view};
+ghost use Rattle.asm_journal.specs.Reading.{IsJson};
+ghost use Rattle.asm_explain.specs.Bytes.{IsFireForm, IsMisread, IsUnread, ReadAs, ReadAsFire};
+
+use asm_element::Items;
+use asm_journal::FromJson;
+use asm_state::Named;
+use asm_storage::Call;
+use asm_update::Instructions;
+use serde_json::Value as Json;
+use std::alloc::{AllocError, Global};
+
+/// Why bytes weren't read.
+#[derive(Clone, Copy, Drop)]
+pub enum TextError {
+    /// They are not JSON.
+    NotJson,
+    /// They are JSON of another form.
+    Shape,
+    /// Memory was refused.
+    Memory,
+}
+
+fn json_of(alloc: Global, bytes: &[u8]) -> Result<Json, TextError>
+    ensures ok { IfOk result (λ v. IsJson bytes.now (view v)) }
+    ensures err { IfErr result (IsUnread bytes.now) }
+{
+    match Json::from_slice(alloc, bytes) {
+        Ok(json) => Ok(json),
+        Err(error) if error.is_memory() => Err(TextError::Memory),
+        Err(_) => Err(TextError::NotJson),
+    }
+}
+
+/// The value of this type whose JSON the bytes are.
+///
+/// `NotJson` and `Shape` tell why they are none, and come where no value has this JSON; `Memory` comes only where
+/// memory was refused.
+pub fn read_as<T: FromJson>(alloc: Global, bytes: &[u8]) -> Result<T, TextError>
+    ensures ok { IfOk result (ReadAs T.is_form bytes.now) }
+    ensures err { IfErr result (IsMisread T.is_form bytes.now) }
+{
+    let json = match json_of(alloc, bytes) {
+        Ok(json) => json,
+        Err(error) => return Err(error),
+    };
+    match T::from_json(alloc, &json) {
+        Ok(Some(read)) => Ok(read),
+        Ok(None) => Err(TextError::Shape),
+        Err(AllocError) => Err(TextError::Memory),
+    }
+}
+
+/// A move with its named reads.
+#[derive(Drop)]
+pub struct Fire {
+    /// The named reads.
+    pub reads: Items<Named>,
+    /// The move.
+    pub instrs: Instructions,
+}
+
+/// The move of `{"fire":[INSTR, ..],"reads":[NAMED, ..]}`.
+///
+/// `NotJson` and `Shape` tell why the bytes are none; `Memory` comes only where memory was refused.
+pub fn fire_of(alloc: Global, bytes: &[u8]) -> Result<Fire, TextError>
+    ensures ok { IfOk result (λ f. ReadAsFire bytes.now f.reads f.instrs) }
+    ensures err { IfErr result (IsMisread IsFireForm bytes.now) }
+{
+    match read_as::<Call>(alloc, bytes) {
+        Ok(Call::Fire { reads, instrs }) => Ok(Fire { reads, instrs }),
+        Ok(Call::Read(_)) => Err(TextError::Shape),
+        Err(error) => Err(error),
+    }
+}

@@ -1,0 +1,121 @@
+//! Sentences on what is wrong in a text.
+ghost use Rattle.std.specs.Prelude.{◌≢◌, [], IfOk, string_bytes};
+
+use std::alloc::{AllocError, Global};
+
+/// What is wrong.
+#[derive(Clone, Copy, Drop)]
+pub(crate) enum Why {
+    Says(&'static str),
+    /// A kind of value can't hold another one.
+    Holds(&'static str, &'static str),
+    /// So many instructions.
+    Many(usize),
+}
+
+impl Why {
+    /// What is wrong, in words.
+    pub(crate) fn words(self, alloc: Global) -> Result<String, AllocError> {
+        match self {
+            Why::Says(words) => String::from_str(alloc, words),
+            Why::Holds(holder, held) => format!(in alloc; "a {holder} can't hold a {held}"),
+            Why::Many(count) => {
+                let count = grouped(alloc, count)?;
+                format!(in alloc; "{count} instructions, at most 4,096")
+            }
+        }
+    }
+}
+
+/// What is wrong, in which part, by its index, or in the whole.
+#[derive(Clone, Copy, Drop)]
+pub(crate) struct Fault {
+    part: Option<(&'static str, usize)>,
+    why: Why,
+}
+
+impl Fault {
+    pub(crate) fn of(why: Why) -> Fault {
+        Fault { part: None, why }
+    }
+
+    pub(crate) fn in_part(name: &'static str, index: usize, why: Why) -> Fault {
+        Fault {
+            part: Some((name, index)),
+            why,
+        }
+    }
+
+    /// The fault in words, where parts are counted from 1 up.
+    pub(crate) fn sentence(self, alloc: Global) -> Result<String, AllocError> {
+        let words = self.why.words(alloc)?;
+        match self.part {
+            Some((name, index)) => {
+                let number = index.saturating_add(1);
+                format!(in alloc; "{name} {number}: {words}")
+            }
+            None => Ok(words),
+        }
+    }
+}
+
+/// The number with a comma before each three of its last digits.
+pub(crate) fn grouped(alloc: Global, number: usize) -> Result<String, AllocError> {
+    let digits = format!(in alloc; "{number}")?;
+    let mut left = digits.len();
+    let mut text = String::new(alloc);
+    for digit in digits.chars() {
+        if !text.is_empty() && left % 3 == 0 {
+            text.push_str(",")?;
+        }
+        text.push(digit)?;
+        left = left.saturating_sub(1);
+    }
+    Ok(text)
+}
+
+/// What is said, in any case with a text.
+pub(crate) fn told(alloc: Global, said: String) -> Result<String, AllocError>
+    ensures { IfOk result (λ s. string_bytes s ≢ []) }
+{
+    if said.is_empty() {
+        return String::from_str(alloc, "JSON of another shape");
+    }
+    Ok(said)
+}
+
+// Where the text ceases to be JSON: how many bytes end with the one at fault.
+fn byte_of(text: &[u8], line: usize, column: usize) -> usize {
+    let mut left = line;
+    let mut behind = 0;
+    for (at, byte) in text.iter().enumerate() {
+        if left <= 1 {
+            break;
+        }
+        if *byte == b'\n' {
+            left -= 1;
+            behind = at + 1;
+        }
+    }
+    column.saturating_add(behind)
+}
+
+/// What is said of a text that isn't JSON; its line too, where that is asked for and isn't the first.
+pub(crate) fn not_json(
+    alloc: Global,
+    text: &[u8],
+    error: &serde_json::Error,
+    with_line: bool,
+) -> Result<String, AllocError> {
+    let line = error.line();
+    let byte = byte_of(text, line, error.column());
+    let place = if with_line && line > 1 {
+        format!(in alloc; "{byte}, in line {line}")?
+    } else {
+        format!(in alloc; "{byte}")?
+    };
+    if error.is_eof() {
+        return format!(in alloc; "not JSON: cut off after byte {place}");
+    }
+    format!(in alloc; "not JSON at byte {place}")
+}
