@@ -1,11 +1,14 @@
-// The chosen event: what was asked and answered, what changed, what it rests on, and why a move wasn't fired.
+// The chosen event: what was asked and answered, what changed, what it rested on, how it hangs together with others, and why a
+// move wasn't fired.
+import { madeStale, nearFire, ownRead, ownReads, retryOf, staledBy, tryBefore } from "./chains.js";
 import { clashNodes } from "./clash.js";
 import { kindOf } from "./run.js";
 import { answerText, button, changeNode, elementNode, glyph, locationNode, make, moveLink, span, valueNode, writerNodes } from "./nodes.js";
 import { act, shown } from "./shown.js";
 import { afterMoves, grouped, keyOf, plural } from "./terms.js";
+import { apartNode, isOther, wrongNote } from "./wrong.js";
 
-const MOST_ITEMS = 24, MOST_ROWS = 300;
+const MOST_ITEMS = 24, MOST_ROWS = 300, MOST_STALED = 12, MOST_PRINTED = 14;
 
 export function eventNode(event) {
   const answer = event.isWrong ? event.right : event.reply;
@@ -15,40 +18,22 @@ export function eventNode(event) {
       make("small", {}, `agent ${event.agent}, ${event.before ? afterMoves(event.before) : "before any move"}`)),
     event.isWrong ? wrongNote(event) : null,
     whyNote(event, answer),
+    chain(event),
     event.writes ? changes(event) : null,
     event.read ? readings(event) : [grounds(event), instructions(event, answer)]);
 }
 
-export function openingNode() {
-  const { run } = shown, count = name => run.byKind[name].length;
-  const facts = [["Agents", run.agents], ["Events", run.events.length], ["Fired moves", count("fired")], ["Reads", count("read")], ["Stale fires", count("stale")],
-    ["Clashes", count("clash")], ["Full", count("full")], ["Wrong answers", run.wrong.length], ["Locations", run.sorted.length], ["Capacity, in moves", run.capacity]];
-  return make("div", { class: "detail" },
-    make("h2", { class: "title" }, "Opening state"),
-    make("p", { class: "soft" }, run.events.length
-      ? ["This is what stood before the first event. Step on with ", make("kbd", {}, "→"), ", play with ", make("kbd", {}, "Space"), ", or choose an event above."]
-      : "No call was made in this run, so the opening state is all there is."),
-    block("The run", make("dl", { class: "facts" }, facts.map(([name, number]) => make("div", {}, make("dt", {}, name), make("dd", {}, grouped(number)))))));
-}
-
-const block = (title, ...children) => make("section", { class: "block" }, make("h3", {}, title), ...children);
+export const block = (title, ...children) => make("section", { class: "block" }, make("h3", {}, title), ...children);
+const printedLeft = count => count > MOST_PRINTED ? make("p", { class: "soft printed" }, `and ${grouped(count - MOST_PRINTED)} more`) : null;
 function table(heads, rows) {
-  const shownRows = rows.slice(0, MOST_ROWS).map(cells => make("tr", {}, cells.map((it, i) => make("td", { class: i ? null : "at" }, it))));
+  const shownRows = rows.slice(0, MOST_ROWS).map((cells, n) => make("tr", { class: n < MOST_PRINTED ? null : "far" }, cells.map((it, i) => make("td", { class: i ? null : "at" }, it))));
   return [
     make("table", {}, make("thead", {}, make("tr", {}, heads.map(it => make("th", { scope: "col" }, it)))), make("tbody", {}, shownRows)),
-    rows.length > MOST_ROWS ? make("p", { class: "soft" }, `and ${grouped(rows.length - MOST_ROWS)} more`) : null,
+    rows.length > MOST_ROWS ? make("p", { class: "soft far" }, `and ${grouped(rows.length - MOST_ROWS)} more`) : null,
+    printedLeft(rows.length),
   ];
 }
-
-function wrongNote(event) {
-  const side = (kind, title, answer) => make("div", { class: `side ${kind}` }, make("h3", {}, title), glyph(kindOf(answer)), ` ${answerText(answer)}`);
-  const after = event.kind === "fired" ? "The state goes on as if the move had been fired, as the journal says."
-    : event.right.fired !== undefined ? "The journal doesn't say that the move was fired, so it changes nothing here." : null;
-  return make("div", { class: "note wrong" },
-    make("p", {}, make("b", {}, "This answer is wrong."), " A storage of one thread gives another one here."),
-    make("div", { class: "sides" }, side("told", "In the journal", event.reply), side("right", "Right answer", event.right)),
-    after ? make("p", {}, after) : null);
-}
+export const eventLink = (event, ...text) => button("link", `Go to event ${event.number}`, () => act.choose(event.number + 1), ...text.length ? text : [`event ${event.number}`]);
 
 // Why a move isn't fired, by the right answer to it.
 function whyNote(event, answer) {
@@ -59,22 +44,38 @@ function whyNote(event, answer) {
   return null;
 }
 const note = (kind, ...children) => make("div", { class: `note ${kind}` }, ...children);
+// What the fire names at that number: a read of the agent's own, or what no read of the run tells.
+function seenNodes(event, named) {
+  const read = ownRead(ownReads(event), named);
+  return read ? [" was read ", afterMoves(named.number), ", in ", eventLink(read), "."] : [` is named as it stood ${afterMoves(named.number)}; the run has no read of it by agent ${event.agent}.`];
+}
 function whyStale(event, location) {
-  const numbers = event.named.filter(it => it.location === location).map(it => it.number);
-  const since = numbers.length ? shown.run.writesSince(location, Math.min(...numbers), event) : null;
-  if (!since) return [make("p", {}, make("b", {}, "Stale at "), locationNode(location), ".")];
-  const more = since.count > 1 ? `, and ${plural(since.count - 1, "later move")}` : "";
+  const named = event.named.filter(it => it.location === location).sort((a, b) => a.number - b.number)[0], write = staledBy(event);
+  if (!write) return [make("p", {}, make("b", {}, "Stale at "), locationNode(location), ".")];
+  const more = shown.run.writesSince(location, named.number, event).count - 1;
   return [
-    make("p", {}, make("b", {}, "Stale: "), locationNode(location), ` was read ${afterMoves(Math.min(...numbers))}. Since then `, moveLink(since.first), ` by agent ${since.first.agent} has written it${more}.`),
-    make("p", {}, `What move ${since.first.move} did: `, changeNode(since.first, 6)),
+    make("p", {}, make("b", {}, "Stale: "), locationNode(location), ...seenNodes(event, named), " Since then ", moveLink(write), ` by agent ${write.agent} has written it${more ? `, and ${plural(more, "later move")}` : ""}.`),
+    make("p", {}, `What move ${write.move} did: `, changeNode(write, 6)),
   ];
 }
 function whyClash(event, location, cause) {
-  const { run } = shown, old = run.valueAt(location, event.number), instructions = event.fire.filter((_, i) => event.targets[i] === location);
+  const { run } = shown, old = run.valueAt(location, event.number), instructed = event.fire.filter((_, i) => event.targets[i] === location);
   return [
-    make("p", {}, make("b", {}, `Clash, ${cause}: `), "at ", locationNode(location), clashNodes(cause, instructions, old)),
+    make("p", {}, make("b", {}, `Clash, ${cause}: `), "at ", locationNode(location), clashNodes(cause, instructed, old)),
     make("p", {}, "Before the move it held ", valueNode(old, 12), " (", writerNodes(run.lastWrite(location, event.number)), ")."),
   ];
+}
+
+// The tries of a fire, and what its move made stale.
+function chain(event) {
+  const before = tryBefore(event), next = retryOf(event), later = event.kind === "stale" && !next ? nearFire(event, 1) : null, staled = madeStale(event), left = staled.length - MOST_STALED;
+  const outcome = it => it.kind === "fired" ? `fired as move ${it.move}` : answerText(it.reply);
+  const lines = [
+    before ? ["Tries ", eventLink(before), ` again, which was ${answerText(before.reply)}.`] : null,
+    next ? ["Tried again in ", eventLink(next), `: ${outcome(next)}.`] : later ? ["Not tried again: the agent's next fire, ", eventLink(later), ", writes elsewhere."] : event.kind === "stale" ? "Not tried again: the agent fires no more." : null,
+    staled.length ? [`Made ${plural(staled.length, "fire")} stale: `, staled.slice(0, MOST_STALED).flatMap((it, i) => [i ? ", " : "", eventLink(it), ` of agent ${it.agent}`]), left > 0 ? `, and ${grouped(left)} more` : "", "."] : null,
+  ].filter(Boolean);
+  return lines.length ? block("How it hangs together", lines.map(it => make("p", {}, it))) : null;
 }
 
 function changes(event) {
@@ -85,25 +86,27 @@ function changes(event) {
 function readings(event) {
   if (!event.read.length) return block("What was read", make("p", { class: "soft" }, "No location."));
   const { run } = shown, value = (answer, i) => valueNode(answer.values[i], MOST_ITEMS);
-  const isOther = i => keyOf(event.reply.values[i]) !== keyOf(event.right.values[i]);
   const heads = event.isWrong ? ["Location", "In the journal", "Right", "Last written by"] : ["Location", "Value", "Last written by"];
   return block("What was read", table(heads, event.read.map((location, i) => [
     locationNode(location),
-    ...(event.isWrong ? [span(isOther(i) ? "told" : "", value(event.reply, i)), isOther(i) ? value(event.right, i) : "the same"] : [value(event.reply, i)]),
+    ...(isOther(event, i) ? [span("told", apartNode(event.reply.values[i], event.right.values[i])), apartNode(event.right.values[i], event.reply.values[i])]
+      : event.isWrong ? [value(event.reply, i), "the same"] : [value(event.reply, i)]),
     writerNodes(run.lastWrite(location, event.number)),
   ])));
 }
 
-// The reads that a fire names, each with the value there was at its number, and the move that wrote it since.
+// What a fire names, each with the value there was at its number, the agent's own read, and the move that wrote it since.
 function grounds(event) {
-  const { run } = shown;
+  const { run } = shown, reads = ownReads(event);
   if (!event.named.length) return block("What it rests on", make("p", { class: "soft" }, "Nothing: the move names no read."));
-  return block("What it rests on", table(["Location", "Read after", "Value then", "Since then"], event.named.map(({ location, number }) => {
-    const since = run.writesSince(location, number, event), isThere = number <= event.before;
+  return block("What it rests on", table(["Location", "As of", "Value then", "Since then"], event.named.map(it => {
+    const { location, number } = it, since = run.writesSince(location, number, event), isThere = number <= event.before, read = ownRead(reads, it);
+    const isUnput = isThere && !location.isPutIn(run.eventsTo(number));
     return [
       locationNode(location),
-      number && isThere ? button("link", `Go to move ${number}`, () => act.choose(run.eventsTo(number)), `move ${number}`) : number ? `move ${number}, which is still to come` : "opening state",
-      isThere ? valueNode(run.valueAt(location, run.eventsTo(number)), 8) : "unknown",
+      [number && isThere ? button("link", `Go to move ${number}`, () => act.choose(run.eventsTo(number)), `move ${number}`) : number ? `move ${number}, which is still to come` : "opening state",
+        make("div", { class: "faint" }, ...read ? ["read in ", eventLink(read)] : ["not read"])],
+      isUnput ? span("unput", "nothing yet put") : isThere ? valueNode(run.valueAt(location, run.eventsTo(number)), 8) : "unknown",
       since ? span("since", moveLink(since.first), " wrote it") : "not written",
     ];
   })));
@@ -112,11 +115,11 @@ function grounds(event) {
 function instructions(event, answer) {
   const at = answer.clash ? keyOf(answer.clash[0]) : null;
   if (!event.fire.length) return block("Instructions", make("p", { class: "soft" }, "None."));
-  const rows = event.fire.slice(0, MOST_ROWS).map(([word, , content, amount], i) => make("li", { class: event.targets[i].key === at ? "here" : null },
+  const rows = event.fire.slice(0, MOST_ROWS).map(([word, , content, amount], i) => make("li", { class: `${event.targets[i].key === at ? "here" : ""} ${i < MOST_PRINTED ? "" : "far"}` },
     span("verb", word), " ", locationNode(event.targets[i]), " ",
     word === "put" ? valueNode(content, MOST_ITEMS) : span("value", elementNode(content), amount === undefined ? null : span("count", ` ×${amount}`))));
   const left = event.fire.length - rows.length;
-  return block("Instructions", make("ol", { class: "instructions" }, rows), left > 0 ? make("p", { class: "soft" }, `and ${grouped(left)} more`) : null);
+  return block("Instructions", make("ol", { class: "instructions" }, rows), left > 0 ? make("p", { class: "soft far" }, `and ${grouped(left)} more`) : null, printedLeft(event.fire.length));
 }
 
 // The event in a line, for the list's and the lanes' help and for readers of the screen.

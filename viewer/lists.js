@@ -1,6 +1,8 @@
 // Lists of many rows, of which only those in sight are there.
 import { make } from "./nodes.js";
 
+export const ROW = 26; // the height of a row, in pixels
+
 // `rows` tells `count()`, `sign(i)`, which differs wherever a row would look otherwise, `make(i)`, and `empty`, a text or a call.
 export class List {
   constructor(box, height, rows) {
@@ -18,10 +20,11 @@ export class List {
   }
   // Shows the rows in sight, and the row with this index among them where one is given.
   show(index = -1) {
+    const whole = top => Math.ceil(top / this.height) * this.height; // so that no row is cut off at the top
     const { box, height } = this, room = box.clientHeight - this.holder.offsetTop, count = this.rows.count();
     let top = box.scrollTop;
-    if (index >= 0 && index * height < top) top = index * height - (room - height) / 3;
-    else if (index >= 0 && (index + 1) * height > top + room) top = (index + 1) * height - room + (room - height) / 3;
+    if (index >= 0 && index * height < top) top = whole(index * height - (room - height) / 3);
+    else if (index >= 0 && (index + 1) * height > top + room) top = whole((index + 1) * height - room + (room - height) / 3);
     this.top = Math.max(0, Math.min(top, count * height - room));
     this.fill(Math.max(0, Math.floor(this.top / height) - 4), Math.min(count, Math.ceil((this.top + box.clientHeight) / height) + 4), count);
     if (Math.abs(box.scrollTop - this.top) >= 1) box.scrollTop = this.top;
@@ -49,7 +52,12 @@ export class List {
       else this.holder.insertBefore(row, next);
     }
   }
-  // Whether one of the rows with these indices is in sight.
+  // Tells readers of the screen which row is the current one, where it is there; each row has an id of its own.
+  tell(id) {
+    if (id && document.getElementById(id)) this.box.setAttribute("aria-activedescendant", id);
+    else this.box.removeAttribute("aria-activedescendant");
+  }
+  // Whether the row with this index is in sight.
   sees(index) {
     const top = this.box.scrollTop, room = this.box.clientHeight - this.holder.offsetTop;
     return index * this.height >= top && (index + 1) * this.height <= top + room;

@@ -1,115 +1,123 @@
-// Puts the page together: opening a trace, choosing an event, playing, keys, light and dark.
-import { eventNode, eventText, openingNode } from "./event.js";
-import { Fault } from "./exact.js";
-import { draw, fit, readColors, renewLanes, resized, reveal, zoom } from "./lanes.js";
-import { $, glyph, make, span } from "./nodes.js";
-import { events, renewPanes, showEvents, showState, showWrites, state, writes } from "./panes.js";
-import { readRun } from "./run.js";
+// Puts the page together: what is shown, what is chosen, and the run that takes the place of another.
+import { addressed, beforeChange, changed, onAddress } from "./address.js";
+import { eventNode, eventText } from "./event.js";
+import { events, relist, renewEvents, showEvents, showHere } from "./events.js";
+import { draw, renewLanes, resized } from "./lanes.js";
+import { $, make, span } from "./nodes.js";
+import { openTrace } from "./opening.js";
+import { fitLanes } from "./room.js";
 import { act, chosen, shown } from "./shown.js";
-import { firstFrom, grouped, plural } from "./terms.js";
+import { reveal } from "./sight.js";
+import { renewState, revealPlace, showState, state } from "./state.js";
+import { showSteps } from "./steps.js";
+import { marksNode, openingNode } from "./summary.js";
+import { grouped, plural } from "./terms.js";
+import { paint } from "./theme.js";
+import { followLocation, renewWatch, showWatch } from "./watch.js";
+import { renewWrites, showWrites, writes } from "./writes.js";
 
 // ---- choosing
-act.choose = (count, keepsView = false) => {
-  const to = Math.max(0, Math.min(shown.run.events.length, count));
+act.draw = draw;
+act.changed = changed;
+const within = count => Math.max(0, Math.min(shown.run.events.length, count));
+act.choose = (count, { keepsView = false, isStep = false, isPressed = false } = {}) => {
+  const to = within(count);
+  if (isPressed) bring($("detail-pane"));
   if (to === shown.count) return;
+  beforeChange();
   shown.count = to;
   if (!keepsView) reveal();
-  show();
+  act.show();
+  changed(!isStep);
 };
-act.chooseLocation = location => {
+act.chooseLocation = (location, isStep = false) => {
+  if (location === shown.location) return location ? bring($("writes-pane")) : undefined;
+  beforeChange();
   shown.location = location;
+  followLocation();
+  showHere();
   showWrites();
-  show();
+  if (location) bring($("writes-pane"));
+  else bringBack();
+  if (location) revealPlace();
+  act.show();
+  changed(!isStep);
 };
-let painting = 0, resting = 0;
-function show() {
+act.list = (filter, isStep = false) => {
+  beforeChange();
+  relist(filter);
+  showSteps();
+  if (!isStep) bring($("events-pane"));
+  changed(!isStep);
+};
+// Keeps a moment, with which the state is compared.
+act.mark = count => {
+  beforeChange();
+  shown.mark = count;
+  act.speak(count === null ? "The state is shown as it is" : "This moment is kept; choose another one to see what differs");
+  act.show();
+  changed(true);
+};
+// Where the page is longer than the window, what was asked for is brought into sight; `way` is from where and to where.
+let way = null;
+function bring(pane) {
+  const box = pane.getBoundingClientRect(), from = scrollY;
+  if (box.top >= 0 && box.bottom <= innerHeight) return;
+  pane.scrollIntoView({ block: "nearest" });
+  way = { from: way?.to === from ? way.from : from, to: scrollY };
+}
+function bringBack() {
+  if (way?.to === scrollY) scrollTo(0, way.from);
+  way = null;
+}
+
+// ---- showing
+let painting = 0, resting = 0, saying = 0, spoken = "";
+act.show = () => {
   painting ||= requestAnimationFrame(() => {
     painting = 0;
     if (shown.run) showNow();
   });
-}
+};
 function showNow() {
   const { run, count } = shown, event = chosen(), text = event ? eventText(event) : "Opening state";
   $("slider").value = count;
   $("slider").setAttribute("aria-valuetext", text);
   if (document.activeElement !== $("move")) $("move").value = run.movesIn(count);
-  for (const id of ["first", "back", "move-back"]) $(id).disabled = count === 0;
-  for (const id of ["last", "on", "move-on"]) $(id).disabled = count === run.events.length;
+  showSteps();
   $("detail").replaceChildren(event ? eventNode(event) : openingNode());
   $("detail").scrollTop = 0;
   showWrites(); // first, as it takes its room from the state
   showState();
   showEvents();
+  showWatch();
   draw();
+  if (text === spoken) return;
+  spoken = text;
   clearTimeout(resting);
-  resting = setTimeout(() => settle(text), 200);
+  resting = setTimeout(() => tell(text), 200);
 }
-function settle(text) {
-  speak(text);
-  const place = shown.location ? `&at=${encodeURIComponent(shown.location.key)}` : "";
-  try {
-    history.replaceState(null, "", `#event=${shown.count - 1}${place}`);
-  } catch {
-    // some browsers keep no address for a file
-  }
-}
-function speak(text) {
+function tell(text) {
   $("spoken").textContent = text;
 }
-// Goes to the next event of an ascending list, or to the one before.
-function jump(list, by, what) {
-  const at = shown.count - 1, i = by > 0 ? firstFrom(list, at + 1) : firstFrom(list, at) - 1;
-  if (list[i] === undefined) speak(`No ${by > 0 ? "later" : "earlier"} ${what}`);
-  else act.choose(list[i] + 1);
-}
-function jumpMove(by) {
-  const isFirst = by < 0 && firstFrom(shown.run.moves, shown.count - 1) === 0;
-  if (isFirst) act.choose(0);
-  else jump(shown.run.moves, by, "move");
-}
+// Says what would else not be noticed: to readers of the screen, and for a moment to those who see.
+act.speak = text => {
+  tell(text);
+  clearTimeout(resting);
+  clearTimeout(saying);
+  $("said").textContent = text;
+  $("said").hidden = false;
+  saying = setTimeout(() => {
+    $("said").hidden = true;
+  }, 2400);
+};
 
-// ---- playing
-let playing = 0;
-function play(isOn) {
-  clearInterval(playing);
-  playing = 0;
-  if (isOn && shown.count < shown.run.events.length) playing = setInterval(() => {
-    act.choose(shown.count + 1);
-    if (shown.count === shown.run.events.length) play(false);
-  }, 1000 / +$("speed").value);
-  $("play").setAttribute("aria-label", playing ? "Pause" : "Play");
-  $("play").classList.toggle("playing", playing !== 0);
-}
-
-// ---- opening
-let opening = 0;
-async function openTrace(source, name) {
-  const turn = ++opening;
-  if (shown.run) play(false);
-  shown.run = null;
-  $("main").hidden = $("help-open").hidden = $("fault").hidden = $("warning").hidden = true;
-  $("start").hidden = $("busy").hidden = false;
-  $("busy").value = 0;
-  $("facts").replaceChildren();
-  $("name").textContent = "";
-  $("hint").textContent = `Reading ${name} …`;
-  try {
-    const run = await readRun(source, part => {
-      $("busy").value = part;
-    });
-    if (turn === opening) showRun(run, name);
-  } catch (fault) {
-    if (turn === opening) refuse(fault instanceof Fault ? fault.message : `${name} could not be read: ${fault.message}`, name);
-  }
-}
-function refuse(text, name) {
-  $("busy").hidden = true;
-  $("fault").hidden = false;
-  $("fault").textContent = text;
-  $("hint").textContent = `${name} isn't shown. Drop another file here, or choose one.`;
-}
-function showRun(run, name) {
-  Object.assign(shown, { run, count: 0, location: null });
+// ---- another run
+let isFirst = true;
+act.showRun = (run, name) => {
+  const start = isFirst ? addressed() : { count: 0, mark: null, at: null, condition: "", filter: {} };
+  isFirst = false;
+  Object.assign(shown, { run, count: 0, location: null, mark: null, holds: [] });
   $("busy").hidden = $("start").hidden = true;
   $("main").hidden = $("help-open").hidden = false;
   $("name").textContent = name;
@@ -119,112 +127,35 @@ function showRun(run, name) {
   $("of").textContent = `of ${grouped(run.moves.length)}`;
   $("slider").max = run.events.length;
   showFacts();
-  showLegend();
-  renewPanes();
+  $("help-marks").replaceChildren(marksNode());
+  renewEvents();
+  renewState();
+  renewWrites();
+  fitLanes();
   renewLanes();
-  const asked = new URLSearchParams(location.hash.slice(1));
-  shown.count = Math.max(0, Math.min(run.events.length, (Number.parseInt(asked.get("event") ?? "-1", 10) || 0) + 1));
-  shown.location = run.locations.get(asked.get("at")) ?? null;
+  goTo(start);
+  changed(false, true);
+};
+// Shows what an address tells.
+function goTo({ count, mark, at, condition, filter }) {
+  const { run } = shown;
+  Object.assign(shown, { count: within(count), mark: mark === null ? null : within(mark), location: run.locations.get(at) ?? null });
+  renewWatch(condition);
+  relist(filter);
   reveal();
   showNow();
 }
+onAddress(goTo);
 function showFacts() {
   const { run } = shown, fact = (number, one, many) => span("fact", make("b", {}, grouped(number)), ` ${number === 1 ? one : many ?? `${one}s`}`);
   const legal = !run.wrong.length ? span("fact legal", run.events.length === run.told ? "legal" : "legal so far")
     : make("button", { class: "fact illegal", type: "button", title: "Go to the first wrong answer", onclick: () => act.choose(run.wrong[0] + 1) }, `not legal: ${plural(run.wrong.length, "wrong answer")}, the first at event ${run.wrong[0]}`);
   $("facts").replaceChildren(fact(run.agents, "agent"), fact(run.events.length, "event"), fact(run.moves.length, "move"), fact(run.sorted.length, "location"), legal);
 }
-function showLegend() {
-  const { run } = shown, names = { fired: "fired move", read: "read", stale: "stale fire", clash: "clash", full: "full" };
-  const kinds = Object.keys(names).filter(it => run.byKind[it].length).map(it => span("", glyph(it), names[it]));
-  $("legend").replaceChildren(...kinds, run.wrong.length ? span("", glyph("fired", true), "wrong answer") : "", span("", span("dash"), "writes the chosen location"),
-    span("space"), span("", span("dash stale"), "from the move that made it stale"), span("", span("dash ground"), "from what it rests on"));
-}
 
-// ---- what a person does
-const acts = {
-  first: () => act.choose(0), last: () => act.choose(shown.run.events.length), back: () => act.choose(shown.count - 1), on: () => act.choose(shown.count + 1),
-  "move-back": () => jumpMove(-1), "move-on": () => jumpMove(1), play: () => play(!playing), "zoom-in": () => zoom(1.6), "zoom-out": () => zoom(1 / 1.6), fit,
-  "write-back": () => shown.location && jump(shown.location.times, -1, "write of the location"),
-  "write-on": () => shown.location && jump(shown.location.times, 1, "write of the location"),
-  "writes-close": () => shown.location && act.chooseLocation(null),
-  "help-open": () => $("help").showModal(), open: () => $("file").click(), "open-big": () => $("file").click(),
-};
-for (const id in acts) $(id).addEventListener("click", acts[id]);
-$("slider").addEventListener("input", () => act.choose(+$("slider").value));
-$("speed").addEventListener("change", () => playing && play(true));
-$("move").addEventListener("change", () => {
-  const number = Number.parseInt($("move").value.replaceAll(/\D/g, ""), 10);
-  $("move").blur();
-  if (number >= 0) act.choose(shown.run.eventsTo(number));
-  $("move").value = shown.run.movesIn(shown.count);
-});
-function find(id) {
-  $(id).focus();
-  $(id).select();
-}
-const keys = {
-  ArrowLeft: by => by > 0 ? acts.back() : jumpMove(-1), ArrowRight: by => by > 0 ? acts.on() : jumpMove(1), Home: acts.first, End: acts.last,
-  c: by => jump(shown.run.byKind.clash, by, "clash"), s: by => jump(shown.run.byKind.stale, by, "stale fire"), w: by => jump(shown.run.wrong, by, "wrong answer"),
-  "[": acts["write-back"], "]": acts["write-on"], "/": () => find("state-find"), e: () => find("events-find"), g: () => find("move"),
-  "+": acts["zoom-in"], "=": acts["zoom-in"], "-": acts["zoom-out"], "−": acts["zoom-out"], 0: fit, "?": acts["help-open"], Escape: acts["writes-close"], " ": acts.play,
-};
-document.addEventListener("keydown", event => {
-  if (!shown.run || event.ctrlKey || event.metaKey || event.altKey || $("help").open) return;
-  const { target, key } = event;
-  if (target.matches("input:not([type=range], [type=checkbox]), select")) {
-    if (key === "Escape" && !target.value) target.blur();
-    return;
-  }
-  if (key === " " && target.matches("button, input")) return; // it presses that
-  const does = keys[key] ?? keys[key.toLowerCase()];
-  if (!does) return;
-  event.preventDefault();
-  does(event.shiftKey ? -1 : 1);
-});
-const openFile = file => file && openTrace(file, file.name);
-$("file").addEventListener("change", () => {
-  openFile($("file").files[0]);
-  $("file").value = "";
-});
-addEventListener("dragover", event => {
-  event.preventDefault();
-  document.body.classList.add("over");
-});
-addEventListener("dragleave", event => {
-  if (!event.relatedTarget) document.body.classList.remove("over");
-});
-addEventListener("drop", event => {
-  event.preventDefault();
-  document.body.classList.remove("over");
-  openFile(event.dataTransfer.files[0]);
-});
-
-// ---- light and dark, by the system until the person chooses
-const system = matchMedia("(prefers-color-scheme: dark)");
-let theme = null;
-try {
-  theme = localStorage.getItem("folugben-theme");
-} catch {
-  // some browsers keep nothing for a file
-}
-function paint() {
-  document.documentElement.dataset.theme = theme ?? (system.matches ? "dark" : "light");
-  readColors();
-  draw();
-}
-system.addEventListener("change", paint);
-$("theme").addEventListener("click", () => {
-  theme = document.documentElement.dataset.theme === "dark" ? "light" : "dark";
-  try {
-    localStorage.setItem("folugben-theme", theme);
-  } catch {
-    // as above
-  }
-  paint();
-});
 new ResizeObserver(() => {
   if (!shown.run) return;
+  if (fitLanes()) reveal();
   resized();
   for (const it of [events, state, writes]) if (it.box.clientHeight) it.show();
 }).observe($("main"));

@@ -1,7 +1,7 @@
 // Nodes of the page for values, locations and changes. Whatever a trace holds is put in as text, never as markup.
 import { itemsOf } from "./run.js";
 import { act } from "./shown.js";
-import { afterMoves, byElement, elementText, grouped, isBag, isNumber, isSet, keyOf, locationText } from "./terms.js";
+import { afterMoves, byElement, cut, elementText, grouped, isBag, isNumber, isSet, keyOf, locationText, plural, sharedLength, shortText } from "./terms.js";
 
 export const $ = id => document.getElementById(id);
 
@@ -45,50 +45,65 @@ export function glyph(kind, isWrong = false) {
   return out;
 }
 
-export function elementNode(x) {
+// An element, of which a long text or list tells its beginning; `from` is the letter at which a text begins to matter.
+const MOST_TEXT = 160, MOST_LIST = 40;
+export function elementNode(x, from = 0) {
   if (x === null) return span("undef", "undef");
   if (isNumber(x)) return span("number", String(x));
+  if (typeof x === "string" && x.length > MOST_TEXT) return longText(x, from < MOST_TEXT - 20 ? 0 : from - 20, MOST_TEXT);
   if (typeof x !== "object") return span(typeof x === "string" ? "text" : "word", elementText(x));
-  const items = x.list.flatMap((it, i) => i ? [span("mark", ", "), elementNode(it)] : [elementNode(it)]);
-  return span("", span("mark", "["), items, span("mark", "]"));
+  return listNode(x.list, MOST_LIST);
+}
+function longText(text, start, most) {
+  const piece = cut(text, start, start + most), left = text.length - piece.length;
+  const rest = left ? restNode("long", `${grouped(left)} more letters`, () => longText(text, 0, start + most + MORE)) : null;
+  return span("long text", start ? "…" : "", elementText(piece), left ? [start + most < text.length ? "… " : " ", rest] : null);
+}
+function listNode(list, most) {
+  const items = list.slice(0, most).flatMap((it, i) => i ? [span("mark", ", "), elementNode(it)] : [elementNode(it)]), left = list.length - most;
+  return span("long", span("mark", "["), items, left > 0 ? [" ", restNode("long", `${grouped(left)} more`, () => listNode(list, most + MORE))] : null, span("mark", "]"));
 }
 export function locationNode(location) {
   return button("location", `All writes of ${location.label}`, () => act.chooseLocation(location), location.label);
 }
-const itemNode = (kind, element, count) => [span(`item ${kind}`, span("", elementNode(element)), count), " "];
-const times = n => span("count", ` ×${n}`);
-// Stands for what is left out; a press shows more in its place.
+export const itemNode = (kind, element, count) => [span(`item ${kind}`, span("", elementNode(element)), count), " "];
+export const times = n => span("count", ` ×${n}`);
+// Stands for what is left out; a press shows more in the place of what holds it.
 const MORE = 2000;
-function restNode(text, more) {
-  return button("item rest", "Show more", event => event.currentTarget.closest(".value").replaceWith(more()), text);
+function restNode(kind, text, more) {
+  return button("item rest", "Show more", event => event.currentTarget.closest(`.${kind}`).replaceWith(more()), text);
+}
+// What a set or a bag is and how large, in a tag.
+export function sizeNode(isBags, size, all = 0) {
+  return make("span", { class: "kind", title: `${isBags ? "bag" : "set"} of ${plural(size, "element")}${all ? `, ${grouped(all)} in all` : ""}` }, `${isBags ? "bag" : "set"} of ${grouped(size)}`);
 }
 
 // A value, of a set or a bag at most so many items.
-export function valueNode(value, most = Infinity) {
+export function valueNode(value, most = Infinity, from = 0) {
   const out = span("value");
   if (!isSet(value) && !isBag(value)) {
-    out.append(elementNode(value));
+    out.append(elementNode(value, from));
     return out;
   }
-  const items = itemsOf(value), left = items.length - most;
-  out.append(span("kind", isSet(value) ? "set" : "bag"), " ");
+  const items = itemsOf(value), left = items.length - most, isBags = isBag(value);
+  out.append(sizeNode(isBags, items.length, isBags ? items.reduce((all, it) => all + it[1], 0) : 0), " ");
   if (!items.length) out.append(span("undef", "empty"));
-  for (const [element, count] of left > 0 ? items.slice(0, most) : items) out.append(...itemNode("", element, isBag(value) ? times(count) : null));
-  if (left > 0) out.append(restNode(`${grouped(left)} more`, () => valueNode(value, most + MORE)));
+  for (const [element, count] of left > 0 ? items.slice(0, most) : items) out.append(...itemNode("", element, isBags ? times(count) : null));
+  if (left > 0) out.append(restNode("value", `${grouped(left)} more`, () => valueNode(value, most + MORE)));
   return out;
 }
 
 // What a write made of its location: the items of a set or a bag that changed among the others, else the old value and the new.
 export function changeNode(write, most = Infinity) {
   if (!write.items) return replacedNode(write.old, write.value, most);
-  const out = span("value", span("kind", write.isBag ? "bag" : "set"), " "), more = () => changeNode(write, most + MORE);
+  const out = span("value", sizeNode(write.isBag, write.size), " "), more = () => changeNode(write, most + MORE);
   const removed = write.items.filter(it => it[2] === 0).length, same = write.size + removed - write.items.length;
   if (write.size + removed === 0) out.append(span("undef", "empty"));
   if (write.size + removed <= most) out.append(...allItems(write).flatMap(it => changedNode(write, it)));
   else {
     out.append(...write.items.slice(0, most).flatMap(it => changedNode(write, it)));
-    if (write.items.length > most) out.append(restNode(`${grouped(write.items.length - most)} more changed`, more));
-    if (same) out.append(restNode(`${grouped(same)} unchanged`, more));
+    if (write.items.length > most) out.append(restNode("value", `${grouped(write.items.length - most)} more changed`, more));
+    if (same) out.append(restNode("value", `${grouped(same)} unchanged`, more));
     return out;
   }
   if (!write.items.length) out.append(span("same", " unchanged"));
@@ -108,8 +123,19 @@ function changedNode(write, [element, was, now]) {
 function replacedNode(old, value, most) {
   if (keyOf(old) === keyOf(value)) return span("value", valueNode(value, most), span("same", " unchanged"));
   const both = isNumber(old) && isNumber(value), by = both ? BigInt(value) - BigInt(old) : 0n;
-  const apart = both ? span("apart", by > 0n ? ` +${by}` : ` \u2212${-by}`) : null;
-  return span("value", span(old === null ? "old none" : "old", valueNode(old, most)), span("arrow", " → "), valueNode(value, most), apart);
+  const apart = both ? span("apart", by > 0n ? ` (+${by})` : ` (\u2212${-by})`) : null;
+  const from = typeof old === "string" && typeof value === "string" ? sharedLength(old, value) : 0;
+  return span("value change", span(old === null ? "old none" : "old", valueNode(old, most, from)), span("arrow", " → "), span("new", valueNode(value, most, from)), apart);
+}
+// What a write did, in a few letters.
+export function changeText(write) {
+  if (!write.items) return keyOf(write.old) === keyOf(write.value) ? `${shortText(write.value)} unchanged` : `${shortText(write.old)} → ${shortText(write.value)}`;
+  const size = `${write.isBag ? "bag" : "set"} of ${grouped(write.size)}`, added = write.items.filter(it => it[1] === 0), removed = write.items.filter(it => it[2] === 0);
+  if (!write.items.length) return `unchanged, ${size}`;
+  const told = (list, what) => list.length === 0 ? [] : [list.length === 1 ? `${shortText(list[0][0])} ${what}` : `${grouped(list.length)} ${what}`];
+  const counted = write.items.length - added.length - removed.length, [element, was, now] = write.items.find(it => it[1] && it[2]) ?? [];
+  const recounted = counted === 0 ? [] : [counted === 1 ? `${shortText(element)} ×${was} → ×${now}` : `${grouped(counted)} counts changed`];
+  return [...told(added, "added"), ...told(removed, "removed"), ...recounted, size].join(", ");
 }
 
 // The way to a move.

@@ -45,6 +45,15 @@ class Content {
 }
 export const itemsOf = value => isSet(value) ? value.set.map(it => [it, 1]) : value.bag;
 
+// What two values of sets or of bags hold a different number of times, each with its count in both; null where they are no such two.
+export function itemsApart(a, b) {
+  if (!(isSet(a) && isSet(b)) && !(isBag(a) && isBag(b))) return null;
+  const was = new Content(a), now = new Content(b), out = [];
+  for (const [element, count] of itemsOf(a)) if (now.countOf(element) !== count) out.push([element, count, now.countOf(element)]);
+  for (const [element, count] of itemsOf(b)) if (!was.countOf(element)) out.push([element, 0, count]);
+  return out.sort((x, y) => byElement(x[0], y[0]));
+}
+
 class Place {
   constructor(at) {
     this.at = at;
@@ -100,6 +109,20 @@ class Place {
     for (let i = from + 1; i <= index; i++) content.follow(this.writes[i].items);
     this.last = { index, value: content.whole() };
     return this.last.value;
+  }
+  // Calls back with what it holds first, and then with each write and what that leaves.
+  walk(visit) {
+    let content = new Content(this.opening);
+    visit(content, null);
+    for (const write of this.writes) {
+      if (write.items) content.follow(write.items);
+      else content = new Content(write.value);
+      visit(content, write);
+    }
+  }
+  // Whether it holds something from the beginning on, or is written in the first events, so many.
+  isPutIn(count) {
+    return this.opening !== null || this.times[0] < count;
   }
   // The index of its last write in the first events, so many; -1 where there is none.
   indexBefore(count) {

@@ -1,8 +1,10 @@
 // What the page shows now, and what its parts ask of each other.
 
-// `count` events are done, so the chosen one is the last of these; none is chosen in the opening state.
-export const shown = { run: null, count: 0, location: null };
+// `count` events are done, so the chosen one is the last of these; none is chosen in the opening state. `mark` is another such
+// count, with which the state is compared, and `holds` are the stretches of counts in which the condition holds.
+export const shown = { run: null, count: 0, location: null, mark: null, holds: [] };
 export const chosen = () => shown.count ? shown.run.events[shown.count - 1] : null;
 
-// Set where the page is put together: `choose(count)`, `chooseLocation(location)`.
+// Set where the page is put together: `choose(count, how)`, `chooseLocation(location)`, `list(asked)`, which lists the events that
+// are asked for, `mark(count)`, `speak(text)`, `show()`, and `changed(isJump)`, which keeps the address.
 export const act = {};

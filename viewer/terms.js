@@ -69,6 +69,23 @@ export function valueText(v, most = 40) {
   if (items.length > most) return `${isSet(v) ? "set" : "bag"} of ${plural(items.length, "element")}`;
   return `{${items.map(it => isSet(v) ? elementText(it) : `${elementText(it[0])} ×${it[1]}`).join(", ")}}`;
 }
+// A value in a few letters, for a row that tells several.
+export function shortText(v) {
+  const text = valueText(v, 3);
+  return text.length > MOST_SHORT ? `${cut(text, 0, MOST_SHORT)}…` : text;
+}
+const MOST_SHORT = 24;
+// A part of a text, which begins and ends with whole characters.
+export function cut(text, from, to) {
+  const isWithin = at => at > 0 && at < text.length && /[\udc00-\udfff]/.test(text[at]) && /[\ud800-\udbff]/.test(text[at - 1]);
+  return text.slice(isWithin(from) ? from - 1 : from, isWithin(to) ? to - 1 : to);
+}
+// How many of the first letters two texts share.
+export function sharedLength(a, b) {
+  let i = 0;
+  while (i < a.length && i < b.length && a[i] === b[i]) i++;
+  return i;
+}
 
 export const grouped = n => n.toLocaleString("en");
 export const plural = (n, one, many = `${one}s`) => `${grouped(n)} ${n === 1 ? one : many}`;

@@ -18,23 +18,33 @@ REST = 0.3
 
 
 class Browser:
-    """A page at a width and in a color scheme."""
+    """A page of a size and in a color scheme."""
 
-    def __init__(self, chromium: str, driver: str, width: int, is_dark: bool, scale: float = 1) -> None:
+    def __init__(self, chromium: str, driver: str, width: int, height: int, is_dark: bool) -> None:
         options = webdriver.ChromeOptions()
         options.binary_location = chromium
-        for word in ("--headless=new", "--no-sandbox", "--disable-gpu", "--disable-dev-shm-usage", f"--window-size={width},900"):
+        for word in ("--headless=new", "--no-sandbox", "--disable-gpu", "--disable-dev-shm-usage", f"--window-size={width},{height}"):
             options.add_argument(word)
         options.set_capability("goog:loggingPrefs", {"browser": "ALL"})
         self.driver = webdriver.Chrome(service=Service(driver), options=options)
         self.driver.set_script_timeout(120)
-        self.resize(width, 900, scale)
-        scheme = {"name": "prefers-color-scheme", "value": "dark" if is_dark else "light"}
-        self.driver.execute_cdp_cmd("Emulation.setEmulatedMedia", {"features": [scheme]})
+        self.size = width, height
+        self.restore()
+        self.is_dark = is_dark
+        self.scheme()
+
+    def scheme(self, media: str = "") -> None:
+        """Shows the page in the person's colors, on the screen or as it is printed."""
+        scheme = {"name": "prefers-color-scheme", "value": "dark" if self.is_dark else "light"}
+        self.driver.execute_cdp_cmd("Emulation.setEmulatedMedia", {"media": media, "features": [scheme]})
 
     def resize(self, width: int, height: int, scale: float = 1) -> None:
         size = {"width": width, "height": height, "deviceScaleFactor": scale, "mobile": False}
         self.driver.execute_cdp_cmd("Emulation.setDeviceMetricsOverride", size)
+
+    def restore(self) -> None:
+        """Gives the page the size again that it had first."""
+        self.resize(*self.size)
 
     def open(self, page: Path = PAGE, part: str = "") -> None:
         self.driver.get("about:blank")
@@ -63,6 +73,16 @@ class Browser:
     def frame(self) -> None:
         """Waits until what was asked for is drawn."""
         self.driver.execute_async_script("requestAnimationFrame(() => requestAnimationFrame(arguments[0]))")
+
+    def rest(self) -> None:
+        """Waits until the address is kept, and what was chosen is spoken."""
+        time.sleep(REST)
+
+    def go(self, by: int) -> None:
+        """Goes along the entries of the browser's history."""
+        self.run("history.go(arguments[0])", by)
+        self.rest()
+        self.frame()
 
     def run(self, script: str, *arguments: Any) -> Any:
         return self.driver.execute_script(script, *arguments)

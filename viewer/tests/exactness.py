@@ -11,7 +11,7 @@ from selenium.webdriver.common.keys import Keys
 from tries import Tries
 from values import UNDEF, Location, location_json, value_json
 
-RUNS, EVENTS = 400, 100_000
+RUNS, SIZES = 400, (50_000, 100_000)
 # Each location's value and last writer after each number of events, as the page has them; twice, as the first asking may leave
 # what the second finds. And for each read that an event names, the first move that wrote its location since, or 0.
 STATES = """
@@ -39,6 +39,21 @@ function next() {
 }
 next();
 """
+# How long each frame takes while the list of events is scrolled, in milliseconds.
+SCROLL = """
+const done = arguments[0], box = document.getElementById("events"), out = [];
+let last = performance.now();
+function tick(now) {
+  out.push(now - last);
+  last = now;
+  box.scrollTop += 240;
+  if (out.length < 62) requestAnimationFrame(tick);
+  else done(out.slice(2));
+}
+requestAnimationFrame(tick);
+"""
+# Milliseconds until it is known where the condition holds, and in how many stretches.
+CONDITION = "const start = performance.now(); watch(arguments[0]); return [performance.now() - start, shown.holds.length]"
 
 
 def model_of(history: History) -> dict[str, object]:
@@ -92,23 +107,32 @@ def try_states(tries: Tries, browser: Browser) -> None:
 
 
 def try_long(tries: Tries, browser: Browser) -> None:
-    path = tries.file("long.trace", large_trace(EVENTS))
-    took = browser.load(path)
-    tries.claim(f"{EVENTS:,} events ({path.stat().st_size / 2**20:.0f} MiB) are shown within 15 seconds: {took:.1f} s", took < 15, took)
     random = Random(7)
 
     def jumps(what: str, count: int = 12) -> None:
-        spent = browser.driver.execute_async_script(JUMPS, [random.randrange(EVENTS + 1) for _ in range(count)])
+        spent = browser.driver.execute_async_script(JUMPS, [random.randrange(events + 1) for _ in range(count)])
         tries.claim(f"a jump {what} takes less than a second: {sum(spent) / len(spent):.0f} ms, at most {max(spent):.0f} ms", max(spent) < 1000, spent)
 
-    jumps("in it")
+    for events in SIZES:
+        path = tries.file("long.trace", large_trace(events))
+        took = browser.load(path)
+        tries.claim(f"{events:,} events ({path.stat().st_size / 2**20:.0f} MiB) are shown within 15 seconds: {took:.1f} s", took < 15, took)
+        frames = browser.driver.execute_async_script(SCROLL)
+        tries.claim(f"their list is scrolled at 20 frames a second and more: {1000 * len(frames) / sum(frames):.0f}", sum(frames) < 50 * len(frames), frames)
+        jumps("in it")
+    for text in ("set size > 5000", "bag has 7", "cell(*) > 99000", "cell(7) changes"):
+        took, count = browser.run(CONDITION, text)
+        tries.claim(f"where {text} holds is found within a second, in {count:,} stretches: {took:.0f} ms", took < 1000 and count, (took, count))
+    browser.run("watch(arguments[0])", "cell(*) changes")
+    jumps("with a condition that 70,000 events meet")
+    browser.run("watch('')")
     browser.click("fit")
     jumps("with the whole run in sight")
     for name in ("set", "bag"):
         browser.run("act.chooseLocation(shown.run.locations.get(arguments[0]))", f'["{name}"]')
         browser.frame()
         jumps(f"with the writes of a {name} that {browser.run('return shown.location.writes.length'):,} moves change")
-    browser.click("state-hide")
+    browser.select("state-which", "held")
     jumps("with undef hidden")
     browser.write("events-find", "stale cell(7")
     tries.claim(f"a search among them finds some: {browser.text('events-count')}", browser.texts("#events .event"))

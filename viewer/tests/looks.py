@@ -78,14 +78,14 @@ def try_contrast(tries: Tries, browser: Browser) -> None:
     tries.claim(f"each text has a contrast of 4.5, and each mark one of 3: {checked} looked at", checked > 400 and not low, sorted(set(map(tuple, low))))
 
 
-def try_theme(tries: Tries, browser: Browser, is_dark: bool) -> None:
+def try_theme(tries: Tries, browser: Browser) -> None:
     browser.load(tries.trace("wrong", wrong()))
     names = ("light", "dark")
-    tries.same("the colors are the system's", browser.run("return document.documentElement.dataset.theme"), names[is_dark])
+    tries.same("the colors are the system's", browser.run("return document.documentElement.dataset.theme"), names[browser.is_dark])
     browser.click("theme")
-    tries.same("a button changes them", browser.run("return document.documentElement.dataset.theme"), names[not is_dark])
+    tries.same("a button changes them", browser.run("return document.documentElement.dataset.theme"), names[not browser.is_dark])
     browser.load(tries.room / "wrong.trace")
-    tries.same("and they stay so when the page is opened again", browser.run("return document.documentElement.dataset.theme"), names[not is_dark])
+    tries.same("and they stay so when the page is opened again", browser.run("return document.documentElement.dataset.theme"), names[not browser.is_dark])
     browser.click("theme")
 
 
@@ -103,15 +103,15 @@ def try_names(tries: Tries, browser: Browser) -> None:
     for _ in range(120):
         browser.press(Keys.TAB)
         reached.add(browser.run("return document.activeElement.id"))
-    wanted = {"help-open", "theme", "open", "play", "slider", "move", "speed", "zoom-in", "fit", "events-agent", "events-find", "events", "detail", "state-hide", "state-find", "state", "writes-reads", "writes-close", "writes"}
+    wanted = {"help-open", "theme", "open", "play", "slider", "move", "speed", "zoom-in", "fit", "events-agent", "events-find", "events", "detail", "link", "grip", "fold", "watch", "state-compare", "state-copy", "state-which", "state-find", "state", "writes-reads", "writes-copy", "writes-close", "writes"}
     tries.same("the Tab key leads to each control", wanted - reached, set())
 
 
-def try_width(tries: Tries, browser: Browser, width: int) -> None:
+def try_width(tries: Tries, browser: Browser) -> None:
     for name, history, part in [("warehouse", warehouse(5, 16, 3), "#event=46&at=%5B%22packed%22%5D"), ("wrong", wrong(), "#event=3")]:
         browser.load(tries.trace(name, history), part)
         wide, window = browser.run("return [document.documentElement.scrollWidth, innerWidth]")
-        tries.claim(f"the run {name} fits into the width of {width} pixels", wide <= window, (wide, window))
+        tries.claim(f"the run {name} fits into the width of {browser.size[0]} pixels", wide <= window, (wide, window))
         outside = browser.run("""const out = []; for (const it of document.querySelectorAll("button, input, select, h2, canvas")) {
           const box = it.getBoundingClientRect(); if (it.checkVisibility() && !it.closest(".unseen, .scroll") && (box.left < 0 || box.right > innerWidth + 0.5)) out.push(it.id || it.textContent); } return out""")
         tries.same("no control is cut off", outside, [])

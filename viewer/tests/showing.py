@@ -111,12 +111,12 @@ def try_lanes(tries: Tries, browser: Browser) -> None:
 
 def try_state(tries: Tries, browser: Browser) -> None:
     browser.load(tries.trace("warehouse", HISTORY))
-    browser.press(Keys.END)
-    everything = int(browser.find("state").get_attribute("aria-rowcount")) - 1
-    browser.click("state-hide")
-    held = int(browser.find("state").get_attribute("aria-rowcount")) - 1
-    tries.claim("locations that hold undef are hidden", held < everything, (held, everything))
-    browser.click("state-hide")
+    browser.slide(60)
+    counts = []
+    for which in ("held", "put", "all"):
+        browser.select("state-which", which)
+        counts.append(int(browser.find("state").get_attribute("aria-rowcount")) - 1)
+    tries.claim("locations that hold undef, or into which nothing was put, are listed when they are asked for", counts[0] < counts[1] < counts[2], counts)
     browser.leave()
     browser.press("/")
     tries.same("/ goes to the search of locations", browser.run("return document.activeElement.id"), "state-find")

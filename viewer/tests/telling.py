@@ -39,7 +39,7 @@ def try_stale(tries: Tries, browser: Browser) -> None:
     seen = min(it for at, it in call.reads if at == reply.at)
     later = [HISTORY.events[it].reply.number for it in numbers(Fired) if it < stale and any(at == reply.at for at, _ in HISTORY.events[it].call.move)]
     writer = min(it for it in later if it > seen)
-    tries.has("a stale fire tells which move wrote the location since", browser.text("detail"), f"was read after {seen} moves. Since then move {writer} by agent")
+    tries.has("a stale fire tells which move wrote the location since", browser.text("detail"), f"Since then move {writer} by agent")
     tries.has("and what that move did", browser.text("detail"), f"What move {writer} did: ")
     tries.has("and which of its reads still stand", browser.text("detail"), f"move {writer} wrote it")
     tries.shot(browser, "stale")
@@ -99,7 +99,7 @@ def try_wrong(tries: Tries, browser: Browser) -> None:
     tries.has("a clash that is told fired changes nothing", browser.text("detail"), "Nothing: the move clashes.")
     browser.press("w", shift=True)
     browser.slide(4)
-    tries.has("a stale move that is told fired says why it is stale", browser.text("detail"), "was read in the opening state. Since then move 1 by agent 0 has written it.")
+    tries.has("a stale move that is told fired says why it is stale", browser.text("detail"), "x is named as it stood in the opening state; the run has no read of it by agent 1. Since then move 1 by agent 0 has written it.")
     tries.shot(browser, "wrong")
 
 
@@ -115,7 +115,7 @@ def try_strange(tries: Tries, browser: Browser) -> None:
     tries.same("numbers of 64 bits keep each digit", [state[f"v({it})"] for it in (3, 4, 5, 6)], [str(2**63 - 1), str(-(2**63)), str(2**53 + 1), f"[[], undef, true, {2**62 + 1}]"])
     tries.same("in sets, bags and locations too", (state[f"n({tag}, {2**63 - 1})"], state["bag"]), (f"{{{2**53}, {2**53 + 1}, {tag}}}", f"{{{2**63 - 1} ×{2**32 - 1}}}"))
     tries.same("and in sums that a double can't tell", state["big"], str(2**53 + 1))
-    tries.has("a change of such a number is exact", " ".join(browser.texts("#detail td")), f"{2**53} → {2**53 + 1} +1")
+    tries.has("a change of such a number is exact", " ".join(browser.texts("#detail td")), f"{2**53} → {2**53 + 1} (+1)")
     browser.press(Keys.ARROW_RIGHT)
     tries.has("and so is a clash", browser.text("detail"), f"Before the move it held {2**53 + 1}")
     tries.same("nothing is told on the console", browser.problems(), [])

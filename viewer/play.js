@@ -1,0 +1,13 @@
+// Playing: a step after another, at a speed.
+import { $ } from "./nodes.js";
+
+let playing = 0;
+export const isPlaying = () => playing !== 0;
+// `step` goes on by one event, and tells whether there was one.
+export function play(isOn, step = () => false) {
+  clearInterval(playing);
+  playing = 0;
+  if (isOn) playing = setInterval(() => step() || play(false), 1000 / +$("speed").value);
+  $("play").setAttribute("aria-label", isOn ? "Pause" : "Play");
+  $("play").classList.toggle("playing", isOn);
+}

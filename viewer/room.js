@@ -1,0 +1,62 @@
+// The room of the lanes, which fold and are dragged.
+import { draw } from "./lanes.js";
+import { $ } from "./nodes.js";
+import { shown } from "./shown.js";
+import { AXIS, reveal, setHeight } from "./sight.js";
+
+const LEAST_HIGH = AXIS + 24, MOST_HIGH = 640, STEP = 24, KEPT = "folugben-lanes";
+// What the person chose: a height, 0 where the lanes are folded; null where nothing was chosen.
+let wanted = null;
+try {
+  const found = Number.parseInt(localStorage.getItem(KEPT) ?? "", 10);
+  if (found >= 0) wanted = Math.min(MOST_HIGH, found);
+} catch {
+  // some browsers keep nothing for a file
+}
+let unfolded = wanted || null;
+
+const usual = () => Math.max(LEAST_HIGH, Math.min(290, Math.round(innerHeight * 0.17)));
+// Gives the lanes their height; true where it is another one than before.
+export function fitLanes() {
+  const high = wanted ?? usual(), isFolded = high === 0, box = $("lanes-box"), before = `${box.hidden} ${box.style.maxHeight}`;
+  box.hidden = isFolded;
+  if (!isFolded) box.style.maxHeight = `${high}px`;
+  if (!isFolded) setHeight(high);
+  $("grip").setAttribute("aria-valuenow", high);
+  $("fold").setAttribute("aria-expanded", String(!isFolded));
+  $("fold").classList.toggle("folded", isFolded);
+  return before !== `${box.hidden} ${box.style.maxHeight}`;
+}
+function setRoom(high) {
+  wanted = high < LEAST_HIGH ? 0 : Math.min(MOST_HIGH, Math.round(high));
+  if (wanted) unfolded = wanted;
+  try {
+    localStorage.setItem(KEPT, wanted);
+  } catch {
+    // as above
+  }
+  fitLanes();
+  if (wanted && shown.run) reveal();
+  draw();
+}
+export const foldLanes = () => setRoom(wanted === 0 ? unfolded ?? usual() : 0);
+
+$("fold").addEventListener("click", foldLanes);
+const now = () => $("lanes-box").hidden ? 0 : $("lanes-box").clientHeight;
+let pull = null;
+$("grip").addEventListener("pointerdown", pointer => {
+  pull = { y: pointer.clientY, high: now() };
+  $("grip").setPointerCapture(pointer.pointerId);
+});
+$("grip").addEventListener("pointermove", pointer => pull && setRoom(pull.high + pointer.clientY - pull.y));
+for (const kind of ["pointerup", "pointercancel"]) $("grip").addEventListener(kind, () => {
+  pull = null;
+});
+$("grip").addEventListener("dblclick", foldLanes);
+$("grip").addEventListener("keydown", event => {
+  const by = { ArrowDown: STEP, ArrowUp: -STEP }[event.key];
+  if (by) setRoom(Math.max(by > 0 ? LEAST_HIGH : 0, now() + by));
+  else if (event.key === "Enter") foldLanes();
+  else return;
+  event.preventDefault();
+});

@@ -1,0 +1,112 @@
+// The state after the chosen event, or what differs from it at another moment.
+import { hasAll, wordsOf } from "./filter.js";
+import { List, ROW } from "./lists.js";
+import { $, changeNode, locationNode, make, moveLink, valueNode } from "./nodes.js";
+import { itemsApart } from "./run.js";
+import { act, chosen, shown } from "./shown.js";
+import { grouped, keyOf, plural, valueText } from "./terms.js";
+
+let rows = []; // the locations in the list
+let marks = new Map(); // those with which the chosen event has to do
+let countShown = -1;
+const isComparing = () => shown.mark !== null;
+// The counts of events that are compared, the earlier one first.
+const ends = () => [Math.min(shown.mark, shown.count), Math.max(shown.mark, shown.count)];
+
+function findRows() {
+  const { run, count, location } = shown, words = wordsOf($("state-find").value), which = $("state-which").value;
+  const isHere = {
+    put: it => it.isPutIn(count), held: it => !run.isUndefAt(it, count), all: () => true,
+  }[words.length ? "all" : which];
+  const isShown = isComparing() ? isDifferent : it => isHere(it) || marks.has(it) || it === location;
+  rows = run.sorted.filter(it => (!words.length || hasAll(it.label.toLowerCase(), words)) && isShown(it));
+}
+function findMarks() {
+  const event = isComparing() ? null : chosen(), answer = event?.right ?? event?.reply;
+  marks = new Map();
+  if (!event) return;
+  for (const it of event.writes ?? []) marks.set(it.location, { kind: "changed", write: it });
+  const at = event.writes ? null : answer.stale ?? answer.clash?.[0];
+  if (at) marks.set(shown.run.location(at), { kind: answer.stale ? "stale" : "clash" });
+}
+
+// ---- two moments
+function isDifferent(location) {
+  const [from, to] = ends();
+  if (location.indexBefore(from) === location.indexBefore(to)) return false;
+  return keyOf(shown.run.valueAt(location, from)) !== keyOf(shown.run.valueAt(location, to));
+}
+// The difference of the location between both moments, in the form of a write.
+function differenceAt(location) {
+  const { run } = shown, [from, to] = ends(), old = run.valueAt(location, from), value = run.valueAt(location, to), items = itemsApart(old, value);
+  if (!items) return { location, old, value };
+  return { location, items, isBag: "bag" in value, size: (value.set ?? value.bag).length, index: location.indexBefore(to) };
+}
+const momentText = count => count ? `Event ${count - 1}` : "Opening state";
+$("state-compare").addEventListener("click", () => act.mark(isComparing() ? null : shown.count));
+
+function stateRow(i) {
+  const { run, count } = shown, location = rows[i], mark = marks.get(location), at = isComparing() ? ends()[1] : count, write = run.lastWrite(location, at), value = run.valueAt(location, at);
+  const kind = mark ? mark.kind : value === null ? "nothing" : "", isChosen = location === shown.location;
+  const told = isComparing() ? changeNode(differenceAt(location), 4) : mark?.write ? changeNode(mark.write, 4) : valueNode(value, 8);
+  return make("div", { class: `row place ${kind}`, id: `place-${i}`, role: "row", "aria-rowindex": i + 2, "aria-selected": String(isChosen), onclick: () => act.chooseLocation(location) },
+    make("span", { role: "gridcell", title: location.label }, locationNode(location)),
+    make("span", { role: "gridcell", title: valueText(value).slice(0, 600) }, told),
+    make("span", { role: "gridcell", class: "by" }, write ? [moveLink(write), ` a${write.agent}`] : value !== null ? "opening state" : "not yet written"));
+}
+export const state = new List($("state"), ROW, {
+  count: () => rows.length,
+  sign: i => `${rows[i].key} ${shown.run.lastWrite(rows[i], shown.count)?.event} ${marks.get(rows[i])?.kind} ${rows[i] === shown.location} ${shown.mark} ${isComparing() && shown.count}`,
+  make: stateRow,
+  empty: () => isComparing() ? "Nothing differs between the two." : !shown.run.sorted.length ? "No location is written or read in this run."
+    : $("state-find").value ? "No location is called so." : $("state-which").value === "held" ? "No location holds a value." : "Nothing is put yet.",
+});
+function titleText() {
+  const { count, run } = shown, moves = run.movesIn(count);
+  if (isComparing()) return `${momentText(ends()[0])} → ${momentText(ends()[1])}`;
+  return !count ? "Opening state" : moves ? `After move ${moves}` : "Before any move";
+}
+export function showState() {
+  const { run, location } = shown;
+  findMarks();
+  findRows();
+  const left = run.sorted.length - rows.length;
+  $("state-title").replaceChildren(titleText(), " ", make("span", { class: "faint" }, isComparing() ? plural(rows.length, "difference") : left ? `${grouped(rows.length)} of ${grouped(run.sorted.length)}` : ""));
+  $("state-compare").setAttribute("aria-pressed", String(isComparing()));
+  $("state").setAttribute("aria-rowcount", rows.length + 1);
+  const first = marks.size && countShown !== shown.count ? rows.findIndex(it => marks.has(it)) : -1;
+  countShown = shown.count;
+  const isSeen = first < 0 || rows.some((it, i) => marks.has(it) && state.sees(i));
+  state.show(isSeen ? -1 : first);
+  state.tell(location ? `place-${rows.indexOf(location)}` : null);
+}
+// Brings the chosen location into sight, where it is listed.
+export function revealPlace() {
+  showState();
+  state.show(rows.indexOf(shown.location));
+}
+$("state-find").addEventListener("input", showState);
+// Enter goes along what is found.
+$("state-find").addEventListener("keydown", event => {
+  if (event.key !== "Enter" || !rows.length) return;
+  event.preventDefault();
+  const at = rows.indexOf(shown.location), to = at < 0 ? 0 : (at + (event.shiftKey ? rows.length - 1 : 1)) % rows.length;
+  act.chooseLocation(rows[to]);
+});
+$("state-which").addEventListener("change", showState);
+$("state").addEventListener("keydown", event => {
+  const by = { ArrowDown: 1, ArrowUp: -1 }[event.key];
+  if (!by || !rows.length) return;
+  event.preventDefault();
+  const to = Math.max(0, Math.min(rows.length - 1, rows.indexOf(shown.location) + by));
+  act.chooseLocation(rows[to], true);
+});
+
+export function renewState() {
+  const { run } = shown, writer = `move ${run.moves.length} a${Math.max(0, run.agents - 1)}`;
+  countShown = -1;
+  $("state-find").value = "";
+  $("state-which").value = "put";
+  $("side").style.setProperty("--writer", `${Math.max(14, Math.ceil(writer.length * 0.95))}ch`);
+  state.clear();
+}

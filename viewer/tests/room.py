@@ -1,0 +1,92 @@
+"""Tries that there is room: rows in sight, lanes that fold and are dragged, rows that tell values, states without what isn't put."""
+
+from asking import OPEN, RICE, moments
+from browser import Browser
+from samples import warehouse
+from selenium.webdriver.common.action_chains import ActionChains
+from selenium.webdriver.common.keys import Keys
+from showing import HISTORY
+from tries import Tries
+
+CARTS = '["carts"]'
+# How many rows of a list are wholly in sight.
+SEEN = """
+const box = document.getElementById(arguments[0]), rows = box.querySelector(".rows").getBoundingClientRect(), to = Math.min(innerHeight, box.getBoundingClientRect().bottom);
+const from = Math.max(box.getBoundingClientRect().top, box.querySelector(".heads")?.getBoundingClientRect().bottom ?? 0);
+return [...box.querySelectorAll(".row")].map(it => it.getBoundingClientRect()).filter(it => it.top >= from - 1 && it.bottom <= to + 1).length;
+"""
+HIGH = "return document.getElementById('lanes-box').getBoundingClientRect().height"
+
+
+def try_rows(tries: Tries, browser: Browser) -> None:
+    browser.resize(1280, 720)
+    for name, history in {"5 agents": HISTORY, "16 agents": warehouse(16, 20, 4)}.items():
+        for part in ("", "#event=60", "#event=60&at=%5B%22packed%22%5D", "#event=60&at=%5B%22packed%22%5D&kind=fired&agent=1&if=packed%20size%20%3E%201"):
+            browser.load(tries.trace("room", history), part)
+            found = [browser.run(SEEN, it) for it in ("events", "state")]
+            least = (8 if "kind" not in part else 5, 8)
+            tries.claim(f"at 1280x720 with {name} and {part or 'nothing chosen'}, rows of events and of state: {found}", found[0] >= least[0] and found[1] >= least[1], found)
+    tries.shot(browser, "room")
+    browser.restore()
+
+
+def try_folding(tries: Tries, browser: Browser) -> None:
+    browser.load(tries.trace("warehouse", HISTORY), "#event=60")
+    before = browser.run(HIGH)
+    browser.press("l")
+    tries.same("l folds the lanes", (browser.find("lanes-box").is_displayed(), browser.find("fold").get_attribute("aria-expanded")), (False, "false"))
+    browser.press(Keys.ARROW_RIGHT)
+    browser.click("zoom-in")
+    tries.claim("the page goes on without them", browser.title().startswith("Event 61 ") and browser.run("return seen() > 1"), browser.title())
+    browser.click("fold")
+    tries.same("a button unfolds them", browser.run(HIGH), before)
+    browser.run("document.getElementById('grip').focus()")
+    browser.press(Keys.ARROW_UP)
+    lower = browser.run(HIGH)
+    browser.press(Keys.ARROW_DOWN, Keys.ARROW_DOWN)
+    tries.claim("keys give them less room and more", lower < before <= browser.run(HIGH), (lower, before, browser.run(HIGH)))
+    tries.same("the height is told", int(browser.find("grip").get_attribute("aria-valuenow")) > 0, True)
+    lower = browser.run(HIGH)
+    ActionChains(browser.driver).drag_and_drop_by_offset(browser.find("grip"), 0, -30).perform()
+    browser.frame()
+    dragged = browser.run(HIGH)
+    tries.claim("so does dragging", dragged < lower, (dragged, lower))
+    browser.load(tries.room / "warehouse.trace")
+    tries.same("the room stays so when the page is opened again", browser.run(HIGH), dragged)
+    browser.run("localStorage.removeItem('folugben-lanes')")
+    browser.open()
+
+
+def try_values(tries: Tries, browser: Browser) -> None:
+    browser.load(tries.trace("warehouse", HISTORY))
+    states = moments(HISTORY)
+    moved = next(it for it in range(1, len(states)) if states[it][RICE] != states[it - 1][RICE])
+    read = next(it for it, event in enumerate(HISTORY.events) if browser.run("return shown.run.events[arguments[0]].read?.[0].label", it) == 'stock("rice")')
+    row = "act.choose(arguments[0] + 1); showNow(); return document.getElementById(`event-${arguments[0]}`).querySelector('.what').title"
+    tries.has("a row tells the values that a move changed", browser.run(row, moved - 1), f'stock("rice") {states[moved - 1][RICE]} → {states[moved][RICE]}')
+    tries.has("and those that were read", browser.run(row, read), f'stock("rice") {states[read][RICE]}')
+    stale = browser.run("return shown.run.byKind.stale[0]")
+    tries.claim("and of a stale fire the value that it rests on, and the one that is there", " → " in browser.run(row, stale), browser.run(row, stale))
+    opened = next(it for it in range(1, len(states)) if len(states[it][OPEN]["set"]) > len(states[it - 1][OPEN]["set"]))
+    tries.has("and of a set what is new and its size", browser.run(row, opened - 1), f"added, set of {len(states[opened][OPEN]['set'])}")
+    browser.press(Keys.END)
+    sizes = browser.run("return [...document.querySelectorAll('#state .row')].map(it => [it.children[0].innerText, it.querySelector('.kind')?.innerText])")
+    tries.same("the state tells the sizes of sets and bags", [told for name, told in sizes if name in ("carts", "open")][:2],
+               [f"bag of {len(states[-1][CARTS]['bag'])}", f"set of {len(states[-1][OPEN]['set'])}"])
+
+
+def try_unput(tries: Tries, browser: Browser) -> None:
+    browser.load(tries.trace("warehouse", HISTORY))
+    states = moments(HISTORY)
+    count = lambda: int(browser.find("state").get_attribute("aria-rowcount")) - 1
+    tries.same("locations into which nothing was put don't fill the state", count(), len(states[0]))
+    tries.has("how many there are is said", browser.text("state-title"), f"{len(states[0])} of {browser.run('return shown.run.sorted.length')}")
+    browser.write("state-find", "order(")
+    tries.same("a search finds them", count(), browser.run("return shown.run.sorted.filter(it => it.label.startsWith('order(')).length"))
+    browser.write("state-find", "")
+    browser.run("act.chooseLocation(shown.run.sorted.find(it => !it.isPutIn(0)))")
+    browser.frame()
+    tries.same("one that is chosen is there", count(), len(states[0]) + 1)
+
+
+PARTS = {name[4:].replace("_", " "): run for name, run in list(globals().items()) if name.startswith("try_")}
