@@ -1,0 +1,37 @@
+//! Finds libfolugben.a: in the folder that FOLUGBEN_LIB_DIR names, beside the crate as the files of a release have it, where
+//! `./build_c` leaves it in a checkout, or by pkg-config.
+use std::path::PathBuf;
+use std::process::Command;
+use std::{env, fs};
+
+const ARCHIVE: &str = "libfolugben.a";
+
+fn candidates() -> Vec<PathBuf> {
+    let here = PathBuf::from(env::var_os("CARGO_MANIFEST_DIR").unwrap_or_default());
+    match env::var_os("FOLUGBEN_LIB_DIR") {
+        Some(folder) => vec![PathBuf::from(folder)],
+        None => ["lib", "../lib", "../../lib", "../out"].iter().map(|it| here.join(it)).collect(),
+    }
+}
+
+fn installed() -> Option<PathBuf> {
+    let told = Command::new("pkg-config").args(["--variable=libdir", "folugben"]).output().ok()?;
+    let folder = PathBuf::from(String::from_utf8(told.stdout).ok()?.trim());
+    folder.join(ARCHIVE).is_file().then_some(folder)
+}
+
+fn main() {
+    println!("cargo::rerun-if-env-changed=FOLUGBEN_LIB_DIR");
+    println!("cargo::rerun-if-changed=build.rs");
+    let found = candidates().into_iter().find(|it| it.join(ARCHIVE).is_file()).or_else(installed);
+    let Some(folder) = found else {
+        println!(
+            "cargo::error={ARCHIVE} wasn't found: let FOLUGBEN_LIB_DIR name the folder that has it (./build_c leaves it in bindings/out)"
+        );
+        return;
+    };
+    let folder = fs::canonicalize(&folder).unwrap_or(folder);
+    println!("cargo::rerun-if-changed={}", folder.join(ARCHIVE).display());
+    println!("cargo::rustc-link-search=native={}", folder.display());
+    println!("cargo::rustc-link-lib=static=folugben");
+}

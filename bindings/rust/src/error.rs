@@ -1,0 +1,204 @@
+//! What calls are refused for.
+use crate::held::told;
+use crate::json::{Json, read};
+use crate::sys;
+use crate::value::Location;
+use std::fmt;
+
+/// Why the updates of a location clash.
+#[derive(Clone, Copy, Debug, PartialEq, Eq, Hash)]
+#[non_exhaustive]
+pub enum Cause {
+    /// Two different values are put.
+    Two,
+    /// Instructions of two of these: sets, bags, numbers.
+    Mixed,
+    /// The value that is there is no set, no bag or no number.
+    Kind,
+    /// An element is added to a set and removed from it.
+    Both,
+    /// A value is put that the other instructions don't agree with.
+    Against,
+    /// More of an element is removed than the bag has.
+    Short,
+    /// A count above 4,294,967,295, or a number outside the range of `i64`.
+    Large,
+}
+
+impl Cause {
+    fn named(word: &str) -> Option<Cause> {
+        Some(match word {
+            "Two" => Cause::Two,
+            "Mixed" => Cause::Mixed,
+            "Kind" => Cause::Kind,
+            "Both" => Cause::Both,
+            "Against" => Cause::Against,
+            "Short" => Cause::Short,
+            "Large" => Cause::Large,
+            _ => return None,
+        })
+    }
+}
+
+impl fmt::Display for Cause {
+    fn fmt(&self, f: &mut fmt::Formatter<'_>) -> fmt::Result {
+        f.write_str(match self {
+            Cause::Two => "two different values are put",
+            Cause::Mixed => "updates of two kinds: sets, bags, numbers",
+            Cause::Kind => "no set, no bag or no number is there",
+            Cause::Both => "an element is added and removed",
+            Cause::Against => "a value is put that the other updates don't agree with",
+            Cause::Short => "more is removed than the bag has",
+            Cause::Large => "too large a count or number",
+        })
+    }
+}
+
+/// Why a call wasn't done. Nothing was fired or lost, whichever it is.
+#[derive(Clone, Debug, PartialEq, Eq)]
+#[non_exhaustive]
+pub enum Error {
+    /// The location was written since the number at which it is named, or since the step began: begin again.
+    Stale(Location),
+    /// The updates clash at the location. At [`Step::fire`](crate::Step::fire) something was written since that the
+    /// step's moves don't fit: begin again.
+    Clash {
+        /// The least location whose updates clash.
+        at: Location,
+        /// Why they do.
+        cause: Cause,
+    },
+    /// 64 offers in a row were lost to other agents: begin again.
+    Busy,
+    /// As many moves were fired as the storage's capacity.
+    Full,
+    /// Out of memory; the call may be made again.
+    Memory,
+    /// More than 256 different locations, or more than 4,096 instructions in one move.
+    Many,
+    /// 64 moves are pushed already.
+    Deep,
+    /// An amount or a sum is too large, at this location.
+    Large(Location),
+    /// No move is pushed.
+    NoMove,
+    /// No journal was made since an agent was given back.
+    NoJournal,
+    /// A capacity outside 1 to 1,048,576, an agent's number above 255, a verb's amount, or a location that is named at a
+    /// number above what the agent has seen.
+    Range,
+    /// An agent with this number was made before.
+    NumberTaken(u32),
+    /// The move with this number has no receipt among the agents that were given back; the agent that fired it was
+    /// abandoned, or isn't given back yet.
+    Missing(u32),
+    /// The agent, or the mark of what it has seen, is of another storage.
+    OtherStorage,
+    /// What was passed is beyond the rules of names, sets, bags, lists or moves; the text says where and why.
+    Refused(String),
+    /// A code of the library that this version doesn't know.
+    Unknown(i32),
+}
+
+impl Error {
+    /// Whether what was tried is to be begun again, on what other agents have written since.
+    pub fn is_retry(&self) -> bool {
+        matches!(self, Error::Stale(_) | Error::Busy)
+    }
+}
+
+impl fmt::Display for Error {
+    fn fmt(&self, f: &mut fmt::Formatter<'_>) -> fmt::Result {
+        match self {
+            Error::Stale(at) => write!(f, "{at} was written since"),
+            Error::Clash { at, cause } => write!(f, "the updates clash at {at}: {cause}"),
+            Error::Busy => f.write_str("64 offers in a row were lost to other agents"),
+            Error::Full => f.write_str("as many moves were fired as the storage has room for"),
+            Error::Memory => f.write_str("out of memory"),
+            Error::Many => f.write_str("more than 256 locations, or more than 4,096 instructions"),
+            Error::Deep => f.write_str("64 moves are pushed already"),
+            Error::Large(at) => write!(f, "too large an amount or sum at {at}"),
+            Error::NoMove => f.write_str("no move is pushed"),
+            Error::NoJournal => f.write_str("no journal was made since an agent was given back"),
+            Error::Range => f.write_str("a number is out of its range"),
+            Error::NumberTaken(number) => write!(f, "an agent {number} was made before"),
+            Error::Missing(number) => write!(f, "move {number} was fired by an agent that wasn't given back"),
+            Error::OtherStorage => f.write_str("the agent is of another storage"),
+            Error::Refused(why) => f.write_str(why),
+            Error::Unknown(code) => f.write_str(&code_text(*code)),
+        }
+    }
+}
+
+impl std::error::Error for Error {}
+
+fn code_text(code: i32) -> String {
+    let (_, text) = told(|out, room, written| unsafe { sys::asm_error_text(code, out, room, written) });
+    String::from_utf8_lossy(&text).into_owned()
+}
+
+/// Why a text of the form is refused.
+fn explained(form: i32, text: &[u8]) -> Error {
+    let (code, why) =
+        told(|out, room, written| unsafe { sys::asm_explain(form, text.as_ptr(), text.len(), out, room, written) });
+    match code {
+        sys::DONE => Error::Refused(String::from_utf8_lossy(&why).into_owned()),
+        _ => Error::Memory,
+    }
+}
+
+/// The error of a code that comes without more.
+pub(crate) fn plain(code: i32) -> Error {
+    match code {
+        sys::MEMORY => Error::Memory,
+        sys::FULL => Error::Full,
+        sys::BUSY => Error::Busy,
+        sys::MANY => Error::Many,
+        sys::DEEP => Error::Deep,
+        sys::RANGE => Error::Range,
+        sys::OTHER => Error::OtherStorage,
+        code => Error::Unknown(code),
+    }
+}
+
+/// Ok where the code is that of what was done.
+pub(crate) fn done(code: i32) -> Result<(), Error> {
+    match code {
+        sys::DONE => Ok(()),
+        code => Err(plain(code)),
+    }
+}
+
+/// As `done`, for a call that took a text of the form.
+pub(crate) fn done_with(code: i32, form: i32, text: &str) -> Result<(), Error> {
+    match code {
+        sys::NOT_JSON | sys::SHAPE => Err(explained(form, text.as_bytes())),
+        code => done(code),
+    }
+}
+
+/// What a text that the library wrote is read as; a text of another form would be a fault of the library.
+pub(crate) fn answer<T>(text: &[u8], form: impl FnOnce(Json) -> Option<T>) -> Result<T, Error> {
+    read(text).and_then(form).ok_or_else(|| Error::Refused(format!("an unknown answer: {}", text.escape_ascii())))
+}
+
+/// The error that the text of an answer tells: {"stale":LOC}, {"clash":[LOC,CAUSE]} or {"large":LOC}.
+pub(crate) fn of_text(code: i32, text: &[u8]) -> Error {
+    let told = answer(text, |it| match code {
+        sys::STALE => it.member("stale")?.location().map(Error::Stale),
+        sys::LARGE => it.member("large")?.location().map(Error::Large),
+        _ => {
+            let [at, cause] = it.member("clash")?.tuple()?;
+            Some(Error::Clash { at: at.location()?, cause: Cause::named(&cause.text()?)? })
+        }
+    });
+    told.unwrap_or_else(|error| error)
+}
+
+/// As `done`, for a call that writes the text of a refusal.
+pub(crate) fn done_or_told(code: i32, text: &[u8]) -> Result<(), Error> {
+    match code {
+        sys::STALE | sys::CLASH | sys::LARGE => Err(of_text(code, text)),
+        code => done(code),
+    }
+}

@@ -1,0 +1,62 @@
+//! Slots that are freed when they are let go, and texts that calls write.
+use crate::sys;
+use std::cell::{Cell, UnsafeCell};
+use std::ptr;
+
+/// What a call writes at most on the stack before it asks how much room it needs.
+const FIRST_ROOM: usize = 1024;
+
+/// A slot that never moves, and is freed when it is let go.
+pub(crate) struct Held(Box<UnsafeCell<sys::Slot>>);
+
+// A slot goes from one thread to another with what holds it; it isn't Sync, so no two threads call with it at once.
+unsafe impl Send for Held {}
+
+impl Held {
+    pub(crate) fn empty() -> Held {
+        Held(Box::new(UnsafeCell::new(sys::Slot { full: false, at: ptr::null_mut() })))
+    }
+
+    /// For one call: none of the library's calls keeps the pointer.
+    pub(crate) fn at(&self) -> *mut sys::Slot {
+        self.0.get()
+    }
+
+    pub(crate) fn is_full(&self) -> bool {
+        // No call is at work on the slot: those of this thread have returned, and no other thread has it.
+        unsafe { (*self.0.get()).full }
+    }
+
+    pub(crate) fn free(&self) {
+        unsafe { sys::asm_free(self.at()) }
+    }
+}
+
+impl Drop for Held {
+    fn drop(&mut self) {
+        self.free();
+    }
+}
+
+/// Makes a call that writes a text, again with more room where there is too little, and answers its code with the text.
+pub(crate) fn told(mut call: impl FnMut(*mut u8, usize, *mut usize) -> i32) -> (i32, Vec<u8>) {
+    thread_local! {
+        static KEPT: Cell<Vec<u8>> = const { Cell::new(Vec::new()) };
+    }
+    let mut text = KEPT.take();
+    if text.is_empty() {
+        text.resize(FIRST_ROOM, 0);
+    }
+    loop {
+        let mut written = 0;
+        let code = call(text.as_mut_ptr(), text.len(), &mut written);
+        if code != sys::SMALL {
+            let answer = text[..written].to_vec();
+            if text.len() <= 64 * FIRST_ROOM {
+                KEPT.set(text);
+            }
+            return (code, answer);
+        }
+        text.resize(written, 0);
+    }
+}

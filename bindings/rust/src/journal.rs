@@ -1,0 +1,202 @@
+//! Journals, and what is told of moves without a storage.
+use crate::error::{Error, answer, done_or_told, done_with};
+use crate::held::told;
+use crate::instruction::{Instruction, Move};
+use crate::json::{Json, ToJson};
+use crate::sys;
+use crate::value::{Location, Value};
+use std::fmt;
+use std::io;
+
+/// Whether each answer in a journal is the one that a storage of one thread gives there.
+#[derive(Clone, Copy, Debug, PartialEq, Eq)]
+pub enum Legality {
+    /// Each is.
+    Legal {
+        /// How many calls were answered.
+        calls: u64,
+        /// How many of them fired a move.
+        moves: u32,
+    },
+    /// The first answer that is another.
+    Illegal {
+        /// The number of its call, from 0 up.
+        call: u64,
+    },
+}
+
+impl Legality {
+    /// Whether each answer is right.
+    pub fn is_legal(self) -> bool {
+        matches!(self, Legality::Legal { .. })
+    }
+}
+
+/// Why bytes are no journal; lines count from 1.
+#[derive(Clone, Copy, Debug, PartialEq, Eq)]
+#[non_exhaustive]
+pub enum JournalError {
+    /// The line isn't JSON.
+    NotJson(u64),
+    /// The line is JSON of another shape, or beyond a limit.
+    Shape(u64),
+    /// A journal of another version than 1 and 2.
+    Version,
+    /// It ends too early.
+    Cut,
+    /// Out of memory.
+    Memory,
+}
+
+impl fmt::Display for JournalError {
+    fn fmt(&self, f: &mut fmt::Formatter<'_>) -> fmt::Result {
+        match self {
+            JournalError::NotJson(line) => write!(f, "line {line} isn't JSON"),
+            JournalError::Shape(line) => write!(f, "line {line} is no line of a journal"),
+            JournalError::Version => f.write_str("a journal of another version than 1 and 2"),
+            JournalError::Cut => f.write_str("the journal ends too early"),
+            JournalError::Memory => f.write_str("out of memory"),
+        }
+    }
+}
+
+impl std::error::Error for JournalError {}
+
+/// What `replay`, `check` and `trace` of a journal that the storage closed can't answer but for want of memory.
+impl From<JournalError> for Error {
+    fn from(error: JournalError) -> Error {
+        match error {
+            JournalError::Memory => Error::Memory,
+            error => Error::Refused(error.to_string()),
+        }
+    }
+}
+
+fn refused(code: i32, line: u64) -> JournalError {
+    match code {
+        sys::NOT_JSON => JournalError::NotJson(line),
+        sys::SHAPE => JournalError::Shape(line),
+        sys::VERSION => JournalError::Version,
+        sys::CUT => JournalError::Cut,
+        _ => JournalError::Memory,
+    }
+}
+
+/// The text of a history: a header line, and a line for each answered call.
+#[derive(Clone, PartialEq, Eq)]
+pub struct Journal {
+    text: Vec<u8>,
+}
+
+impl Journal {
+    /// The text.
+    pub fn as_bytes(&self) -> &[u8] {
+        &self.text
+    }
+
+    /// The text.
+    pub fn into_bytes(self) -> Vec<u8> {
+        self.text
+    }
+
+    /// Writes the whole text.
+    pub fn write_to(&self, mut output: impl io::Write) -> io::Result<()> {
+        output.write_all(&self.text)
+    }
+
+    /// Whether each answer is the one that a storage of one thread gives there.
+    pub fn check(&self) -> Result<Legality, JournalError> {
+        let (mut calls, mut moves) = (0, 0);
+        match unsafe { sys::asm_check(self.text.as_ptr(), self.text.len(), &mut calls, &mut moves) } {
+            sys::DONE => Ok(Legality::Legal { calls, moves }),
+            sys::ILLEGAL => Ok(Legality::Illegal { call: calls }),
+            code => Err(refused(code, calls)),
+        }
+    }
+
+    /// The state that its moves leave, in ascending order of locations. The journal isn't checked.
+    pub fn replay(&self) -> Result<Vec<(Location, Value)>, JournalError> {
+        let mut line = 0;
+        let (code, text) = told(|out, room, written| unsafe {
+            sys::asm_replay(self.text.as_ptr(), self.text.len(), out, room, written, &mut line)
+        });
+        match code {
+            sys::DONE => answer(&text, Json::pairs).map_err(|_| JournalError::Memory),
+            code => Err(refused(code, line)),
+        }
+    }
+
+    /// Its trace, legal or not: what each of its calls did, in the form that a viewer takes.
+    pub fn trace(&self) -> Result<Vec<u8>, JournalError> {
+        let mut line = 0;
+        let (code, text) = told(|out, room, written| unsafe {
+            sys::asm_trace(self.text.as_ptr(), self.text.len(), out, room, written, &mut line)
+        });
+        match code {
+            sys::DONE => Ok(text),
+            code => Err(refused(code, line)),
+        }
+    }
+}
+
+impl From<Vec<u8>> for Journal {
+    fn from(text: Vec<u8>) -> Journal {
+        Journal { text }
+    }
+}
+
+impl AsRef<[u8]> for Journal {
+    fn as_ref(&self) -> &[u8] {
+        &self.text
+    }
+}
+
+impl fmt::Debug for Journal {
+    fn fmt(&self, f: &mut fmt::Formatter<'_>) -> fmt::Result {
+        f.debug_struct("Journal").field("bytes", &self.text.len()).finish()
+    }
+}
+
+fn is_ok(code: i32, told: &[u8], instructions: &[&Move]) -> Result<(), Error> {
+    if code != sys::NOT_JSON && code != sys::SHAPE {
+        return done_or_told(code, told);
+    }
+    for it in instructions {
+        let text = format!("{{\"fire\":{},\"reads\":[]}}", it.instructions().json());
+        match done_with(code, sys::FORM_MOVE, &text) {
+            Err(Error::Refused(why)) if why.is_empty() => {}
+            result => return result,
+        }
+    }
+    Err(Error::Refused("the state isn't one".to_owned()))
+}
+
+/// The updates of the move on the state, in ascending order of locations; the state needs the locations of partial updates
+/// alone. [`Error::Clash`] tells the least location that clashes.
+pub fn aggregate(state: &[(Location, Value)], instructions: &Move) -> Result<Vec<(Location, Value)>, Error> {
+    let (state, text) = (state.json(), instructions.instructions().json());
+    let (code, told) = told(|out, room, written| unsafe {
+        sys::asm_aggregate(state.as_ptr(), state.len(), text.as_ptr(), text.len(), out, room, written)
+    });
+    is_ok(code, &told, &[instructions])?;
+    answer(&told, Json::pairs)
+}
+
+/// One move that does what the first and then the second do. [`Error::Clash`] and [`Error::Large`] come where on no state
+/// both fire, [`Error::Many`] where it would have more than 4,096 instructions.
+pub fn compose(first: &Move, second: &Move) -> Result<Move, Error> {
+    let (one, other) = (first.instructions().json(), second.instructions().json());
+    let (code, told) = told(|out, room, written| unsafe {
+        sys::asm_compose(one.as_ptr(), one.len(), other.as_ptr(), other.len(), out, room, written)
+    });
+    is_ok(code, &told, &[first, second])?;
+    let instructions: Option<Vec<Instruction>> =
+        answer(&told, |it| Some(it.list()?.into_iter().map(Json::instruction).collect()))?;
+    let instructions = instructions.ok_or_else(|| Error::Refused("an unknown answer".to_owned()))?;
+    Ok(instructions.into_iter().collect())
+}
+
+/// The version of the library: a million for each major version, a thousand for each minor one.
+pub fn version() -> u32 {
+    unsafe { sys::asm_version() }
+}

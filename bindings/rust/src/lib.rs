@@ -1,0 +1,73 @@
+//! The abstract storage of a CoreASM engine: a state in memory that the agents of many threads read, and fire moves on, at
+//! once and without locks. A fire that rests on an old read is refused, so no update is lost; all answered calls are one
+//! history, which can be checked again.
+//!
+//! This is a safe crate over the library for C, in which every function is proved to meet its contract; what this crate adds
+//! isn't proved, only tested.
+//!
+//! An agent works in steps. All that a step gets is of one state; what it pushes is seen by what comes after, and is fired as
+//! one move. [`Agent::play`] begins anew where another agent wrote first:
+//!
+//! ```
+//! use folugben::{Error, Location, Storage, Value};
+//!
+//! fn main() -> Result<(), Error> {
+//!     let balance = |name: &str| Location::new("balance").arg(name);
+//!     let storage = Storage::open([(balance("anna"), 100.into()), (balance("ben"), 0.into())], 1_000)?;
+//!     let mut teller = storage.agent(0)?;
+//!
+//!     let (number, moved) = teller.play(|step| {
+//!         let there = step.get(&balance("anna"))?.as_num().unwrap_or(0);
+//!         let moved = there.min(30);
+//!         step.inc(&balance("anna"), -moved)?;
+//!         step.inc(&balance("ben"), moved)?;
+//!         Ok::<_, Error>(moved)
+//!     })?;
+//!     assert_eq!((number, moved), (1, 30));
+//!
+//!     drop(teller); // it is given back
+//!     let journal = storage.close()?;
+//!     assert!(journal.check()?.is_legal());
+//!     assert_eq!(journal.replay()?, [(balance("anna"), Value::from(70)), (balance("ben"), Value::from(30))]);
+//!     Ok(())
+//! }
+//! ```
+//!
+//! A step that is moved, an empty slot and a foreign agent's step can't be written: a [`Step`] borrows its [`Agent`].
+//!
+//! ```compile_fail
+//! # use folugben::{Error, Storage};
+//! # fn main() -> Result<(), Error> {
+//! # let storage = Storage::open([], 10)?;
+//! let mut agent = storage.agent(0)?;
+//! let step = agent.step()?;
+//! agent.follow()?; // the step still borrows the agent
+//! step.fire()?;
+//! # Ok(())
+//! # }
+//! ```
+//!
+//! Threads begin and end with the program, and a storage with its last agent: nothing is kept elsewhere. Don't use any of this
+//! in the child of a fork of a process with threads.
+#![warn(clippy::all)]
+
+mod agent;
+mod error;
+mod held;
+mod instruction;
+mod journal;
+mod json;
+mod prepared;
+mod step;
+mod storage;
+mod sys;
+mod value;
+
+pub use agent::{Agent, Reading};
+pub use error::{Cause, Error};
+pub use instruction::{Instruction, Move};
+pub use journal::{Journal, JournalError, Legality, aggregate, compose, version};
+pub use prepared::{Prepared, PreparedMove};
+pub use step::Step;
+pub use storage::Storage;
+pub use value::{Element, Location, Value};

@@ -1,0 +1,157 @@
+//! Locations and moves that are prepared once, for steps that write and read no text.
+use crate::error::{Error, answer, done, done_with};
+use crate::held::Held;
+use crate::json::{Json, ToJson};
+use crate::sys;
+use crate::value::{Element, Location, Value};
+use std::fmt;
+
+/// A location that the library has read once, for agents and steps of any storage.
+pub struct Prepared {
+    location: Location,
+    pub(crate) slot: Held,
+}
+
+impl Prepared {
+    /// Prepares the location. [`Error::Refused`]: it is against the rules of locations.
+    pub fn new(location: &Location) -> Result<Prepared, Error> {
+        let text = location.json();
+        let slot = Held::empty();
+        match unsafe { sys::asm_location(text.as_ptr(), text.len(), slot.at()) } {
+            code @ (sys::NOT_JSON | sys::SHAPE) => {
+                done_with(code, sys::FORM_LOCATIONS, &format!("[{text}]"))?;
+            }
+            code => done(code)?,
+        }
+        Ok(Prepared { location: location.clone(), slot })
+    }
+
+    /// The location.
+    pub fn location(&self) -> &Location {
+        &self.location
+    }
+}
+
+impl fmt::Debug for Prepared {
+    fn fmt(&self, f: &mut fmt::Formatter<'_>) -> fmt::Result {
+        f.debug_tuple("Prepared").field(&self.location).finish()
+    }
+}
+
+/// The value that a call told by its kind, its number and its bytes.
+pub(crate) fn value_of(head: &sys::Value, bytes: Vec<u8>) -> Result<Value, Error> {
+    Ok(match head.kind {
+        sys::KIND_UNDEF => Value::UNDEF,
+        sys::KIND_BOOL => Value::from(head.number == 1),
+        sys::KIND_NUM => Value::from(head.number),
+        sys::KIND_TEXT => Value::from(String::from_utf8_lossy(&bytes).into_owned()),
+        _ => answer(&bytes, Json::value)?,
+    })
+}
+
+/// A move that is gathered at prepared locations, instruction by instruction, without text.
+///
+/// Its operands are elements but lists; for sets, bags and lists as values there is [`Move`](crate::Move).
+pub struct PreparedMove {
+    len: usize,
+    pub(crate) slot: Held,
+}
+
+impl PreparedMove {
+    /// The move without instructions.
+    pub fn new() -> PreparedMove {
+        PreparedMove { len: 0, slot: Held::empty() }
+    }
+
+    /// How many instructions it has.
+    pub fn len(&self) -> usize {
+        self.len
+    }
+
+    /// Whether it has none.
+    pub fn is_empty(&self) -> bool {
+        self.len == 0
+    }
+
+    /// Leaves it without instructions.
+    pub fn clear(&mut self) -> &mut PreparedMove {
+        self.slot.free();
+        self.len = 0;
+        self
+    }
+
+    fn instruct(
+        &mut self,
+        verb: i32,
+        at: &Prepared,
+        operand: Element,
+        amount: u32,
+    ) -> Result<&mut PreparedMove, Error> {
+        let (kind, number, bytes) = match operand {
+            Element::Undef => (sys::KIND_UNDEF, 0, String::new()),
+            Element::Bool(is_true) => (sys::KIND_BOOL, i64::from(is_true), String::new()),
+            Element::Num(number) => (sys::KIND_NUM, number, String::new()),
+            Element::Text(text) => (sys::KIND_TEXT, 0, text),
+            Element::List(_) => return Err(Error::Refused("a prepared move takes no lists: take a Move".to_owned())),
+        };
+        done(unsafe {
+            let (slot, place) = (self.slot.at(), at.slot.at());
+            sys::asm_instruct(slot, place, verb, kind, number, bytes.as_ptr(), bytes.len(), amount)
+        })?;
+        self.len += 1;
+        Ok(self)
+    }
+
+    /// The location gets the element. After an error the move is as it was, here and below; [`Error::Many`]: it has 4,096
+    /// instructions.
+    pub fn put(&mut self, at: &Prepared, value: impl Into<Element>) -> Result<&mut PreparedMove, Error> {
+        self.instruct(0, at, value.into(), 0)
+    }
+
+    /// The set there gets the element.
+    pub fn add(&mut self, at: &Prepared, element: impl Into<Element>) -> Result<&mut PreparedMove, Error> {
+        self.instruct(1, at, element.into(), 0)
+    }
+
+    /// The set there loses the element.
+    pub fn remove(&mut self, at: &Prepared, element: impl Into<Element>) -> Result<&mut PreparedMove, Error> {
+        self.instruct(2, at, element.into(), 0)
+    }
+
+    /// The bag there gets the element so many times; [`Error::Range`] for 0.
+    pub fn bag_add(
+        &mut self,
+        at: &Prepared,
+        element: impl Into<Element>,
+        amount: u32,
+    ) -> Result<&mut PreparedMove, Error> {
+        self.instruct(3, at, element.into(), amount)
+    }
+
+    /// The bag there loses the element so many times; [`Error::Range`] for 0.
+    pub fn bag_remove(
+        &mut self,
+        at: &Prepared,
+        element: impl Into<Element>,
+        amount: u32,
+    ) -> Result<&mut PreparedMove, Error> {
+        self.instruct(4, at, element.into(), amount)
+    }
+
+    /// The number there grows by so much.
+    pub fn inc(&mut self, at: &Prepared, by: i64) -> Result<&mut PreparedMove, Error> {
+        self.instruct(5, at, Element::Num(by), 0)
+    }
+}
+
+impl Default for PreparedMove {
+    fn default() -> PreparedMove {
+        PreparedMove::new()
+    }
+}
+
+impl fmt::Debug for PreparedMove {
+    fn fmt(&self, f: &mut fmt::Formatter<'_>) -> fmt::Result {
+        f.debug_struct("PreparedMove").field("len", &self.len).finish_non_exhaustive()
+    }
+}

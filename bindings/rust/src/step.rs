@@ -1,0 +1,189 @@
+//! Steps.
+use crate::agent::{Agent, Reading};
+use crate::error::{Error, answer, done, done_or_told, done_with, of_text};
+use crate::held::told;
+use crate::instruction::{Instruction, Move};
+use crate::json::{Json, ToJson};
+use crate::prepared::{Prepared, PreparedMove, value_of};
+use crate::sys;
+use crate::value::{Element, Location, Value};
+use std::fmt;
+use std::slice;
+
+/// What an engine does between a look and a fire: it gets values and pushes moves in any order, all of which see one state
+/// and the moves pushed before; and it fires one move that does what these do in turn.
+///
+/// It borrows its agent. A step that is let go without [`Step::fire`] has done nothing.
+#[must_use = "a step does nothing until it is fired"]
+pub struct Step<'a> {
+    pub(crate) agent: &'a mut Agent,
+    pub(crate) number: u32,
+}
+
+impl Step<'_> {
+    /// The number of moves at which it began.
+    pub fn number(&self) -> u32 {
+        self.number
+    }
+
+    /// What is seen at the location through the pushed moves.
+    ///
+    /// The step then rests on the location, if what is told is made from the state that it began on; [`Error::Many`]: it
+    /// would rest on more than 256.
+    pub fn get(&self, at: &Location) -> Result<Value, Error> {
+        let mut values = self.get_each(slice::from_ref(at))?;
+        values.pop().ok_or(Error::Unknown(sys::DONE))
+    }
+
+    /// As [`Step::get`], of each of the locations.
+    pub fn get_each(&self, places: &[Location]) -> Result<Vec<Value>, Error> {
+        let text = places.json();
+        let (code, told) = told(|out, room, written| unsafe {
+            let step = self.agent.step.at();
+            sys::asm_get(self.agent.slot.at(), step, text.as_ptr(), text.len(), out, room, written)
+        });
+        done_with(code, sys::FORM_LOCATIONS, &text)?;
+        Ok(answer(&told, Reading::of)?.values)
+    }
+
+    /// As [`Step::get`], of a prepared location, and quicker.
+    pub fn get_at(&self, at: &Prepared) -> Result<Value, Error> {
+        let mut head = sys::Value::default();
+        let (code, bytes) = told(|out, room, written| unsafe {
+            let step = self.agent.step.at();
+            sys::asm_get_at(self.agent.slot.at(), step, at.slot.at(), &mut head, out, room, written)
+        });
+        done(code)?;
+        value_of(&head, bytes)
+    }
+
+    /// What is seen at all locations of a function, in ascending order. The step then rests on those that were found; that a
+    /// further one is written later isn't noticed.
+    pub fn get_all(&self, name: &str) -> Result<Vec<(Location, Value)>, Error> {
+        let (code, text) = told(|out, room, written| unsafe {
+            let step = self.agent.step.at();
+            sys::asm_get_all(self.agent.slot.at(), step, name.as_ptr(), name.len(), out, room, written)
+        });
+        done(code)?;
+        answer(&text, Json::pairs)
+    }
+
+    /// Pushes the move: what comes after it sees what it leaves.
+    ///
+    /// A refused one leaves the step as it was: [`Error::Clash`] on what is seen, [`Error::Deep`] behind 64 pushed moves,
+    /// [`Error::Many`] where the one move of all would have more than 4,096 instructions.
+    pub fn push(&mut self, instructions: &Move) -> Result<(), Error> {
+        self.grow(sys::asm_push, instructions.instructions())
+    }
+
+    /// The same, but the move joins the one that was pushed last, and is popped with it; so it is never too deep.
+    pub fn extend(&mut self, instructions: &Move) -> Result<(), Error> {
+        self.grow(sys::asm_extend, instructions.instructions())
+    }
+
+    fn grow(&mut self, call: GrowByText, instructions: &[Instruction]) -> Result<(), Error> {
+        let text = instructions.json();
+        let (code, told) = told(|out, room, written| unsafe {
+            call(self.agent.slot.at(), self.agent.step.at(), text.as_ptr(), text.len(), out, room, written)
+        });
+        match code {
+            sys::NOT_JSON | sys::SHAPE => {
+                let call = format!("{{\"fire\":{text},\"reads\":[]}}");
+                done_with(code, sys::FORM_MOVE, &call)
+            }
+            code => done_or_told(code, &told),
+        }
+    }
+
+    /// As [`Step::push`], of a move that was gathered without text.
+    pub fn push_prepared(&mut self, instructions: &PreparedMove) -> Result<(), Error> {
+        self.grow_prepared(sys::asm_push_move, instructions)
+    }
+
+    /// As [`Step::extend`], of a move that was gathered without text.
+    pub fn extend_prepared(&mut self, instructions: &PreparedMove) -> Result<(), Error> {
+        self.grow_prepared(sys::asm_extend_move, instructions)
+    }
+
+    fn grow_prepared(&mut self, call: GrowByMove, instructions: &PreparedMove) -> Result<(), Error> {
+        if instructions.is_empty() {
+            return self.grow(sys::asm_extend, &[]);
+        }
+        let (code, told) = told(|out, room, written| unsafe {
+            call(self.agent.slot.at(), self.agent.step.at(), instructions.slot.at(), out, room, written)
+        });
+        done_or_told(code, &told)
+    }
+
+    /// Puts the value, in a move that joins what was pushed last.
+    pub fn put(&mut self, at: impl Into<Location>, value: impl Into<Value>) -> Result<(), Error> {
+        self.extend(&Move::new().put(at, value))
+    }
+
+    /// Adds the element to the set there, in a move that joins what was pushed last.
+    pub fn add(&mut self, at: impl Into<Location>, element: impl Into<Element>) -> Result<(), Error> {
+        self.extend(&Move::new().add(at, element))
+    }
+
+    /// Removes the element from the set there, in a move that joins what was pushed last.
+    pub fn remove(&mut self, at: impl Into<Location>, element: impl Into<Element>) -> Result<(), Error> {
+        self.extend(&Move::new().remove(at, element))
+    }
+
+    /// Adds to the number there, in a move that joins what was pushed last.
+    pub fn inc(&mut self, at: impl Into<Location>, by: i64) -> Result<(), Error> {
+        self.extend(&Move::new().inc(at, by))
+    }
+
+    /// Takes the move away that was pushed last, with those that joined it. [`Error::NoMove`]: none is pushed.
+    pub fn pop(&mut self) -> Result<(), Error> {
+        match unsafe { sys::asm_pop(self.agent.step.at()) } {
+            sys::NONE => Err(Error::NoMove),
+            code => done(code),
+        }
+    }
+
+    /// How many moves are pushed.
+    pub fn depth(&self) -> u32 {
+        unsafe { sys::asm_depth(self.agent.step.at()) }
+    }
+
+    /// Fires one move that does what the pushed ones do in turn, unless something was written since that the step rests on,
+    /// and answers the move's number.
+    ///
+    /// After [`Error::Stale`], [`Error::Busy`] and [`Error::Clash`] the step is to be begun anew, as
+    /// [`Agent::play`](crate::Agent::play) does. [`Error::Full`]: the storage has no room for a further move.
+    #[must_use = "a stale step has fired nothing"]
+    pub fn fire(self) -> Result<u32, Error> {
+        let mut numbers = sys::Numbers::default();
+        let code = unsafe { sys::asm_commit(self.agent.slot.at(), self.agent.step.at(), &mut numbers) };
+        match code {
+            sys::STALE | sys::CLASH => Err(of_text(code, &self.agent.last_answer()?)),
+            code => {
+                done(code)?;
+                Ok(numbers.fired)
+            }
+        }
+    }
+}
+
+type GrowByText =
+    unsafe extern "C" fn(*mut sys::Slot, *mut sys::Slot, *const u8, usize, *mut u8, usize, *mut usize) -> i32;
+type GrowByMove =
+    unsafe extern "C" fn(*mut sys::Slot, *mut sys::Slot, *mut sys::Slot, *mut u8, usize, *mut usize) -> i32;
+
+impl Drop for Step<'_> {
+    fn drop(&mut self) {
+        self.agent.step.free();
+    }
+}
+
+impl fmt::Debug for Step<'_> {
+    fn fmt(&self, f: &mut fmt::Formatter<'_>) -> fmt::Result {
+        f.debug_struct("Step")
+            .field("agent", &self.agent.number())
+            .field("number", &self.number)
+            .field("depth", &self.depth())
+            .finish()
+    }
+}

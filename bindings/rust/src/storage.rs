@@ -1,0 +1,180 @@
+//! Storages.
+use crate::agent::Agent;
+use crate::error::{Error, done, done_with, plain};
+use crate::held::{Held, told};
+use crate::journal::Journal;
+use crate::json::ToJson;
+use crate::sys;
+use crate::value::{Location, Value};
+use std::fmt;
+use std::mem::ManuallyDrop;
+use std::sync::{Arc, Mutex, MutexGuard, PoisonError};
+
+/// How many agents a storage makes at most.
+const AGENTS: usize = 256;
+
+/// What a storage and its agents share.
+pub(crate) struct Shared {
+    slots: Mutex<Slots>,
+}
+
+struct Slots {
+    storage: Held,
+    /// Agents that were let go when there was no memory to give them back.
+    waiting: Vec<Held>,
+}
+
+impl Shared {
+    fn slots(&self) -> MutexGuard<'_, Slots> {
+        // A call that panicked left the slots as the library did, which is whole.
+        self.slots.lock().unwrap_or_else(PoisonError::into_inner)
+    }
+
+    /// Gives the agent back, or keeps it until there is memory.
+    pub(crate) fn give(&self, agent: Held) {
+        let mut slots = self.slots();
+        if unsafe { sys::asm_give(slots.storage.at(), agent.at()) } != sys::DONE {
+            slots.waiting.push(agent);
+        }
+    }
+}
+
+impl Slots {
+    fn give_waiting(&mut self) -> Result<(), Error> {
+        while let Some(agent) = self.waiting.last() {
+            done(unsafe { sys::asm_give(self.storage.at(), agent.at()) })?;
+            self.waiting.pop();
+        }
+        Ok(())
+    }
+}
+
+/// The state of an abstract state machine, on which the agents of many threads fire moves without locks.
+///
+/// ```
+/// use folugben::{Location, Storage, Value};
+/// # fn main() -> Result<(), folugben::Error> {
+/// let count = Location::new("count");
+/// let storage = Storage::open([(count.clone(), Value::from(0))], 1_000)?;
+/// std::thread::scope(|threads| {
+///     for mut agent in storage.agents(4)? {
+///         let count = &count;
+///         threads.spawn(move || {
+///             for _ in 0..100 {
+///                 agent.play(|step| step.put(count, step.get(count)?.as_num().unwrap_or(0) + 1))?;
+///             }
+///             Ok::<(), folugben::Error>(())
+///         });
+///     }
+///     Ok::<(), folugben::Error>(())
+/// })?;
+/// let journal = storage.close()?;
+/// assert_eq!(journal.replay()?, [(count, Value::from(400))]);
+/// assert!(journal.check()?.is_legal());
+/// # Ok(())
+/// # }
+/// ```
+pub struct Storage {
+    shared: Arc<Shared>,
+}
+
+impl Storage {
+    /// Opens a storage with this state, for `capacity` moves, which is 1 to 1,048,576 (else [`Error::Range`]).
+    ///
+    /// A location that stands twice, or one against the rules of locations and values, is [`Error::Refused`].
+    pub fn open(state: impl IntoIterator<Item = (Location, Value)>, capacity: u32) -> Result<Storage, Error> {
+        let state: Vec<_> = state.into_iter().collect();
+        let text = state.as_slice().json();
+        let storage = Held::empty();
+        let code = unsafe { sys::asm_open(text.as_ptr(), text.len(), capacity, storage.at()) };
+        done_with(code, sys::FORM_STATE, &text)?;
+        Storage::of(storage)
+    }
+
+    fn of(storage: Held) -> Result<Storage, Error> {
+        let mut waiting = Vec::new();
+        // Letting an agent go can't be refused memory.
+        waiting.try_reserve_exact(AGENTS).map_err(|_| Error::Memory)?;
+        Ok(Storage { shared: Arc::new(Shared { slots: Mutex::new(Slots { storage, waiting }) }) })
+    }
+
+    /// Makes an agent with this number, below 256 (else [`Error::Range`]). A storage has one agent of each number for its
+    /// whole life, so a second one is [`Error::NumberTaken`].
+    pub fn agent(&self, number: u32) -> Result<Agent, Error> {
+        let agent = Held::empty();
+        let slots = self.shared.slots();
+        match unsafe { sys::asm_agent(slots.storage.at(), number, agent.at()) } {
+            sys::DONE => Ok(Agent {
+                slot: ManuallyDrop::new(agent),
+                step: Held::empty(),
+                shared: Arc::clone(&self.shared),
+                number,
+            }),
+            sys::NUMBER => Err(Error::NumberTaken(number)),
+            code => Err(plain(code)),
+        }
+    }
+
+    /// Makes agents with the numbers from 0 up; after an error some of them were made.
+    pub fn agents(&self, count: u32) -> Result<Vec<Agent>, Error> {
+        (0..count).map(|number| self.agent(number)).collect()
+    }
+
+    /// How many moves were fired. It looks along all of them.
+    pub fn moves(&self) -> u32 {
+        let mut moves = 0;
+        let slots = self.shared.slots();
+        // The slot has a storage, so no other code comes.
+        let _ = unsafe { sys::asm_moves(slots.storage.at(), &mut moves) };
+        moves
+    }
+
+    /// Makes the journal of the agents that were given back.
+    ///
+    /// [`Error::Missing`] tells a move whose agent wasn't given back, and an abandoned agent's moves are missing for good.
+    /// It may be made again, when more agents have come back.
+    pub fn close(&self) -> Result<Journal, Error> {
+        let mut slots = self.shared.slots();
+        slots.give_waiting()?;
+        let mut number = 0;
+        match unsafe { sys::asm_close(slots.storage.at(), &mut number) } {
+            sys::MISSING => return Err(Error::Missing(number)),
+            code => done(code)?,
+        }
+        let (code, text) =
+            told(|out, room, written| unsafe { sys::asm_journal(slots.storage.at(), out, room, written) });
+        done(code)?;
+        Ok(Journal::from(text))
+    }
+
+    /// Opens a storage that goes on where this one was closed: its opening state is what the moves of the journal leave, its
+    /// agents and numbers begin anew. [`Error::NoJournal`]: none was made since an agent was given back.
+    ///
+    /// Moves that were fired after `close` are in neither journal.
+    pub fn next(&self, capacity: u32) -> Result<Storage, Error> {
+        let next = Held::empty();
+        let code = unsafe { sys::asm_next(self.shared.slots().storage.at(), capacity, next.at()) };
+        match code {
+            sys::NONE => Err(Error::NoJournal),
+            code => {
+                done(code)?;
+                Storage::of(next)
+            }
+        }
+    }
+
+    pub(crate) fn is_of(&self, agent: &Agent) -> bool {
+        Arc::ptr_eq(&self.shared, &agent.shared)
+    }
+
+    /// Gives the agent back, as letting it go does, and refuses one of another storage, which it hands back.
+    pub fn give(&self, agent: Agent) -> Result<(), Agent> {
+        if self.is_of(&agent) { Ok(()) } else { Err(agent) }
+    }
+}
+
+impl fmt::Debug for Storage {
+    fn fmt(&self, f: &mut fmt::Formatter<'_>) -> fmt::Result {
+        f.debug_struct("Storage").field("moves", &self.moves()).finish_non_exhaustive()
+    }
+}

@@ -1,0 +1,228 @@
+//! The calls of folugben.h, as it declares them.
+use std::ffi::c_void;
+
+#[repr(C)]
+pub(crate) struct Slot {
+    pub(crate) full: bool,
+    pub(crate) at: *mut c_void,
+}
+
+#[repr(C)]
+#[derive(Default)]
+pub(crate) struct Numbers {
+    pub(crate) fired: u32,
+    pub(crate) from: u32,
+    pub(crate) to: u32,
+}
+
+#[repr(C)]
+#[derive(Default)]
+pub(crate) struct Value {
+    pub(crate) kind: i32,
+    pub(crate) number: i64,
+}
+
+unsafe extern "C" {
+    pub(crate) fn asm_error_text(code: i32, out: *mut u8, room: usize, written: *mut usize) -> i32;
+    pub(crate) fn asm_version() -> u32;
+    pub(crate) fn asm_open(init: *const u8, len: usize, capacity: u32, storage: *mut Slot) -> i32;
+    pub(crate) fn asm_agent(storage: *mut Slot, number: u32, agent: *mut Slot) -> i32;
+    pub(crate) fn asm_read(agent: *mut Slot, locations: *const u8, len: usize) -> i32;
+    pub(crate) fn asm_try_fire(agent: *mut Slot, call: *const u8, len: usize, numbers: *mut Numbers) -> i32;
+    pub(crate) fn asm_answer(agent: *mut Slot, out: *mut u8, room: usize, written: *mut usize) -> i32;
+    pub(crate) fn asm_learn(agent: *mut Slot, other: *mut Slot) -> i32;
+    pub(crate) fn asm_follow(agent: *mut Slot, number: *mut u32) -> i32;
+    pub(crate) fn asm_peek(
+        agent: *mut Slot,
+        locations: *const u8,
+        len: usize,
+        out: *mut u8,
+        room: usize,
+        written: *mut usize,
+    ) -> i32;
+    pub(crate) fn asm_state(agent: *mut Slot, number: *mut u32, out: *mut u8, room: usize, written: *mut usize) -> i32;
+    pub(crate) fn asm_scan(
+        agent: *mut Slot,
+        name: *const u8,
+        len: usize,
+        number: *mut u32,
+        out: *mut u8,
+        room: usize,
+        written: *mut usize,
+    ) -> i32;
+    pub(crate) fn asm_stands(
+        agent: *mut Slot,
+        reads: *const u8,
+        len: usize,
+        out: *mut u8,
+        room: usize,
+        written: *mut usize,
+    ) -> i32;
+    pub(crate) fn asm_begin(agent: *mut Slot, step: *mut Slot, number: *mut u32) -> i32;
+    pub(crate) fn asm_get(
+        agent: *mut Slot,
+        step: *mut Slot,
+        locations: *const u8,
+        len: usize,
+        out: *mut u8,
+        room: usize,
+        written: *mut usize,
+    ) -> i32;
+    pub(crate) fn asm_get_all(
+        agent: *mut Slot,
+        step: *mut Slot,
+        name: *const u8,
+        len: usize,
+        out: *mut u8,
+        room: usize,
+        written: *mut usize,
+    ) -> i32;
+    pub(crate) fn asm_push(
+        agent: *mut Slot,
+        step: *mut Slot,
+        instrs: *const u8,
+        len: usize,
+        out: *mut u8,
+        room: usize,
+        written: *mut usize,
+    ) -> i32;
+    pub(crate) fn asm_extend(
+        agent: *mut Slot,
+        step: *mut Slot,
+        instrs: *const u8,
+        len: usize,
+        out: *mut u8,
+        room: usize,
+        written: *mut usize,
+    ) -> i32;
+    pub(crate) fn asm_pop(step: *mut Slot) -> i32;
+    pub(crate) fn asm_depth(step: *mut Slot) -> u32;
+    pub(crate) fn asm_commit(agent: *mut Slot, step: *mut Slot, numbers: *mut Numbers) -> i32;
+    pub(crate) fn asm_location(location: *const u8, len: usize, at: *mut Slot) -> i32;
+    pub(crate) fn asm_peek_at(
+        agent: *mut Slot,
+        at: *mut Slot,
+        number: *mut u32,
+        value: *mut Value,
+        out: *mut u8,
+        room: usize,
+        written: *mut usize,
+    ) -> i32;
+    pub(crate) fn asm_get_at(
+        agent: *mut Slot,
+        step: *mut Slot,
+        at: *mut Slot,
+        value: *mut Value,
+        out: *mut u8,
+        room: usize,
+        written: *mut usize,
+    ) -> i32;
+    pub(crate) fn asm_instruct(
+        instrs: *mut Slot,
+        at: *mut Slot,
+        verb: i32,
+        kind: i32,
+        number: i64,
+        bytes: *const u8,
+        len: usize,
+        amount: u32,
+    ) -> i32;
+    pub(crate) fn asm_push_move(
+        agent: *mut Slot,
+        step: *mut Slot,
+        instrs: *mut Slot,
+        out: *mut u8,
+        room: usize,
+        written: *mut usize,
+    ) -> i32;
+    pub(crate) fn asm_extend_move(
+        agent: *mut Slot,
+        step: *mut Slot,
+        instrs: *mut Slot,
+        out: *mut u8,
+        room: usize,
+        written: *mut usize,
+    ) -> i32;
+    pub(crate) fn asm_seen(agent: *mut Slot) -> u32;
+    pub(crate) fn asm_won(agent: *mut Slot) -> u32;
+    pub(crate) fn asm_misses(agent: *mut Slot) -> u64;
+    pub(crate) fn asm_moves(storage: *mut Slot, moves: *mut u32) -> i32;
+    pub(crate) fn asm_give(storage: *mut Slot, agent: *mut Slot) -> i32;
+    pub(crate) fn asm_close(storage: *mut Slot, number: *mut u32) -> i32;
+    pub(crate) fn asm_journal(storage: *mut Slot, out: *mut u8, room: usize, written: *mut usize) -> i32;
+    pub(crate) fn asm_next(storage: *mut Slot, capacity: u32, next: *mut Slot) -> i32;
+    pub(crate) fn asm_free(slot: *mut Slot);
+    pub(crate) fn asm_check(journal: *const u8, len: usize, calls: *mut u64, moves: *mut u32) -> i32;
+    pub(crate) fn asm_replay(
+        journal: *const u8,
+        len: usize,
+        out: *mut u8,
+        room: usize,
+        written: *mut usize,
+        line: *mut u64,
+    ) -> i32;
+    pub(crate) fn asm_trace(
+        journal: *const u8,
+        len: usize,
+        out: *mut u8,
+        room: usize,
+        written: *mut usize,
+        line: *mut u64,
+    ) -> i32;
+    pub(crate) fn asm_aggregate(
+        state: *const u8,
+        state_len: usize,
+        instrs: *const u8,
+        instrs_len: usize,
+        out: *mut u8,
+        room: usize,
+        written: *mut usize,
+    ) -> i32;
+    pub(crate) fn asm_compose(
+        first: *const u8,
+        first_len: usize,
+        second: *const u8,
+        second_len: usize,
+        out: *mut u8,
+        room: usize,
+        written: *mut usize,
+    ) -> i32;
+    pub(crate) fn asm_explain(
+        form: i32,
+        text: *const u8,
+        len: usize,
+        out: *mut u8,
+        room: usize,
+        written: *mut usize,
+    ) -> i32;
+}
+
+pub(crate) const DONE: i32 = 0;
+pub(crate) const STALE: i32 = 1;
+pub(crate) const CLASH: i32 = 2;
+pub(crate) const MEMORY: i32 = 3;
+pub(crate) const FULL: i32 = 4;
+pub(crate) const RANGE: i32 = 6;
+pub(crate) const SMALL: i32 = 7;
+pub(crate) const BUSY: i32 = 8;
+pub(crate) const MANY: i32 = 9;
+pub(crate) const NONE: i32 = 10;
+pub(crate) const NUMBER: i32 = 12;
+pub(crate) const MISSING: i32 = 13;
+pub(crate) const OTHER: i32 = 14;
+pub(crate) const ILLEGAL: i32 = 15;
+pub(crate) const NOT_JSON: i32 = 16;
+pub(crate) const SHAPE: i32 = 17;
+pub(crate) const VERSION: i32 = 18;
+pub(crate) const CUT: i32 = 19;
+pub(crate) const LARGE: i32 = 20;
+pub(crate) const DEEP: i32 = 22;
+
+pub(crate) const KIND_UNDEF: i32 = 0;
+pub(crate) const KIND_BOOL: i32 = 1;
+pub(crate) const KIND_NUM: i32 = 2;
+pub(crate) const KIND_TEXT: i32 = 3;
+
+pub(crate) const FORM_LOCATIONS: i32 = 0;
+pub(crate) const FORM_MOVE: i32 = 1;
+pub(crate) const FORM_STATE: i32 = 2;

@@ -1,0 +1,183 @@
+//! Steps, plays and fires of one thread and of several.
+use folugben::{Cause, Element, Error, Location, Move, Prepared, PreparedMove, Storage, Value};
+use std::collections::{BTreeMap, BTreeSet};
+
+fn count() -> Location {
+    Location::new("count")
+}
+
+fn open(state: &[(Location, Value)]) -> Storage {
+    Storage::open(state.iter().cloned(), 1_000).expect("a state")
+}
+
+fn is_send<T: Send>() {}
+fn is_sync<T: Sync>() {}
+
+#[test]
+fn agents_go_between_threads_and_storages_are_shared() {
+    is_send::<folugben::Agent>();
+    is_send::<folugben::Step<'static>>();
+    is_send::<Prepared>();
+    is_send::<PreparedMove>();
+    is_send::<Storage>();
+    is_sync::<Storage>();
+    is_sync::<Location>();
+    is_sync::<Error>();
+}
+
+#[test]
+fn a_step_sees_what_it_pushed_and_fires_as_one_move() {
+    let storage = open(&[(count(), 7.into())]);
+    let mut agent = storage.agent(3).unwrap();
+    assert_eq!(agent.number(), 3);
+    let mut step = agent.step().unwrap();
+    assert_eq!(step.get(&count()).unwrap().as_num(), Some(7));
+    step.push(&Move::new().put(count(), 8)).unwrap();
+    step.push(&Move::new().inc(count(), 2)).unwrap();
+    assert_eq!(step.depth(), 2);
+    assert_eq!(step.get(&count()).unwrap(), Value::from(10));
+    step.pop().unwrap();
+    assert_eq!(step.get(&count()).unwrap(), Value::from(8));
+    assert_eq!(step.fire().unwrap(), 1);
+    assert_eq!(agent.follow().unwrap(), 1);
+    assert_eq!(agent.state().unwrap(), (1, vec![(count(), Value::from(8))]));
+    assert_eq!((agent.seen(), agent.won()), (1, 1));
+}
+
+#[test]
+fn a_stale_step_is_told_with_its_location_and_played_again() {
+    let storage = open(&[(count(), 0.into())]);
+    let (mut one, mut other) = (storage.agent(0).unwrap(), storage.agent(1).unwrap());
+    let mut step = one.step().unwrap();
+    let seen = step.get(&count()).unwrap().as_num().unwrap();
+    other.play(|step| step.put(count(), 5)).unwrap();
+    step.put(count(), seen + 1).unwrap();
+    assert_eq!(step.fire(), Err(Error::Stale(count())));
+
+    let mut tries = 0;
+    let (number, told) = one
+        .play(|step| {
+            let seen = step.get(&count())?.as_num().unwrap_or(0);
+            tries += 1;
+            if tries == 1 {
+                other.play(|step| step.put(count(), 20))?;
+            }
+            step.put(count(), seen + 1)?;
+            Ok::<_, Error>(seen)
+        })
+        .unwrap();
+    assert_eq!((number, told, tries), (3, 20, 2));
+}
+
+#[test]
+fn what_a_rule_refuses_ends_its_play_and_fires_nothing() {
+    #[derive(Debug, PartialEq)]
+    enum Fault {
+        Poor,
+        Storage(Error),
+    }
+    impl From<Error> for Fault {
+        fn from(error: Error) -> Fault {
+            Fault::Storage(error)
+        }
+    }
+    let storage = open(&[]);
+    let mut agent = storage.agent(0).unwrap();
+    let told = agent.play(|step| {
+        step.put(count(), 1)?;
+        Err::<(), _>(Fault::Poor)
+    });
+    assert_eq!(told, Err(Fault::Poor));
+    let clash =
+        agent.play(|step| -> Result<(), Fault> { Ok(step.push(&Move::new().put(count(), 1).put(count(), 2))?) });
+    assert_eq!(clash, Err(Fault::Storage(Error::Clash { at: count(), cause: Cause::Two })));
+    assert_eq!(storage.moves(), 0);
+}
+
+#[test]
+fn a_removal_that_is_short_by_now_is_played_again() {
+    let bag = |n| Value::Bag(BTreeMap::from([(Element::from("apple"), n)]));
+    let shelf = Location::new("shelf");
+    let storage = open(&[(shelf.clone(), bag(1))]);
+    let (mut one, mut other) = (storage.agent(0).unwrap(), storage.agent(1).unwrap());
+    let take = Move::new().bag_remove(&shelf, "apple", 1);
+    let mut step = one.step().unwrap();
+    step.push(&take).unwrap();
+    other.play(|step| step.push(&take)).unwrap();
+    assert_eq!(step.fire(), Err(Error::Clash { at: shelf.clone(), cause: Cause::Short }));
+    let again = one.play(|step| step.push(&take));
+    assert_eq!(again.unwrap_err(), Error::Clash { at: shelf, cause: Cause::Short });
+}
+
+#[test]
+fn values_of_each_kind_come_back() {
+    let elements = [
+        Element::Undef,
+        true.into(),
+        (-3).into(),
+        "a \"b\" \\ \u{1}\n é".into(),
+        Element::List(vec![Element::List(vec![]), 1.into()]),
+    ];
+    let values = [
+        Value::UNDEF,
+        false.into(),
+        i64::MIN.into(),
+        elements[3].clone().into(),
+        elements[4].clone().into(),
+        Value::Set(elements.iter().cloned().collect()),
+        Value::Bag(elements.iter().cloned().map(|it| (it, u32::MAX)).collect()),
+    ];
+    let storage = open(&[]);
+    let mut agent = storage.agent(0).unwrap();
+    for (i, value) in values.iter().enumerate() {
+        let at = Location::new("f").arg(i64::try_from(i).unwrap()).args_of(elements.iter().cloned());
+        agent.play(|step| step.put(&at, value.clone())).unwrap();
+        agent.follow().unwrap();
+        assert_eq!(agent.peek(std::slice::from_ref(&at)).unwrap().values, [value.clone()]);
+        let prepared = Prepared::new(&at).unwrap();
+        assert_eq!(agent.peek_at(&prepared).unwrap().1, *value);
+        assert_eq!(agent.step().unwrap().get_at(&prepared).unwrap(), *value);
+    }
+    let found = agent.step().unwrap().get_all("f").unwrap();
+    assert_eq!(found.len(), values.len() - 1);
+    assert_eq!(agent.scan("f").unwrap().1, found);
+    assert!(found.is_sorted_by_key(|(at, _)| at));
+}
+
+#[test]
+fn prepared_moves_do_what_moves_do() {
+    let places = ["n", "s", "b", "t"].map(Location::new);
+    let opening = [Value::from(1), Value::Set(BTreeSet::new()), Value::Bag(BTreeMap::new()), Value::UNDEF];
+    let storage = Storage::open(places.iter().cloned().zip(opening), 10).unwrap();
+    let mut agent = storage.agent(0).unwrap();
+    let [n, s, b, t] = places.each_ref().map(|it| Prepared::new(it).unwrap());
+    let mut gathered = PreparedMove::new();
+    gathered.put(&t, "text").unwrap().inc(&n, -4).unwrap().add(&s, 1).unwrap().bag_add(&b, true, 3).unwrap();
+    assert_eq!(gathered.bag_add(&b, 1, 0).err(), Some(Error::Range));
+    assert_eq!(gathered.len(), 4);
+    agent.play(|step| step.push_prepared(&gathered)).unwrap();
+    gathered.clear().remove(&s, 1).unwrap().bag_remove(&b, true, 1).unwrap();
+    agent.play(|step| step.extend_prepared(&gathered)).unwrap();
+    agent.play(|step| step.push_prepared(gathered.clear())).unwrap();
+    agent.follow().unwrap();
+    let values = agent.peek(&places).unwrap();
+    let bag = Value::Bag(BTreeMap::from([(true.into(), 2)]));
+    assert_eq!((values.number, values.values), (3, vec![(-3).into(), Value::Set(BTreeSet::new()), bag, "text".into()]));
+}
+
+#[test]
+fn reads_and_fires_by_name_work_without_steps() {
+    let storage = open(&[(count(), 1.into())]);
+    let (mut one, mut other) = (storage.agent(0).unwrap(), storage.agent(1).unwrap());
+    let reading = one.read(&[count()]).unwrap();
+    assert_eq!((reading.number, &reading.values[..]), (0, &[Value::from(1)][..]));
+    assert_eq!(other.try_fire(&Move::new().put(count(), 2), &[]), Ok(1));
+    assert_eq!(one.stands(&[(count(), 0)]), Err(Error::Stale(count())));
+    assert_eq!(one.try_fire(&Move::new().inc(count(), 1), &[(count(), 0)]), Err(Error::Stale(count())));
+    assert_eq!(one.try_fire(&Move::new().inc(count(), 1), &[(count(), 9)]), Err(Error::Range));
+    assert_eq!(one.try_fire(&Move::new().inc(count(), 1), &[(count(), 1)]), Ok(2));
+    other.learn(&mut one).unwrap();
+    assert_eq!(other.seen(), 2);
+    let elsewhere = open(&[]);
+    assert_eq!(elsewhere.agent(0).unwrap().learn(&mut one), Err(Error::OtherStorage));
+}

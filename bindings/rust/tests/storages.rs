@@ -1,0 +1,117 @@
+//! Storages: how agents come back, what is refused, and journals.
+use folugben::{Error, Journal, JournalError, Legality, Location, Move, Storage, Value, aggregate, compose};
+
+fn count() -> Location {
+    Location::new("count")
+}
+
+#[test]
+fn agents_come_back_when_they_are_let_go_also_by_a_panic() {
+    let storage = Storage::open([(count(), 0.into())], 10).unwrap();
+    let mut agent = storage.agent(0).unwrap();
+    agent.play(|step| step.inc(count(), 1)).unwrap();
+    assert_eq!(storage.close(), Err(Error::Missing(1)));
+    let ended = std::thread::spawn(move || {
+        agent.play(|step| step.inc(count(), 1)).unwrap();
+        panic!("on purpose");
+        #[allow(unreachable_code)]
+        drop(agent);
+    });
+    assert!(ended.join().is_err());
+    let journal = storage.close().unwrap();
+    assert_eq!(journal.check(), Ok(Legality::Legal { calls: 2, moves: 2 }));
+    assert_eq!(storage.agent(0).err(), Some(Error::NumberTaken(0)));
+}
+
+#[test]
+fn what_an_abandoned_agent_fired_is_missing() {
+    let storage = Storage::open([], 10).unwrap();
+    let mut agent = storage.agent(0).unwrap();
+    agent.play(|step| step.put(count(), 1)).unwrap();
+    agent.abandon();
+    assert_eq!(storage.close(), Err(Error::Missing(1)));
+    let mut unused = storage.agent(1).unwrap();
+    unused.follow().unwrap();
+    unused.abandon();
+    assert_eq!(storage.moves(), 1);
+}
+
+#[test]
+fn an_agent_of_another_storage_is_handed_back() {
+    let (one, other) = (Storage::open([], 10).unwrap(), Storage::open([], 10).unwrap());
+    let agent = one.agent(0).unwrap();
+    let agent = other.give(agent).unwrap_err();
+    assert!(one.give(agent).is_ok());
+}
+
+#[test]
+fn a_storage_that_was_closed_goes_on() {
+    let storage = Storage::open([(count(), 1.into())], 2).unwrap();
+    let mut agent = storage.agent(0).unwrap();
+    assert_eq!(storage.next(5).err(), Some(Error::NoJournal));
+    for _ in 0..2 {
+        agent.play(|step| step.inc(count(), 1)).unwrap();
+    }
+    assert_eq!(agent.play(|step| step.inc(count(), 1)), Err(Error::Full));
+    drop(agent);
+    let first = storage.close().unwrap();
+    let next = storage.next(5).unwrap();
+    let mut agent = next.agent(0).unwrap();
+    assert_eq!(agent.read(&[count()]).unwrap().values, [Value::from(3)]);
+    drop(agent);
+    assert_eq!(first.replay().unwrap(), [(count(), 3.into())]);
+    assert!(next.close().unwrap().check().unwrap().is_legal());
+}
+
+#[test]
+fn refusals_say_what_is_wrong() {
+    assert_eq!(Storage::open([], 0).err(), Some(Error::Range));
+    let twice = Storage::open([(count(), 1.into()), (count(), 2.into())], 1).unwrap_err();
+    assert!(matches!(&twice, Error::Refused(why) if !why.is_empty()), "{twice}");
+    let storage = Storage::open([], 10).unwrap();
+    assert_eq!(storage.agent(256).err(), Some(Error::Range));
+    let mut agent = storage.agent(0).unwrap();
+    let named = agent.step().unwrap().get(&Location::new("no name")).unwrap_err();
+    assert!(matches!(&named, Error::Refused(why) if why.contains("name")), "{named}");
+    let moved = agent.step().unwrap().push(&Move::new().put(Location::new(""), 1)).unwrap_err();
+    assert!(matches!(&moved, Error::Refused(why) if !why.is_empty()), "{moved}");
+    let places: Vec<Location> = (0..257).map(|i| Location::new("f").arg(i)).collect();
+    assert_eq!(agent.read(&places).err(), Some(Error::Many));
+    assert_eq!(agent.step().unwrap().get_each(&places).err(), Some(Error::Many));
+    let mut step = agent.step().unwrap();
+    assert_eq!(step.pop(), Err(Error::NoMove));
+    for _ in 0..64 {
+        step.push(&Move::new()).unwrap();
+    }
+    assert_eq!(step.push(&Move::new()), Err(Error::Deep));
+}
+
+#[test]
+fn journals_are_judged() {
+    let storage = Storage::open([], 10).unwrap();
+    let mut agent = storage.agent(0).unwrap();
+    agent.play(|step| step.put(count(), 1)).unwrap();
+    drop(agent);
+    let journal = storage.close().unwrap();
+    let mut text = Vec::new();
+    journal.write_to(&mut text).unwrap();
+    assert_eq!(text, journal.as_bytes());
+    assert!(journal.trace().unwrap().starts_with(b"{"));
+    let with = |from: &str, to: &str| Journal::from(String::from_utf8_lossy(&text).replace(from, to).into_bytes());
+    assert_eq!(with("\"fired\":1", "\"fired\":2").check(), Ok(Legality::Illegal { call: 0 }));
+    assert_eq!(with("\"put\"", "\"putt\"").check(), Err(JournalError::Shape(2)));
+    assert_eq!(with("\"version\":2", "\"version\":7").check(), Err(JournalError::Version));
+    assert_eq!(Journal::from(text[..text.len() - 1].to_vec()).check(), Err(JournalError::Cut));
+    assert_eq!(Journal::from(b"{\n".to_vec()).replay(), Err(JournalError::NotJson(1)));
+}
+
+#[test]
+fn moves_are_composed_and_aggregated_without_a_storage() {
+    let one = Move::new().put(count(), 1);
+    let other = Move::new().inc(count(), 2);
+    assert_eq!(compose(&one, &other).unwrap(), Move::new().put(count(), 3));
+    assert_eq!(aggregate(&[(count(), 5.into())], &other).unwrap(), [(count(), 7.into())]);
+    assert!(matches!(aggregate(&[], &other), Err(Error::Clash { at, .. }) if at == count()));
+    assert!(matches!(compose(&one, &Move::new().add(count(), 1)), Err(Error::Clash { .. })));
+    assert!(matches!(compose(&Move::new().put("no name", 1), &other), Err(Error::Refused(_))));
+}
