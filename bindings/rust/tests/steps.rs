@@ -133,7 +133,8 @@ fn values_of_each_kind_come_back() {
         let at = Location::new("f").arg(i64::try_from(i).unwrap()).args_of(elements.iter().cloned());
         agent.play(|step| step.put(&at, value.clone())).unwrap();
         agent.follow().unwrap();
-        assert_eq!(agent.peek(std::slice::from_ref(&at)).unwrap().values, [value.clone()]);
+        let told = agent.peek(std::slice::from_ref(&at)).unwrap();
+        assert_eq!((told.values.len(), &told.values[0]), (1, value));
         let prepared = Prepared::new(&at).unwrap();
         assert_eq!(agent.peek_at(&prepared).unwrap().1, *value);
         assert_eq!(agent.step().unwrap().get_at(&prepared).unwrap(), *value);
