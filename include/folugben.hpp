@@ -1,0 +1,592 @@
+// folugben.hpp: the abstract storage of a CoreASM engine, for C++20, over folugben.h.
+//
+// Each class owns a slot on the heap, which is released with it; it can be moved, and not copied. An agent is given back to its
+// storage when it is destroyed, so that its moves are in the next journal. What folugben.h says of threads holds: an object is
+// used in one thread at a time, but for a storage, which has a lock of its own.
+//
+// Each call comes twice: `fire` throws an error of its own kind, and `try_fire`, which is noexcept, answers the code of
+// folugben.h. A step belongs to its agent, which has to outlive it.
+//
+//    folugben::storage storage(R"([[["count"],0]])", 1000);
+//    folugben::agent agent = storage.make_agent(0);
+//    folugben::location count(R"(["count"])");
+//    auto number = agent.play([&](folugben::step &step) {
+//        folugben::instructions move;
+//        step.push(move.put(count, step.get(count).number() + 1));
+//    });
+#ifndef FOLUGBEN_HPP
+#define FOLUGBEN_HPP
+
+#include <folugben.h>
+
+#include <chrono>
+#include <concepts>
+#include <cstdint>
+#include <memory>
+#include <mutex>
+#include <new>
+#include <optional>
+#include <span>
+#include <stdexcept>
+#include <string>
+#include <string_view>
+#include <thread>
+#include <utility>
+#include <vector>
+
+namespace folugben {
+
+// What a code means, in a line of English.
+inline std::string meaning(std::int32_t code) {
+    std::uint8_t text[256];
+    std::size_t written = 0;
+    if (asm_error_text(code, text, sizeof text, &written) != ASM_DONE) return "code " + std::to_string(code);
+    return {reinterpret_cast<const char *>(text), written};
+}
+
+// Why a call wasn't done: its code, and the text of its answer where there is one, such as {"stale":["count"]}. Nothing was
+// fired or lost.
+class error : public std::runtime_error {
+  public:
+    error(std::int32_t code, std::string text)
+        : std::runtime_error(text.empty() ? meaning(code) : meaning(code) + ": " + text), code_(code), text_(std::move(text)) {}
+    std::int32_t code() const noexcept { return code_; }
+    const std::string &text() const noexcept { return text_; }
+
+  private:
+    std::int32_t code_;
+    std::string text_;
+};
+
+// Errors after which a step is begun anew, as `play` does.
+class retry : public error {
+  public:
+    using error::error;
+};
+class stale : public retry {
+  public:
+    using retry::retry;
+};
+class busy : public retry {
+  public:
+    using retry::retry;
+};
+class clash : public error {
+  public:
+    using error::error;
+};
+class full : public error {
+  public:
+    using error::error;
+};
+// A move, whose number `number()` tells, was fired by an agent that wasn't given back.
+class missing : public error {
+  public:
+    explicit missing(std::uint32_t number) : error(ASM_MISSING, "move " + std::to_string(number)), number_(number) {}
+    std::uint32_t number() const noexcept { return number_; }
+
+  private:
+    std::uint32_t number_;
+};
+
+namespace detail {
+
+inline const std::uint8_t *bytes(std::string_view text) noexcept { return reinterpret_cast<const std::uint8_t *>(text.data()); }
+
+[[noreturn]] inline void fail(std::int32_t code, std::string text) {
+    switch (code) {
+    case ASM_STALE: throw stale(code, std::move(text));
+    case ASM_BUSY: throw busy(code, std::move(text));
+    case ASM_CLASH: throw clash(code, std::move(text));
+    case ASM_FULL: throw full(code, std::move(text));
+    case ASM_MEMORY: throw std::bad_alloc();
+    default: throw error(code, std::move(text));
+    }
+}
+
+// A slot that never moves, and is released with its owner.
+class held {
+  public:
+    held() : at_(new asm_slot{}) {}
+    asm_slot *get() const noexcept { return at_.get(); }
+
+  private:
+    struct release {
+        void operator()(asm_slot *slot) const noexcept {
+            asm_free(slot);
+            delete slot;
+        }
+    };
+    std::unique_ptr<asm_slot, release> at_;
+};
+
+// Makes a call that writes a text, again with more room where there is too little. The text is then the call's, with any code.
+template <class Call> std::int32_t told(Call call, std::string &text) {
+    text.resize(256);
+    for (;;) {
+        std::size_t written = 0;
+        std::int32_t code = call(reinterpret_cast<std::uint8_t *>(text.data()), text.size(), &written);
+        text.resize(written);
+        if (code != ASM_SMALL) return code;
+    }
+}
+
+inline std::string explained(std::int32_t form, std::string_view refused) {
+    std::string text;
+    told([&](auto *out, auto room, auto *written) { return asm_explain(form, bytes(refused), refused.size(), out, room, written); },
+         text);
+    return text;
+}
+
+inline void done(std::int32_t code, std::string text = {}) {
+    if (code != ASM_DONE) fail(code, std::move(text));
+}
+
+} // namespace detail
+
+// What is told of a location: undef, a boolean, a number, a text, or the JSON of a list, a set or a bag.
+class value {
+  public:
+    value() = default;
+    value(asm_value head, std::string bytes) : head_(head), bytes_(std::move(bytes)) {}
+    asm_kind kind() const noexcept { return static_cast<asm_kind>(head_.kind); }
+    bool is_undef() const noexcept { return head_.kind == ASM_KIND_UNDEF; }
+    bool is_true() const noexcept { return head_.kind == ASM_KIND_BOOL && head_.number == 1; }
+    // The number; `otherwise` where it is none.
+    std::int64_t number(std::int64_t otherwise = 0) const noexcept {
+        return head_.kind == ASM_KIND_NUM ? head_.number : otherwise;
+    }
+    // The text of a text, or the JSON of a list, a set or a bag; else empty.
+    const std::string &text() const noexcept { return bytes_; }
+    friend bool operator==(const value &one, const value &other) noexcept {
+        return one.head_.kind == other.head_.kind && one.head_.number == other.head_.number && one.bytes_ == other.bytes_;
+    }
+
+  private:
+    asm_value head_{ASM_KIND_UNDEF, 0};
+    std::string bytes_;
+};
+
+// A location that is prepared once from its JSON, such as ["account","anna",7], for agents of any storage.
+class location {
+  public:
+    explicit location(std::string_view json) {
+        std::int32_t code = asm_location(detail::bytes(json), json.size(), slot_.get());
+        if (code == ASM_NOT_JSON || code == ASM_SHAPE)
+            detail::fail(code, detail::explained(ASM_FORM_LOCATIONS, "[" + std::string(json) + "]"));
+        detail::done(code);
+    }
+    asm_slot *get() const noexcept { return slot_.get(); }
+
+  private:
+    detail::held slot_;
+};
+
+// An operand of an instruction: null, a boolean, a number or a text.
+class operand {
+  public:
+    operand(std::nullptr_t) noexcept {}
+    template <std::same_as<bool> Truth> operand(Truth is_true) noexcept : kind_(ASM_KIND_BOOL), number_(is_true) {}
+    template <class Whole>
+        requires(std::is_integral_v<Whole> && !std::is_same_v<Whole, bool> && sizeof(Whole) <= 8 &&
+                 (std::is_signed_v<Whole> || sizeof(Whole) < 8))
+    operand(Whole number) noexcept : kind_(ASM_KIND_NUM), number_(number) {}
+    operand(std::string_view text) noexcept : kind_(ASM_KIND_TEXT), text_(text) {}
+    operand(const char *text) noexcept : operand(std::string_view(text)) {}
+    operand(const std::string &text) noexcept : operand(std::string_view(text)) {}
+    std::int32_t into(asm_slot *move, const location &at, asm_verb verb, std::uint32_t amount) const noexcept {
+        return asm_instruct(move, at.get(), verb, kind_, number_, detail::bytes(text_), text_.size(), amount);
+    }
+
+  private:
+    std::int32_t kind_ = ASM_KIND_UNDEF;
+    std::int64_t number_ = 0;
+    std::string_view text_;
+};
+
+// A move, gathered instruction by instruction. A refused instruction leaves it as it was.
+class instructions {
+  public:
+    std::int32_t try_instruct(asm_verb verb, const location &at, const operand &what, std::uint32_t amount = 0) noexcept {
+        std::int32_t code = what.into(slot_.get(), at, verb, amount);
+        size_ += code == ASM_DONE;
+        return code;
+    }
+    instructions &put(const location &at, const operand &what) { return with(ASM_PUT, at, what); }
+    instructions &add(const location &at, const operand &what) { return with(ASM_ADD, at, what); }
+    instructions &remove(const location &at, const operand &what) { return with(ASM_REMOVE, at, what); }
+    instructions &bag_add(const location &at, const operand &what, std::uint32_t n) { return with(ASM_BAGADD, at, what, n); }
+    instructions &bag_remove(const location &at, const operand &what, std::uint32_t n) { return with(ASM_BAGREMOVE, at, what, n); }
+    instructions &inc(const location &at, std::int64_t by) { return with(ASM_INC, at, by); }
+    instructions &clear() noexcept {
+        asm_free(slot_.get());
+        size_ = 0;
+        return *this;
+    }
+    std::size_t size() const noexcept { return size_; }
+    asm_slot *get() const noexcept { return slot_.get(); }
+
+  private:
+    instructions &with(asm_verb verb, const location &at, const operand &what, std::uint32_t amount = 0) {
+        detail::done(try_instruct(verb, at, what, amount));
+        return *this;
+    }
+    detail::held slot_;
+    std::size_t size_ = 0;
+};
+
+class agent;
+
+// All that a step gets is of one state; what it pushes is seen by what comes after, and is fired as one move.
+class step {
+  public:
+    std::uint32_t number() const noexcept { return number_; }
+    std::uint32_t depth() const noexcept { return asm_depth(slot_.get()); }
+
+    std::int32_t try_get(const location &at, value &what) noexcept;
+    value get(const location &at);
+    // {"number":N,"values":[VALUE, ..]} of locations [LOC, ..].
+    std::string get_json(std::string_view locations);
+    // [PAIR, ..]: all locations of a function.
+    std::string get_all_json(std::string_view name);
+
+    // `text` is that of a refusal, such as {"clash":[LOC,CAUSE]}.
+    std::int32_t try_push(const instructions &move, std::string &text);
+    void push(const instructions &move) {
+        std::string text;
+        std::int32_t code = try_push(move, text);
+        detail::done(code, std::move(text));
+    }
+    std::int32_t try_extend(const instructions &move, std::string &text);
+    void extend(const instructions &move) {
+        std::string text;
+        std::int32_t code = try_extend(move, text);
+        detail::done(code, std::move(text));
+    }
+    // The moves [INSTR, ..], with sets, bags and lists.
+    void push_json(std::string_view move);
+    void extend_json(std::string_view move);
+    std::int32_t try_pop() noexcept { return asm_pop(slot_.get()); }
+    void pop() { detail::done(try_pop()); }
+
+    // Fires one move that does what the pushed ones do in turn. With ASM_DONE the step is over.
+    [[nodiscard]] std::int32_t try_fire(asm_numbers &numbers) noexcept;
+    std::uint32_t fire();
+
+    asm_slot *get_slot() const noexcept { return slot_.get(); }
+
+  private:
+    friend class agent;
+    explicit step(agent &of) : agent_(&of) {}
+    template <class Call> std::int32_t grow(Call call, const instructions &move, std::string &text);
+    template <class Call> void grow_json(Call call, std::string_view move);
+    agent *agent_;
+    detail::held slot_;
+    std::uint32_t number_ = 0;
+};
+
+namespace detail {
+
+struct shared {
+    held storage;
+    std::mutex lock;
+    std::vector<held> waiting; // agents that were let go when there was no memory to give them back
+
+    shared() { waiting.reserve(256); }
+    void give(held agent) noexcept {
+        std::lock_guard<std::mutex> guard(lock);
+        if (asm_give(storage.get(), agent.get()) != ASM_DONE) waiting.push_back(std::move(agent));
+    }
+    std::int32_t give_waiting() noexcept {
+        while (!waiting.empty()) {
+            std::int32_t code = asm_give(storage.get(), waiting.back().get());
+            if (code != ASM_DONE) return code;
+            waiting.pop_back();
+        }
+        return ASM_DONE;
+    }
+};
+
+} // namespace detail
+
+// Reads the state and fires moves on it, in one thread at a time.
+class agent {
+  public:
+    agent(agent &&) = default;
+    agent &operator=(agent &&other) noexcept {
+        if (this != &other) {
+            give();
+            slot_ = std::move(other.slot_);
+            of_ = std::move(other.of_);
+        }
+        return *this;
+    }
+    ~agent() { give(); }
+
+    std::uint32_t seen() const noexcept { return asm_seen(get()); }
+    std::uint32_t won() const noexcept { return asm_won(get()); }
+    std::uint64_t misses() const noexcept { return asm_misses(get()); }
+
+    std::int32_t try_begin(step &it) noexcept { return asm_begin(get(), it.slot_.get(), &it.number_); }
+    step begin() {
+        step it(*this);
+        detail::done(try_begin(it));
+        return it;
+    }
+
+    // Begins a step, hands it to the rule and fires it, and begins anew where it was stale, busy, or clashed with what was
+    // written since; the number of the fired move. What the rule throws ends it, and nothing is fired.
+    template <class Rule> std::uint32_t play(Rule &&rule) {
+        for (unsigned tries = 0;; ++tries) {
+            step it = begin();
+            rule(it);
+            asm_numbers numbers{};
+            switch (std::int32_t code = it.try_fire(numbers)) {
+            case ASM_DONE: return numbers.fired;
+            case ASM_STALE:
+            case ASM_BUSY:
+            case ASM_CLASH: back_off(tries); break;
+            default: detail::fail(code, {});
+            }
+        }
+    }
+
+    // Looks on; how many moves it has then seen.
+    std::uint32_t follow() {
+        std::uint32_t number = 0;
+        detail::done(asm_follow(get(), &number));
+        return number;
+    }
+    std::int32_t try_peek(const location &at, std::uint32_t &number, value &what) noexcept {
+        return told_value(
+            [&](asm_value *head, auto *out, auto room, auto *written) {
+                return asm_peek_at(get(), at.get(), &number, head, out, room, written);
+            },
+            what);
+    }
+    value peek(const location &at) {
+        value what;
+        std::uint32_t number = 0;
+        detail::done(try_peek(at, number, what));
+        return what;
+    }
+    // Its own state [PAIR, ..].
+    std::string state_json() {
+        std::string text;
+        std::uint32_t number = 0;
+        detail::done(detail::told([&](auto *out, auto room, auto *written) { return asm_state(get(), &number, out, room, written); },
+                                  text));
+        return text;
+    }
+
+    // The answer to a read of [LOC, ..], and to a fire of {"fire":[INSTR, ..],"reads":[NAMED, ..]}.
+    std::string read_json(std::string_view locations) {
+        std::int32_t code = asm_read(get(), detail::bytes(locations), locations.size());
+        if (code == ASM_NOT_JSON || code == ASM_SHAPE) detail::fail(code, detail::explained(ASM_FORM_LOCATIONS, locations));
+        detail::done(code);
+        return answer();
+    }
+    [[nodiscard]] std::int32_t try_fire_json(std::string_view call, asm_numbers &numbers) noexcept {
+        return asm_try_fire(get(), detail::bytes(call), call.size(), &numbers);
+    }
+    std::uint32_t fire_json(std::string_view call) {
+        asm_numbers numbers{};
+        std::int32_t code = try_fire_json(call, numbers);
+        if (code == ASM_NOT_JSON || code == ASM_SHAPE) detail::fail(code, detail::explained(ASM_FORM_MOVE, call));
+        if (code == ASM_STALE || code == ASM_CLASH) detail::fail(code, answer());
+        detail::done(code);
+        return numbers.fired;
+    }
+    // What the last answered call was answered.
+    std::string answer() {
+        std::string text;
+        detail::done(detail::told([&](auto *out, auto room, auto *written) { return asm_answer(get(), out, room, written); }, text));
+        return text;
+    }
+
+    // Takes in what the other agent of the same storage has seen.
+    void learn(agent &other) { detail::done(of_ == other.of_ ? asm_learn(get(), other.get()) : ASM_OTHER); }
+
+    // Lets the agent go without giving it back: what it fired is missing in each journal.
+    void abandon() noexcept {
+        if (slot_) asm_free(get());
+    }
+    asm_slot *get() const noexcept { return slot_->get(); }
+
+  private:
+    friend class storage;
+    friend class step;
+    agent(detail::held slot, std::shared_ptr<detail::shared> of) : slot_(std::move(slot)), of_(std::move(of)) {}
+
+    void give() noexcept {
+        if (slot_ && of_ && slot_->get() && slot_->get()->full) of_->give(std::move(*slot_));
+        slot_.reset();
+    }
+    template <class Call> static std::int32_t told_value(Call call, value &what) noexcept try {
+        std::string bytes;
+        asm_value head{};
+        std::int32_t code =
+            detail::told([&](auto *out, auto room, auto *written) { return call(&head, out, room, written); }, bytes);
+        if (code == ASM_DONE) what = value(head, std::move(bytes));
+        return code;
+    } catch (const std::bad_alloc &) {
+        return ASM_MEMORY;
+    }
+    static void back_off(unsigned tries) {
+        if (tries < 8) return std::this_thread::yield();
+        std::this_thread::sleep_for(std::chrono::microseconds(1u << (tries < 18 ? tries - 8 : 10)));
+    }
+
+    std::optional<detail::held> slot_;
+    std::shared_ptr<detail::shared> of_;
+};
+
+inline std::int32_t step::try_get(const location &at, value &what) noexcept {
+    return agent::told_value(
+        [&](asm_value *head, auto *out, auto room, auto *written) {
+            return asm_get_at(agent_->get(), slot_.get(), at.get(), head, out, room, written);
+        },
+        what);
+}
+
+inline value step::get(const location &at) {
+    value what;
+    detail::done(try_get(at, what));
+    return what;
+}
+
+inline std::string step::get_json(std::string_view locations) {
+    std::string text;
+    std::int32_t code = detail::told(
+        [&](auto *out, auto room, auto *written) {
+            return asm_get(agent_->get(), slot_.get(), detail::bytes(locations), locations.size(), out, room, written);
+        },
+        text);
+    if (code == ASM_NOT_JSON || code == ASM_SHAPE) detail::fail(code, detail::explained(ASM_FORM_LOCATIONS, locations));
+    detail::done(code);
+    return text;
+}
+
+inline std::string step::get_all_json(std::string_view name) {
+    std::string text;
+    detail::done(detail::told(
+        [&](auto *out, auto room, auto *written) {
+            return asm_get_all(agent_->get(), slot_.get(), detail::bytes(name), name.size(), out, room, written);
+        },
+        text));
+    return text;
+}
+
+template <class Call> std::int32_t step::grow(Call call, const instructions &move, std::string &text) {
+    // A move without instructions has no slot that holds it.
+    const std::string_view none = "[]";
+    return detail::told(
+        [&](auto *out, auto room, auto *written) {
+            return move.size() == 0
+                       ? asm_extend(agent_->get(), slot_.get(), detail::bytes(none), none.size(), out, room, written)
+                       : call(agent_->get(), slot_.get(), move.get(), out, room, written);
+        },
+        text);
+}
+
+inline std::int32_t step::try_push(const instructions &move, std::string &text) { return grow(asm_push_move, move, text); }
+inline std::int32_t step::try_extend(const instructions &move, std::string &text) { return grow(asm_extend_move, move, text); }
+
+template <class Call> void step::grow_json(Call call, std::string_view move) {
+    std::string text;
+    std::int32_t code = detail::told(
+        [&](auto *out, auto room, auto *written) {
+            return call(agent_->get(), slot_.get(), detail::bytes(move), move.size(), out, room, written);
+        },
+        text);
+    if (code == ASM_NOT_JSON || code == ASM_SHAPE)
+        text = detail::explained(ASM_FORM_MOVE, "{\"fire\":" + std::string(move) + ",\"reads\":[]}");
+    detail::done(code, std::move(text));
+}
+
+inline void step::push_json(std::string_view move) { grow_json(asm_push, move); }
+inline void step::extend_json(std::string_view move) { grow_json(asm_extend, move); }
+
+inline std::int32_t step::try_fire(asm_numbers &numbers) noexcept {
+    return asm_commit(agent_->get(), slot_.get(), &numbers);
+}
+
+inline std::uint32_t step::fire() {
+    asm_numbers numbers{};
+    std::int32_t code = try_fire(numbers);
+    if (code == ASM_STALE || code == ASM_CLASH) detail::fail(code, agent_->answer());
+    detail::done(code);
+    return numbers.fired;
+}
+
+// How a journal was judged: legal with the numbers of its calls and moves, or the first wrong call.
+struct legality {
+    bool is_legal;
+    std::uint64_t calls; // of an illegal one the number of the first wrong call, from 0 up
+    std::uint32_t moves;
+};
+
+inline legality check(std::string_view journal) {
+    legality told{};
+    std::int32_t code = asm_check(detail::bytes(journal), journal.size(), &told.calls, &told.moves);
+    if (code != ASM_DONE && code != ASM_ILLEGAL)
+        detail::fail(code, code == ASM_NOT_JSON || code == ASM_SHAPE ? "line " + std::to_string(told.calls) : "");
+    told.is_legal = code == ASM_DONE;
+    return told;
+}
+
+// The state of an abstract state machine, on which the agents of many threads fire moves without locks.
+class storage {
+  public:
+    // Opens a storage with the state [PAIR, ..], for 1 to 1,048,576 moves.
+    storage(std::string_view init, std::uint32_t capacity) : shared_(std::make_shared<detail::shared>()) {
+        std::int32_t code = asm_open(detail::bytes(init), init.size(), capacity, shared_->storage.get());
+        if (code == ASM_NOT_JSON || code == ASM_SHAPE) detail::fail(code, detail::explained(ASM_FORM_STATE, init));
+        detail::done(code);
+    }
+
+    // A storage makes one agent of each number, 0 to 255.
+    agent make_agent(std::uint32_t number) {
+        detail::held slot;
+        std::lock_guard<std::mutex> guard(shared_->lock);
+        detail::done(asm_agent(shared_->storage.get(), number, slot.get()));
+        return agent(std::move(slot), shared_);
+    }
+
+    std::uint32_t moves() const {
+        std::uint32_t moves = 0;
+        std::lock_guard<std::mutex> guard(shared_->lock);
+        detail::done(asm_moves(shared_->storage.get(), &moves));
+        return moves;
+    }
+
+    // The journal of the agents that were given back, as each is when it is destroyed.
+    std::string close() {
+        std::uint32_t number = 0;
+        std::string text;
+        std::lock_guard<std::mutex> guard(shared_->lock);
+        detail::done(shared_->give_waiting());
+        std::int32_t code = asm_close(shared_->storage.get(), &number);
+        if (code == ASM_MISSING) throw missing(number);
+        detail::done(code);
+        detail::done(detail::told(
+            [&](auto *out, auto room, auto *written) { return asm_journal(shared_->storage.get(), out, room, written); }, text));
+        return text;
+    }
+
+    // A storage that opens with what the moves of the closed journal leave; its agents and numbers begin anew.
+    storage next(std::uint32_t capacity) {
+        storage it;
+        std::lock_guard<std::mutex> guard(shared_->lock);
+        detail::done(asm_next(shared_->storage.get(), capacity, it.shared_->storage.get()));
+        return it;
+    }
+
+  private:
+    storage() : shared_(std::make_shared<detail::shared>()) {}
+    std::shared_ptr<detail::shared> shared_;
+};
+
+} // namespace folugben
+
+#endif
