@@ -44,23 +44,24 @@ here, has two. Likewise ["f", True] and ["f", 1] are two locations, and a value 
 `is True` where both may occur.
 """
 from ._agent import Agent
-from ._errors import BadJournal, Busy, Clash, Deep, Error, Full, Large, Many, Missing, Moved, Over, Stale
+from ._errors import BadJournal, Busy, Clash, Deep, Error, Full, Large, Many, Missing, Moved, Over, Retry, Stale
 from ._errors import error_text, explain
 from ._functions import aggregate, check, compose, replay, trace, version
-from ._held import Nested
+from ._held import Forked, Nested
 from ._library import BUSY, CLASH, CUT, DEEP, DONE, EMPTY, EVENT, FULL, ILLEGAL, LARGE, LOCATIONS, MANY, MEMORY, MISSING
 from ._library import MOVE, MOVED, NONE, NOT_JSON, NUMBER, OTHER, RANGE, SCRIPT, SHAPE, SMALL, STALE, STATE, TAKEN, VERSION
 from ._location import Location
 from ._move import Move
+from ._runs import interleave, states
 from ._step import Step
 from ._storage import Storage
 
 __version__ = "0.2.0"
 
 __all__ = [
-    "Agent", "BadJournal", "Busy", "Clash", "Deep", "Error", "Full", "Large", "Location", "Many", "Missing", "Move", "Moved",
-    "Nested", "Over", "Stale", "Step", "Storage",
-    "aggregate", "check", "compose", "error_text", "explain", "replay", "trace", "version",
+    "Agent", "BadJournal", "Busy", "Clash", "Deep", "Error", "Forked", "Full", "Large", "Location", "Many", "Missing", "Move",
+    "Moved", "Nested", "Over", "Retry", "Stale", "Step", "Storage",
+    "aggregate", "check", "compose", "error_text", "explain", "interleave", "replay", "states", "trace", "version",
     "EVENT", "LOCATIONS", "MOVE", "SCRIPT", "STATE",
     "BUSY", "CLASH", "CUT", "DEEP", "DONE", "EMPTY", "FULL", "ILLEGAL", "LARGE", "MANY", "MEMORY", "MISSING", "MOVED",
     "NONE", "NOT_JSON", "NUMBER", "OTHER", "RANGE", "SHAPE", "SMALL", "STALE", "TAKEN", "VERSION",

@@ -1,17 +1,33 @@
 """The agents of a storage."""
 import ctypes
+import time
 from collections.abc import Callable, Iterable, Sequence
-from typing import TYPE_CHECKING, Any, overload
+from types import TracebackType
+from typing import TYPE_CHECKING, Any, TypeVar, overload
 
-from ._errors import READS, Busy, ahead, expect, expect_part, expect_read, refusal
+from ._errors import READS, Busy, Error, ahead, expect, expect_part, expect_read, refusal
 from ._held import Held, here, marked, nested, one_call
-from ._library import BUSY, CLASH, DONE, LOCATIONS, MOVE, RANGE, SMALL, STALE, Buffer, Numbers, Slot, lib, quick
+from ._library import BUSY, CLASH, DONE, EMPTY, LOCATIONS, MOVE, NUMBER, OTHER, RANGE, SMALL, STALE
+from ._library import Buffer, Numbers, Slot, lib, quick
 from ._location import Location
 from ._step import Step
-from ._texts import Form, decoded, encoded, told_value, unsigned
+from ._texts import Form, decoded, encoded, told_value, unsigned, utf_8
 
 if TYPE_CHECKING:
     from ._storage import Storage
+
+_R = TypeVar("_R")
+
+# How many agents a storage makes at most: their numbers are below it.
+AGENTS = 256
+# After so many tries in vain an agent sleeps between them, for at most so many seconds.
+_TRIES_WITHOUT_SLEEP, _LONGEST_SLEEP = 4, 0.001
+
+
+def back_off(tries: int) -> None:
+    """Lets others run after so many tries in vain."""
+    more = tries - _TRIES_WITHOUT_SLEEP
+    time.sleep(0 if more < 0 else min(_LONGEST_SLEEP, 1e-6 * 2 ** min(more, 10)))
 
 
 class Agent(Held):
@@ -30,16 +46,64 @@ class Agent(Held):
         # What its calls and those of its steps tell.
         self._storage, self._buffer, self._number, self._numbers = storage, Buffer(), ctypes.c_uint32(), Numbers()
         self._number_at, self._numbers_at = ctypes.byref(self._number), ctypes.byref(self._numbers)
-        self._begin(unsigned(number))
+        self._own = unsigned(number)
+        if self._own >= AGENTS:
+            raise Error(RANGE, said=f"agent {number}: numbers are below {AGENTS}")
+        self._begin()
 
     @one_call
-    def _begin(self, number: int) -> None:
-        with self._storage._lock:
-            expect(lib.asm_agent(self._storage._slot, number, self._slot))
+    def _begin(self) -> None:
+        storage = self._storage
+        with storage._lock:
+            storage._give_left()
+            code = lib.asm_agent(storage._slot, self._own, self._slot)
+            if code == NUMBER:
+                raise Error(code, said=f"agent {self._own}")
+            storage._expect_on(code)
+            storage._agents[self._own] = self
+
+    @property
+    def number(self) -> int:
+        """Its number among the agents of its storage."""
+        return self._own
+
+    def _expect_held(self) -> None:
+        if not self._slot.full:
+            raise Error(EMPTY, said="the agent was given back")
+
+    def _expect_on(self, code: int) -> None:
+        """Raises what the code of a call on it says."""
+        if code == EMPTY:
+            self._expect_held()
+        expect(code)
+
+    def __repr__(self) -> str:
+        if not self._slot.full:
+            return f"<Agent {self._own}, given back>"
+        return f"<Agent {self._own}, {self.seen} moves seen>"
 
     def step(self) -> Step:
         """Begins a step, on its own state as that is after a look. The step is freed at the end of its `with`."""
+        turn = here.turn
+        if turn is not None:
+            turn()
         return Step(self)
+
+    def play(self, rule: Callable[[Step], _R]) -> tuple[int, _R]:
+        """Begins a step, plays the rule on it and fires it, and begins anew where other agents were quicker: where it was stale
+        or busy, or clashed with what was written since. The number of the fired move, and what the rule returned.
+
+        What the rule raises ends it, and nothing is fired; so does `Full`. Between tries in vain other threads run.
+        """
+        tries = 0
+        while True:
+            with self.step() as step:
+                told = rule(step)
+                number = step.try_fire()
+            if number:
+                return number, told
+            back_off(tries)
+            tries += 1
 
     def read(self, places: Sequence[Form]) -> tuple[int, list[Any]]:
         """The number of moves, and the values of the locations after them; at most 256 locations, else `Many`."""
@@ -49,7 +113,7 @@ class Agent(Held):
     def _read(self, call: bytes) -> tuple[int, list[Any]]:
         with self._lock:
             code = lib.asm_read(self._slot, call, len(call))
-            expect_read(code, LOCATIONS, call)
+            self._expect_read(code, LOCATIONS, call)
             answer = self._answer()
         return answer["number"], answer["values"]
 
@@ -79,8 +143,13 @@ class Agent(Held):
             raise Busy(code, (numbers.from_, numbers.to))
         if code == RANGE:
             raise ahead(decoded(call)["reads"], lib.asm_seen(self._slot))
-        expect_read(code, MOVE, call)
+        self._expect_read(code, MOVE, call)
         return numbers.fired
+
+    def _expect_read(self, code: int, form: int, text: bytes) -> None:
+        if code == EMPTY:
+            self._expect_held()
+        expect_read(code, form, text)
 
     @one_call
     def answer(self) -> Any:
@@ -90,22 +159,27 @@ class Agent(Held):
 
     def _answer(self) -> Any:
         code, text = self._buffer.text(lib.asm_answer, self._slot)
-        expect(code)
+        self._expect_on(code)
         return decoded(text)
 
     @one_call
     def learn(self, other: "Agent") -> None:
         """Takes in what another agent of the storage has seen."""
+        if type(other) is not Agent:
+            raise TypeError(f"an agent learns from an agent, and not from {type(other).__name__!r}")
+        if other._storage is not self._storage:
+            raise Error(OTHER)
         first, second = sorted((self, other), key=id)
         with first._lock, second._lock:
-            expect(lib.asm_learn(self._slot, other._slot))
+            code = lib.asm_learn(self._slot, other._slot)
+            other._expect_on(code) if self._slot.full else self._expect_on(code)
 
     @one_call
     def follow(self) -> int:
         """Looks on until nothing more is found, and its own state follows. How many moves it has seen then."""
         number = ctypes.c_uint32()
         with self._lock:
-            expect(lib.asm_follow(self._slot, number))
+            self._expect_on(lib.asm_follow(self._slot, number))
         return number.value
 
     @overload
@@ -135,6 +209,8 @@ class Agent(Held):
                     if code == DONE:
                         return self._number.value, told_value(told)
                     if code != SMALL:
+                        if code == EMPTY:
+                            self._expect_held()
                         places._expect_on(code)
                     told.grow()
         finally:
@@ -144,7 +220,7 @@ class Agent(Held):
     def _peek(self, places: bytes) -> tuple[int, list[Any]]:
         with self._lock:
             code, text = self._buffer.told(places, lib.asm_peek, self._at)
-        expect_read(code, LOCATIONS, places)
+        self._expect_read(code, LOCATIONS, places)
         answer = decoded(text)
         return answer["number"], answer["values"]
 
@@ -154,7 +230,7 @@ class Agent(Held):
         number = ctypes.c_uint32()
         with self._lock:
             code, text = self._buffer.text(lib.asm_state, self._slot, number)
-        expect(code)
+        self._expect_on(code)
         return number.value, decoded(text)
 
     def scan(self, name: str) -> tuple[int, list[Any]]:
@@ -162,14 +238,14 @@ class Agent(Held):
 
         A fire that names each that was found doesn't notice that a further one is written later.
         """
-        return self._scan(name.encode())
+        return self._scan(utf_8(name))
 
     @one_call
     def _scan(self, name: bytes) -> tuple[int, list[Any]]:
         number = ctypes.c_uint32()
         with self._lock:
             code, text = self._buffer.text(lib.asm_scan, self._slot, name, len(name), number)
-        expect(code)
+        self._expect_on(code)
         return number.value, decoded(text)
 
     def stands(self, reads: Iterable[Form]) -> list[Any] | None:
@@ -189,6 +265,8 @@ class Agent(Held):
         if code == STALE:
             at: list[Any] = decoded(text)["stale"]
             return at
+        if code == EMPTY:
+            self._expect_held()
         expect_part(code, READS, reads)
         return None
 
@@ -216,8 +294,27 @@ class Agent(Held):
         """Gives it back to its storage."""
         self._storage.give(self)
 
+    def abandon(self) -> None:
+        """Releases it without giving it back: what it fired stands, and is `Missing` in each journal of its storage."""
+        self.free()
+
+    def __exit__(self, kind: type[BaseException] | None, error: BaseException | None, traced: TracebackType | None) -> None:
+        if (here.mark or marked()).in_call:
+            # A finalizer ends a `with` in the midst of another call: what can't be done now is done by the storage's next call.
+            self._storage._left.append(self)
+        else:
+            self._return()
+
     @one_call
-    def __exit__(self, *_: object) -> None:
+    def _return(self) -> None:
         with self._storage._lock, self._lock:
             if self._slot.full:
                 expect(lib.asm_give(self._storage._slot, self._slot))
+
+    def __del__(self) -> None:
+        # What it fired would be missing for good if it were released.
+        storage = getattr(self, "_storage", None)
+        if storage is not None and self._slot.full and storage._slot.full:
+            storage._left.append(self)
+        else:
+            super().__del__()

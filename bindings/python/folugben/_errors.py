@@ -47,7 +47,11 @@ class Error(Exception):
         return f"{text} ({NUMBERS[self.code].format(*self.numbers)})" if self.numbers else text
 
 
-class Stale(Error):
+class Retry(Error):
+    """Other agents were quicker: what was tried is to be begun anew, as `Agent.play` does."""
+
+
+class Stale(Retry):
     """A named location was written since it was read; `at` is the least such location."""
 
     at: list[Any]
@@ -74,7 +78,7 @@ class Full(Error):
     """As many moves were fired as the capacity."""
 
 
-class Busy(Error):
+class Busy(Retry):
     """64 offers were lost; `numbers` are how many moves had been seen at the start and at the end."""
 
 
@@ -98,7 +102,7 @@ class Over(Error):
 
 
 class Missing(Error):
-    """A move has no receipt among the agents that were given back; `numbers` has its number."""
+    """A move has no receipt among the agents that were given back; `numbers` has its number, and `said` tells who isn't."""
 
 
 class BadJournal(Error):
@@ -116,7 +120,8 @@ def expect(code: int, kind: type[Error] | None = None, numbers: Iterable[int] = 
     if code == MEMORY:
         raise MemoryError
     if code != DONE:
-        raise (kind or KINDS.get(code, Error))(code, numbers, said)
+        raised = KINDS.get(code, Error) if kind is None else kind
+        raise raised(code, numbers, said)
 
 
 def refusal(code: int, told: Any) -> Stale | Clash | Large:

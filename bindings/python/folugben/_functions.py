@@ -5,7 +5,7 @@ from typing import Any
 
 from ._errors import INSTRUCTIONS, BadJournal, expect, expect_part, expect_read, explain, refusal
 from ._library import CLASH, EVENT, LARGE, MOVE, NOT_JSON, SHAPE, STATE, Buffer, lib
-from ._texts import Form, decoded, encoded
+from ._texts import Form, decoded, encoded, utf_8
 
 
 def version() -> int:
@@ -21,16 +21,27 @@ def _expect_journal(code: int, journal: bytes, number: int) -> None:
     expect(code, BadJournal, (number,), said)
 
 
-def check(journal: bytes) -> tuple[int, int]:
+def _bytes(journal: bytes | str) -> bytes:
+    if isinstance(journal, str):
+        return utf_8(journal)
+    if isinstance(journal, (bytes, bytearray, memoryview)):
+        # A subclass may tell another length.
+        return bytes(journal)
+    raise TypeError(f"a journal is bytes or a str, and not {type(journal).__name__!r}")
+
+
+def check(journal: bytes | str) -> tuple[int, int]:
     """The numbers of calls and of moves of a journal that is legal. `BadJournal` where it isn't, or is none."""
+    journal = _bytes(journal)
     calls, moves = ctypes.c_uint64(), ctypes.c_uint32()
     code = lib.asm_check(journal, len(journal), calls, moves)
     _expect_journal(code, journal, calls.value)
     return calls.value, moves.value
 
 
-def replay(journal: bytes) -> list[Any]:
+def replay(journal: bytes | str) -> list[Any]:
     """The state that the moves of a journal leave, as a list of pairs."""
+    journal = _bytes(journal)
     line = ctypes.c_uint64()
     # The text of a state is shorter than that of its journal, and where a buffer is too small all is replayed again.
     code, state = Buffer(len(journal)).text(lib.asm_replay, journal, len(journal), after=(line,))
@@ -39,12 +50,13 @@ def replay(journal: bytes) -> list[Any]:
     return pairs
 
 
-def trace(journal: bytes) -> Iterator[dict[str, Any]]:
+def trace(journal: bytes | str) -> Iterator[dict[str, Any]]:
     """What each call of a journal did, whether it is legal or not: the objects of its trace, the header first.
 
     An event has `right` where a storage of one thread gives another answer, and `updates` where its move was fired: the page
     on formats has them. `BadJournal` where it is no journal, before the first object.
     """
+    journal = _bytes(journal)
     line = ctypes.c_uint64()
     # A trace is seldom twice as long as its journal, and where a buffer is too small all is traced again.
     code, lines = Buffer(2 * len(journal)).text(lib.asm_trace, journal, len(journal), after=(line,))

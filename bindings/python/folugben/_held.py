@@ -1,9 +1,13 @@
 """What holds a slot of the library, and the guard round each call on one."""
 import ctypes
 import functools
+import os
 import threading
+import weakref
 from collections.abc import Callable
-from typing import NoReturn, ParamSpec, Self, TypeVar
+from contextlib import AbstractContextManager
+from types import TracebackType
+from typing import Any, NoReturn, ParamSpec, Self, TypeVar
 
 from ._library import Slot, lib
 
@@ -13,6 +17,38 @@ _R = TypeVar("_R")
 
 class Nested(RuntimeError):
     """A call by a signal handler or a finalizer, in the midst of another call of its thread; nothing was done."""
+
+
+class Forked(RuntimeError):
+    """A call in the child of a fork on what its parent has made; nothing was done.
+
+    The child has a copy of the parent's memory, so that nothing which it fires comes to the parent, and a lock that another
+    thread of the parent held is never released. Make storages in the child itself, or start it by `spawn`.
+    """
+
+
+class _ForkedLock:
+    """The lock, in the child of a fork, of what the parent has made."""
+
+    def __enter__(self) -> NoReturn:
+        raise Forked("this was made in the parent of this process, and a fork's child has a copy of it alone")
+
+    def __exit__(self, *_: object) -> None:
+        pass
+
+
+# What has a lock of its own, by which its calls are stopped in the child of a fork.
+_locked: "weakref.WeakSet[Held]" = weakref.WeakSet()
+
+
+def _stop_after_fork() -> None:
+    here.mark = None
+    for held in list(_locked):
+        held._lock = _ForkedLock()
+    _locked.clear()
+
+
+os.register_at_fork(after_in_child=_stop_after_fork)
 
 
 class Mark:
@@ -25,9 +61,10 @@ class Mark:
 
 
 class _Here(threading.local):
-    """This thread's mark, once it has one."""
+    """This thread's mark, once it has one, and what is called before each step of a rule where it is played by turns."""
 
     mark: Mark | None = None
+    turn: Callable[[], None] | None = None
 
 
 here = _Here()
@@ -74,13 +111,19 @@ class Held:
     agents in the order of their id, so that no two threads wait for each other.
     """
 
+    _lock: AbstractContextManager[Any]
+
     def __init__(self) -> None:
         # An agent that is to learn of itself takes its lock twice.
-        self._hold(threading.RLock())
+        self._hold()
+        self._lock = threading.RLock()
+        _locked.add(self)
 
-    def _hold(self, lock: threading.RLock) -> None:
-        """Has an empty slot, and this lock for it."""
-        self._lock, self._slot = lock, Slot()
+    def _hold(self) -> None:
+        """Has an empty slot."""
+        if getattr(self, "_slot", None) is not None:
+            raise TypeError(f"this {type(self).__name__} was made before")
+        self._slot = Slot()
         self._at = ctypes.byref(self._slot)
 
     @one_call
@@ -92,7 +135,7 @@ class Held:
     def __enter__(self) -> Self:
         return self
 
-    def __exit__(self, *_: object) -> None:
+    def __exit__(self, kind: type[BaseException] | None, error: BaseException | None, traced: TracebackType | None) -> None:
         self.free()
 
     def __reduce__(self) -> NoReturn:

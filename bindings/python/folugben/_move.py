@@ -6,6 +6,7 @@ from ._errors import Error
 from ._held import Held, here, marked, nested, one_call
 from ._library import ADD, BAGADD, BAGREMOVE, BOOL, DONE, EMPTY, INC, NUM, PUT, RANGE, REMOVE, TEXT, UNDEF, quick
 from ._location import Location
+from ._texts import utf_8
 
 # What an instruction takes: undef, a truth, a number or a text.
 Plain = bool | int | str | None
@@ -29,6 +30,12 @@ class Move(Held):
 
     def __len__(self) -> int:
         return self._size
+
+    def __bool__(self) -> bool:
+        return True
+
+    def __repr__(self) -> str:
+        return "<Move, freed>" if self._is_freed else f"<Move of {self._size} instructions>"
 
     def put(self, at: Location, value: Plain) -> Self:
         """Puts a value; None leaves the location empty."""
@@ -55,6 +62,8 @@ class Move(Held):
         return self._instruct(at, INC, by)
 
     def _instruct(self, at: Location, verb: int, value: Plain, amount: int = 0) -> Self:
+        if type(at) is not Location:
+            raise TypeError(f"a gathered instruction is at a Location, as Location(['n']), and not at {type(at).__name__!r}")
         kind, number, text = operand(value)
         mark = here.mark or marked()
         if mark.in_call:
@@ -106,18 +115,24 @@ def operand(value: Plain) -> tuple[int, int, bytes]:
     if isinstance(value, int):
         if isinstance(value, bool):
             return BOOL, int(value), b""
+        # A subclass may compare otherwise.
+        value = int.__index__(value)
         if not LEAST <= value <= MOST:
-            raise Error(RANGE)
+            raise Error(RANGE, said=f"a number is {LEAST:,} to {MOST:,}, not {value}")
         return NUM, value, b""
     if isinstance(value, str):
-        return TEXT, 0, value.encode()
+        return TEXT, 0, utf_8(value)
     if value is None:
         return UNDEF, 0, b""
-    raise TypeError(f"a gathered instruction takes None, a bool, an int or a str, and not {type(value).__name__!r}")
+    raise TypeError(
+        f"a gathered instruction takes None, a bool, an int or a str, and not {type(value).__name__!r}; push lists, sets and "
+        "bags in a list of instructions"
+    )
 
 
 def amount_of(amount: int) -> int:
     """The amount, which ctypes would cut to 32 bits."""
+    amount = int.__index__(amount)
     if not 1 <= amount < 2**32:
-        raise Error(RANGE)
+        raise Error(RANGE, said=f"an amount is 1 to {2**32 - 1:,}, not {amount}")
     return amount

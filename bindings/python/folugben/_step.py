@@ -1,5 +1,8 @@
 """The steps of agents."""
+import warnings
 from collections.abc import Callable, Sequence
+from contextlib import AbstractContextManager
+from types import TracebackType
 from typing import TYPE_CHECKING, Any, overload
 
 from ._errors import INSTRUCTIONS, Over, expect, expect_part, expect_read, refusal
@@ -7,7 +10,7 @@ from ._held import Held, here, marked, nested, one_call
 from ._library import BUSY, CLASH, DONE, EMPTY, LARGE, LOCATIONS, SMALL, STALE, lib, quick
 from ._location import Location
 from ._move import Move
-from ._texts import Form, decoded, encoded, told_value
+from ._texts import Form, decoded, encoded, told_value, utf_8
 
 if TYPE_CHECKING:
     from ._agent import Agent
@@ -28,25 +31,34 @@ class Step(Held):
     """
 
     def __init__(self, agent: "Agent") -> None:
-        # Each call is on both slots, so one lock does.
-        self._hold(agent._lock)
-        self._agent, self._is_fired = agent, False
+        self._hold()
+        self._agent, self._is_fired, self._is_tried = agent, False, False
         mark = here.mark or marked()
         if mark.in_call:
             raise nested()
         try:
             mark.in_call = True
-            with self._lock:
+            with agent._lock:
                 code = lib.asm_begin(agent._at, self._at, agent._number_at)
                 if code != DONE:
-                    expect(code)
+                    agent._expect_on(code)
                 self._number: int = agent._number.value
         finally:
             mark.in_call = False
 
-    def __exit__(self, *_: object) -> None:
-        if not self._is_fired:
-            self.free()
+    @property
+    def _lock(self) -> AbstractContextManager[Any]:  # type: ignore[override]
+        # Each call is on both slots, so one lock does.
+        return self._agent._lock
+
+    def __exit__(self, kind: type[BaseException] | None, error: BaseException | None, traced: TracebackType | None) -> None:
+        if self._is_fired or (here.mark or marked()).in_call:
+            # The slot is released with the step, where a finalizer ends it in the midst of another call.
+            return
+        is_forgotten = kind is None and not self._is_tried and self.depth > 0
+        self.free()
+        if is_forgotten:
+            warnings.warn("a step ended with moves that were pushed and not fired", ResourceWarning, stacklevel=2)
 
     def __del__(self) -> None:
         if not getattr(self, "_is_fired", True):
@@ -64,7 +76,7 @@ class Step(Held):
 
     @one_call
     def _depth(self) -> int:
-        with self._lock:
+        with self._agent._lock:
             return int(lib.asm_depth(self._slot))
 
     @overload
@@ -80,13 +92,18 @@ class Step(Held):
         else `Many`. What a pushed move put there, and all that was done to it since, rests on nothing.
         """
         if not isinstance(places, Location):
-            return self._get(encoded(places))
+            text = encoded(places)
+            if here.turn is not None:
+                here.turn()
+            return self._get(text)
+        if here.turn is not None:
+            here.turn()
         mark = here.mark or marked()
         if mark.in_call:
             raise nested()
         try:
             mark.in_call = True
-            with self._lock, places._lock:
+            with self._agent._lock, places._lock:
                 agent = self._agent
                 at, told = agent._at, agent._buffer
                 while True:
@@ -102,7 +119,7 @@ class Step(Held):
 
     @one_call
     def _get(self, places: bytes) -> list[Any]:
-        with self._lock:
+        with self._agent._lock:
             code, told = self._told(lib.asm_get, places)
         expect_read(code, LOCATIONS, places)
         values: list[Any] = decoded(told)["values"]
@@ -113,11 +130,13 @@ class Step(Held):
 
         The locations that are found are got, as by `get`; that a further one is written later isn't noticed.
         """
-        return self._scan(name.encode())
+        if here.turn is not None:
+            here.turn()
+        return self._scan(utf_8(name))
 
     @one_call
     def _scan(self, name: bytes) -> list[list[Any]]:
-        with self._lock:
+        with self._agent._lock:
             code, told = self._told(lib.asm_get_all, name)
         expect(code)
         pairs: list[list[Any]] = decoded(told)
@@ -132,7 +151,7 @@ class Step(Held):
         if isinstance(instructions, Move):
             self._grow_by(quick.asm_push_move, lib.asm_push, instructions)
         else:
-            self._grow(lib.asm_push, encoded(instructions))
+            self._grow_at_turn(lib.asm_push, encoded(instructions))
 
     def extend(self, instructions: Sequence[Form] | Move) -> None:
         """The same, but the move joins the one that was pushed last, and is popped with it. Without one it is pushed.
@@ -142,23 +161,30 @@ class Step(Held):
         if isinstance(instructions, Move):
             self._grow_by(quick.asm_extend_move, lib.asm_extend, instructions)
         else:
-            self._grow(lib.asm_extend, encoded(instructions))
+            self._grow_at_turn(lib.asm_extend, encoded(instructions))
+
+    def _grow_at_turn(self, call: Callable[..., int], move: bytes) -> None:
+        if here.turn is not None:
+            here.turn()
+        self._grow(call, move)
 
     @one_call
     def _grow(self, call: Callable[..., int], move: bytes) -> None:
-        with self._lock:
+        with self._agent._lock:
             code, told = self._told(call, move)
         if code in (CLASH, LARGE):
             raise refusal(code, decoded(told))
         expect_part(code, INSTRUCTIONS, move)
 
     def _grow_by(self, call: Callable[..., int], text_call: Callable[..., int], move: Move) -> None:
+        if here.turn is not None:
+            here.turn()
         mark = here.mark or marked()
         if mark.in_call:
             raise nested()
         try:
             mark.in_call = True
-            with self._lock, move._lock:
+            with self._agent._lock, move._lock:
                 agent = self._agent
                 at, told = agent._at, agent._buffer
                 while move._is_full():
@@ -179,7 +205,7 @@ class Step(Held):
 
         `Error` with the code NONE where none is pushed.
         """
-        with self._lock:
+        with self._agent._lock:
             self._expect_on(code := lib.asm_pop(self._slot))
             expect(code)
 
@@ -201,20 +227,23 @@ class Step(Held):
         return self._fire((STALE, CLASH, BUSY))
 
     def _fire(self, vain: tuple[int, ...]) -> int:
+        if here.turn is not None:
+            here.turn()
         mark = here.mark or marked()
         if mark.in_call:
             raise nested()
         try:
             mark.in_call = True
-            with self._lock:
+            with self._agent._lock:
                 agent = self._agent
                 code = quick.asm_commit(agent._at, self._at, agent._numbers_at)
                 if code == DONE:
                     self._is_fired = True
                     return agent._numbers.fired
+                self._expect_on(code)
+                self._is_tried = True
                 if code in vain:
                     return 0
-                self._expect_on(code)
                 return agent._fired(code, agent._numbers, b"")
         finally:
             mark.in_call = False
@@ -226,9 +255,16 @@ class Step(Held):
         return code, told
 
     def _expect_on(self, code: int) -> None:
-        """Raises `Over` for a code that is answered as the step is over."""
-        if code == EMPTY and not self._slot.full:
-            raise Over(code)
+        """Raises `Over` for a code that is answered as the step is over, or that the agent is gone."""
+        if code == EMPTY:
+            if not self._slot.full:
+                raise Over(code)
+            self._agent._expect_held()
+
+    def __repr__(self) -> str:
+        if self._is_fired or not self._slot.full:
+            return "<Step, over>"
+        return f"<Step at {self._number} of agent {self._agent.number}, {self.depth} pushed>"
 
     def _expect_pushed(self, code: int, told: bytes) -> None:
         """Raises what the code of a push of a gathered move says, and what it told, unless it is DONE."""

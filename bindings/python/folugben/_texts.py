@@ -5,13 +5,26 @@ from collections.abc import Callable, Sequence
 from typing import Any, TypeAlias
 
 from ._errors import Error
-from ._library import BOOL, NUM, RANGE, TEXT, UNDEF, Buffer
+from ._library import BOOL, NUM, RANGE, SHAPE, TEXT, UNDEF, Buffer
 
 # A location, an instruction, or a pair of a location and its value or number, as JSON has it.
 Form: TypeAlias = Sequence[Any]
 
+
+
+def _otherwise(value: object) -> Any:
+    """What stands for a value that JSON has no form for: a Python set for a set, and a Counter, which is a dict, for itself."""
+    if isinstance(value, (set, frozenset)):
+        if any(type(it) not in (int, str) and it is not None for it in value):
+            raise TypeError("True and 1 are one in a Python set, so a set with other members than None, whole numbers and texts "
+                            'is written {"set": [..]}')
+        return {"set": list(value)}
+    raise TypeError(f"{type(value).__name__!r} is no value: values are None, True, False, whole numbers, texts, "
+                    '{"list": [..]}, {"set": [..]} and {"bag": [[element, count], ..]}')
+
+
 # Without a look for circles, which takes a quarter of the time: what contains itself ends in a RecursionError.
-_json = json.JSONEncoder(separators=(",", ":"), ensure_ascii=False, check_circular=False)
+_json = json.JSONEncoder(separators=(",", ":"), ensure_ascii=False, check_circular=False, default=_otherwise)
 
 
 def _encoder() -> Callable[[object], str]:
@@ -33,9 +46,17 @@ _encode = _encoder()
 _decode = json.JSONDecoder().raw_decode
 
 
+def utf_8(text: str) -> bytes:
+    """The text in UTF-8, which has no half of a pair of surrogates."""
+    try:
+        return text.encode()
+    except UnicodeEncodeError as error:
+        raise Error(SHAPE, said=f"a text has {text[error.start]!r} at {error.start}, which isn't Unicode") from None
+
+
 def encoded(value: object) -> bytes:
     """The text of a value."""
-    return _encode(value).encode()
+    return utf_8(_encode(value))
 
 
 def decoded(text: bytes) -> Any:
@@ -57,7 +78,7 @@ def told_value(buffer: Buffer) -> Any:
 
 def unsigned(number: int) -> int:
     """The number, which ctypes would cut to 32 bits."""
-    whole = operator.index(number)
+    whole = int.__index__(operator.index(number))
     if not 0 <= whole < 2**32:
-        raise Error(RANGE)
+        raise Error(RANGE, said=f"a number is 0 to {2**32 - 1:,}, not {whole}")
     return whole

@@ -1,0 +1,168 @@
+"""Runs by turns, the states of a journal, and the forms for other tools."""
+import csv
+import io
+import json
+import pathlib
+import subprocess
+import sys
+import tempfile
+import unittest
+
+from folugben import BadJournal, Storage, check, interleave, states
+from folugben import _exports
+
+ACCOUNTS = [["account", i] for i in range(4)]
+
+
+def guarded(agent, from_, to):
+    def rule(step):
+        there, here = step.get([from_, to])
+        if there >= 10:
+            step.push([["put", from_, there - 10], ["put", to, here + 10]])
+
+    agent.play(rule)
+
+
+def unguarded(agent, from_, to):
+    """It rests on nothing, so that it may overwrite what another one does meanwhile."""
+    agent.follow()
+    there, here = agent.peek([from_, to])[1]
+    with agent.step() as step:
+        if there >= 10:
+            step.push([["put", from_, there - 10], ["put", to, here + 10]])
+        step.try_fire()
+
+
+def run(seed, transfer=guarded, agents=3, rounds=8):
+    with Storage([[at, 50] for at in ACCOUNTS], 1000) as storage:
+        all_agents = [storage.agent(number) for number in range(agents)]
+
+        def work(agent):
+            for i in range(rounds):
+                from_ = (i + agent.number) % 4
+                transfer(agent, ACCOUNTS[from_], ACCOUNTS[(from_ + 1 + i % 3) % 4])
+            return agent.won
+
+        told = interleave(all_agents, [work] * agents, seed)
+        for agent in all_agents:
+            agent.give()
+        return storage.close_journal(), told
+
+
+def keeps_sum(journal):
+    return all(sum(values.values()) == 200 for _, values in states(journal))
+
+
+class Runs(unittest.TestCase):
+    def test_one_seed_gives_one_journal(self):
+        journals = [run(seed)[0] for seed in range(20)]
+        self.assertEqual(journals, [run(seed)[0] for seed in range(20)])
+        self.assertGreater(len(set(journals)), 10)
+        for journal in journals:
+            check(journal)
+            self.assertTrue(keeps_sum(journal))
+        self.assertTrue(any(b'"stale"' in journal for journal in journals))
+
+    def test_works_return_and_raise(self):
+        self.assertEqual(run(1)[1], [8, 8, 8])
+        with Storage([], 10) as storage:
+            agents = [storage.agent(0), storage.agent(1)]
+
+            def fails(agent):
+                agent.step().free()
+                raise KeyError(agent.number)
+
+            with self.assertRaisesRegex(KeyError, "0"):
+                interleave(agents, [fails, fails], 3)
+            with self.assertRaises(ValueError):
+                interleave(agents, [fails], 3)
+
+    def test_a_schedule_that_breaks_an_invariant_is_found_by_a_seed(self):
+        broken = [seed for seed in range(40) if not keeps_sum(run(seed, unguarded)[0])]
+        self.assertTrue(broken)
+        self.assertEqual(run(broken[0], unguarded), run(broken[0], unguarded))
+
+    def test_states_go_move_by_move(self):
+        with Storage([[["s"], {"set": [2]}], [["b"], {"bag": [["e", 1]]}], [["n"], 1], [["u"], None]], 10) as storage:
+            with storage.agent(0) as agent:
+                agent.fire([["add", ["s"], "a"], ["add", ["s"], 1], ["remove", ["s"], 2]])
+                agent.fire([["bagadd", ["b"], "e", 2], ["bagadd", ["b"], None, 1], ["inc", ["n"], 4]])
+                agent.fire([["bagremove", ["b"], "e", 3], ["put", ["n"], None], ["put", ["l", {"list": [1]}], {"list": []}]])
+            told = [(number, dict(values)) for number, values in states(storage.close_journal())]
+        self.assertEqual(told, [
+            (0, {'["s"]': {"set": [2]}, '["b"]': {"bag": [["e", 1]]}, '["n"]': 1}),
+            (1, {'["s"]': {"set": [1, "a"]}, '["b"]': {"bag": [["e", 1]]}, '["n"]': 1}),
+            (2, {'["s"]': {"set": [1, "a"]}, '["b"]': {"bag": [[None, 1], ["e", 3]]}, '["n"]': 5}),
+            (3, {'["s"]': {"set": [1, "a"]}, '["b"]': {"bag": [[None, 1]]}, '["l",{"list":[1]}]': {"list": []}}),
+        ])
+        with self.assertRaises(BadJournal):
+            list(states(b"{"))
+
+
+class Exports(unittest.TestCase):
+    def setUp(self):
+        self.journal = next(journal for journal in (run(seed)[0] for seed in range(50)) if b'"stale"' in journal)
+
+    def written(self, write):
+        out = io.StringIO()
+        write(self.journal, out)
+        return out.getvalue()
+
+    def test_a_table_has_each_change(self):
+        rows = list(csv.DictReader(io.StringIO(self.written(_exports.write_csv))))
+        self.assertEqual(rows[0], {"move": "0", "agent": "", "function": "account", "arguments": "[0]", "old": "null", "new": "50"})
+        values = {row["arguments"]: int(row["new"]) for row in rows}
+        last = dict(enumerate(states(self.journal)))
+        self.assertEqual(values, {f"[{i}]": last[len(last) - 1][1][f'["account",{i}]'] for i in range(4)})
+
+    def test_the_informal_trace_format_has_a_state_for_each_move(self):
+        told = json.loads(self.written(_exports.write_itf))
+        self.assertEqual((told["#meta"]["format"], told["vars"]), ("ITF", ["account"]))
+        self.assertEqual(len(told["states"]), check(self.journal)[1] + 1)
+        for index, ((_, values), state) in enumerate(zip(states(self.journal), told["states"], strict=True)):
+            self.assertEqual(state["#meta"]["index"], index)
+            found = {f'["account",{at["#tup"][0]["#bigint"]}]': int(value["#bigint"]) for at, value in state["account"]["#map"]}
+            self.assertEqual(found, values)
+
+    def test_the_informal_trace_format_has_each_kind_of_value(self):
+        for value, wanted in [
+            (None, {}), (True, True), (-7, {"#bigint": "-7"}), ("a", "a"), ({"list": [1]}, [{"#bigint": "1"}]),
+            ({"set": ["a", None]}, {"#set": ["a", {}]}), ({"bag": [["e", 2]]}, {"#map": [["e", {"#bigint": "2"}]]}),
+        ]:
+            self.assertEqual(_exports._itf(value), wanted)
+
+    def test_trace_events_have_a_slice_for_each_call_and_an_arrow_for_each_stale_fire(self):
+        events = json.loads(self.written(_exports.write_perfetto))["traceEvents"]
+        slices = [event for event in events if event["ph"] == "X"]
+        self.assertEqual(len(slices), check(self.journal)[0])
+        stale = [event for event in slices if event["cat"] == "stale"]
+        self.assertEqual(len([event for event in events if event["ph"] == "s"]), len(stale))
+        self.assertEqual(len([event for event in events if event["ph"] == "f"]), len(stale))
+        for begin, end in zip((it for it in events if it["ph"] == "s"), (it for it in events if it["ph"] == "f")):
+            self.assertLess(begin["ts"], end["ts"])
+
+    def test_the_command_line_takes_files(self):
+        with tempfile.TemporaryDirectory() as room:
+            good, bad = pathlib.Path(room, "good"), pathlib.Path(room, "bad")
+            good.write_bytes(self.journal)
+            bad.write_bytes(self.journal[:-1])
+
+            def call(*words, **more):
+                return subprocess.run([sys.executable, "-m", "folugben", *words], capture_output=True, text=True, **more)
+
+            told = call("check", str(good), str(bad))
+            calls, moves = check(self.journal)
+            self.assertIn(f"{good}: legal {calls} {moves}\n", told.stdout)
+            self.assertEqual(told.returncode, 1)
+            self.assertEqual(call("check", "-", input=self.journal.decode()).stdout, f"legal {calls} {moves}\n")
+            for command in ("replay", "trace", "csv", "itf", "perfetto", "view"):
+                out = pathlib.Path(room, command)
+                told = call(command, str(good), "-o", str(out))
+                self.assertEqual((told.returncode, told.stderr, out.stat().st_size > 100), (0, "", True), command)
+                self.assertEqual(call(command, str(bad)).returncode, 1)
+            self.assertIn('"trace":1', pathlib.Path(room, "view").read_text())
+            self.assertEqual(call("csv", str(pathlib.Path(room, "absent"))).returncode, 2)
+
+
+if __name__ == "__main__":
+    unittest.main()

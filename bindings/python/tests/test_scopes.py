@@ -1,0 +1,244 @@
+"""Nothing is lost at the end of a scope, in a fork, or where a finalizer ends a `with`; and what is refused says why."""
+import gc
+import json
+import os
+import pathlib
+import tempfile
+import unittest
+import warnings
+from collections.abc import Iterator
+
+import folugben
+from folugben import Agent, Error, Forked, Location, Missing, Move, Retry, Stale, Storage, check
+
+COUNT = ["count"]
+
+
+def put(agent: Agent, value: object) -> int:
+    return agent.fire([["put", COUNT, value]])
+
+
+class Scopes(unittest.TestCase):
+    def setUp(self):
+        self.storage = Storage([[COUNT, 0]], 100)
+        self.addCleanup(self.storage.free)
+        room = tempfile.TemporaryDirectory()
+        self.addCleanup(room.cleanup)
+        self.path = pathlib.Path(room.name) / "run.journal"
+
+    def test_a_rule_is_played_until_it_fires(self):
+        first, second = self.storage.agent(0), self.storage.agent(1)
+        tries = []
+
+        def rule(step):
+            (seen,) = step.get([COUNT])
+            tries.append(seen)
+            if len(tries) < 7:
+                put(second, seen + 10)
+            step.push([["put", COUNT, seen + 1]])
+            return seen
+
+        self.assertEqual(first.play(rule), (7, 60))
+        self.assertEqual(tries, [0, 10, 20, 30, 40, 50, 60])
+        self.assertEqual((first.follow(), first.peek([COUNT])), (7, (7, [61])))
+
+    def test_what_a_rule_raises_ends_its_play(self):
+        agent = self.storage.agent(0)
+        with self.assertRaises(ZeroDivisionError):
+            agent.play(lambda step: (step.push([["put", COUNT, 1]]), 1 // 0))
+        self.assertEqual(self.storage.moves(), 0)
+        self.assertTrue(issubclass(Stale, Retry) and issubclass(folugben.Busy, Retry))
+
+    def test_a_step_that_was_forgotten_is_told(self):
+        agent = self.storage.agent(0)
+        with self.assertWarns(ResourceWarning):
+            with agent.step() as step:
+                step.push([["put", COUNT, 1]])
+        with warnings.catch_warnings():
+            warnings.simplefilter("error")
+            with agent.step() as step:
+                step.push([])
+                step.pop()
+            with agent.step() as step:
+                step.push([["inc", COUNT, 1]])
+                step.fire()
+            with agent.step() as step:
+                step.get([COUNT])
+                put(agent, 3)
+                step.push([["inc", COUNT, 1]]) if step.number == 2 else None
+                self.assertEqual(step.try_fire(), 0)
+            with self.assertRaises(KeyError), agent.step() as step:
+                step.push([])
+                raise KeyError
+
+    def test_a_journal_is_written_at_the_end_of_a_with(self):
+        with Storage([[COUNT, 0]], 10, journal=self.path) as storage, storage.agent(0) as agent:
+            put(agent, 1)
+        self.assertEqual(check(self.path.read_bytes()), (1, 1))
+        with self.assertRaises(KeyError), Storage([], 10, journal=str(self.path)) as storage:
+            with storage.agent(0) as agent:
+                put(agent, 1)
+                put(agent, 2)
+                raise KeyError
+        self.assertEqual(check(self.path.read_bytes()), (2, 2))
+
+    def test_a_journal_that_lacks_a_move_is_told_beside_another_error(self):
+        with self.assertRaises(Missing), Storage([], 10, journal=self.path) as storage:
+            put(storage.agent(3), 1)
+            kept = list(gc.get_referrers())  # nothing holds the agent: it comes back by itself
+            storage.agent(4).abandon()
+            lost = storage.agent(5)
+            put(lost, 2)
+            lost.abandon()
+            del kept
+        with self.assertRaises(KeyError) as caught, Storage([], 10, journal=self.path) as storage:
+            held = storage.agent(0)
+            put(held, 1)
+            raise KeyError
+        self.assertIn("agent 0 was not given back", caught.exception.__notes__[0])
+
+    def test_missing_tells_who_is_not_given_back(self):
+        agents = [self.storage.agent(number) for number in (3, 7)]
+        put(agents[0], 1)
+        with self.assertRaises(Missing) as caught:
+            self.storage.close_journal()
+        self.assertIn("agents 3, 7 were not given back", str(caught.exception))
+        agents.pop().give()
+        with self.assertRaises(Missing) as caught:
+            self.storage.close_journal()
+        self.assertIn("agent 3 was not given back", str(caught.exception))
+
+    def test_an_agent_that_nobody_holds_comes_back(self):
+        put(self.storage.agent(0), 1)
+        gc.collect()
+        self.assertEqual(check(self.storage.close_journal()), (1, 1))
+
+    def test_a_with_that_a_collector_ends_in_a_call_gives_its_agent_back(self):
+        def held() -> Iterator[Agent]:
+            with self.storage.agent(0) as agent:
+                put(agent, 1)
+                yield agent
+
+        other = self.storage.agent(1)
+        generator = held()
+        next(generator)
+        mark = folugben._held.here.mark
+        mark.in_call = True  # as within a call of this thread
+        try:
+            generator.close()
+        finally:
+            mark.in_call = False
+        put(other, 2)
+        other.give()
+        self.assertEqual(check(self.storage.close_journal()), (2, 2))
+
+    def test_what_a_fork_copies_is_refused_in_its_child(self):
+        agent = self.storage.agent(0)
+        step, place, move = agent.step(), Location(COUNT), Move()
+        read_end, write_end = os.pipe()
+        child = os.fork()
+        if child == 0:
+            told = []
+            calls = [
+                lambda: put(agent, 1), agent.step, lambda: agent.peek(place), lambda: step.get([COUNT]), step.fire,
+                self.storage.moves, lambda: self.storage.agent(1), lambda: move.put(place, 1), self.storage.close_journal,
+            ]
+            for call in calls:
+                try:
+                    call()
+                    told.append("done")
+                except Forked:
+                    told.append("forked")
+                except BaseException as error:
+                    told.append(repr(error))
+            with Storage([], 5) as own, own.agent(0) as new:
+                told.append(str(put(new, 1)))
+            os.write(write_end, json.dumps(told).encode())
+            os._exit(0)
+        os.close(write_end)
+        with open(read_end, "rb") as pipe:
+            told = json.loads(pipe.read())
+        os.waitpid(child, 0)
+        self.assertEqual(told, ["forked"] * 9 + ["1"])
+        self.assertEqual(put(agent, 2), 1)
+
+    def test_next_refuses_moves_that_are_in_no_journal(self):
+        with self.storage.agent(0) as agent:
+            put(agent, 1)
+        late = self.storage.agent(1)
+        self.storage.close_journal()
+        put(late, 2)
+        with self.assertRaisesRegex(Error, "2 moves were fired, and the journal tells 1"):
+            self.storage.next()
+        late.give()
+        self.storage.close_journal()
+        with self.storage.next(5) as further:
+            self.assertEqual(further.agent(0).read([COUNT]), (0, [2]))
+
+    def test_errors_say_what_is_wrong(self):
+        agent = self.storage.agent(0)
+        place, move = Location(COUNT), Move()
+        elsewhere = Storage([], 5)
+        self.addCleanup(elsewhere.free)
+        for regex, call in [
+            ("a capacity is 1 to 1,048,576, not 0", lambda: Storage([], 0)),
+            ("a capacity is 1 to 1,048,576, not 1048577", lambda: self.storage.next(2**20 + 1)),
+            ("agent 256: numbers are below 256", lambda: self.storage.agent(256)),
+            ("agent 0", lambda: self.storage.agent(0)),
+            ("another|two storages", lambda: elsewhere.agent(0).learn(agent)),
+            ("another|two storages", lambda: elsewhere.give(agent)),
+            ("isn't Unicode", lambda: put(agent, "\ud800")),
+            ("isn't Unicode", lambda: agent.scan("\ud800")),
+            ("a number is", lambda: move.put(place, 2**63)),
+            ("an amount is 1 to", lambda: move.bagadd(place, 1, 0)),
+        ]:
+            with self.subTest(regex), self.assertRaisesRegex(Error, regex):
+                call()
+        for regex, call in [
+            ("is at a Location", lambda: move.put(["n"], 1)),
+            ("is at a Location", lambda: move.put(agent.step(), 8)),
+            ("push lists, sets and bags", lambda: move.put(place, {"set": []})),
+            ("learns from an agent", lambda: agent.learn(self.storage)),
+            ("takes back an agent", lambda: self.storage.give(None)),
+            ("made before", lambda: agent.__init__(self.storage, 5)),
+            ("no value: values are", lambda: put(agent, object())),
+            ("True and 1 are one in a Python set", lambda: put(agent, {True})),
+            ("a journal is bytes or a str", lambda: check(7)),
+        ]:
+            with self.subTest(regex), self.assertRaisesRegex(TypeError, regex):
+                call()
+        self.assertEqual(len(move), 0)
+        agent.give()
+        for call in (lambda: put(agent, 1), agent.step, agent.follow, lambda: agent.peek(place), agent.state):
+            with self.assertRaisesRegex(Error, "the agent was given back"):
+                call()
+        self.storage.free()
+        with self.assertRaisesRegex(Error, "the storage was freed"):
+            self.storage.agent(9)
+
+    def test_python_sets_are_sets_and_moves_are_true(self):
+        agent = self.storage.agent(0)
+        put(agent, {"b", 2, None})
+        put(agent, frozenset())
+        put(agent, {3, -1})
+        agent.follow()
+        self.assertEqual(agent.peek([COUNT])[1], [{"set": [-1, 3]}])
+        self.assertTrue(Move())
+
+    def test_what_is_shown_says_what_it_is(self):
+        agent = self.storage.agent(4)
+        with agent.step() as step:
+            step.push([["put", COUNT, 1]])
+            self.assertEqual(repr(step), "<Step at 0 of agent 4, 1 pushed>")
+            step.fire()
+            self.assertEqual(repr(step), "<Step, over>")
+        agent.follow()
+        self.assertEqual((repr(agent), agent.number), ("<Agent 4, 1 moves seen>", 4))
+        self.assertEqual(repr(self.storage), "<Storage, 1 moves>")
+        self.assertEqual(repr(Move().put(Location(COUNT), 1)), "<Move of 1 instructions>")
+        agent.give()
+        self.assertEqual(repr(agent), "<Agent 4, given back>")
+
+
+if __name__ == "__main__":
+    unittest.main()
