@@ -10,7 +10,7 @@ fn candidates() -> Vec<PathBuf> {
     let here = PathBuf::from(env::var_os("CARGO_MANIFEST_DIR").unwrap_or_default());
     match env::var_os("FOLUGBEN_LIB_DIR") {
         Some(folder) => vec![PathBuf::from(folder)],
-        None => ["lib", "../lib", "../../lib", "../out"].iter().map(|it| here.join(it)).collect(),
+        None => ["lib", "../../../lib", "../out"].iter().map(|it| here.join(it)).collect(),
     }
 }
 
