@@ -1,7 +1,6 @@
 import folugben.Agent;
 import folugben.Instruction;
 import folugben.Location;
-import folugben.Step;
 import folugben.Storage;
 import folugben.Value;
 import java.nio.charset.StandardCharsets;
@@ -32,26 +31,23 @@ public final class Example {
         return Location.of("account", number);
     }
 
-    /** Transfers the amount, or what is there of it; whether no other agent was quicker. */
-    static boolean transfer(Agent agent, Location from, Location to, long amount) {
-        try (Step step = agent.step()) {
+    /** Transfers the amount, or what is there of it; again, where another agent was quicker. */
+    static void transfer(Agent agent, Location from, Location to, long amount) {
+        agent.play(step -> {
             long there = step.get(from).asLong();
             long moved = Math.min(amount, there);
             step.push(Instruction.put(from, there - moved));
             step.push(Instruction.put(to, step.get(to).asLong() + moved));
-            Agent.Reply reply = step.fire();
-            require(reply.isFired() || reply.shouldRetry(), "it is fired, or to be tried again");
-            return reply.isFired();
-        }
+            return moved;
+        });
     }
 
     static void work(Agent agent, int own) {
-        for (int done = 0; done < TIMES;) {
+        for (int done = 0; done < TIMES; done++) {
             // Sometimes from an account to itself.
             Location from = account((own + done) % ACCOUNTS);
             Location to = account((own + 3 * done) % ACCOUNTS);
-            if (transfer(agent, from, to, 1 + done % 70))
-                done++;
+            transfer(agent, from, to, 1 + done % 70);
         }
     }
 

@@ -3,15 +3,20 @@ package folugben;
 import java.util.List;
 import java.util.Objects;
 import java.util.SortedMap;
+import java.util.concurrent.locks.LockSupport;
 
 /**
  * An agent of a storage, which reads locations and fires moves, most easily by a {@link Step}.
  * Calls take and give objects, or texts: JSON in the forms of docs/FORMATS.md, of which one with a
  * lone surrogate is refused by an IllegalArgumentException. Any thread may call it. Nothing is
- * released by the garbage collector; call close().
+ * released by the garbage collector; call close(), which gives the agent back to its storage.
  */
 public final class Agent implements AutoCloseable {
     private static final Object LEARNING = new Object();
+
+    /** After so many tries in vain an agent waits between them: 1 << LONGEST_WAIT us at most. */
+    private static final int TRIES_WITHOUT_WAIT = 8;
+    private static final int LONGEST_WAIT = 10;
 
     /** The agent's slot, and the lock of the calls on it and on its steps. */
     final AgentSlot slot = new AgentSlot();
@@ -110,8 +115,24 @@ public final class Agent implements AutoCloseable {
     }
 
     /**
-     * Fires the instructions, at most 4,096, which rest on the reads, at most 256. The reply may be
-     * thrown by its {@link Reply#orThrow}.
+     * Fires the instructions, at most 4,096, which rest on the reads, at most 256; the number of the
+     * move, from 1 up. A reply that is another one is thrown, so none is lost.
+     *
+     * @throws FolugbenException as a {@link StaleException}, {@link ClashException}, {@link
+     *         FullException} or {@link BusyException}; as tryFire
+     */
+    public int fire(List<? extends Instruction> instructions, List<Named> reads) {
+        return tryFire(instructions, reads).orThrow();
+    }
+
+    /** The same of the instructions [INSTR, ..], which rest on the reads [NAMED, ..]. */
+    public int fire(String instructions, String reads) {
+        return tryFire(instructions, reads).orThrow();
+    }
+
+    /**
+     * Fires the instructions, at most 4,096, which rest on the reads, at most 256, and answers what
+     * became of it.
      *
      * <p>No update is lost where each number is that of a reading of this agent, or of one of which
      * it has learnt. After {@link Storage#next} numbers begin anew: keep none.
@@ -120,8 +141,8 @@ public final class Agent implements AutoCloseable {
      *         are more instructions; RANGE, which says of which location, if a number is above that
      *         of the moves that the agent has seen, as it would guard nothing
      */
-    public Reply fire(List<? extends Instruction> instructions, List<Named> reads) {
-        return fire(JsonWriter.move(instructions, "instructions"), JsonWriter.reads(reads));
+    public Reply tryFire(List<? extends Instruction> instructions, List<Named> reads) {
+        return tryFire(JsonWriter.move(instructions, "instructions"), JsonWriter.reads(reads));
     }
 
     /**
@@ -130,7 +151,7 @@ public final class Agent implements AutoCloseable {
      * @throws FolugbenException NOT_JSON, which names the argument, if one isn't one value; RANGE
      *         as of reads that are objects
      */
-    public Reply fire(String instructions, String reads) {
+    public Reply tryFire(String instructions, String reads) {
         byte[] call = Texts.utf8("{\"fire\":" + Texts.oneValue(instructions, "instructions")
                         + ",\"reads\":" + Texts.oneValue(reads, "reads") + "}", "the move");
         synchronized (slot) {
@@ -157,6 +178,44 @@ public final class Agent implements AutoCloseable {
             default -> FolugbenException.expect(code);
         }
         return new Reply(code, move, from, to, answer, isOfStep);
+    }
+
+    /** What is played on a step; it tells what the play is to answer. */
+    @FunctionalInterface
+    public interface Rule<T> {
+        T play(Step step);
+    }
+
+    /** The number of the move that was fired, from 1 up, and what the rule told. */
+    public record Played<T>(int move, T told) {}
+
+    /**
+     * Begins a step, plays the rule on it and fires it, and begins anew where other agents were
+     * quicker: where it was stale or busy, or clashed with what was written since. Between tries in
+     * vain other threads run, and after some it waits for up to a millisecond.
+     *
+     * <p>What the rule throws ends it, and nothing is fired.
+     *
+     * @throws FolugbenException as a {@link FullException} or {@link ManyException} of the fire
+     */
+    public <T> Played<T> play(Rule<T> rule) {
+        Objects.requireNonNull(rule, "rule");
+        for (int tries = 0;; tries++) {
+            try (Step step = step()) {
+                T told = rule.play(step);
+                Reply reply = step.tryFire();
+                if (!reply.shouldRetry())
+                    return new Played<>(reply.orThrow(), told);
+            }
+            backOff(tries);
+        }
+    }
+
+    private static void backOff(int tries) {
+        if (tries < TRIES_WITHOUT_WAIT)
+            Thread.yield();
+        else
+            LockSupport.parkNanos(1000L << Math.min(tries - TRIES_WITHOUT_WAIT, LONGEST_WAIT));
     }
 
     /**
@@ -310,6 +369,8 @@ public final class Agent implements AutoCloseable {
     /** Takes in what the other agent of the storage has seen. */
     public void learn(Agent other) {
         Objects.requireNonNull(other, "other");
+        if (other.storage != storage)
+            FolugbenException.expect(FolugbenException.OTHER);
         // Two agents that learn of each other at once would wait for each other without the first
         // lock.
         synchronized (LEARNING) {
@@ -348,13 +409,24 @@ public final class Agent implements AutoCloseable {
     }
 
     /**
-     * Releases the agent <b>without</b> giving it back: call {@link #give} first, or {@link
-     * Storage#closeJournal} throws MISSING if it fired a move.
+     * Releases the agent <b>without</b> giving it back: its moves stand, and {@link
+     * Storage#closeJournal} throws MISSING for good if it fired one.
      */
-    @Override
-    public void close() {
+    public void abandon() {
         synchronized (slot) {
             Calls.asm_free(slot.at);
         }
+    }
+
+    /** Gives it back to its storage, if that isn't closed yet; it may be called again. */
+    @Override
+    public void close() {
+        if (!storage.takesBack(this))
+            abandon();
+    }
+
+    /** Its storage. */
+    Storage storage() {
+        return storage;
     }
 }

@@ -1,7 +1,7 @@
 package folugben;
 
 /** 64 offers were lost to other agents, though none wrote what is named; nothing was fired. */
-public final class BusyException extends FolugbenException {
+public final class BusyException extends RetryException {
     private static final long serialVersionUID = 1;
 
     private final int from;

@@ -5,8 +5,8 @@ package folugben;
  * its numbers. Some codes have a class of their own, which tells more.
  */
 public sealed class FolugbenException extends RuntimeException
-        permits BusyException, ClashException, DeepException, FullException, LargeException,
-                ManyException, MovedException, StaleException {
+        permits ClashException, DeepException, FullException, LargeException, ManyException,
+                MovedException, RetryException {
     private static final long serialVersionUID = 1;
 
     public static final int DONE = 0;
@@ -225,6 +225,11 @@ public sealed class FolugbenException extends RuntimeException
         boolean isLine = isMisread(code) && number > 1;
         String said = isLine ? Calls.explain(Storage.Form.EVENT, Texts.line(journal, number)) : "";
         expect(code, said, number);
+    }
+
+    /** The exception for a number that is out of its range. */
+    static FolugbenException outOfRange(String said) {
+        return of(RANGE, 0, said, "");
     }
 
     /** The exception for what is closed. */

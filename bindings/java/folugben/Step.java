@@ -17,7 +17,7 @@ import java.util.SortedMap;
  *     long there = step.get(count).asLong();
  *     step.push(Instruction.put(count, there + 1));
  *     step.push(Instruction.put(twice, 2 * step.get(count).asLong())); // 2 * (there + 1)
- *     if (step.fire().shouldRetry()) ..  // begin another step
+ *     step.fire(); // throws a RetryException where another step is to be begun, as play does
  * }
  * }</pre>
  *
@@ -319,28 +319,22 @@ public final class Step implements AutoCloseable {
      *
      * @throws FolugbenException MANY if more than 256 locations would be named
      */
-    public Agent.Reply fire() {
+    public Agent.Reply tryFire() {
         synchronized (agent.slot) {
             return agent.reply(commit(), true);
         }
     }
 
     /**
-     * As fire, where it is enough to know that the step has to be begun again: the number of the
-     * move that was fired, from 1 up, or 0 where it was stale, clashed or lost 64 offers.
+     * As tryFire; the number of the move that was fired, from 1 up. A reply that is another one is
+     * thrown, so none is lost.
      *
-     * @throws FolugbenException as a {@link FullException} or {@link ManyException}
+     * @throws FolugbenException as a {@link StaleException}, {@link BusyException} or {@link
+     *         ClashException} where another step is to be begun, as {@link Agent#play} does; as a
+     *         {@link FullException} or {@link ManyException}
      */
-    public int tryFire() {
-        synchronized (agent.slot) {
-            int code = commit();
-            return switch (code) {
-                case FolugbenException.DONE -> room.number(0);
-                case FolugbenException.STALE, FolugbenException.CLASH,
-                        FolugbenException.BUSY -> 0;
-                default -> agent.reply(code, true).orThrow();
-            };
-        }
+    public int fire() {
+        return tryFire().orThrow();
     }
 
     private int commit() {

@@ -1,5 +1,9 @@
 package folugben;
 
+import java.io.IOException;
+import java.io.UncheckedIOException;
+import java.nio.file.Files;
+import java.nio.file.Path;
 import java.util.List;
 import java.util.Map;
 import java.util.Objects;
@@ -13,14 +17,37 @@ import java.util.SortedMap;
  * each number.
  */
 public final class Storage implements AutoCloseable {
+    private static final int AGENTS = 256;
+    private static final int CAPACITY = 1_048_576;
+
     /** The storage's slot, and the lock of the calls on it. */
     private final Slot slot = new Slot();
 
-    private Storage() {}
+    /** Where the journal is written when it is closed; null for nowhere. */
+    private final Path path;
+
+    private Storage(Path path) {
+        this.path = path;
+    }
+
+    /**
+     * The same, whose journal is written to a file when it is closed, also where an exception ends a
+     * try: once its agents are closed.
+     */
+    public Storage(String init, int capacity, Path journal) {
+        this(Objects.requireNonNull(journal, "journal"));
+        begin(init, capacity);
+    }
 
     /** A storage with the opening state [PAIR, ..], for 1 to 1,048,576 moves. */
     public Storage(String init, int capacity) {
+        this((Path) null);
+        begin(init, capacity);
+    }
+
+    private void begin(String init, int capacity) {
         byte[] state = Texts.utf8(init, "init");
+        expectCapacity(capacity);
         synchronized (slot) {
             int code = Calls.asm_open(state, state.length, capacity, slot.at);
             FolugbenException.expectRead(code, Form.STATE, state);
@@ -37,6 +64,16 @@ public final class Storage implements AutoCloseable {
         return new Storage(JsonWriter.state(init, "init"), capacity);
     }
 
+    /** The same, whose journal is written to a file when it is closed. */
+    public static Storage open(Map<Location, ?> init, int capacity, Path journal) {
+        return new Storage(JsonWriter.state(init, "init"), capacity, journal);
+    }
+
+    private static void expectCapacity(int capacity) {
+        if (capacity < 1 || capacity > CAPACITY)
+            throw FolugbenException.outOfRange("a capacity is 1 to 1,048,576, not " + capacity);
+    }
+
     /**
      * The same of the opening state in any order.
      *
@@ -48,6 +85,8 @@ public final class Storage implements AutoCloseable {
 
     /** An agent with this number, 0 to 255, of which none was made before. */
     public Agent agent(int number) {
+        if (number < 0 || number >= AGENTS)
+            throw FolugbenException.outOfRange("agent " + number + ": numbers are 0 to 255");
         Agent agent = new Agent(this);
         synchronized (slot) {
             synchronized (agent.slot) {
@@ -69,6 +108,8 @@ public final class Storage implements AutoCloseable {
     /** Takes an agent back. */
     public void give(Agent agent) {
         Objects.requireNonNull(agent, "agent");
+        if (agent.storage() != this)
+            FolugbenException.expect(FolugbenException.OTHER);
         synchronized (slot) {
             synchronized (agent.slot) {
                 FolugbenException.expect(Calls.asm_give(slot.at, agent.slot.at));
@@ -76,9 +117,20 @@ public final class Storage implements AutoCloseable {
         }
     }
 
+    /** Takes the agent back, if it is there and this isn't closed; whether this isn't closed. */
+    boolean takesBack(Agent agent) {
+        synchronized (slot) {
+            synchronized (agent.slot) {
+                if (slot.isFull() && agent.slot.isFull())
+                    FolugbenException.expect(Calls.asm_give(slot.at, agent.slot.at));
+                return slot.isFull();
+            }
+        }
+    }
+
     /**
-     * The journal of the agents that were given back, which has to tell every move: where an agent
-     * that fired was closed before it was given back, MISSING is thrown for good.
+     * The journal of the agents that were given back, as each is when it is closed. It has to tell
+     * every move: where an agent that fired was abandoned, MISSING is thrown for good.
      */
     public String closeJournal() {
         int[] missing = new int[1];
@@ -98,7 +150,16 @@ public final class Storage implements AutoCloseable {
      * @throws FolugbenException NONE if no journal was closed since an agent was given back
      */
     public Storage next(int capacity) {
-        Storage next = new Storage();
+        return next(new Storage((Path) null), capacity);
+    }
+
+    /** The same, whose journal is written to a file when it is closed. */
+    public Storage next(int capacity, Path journal) {
+        return next(new Storage(Objects.requireNonNull(journal, "journal")), capacity);
+    }
+
+    private Storage next(Storage next, int capacity) {
+        expectCapacity(capacity);
         synchronized (slot) {
             synchronized (next.slot) {
                 FolugbenException.expect(Calls.asm_next(slot.at, capacity, next.slot.at));
@@ -107,11 +168,24 @@ public final class Storage implements AutoCloseable {
         return next;
     }
 
-    /** Releases it. Its agents go on, and can't be given back any more. */
+    /**
+     * Writes its journal, if it was made to write one, and releases it. Its agents go on, and can't
+     * be given back any more.
+     *
+     * @throws FolugbenException MISSING if the journal lacks a move
+     * @throws UncheckedIOException if the journal can't be written
+     */
     @Override
     public void close() {
         synchronized (slot) {
-            Calls.asm_free(slot.at);
+            try {
+                if (path != null && slot.isFull())
+                    Files.writeString(path, closeJournal());
+            } catch (IOException fault) {
+                throw new UncheckedIOException(fault);
+            } finally {
+                Calls.asm_free(slot.at);
+            }
         }
     }
 

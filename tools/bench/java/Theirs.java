@@ -14,7 +14,7 @@ final class Theirs implements Side {
         Twin.Location at = new Twin.Location("x", location);
         try {
             step.push(at, step.get(at) + 1);
-            return step.fire();
+            return step.tryFire();
         } catch (Twin.Moved moved) {
             return false;
         }

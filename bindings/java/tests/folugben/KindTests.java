@@ -31,7 +31,7 @@ final class KindTests {
         List<Instruction> all = List.of(move);
         try (Storage storage = Storage.open(INIT, 8); Agent agent = storage.agent(0);
                 Step step = agent.step()) {
-            Agent.Reply reply = agent.fire(all, List.of());
+            Agent.Reply reply = agent.tryFire(all, List.of());
             equal(reply.at(), at);
             equal(reply.cause(), cause);
             List<Runnable> calls = List.of(reply::orThrow, () -> step.push(move),
@@ -68,9 +68,9 @@ final class KindTests {
             List<Named> reads = agent.peek(List.of(X, S)).named();
             equal(step.get(S), Value.set(1));
             step.push(Instruction.put(Y, 1));
-            rival.fire(List.of(Instruction.add(S, 2)), List.of()).orThrow();
-            List<Runnable> calls = List.of(() -> step.fire().orThrow(),
-                    () -> agent.fire(List.of(), reads).orThrow(),
+            rival.tryFire(List.of(Instruction.add(S, 2)), List.of()).orThrow();
+            List<Runnable> calls = List.of(() -> step.tryFire().orThrow(),
+                    () -> agent.tryFire(List.of(), reads).orThrow(),
                     () -> agent.stands(reads).orThrow());
             for (Runnable call : calls) {
                 StaleException error =
@@ -80,7 +80,7 @@ final class KindTests {
                 equal(error.getMessage(), FolugbenException.errorText(FolugbenException.STALE)
                                 + ": " + error.answer());
             }
-            equal(step.fire().cause() == null, true);
+            equal(step.tryFire().cause() == null, true);
             kind(MovedException.class, FolugbenException.MOVED, () -> step.get(S));
             kind(MovedException.class, FolugbenException.MOVED, () -> step.getAll("s"));
             kind(MovedException.class, FolugbenException.MOVED, step::push);
@@ -111,7 +111,7 @@ final class KindTests {
             List<Named> reads = agent.peek(places).named();
             kind(ManyException.class, code, () -> agent.read(places));
             kind(ManyException.class, code, () -> agent.stands(reads));
-            kind(ManyException.class, code, () -> agent.fire(List.of(), reads));
+            kind(ManyException.class, code, () -> agent.tryFire(List.of(), reads));
             kind(ManyException.class, code, () -> step.get(places));
             kind(ManyException.class, code, () -> Moves.compose(most, one));
             equal(Moves.compose(most, List.of()), most);
@@ -124,8 +124,8 @@ final class KindTests {
 
     static void fullAndBusy() {
         try (Storage storage = Storage.open(INIT, 1); Agent agent = storage.agent(0)) {
-            agent.fire(List.of(), List.of()).orThrow();
-            Agent.Reply reply = agent.fire(List.of(), List.of());
+            agent.tryFire(List.of(), List.of()).orThrow();
+            Agent.Reply reply = agent.tryFire(List.of(), List.of());
             equal(reply.at() == null && reply.cause() == null, true);
             FullException full =
                     kind(FullException.class, FolugbenException.FULL, reply::orThrow);

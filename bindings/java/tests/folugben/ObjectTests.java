@@ -127,7 +127,7 @@ final class ObjectTests {
                 for (int left = 8; left > 0; left--) {
                     List<Instruction> move = random.move();
                     Object wanted = foreseen(state, move);
-                    Agent.Reply reply = agent.fire(move, List.of());
+                    Agent.Reply reply = agent.tryFire(move, List.of());
                     if (!reply.isFired()) {
                         equal(List.of(reply.at(), reply.cause()), wanted);
                         continue;
@@ -175,7 +175,7 @@ final class ObjectTests {
                 Map<Location, Value> left = new TreeMap<>(state);
                 left.putAll(Moves.aggregate(state, Moves.compose(first, second)));
                 equal(seen, places.stream().map(place -> at(left, place)).toList());
-                equal(step.fire().orThrow(), 1);
+                equal(step.tryFire().orThrow(), 1);
                 agent.follow();
                 equal(agent.peek(places), new Reading(1, places, seen));
                 composed++;
@@ -191,9 +191,9 @@ final class ObjectTests {
         for (long number : numbers) {
             try (Storage storage = Storage.open(Map.of(X, 0), 2);
                     Agent agent = storage.agent(0)) {
-                agent.fire(List.of(Instruction.inc(X, number)), List.of()).orThrow();
+                agent.tryFire(List.of(Instruction.inc(X, number)), List.of()).orThrow();
                 equal(agent.read(List.of(X)).value(X).asLong(), number);
-                agent.fire(List.of(Instruction.put(Y, number)), List.of()).orThrow();
+                agent.tryFire(List.of(Instruction.put(Y, number)), List.of()).orThrow();
                 equal(agent.read(List.of(Y)).value(Y), Element.of(number));
             }
         }
@@ -210,10 +210,10 @@ final class ObjectTests {
             refusedValue("1 locations have 0 values", () -> new Reading(0, List.of(X), List.of()));
             equal(agent.stands(reading.named()).orThrow(), 0);
             List<Instruction> move = List.of(Instruction.put(Y, List.of("a", 2)));
-            equal(rival.fire(move, reading.named()).orThrow(), 1);
+            equal(rival.tryFire(move, reading.named()).orThrow(), 1);
             equal(agent.stands(reading.named()).at(), Y);
-            equal(agent.fire(move, reading.named()).at(), Y);
-            equal(agent.fire(move, agent.peek(List.of(Y)).named()).orThrow(), 2);
+            equal(agent.tryFire(move, reading.named()).at(), Y);
+            equal(agent.tryFire(move, agent.peek(List.of(Y)).named()).orThrow(), 2);
             equal(agent.read(List.of(Y)).value(Y), Element.list("a", 2));
         }
     }
@@ -230,12 +230,12 @@ final class ObjectTests {
         try (Storage storage = Storage.open(List.of(), 8); Agent agent = storage.agent(0);
                 Step step = agent.step()) {
             String many = ": 4,097 instructions, at most 4,096";
-            refusedAt(shape, 0, many, () -> agent.fire(more, List.of()));
+            refusedAt(shape, 0, many, () -> agent.tryFire(more, List.of()));
             refusedAt(shape, 0, many, () -> step.push(more));
             refusedAt(shape, 0, many + " (first)", () -> Moves.compose(more, List.of()));
             refusedAt(shape, 0, many + " (second)", () -> Moves.compose(List.of(), more));
             refusedAt(shape, 0, many + " (move)", () -> Moves.aggregate(Map.of(), more));
-            equal(agent.fire(most, List.of()).orThrow(), 1);
+            equal(agent.tryFire(most, List.of()).orThrow(), 1);
             Class<? extends RuntimeException> kind = NullPointerException.class;
             List<Location> places = null;
             List<Named> reads = null;
@@ -245,8 +245,8 @@ final class ObjectTests {
             thrown(kind, "locations", () -> agent.peek(places));
             thrown(kind, "locations", () -> step.get(places));
             thrown(kind, "reads", () -> agent.stands(reads));
-            thrown(kind, "reads", () -> agent.fire(List.of(), reads));
-            thrown(kind, "instructions", () -> agent.fire(move, List.of()));
+            thrown(kind, "reads", () -> agent.tryFire(List.of(), reads));
+            thrown(kind, "instructions", () -> agent.tryFire(move, List.of()));
             thrown(kind, "move", () -> step.push(move));
             thrown(kind, "move", () -> step.extend(move));
             thrown(kind, "first", () -> Moves.compose(move, List.of()));

@@ -145,7 +145,7 @@ final class PlainTests {
                     count[0] += all.size();
                     count[1] += sameMove(step, other, move, all, times == 0) ? 1 : 0;
                 }
-                equal(step.fire().move(), 1);
+                equal(step.tryFire().move(), 1);
                 agent.give();
                 String journal = storage.closeJournal();
                 equal(Storage.check(journal), new Storage.Checked(1, 1));
@@ -211,7 +211,7 @@ final class PlainTests {
                 refused(FolugbenException.MANY, () -> step.getNumber(w));
                 equal(agent.peek(w).value().isUndef(), true);
             }
-            equal(step.tryFire(), 1);
+            equal(step.tryFire().move(), 1);
         }
     }
 
@@ -250,15 +250,15 @@ final class PlainTests {
             PreparedLocation x = X.prepare();
             Move move = new Move().put(x, 5);
             Step step = agent.step();
-            rival.fire(List.of(Instruction.put(X, 2)), List.of());
+            rival.tryFire(List.of(Instruction.put(X, 2)), List.of());
             agent.follow();
             refused(FolugbenException.MOVED, () -> step.get(x));
             refused(FolugbenException.MOVED, () -> step.push(move));
             refused(FolugbenException.MOVED, () -> step.extend(move));
-            equal(step.tryFire(), 2);
+            equal(step.tryFire().move(), 2);
             refused(FolugbenException.EMPTY, () -> step.get(x));
             refused(FolugbenException.EMPTY, () -> step.push(move));
-            refused(FolugbenException.EMPTY, step::tryFire);
+            refused(FolugbenException.EMPTY, step::fire);
             Step next = agent.step();
             x.close();
             x.close();
@@ -280,7 +280,7 @@ final class PlainTests {
                 agent.give();
                 refused(FolugbenException.EMPTY, () -> next.get(y));
                 refused(FolugbenException.EMPTY, () -> agent.peek(y));
-                refused(FolugbenException.EMPTY, next::tryFire);
+                refused(FolugbenException.EMPTY, next::fire);
                 next.close();
             }
         }
@@ -293,19 +293,19 @@ final class PlainTests {
                 Move move = new Move()) {
             try (Step step = agent.step()) {
                 step.push(move.inc(x, 1));
-                rival.fire(List.of(Instruction.put(X, Value.set())), List.of());
-                equal(step.tryFire(), 0);
+                rival.tryFire(List.of(Instruction.put(X, Value.set())), List.of());
+                equal(step.tryFire().move(), 0);
                 equal(agent.answer(), "{\"clash\":[[\"x\"],\"Kind\"]}");
-                equal(step.tryFire(), 0);
+                equal(step.tryFire().move(), 0);
             }
             try (Step step = agent.step()) {
                 refused(FolugbenException.CLASH, () -> step.push(move));
                 step.push(move.clear().put(x, "all"));
-                equal(step.tryFire(), 2);
+                equal(step.tryFire().move(), 2);
             }
             try (Step step = agent.step()) {
                 equal(step.getText(x), "all");
-                refused(FolugbenException.FULL, step::tryFire);
+                refused(FolugbenException.FULL, step::fire);
             }
         }
     }
@@ -327,7 +327,7 @@ final class PlainTests {
                                 if (move.size() < 500)
                                     move.inc(x, 1);
                                 agent.peekNumber(x);
-                                if (step.tryFire() != 0)
+                                if (step.tryFire().move() != 0)
                                     fired[own]++;
                             }
                         agent.give();
@@ -342,7 +342,7 @@ final class PlainTests {
                 equal(size >= 500 && size <= 503, true);
                 step.push(move);
                 equal(step.getNumber(x), 2000L + size);
-                equal(step.tryFire(), 2001);
+                equal(step.tryFire().move(), 2001);
                 agent.give();
             }
             equal(Storage.check(storage.closeJournal()).moves(), 2001);

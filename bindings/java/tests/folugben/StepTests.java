@@ -28,7 +28,7 @@ final class StepTests {
     static void looks() {
         try (Storage storage = new Storage(INIT, 8); Agent agent = storage.agent(0);
                 Agent rival = storage.agent(1)) {
-            rival.fire(inc("x", 1), "[]");
+            rival.tryFire(inc("x", 1), "[]");
             equal(agent.peek("[[\"x\"],[\"z\"]]"), seen(0, "7,null"));
             equal(agent.state(), new Agent.State(0, INIT));
             equal(agent.seen(), 0);
@@ -39,7 +39,7 @@ final class StepTests {
             equal(agent.scan(""), new Agent.State(1, "[]"));
             equal(agent.stands("[[[\"x\"],1]]"), new Agent.Reply(0, 0, 0, 0, null));
             equal(agent.stands("[[[\"x\"],1]]").isFired(), false);
-            rival.fire(put("z", "1"), "[]");
+            rival.tryFire(put("z", "1"), "[]");
             Agent.Reply stale = agent.stands("[[[\"z\"],1],[[\"x\"],0]]");
             equal(stale, new Agent.Reply(FolugbenException.STALE, 0, 0, 0, "{\"stale\":[\"x\"]}"));
             equal(stale.isStale() && stale.shouldRetry(), true);
@@ -71,7 +71,7 @@ final class StepTests {
             step.push(put("x", "0"));
             step.pop();
             equal(step.depth(), 2);
-            equal(step.fire(), new Agent.Reply(0, 1, 0, 0, null, true));
+            equal(step.tryFire(), new Agent.Reply(0, 1, 0, 0, null, true));
             equal(agent.answer(), "{\"fired\":1}");
             equal(step.depth(), 0);
             refused(FolugbenException.EMPTY, step::fire);
@@ -138,7 +138,7 @@ final class StepTests {
                 another.push(inc("x", 1));
                 refused(FolugbenException.MANY, another::fire);
                 another.pop();
-                equal(another.fire().move(), 1);
+                equal(another.tryFire().move(), 1);
             }
         }
     }
@@ -149,9 +149,9 @@ final class StepTests {
                 Agent rival = storage.agent(1)) {
             Step step = agent.step();
             step.push(inc("x", 1));
-            rival.fire(put("x", "70"), "[]");
+            rival.tryFire(put("x", "70"), "[]");
             equal(step.get("[[\"x\"]]"), seen(0, "8"));
-            equal(step.fire(), new Agent.Reply(FolugbenException.STALE, 0, 0, 0,
+            equal(step.tryFire(), new Agent.Reply(FolugbenException.STALE, 0, 0, 0,
                                        "{\"stale\":[\"x\"]}", true));
             equal(step.depth(), 1);
             refused(FolugbenException.MOVED, () -> step.get("[]"));
@@ -160,16 +160,16 @@ final class StepTests {
             step.close();
             try (Step other = agent.step()) {
                 equal(other.number(), 1);
-                rival.fire(put("z", "1"), "[]");
+                rival.tryFire(put("z", "1"), "[]");
                 other.push(inc("x", 1));
                 agent.follow();
                 refused(FolugbenException.MOVED, () -> other.extend("[]"));
-                equal(other.fire().move(), 3);
+                equal(other.tryFire().move(), 3);
             }
             try (Step last = agent.step()) {
                 last.push(inc("x", 1));
-                rival.fire("[]", "[]");
-                equal(last.fire(), new Agent.Reply(FolugbenException.FULL, 0, 0, 0, null, true));
+                rival.tryFire("[]", "[]");
+                equal(last.tryFire(), new Agent.Reply(FolugbenException.FULL, 0, 0, 0, null, true));
                 equal(last.depth(), 1);
             }
         }
@@ -185,25 +185,25 @@ final class StepTests {
                 step.push(one);
                 step.push(inc("x", 1));
             }
-            equal(first.fire().move(), 1);
-            equal(second.fire().move(), 2);
+            equal(first.tryFire().move(), 1);
+            equal(second.tryFire().move(), 2);
         }
         try (Storage storage = new Storage("[[[\"b\"],{\"bag\":[[1,1]]}]]", 8);
                 Agent agent = storage.agent(0); Agent rival = storage.agent(1);
                 Step step = agent.step()) {
             step.push(one);
-            Agent.Reply taken = rival.fire(one, "[]");
+            Agent.Reply taken = rival.tryFire(one, "[]");
             equal(taken.isFired() && !taken.shouldRetry() && !taken.isClash(), true);
-            Agent.Reply clash = step.fire();
+            Agent.Reply clash = step.tryFire();
             equal(clash, new Agent.Reply(FolugbenException.CLASH, 0, 0, 0,
                                  "{\"clash\":[[\"b\"],\"Short\"]}", true));
             equal(clash.isClash() && clash.shouldRetry(), true);
             equal(refused(FolugbenException.CLASH, clash::orThrow).answer(), clash.answer());
-            equal(step.tryFire(), 0);
+            equal(step.tryFire().move(), 0);
             equal(step.depth(), 1);
             refused(FolugbenException.MOVED, () -> step.get("[]"));
             // Of a move that is fired alone its caller decides.
-            Agent.Reply alone = agent.fire(one, "[]");
+            Agent.Reply alone = agent.tryFire(one, "[]");
             equal(alone.isClash() && !alone.shouldRetry(), true);
             try (Step again = agent.step()) {
                 refused(FolugbenException.CLASH, () -> again.push(one));
@@ -220,13 +220,13 @@ final class StepTests {
                 Agent rival = storage.agent(1)) {
             for (int round = 0; round < 2; round++) {
                 String told = ": read 2: [\"y\",1]" + seen;
-                refusedAt(range, 0, told, () -> agent.fire("[]", reads));
+                refusedAt(range, 0, told, () -> agent.tryFire("[]", reads));
                 refusedAt(range, 0, told, () -> agent.stands(reads));
                 List<Named> named = List.of(new Named(Location.of("x"), 1));
                 told = ": read 1: [\"x\"]" + seen;
-                refusedAt(range, 0, told, () -> agent.fire(List.of(), named));
+                refusedAt(range, 0, told, () -> agent.tryFire(List.of(), named));
                 refusedAt(range, 0, told, () -> agent.stands(named));
-                rival.fire("[]", "[]");
+                rival.tryFire("[]", "[]");
             }
             equal(agent.seen(), 0);
             equal(agent.misses(), 0L);
@@ -235,7 +235,7 @@ final class StepTests {
                     () -> agent.stands("[[[\"x\"],4294967295]]"));
             agent.learn(rival);
             equal(agent.stands(reads).isStale(), false);
-            equal(agent.fire("[]", reads).move(), 3);
+            equal(agent.tryFire("[]", reads).move(), 3);
         }
     }
 
@@ -245,7 +245,7 @@ final class StepTests {
         Storage storage = new Storage(INIT, 8);
         Reading kept;
         try (Agent agent = storage.agent(0)) {
-            agent.fire(inc("x", 1), "[]");
+            agent.tryFire(inc("x", 1), "[]");
             kept = agent.read(List.of(x));
             agent.give();
         }
@@ -254,11 +254,11 @@ final class StepTests {
         try (Storage next = storage.next(8); Agent agent = next.agent(0);
                 Agent rival = next.agent(1)) {
             storage.close();
-            rival.fire(inc("x", 1), "[]");
+            rival.tryFire(inc("x", 1), "[]");
             // Nothing was written above this number, so that the rival's update would be lost.
             refusedAt(FolugbenException.RANGE, 0,
                     ": read 1: [\"x\"] is named at 1, and the agent has seen 0",
-                    () -> agent.fire(raised, kept.named()));
+                    () -> agent.tryFire(raised, kept.named()));
             equal(agent.read(List.of(x)).value(x).asLong(), 9L);
         }
     }
@@ -295,7 +295,7 @@ final class StepTests {
         Storage storage = new Storage(INIT, 1);
         refused(FolugbenException.NONE, () -> storage.next(1));
         try (Agent agent = storage.agent(0)) {
-            agent.fire(inc("x", 1), "[]");
+            agent.tryFire(inc("x", 1), "[]");
             agent.give();
         }
         String left = Storage.replay(storage.closeJournal());
@@ -304,7 +304,7 @@ final class StepTests {
             storage.close();
             refused(FolugbenException.EMPTY, () -> storage.next(1));
             equal(agent.state(), new Agent.State(0, left));
-            equal(agent.fire(inc("x", 1), "[]").move(), 1);
+            equal(agent.tryFire(inc("x", 1), "[]").move(), 1);
             agent.give();
             String journal = next.closeJournal();
             equal(Storage.check(journal), new Storage.Checked(1, 1));
@@ -330,7 +330,7 @@ final class StepTests {
             for (Thread thread : threads) thread.start();
             for (Thread thread : threads) thread.join();
             equal(step.get("[[\"x\"]]"), seen(0, "807"));
-            equal(step.fire().isFired(), true);
+            equal(step.tryFire().isFired(), true);
         }
     }
 

@@ -15,19 +15,19 @@ public final class Test {
         try (Storage storage = new Storage("[[[\"count\"],0]]", 2); Agent first = storage.agent(0);
                 Agent second = storage.agent(1)) {
             equal(first.read("[[\"count\"]]"), "{\"number\":0,\"values\":[0]}");
-            equal(first.fire("[[\"put\",[\"count\"],1]]", "[[[\"count\"],0]]"),
+            equal(first.tryFire("[[\"put\",[\"count\"],1]]", "[[[\"count\"],0]]"),
                     new Agent.Reply(0, 1, 0, 0, null));
             equal(first.answer(), "{\"fired\":1}");
-            Agent.Reply stale = second.fire("[[\"put\",[\"count\"],9]]", "[[[\"count\"],0]]");
+            Agent.Reply stale = second.tryFire("[[\"put\",[\"count\"],9]]", "[[[\"count\"],0]]");
             equal(stale.shouldRetry(), true);
             equal(stale.answer(), "{\"stale\":[\"count\"]}");
             equal(second.answer(), stale.answer());
-            Agent.Reply clash = second.fire("[[\"put\",[\"x\"],1],[\"put\",[\"x\"],2]]", "[]");
+            Agent.Reply clash = second.tryFire("[[\"put\",[\"x\"],1],[\"put\",[\"x\"],2]]", "[]");
             equal(clash.code(), FolugbenException.CLASH);
             equal(clash.answer(), "{\"clash\":[[\"x\"],\"Two\"]}");
             equal(second.answer(), clash.answer());
-            equal(second.fire("[]", "[]").move(), 2);
-            equal(second.fire("[]", "[]").code(), FolugbenException.FULL);
+            equal(second.tryFire("[]", "[]").move(), 2);
+            equal(second.tryFire("[]", "[]").code(), FolugbenException.FULL);
             equal(second.answer(), "\"full\"");
             first.learn(second);
             equal(first.seen(), 2);
@@ -48,7 +48,7 @@ public final class Test {
         refused(FolugbenException.OTHER, () -> storage.give(stranger));
         refused(FolugbenException.OTHER, () -> agent.learn(stranger));
         refused(FolugbenException.EMPTY, () -> agent.learn(agent));
-        agent.fire("[]", "[]");
+        agent.tryFire("[]", "[]");
         agent.give();
         refused(FolugbenException.EMPTY, () -> agent.read("[]"));
         refused(FolugbenException.NUMBER, () -> storage.agent(0));
@@ -80,12 +80,13 @@ public final class Test {
         stranger.close();
     }
 
-    /** The moves of an agent that is closed without being given back are missing, seen or not. */
-    static void closedAgents() {
+    /** The moves of an agent that is abandoned are missing, seen or not. */
+    static void abandonedAgents() {
         try (Storage storage = new Storage("[]", 8); Agent reader = storage.agent(1)) {
             equal(storage.moves(), 0);
             try (Agent lost = storage.agent(0)) {
                 lost.fire("[]", "[]");
+                lost.abandon();
             }
             equal(storage.moves(), 1);
             refusedAt(FolugbenException.MISSING, 1, " (move 1)", storage::closeJournal);
@@ -112,8 +113,8 @@ public final class Test {
             Class<? extends RuntimeException> kind = NullPointerException.class;
             thrown(kind, "init", () -> new Storage(null, 8));
             thrown(kind, "locations", () -> agent.read((String) null));
-            thrown(kind, "instructions", () -> agent.fire(null, "[]"));
-            thrown(kind, "reads", () -> agent.fire("[]", null));
+            thrown(kind, "instructions", () -> agent.tryFire(null, "[]"));
+            thrown(kind, "reads", () -> agent.tryFire("[]", null));
             thrown(kind, "other", () -> agent.learn(null));
             thrown(kind, "agent", () -> storage.give(null));
             thrown(kind, "journal", () -> Storage.check(null));
@@ -156,7 +157,7 @@ public final class Test {
                 other.learn(agent);
                 try (Step step = agent.step()) {
                     step.push("[]");
-                    step.fire();
+                    step.tryFire();
                 }
                 agent.give();
                 other.give();
@@ -201,7 +202,7 @@ public final class Test {
         System.out.println("answers");
         codes();
         System.out.println("codes");
-        closedAgents();
+        abandonedAgents();
         System.out.println("closed agents");
         versions();
         System.out.println("versions");
@@ -221,5 +222,6 @@ public final class Test {
         StepTests.all();
         KindTests.all();
         PlainTests.all();
+        ScopeTests.all();
     }
 }

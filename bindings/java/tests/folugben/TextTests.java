@@ -14,7 +14,7 @@ final class TextTests {
         String nested = "[[\"add\",[\"s\"],1],[\"put\",[\"s\"],{\"set\":[{\"set\":[]}]}]]";
         try (Storage storage = new Storage("[]", 8); Agent agent = storage.agent(0)) {
             refusedAt(FolugbenException.SHAPE, 0, ": instruction 2: a set can't hold a set",
-                    () -> agent.fire(nested, "[]"));
+                    () -> agent.tryFire(nested, "[]"));
             refusedAt(FolugbenException.SHAPE, 0,
                     ": location 1: a location is an array of a name and at most 8 arguments",
                     () -> agent.read("[7]"));
@@ -41,8 +41,8 @@ final class TextTests {
                 String location = "[\"k\",\"" + lone + "\"]";
                 String put = "[[\"put\"," + location + ",9]]";
                 thrown(kind, "locations" + at + 7, () -> agent.read("[" + location + "]"));
-                thrown(kind, "instructions" + at + 14, () -> agent.fire(put, "[]"));
-                thrown(kind, "reads" + at + 8, () -> agent.fire("[]", "[[" + location + ",0]]"));
+                thrown(kind, "instructions" + at + 14, () -> agent.tryFire(put, "[]"));
+                thrown(kind, "reads" + at + 8, () -> agent.tryFire("[]", "[[" + location + ",0]]"));
                 thrown(kind, "init" + at + 8, () -> new Storage("[[" + location + ",1]]", 8));
                 thrown(kind, "journal" + at + 0, () -> Storage.check(lone));
                 thrown(kind, "journal" + at + 0, () -> Storage.replay(lone));
@@ -82,21 +82,21 @@ final class TextTests {
             for (String text : none) {
                 String told = FolugbenException.errorText(FolugbenException.NOT_JSON);
                 thrown(FolugbenException.class, told + " (instructions)",
-                        () -> agent.fire(text, "[]"));
-                thrown(FolugbenException.class, told + " (reads)", () -> agent.fire(put, text));
+                        () -> agent.tryFire(text, "[]"));
+                thrown(FolugbenException.class, told + " (reads)", () -> agent.tryFire(put, text));
             }
             for (String text : wrong) {
-                refused(FolugbenException.SHAPE, () -> agent.fire(text, "[]"));
-                refused(FolugbenException.SHAPE, () -> agent.fire(put, text));
+                refused(FolugbenException.SHAPE, () -> agent.tryFire(text, "[]"));
+                refused(FolugbenException.SHAPE, () -> agent.tryFire(put, text));
             }
             for (String text : broken) {
-                refused(FolugbenException.NOT_JSON, () -> agent.fire(text, "[]"));
-                refused(FolugbenException.NOT_JSON, () -> agent.fire(put, text));
+                refused(FolugbenException.NOT_JSON, () -> agent.tryFire(text, "[]"));
+                refused(FolugbenException.NOT_JSON, () -> agent.tryFire(put, text));
             }
             refused(FolugbenException.NONE, agent::answer);
             equal(agent.seen(), 0);
             String spaced = " [ [\"put\",[\"x\"],\"],\\\"fire\\\":[\\\\\"] ]\r\n";
-            equal(agent.fire(spaced, "\t[\n[ [\"x\"] , 0 ]]").move(), 1);
+            equal(agent.tryFire(spaced, "\t[\n[ [\"x\"] , 0 ]]").move(), 1);
             equal(agent.read("[[\"x\"]]"), "{\"number\":1,\"values\":[\"],\\\"fire\\\":[\\\\\"]}");
         }
     }
@@ -109,7 +109,7 @@ final class TextTests {
                     "{\"number\":0,\"values\":[1,null]}");
             refused(FolugbenException.NOT_JSON, () -> agent.read("[[\"k\",\"\u0000\"]]"));
             refused(FolugbenException.NOT_JSON, () -> agent.read("[]\u0000"));
-            agent.fire("[[\"put\",[\"k\",\"\\u0000\"],\"a\\u0000b\"]]", "[]");
+            agent.tryFire("[[\"put\",[\"k\",\"\\u0000\"],\"a\\u0000b\"]]", "[]");
             agent.give();
             String journal = storage.closeJournal();
             equal(Storage.replay(journal), "[[[\"k\",\"\\u0000\"],\"a\\u0000b\"]]");

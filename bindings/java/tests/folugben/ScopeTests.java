@@ -1,0 +1,154 @@
+package folugben;
+
+import static folugben.Checks.equal;
+import static folugben.Checks.refused;
+import static folugben.Checks.refusedAt;
+import static folugben.Checks.thrown;
+
+import java.io.IOException;
+import java.io.UncheckedIOException;
+import java.nio.file.Files;
+import java.nio.file.Path;
+import java.util.ArrayList;
+import java.util.List;
+import java.util.Map;
+
+/** Nothing is lost at the end of a scope, and a rule is played until it fires. */
+final class ScopeTests {
+    private static final Location COUNT = Location.of("count");
+
+    private ScopeTests() {}
+
+    private static Storage open() {
+        return Storage.open(Map.of(COUNT, 0), 100);
+    }
+
+    private static Instruction put(long value) {
+        return Instruction.put(COUNT, value);
+    }
+
+    private static int put(Agent agent, long value) {
+        return agent.fire(List.of(put(value)), List.of());
+    }
+
+    static void plays() {
+        try (Storage storage = open(); Agent agent = storage.agent(0); Agent rival = storage.agent(1)) {
+            List<Long> tries = new ArrayList<>();
+            Agent.Played<Long> played = agent.play(step -> {
+                long seen = step.get(COUNT).asLong();
+                tries.add(seen);
+                if (tries.size() < 12)
+                    put(rival, seen + 10);
+                step.push(put(seen + 1));
+                return seen;
+            });
+            equal(played, new Agent.Played<>(12, 110L));
+            equal(tries.size(), 12);
+            thrown(IllegalStateException.class, "no", () -> agent.play(step -> {
+                step.push(put(5));
+                throw new IllegalStateException("no");
+            }));
+            equal(storage.moves(), 12);
+            Runnable clash = () -> agent.play(step -> {
+                step.push(put(1), put(2));
+                return 0;
+            });
+            refused(FolugbenException.CLASH, clash);
+            thrown(NullPointerException.class, "rule", () -> agent.play(null));
+        }
+    }
+
+    /** A fire that isn't looked at is thrown where it fired nothing. */
+    static void fires() {
+        try (Storage storage = open(); Agent agent = storage.agent(0); Agent rival = storage.agent(1)) {
+            try (Step step = agent.step()) {
+                step.get(COUNT);
+                put(rival, 1);
+                step.push(put(2));
+                FolugbenException stale = refused(FolugbenException.STALE, step::fire);
+                equal(stale instanceof RetryException, true);
+            }
+            try (Step step = agent.step()) {
+                step.push(put(2));
+                equal(step.fire(), 2);
+            }
+            refused(FolugbenException.STALE,
+                    () -> rival.fire(List.of(put(3)), List.of(new Named(COUNT, 1))));
+        }
+    }
+
+    static void agentsComeBack() {
+        try (Storage storage = open(); Storage other = open()) {
+            Agent agent = storage.agent(0);
+            try (agent) {
+                put(agent, 1);
+                refusedAt(FolugbenException.MISSING, 1, " (move 1)", storage::closeJournal);
+            }
+            agent.close();
+            equal(Storage.check(storage.closeJournal()), new Storage.Checked(1, 1));
+            Agent late = storage.agent(1);
+            put(late, 2);
+            refused(FolugbenException.OTHER, () -> other.give(late));
+            refused(FolugbenException.OTHER, () -> other.agent(0).learn(late));
+            storage.close();
+            late.close();
+            refused(FolugbenException.EMPTY, () -> put(late, 3));
+        }
+    }
+
+    static void journalsAreWritten() throws IOException {
+        Path path = Files.createTempFile("run", ".journal");
+        try {
+            try (Storage storage = Storage.open(Map.of(COUNT, 0), 10, path); Agent agent = storage.agent(0)) {
+                put(agent, 1);
+            }
+            equal(Storage.check(Files.readString(path)).moves(), 1);
+            thrown(IllegalStateException.class, "no", () -> {
+                try (Storage storage = new Storage("[]", 10, path); Agent agent = storage.agent(0)) {
+                    put(agent, 1);
+                    put(agent, 2);
+                    throw new IllegalStateException("no");
+                }
+            });
+            equal(Storage.check(Files.readString(path)).moves(), 2);
+            refused(FolugbenException.MISSING, () -> {
+                try (Storage storage = new Storage("[]", 10, path); Agent agent = storage.agent(0)) {
+                    put(agent, 1);
+                    agent.abandon();
+                }
+            });
+            Path nowhere = path.resolve("nowhere");
+            try (Storage storage = new Storage("[]", 10, nowhere)) {
+                storage.moves();
+            } catch (UncheckedIOException fault) {
+                return;
+            }
+            throw new IllegalStateException("a journal was written nowhere");
+        } finally {
+            Files.delete(path);
+        }
+    }
+
+    static void numbersAreToldByTheirRange() {
+        int range = FolugbenException.RANGE;
+        refusedAt(range, 0, ": a capacity is 1 to 1,048,576, not 0", () -> new Storage("[]", 0));
+        try (Storage storage = open()) {
+            refusedAt(range, 0, ": agent 256: numbers are 0 to 255", () -> storage.agent(256));
+            refusedAt(range, 0, ": agent -1: numbers are 0 to 255", () -> storage.agent(-1));
+            refusedAt(range, 0, ": a capacity is 1 to 1,048,576, not 1048577", () -> storage.next(1_048_577));
+        }
+    }
+
+    static void all() {
+        try {
+            plays();
+            fires();
+            agentsComeBack();
+            journalsAreWritten();
+            numbersAreToldByTheirRange();
+        } catch (IOException fault) {
+            throw new UncheckedIOException(fault);
+        }
+        System.out.println("scopes");
+    }
+}
