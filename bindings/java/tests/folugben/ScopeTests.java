@@ -78,7 +78,8 @@ final class ScopeTests {
     }
 
     static void agentsComeBack() {
-        try (Storage storage = open(); Storage other = open()) {
+        Storage storage = open();
+        try (Storage other = open()) {
             Agent agent = storage.agent(0);
             try (agent) {
                 put(agent, 1);
