@@ -1,17 +1,17 @@
 -- Counts that are moved towards those of another bag, and groups that are judged by the counts of what they name.
 use Rattle.std.proofs.Common.{◌≡◌, ℕ, zero, suc, ◌+◌, ◌-◌, ◌<◌, ◌≤◌, ◌^◌, Bool, true, false, cond, ◌||◌, List, [], ◌∷◌, length, take}
 use Rattle.std.proofs.Common.{refl, sym, ap, subst, ◌∙◌, arith}
-use Rattle.std.specs.Prelude.{Option, Some, Ok, Err, unwrap_or, All}
+use Rattle.std.specs.Prelude.{Option, Some, Ok, Err, unwrap_or, nat_lt, All}
 use Rattle.std.specs.List.{list_any}
 use Rattle.std.specs.FinMap as finite
 use Rattle.std.specs.Ordering.{eq_by_cmp}
 use Rattle.std.proofs.lemmas.List.{take_all}
-use Rattle.std.proofs.lemmas.Bool.{lt-ltb}
-use Rattle.asm_element.proofs.BagTree.{count-set_count}
+use Rattle.std.proofs.lemmas.Bool.{lt-ltb, ltb-true, ltb-false}
+use Rattle.asm_element.proofs.BagTree.{count-set_count, raised_to-below, raised_to-kept, lowered_to-above, lowered_to-kept}
 use Rattle.asm_element.specs.Element.{element_cmp}
 use Rattle.asm_element.specs.declared.element.Element.{Element}
 use Rattle.asm_element.specs.declared.value.Value.TheVariants as values
-use Rattle.asm_element.specs.Bag.{ElementBag, empty, count, counts, set_count, IsCount}
+use Rattle.asm_element.specs.Bag.{ElementBag, empty, count, counts, set_count, raised_to, lowered_to, IsCount}
 use Rattle.asm_update.specs.Aggregator.{IsOutcome}
 use Rattle.asm_update.specs.declared.action.Action.{Action}
 use Rattle.asm_update.specs.declared.clash.Cause.TheVariants.{Short, Large}
@@ -60,30 +60,36 @@ kept_at true n m h = h refl
 kept_at false n m h = refl
 
 -- nothing is to be done there
-pub moved_by_none : (move : ℕ → ℕ → ℕ) (b to : ElementBag) (x : Element) → count b x ≡ move (count b x) (count to x) →
+moved_by_none : (move : ℕ → ℕ → ℕ) (b to : ElementBag) (x : Element) → count b x ≡ move (count b x) (count to x) →
     (o : Option Element) → o ≡ Some x → IsMoved move (λ e. is_the e o) b to b
 moved_by_none move b to x is o some = at_one b to b move x
     (λ e. kept_at (eq_by_cmp element_cmp e x) (count b e) (move (count b x) (count to x))
     (λ h. ap (count b) (same_element e x h) ∙ is)) o some
 
-pub raised_by : (b to new : ElementBag) (x y : Element) (k : ℕ) → y ≡ x → k ≡ count to x - count b x →
-    new ≡ set_count b y (count b y + k) → (o : Option Element) → o ≡ Some x →
-    IsMoved raised (λ e. is_the e o) b to new
-raised_by b to new x y k copied is put o some =
-    moved_to b to new raised x (count b x + k) (ap (λ m. count b x + m) is)
-    (put ∙ ap (λ z. set_count b z (count b z + k)) copied) o some
+-- a count that is brought up, and one that is brought down
+pub raised_by : (b to new : ElementBag) (x : Element) (n : ℕ) → n ≡ count to x → new ≡ raised_to b x n →
+    (o : Option Element) → o ≡ Some x → IsMoved raised (λ e. is_the e o) b to new
+raised_by b to new x n is put o some = by (nat_lt (count b x) n) refl where
+  by : (t : Bool) → nat_lt (count b x) n ≡ t → IsMoved raised (λ e. is_the e o) b to new
+  by true h =
+      let below = ltb-true (count b x) n h in
+      moved_to b to new raised x n (omega (arith, is, below)) (put ∙ raised_to-below b x n below) o some
+  by false h =
+      let kept = ltb-false (count b x) n h in
+      subst (IsMoved raised (λ e. is_the e o) b to) (sym (put ∙ raised_to-kept b x n kept))
+      (moved_by_none raised b to x (omega (arith, is, kept)) o some)
 
-pub lowered_by : (b to new : ElementBag) (x : Element) (k : ℕ) → k ≡ count b x - count to x →
-    new ≡ set_count b x (count b x - k) → (o : Option Element) → o ≡ Some x →
-    IsMoved lowered (λ e. is_the e o) b to new
-lowered_by b to new x k is took o some =
-    moved_to b to new lowered x (count b x - k) (ap (λ m. count b x - m) is) took o some
-
-pub raised_there : (n to k : ℕ) → k ≡ to - n → k ≤ 0 → n ≡ raised n to
-raised_there n to k is none = omega (arith, is, none)
-
-pub lowered_there : (n to k : ℕ) → k ≡ n - to → k ≤ 0 → n ≡ lowered n to
-lowered_there n to k is none = omega (arith, is, none)
+pub lowered_by : (b to new : ElementBag) (x : Element) (n : ℕ) → n ≡ count to x → new ≡ lowered_to b x n →
+    (o : Option Element) → o ≡ Some x → IsMoved lowered (λ e. is_the e o) b to new
+lowered_by b to new x n is took o some = by (nat_lt n (count b x)) refl where
+  by : (t : Bool) → nat_lt n (count b x) ≡ t → IsMoved lowered (λ e. is_the e o) b to new
+  by true h =
+      let above = ltb-true n (count b x) h in
+      moved_to b to new lowered x n (omega (arith, is, above)) (took ∙ lowered_to-above b x n above) o some
+  by false h =
+      let kept = ltb-false n (count b x) h in
+      subst (IsMoved lowered (λ e. is_the e o) b to) (sym (took ∙ lowered_to-kept b x n kept))
+      (moved_by_none lowered b to x (omega (arith, is, kept)) o some)
 
 -- the elements of several actions
 pub moved_none : (move : ℕ → ℕ → ℕ) (b to : ElementBag) → IsMoved move (names_in []) b to b

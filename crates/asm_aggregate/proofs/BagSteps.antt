@@ -1,6 +1,6 @@
 -- Bags, sums of amounts and lists of actions, one step of a loop at a time.
 use Rattle.std.proofs.Common.{◌≡◌, ℕ, ◌+◌, ◌-◌, ◌*◌, ◌<◌, ◌≤◌, ◌^◌, Bool, true, false, cond, ◌||◌, List, [], ◌∷◌, ◌++◌}
-use Rattle.std.proofs.Common.{map, length, take, refl, sym, ap, subst, ◌∙◌, arith, nat_lt, append_assoc}
+use Rattle.std.proofs.Common.{map, length, take, refl, sym, ap, subst, ◌∙◌, inl, inr, arith, nat_lt, append_assoc}
 use Rattle.std.proofs.Common.{add-zero}
 use Rattle.std.specs.Prelude.{sum_by, Ok, Err}
 use Rattle.std.specs.List.{list_any}
@@ -8,7 +8,7 @@ use Rattle.std.specs.Ordering.{eq_by_cmp}
 use Rattle.std.proofs.lemmas.List.{take_all}
 use Rattle.std.proofs.lemmas.List.Folds.{list_any-append}
 use Rattle.std.proofs.lemmas.List.Sums.{sum_by_more, sum_by-take-le}
-use Rattle.std.proofs.lemmas.Bool.{lt-ltb}
+use Rattle.std.proofs.lemmas.Bool.{lt-ltb, cases_lt, false≢true}
 use Rattle.asm_element.proofs.BagTree.{count-set_count}
 use Rattle.asm_element.specs.Element.{element_cmp, element_cmp_total}
 use Rattle.asm_element.specs.declared.element.Element.{Element}
@@ -51,18 +51,25 @@ amount_at Removed a x n k is got e = ap (amount Removed e) is ∙ ap (λ m. cond
 amount_here : (side : Side) (a : Action) (x : Element) (n k : ℕ) → a ≡ bag_action side x n → k ≡ n → amount side x a ≡ k
 amount_here side a x n k is got = amount_at side a x n k is got x ∙ ap (λ t. cond t k 0) (itself element_cmp_total x)
 
-pub short_here : (b : ElementBag) (a : Action) (x : Element) (n m k : ℕ) →
-    a ≡ bag_action Removed x n → m ≡ count b x → k ≡ n → m < k → (e : Element) × (count b e < amount Removed e a)
-short_here b a x n m k is counted got less =
+-- what isn't there as often, and what doesn't fit
+pub short_here : (b : ElementBag) (a : Action) (x : Element) (n k : ℕ) →
+    a ≡ bag_action Removed x n → k ≡ n → (k ≤ count b x → false ≡ true) → (e : Element) × (count b e < amount Removed e a)
+short_here b a x n k is got fewer =
     let r = amount_here Removed a x n k is got in
-    (x, omega (arith, r, counted, less))
+    elim (cases_lt (count b x) k) [
+      | inl less ↦ (x, omega (arith, r, less))
+      | inr enough ↦ absurd (false≢true (fewer enough))
+    ]
 
-pub large_here : (b : ElementBag) (a : Action) (x : Element) (n m k : ℕ) →
-    a ≡ bag_action Added x n → m ≡ count b x → k ≡ n → 4294967295 - m < k →
+pub large_here : (b : ElementBag) (a : Action) (x : Element) (n k : ℕ) →
+    a ≡ bag_action Added x n → k ≡ n → (count b x + k < 2 ^ 32 → false ≡ true) →
     (e : Element) × (4294967295 < count b e + amount Added e a)
-large_here b a x n m k is counted got more =
+large_here b a x n k is got more =
     let r = amount_here Added a x n k is got in
-    (x, omega (arith, r, counted, more))
+    elim (cases_lt (count b x + k) (2 ^ 32)) [
+      | inl fits ↦ absurd (false≢true (more fits))
+      | inr above ↦ (x, omega (arith, r, above))
+    ]
 
 taken : (c : Bool) (m n q : ℕ) → n ≤ m → (c ≡ true → q ≡ m) → cond c (m - n) q + cond c n 0 ≡ q
 taken true m n q enough same = let e = same refl in omega (arith, e)
@@ -79,14 +86,13 @@ take_counts b new a x n k is got enough out e =
     (λ i. (ap (λ c. count c e) out ∙ count-set_count b x (count b x - k) e) i + amount_at Removed a x n k is got e i)
     ∙ taken (eq_by_cmp element_cmp e x) (count b x) k (count b e) enough (λ same. ap (count b) (same_element e x same))
 
-pub put_counts : (b new : ElementBag) (a : Action) (x y : Element) (n k : ℕ) →
-    a ≡ bag_action Added x n → y ≡ x → k ≡ n → new ≡ set_count b y (count b y + k) →
+pub put_counts : (b new : ElementBag) (a : Action) (x : Element) (n k : ℕ) →
+    a ≡ bag_action Added x n → k ≡ n → new ≡ set_count b x (count b x + k) →
     IsMoreBy (count b) (count new) (λ e. amount Added e a)
-put_counts b new a x y n k is copied got come e =
+put_counts b new a x n k is got come e =
     ap (λ m. count b e + m) (amount_at Added a x n k is got e)
     ∙ put (eq_by_cmp element_cmp e x) (count b x) k (count b e) (λ same. ap (count b) (same_element e x same))
-    ∙ sym (ap (λ c. count c e) (come ∙ ap (λ z. set_count b z (count b z + k)) copied)
-    ∙ count-set_count b x (count b x + k) e)
+    ∙ sym (ap (λ c. count c e) come ∙ count-set_count b x (count b x + k) e)
 
 -- one bag has of each element this much more than another, by one side of a list of actions
 pub record IsChanged (side : Side) (less : ElementBag) (xs : List Action) (more : ElementBag) : Type 0 where

@@ -14,7 +14,8 @@ use Rattle.asm_element.specs.Set.{ElementSet, empty, contains, insert, remove, e
 use Rattle.asm_element.specs.Tests.{or_false, or_true, and_true, or_comm, or_assoc}
 use Rattle.std.proofs.lemmas.Bool.{false≢true}
 use Rattle.asm_update.specs.declared.action.Action.{Action}
-use Rattle.asm_aggregate.specs.Sets.{union, difference, meets, is_the, with_element, elements_by}
+use Rattle.asm_aggregate.specs.Sets.{union, difference, meets, is_the, with_element, elements_by, is_among, IsSameBesides}
+use Rattle.std.specs.Borrow.{Bor}
 use Rattle.asm_aggregate.specs.laws.SetAlgebra.{contains-elements, contains-union}
 use Rattle.asm_aggregate.specs.laws.SetAlgebra.{contains-empty, contains-difference, contains-with_element}
 use Rattle.asm_aggregate.specs.laws.SetAlgebra.{contains-elements_by, apart, not_meeting, same_element}
@@ -127,124 +128,88 @@ with_all s t more left all none start had = same_set _ _ (λ e.
     ∙ ap (λ b. contains t e || b) (ap (list_any (eq_by_cmp element_cmp e)) start ∙ sym (contains-elements more e))
     ∙ sym (contains-union t more e))
 
--- what the first set had stays
-pub grown_more : (s n : ElementSet) (x e : Element) → n ≡ insert s x → contains s e ≡ true → contains n e ≡ true
-grown_more s n x e new had =
-    ap (λ u. contains u e) new ∙ contains-insert s x e ∙ ap (λ b. eq_by_cmp element_cmp e x || b) had
-    ∙ or_true (eq_by_cmp element_cmp e x)
-
-kept : (s o m l : Bool) → (s || l) ≡ (o || m) → (o ≡ true → s ≡ true) → (s && not m) ≡ (o && not m)
-kept true true m l h g = refl
-kept false false m l h g = refl
-kept true false true l h g = refl
-kept true false false l h g = absurd (false≢true (sym h))
-kept false true m l h g = absurd (false≢true (g refl))
-
--- while elements of a set go in, what isn't one of them stays as it was
-pub outside : (s t more : ElementSet) (left all : List Element) → all ≡ elements more → AlikeWith s left t all →
-    ((e : Element) → contains t e ≡ true → contains s e ≡ true) → difference s more ≡ difference t more
-outside s t more left all start had grown = same_set _ _ (λ e.
-    contains-difference s more e
-    ∙ kept (contains s e) (contains t e) (contains more e) (list_any (eq_by_cmp element_cmp e) left)
-    (had.same e
-    ∙ ap (λ b. contains t e || b)
-    (ap (list_any (eq_by_cmp element_cmp e)) start ∙ sym (contains-elements more e)))
-    (grown e)
-    ∙ sym (contains-difference t more e))
-
-untouched : (o g : Bool) → (g && o) ≡ false → (o && not g) ≡ o
-untouched true true h = absurd (false≢true (sym h))
-untouched true false h = refl
-untouched false g h = refl
-
--- what has nothing in common with a set is the same without it
-pub without_apart : (s gone : ElementSet) → meets gone s ≡ false → difference s gone ≡ s
-without_apart s gone h = same_set _ _ (λ e.
-    contains-difference s gone e ∙ untouched (contains s e) (contains gone e) (apart gone s h e))
-
-both_orders : (o a r : Bool) → (a && r) ≡ false → ((o || (a && not o)) && not r) ≡ ((o && not r) || a)
+both_orders : (o a r : Bool) → (a && r) ≡ false → ((o || a) && not r) ≡ ((o && not r) || a)
 both_orders true true true h = absurd (false≢true (sym h))
-both_orders true true false h = refl
-both_orders true false true h = refl
-both_orders true false false h = refl
 both_orders false true true h = absurd (false≢true (sym h))
+both_orders true true false h = refl
 both_orders false true false h = refl
-both_orders false false r h = refl
+both_orders o false r h = ap (λ b. b && not r) (or_false o) ∙ sym (or_false (o && not r))
 
 -- the additions first and then the removals, where nothing is both
 pub additions_first : (s added removed : ElementSet) → meets added removed ≡ false →
-    difference (union s (difference added s)) removed ≡ union (difference s removed) added
+    difference (union s added) removed ≡ union (difference s removed) added
 additions_first s added removed h = same_set _ _ (λ e.
-    contains-difference (union s (difference added s)) removed e
-    ∙ ap (λ b. b && not (contains removed e))
-    (contains-union s (difference added s) e ∙ ap (λ b. contains s e || b) (contains-difference added s e))
+    contains-difference (union s added) removed e ∙ ap (λ b. b && not (contains removed e)) (contains-union s added e)
     ∙ both_orders (contains s e) (contains added e) (contains removed e) (apart added removed h e)
     ∙ ap (λ b. b || contains added e) (sym (contains-difference s removed e))
     ∙ sym (contains-union (difference s removed) added e))
 
-never_both : (a o : Bool) → ((a && not o) && o) ≡ false
-never_both true true = refl
-never_both true false = refl
-never_both false o = refl
+-- an element that is put into a set: where it was there nothing is noted, and where it is new it is noted or taken out
+module _ (s n : ElementSet) (xs : List (Bor Element)) (x : Bor Element) (y : Element) (is : y ≡ x.now) (put : n ≡ insert s y) where
+  has : (e : Element) → contains n e ≡ (eq_by_cmp element_cmp e x.now || contains s e)
+  has e = ap (λ u. contains u e) put ∙ contains-insert s y e ∙ ap (λ z. eq_by_cmp element_cmp e z || contains s e) is
 
--- what is left of a set without another has nothing in common with that one
-pub rest_apart : (s t : ElementSet) → meets (difference s t) t ≡ false
-rest_apart s t = not_meeting (difference s t) t (λ e.
-    ap (λ b. b && contains t e) (contains-difference s t e) ∙ never_both (contains s e) (contains t e))
+  had : (b : Bool) → contains s y ≡ b → (e : Element) → eq_by_cmp element_cmp e x.now ≡ true → contains s e ≡ b
+  had b h e same = ap (contains s) (same_element e x.now same ∙ sym is) ∙ h
 
--- a set into which those of the elements are still to go that the other one doesn't have
-pub record AlikeRest (s : ElementSet) (left : List Element) (other : ElementSet) (all : List Element) : Type 0 where
-  pub same : (e : Element) → (contains s e || (list_any (eq_by_cmp element_cmp e) left && not (contains other e)))
-      ≡ (list_any (eq_by_cmp element_cmp e) all && not (contains other e))
+  again : (b o f : Bool) → (b ≡ true → o ≡ true) → (o && not f) ≡ ((b || o) && not f)
+  again true o f h = ap (λ c. c && not f) (h refl)
+  again false o f h = refl
 
-pub rest_start : (s other : ElementSet) (all : List Element) → s ≡ empty → AlikeRest s all other all
-rest_start s other all is = record {
+  pub put_again : contains s y ≡ true → IsSameBesides s xs n xs
+  put_again there = record {
+    same = λ e.
+        again (eq_by_cmp element_cmp e x.now) (contains s e) (is_among xs e) (had true there e)
+        ∙ ap (λ b. b && not (is_among xs e)) (sym (has e));
+  }
+
+  first : (b o f : Bool) → (b ≡ true → o ≡ false) → (o && not f) ≡ ((b || o) && not (f || b))
+  first true o true h = ap (λ c. c && false) (h refl)
+  first true o false h = ap (λ c. c && true) (h refl)
+  first false o f h = ap (λ c. o && not c) (sym (or_false f))
+
+  pub put_first : (ys : List (Bor Element)) → contains s y ≡ false → ys ≡ xs ++ x ∷ [] → IsSameBesides s xs n ys
+  put_first ys absent noted = record {
+    same = λ e.
+        let test = λ (r : Bor Element). eq_by_cmp element_cmp e r.now in
+        let more = ap (list_any test) noted ∙ list_any-append test xs (x ∷ []) ∙ ap (λ b. is_among xs e || b) (or_false (test x)) in
+        first (eq_by_cmp element_cmp e x.now) (contains s e) (is_among xs e) (had false absent e)
+        ∙ (λ i. sym (has e) i && not (sym more i));
+  }
+
+  out : (b o : Bool) → (b ≡ true → o ≡ false) → o ≡ (not b && (b || o))
+  out true o h = h refl
+  out false o h = refl
+
+  pub put_taken : (m : ElementSet) (ys : List (Bor Element)) → contains s y ≡ false → m ≡ remove n x.now → ys ≡ xs → IsSameBesides s xs m ys
+  put_taken m ys absent taken noted = record {
+    same = λ e.
+        let left =
+        out (eq_by_cmp element_cmp e x.now) (contains s e) (had false absent e)
+        ∙ ap (λ b. not (eq_by_cmp element_cmp e x.now) && b) (sym (has e))
+        ∙ sym (ap (λ u. contains u e) taken ∙ contains-remove n x.now e) in
+        (λ i. left i && not (is_among (sym noted i) e));
+  }
+
+pub besides_same : (s : ElementSet) (xs : List (Bor Element)) → IsSameBesides s xs s xs
+besides_same s xs = record { same = λ e. refl }
+
+pub besides_then : (s t u : ElementSet) (xs ys zs : List (Bor Element)) → IsSameBesides s xs t ys → IsSameBesides t ys u zs →
+    IsSameBesides s xs u zs
+besides_then s t u xs ys zs one two = record { same = λ e. one.same e ∙ two.same e }
+
+pub besides_taken : (s n : ElementSet) (left rest : List (Bor Element)) (x : Bor Element) → left ≡ x ∷ rest →
+    n ≡ remove s x.now → IsSameBesides s left n rest
+besides_taken s n left rest x is taken = record {
   same = λ e.
-      ap (λ u. contains u e || (list_any (eq_by_cmp element_cmp e) all && not (contains other e))) is
-      ∙ ap (λ b. b || (list_any (eq_by_cmp element_cmp e) all && not (contains other e))) (contains-empty e);
+      ap (λ l. contains s e && not (is_among l e)) is
+      ∙ sym (one_gone (eq_by_cmp element_cmp e x.now) (contains s e) (is_among rest e))
+      ∙ ap (λ b. b && not (is_among rest e)) (sym (ap (λ u. contains u e) taken ∙ contains-remove s x.now e));
 }
 
-came : (b s l n : Bool) → (b ≡ true → n ≡ true) → ((b || s) || (l && n)) ≡ (s || ((b || l) && n))
-came true s l n h = sym (ap (λ x. s || x) (h refl) ∙ or_true s)
-came false s l n h = refl
-
-stayed_out : (b s l n : Bool) → (b ≡ true → n ≡ false) → (s || (l && n)) ≡ (s || ((b || l) && n))
-stayed_out true s true n h = refl
-stayed_out true s false n h = ap (λ x. s || x) (sym (h refl))
-stayed_out false s l n h = refl
-
-pub rest_step : (s n other : ElementSet) (left rest all : List Element) (x : Element) → left ≡ x ∷ rest →
-    n ≡ with_element s (if contains other x then None else Some x) → AlikeRest s left other all →
-    AlikeRest n rest other all
-rest_step s n other left rest all x is new had = record {
-  same = λ e.
-      ap (λ u. contains u e || (list_any (eq_by_cmp element_cmp e) rest && not (contains other e))) new
-      ∙ at e (contains other x) refl
-      ∙ ap (λ l. contains s e || (list_any (eq_by_cmp element_cmp e) l && not (contains other e))) (sym is) ∙ had.same e;
-} where
-  others : (e : Element) → eq_by_cmp element_cmp e x ≡ true → contains other e ≡ contains other x
-  others e h = ap (contains other) (same_element e x h)
-
-  at : (e : Element) (b : Bool) → contains other x ≡ b →
-      (contains (with_element s (if b then None else Some x)) e
-      || (list_any (eq_by_cmp element_cmp e) rest && not (contains other e)))
-      ≡ (contains s e || (list_any (eq_by_cmp element_cmp e) (x ∷ rest) && not (contains other e)))
-  at e true i =
-      stayed_out (eq_by_cmp element_cmp e x) (contains s e) (list_any (eq_by_cmp element_cmp e) rest)
-      (not (contains other e)) (λ h. ap not (others e h ∙ i))
-  at e false i =
-      ap (λ b. b || (list_any (eq_by_cmp element_cmp e) rest && not (contains other e))) (contains-insert s x e)
-      ∙ came (eq_by_cmp element_cmp e x) (contains s e) (list_any (eq_by_cmp element_cmp e) rest)
-      (not (contains other e)) (λ h. ap not (others e h ∙ i))
-
-pub rest_end : (s t other : ElementSet) (left all : List Element) → left ≡ [] → all ≡ elements t →
-    AlikeRest s left other all → s ≡ difference t other
-rest_end s t other left all none start had = same_set _ _ (λ e.
-    sym (ap (λ l. contains s e || (list_any (eq_by_cmp element_cmp e) l && not (contains other e))) none
-    ∙ or_false (contains s e))
-    ∙ had.same e
-    ∙ ap (λ b. b && not (contains other e)) (ap (list_any (eq_by_cmp element_cmp e)) start ∙ sym (contains-elements t e))
-    ∙ sym (contains-difference t other e))
+pub besides_none : (s t : ElementSet) → IsSameBesides s [] t [] → t ≡ s
+besides_none s t same = same_set _ _ (λ e.
+    sym (and_true (contains t e)) ∙ sym (same.same e) ∙ and_true (contains s e))
 
 -- actions made of elements, one more
 pub pushed_more : (f : Element → Action) (items new all : List Action) (left rest : List Element) (x : Element) →

@@ -1,5 +1,6 @@
 -- Sets of elements that are made of two sets, or of what actions name.
-use Rattle.std.specs.Prelude.{Bool, false, not, List, [], ◌∷◌, Option, None, Some}
+use Rattle.std.specs.Borrow.{Bor}
+use Rattle.std.specs.Prelude.{◌≡◌, Bool, false, not, ◌&&◌, List, [], ◌∷◌, Option, None, Some}
 use Rattle.std.specs.List.{list_any, list_all}
 use Rattle.std.specs.Ordering.{eq_by_cmp}
 use Rattle.std.specs.FinMap as map
@@ -38,6 +39,14 @@ is_the e (Some x) = eq_by_cmp element_cmp e x
 abbrev pub with_element : ElementSet → Option Element → ElementSet
 with_element s None = s
 with_element s (Some e) = insert s e
+
+-- whether one of the elements that are referred to is this one
+abbrev pub is_among : List (Bor Element) → Element → Bool
+is_among refs e = list_any (λ r. eq_by_cmp element_cmp e r.now) refs
+
+-- besides the elements that are noted of each, two sets have the same
+pub record IsSameBesides (s : ElementSet) (of_s : List (Bor Element)) (t : ElementSet) (of_t : List (Bor Element)) : Type 0 where
+  pub same : (e : Element) → (contains s e && not (is_among of_s e)) ≡ (contains t e && not (is_among of_t e))
 
 -- the set of the elements that actions have, where the function says which element an action has
 abbrev pub elements_by : (Action → Option Element) → List Action → ElementSet

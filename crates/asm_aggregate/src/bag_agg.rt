@@ -56,11 +56,9 @@ fn take_removed(bag: &mut ElemBag, action: &Action) -> Result<(), ResultError>
 {
     match action {
         Action::BagRemove(element, amount) => {
-            let n = amount.get();
-            if bag.count(element) < n {
+            if !bag.checked_take(element, amount.get()) {
                 return Err(ResultError::Cause(Cause::Short));
             }
-            bag.take(element, n);
         }
         Action::Regular(_)
         | Action::SetAdd(_)
@@ -77,11 +75,9 @@ fn put_added(alloc: Global, bag: &mut ElemBag, action: &Action) -> Result<(), Re
 {
     match action {
         Action::BagAdd(element, amount) => {
-            let n = amount.get();
-            if n > u32::MAX - bag.count(element) {
+            if !bag.checked_put(alloc, element, amount.get())? {
                 return Err(ResultError::Cause(Cause::Large));
             }
-            bag.put(element.copy(alloc)?, n)?;
         }
         Action::Regular(_)
         | Action::SetAdd(_)

@@ -45,10 +45,7 @@ fn raise_one(
     ensures err { OnErr result (elements.new ≡ elements.old) }
 {
     if let Some(element) = element {
-        let more = to.count(element).saturating_sub(elements.count(element));
-        if more > 0 {
-            elements.put(element.copy(alloc)?, more)?;
-        }
+        elements.raise_to(alloc, element, to.count(element))?;
     }
     Ok(())
 }
@@ -57,10 +54,7 @@ fn lower_one(elements: &mut ElemBag, to: &ElemBag, element: Option<&Element>)
     ensures { IsMoved lowered (λ e. is_the e (option_copied element.entry)) elements.old to.now elements.new }
 {
     if let Some(element) = element {
-        let more = elements.count(element).saturating_sub(to.count(element));
-        if more > 0 {
-            elements.take(element, more);
-        }
+        elements.lower_to(element, to.count(element));
     }
 }
 

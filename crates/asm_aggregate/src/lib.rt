@@ -22,7 +22,7 @@ pub use aggregation::{aggregate, results};
 pub use bag_agg::BagAgg;
 pub use composition::{ComposeError, compose};
 pub use count_agg::CountAgg;
-pub use pair::{Pair, standard};
+pub use pair::{Pair, Standard, standard};
 pub use puts::only_put;
 pub use result_list::Results;
 pub use set_agg::SetAgg;

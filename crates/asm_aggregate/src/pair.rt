@@ -141,9 +141,12 @@ impl<A: Aggregator, B: Aggregator> Aggregator for Pair<A, B> {
     }
 }
 
+/// The type of `standard()`.
+pub type Standard = Pair<Pair<SetAgg, BagAgg>, CountAgg>;
+
 /// The aggregator of sets, bags and counters.
-pub fn standard() -> Pair<Pair<SetAgg, BagAgg>, CountAgg>
-    ensures { ⟦<Pair<Pair<SetAgg, BagAgg>, CountAgg> as Aggregator>⟧.meaning result
+pub fn standard() -> Standard
+    ensures { ⟦<Standard as Aggregator>⟧.meaning result
         ≡ pair_meaning (pair_meaning set_meaning bag_meaning) count_meaning }
 {
     Pair::new(Pair::new(SetAgg, BagAgg), CountAgg)

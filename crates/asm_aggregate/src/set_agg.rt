@@ -1,5 +1,5 @@
-ghost use Rattle.std.specs.Prelude.{◌≡◌, ◌++◌, ◌∷◌, [], ◌||◌, not, if◌then◌else◌, unwrap_or, true, false};
-ghost use Rattle.std.specs.Prelude.{Some, None, Ok, Err, IfOk, IfErr, OnOk, OnErr, IfSome, IfNone};
+ghost use Rattle.std.specs.Prelude.{◌≡◌, ◌++◌, ◌∷◌, [], ◌||◌, not, unwrap_or, true, false};
+ghost use Rattle.std.specs.Prelude.{Ok, Err, IfOk, IfErr, OnOk, OnErr, IfSome, IfNone};
 ghost use Rattle.std.specs.List.{list_all};
 ghost use Rattle.std.specs.Option.{option_copied};
 ghost use Rattle.asm_element.specs.Set as set;
@@ -10,7 +10,7 @@ ghost use Rattle.asm_update.specs.Aggregator.{Refused, IsOutcome, IsJoined};
 ghost use Rattle.asm_update.specs.declared.action.Family.TheVariants as family;
 ghost use Rattle.asm_update.specs.declared.clash.Cause.TheVariants.{Mixed, Both, Against};
 ghost use Rattle.asm_aggregate.specs.Families.{is_kind};
-ghost use Rattle.asm_aggregate.specs.Sets.{union, difference, meets, is_subset};
+ghost use Rattle.asm_aggregate.specs.Sets.{union, difference, meets, is_subset, IsSameBesides};
 ghost use Rattle.asm_aggregate.specs.SetMeaning.{set_meaning, element_on, elements_on, adds_and_removes};
 ghost use Rattle.asm_aggregate.specs.SetMeaning.{set_action, set_side, set_result, members, updated as set_update};
 ghost use Rattle.asm_aggregate.specs.Table.{first_cause};
@@ -99,7 +99,9 @@ fn without(mut set: ElemSet, gone: &ElemSet) -> ElemSet
 fn with(alloc: Global, mut set: ElemSet, more: &ElemSet) -> Result<ElemSet, AllocError>
     ensures { IfOk result (λ s. s ≡ union set more.now) }
 {
-    put_all(alloc, &mut set, more)?;
+    for element in more.iter() {
+        set.insert(element.copy(alloc)?)?;
+    }
     Ok(set)
 }
 
@@ -127,28 +129,6 @@ fn push_side(
     Ok(())
 }
 
-/// The element, unless the set has it.
-fn unless_in<'a>(element: &'a Element, other: &ElemSet) -> Option<&'a Element>
-    ensures { option_copied result ≡ if set.contains other.now element.now then None else Some element.now }
-{
-    if other.contains(element) {
-        None
-    } else {
-        Some(element)
-    }
-}
-
-/// The elements of the first set that the second doesn't have.
-fn rest_of(alloc: Global, set: &ElemSet, other: &ElemSet) -> Result<ElemSet, AllocError>
-    ensures { IfOk result (λ s. s ≡ difference set.now other.now) }
-{
-    let mut rest = ElemSet::new(alloc);
-    for element in set.iter() {
-        note(alloc, &mut rest, unless_in(element, other))?;
-    }
-    Ok(rest)
-}
-
 /// Takes the elements out of the set, for which no memory is needed.
 fn take_all(set: &mut ElemSet, gone: &ElemSet)
     ensures { set.new ≡ difference set.old gone.now }
@@ -158,29 +138,49 @@ fn take_all(set: &mut ElemSet, gone: &ElemSet)
     }
 }
 
-/// Puts the elements into the set. After an error some of them are in it.
-fn put_all(alloc: Global, set: &mut ElemSet, more: &ElemSet) -> Result<(), AllocError>
-    ensures ok { OnOk result (set.new ≡ union set.old more.now) }
-    ensures err { OnErr result (difference set.new more.now ≡ difference set.old more.now) }
+/// Puts the element into the set, and notes it where it is new there. What the set has besides those that are noted
+/// stays, also after an error.
+fn put_noting<'a>(
+    alloc: Global,
+    elements: &mut ElemSet,
+    fresh: &mut Vec<&'a Element>,
+    element: &'a Element,
+) -> Result<(), AllocError>
+    ensures ok { OnOk result (elements.new ≡ set.insert elements.old element.now) }
+    ensures besides { IsSameBesides elements.old fresh.old.items elements.new fresh.new.items }
 {
-    for element in more.iter() {
-        set.insert(element.copy(alloc)?)?;
+    if !elements.insert(element.copy(alloc)?)? {
+        return Ok(());
+    }
+    if fresh.push(element).is_err() {
+        elements.remove(element);
+        return Err(AllocError);
     }
     Ok(())
 }
 
-/// Puts elements that the set doesn't have into it. After an error it is as it was.
-fn put_new(alloc: Global, set: &mut ElemSet, fresh: &ElemSet) -> Result<(), AllocError>
-    requires { meets fresh.now set.old ≡ false }
-    ensures ok { OnOk result (set.new ≡ union set.old fresh.now) }
-    ensures err { OnErr result (set.new ≡ set.old) }
+/// Puts the elements into the set, and notes those that are new there, also of those that are in it after an error.
+fn put_all<'a>(
+    alloc: Global,
+    elements: &mut ElemSet,
+    fresh: &mut Vec<&'a Element>,
+    more: &'a ElemSet,
+) -> Result<(), AllocError>
+    ensures ok { OnOk result (elements.new ≡ union elements.old more.now) }
+    ensures besides { IsSameBesides elements.old fresh.old.items elements.new fresh.new.items }
 {
-    match put_all(alloc, set, fresh) {
-        Ok(()) => Ok(()),
-        Err(error) => {
-            take_all(set, fresh);
-            Err(error)
-        }
+    for element in more.iter() {
+        put_noting(alloc, elements, fresh, element)?;
+    }
+    Ok(())
+}
+
+/// Takes out again what was noted, for which no memory is needed.
+fn take_back(elements: &mut ElemSet, noted: Vec<&Element>)
+    ensures { IsSameBesides elements.old noted.entry.items elements.new [] }
+{
+    for element in noted {
+        elements.remove(element);
     }
 }
 
@@ -190,10 +190,17 @@ fn change_set(alloc: Global, set: &mut ElemSet, sides: &Sides) -> Result<(), All
     ensures ok { OnOk result (set.new ≡ union (difference set.old sides.now.removed) sides.now.added) }
     ensures err { OnErr result (set.new ≡ set.old) }
 {
-    let fresh = rest_of(alloc, &sides.added, &*set)?;
-    put_new(alloc, set, &fresh)?;
-    take_all(set, &sides.removed);
-    Ok(())
+    let mut fresh = Vec::new(alloc);
+    match put_all(alloc, set, &mut fresh, &sides.added) {
+        Ok(()) => {
+            take_all(set, &sides.removed);
+            Ok(())
+        }
+        Err(error) => {
+            take_back(set, fresh);
+            Err(error)
+        }
+    }
 }
 
 /// The set without what is removed and with what is added.
