@@ -2,7 +2,6 @@ import folugben.Agent;
 import folugben.Location;
 import folugben.Move;
 import folugben.PreparedLocation;
-import folugben.Step;
 import folugben.Storage;
 import java.util.Map;
 
@@ -10,13 +9,11 @@ import java.util.Map;
 public final class Tellers {
     static void teller(Agent agent) {
         try (PreparedLocation at = Location.of("balance").prepare(); Move move = new Move()) {
-            for (int done = 0; done < 100;) {
-                try (Step step = agent.step()) {
+            for (int done = 0; done < 100; done++)
+                agent.play(step -> { // again, where the other was quicker
                     step.push(move.clear().put(at, step.getNumber(at) + 10));
-                    if (step.tryFire() != 0)
-                        done++; // else the other was quicker, so begin again
-                }
-            }
+                    return null;
+                });
         }
     }
 
@@ -30,7 +27,7 @@ public final class Tellers {
             other.join();
             anna.follow();
             Agent.Peeked left = anna.peek(at);
-            anna.give(); // before it is closed, or the journal lacks its moves
+            anna.give(); // as closing it does, but here the journal is wanted before
             ben.give();
             Storage.check(storage.closeJournal());
             System.out.println(left.number() + " moves, balance " + left.value().asLong());

@@ -3,14 +3,14 @@ from concurrent.futures import ThreadPoolExecutor
 from folugben import Storage, check
 
 
+def deposit(step):
+    (balance,) = step.get([["balance"]])
+    step.push([["put", ["balance"], balance + 10]])
+
+
 def teller(agent):
     for _ in range(100):
-        fired = 0
-        while not fired:                        # 0: the other was quicker, so begin again
-            with agent.step() as step:
-                (balance,) = step.get([["balance"]])
-                step.push([["put", ["balance"], balance + 10]])
-                fired = step.try_fire()
+        agent.play(deposit)                     # again, where the other was quicker
 
 
 with Storage([[["balance"], 0]], 1000) as storage:

@@ -143,7 +143,7 @@ class Interrupts(unittest.TestCase):
         slot, step = dropped[0]._slot, self.agent.step()
 
         def between(*arguments):
-            for call in (self.agent.answer, self.agent.give, self.agent.free, self.agent.__exit__, self.storage.free):
+            for call in (self.agent.answer, self.agent.give, self.agent.free, self.storage.free):
                 self.assertRaises(Nested, call)
             for call in (self.agent.step, self.agent.follow, self.agent.state, self.storage.next):
                 self.assertRaises(Nested, call)
@@ -156,13 +156,15 @@ class Interrupts(unittest.TestCase):
             # These would wait for a lock of this thread if another one were at the same call.
             self.assertRaises(Nested, other.learn, self.agent)
             self.assertRaises(Nested, self.storage.agent, 3)
-            # What is dropped needs no lock to be released.
+            # What is dropped is kept, as it may have receipts, for a call of its storage that comes.
             dropped.clear()
             return answer(*arguments)
 
         with mock.patch.object(_agent.lib, "asm_answer", between):
             self.assertEqual(self.agent.read([["own"]]), (0, [1]))
-        self.assertFalse(slot.full or dropped)
+        self.assertTrue(slot.full and not dropped)
+        self.storage.agent(4)
+        self.assertFalse(slot.full)
         self.assertEqual((step.get([["own"]]), step.depth), ([1], 0))
         self.assert_fit()
 

@@ -114,7 +114,7 @@ class Looks(unittest.TestCase):
                 call(*arguments)
             self.assertEqual(str(caught.exception), said)
         self.assertRaises(Many, self.agent.stands, [[["x"], 0]] * 257)
-        self.assertRaises(UnicodeEncodeError, self.agent.scan, "\ud800")
+        self.assertRaises(Error, self.agent.scan, "\ud800")
         self.agent.give()
         for call, *arguments in [
             (self.agent.follow,), (self.agent.state,), (self.agent.peek, COUNT), (self.agent.scan, "f"),

@@ -250,7 +250,7 @@ class Steps(unittest.TestCase):
                 with self.subTest(said), self.assertRaises(Error) as caught:
                     call(*arguments)
                 self.assertEqual(str(caught.exception), said)
-            self.assertRaises(UnicodeEncodeError, step.scan, "\ud800")
+            self.assertRaises(Error, step.scan, "\ud800")
             self.assertEqual(step.depth, 0)
 
     def test_numbers_and_long_texts(self):
