@@ -48,7 +48,7 @@ one_does part old s groups one step is = by_top (top_of s) refl where
   by_top None top =
       does_nothing part old s groups step one top (is ∙ ap (λ (t : Option Layer). unwrap_or (option_map one_move_of t) []) top)
 
-none_resting : resting_in finite.empty ≡ []
+pub none_resting : resting_in finite.empty ≡ []
 none_resting =
     ap (λ (es : List (Place × Outcome)). map (λ (e : Place × Outcome). e.0) (filter (λ (e : Place × Outcome). e.1.rests) es))
     (no_entries _ (sym (finite.len-entries (finite.empty {X = Outcome} {R = location_cmp})) ∙ finite.len-empty location_cmp Outcome))

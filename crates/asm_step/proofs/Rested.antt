@@ -119,6 +119,30 @@ said os l =
     (sym (finite.get-entries os l))
     (said_from (finite.entries os) l (finite.entries_sorted os))
 
+-- where none says so, there are none
+
+pub rests_nowhere : (os : Outcomes) → ((l : Place) → rests_at os l ≡ false) → resting_in os ≡ []
+rests_nowhere os never = by_list (resting_in os) (λ l there. false≢true (sym (never l) ∙ (said os l).0 there)) where
+  by_list : (ls : List Place) → ((l : Place) → Contains ls l → ⊥) → ls ≡ []
+  by_list [] none = refl
+  by_list (k ∷ ls) none = absurd (none k (Contains-append_left (k ∷ []) ls k (itself_contained k)))
+
+never_rests : (os : Outcomes) → resting_in os ≡ [] → (l : Place) → rests_at os l ≡ false
+never_rests os none l = by_test (rests_at os l) refl where
+  by_test : (b : Bool) → rests_at os l ≡ b → rests_at os l ≡ false
+  by_test false e = e
+  by_test true e = absurd (none_contained l (subst (λ ls. Contains ls l) none ((said os l).1 e)))
+
+-- nor are there where such outcomes are laid on such
+pub laid_nowhere : (below above : Outcomes) → resting_in below ≡ [] → resting_in above ≡ [] → resting_in (laid below above) ≡ []
+laid_nowhere below above low high = rests_nowhere (laid below above) (λ l.
+    ap (λ (x : Option Outcome). option_map_or (λ (o : Outcome). o.rests) x false) (get-laid below above l)
+    ∙ by_outcome l (finite.get above l) (never_rests above high l)) where
+      by_outcome : (l : Place) (x : Option Outcome) → option_map_or (λ (o : Outcome). o.rests) x false ≡ false →
+          option_map_or (λ (o : Outcome). o.rests) (option_or x (finite.get below l)) false ≡ false
+      by_outcome l (Some o) e = e
+      by_outcome l None e = never_rests below low l
+
 -- with the ones for which this test says so
 pub are_resting : (os : Outcomes) (test : Place → Bool) → ((l : Place) → rests_at os l ≡ test l) → AreThose test (resting_in os)
 are_resting os test is = record {

@@ -1,9 +1,10 @@
 //! What moves come to at each location that they write, and how more comes in.
 ghost use Rattle.std.specs.Prelude.{◌≡◌, ◌++◌, ◌∷◌, [], true, IfOk, OnOk, OnErr, IfErr, Some, None};
+ghost use Rattle.std.specs.Bool.{OnFalse};
 ghost use Rattle.std.specs.Option.{option_copied, option_or};
 ghost use Rattle.std.specs.FinMap as map;
 ghost use Rattle.asm_element.specs.Place.{Place};
-ghost use Rattle.asm_step.specs.Outcomes.{Outcome, Outcomes, acts, with_action, with_put, AreReplaced};
+ghost use Rattle.asm_step.specs.Outcomes.{Outcome, Outcomes, acts, with_action, resting_in, with_put, AreReplaced};
 
 use asm_element::{Location, Value};
 use asm_update::Action;
@@ -160,6 +161,18 @@ impl Outcomes {
         ensures { result ≡ map.entries self.now }
     {
         self.tree.iter()
+    }
+
+    /// Whether one of the outcomes rests on what is below.
+    pub(crate) fn rest_somewhere(&self) -> bool
+        ensures { OnFalse result (resting_in self.now ≡ []) }
+    {
+        for (_, outcome) in self.iter() {
+            if outcome.rests() {
+                return true;
+            }
+        }
+        false
     }
 
     /// How many locations there are.

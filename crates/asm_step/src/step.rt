@@ -329,6 +329,18 @@ impl Step {
         move_after(alloc, aggregator, Some(&earlier), instructions)
     }
 
+    // Whether one of the layers has an outcome that rests on what is below.
+    fn rests_somewhere(&self) -> bool
+        ensures { OnFalse result (resting_of self.now ≡ []) }
+    {
+        for layer in &self.layers {
+            if layer.own.rest_somewhere() {
+                return true;
+            }
+        }
+        false
+    }
+
     /// The locations on whose values below the one move rests, each once, in ascending order: where the first of the
     /// moves that writes has partial updates alone, and a later one writes too. Moves that were popped don't count.
     /// `AllocError` comes only where memory was refused.
@@ -340,6 +352,9 @@ impl Step {
             IsStepOf part old self.now groups → IfOk result (λ ls. AreThose (rests (all_moves groups)) ls.items) }
         ensures kept { IfOk result (λ ls. ls.items ≡ resting_of self.now) }
     {
+        if !self.rests_somewhere() {
+            return Ok(Vec::new(alloc));
+        }
         let all = self.outcomes(alloc)?;
         resting_places(alloc, &all)
     }

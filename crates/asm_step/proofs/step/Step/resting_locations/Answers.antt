@@ -21,3 +21,9 @@ returns-clause-those c part old groups step =
     (sym (is ∙ ap (λ (os : Outcomes). resting_in os) c.in_ok-all.ensures ∙ resting_are c.args.self.now))
     (resting_those part old c.args.self.now groups step))
     c.resting_places.ensures
+
+pub returns-then-not-rests_somewhere-clause-those : goal.returns-then-not-rests_somewhere-clause-those
+returns-then-not-rests_somewhere-clause-those c part old groups step =
+    subst (λ (ls : List Place). AreThose (rests (all_moves groups)) ls)
+    (c.if-not-rests_somewhere.ensures ∙ sym c.new.ensures.items)
+    (resting_those part old c.args.self.now groups step)
