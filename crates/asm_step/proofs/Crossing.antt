@@ -11,6 +11,8 @@ use Rattle.asm_step.specs.contracts.outcomes.Outcome as Outcome
 use Rattle.asm_step.specs.contracts.outcomes.Outcome.TheInside as InsideOutcome
 use Rattle.asm_step.specs.contracts.outcomes.Outcomes as Outcomes
 use Rattle.asm_step.specs.contracts.outcomes.Outcomes.TheInside as InsideOutcomes
+use Rattle.asm_step.specs.contracts.own.Own as Own
+use Rattle.asm_step.specs.contracts.own.Own.TheInside as InsideOwn
 use Rattle.asm_step.specs.contracts.step.Step as Step
 use Rattle.asm_step.specs.contracts.step.Step.TheInside as InsideStep
 
@@ -28,8 +30,14 @@ inside_outcomes_is_sent = search (sendable, BTreeMap-send, location_is_sent, out
 outcomes_is_sent : IsSend Outcomes.the_row
 outcomes_is_sent = search (sendable, inside_outcomes_is_sent) depth 20
 
+inside_own_is_sent : IsSend InsideOwn.the_row
+inside_own_is_sent = search (sendable, outcomes_is_sent, instructions_is_sent) depth 20
+
+own_is_sent : IsSend Own.the_row
+own_is_sent = search (sendable, inside_own_is_sent) depth 20
+
 layer_is_sent : IsSend Layer.the_row
-layer_is_sent = search (sendable, outcomes_is_sent, instructions_is_sent) depth 20
+layer_is_sent = search (sendable, own_is_sent, instructions_is_sent) depth 20
 
 inside_step_is_sent : IsSend InsideStep.the_row
 inside_step_is_sent = search (sendable, Vec-send, layer_is_sent) depth 20

@@ -1,11 +1,13 @@
 pub mod Agreeing
 pub mod Answered
+pub mod Borrowed
 pub mod Built
 pub mod Columns
 pub mod Continued
 pub mod Crossing
 pub mod Filled
-pub mod Held
+pub mod FirstLayers
+pub mod Found
 pub mod Insertions
 pub mod Laid
 pub mod Layered
@@ -16,6 +18,7 @@ pub mod Opened
 pub mod Placed
 pub mod Prefixes
 pub mod Pushed
+pub mod PutAlone
 pub mod Rested
 pub mod Scanned
 pub mod Shown

@@ -9,7 +9,9 @@ use Rattle.asm_element.specs.declared.value.Value.{Value}
 use Rattle.asm_update.specs.Move.{Move}
 use Rattle.asm_update.specs.State.{Updates}
 use Rattle.asm_update.specs.declared.action.Action.{Action}
+use Rattle.asm_update.specs.declared.action.Action.TheVariants.{Regular}
 use Rattle.asm_aggregate.specs.Compose.{placed}
+use Rattle.asm_aggregate.specs.OnlyPut.{only_put}
 
 -- what moves come to at a location that one of them writes: the value that they leave, the actions that do there what they
 -- do in turn, whether they build on the value below (the first of them that writes there has partial updates alone), and
@@ -59,6 +61,18 @@ listed os = flat_map (λ e. placed e.0 e.1.actions) (finite.entries os)
 -- where the moves rest on what is below
 abbrev pub resting_in : Outcomes → List Place
 resting_in os = map (λ e. e.0) (filter (λ e. e.1.rests) (finite.entries os))
+
+-- what a put of a value comes to where it is the first to write
+abbrev pub put_outcome : Value → Outcome
+put_outcome v = record { value = v; actions = Regular v ∷ []; builds = false; rests = false }
+
+-- what a put at a location comes to, alone
+abbrev pub put_alone : Place × Value → Outcomes
+put_alone p = finite.insert finite.empty p.0 (put_outcome p.1)
+
+-- what a layer has: what the move comes to that is one put, or else these outcomes
+abbrev pub own_of : Move → Outcomes → Outcomes
+own_of M each = option_map_or put_alone (only_put M) each
 
 -- one more action at a location, if that has an outcome
 abbrev pub with_action : Place → Action → Outcomes → Outcomes

@@ -7,7 +7,7 @@ ghost use Rattle.std.specs.Option.{option_copied, option_or};
 ghost use Rattle.asm_step.specs.Next.{IsComposed, IsFrame};
 
 use crate::error::StepError;
-use crate::outcomes::Outcomes;
+use crate::own::Own;
 use asm_aggregate::{ComposeError, aggregate, compose};
 use asm_update::{AggError, Aggregator, Instructions, Lookup, UpdateSet};
 use std::alloc::{AllocError, Global};
@@ -16,7 +16,7 @@ use std::alloc::{AllocError, Global};
 #[derive(Drop)]
 pub(crate) struct OwnLayer {
     /// What all moves of the step up to here come to, where these write.
-    pub(crate) own: Outcomes,
+    pub(crate) own: Own,
     /// The step's one move, if it is one that was pushed alone.
     pub(crate) alone: Option<Instructions>,
     /// How many instructions all moves up to here come to.

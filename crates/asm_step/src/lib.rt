@@ -6,11 +6,14 @@
 #![tactic(auto)]
 
 mod error;
+mod gathered;
+mod held;
 mod layer;
 mod listing;
 mod next;
 mod outcomes;
 mod over;
+mod own;
 mod scan;
 mod step;
 

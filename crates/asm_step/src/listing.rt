@@ -4,7 +4,7 @@ ghost use Rattle.asm_aggregate.specs.Compose.{placed};
 ghost use Rattle.asm_update.specs.Limits.{instructions_limit};
 ghost use Rattle.asm_step.specs.Outcomes.{listed, resting_in};
 
-use crate::outcomes::Outcomes;
+use crate::gathered::Gathered;
 use asm_element::Location;
 use asm_update::{Action, Instruction, Instructions};
 use std::alloc::{AllocError, Global};
@@ -43,28 +43,25 @@ pub(crate) fn push_within(
     }
 }
 
-/// The instructions of the outcomes, by location.
-pub(crate) fn listing(alloc: Global, outcomes: &Outcomes) -> Result<Instructions, AllocError>
-    requires { length (listed outcomes.now) ≤ instructions_limit }
-    ensures { IfOk result (λ list. list ≡ listed outcomes.now) }
+/// The instructions of all outcomes, by location.
+pub(crate) fn listing(alloc: Global, all: Gathered<'_>) -> Result<Instructions, AllocError>
+    requires { length (listed all) ≤ instructions_limit }
+    ensures { IfOk result (λ list. list ≡ listed all.entry) }
 {
     let mut list = Instructions::new(alloc);
-    for (at, outcome) in outcomes.iter() {
-        append(alloc, &mut list, at, outcome.actions())?;
+    for (at, held) in all.into_entries() {
+        held.append_to(alloc, &mut list, at)?;
     }
     Ok(list)
 }
 
-/// Where the outcomes rest on what is below.
-pub(crate) fn resting_places(
-    alloc: Global,
-    outcomes: &Outcomes,
-) -> Result<Vec<Location>, AllocError>
-    ensures { IfOk result (λ places. places.items ≡ resting_in outcomes.now) }
+/// Where they rest on what is below.
+pub(crate) fn resting_places(alloc: Global, all: Gathered<'_>) -> Result<Vec<Location>, AllocError>
+    ensures { IfOk result (λ places. places.items ≡ resting_in all.entry) }
 {
     let mut places = Vec::new(alloc);
-    for (at, outcome) in outcomes.iter() {
-        if outcome.rests() {
+    for (at, held) in all.into_entries() {
+        if held.rests() {
             places.push(at.copy(alloc)?)?;
         }
     }

@@ -1,5 +1,5 @@
 //! The layer of a move that is next.
-ghost use Rattle.std.specs.Prelude.{◌≡◌, ◌≤◌, ◌+◌, ◌++◌, ◌∷◌, [], true, false, length, IfOk, OnOk, if◌then◌else◌};
+ghost use Rattle.std.specs.Prelude.{◌≡◌, ◌≤◌, ◌+◌, ◌++◌, ◌∷◌, [], true, false, length, Some, None, IfOk, OnOk, if◌then◌else◌};
 ghost use Rattle.std.specs.List.{flat_map};
 ghost use Rattle.std.specs.Option.{option_copied, option_map};
 ghost use Rattle.std.specs.FinMap as finite;
@@ -8,13 +8,15 @@ ghost use Rattle.asm_update.specs.Limits.{instructions_limit};
 ghost use Rattle.asm_step.specs.Layers.{outcomes_of, top_of};
 ghost use Rattle.asm_step.specs.Next.{IsNext, AreFilled, AreMarked, AreOpened, IsLayerFrom, count_of, first_alone, on_top, opened_at, those};
 ghost use Rattle.asm_update.specs.Action.{is_regular};
-ghost use Rattle.asm_step.specs.Outcomes.{acts_at, actions_in, listed, with_put};
+ghost use Rattle.asm_step.specs.Outcomes.{acts_at, actions_in, listed, own_of, with_put};
 
 use crate::error::StepError;
 use crate::layer::{OwnLayer, frame_on, move_after};
-use crate::listing::{append, push_within};
+use crate::listing::push_within;
 use crate::outcomes::{Outcome, Outcomes};
+use crate::own::Own;
 use crate::step::Step;
+use asm_aggregate::only_put;
 use asm_element::{Location, Value};
 use asm_update::{Aggregator, INSTRUCTIONS_LIMIT, Instruction, Instructions, Lookup, UpdateSet};
 use std::alloc::{AllocError, Global};
@@ -59,6 +61,17 @@ fn mark_each(outcomes: &mut Outcomes, instructions: &Instructions)
     }
 }
 
+// The layer of a move of one put.
+fn put_layer(alloc: Global, put: &Instructions) -> Result<OwnLayer, AllocError>
+    ensures { IfOk result (λ y. y ≡ record { own = own_of put.now finite.empty; alone = Some put.now; count = 1 }) }
+{
+    Ok(OwnLayer {
+        own: Own::of_put(alloc, put.copy(alloc)?),
+        alone: Some(put.copy(alloc)?),
+        count: 1,
+    })
+}
+
 impl Step {
     // How many instructions the moves come to.
     pub(crate) fn count(&self) -> usize
@@ -85,7 +98,7 @@ impl Step {
         ensures { OnOk result (list.new ≡ list.old ++ placed at.now (actions_in (outcomes_of self.now) at.now)) }
     {
         match self.held(at) {
-            Some(outcome) => append(alloc, list, at, outcome.actions()),
+            Some(held) => held.append_to(alloc, list, at),
             None => Ok(()),
         }
     }
@@ -155,7 +168,7 @@ impl Step {
         ensures { result ≡ acts_at (outcomes_of self.now) at.now }
     {
         match self.held(at) {
-            Some(outcome) => outcome.acts(),
+            Some(held) => held.acts(),
             None => false,
         }
     }
@@ -192,12 +205,6 @@ impl Step {
         ensures shared { IfOk result (λ parts. parts.0 ≡ those true (outcomes_of self.now) instructions.now) }
         ensures apart { IfOk result (λ parts. parts.1 ≡ those false (outcomes_of self.now) instructions.now) }
     {
-        if self.top().is_none() {
-            // All are at the others; both share one list, which takes no memory.
-            let none = Instructions::new(alloc);
-            let all = instructions.copy(alloc)?;
-            return Ok((none, all));
-        }
         // That there are at most 4,096 is what an append asks.
         let _few = instructions.len();
         let mut shared = Instructions::new(alloc);
@@ -234,11 +241,39 @@ impl Step {
             return Err(StepError::Many);
         }
         let alone = self.alone(alloc, instructions)?;
-        Ok(OwnLayer { own, alone, count })
+        Ok(OwnLayer {
+            own: Own::of_each(alloc, own),
+            alone,
+            count,
+        })
     }
 
-    /// The layer of a move that is next.
-    pub(crate) fn next_layer<A: Aggregator, L: Lookup>(
+    // The layer of a first move. One put stands for what it comes to, on whatever is below it.
+    fn first_layer<A: Aggregator, L: Lookup>(
+        &self,
+        alloc: Global,
+        aggregator: &A,
+        below: &L,
+        instructions: &Instructions,
+    ) -> Result<OwnLayer, StepError>
+        requires { top_of self.now ≡ None }
+        ensures { IsNext (A.meaning aggregator.now) (L.value_at below.now) self.now instructions.now
+            (on_top self.now result) }
+    {
+        // The invariant is known once a field is read.
+        let _ = &self.layers;
+        // That there are at most 4,096 is what the layer needs.
+        let _few = instructions.len();
+        if let Some(_) = only_put(instructions) {
+            return Ok(put_layer(alloc, instructions)?);
+        }
+        let updates = frame_on(alloc, aggregator, &self.over(below), instructions)?;
+        let none = Instructions::new(alloc);
+        self.layer_of(alloc, updates, 0, &none, instructions, instructions)
+    }
+
+    // The layer of a move that comes after others.
+    fn later_layer<A: Aggregator, L: Lookup>(
         &self,
         alloc: Global,
         aggregator: &A,
@@ -250,7 +285,7 @@ impl Step {
     {
         // The invariant is known once a field is read.
         let _ = &self.layers;
-        // That there are at most 4,096 is what a first move's layer needs.
+        // That there are at most 4,096 is what the layer needs.
         let _few = instructions.len();
         let frame = frame_on(alloc, aggregator, &self.over(below), instructions)?;
         let earlier = self.earlier_at(alloc, &frame)?;
@@ -261,5 +296,21 @@ impl Step {
         let composed = move_after(alloc, aggregator, self.if_later(&earlier), &shared)?;
         let others = self.count() - earlier.len();
         self.layer_of(alloc, frame, others, &composed, &apart, instructions)
+    }
+    /// The layer of a move that is next.
+    pub(crate) fn next_layer<A: Aggregator, L: Lookup>(
+        &self,
+        alloc: Global,
+        aggregator: &A,
+        below: &L,
+        instructions: &Instructions,
+    ) -> Result<OwnLayer, StepError>
+        ensures { IsNext (A.meaning aggregator.now) (L.value_at below.now) self.now instructions.now
+            (on_top self.now result) }
+    {
+        match self.top() {
+            Some(_) => self.later_layer(alloc, aggregator, below, instructions),
+            None => self.first_layer(alloc, aggregator, below, instructions),
+        }
     }
 }

@@ -1,11 +1,12 @@
 //! What moves come to at each location that they write, and how more comes in.
 ghost use Rattle.std.specs.Prelude.{◌≡◌, ◌++◌, ◌∷◌, [], true, IfOk, OnOk, OnErr, IfErr, Some, None};
 ghost use Rattle.std.specs.Bool.{OnFalse};
-ghost use Rattle.std.specs.Option.{option_copied, option_or};
+ghost use Rattle.std.specs.Option.{option_or};
 ghost use Rattle.std.specs.FinMap as map;
 ghost use Rattle.asm_element.specs.Place.{Place};
-ghost use Rattle.asm_step.specs.Outcomes.{Outcome, Outcomes, acts, with_action, resting_in, with_put, AreReplaced};
+ghost use Rattle.asm_step.specs.Outcomes.{Outcome, Outcomes, with_action, resting_in, with_put, AreReplaced};
 
+use crate::held::Held;
 use asm_element::{Location, Value};
 use asm_update::Action;
 use std::alloc::{AllocError, Global};
@@ -64,13 +65,6 @@ impl Outcome {
         self.actions.as_slice()
     }
 
-    /// Whether there are actions.
-    pub(crate) fn acts(&self) -> bool
-        ensures { result ≡ acts self.now.actions }
-    {
-        !self.actions.is_empty()
-    }
-
     pub(crate) fn builds(&self) -> bool
         ensures { result ≡ self.now.builds }
     {
@@ -83,7 +77,7 @@ impl Outcome {
         self.rests
     }
 
-    fn add(&mut self, action: Action) -> Result<(), AllocError>
+    pub(crate) fn add(&mut self, action: Action) -> Result<(), AllocError>
         ensures { OnOk result (self.new ≡ record self.old { actions = self.old.actions ++ action ∷ [] }) }
     {
         self.actions.push(action)?;
@@ -95,27 +89,6 @@ impl Outcome {
     {
         self.builds = self.rests;
     }
-
-    fn copy(&self, alloc: Global) -> Result<Outcome, AllocError>
-        ensures { IfOk result (λ copy. copy ≡ self.now) }
-    {
-        Ok(Outcome {
-            value: self.value.copy(alloc)?,
-            actions: copies(alloc, self.actions.as_slice())?,
-            builds: self.builds,
-            rests: self.rests,
-        })
-    }
-}
-
-fn copies(alloc: Global, actions: &[Action]) -> Result<Vec<Action>, AllocError>
-    ensures { IfOk result (λ copied. copied.items ≡ actions.now) }
-{
-    let mut copied = Vec::new(alloc);
-    for action in actions {
-        copied.push(action.clone()?)?;
-    }
-    Ok(copied)
 }
 
 /// Outcomes of locations, which contracts see as a finite map.
@@ -151,10 +124,13 @@ impl Outcomes {
         }
     }
 
-    pub(crate) fn get(&self, at: &Location) -> Option<&Outcome>
-        ensures { option_copied result ≡ map.get self.now at.now }
+    pub(crate) fn held(&self, at: &Location) -> Option<Held<'_>>
+        ensures { result ≡ map.get self.now at.now }
     {
-        self.tree.get(at)
+        match self.tree.get(at) {
+            Some(outcome) => Some(Held::of(outcome)),
+            None => None,
+        }
     }
 
     pub(crate) fn iter(&self) -> Iter<'_, Location, Outcome>
@@ -164,7 +140,7 @@ impl Outcomes {
     }
 
     /// Whether one of the outcomes rests on what is below.
-    pub(crate) fn rest_somewhere(&self) -> bool
+    pub(crate) fn rests_somewhere(&self) -> bool
         ensures { OnFalse result (resting_in self.now ≡ []) }
     {
         for (_, outcome) in self.iter() {
@@ -298,16 +274,6 @@ impl Outcomes {
                     return Err(error);
                 }
             }
-        }
-        Ok(())
-    }
-
-    /// Gives each location of the outcomes above a copy of what these have there.
-    pub(crate) fn take_copies(&mut self, alloc: Global, above: &Outcomes) -> Result<(), AllocError>
-        ensures { OnOk result ((q : Place) → map.get self.new q ≡ option_or (map.get above.now q) (map.get self.old q)) }
-    {
-        for (at, outcome) in above.iter() {
-            self.put(at.copy(alloc)?, outcome.copy(alloc)?)?;
         }
         Ok(())
     }

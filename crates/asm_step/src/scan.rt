@@ -8,7 +8,9 @@ ghost use Rattle.asm_step.specs.Outcomes.{frame};
 ghost use Rattle.asm_step.specs.Scan.{scanned};
 
 use crate::outcomes::Outcomes;
+use crate::own::Own;
 use crate::step::Step;
+use asm_aggregate::only_put;
 use asm_element::{Location, Value};
 use asm_update::PlainState;
 use std::alloc::{AllocError, Global};
@@ -32,7 +34,7 @@ fn put_named(
 }
 
 // Writes the outcomes' values at the locations with the name.
-fn put_values(
+fn put_each(
     alloc: Global,
     plain: &mut PlainState,
     name: &str,
@@ -45,6 +47,22 @@ fn put_values(
         put_named(alloc, plain, name, at, outcome.value())?;
     }
     Ok(())
+}
+
+// Writes the values of what a layer has at the locations with the name.
+fn put_values(
+    alloc: Global,
+    plain: &mut PlainState,
+    name: &str,
+    own: &Own,
+) -> Result<(), AllocError>
+    ensures { OnOk result ((l : Place) →
+        val plain.new l ≡ scanned (frame own.now ∷ []) (val plain.old) name.now l) }
+{
+    match only_put(&own.put) {
+        Some((at, value)) => put_named(alloc, plain, name, at, value),
+        None => put_each(alloc, plain, name, &own.each),
+    }
 }
 
 impl Step {

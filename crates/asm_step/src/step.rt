@@ -20,9 +20,10 @@ ghost use Rattle.asm_step.specs.Next.{alone_of};
 ghost use Rattle.asm_step.specs.Resting.{left_by, rests, sees_below, AgreesAtRests, AgreesIfSeen, AreThose};
 
 use crate::error::StepError;
+use crate::gathered::Gathered;
+use crate::held::Held;
 use crate::layer::{OwnLayer, move_after};
 use crate::listing::{listing, resting_places};
-use crate::outcomes::{Outcome, Outcomes};
 use crate::over::OverStep;
 use asm_element::{Location, Value};
 use asm_overlay::FRAMES_LIMIT;
@@ -185,12 +186,12 @@ impl Step {
     }
 
     // What the step's moves come to at the location: the topmost layer that has it tells.
-    pub(crate) fn held(&self, at: &Location) -> Option<&Outcome>
-        ensures { option_copied result ≡ finite.get (outcomes_of self.now) at.now }
+    pub(crate) fn held(&self, at: &Location) -> Option<Held<'_>>
+        ensures { result ≡ finite.get (outcomes_of self.now) at.now }
     {
         for layer in self.layers.iter().rev() {
-            if let Some(outcome) = layer.own.get(at) {
-                return Some(outcome);
+            if let Some(held) = layer.own.get(at) {
+                return Some(held);
             }
         }
         None
@@ -201,7 +202,7 @@ impl Step {
         ensures { option_copied result ≡ topmost (frames_of self.now) at.now }
     {
         match self.held(at) {
-            Some(outcome) => Some(outcome.value()),
+            Some(held) => Some(held.value()),
             None => None,
         }
     }
@@ -239,13 +240,13 @@ impl Step {
         OverStep::new(self, below)
     }
 
-    // What all moves come to, copied.
-    fn outcomes(&self, alloc: Global) -> Result<Outcomes, AllocError>
+    // What all moves come to.
+    fn gathered(&self, alloc: Global) -> Result<Gathered<'_>, AllocError>
         ensures { IfOk result (λ all. all ≡ outcomes_of self.now) }
     {
-        let mut all = Outcomes::new(alloc);
+        let mut all = Gathered::new(alloc);
         for layer in &self.layers {
-            all.take_copies(alloc, &layer.own)?;
+            layer.own.gather(&mut all)?;
         }
         Ok(all)
     }
@@ -268,7 +269,7 @@ impl Step {
         let _few = self.count();
         match self.alone_move() {
             Some(alone) => alone.copy(alloc),
-            None => listing(alloc, &self.outcomes(alloc)?),
+            None => listing(alloc, self.gathered(alloc)?),
         }
     }
 
@@ -334,7 +335,7 @@ impl Step {
         ensures { OnFalse result (resting_of self.now ≡ []) }
     {
         for layer in &self.layers {
-            if layer.own.rest_somewhere() {
+            if layer.own.rests_somewhere() {
                 return true;
             }
         }
@@ -355,8 +356,7 @@ impl Step {
         if !self.rests_somewhere() {
             return Ok(Vec::new(alloc));
         }
-        let all = self.outcomes(alloc)?;
-        resting_places(alloc, &all)
+        resting_places(alloc, self.gathered(alloc)?)
     }
 
     /// Whether what is seen at the location is made from the value below it, which has then to be named: no move writes
@@ -367,7 +367,7 @@ impl Step {
         ensures shows { result ≡ shows_below self.now at.now }
     {
         match self.held(at) {
-            Some(outcome) => outcome.builds(),
+            Some(held) => held.builds(),
             None => true,
         }
     }

@@ -1,6 +1,6 @@
 //! What a step takes, sees, leaves and gives back.
 use crate::acts::Act::{
-    self, Depth, Ends, Extend, Fires, Gives, Leaves, Pop, Push, Rests, Sees, Size,
+    self, Depth, Ends, Extend, Fires, Gives, Leaves, Pop, Push, Rests, Scans, Sees, Size,
 };
 use crate::acts::Answer::{Clashes, Deep, Taken};
 use crate::acts::{played, played_anew, take};
@@ -106,6 +106,60 @@ static EXTENSIONS: [Act; 24] = [
 #[test]
 fn an_extension_goes_into_the_topmost_frame(rt: HostRuntime) -> Result<(), Fail> {
     assert_eq!(rt; played_anew(rt.alloc(), &EXTENSIONS)?, EXTENSIONS.len());
+    Ok(())
+}
+
+static PUTS: [Act; 42] = [
+    Push(&[Line("x", Put(2))], Taken),
+    Gives("x", Some(2)),
+    Gives("y", Some(1)),
+    Sees("x", false),
+    Sees("y", true),
+    Scans("x", Some(2)),
+    Scans("y", Some(1)),
+    Rests(&[]),
+    Size(1),
+    Fires,
+    // What is pushed on a put sees it.
+    Push(&[Line("x", Inc(3)), Line("y", Put(4))], Taken),
+    Gives("x", Some(5)),
+    Gives("y", Some(4)),
+    Rests(&[]),
+    Size(2),
+    Fires,
+    Pop(true),
+    Gives("x", Some(2)),
+    // So does what extends it, which leaves it where it is refused.
+    Extend(&[Line("x", Add(3))], Clashes("x", Cause::Kind)),
+    Gives("x", Some(2)),
+    Size(1),
+    Extend(&[Line("y", Inc(1))], Taken),
+    Depth(1),
+    Gives("x", Some(2)),
+    Gives("y", Some(2)),
+    Scans("x", Some(2)),
+    Size(2),
+    Fires,
+    Push(&[Line("y", Inc(1))], Taken),
+    Rests(&["y"]),
+    Fires,
+    Pop(true),
+    Pop(true),
+    Gives("x", Some(1)),
+    // A put of undef hides what is below.
+    Extend(&[Line("x", Undef)], Taken),
+    Gives("x", None),
+    Scans("x", None),
+    Extend(&[Line("x", Put(3))], Taken),
+    Depth(1),
+    Gives("x", Some(3)),
+    Size(1),
+    Fires,
+];
+
+#[test]
+fn a_put_alone_is_seen_and_extended(rt: HostRuntime) -> Result<(), Fail> {
+    assert_eq!(rt; played_anew(rt.alloc(), &PUTS)?, PUTS.len());
     Ok(())
 }
 

@@ -1,5 +1,5 @@
-use Rattle.std.proofs.Common.{◌≡◌, ◌++◌, ◌∷◌, [], append_assoc, append-nil, ap, sym, ◌∙◌, rules, List}
-use Rattle.std.specs.FinMap as finite
+use Rattle.std.proofs.Common.{◌≡◌, ◌++◌, ◌∷◌, [], append_assoc, append-nil, ap, sym, ◌∙◌, List}
+use Rattle.asm_aggregate.specs.Bundle.{by_place}
 use Rattle.asm_element.specs.Place.{Place}
 use Rattle.asm_step.specs.Outcomes.{Outcome}
 use Rattle.asm_step.proofs.Laid.{resting_from, resting_first, resting_not}
@@ -7,28 +7,28 @@ use Rattle.asm_step.proofs.listing.resting_places.Goals as goal
 
 pub loop-at-init : goal.loop-at-init
 loop-at-init c =
-    let start : c.into_iter-at-iterator.result ≡ finite.entries c.args.outcomes.now = search rules in
+    let start = ap by_place c.into_iter-at-iterator.ensures.into_iter_gives ∙ c.into_entries-at-items.ensures in
     (λ i. c.new-places.ensures.items i ++ resting_from (start i))
 
 pub loop-at-preserved-in_ok-push : goal.loop-at-preserved-in_ok-push
 loop-at-preserved-in_ok-push c =
     let had = c.loop-at.places.items in
-    let left = c.next.new.self in
+    let left = by_place c.next.new.self in
     let k = c.in-Some.at.now in
     ap (λ ls. ls ++ resting_from left) (c.in_ok-push.ensures.items ∙ ap (λ l. had ++ l ∷ []) c.in_ok-copy.ensures)
     ∙ append_assoc had (k ∷ []) (resting_from left)
-    ∙ ap (λ ls. had ++ ls) (sym (resting_first k c.in-Some.outcome.now left (sym c.rests.ensures ∙ c.if-rests.true)))
-    ∙ ap (λ (es : List (Place × Outcome)). had ++ resting_from es) (sym c.in-Some.ensures.steps) ∙ c.loop-at.invariant
+    ∙ ap (λ ls. had ++ ls) (sym (resting_first k c.in-Some.held left (sym c.rests.ensures ∙ c.if-rests.true)))
+    ∙ ap (λ (es : List (Place × Outcome)). had ++ resting_from es) (sym (ap by_place c.in-Some.ensures.steps)) ∙ c.loop-at.invariant
 
 pub loop-at-preserved : goal.loop-at-preserved
 loop-at-preserved c =
     let had = c.loop-at.places.items in
-    let left = c.next.new.self in
+    let left = by_place c.next.new.self in
     let k = c.in-Some.at.now in
-    ap (λ ls. had ++ ls) (sym (resting_not k c.in-Some.outcome.now left (sym c.rests.ensures ∙ c.if-rests.false)))
-    ∙ ap (λ (es : List (Place × Outcome)). had ++ resting_from es) (sym c.in-Some.ensures.steps) ∙ c.loop-at.invariant
+    ap (λ ls. had ++ ls) (sym (resting_not k c.in-Some.held left (sym c.rests.ensures ∙ c.if-rests.false)))
+    ∙ ap (λ (es : List (Place × Outcome)). had ++ resting_from es) (sym (ap by_place c.in-Some.ensures.steps)) ∙ c.loop-at.invariant
 
 pub returns : goal.returns
 returns c =
     sym (append-nil c.loop-at.places.items)
-    ∙ ap (λ (es : List (Place × Outcome)). c.loop-at.places.items ++ resting_from es) (sym c.in-None.ensures.steps.0) ∙ c.loop-at.invariant
+    ∙ ap (λ (es : List (Place × Outcome)). c.loop-at.places.items ++ resting_from es) (sym (ap by_place c.in-None.ensures.steps.0)) ∙ c.loop-at.invariant

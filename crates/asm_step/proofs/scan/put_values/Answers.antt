@@ -1,30 +1,22 @@
-use Rattle.std.proofs.Common.{◌≡◌, List, ap, cond, subst, ◌∙◌, rules}
+use Rattle.std.proofs.Common.{◌≡◌, [], ◌∷◌, List, refl, sym}
 use Rattle.std.specs.FinMap as finite
+use Rattle.std.proofs.lemmas.Result.{on_ok_weaker}
 use Rattle.asm_element.specs.Place.{Place}
-use Rattle.asm_element.specs.declared.value.Value.{Value}
-use Rattle.asm_update.specs.State.{write}
-use Rattle.asm_step.specs.Outcomes.{Outcome}
-use Rattle.asm_step.proofs.Scanned.{IsComing, none_in, one_in, all_in, has_name, values_in}
+use Rattle.asm_step.specs.Outcomes.{Outcome, put_outcome}
+use Rattle.asm_step.proofs.PutAlone.{put_entries}
+use Rattle.asm_step.proofs.Scanned.{all_in, none_in, one_in, values_in}
 use Rattle.asm_step.proofs.scan.put_values.Goals as goal
 
-pub loop-at-init : goal.loop-at-init
-loop-at-init c =
-    let start : c.into_iter-at-iterator.result ≡ finite.entries c.args.outcomes.now = search rules in
-    none_in c.args.name.now c.args.outcomes.now c.into_iter-at-iterator.result c.args.plain.now start
-
-pub loop-at-preserved : goal.loop-at-preserved
-loop-at-preserved c =
+pub returns-in-Some : goal.returns-in-Some
+returns-in-Some c =
     let name = c.args.name.now in
-    let all = c.into_iter-at-iterator.result in
-    let before = c.args.plain.now in
+    let plain = c.args.plain.now in
     let k = c.in-Some.at.now in
-    one_in name (values_in all) k c.in-Some.outcome.now.value (values_in c.next.new.self) before c.loop-at.plain c.put_named.new.plain
-    (c.in_ok-put_named.ensures ∙ ap (λ (v : Value). cond (has_name name k) (write c.loop-at.plain k v) c.loop-at.plain) c.value.ensures)
-    (subst (λ (es : List (Place × Outcome)). IsComing name (values_in all) (values_in es) before c.loop-at.plain) c.in-Some.ensures.steps
-    c.loop-at.invariant)
-
-pub returns : goal.returns
-returns c =
-    let start : c.into_iter-at-iterator.result ≡ finite.entries c.args.outcomes.now = search rules in
-    all_in c.args.name.now c.args.outcomes.now c.into_iter-at-iterator.result c.loop-at.at-iterator c.args.plain.now c.loop-at.plain
-    start c.in-None.ensures.steps.0 c.loop-at.invariant
+    let v = c.in-Some.value.now in
+    let es : List (Place × Outcome) = (k, put_outcome v) ∷ [] in
+    let start : es ≡ finite.entries c.args.own.now =
+    sym (put_entries c.own.inside.put c.own.inside.each c.args.own.now k v c.own.view_is c.in-Some.ensures.some) in
+    on_ok_weaker c.put_named.result
+    (λ put. all_in name c.args.own.now es [] plain c.put_named.new.plain start refl
+    (one_in name (values_in es) k v [] plain plain c.put_named.new.plain put (none_in name c.args.own.now es plain start)))
+    c.put_named.ensures

@@ -1,5 +1,7 @@
-use Rattle.std.proofs.Common.{◌++◌, length, length-append, ap, arith}
+use Rattle.std.proofs.Common.{◌++◌, length, length-append, ap, sym, subst, arith}
 use Rattle.asm_step.specs.Layers.{outcomes_of}
+use Rattle.asm_step.specs.Next.{AreNext}
+use Rattle.asm_step.specs.Outcomes.{Outcomes, listed}
 use Rattle.asm_step.proofs.Opened.{filled_both, next_from, none_so_far}
 use Rattle.asm_step.proofs.step.Step.layer_of.Goals as goal
 
@@ -11,9 +13,11 @@ returns c =
     let M = c.args.instructions.now in
     let none = ap length (none_so_far os c.args.frame M c.in_ok-own.own c.mark_each.new.outcomes c.in_ok-own.ensures c.mark_each.ensures) in
     let both = filled_both C O c.mark_each.new.outcomes c.fill.new.outcomes c.fill-2.new.outcomes
-    c.in_ok-added.ensures.filled c.in_ok-more.ensures.filled in (
-      next_from os c.args.frame (C ++ O) M c.in_ok-own.own c.mark_each.new.outcomes c.fill-2.new.outcomes c.in_ok-own.ensures c.mark_each.ensures both,
-      omega (arith, none, c.in_ok-added.ensures.count, c.in_ok-more.ensures.count),
+    c.in_ok-added.ensures.filled c.in_ok-more.ensures.filled in
+    let many = ap (λ (own : Outcomes). length (listed own)) c.of_each.ensures in (
+      subst (AreNext os c.args.frame (C ++ O) M) (sym c.of_each.ensures)
+          (next_from os c.args.frame (C ++ O) M c.in_ok-own.own c.mark_each.new.outcomes c.fill-2.new.outcomes c.in_ok-own.ensures c.mark_each.ensures both),
+      omega (arith, none, many, c.in_ok-added.ensures.count, c.in_ok-more.ensures.count),
       omega (arith, c.if-count-gt-INSTRUCTIONS_LIMIT.false),
       c.in_ok-alone.ensures,
     )

@@ -10,11 +10,11 @@ returns-in-Some c =
 
 pub listing-requires : goal.listing-requires
 listing-requires c =
-    let same = ap (λ (os : Outcomes). length (listed os)) c.in_ok-outcomes-in-None.ensures in
+    let same = ap (λ (os : Outcomes). length (listed os)) c.in_ok-gathered-in-None.ensures in
     omega (arith, same, c.count-few.ensures.listed, c.count-few.ensures.few)
 
-pub returns-in_ok-outcomes-in-None : goal.returns-in_ok-outcomes-in-None
-returns-in_ok-outcomes-in-None c =
-    if_ok_weaker c.listing-in-None.result
-    (λ one is. is ∙ ap (λ (os : Outcomes). listed os) c.in_ok-outcomes-in-None.ensures ∙ one_listed c.args.self.now c.in-None.ensures)
-    c.listing-in-None.ensures
+pub returns-in_ok-gathered-in-None : goal.returns-in_ok-gathered-in-None
+returns-in_ok-gathered-in-None c =
+    if_ok_weaker c.listing.result
+    (λ one is. is ∙ ap (λ (os : Outcomes). listed os) c.in_ok-gathered-in-None.ensures ∙ one_listed c.args.self.now c.in-None.ensures)
+    c.listing.ensures

@@ -11,14 +11,14 @@ use Rattle.asm_step.proofs.step.Step.resting_locations.Goals as goal
 pub returns-clause-kept : goal.returns-clause-kept
 returns-clause-kept c =
     if_ok_weaker c.resting_places.result
-    (λ ls is. is ∙ ap (λ (os : Outcomes). resting_in os) c.in_ok-all.ensures ∙ resting_are c.args.self.now)
+    (λ ls is. is ∙ ap (λ (os : Outcomes). resting_in os) c.in_ok-gathered.ensures ∙ resting_are c.args.self.now)
     c.resting_places.ensures
 
 pub returns-clause-those : goal.returns-clause-those
 returns-clause-those c part old groups step =
     if_ok_weaker c.resting_places.result
     (λ ls is. subst (λ (ls : List Place). AreThose (rests (all_moves groups)) ls)
-    (sym (is ∙ ap (λ (os : Outcomes). resting_in os) c.in_ok-all.ensures ∙ resting_are c.args.self.now))
+    (sym (is ∙ ap (λ (os : Outcomes). resting_in os) c.in_ok-gathered.ensures ∙ resting_are c.args.self.now))
     (resting_those part old c.args.self.now groups step))
     c.resting_places.ensures
 

@@ -21,7 +21,7 @@ loop-layer-preserved c =
     take_more items i y c.loop-layer-test.true ∙ ap (λ x. take i items ++ x ∷ []) (sym c.layer-item.is) in
     ap (λ (s : List OwnLayer). resting_in (all_laid finite.empty s)) more
     ∙ ap (λ (os : Outcomes). resting_in os) (all_laid-push finite.empty (take i items) y)
-    ∙ laid_nowhere (all_laid finite.empty (take i items)) y.own c.loop-layer.invariant c.if-rest_somewhere.ensures
+    ∙ laid_nowhere (all_laid finite.empty (take i items)) y.own c.loop-layer.invariant c.if-rests_somewhere.ensures
 
 pub returns : goal.returns
 returns c =

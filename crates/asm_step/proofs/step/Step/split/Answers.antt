@@ -51,15 +51,3 @@ returns-clause-apart c =
     ∙ ap (those false (outcomes_of c.args.self.now))
     (taken_all c.as_slice-instruction-items.result.now c.args.instructions.now c.loop-instruction.instruction-index
     c.as_slice-instruction-items.ensures c.loop-instruction-test.false)
-
-pub returns-then-is_none-clause-shared : goal.returns-then-is_none-clause-shared
-returns-then-is_none-clause-shared c =
-    let s = c.args.self.now in
-    let none = outcomes_without s (no_top_by_test s c.top.result c.top.ensures.count c.if-is_none.ensures) in
-    c.new-none.ensures ∙ sym (none_shared (outcomes_of s) c.args.instructions.now (acts_nowhere (outcomes_of s) none))
-
-pub returns-then-is_none-clause-apart : goal.returns-then-is_none-clause-apart
-returns-then-is_none-clause-apart c =
-    let s = c.args.self.now in
-    let none = outcomes_without s (no_top_by_test s c.top.result c.top.ensures.count c.if-is_none.ensures) in
-    c.in_ok-all.ensures ∙ sym (all_others (outcomes_of s) c.args.instructions.now (acts_nowhere (outcomes_of s) none))

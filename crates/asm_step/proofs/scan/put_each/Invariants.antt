@@ -1,5 +1,5 @@
 use Rattle.asm_step.proofs.Scanned.{IsComing, values_in}
-use Rattle.asm_step.proofs.scan.put_values.Given as goal
+use Rattle.asm_step.proofs.scan.put_each.Given as goal
 
 -- the values of the outcomes so far came in
 abbrev pub invariant-loop-at : goal.invariant-loop-at

@@ -2,7 +2,7 @@ use Rattle.std.proofs.Common.{◌≡◌, T}
 use Rattle.std.specs.FinMap as map
 use Rattle.std.specs.Option.{option_map, option_or}
 use Rattle.asm_element.specs.Place.{Place, location_cmp}
-use Rattle.asm_step.proofs.outcomes.Outcomes.take_copies.Given as goal
+use Rattle.asm_step.proofs.gathered.Gathered.take.Given as goal
 
 -- what is left, over what came in, is all
 abbrev pub invariant-loop-at : goal.invariant-loop-at

@@ -5,7 +5,7 @@ use Rattle.asm_step.specs.Layers.{Layer, outcomes_of}
 use Rattle.asm_step.specs.Outcomes.{laid}
 use Rattle.asm_step.proofs.Laid.{laid_is}
 use Rattle.asm_step.proofs.Prefixes.{all_laid, all_laid-push, outcomes_all}
-use Rattle.asm_step.proofs.step.Step.outcomes.Goals as goal
+use Rattle.asm_step.proofs.step.Step.gathered.Goals as goal
 
 pub loop-layer-init : goal.loop-layer-init
 loop-layer-init c = c.new-all.ensures
@@ -17,7 +17,7 @@ loop-layer-preserved c =
     let y = c.layer-item.result in
     let more : take (i + 1) items ≡ take i items ++ y ∷ [] =
     take_more items i y c.loop-layer-test.true ∙ ap (λ x. take i items ++ x ∷ []) (sym c.layer-item.is) in
-    laid_is c.loop-layer.all y.own c.take_copies.new.self c.in_ok-take_copies.ensures
+    laid_is c.loop-layer.all y.own c.gather.new.all c.in_ok-gather.ensures
     ∙ ap (λ m. laid m y.own) c.loop-layer.invariant
     ∙ sym (ap (all_laid finite.empty) more ∙ all_laid-push finite.empty (take i items) y)
 

@@ -1,7 +1,7 @@
 use Rattle.std.proofs.Common.{◌≡◌, take}
 use Rattle.std.specs.FinMap as finite
 use Rattle.asm_step.proofs.Prefixes.{all_laid}
-use Rattle.asm_step.proofs.step.Step.outcomes.Given as goal
+use Rattle.asm_step.proofs.step.Step.gathered.Given as goal
 
 -- the layers so far are laid on each other
 abbrev pub invariant-loop-layer : goal.invariant-loop-layer

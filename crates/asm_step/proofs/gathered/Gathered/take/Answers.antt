@@ -1,11 +1,11 @@
-use Rattle.std.proofs.Common.{◌≡◌, T, List, ap, sym, ◌∙◌, subst, rules}
+use Rattle.std.proofs.Common.{◌≡◌, T, List, refl, ap, sym, ◌∙◌, subst, rules}
 use Rattle.std.specs.FinMap as finite
 use Rattle.std.specs.Option.{option_map, option_or}
 use Rattle.asm_element.specs.Ascending.{rising_rest}
 use Rattle.asm_element.specs.Place.{Place, location_cmp}
 use Rattle.asm_step.specs.Outcomes.{Outcome}
 use Rattle.asm_step.proofs.Insertions.{insert_step, or_itself, over_start, rising_start}
-use Rattle.asm_step.proofs.outcomes.Outcomes.take_copies.Goals as goal
+use Rattle.asm_step.proofs.gathered.Gathered.take.Goals as goal
 
 pub loop-at-init : goal.loop-at-init
 loop-at-init c =
@@ -26,7 +26,7 @@ loop-at-preserved c =
     record {
       rising = rising_rest location_cmp k v rest sorted;
       done = λ q.
-          insert_step (λ p w. w) k v rest c.loop-at.self c.put.new.self _ _ c.in_ok-put.ensures.ok c.in_ok-copy.ensures c.in_ok-copy-2.ensures sorted q
+          insert_step (λ p w. w) k v rest c.loop-at.self c.put.new.self _ _ c.in_ok-put.ensures refl c.of.ensures sorted q
           ∙ ap (λ (es : List (Place × Outcome)). option_or (option_map (λ w. w) (finite.find location_cmp q es)) (finite.get c.loop-at.self q)) (sym step)
           ∙ before.done q;
     }

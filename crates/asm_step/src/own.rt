@@ -1,0 +1,127 @@
+//! What a layer has of its own moves.
+ghost use Rattle.std.specs.Prelude.{◌≡◌, [], IfOk, OnOk, OnErr};
+ghost use Rattle.std.specs.Bool.{OnFalse};
+ghost use Rattle.std.specs.Option.{option_or};
+ghost use Rattle.std.specs.FinMap as map;
+ghost use Rattle.asm_element.specs.Place.{Place};
+ghost use Rattle.asm_step.specs.Outcomes.{own_of, put_alone, resting_in};
+
+use crate::gathered::Gathered;
+use crate::held::Held;
+use crate::outcomes::{Outcome, Outcomes};
+use asm_aggregate::only_put;
+use asm_element::{Location, Value};
+use asm_update::{Action, Instructions};
+use std::alloc::{AllocError, Global};
+use std::marker::Model;
+
+/// What the moves of a layer come to, which contracts see as outcomes. A first move of one put stands for its outcome,
+/// as it was pushed: its copy takes no memory, and most steps are of such a move.
+#[derive(Drop)]
+pub(crate) struct Own {
+    /// The move, if it is one put; there are no outcomes then.
+    pub(crate) put: Instructions,
+    /// An outcome for each location, for any other moves.
+    pub(crate) each: Outcomes,
+}
+
+impl Model for Own {
+    ghost use Rattle.std.specs.FinMap as map;
+    ghost use Rattle.asm_element.specs.Place.{location_cmp};
+    ghost use Rattle.asm_element.specs.contracts.location.Location.{the_row as location_row};
+    ghost use Rattle.asm_step.specs.Outcomes.{Outcome, own_of};
+    ghost use Rattle.asm_step.specs.contracts.outcomes.Outcome.{the_row as outcome_row};
+
+    ghost Value = { map.FinMap location_cmp Outcome };
+
+    ghost coded = { map.code location_row.coded outcome_row.coded };
+
+    ghost view = { λ s. own_of s.put s.each };
+}
+
+// The outcome of a put, laid open.
+fn laid_open(alloc: Global, at: &Location, value: &Value) -> Result<Outcomes, AllocError>
+    ensures { IfOk result (λ each. each ≡ put_alone (at.now, value.now)) }
+{
+    let mut outcome = Outcome::new(alloc, value.copy(alloc)?, false, false);
+    outcome.add(Action::Regular(value.copy(alloc)?))?;
+    let mut each = Outcomes::new(alloc);
+    each.put(at.copy(alloc)?, outcome)?;
+    Ok(each)
+}
+
+impl Own {
+    /// What a move of one put comes to.
+    pub(crate) fn of_put(alloc: Global, put: Instructions) -> Own
+        ensures { result ≡ own_of put map.empty }
+    {
+        Own {
+            put,
+            each: Outcomes::new(alloc),
+        }
+    }
+
+    pub(crate) fn of_each(alloc: Global, each: Outcomes) -> Own
+        ensures { result ≡ each }
+    {
+        Own {
+            put: Instructions::new(alloc),
+            each,
+        }
+    }
+
+    pub(crate) fn get(&self, at: &Location) -> Option<Held<'_>>
+        ensures { result ≡ map.get self.now at.now }
+    {
+        match only_put(&self.put) {
+            Some((put_at, value)) if put_at == at => Some(Held::of_put(value)),
+            Some(_) => None,
+            None => self.each.held(at),
+        }
+    }
+
+    /// Whether one of the outcomes rests on what is below.
+    pub(crate) fn rests_somewhere(&self) -> bool
+        ensures { OnFalse result (resting_in self.now ≡ []) }
+    {
+        match only_put(&self.put) {
+            Some(_) => false,
+            None => self.each.rests_somewhere(),
+        }
+    }
+
+    /// Gives each location what this has there.
+    pub(crate) fn gather<'a>(&'a self, all: &mut Gathered<'a>) -> Result<(), AllocError>
+        ensures { OnOk result ((q : Place) → map.get all.new q ≡ option_or (map.get self.now q) (map.get all.old q)) }
+    {
+        match only_put(&self.put) {
+            Some((at, value)) => all.put(at, Held::of_put(value)),
+            None => all.take(&self.each),
+        }
+    }
+
+    // The outcomes, laid open.
+    fn into_each(self, alloc: Global) -> Result<Outcomes, AllocError>
+        ensures { IfOk result (λ each. each ≡ self) }
+    {
+        match only_put(&self.put) {
+            Some((at, value)) => laid_open(alloc, at, value),
+            None => Ok(self.each),
+        }
+    }
+
+    /// Gives each location of those above what these have there. After an error nothing is changed.
+    pub(crate) fn take_in(&mut self, alloc: Global, above: Own) -> Result<(), AllocError>
+        ensures ok { OnOk result ((q : Place) → map.get self.new q ≡ option_or (map.get above q) (map.get self.old q)) }
+        ensures err { OnErr result (self.new ≡ self.old) }
+    {
+        let above = above.into_each(alloc)?;
+        let Some((at, value)) = only_put(&self.put) else {
+            return self.each.take_in(alloc, above);
+        };
+        let mut each = laid_open(alloc, at, value)?;
+        each.take_in(alloc, above)?;
+        *self = Own::of_each(alloc, each);
+        Ok(())
+    }
+}
