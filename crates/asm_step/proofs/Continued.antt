@@ -1,5 +1,5 @@
 -- One move that goes on with a next one: what it lists, and that it does what the two do in turn.
-use Rattle.std.proofs.Common.{◌≡◌, ◌≢◌, ◌≤◌, ◌+◌, Bool, true, false, cond, ◌&&◌, ◌||◌, List, [], ◌∷◌, ◌++◌, length, filter, map, All, Option, Some, None, is_some, IsSomeAnd, Result, Ok, Err, IsOk, IsErr, refl, sym, ap, subst, ◌∙◌, append-nil}
+use Rattle.std.proofs.Common.{◌≡◌, ◌≢◌, ◌≤◌, Bool, true, false, cond, ◌&&◌, ◌||◌, List, [], ◌∷◌, ◌++◌, length, filter, map, All, Option, Some, None, is_some, IsSomeAnd, Result, Ok, Err, IsOk, IsErr, refl, sym, ap, subst, ◌∙◌, append-nil}
 use Rattle.std.proofs.lemmas.Bool.{false≢true}
 use Rattle.std.proofs.lemmas.List.Folds.{list_any-append}
 use Rattle.std.specs.FinMap as finite
@@ -18,7 +18,7 @@ use Rattle.asm_update.specs.declared.action.Instruction.{Instruction}
 use Rattle.asm_update.specs.declared.clash.Clash.{Clash}
 use Rattle.asm_update.proofs.FireLemmas.{in_locations, is_in}
 use Rattle.asm_aggregate.specs.Bundle.{bundle_of}
-use Rattle.asm_aggregate.specs.Compose.{composed, composed_at, composition, before, gives, in_turn, IsSequence, NeverFires}
+use Rattle.asm_aggregate.specs.Compose.{composed, composed_at, composition, gives, in_turn, IsSequence, NeverFires}
 use Rattle.asm_aggregate.proofs.Bundles.{no_actions}
 use Rattle.asm_aggregate.proofs.Composed.{composed_is_sequence, refused_is_clash}
 use Rattle.asm_aggregate.proofs.Grouped.{actions_at-append, unwritten}

@@ -1,5 +1,5 @@
 -- The layer of a first move.
-use Rattle.std.proofs.Common.{◌≡◌, ◌++◌, ◌+◌, ◌≤◌, Bool, true, false, cond, All, List, [], ◌∷◌, length, map, Option, Some, None, Result, Ok, refl, sym, ap, subst, ◌∙◌, arith}
+use Rattle.std.proofs.Common.{◌≡◌, ◌++◌, ◌≤◌, Bool, true, false, cond, All, List, [], ◌∷◌, length, map, Option, Some, None, Result, Ok, refl, sym, ap, subst, ◌∙◌, arith}
 use Rattle.std.proofs.lemmas.List.Elements.{All-nil}
 use Rattle.std.specs.FinMap as finite
 use Rattle.std.specs.List.{list_any}
@@ -21,7 +21,7 @@ use Rattle.asm_update.specs.declared.action.Action.{Action}
 use Rattle.asm_update.specs.declared.action.Action.TheVariants.{Regular}
 use Rattle.asm_update.specs.declared.action.Instruction.{Instruction}
 use Rattle.asm_step.specs.Layers.{Layer, IsSound, frames_of, laid_on, outcomes_of, top_of}
-use Rattle.asm_step.specs.Next.{AreNext, IsComposed, IsLayerFrom, IsNext, first_alone, next_at, on_top, those}
+use Rattle.asm_step.specs.Next.{AreNext, IsComposed, IsLayerFrom, IsNext, next_at, on_top}
 use Rattle.asm_step.specs.Outcomes.{Outcome, Outcomes, acts_at, actions_in, builds_at, listed, own_of, put_alone, put_outcome, sees_at}
 use Rattle.asm_step.specs.declared.error.StepError.{StepError}
 use Rattle.asm_step.specs.declared.layer.OwnLayer.{OwnLayer}

@@ -1,4 +1,4 @@
-use Rattle.std.proofs.Common.{◌≡◌, ◌++◌, length, length-append, append_assoc, append-nil, ap, sym, ◌∙◌, arith, List}
+use Rattle.std.proofs.Common.{◌++◌, length, length-append, append_assoc, append-nil, ap, sym, ◌∙◌, arith, List}
 use Rattle.asm_aggregate.specs.Bundle.{by_place}
 use Rattle.asm_aggregate.specs.Compose.{placed}
 use Rattle.asm_element.specs.Place.{Place}

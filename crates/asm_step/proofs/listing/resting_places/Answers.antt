@@ -1,4 +1,4 @@
-use Rattle.std.proofs.Common.{◌≡◌, ◌++◌, ◌∷◌, [], append_assoc, append-nil, ap, sym, ◌∙◌, List}
+use Rattle.std.proofs.Common.{◌++◌, ◌∷◌, [], append_assoc, append-nil, ap, sym, ◌∙◌, List}
 use Rattle.asm_aggregate.specs.Bundle.{by_place}
 use Rattle.asm_element.specs.Place.{Place}
 use Rattle.asm_step.specs.Outcomes.{Outcome}

@@ -1,9 +1,8 @@
-use Rattle.std.proofs.Common.{◌<◌, true, false, take, length, ap, sym, ◌∙◌, arith}
+use Rattle.std.proofs.Common.{◌<◌, true, false, take, length, ap, ◌∙◌, arith}
 use Rattle.asm_step.specs.Layers.{outcomes_of}
 use Rattle.asm_step.specs.Next.{those}
 use Rattle.asm_step.proofs.Filled.{taken_all, taken_one}
-use Rattle.asm_step.proofs.Prefixes.{no_top_by_test, outcomes_without}
-use Rattle.asm_step.proofs.Split.{acts_nowhere, all_others, none_shared, one_fits, one_more}
+use Rattle.asm_step.proofs.Split.{one_fits, one_more}
 use Rattle.asm_step.proofs.step.Step.split.Goals as goal
 
 pub loop-instruction-init : goal.loop-instruction-init
