@@ -5,10 +5,14 @@ use Rattle.asm_journal.specs.Fault.{IsRefused}
 use Rattle.asm_journal.specs.declared.error.JournalError.{JournalError}
 use Rattle.asm_journal.specs.declared.error.JournalError.TheVariants as error
 
+-- the sentence that tells this of a line
+abbrev pub line_sentence : ℕ → List ℕ → List ℕ
+line_sentence k why = codes "journal line " ++ decimal k ++ codes ": " ++ why
+
 -- the sentence names this line, and then tells something of it
 abbrev pub TellsOfLine : ℕ → List ℕ → Type 0
 TellsOfLine k sentence =
-    (why : List ℕ) × (why ≢ []) × (sentence ≡ codes "journal line " ++ decimal k ++ codes ": " ++ why)
+    (why : List ℕ) × (why ≢ []) × (sentence ≡ line_sentence k why)
 
 -- the sentence names the line of this fault; of a journal that is cut, the line that isn't whole
 abbrev pub TellsFault : JournalError → List ℕ → Type 0

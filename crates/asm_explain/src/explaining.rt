@@ -83,14 +83,14 @@ fn accepts(alloc: Global, form: Form, text: &[u8]) -> Result<bool, AllocError>
     }
 }
 
-// What is said of JSON that has another form.
-fn said_of(alloc: Global, form: Form, json: &Json) -> Result<String, AllocError> {
+// What is said of a text, which is this JSON, that has another form.
+fn said_of(alloc: Global, form: Form, text: &[u8], json: &Json) -> Result<String, AllocError> {
     let fault = match form {
         Form::Locations => fault_of_locations(alloc, json)?,
         Form::Move => fault_of_move(alloc, json)?,
         Form::State => fault_of_state(alloc, json)?,
         Form::Event => fault_of_event(alloc, json)?,
-        Form::Script => return wrong_script(alloc, json),
+        Form::Script => return wrong_script(alloc, text, json),
     };
     fault.sentence(alloc)
 }
@@ -100,7 +100,7 @@ fn sentence(alloc: Global, form: Form, text: &[u8]) -> Result<String, AllocError
     ensures { IfOk result (λ s. string_bytes s ≢ []) }
 {
     let said = match Json::from_slice(alloc, text) {
-        Ok(json) => said_of(alloc, form, &json)?,
+        Ok(json) => said_of(alloc, form, text, &json)?,
         Err(error) if error.is_memory() => return Err(AllocError),
         Err(error) => not_json(alloc, text, &error, form == Form::Script)?,
     };

@@ -1,8 +1,8 @@
 //! Where and why a text is no journal: its line, counted from 1, and a sentence.
-ghost use Rattle.std.specs.Prelude.{IfOk, IfNone, IfSome, ◌≢◌, [], string_bytes};
+ghost use Rattle.std.specs.Prelude.{◌≡◌, IfOk, IfNone, IfSome, string_bytes};
 ghost use Rattle.asm_storage.specs.declared.history.History.{History};
 ghost use Rattle.asm_journal.specs.Reading.{ReadsAs};
-ghost use Rattle.asm_explain.specs.Lines.{TellsFault, TellsOfLine, TellsRefusal};
+ghost use Rattle.asm_explain.specs.Lines.{line_sentence as sentence_of, TellsFault, TellsOfLine, TellsRefusal};
 
 use crate::faults::{fault_of_event, is_of};
 use crate::script::wrong_init;
@@ -18,8 +18,6 @@ const HEADER: &str =
     "the first line of a journal is an object with the members agents, capacity, events, init and version";
 
 const VERSION: &str = "a journal has version 1 or 2";
-
-const EMPTY: &str = "an empty line";
 
 const LISTS: &str = "a journal of version 1 has no lists";
 
@@ -167,10 +165,10 @@ fn why_shape(alloc: Global, text: &[u8], number: u64) -> Result<String, AllocErr
 fn why_not_json(alloc: Global, text: &[u8], number: u64) -> Result<String, AllocError> {
     let line = line_of(text, number);
     if line.is_empty() {
-        return String::from_str(alloc, EMPTY);
+        return String::from_str(alloc, "an empty line");
     }
     match Json::from_slice(alloc, line) {
-        Ok(_) => String::from_str(alloc, EMPTY),
+        Ok(_) => String::from_str(alloc, "not JSON"),
         Err(error) if error.is_memory() => Err(AllocError),
         Err(error) => not_json(alloc, line, &error, false),
     }
@@ -200,11 +198,18 @@ fn why_cut(alloc: Global, text: &[u8], number: u64) -> Result<String, AllocError
 }
 
 // The sentence that tells this of the line.
-fn at_line(alloc: Global, line: u64, why: String) -> Result<String, AllocError>
+fn line_sentence(alloc: Global, line: u64, why: &String) -> Result<String, AllocError>
+    ensures { IfOk result (λ s. string_bytes s ≡ sentence_of line (string_bytes why.now)) }
+{
+    format!(in alloc; "journal line {line}: {why}")
+}
+
+// The same, in any case with something behind the line.
+fn at_line(alloc: Global, line: u64, said: String) -> Result<String, AllocError>
     ensures { IfOk result (λ s. TellsOfLine line (string_bytes s)) }
 {
-    let why = told(alloc, why)?;
-    format!(in alloc; "journal line {line}: {why}")
+    let why = told(alloc, said)?;
+    line_sentence(alloc, line, &why)
 }
 
 // The sentence that tells of this fault of the text.
@@ -232,8 +237,9 @@ pub fn explain_journal(alloc: Global, text: &[u8]) -> Result<Option<String>, All
     ensures accepted { IfOk result (λ said. IfNone said ((h : History) × ReadsAs text.now h)) }
     ensures refused { IfOk result (λ said. IfSome said (λ s. TellsRefusal text.now (string_bytes s))) }
 {
-    match from_text(alloc, text) {
-        Ok(_) => Ok(None),
-        Err(fault) => Ok(Some(sentence(alloc, text, fault)?)),
-    }
+    let fault = match from_text(alloc, text) {
+        Ok(_history) => return Ok(None),
+        Err(fault) => fault,
+    };
+    Ok(Some(sentence(alloc, text, fault)?))
 }

@@ -7,7 +7,7 @@ use asm_journal::{FromJson, two_members};
 use asm_overlay::FRAMES_LIMIT;
 use asm_script::{ScriptCause, ScriptError, parse_script};
 use asm_storage::AGENTS_LIMIT;
-use asm_update::{INSTRUCTIONS_LIMIT, UpdateSet};
+use asm_update::{INSTRUCTIONS_LIMIT, PlainState, UpdateSet};
 use serde_json::Value as Json;
 use std::alloc::{AllocError, Global};
 
@@ -73,9 +73,9 @@ fn wrong_count(alloc: Global, levels: &[Level], json: &Json) -> Result<Option<St
     let (Some((level, below)), Json::Array(items)) = (levels.split_first(), json) else {
         return Ok(None);
     };
-    let name = level.item;
-    if items.len() < level.least {
-        return Ok(Some(format!(in alloc; ": no {name}, at least 1")?));
+    let (name, least) = (level.item, level.least);
+    if items.len() < least {
+        return Ok(Some(format!(in alloc; ": no {name}, at least {least}")?));
     }
     if items.len() > level.most {
         let (count, most) = (grouped(alloc, items.len())?, grouped(alloc, level.most)?);
@@ -89,22 +89,27 @@ fn wrong_count(alloc: Global, levels: &[Level], json: &Json) -> Result<Option<St
     Ok(None)
 }
 
-// Whether a script of this step alone is refused for what it reads.
-fn reads_many(alloc: Global, step: &Json) -> Result<bool, AllocError> {
-    let step = step.to_string(alloc)?;
-    let script = format!(in alloc; "{{\"agents\":[[{step}]],\"init\":[]}}")?;
-    match parse_script(alloc, script.as_bytes()) {
+// Whether the script is refused for what a step reads, before anything else.
+fn reads_many(alloc: Global, script: &[u8]) -> Result<bool, AllocError> {
+    match parse_script(alloc, script) {
         Err(ScriptError::BadScript(cause)) => Ok(cause == ScriptCause::Reads),
         Err(ScriptError::Memory) => Err(AllocError),
         Ok(_) => Ok(false),
     }
 }
 
+// The script of this step alone.
+fn script_of(alloc: Global, step: &Json) -> Result<String, AllocError> {
+    let step = step.to_string(alloc)?;
+    format!(in alloc; "{{\"agents\":[[{step}]],\"init\":[]}}")
+}
+
 // The first step of the agent that reads too much, if one does.
 fn first_reading_many(alloc: Global, agent: &Json) -> Result<Option<usize>, AllocError> {
     if let Json::Array(steps) = agent {
         for (index, step) in steps.iter().enumerate() {
-            if reads_many(alloc, step)? {
+            let script = script_of(alloc, step)?;
+            if reads_many(alloc, script.as_bytes())? {
                 return Ok(Some(index));
             }
         }
@@ -169,8 +174,9 @@ fn trimmed(alloc: Global, said: &str) -> Result<String, AllocError> {
     )
 }
 
-/// What is wrong with JSON as a script, where it is none: first a wrong form, then too few or too many of something.
-pub(crate) fn wrong_script(alloc: Global, json: &Json) -> Result<String, AllocError> {
+/// What is wrong with a text, which is this JSON, as a script, where it is none: first a wrong form, then too few or
+/// too many of something.
+pub(crate) fn wrong_script(alloc: Global, text: &[u8], json: &Json) -> Result<String, AllocError> {
     let Some((agents, init)) = two_members(json, "agents", "init") else {
         return String::from_str(
             alloc,
@@ -180,11 +186,14 @@ pub(crate) fn wrong_script(alloc: Global, json: &Json) -> Result<String, AllocEr
     if let Some(said) = wrong_form(alloc, &LEVELS, agents)? {
         return trimmed(alloc, said.as_str());
     }
-    if !is_of::<asm_update::PlainState>(alloc, init)? {
+    if !is_of::<PlainState>(alloc, init)? {
         return wrong_init(alloc, init);
+    }
+    if reads_many(alloc, text)? {
+        return wrong_reads(alloc, agents);
     }
     match wrong_count(alloc, &LEVELS, agents)? {
         Some(said) => trimmed(alloc, said.as_str()),
-        None => wrong_reads(alloc, agents),
+        None => Ok(String::new(alloc)),
     }
 }

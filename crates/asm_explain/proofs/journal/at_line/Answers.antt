@@ -4,4 +4,5 @@ use Rattle.asm_explain.proofs.journal.at_line.Goals as goal
 
 pub returns : goal.returns
 returns c =
-    IfOk-weaker c.format.result _ _ (λ s is. (string_bytes c.in_ok-why.why', c.in_ok-why.ensures, is)) c.format.ensures
+    IfOk-weaker c.line_sentence.result _ _ (λ s is. (string_bytes c.in_ok-why.why, c.in_ok-why.ensures, is))
+    c.line_sentence.ensures
