@@ -10,20 +10,11 @@ use Rattle.asm_storage.specs.Machine.{Machine}
 use Rattle.asm_journal.specs.declared.error.JournalError.{JournalError}
 use Rattle.asm_journal.specs.declared.error.JournalError.TheVariants as journal_error
 use Rattle.asm_journal.specs.Check.{machine, machine_of, IsFirstWrong}
-use Rattle.asm_journal.specs.Fault.{BreaksHeader, BreaksEvent}
+use Rattle.asm_journal.specs.Fault.{BreaksEvent}
 use Rattle.asm_journal.specs.Reading.{IsHeader, HasEvents}
 use Rattle.asm_journal.proofs.OneHistory.{line_once, header_once}
-use Rattle.asm_journal.proofs.Refused.{header_stands, event_stands, next_event, same_left, one_header_fault, one_behind}
-use Rattle.asm_audit.specs.declared.error.AuditError.{AuditError}
-use Rattle.asm_audit.specs.declared.error.AuditError.TheVariants.{Journal, Apart, LongLine, Input, Memory}
-use Rattle.asm_audit.specs.declared.progress.Counts.{Counts}
-use Rattle.asm_audit.specs.declared.reading.Verdict.{Verdict}
-use Rattle.asm_audit.specs.declared.reading.Verdict.TheVariants.{Legal, Illegal}
-use Rattle.asm_audit.specs.Text.{IsBegun, HasJournal, HasJournals}
-use Rattle.asm_audit.specs.Chain.{state_left, last_left, AreLegalFrom, HasLegal, IsGoing}
-use Rattle.asm_audit.specs.Fault.{counted, BreaksNext, OpensApart}
-use Rattle.asm_audit.specs.Audited.{AreCounts, HasWrong, IsVerdict}
-use Rattle.asm_audit.specs.Laws.{IsOfText, OneVerdict}
+use Rattle.asm_journal.proofs.Refused.{event_stands, next_event, same_left, one_behind}
+use Rattle.asm_audit.specs.Text.{IsBegun, HasJournal}
 use Rattle.asm_audit.proofs.OneJournal.{events_begin, wrong_more}
 
 -- ---- the end of a journal's events: they are whole, or a line is at fault, or one is wrong

@@ -73,7 +73,7 @@ no_feed_inside : (a r : List ℕ) → NoFeed (a ++ 10 ∷ r) → ⊥
 no_feed_inside [] r h = h.0 refl
 no_feed_inside (x ∷ a) r h = no_feed_inside a r h.1
 
-ended : (text body rest : List ℕ) → EndsLine text body rest → HasNoLineFeed text → ⊥
+pub ended : (text body rest : List ℕ) → EndsLine text body rest → HasNoLineFeed text → ⊥
 ended text body rest h none = no_feed_inside body rest (subst NoFeed h.0 (recursion_from_All (λ b. b ≢ 10) text none))
 
 some_byte : (a r : List ℕ) → a ++ 10 ∷ r ≡ [] → ⊥

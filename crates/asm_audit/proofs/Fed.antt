@@ -1,6 +1,5 @@
 -- What is told of bytes, piece by piece.
-use Rattle.std.proofs.Common.{◌≡◌, ◌≢◌, ◌≤◌, ◌<◌, ◌+◌, ℕ, Bool, true, false, eqb, List, [], ◌∷◌, ◌++◌, length, take, Option, Some, None, Result, Ok, Err, refl, sym, ap, subst, ◌∙◌, inl, inr, append-nil, append_assoc, length-append, arith, All}
-use Rattle.std.specs.List.{flat_map}
+use Rattle.std.proofs.Common.{◌≡◌, ◌≢◌, ◌≤◌, ◌<◌, ℕ, Bool, true, false, eqb, List, [], ◌∷◌, ◌++◌, length, Option, Some, None, Result, Ok, Err, refl, sym, ap, subst, ◌∙◌, inl, inr, append-nil, append_assoc, length-append, arith}
 use Rattle.std.proofs.lemmas.Bool.{eqb-true, eqb-false}
 use Rattle.std.proofs.lemmas.Grind.{flat_map-append}
 use Rattle.std.proofs.lemmas.List.Elements.{All-append, All-nil, All-from_recursion}
@@ -11,18 +10,19 @@ use Rattle.asm_journal.specs.Reading.{HasNoLineFeed, EndsLine}
 use Rattle.asm_audit.specs.declared.error.AuditError.{AuditError}
 use Rattle.asm_audit.specs.declared.error.AuditError.TheVariants.{LongLine}
 use Rattle.asm_audit.specs.declared.opened.Opened.{Opened}
+use Rattle.asm_audit.specs.declared.progress.Counts.{Counts}
 use Rattle.asm_audit.specs.declared.progress.Progress.{Progress}
 use Rattle.asm_audit.specs.declared.progress.Told.{Told}
 use Rattle.asm_audit.specs.declared.progress.Told.TheVariants.{Legal, Illegal}
 use Rattle.asm_audit.specs.Limits.{line_limit}
-use Rattle.asm_audit.specs.Text.{IsLineBefore, IsShortLine, ended_lines, IsShortLines, HasShortLines, BeginsWithLong}
+use Rattle.asm_audit.specs.Text.{IsLineBefore, HasLineFeed, IsShortLine, ended_lines, IsShortLines, HasShortLines, BeginsWithLong}
 use Rattle.asm_audit.specs.Chain.{last_left}
 use Rattle.asm_audit.specs.Fault.{counted, HasLong, IsFaulty}
 use Rattle.asm_audit.specs.Opened.{history_of}
-use Rattle.asm_audit.specs.Audited.{IsRead, IsAudited, IsAnswer, IsFirstIllegal}
-use Rattle.asm_audit.specs.Fed.{IsFed, HasTaken, HasTakenSome, IsFedAnswer, LeavesLine}
+use Rattle.asm_audit.specs.Audited.{IsRead, IsAudited, IsAnswer, IsEnd, IsFirstIllegal}
+use Rattle.asm_audit.specs.Fed.{IsFed, HasTaken, HasTakenSome, IsFedAnswer, IsFedEnd, LeavesLine}
 use Rattle.asm_audit.specs.Kept.{IsKept}
-use Rattle.asm_audit.proofs.Extended.{begun_more}
+use Rattle.asm_audit.proofs.Extended.{begun_more, ended}
 use Rattle.asm_audit.proofs.Steps.{legal_more}
 
 -- ---- lines
@@ -199,15 +199,6 @@ taken_before part bytes front behind p q s line left right all taken same kept =
       (subst (λ l. HasTaken part front p line q l) (sym kept) taken),
 )
 
--- all of them
-pub taken_all : (part : Part) (bytes : List ℕ) (p q : Progress) (line left : List ℕ) →
-    HasTaken part bytes p line q left → HasTakenSome part bytes p line q left
-taken_all part bytes p q line left taken = (bytes, [], append-nil bytes, taken)
-
--- no byte
-pub taken_none : (part : Part) (p : Progress) (line : List ℕ) → HasTaken part [] p line p line
-taken_none part p line = λ text fed. subst (λ (t : List ℕ). IsFed part t p line) (sym (append-nil text)) fed
-
 -- ---- the end
 
 all_ended : (part : Part) (text : List ℕ) (p : Progress) (line : List ℕ) → line ≡ [] → (fed : IsFed part text p line) →
@@ -223,23 +214,23 @@ fed_audited part text p line none fed =
 pub fed_short : (part : Part) (text : List ℕ) (p : Progress) (line : List ℕ) → IsFed part text p line → HasShortLines text
 fed_short part text p line fed = (fed.ended, line, fed.all, fed.short, fed.open_line)
 
+-- what the end tells where the line is empty
+pub end_told : (part : Part) (p : Progress) (line : List ℕ) (r : Result Counts AuditError) → line ≡ [] → IsEnd part p r →
+    IsFedEnd part p line r
+end_told part p line (Ok w) none is =
+    λ text fed. (is text (fed_audited part text p line none fed), fed_short part text p line fed)
+end_told part p line (Err e) none is = λ text fed. is text (fed_audited part text p line none fed)
+
+-- a line without a line feed isn't told legal
+pub no_end : (line : List ℕ) → HasLineFeed line → HasNoLineFeed line → ⊥
+no_end line end none = ended line end.0 end.1 end.2 none
+
 pub open_before : (line : List ℕ) → line ≢ [] → HasNoLineFeed line → IsLineBefore line []
 open_before line some none = inr (refl, some, none)
 
 last_line : (part : Part) (text : List ℕ) (p : Progress) (line : List ℕ) (fed : IsFed part text p line) →
     fed.ended ++ (line ++ []) ≡ text
 last_line part text p line fed = ap (λ l. fed.ended ++ l) (append-nil line) ∙ fed.all
-
-pub open_right : (part : Part) (text : List ℕ) (p q : Progress) (line : List ℕ) → IsAnswer part line p q (Ok Legal) →
-    IsFed part text p line → IsAudited part text q
-open_right part text p q line answer fed =
-    subst (λ (t : List ℕ). IsAudited part t q) fed.all (answer fed.ended fed.audited)
-
-pub open_wrong : (part : Part) (text : List ℕ) (p q : Progress) (line : List ℕ) (j c : ℕ) → line ≢ [] →
-    IsAnswer part line p q (Ok (Illegal j c)) → IsFed part text p line → IsFirstIllegal part text j c
-open_wrong part text p q line j c some answer fed =
-    subst (λ (t : List ℕ). IsFirstIllegal part t j c) (last_line part text p line fed)
-    (answer fed.ended [] fed.audited (open_before line some fed.open_line.0))
 
 pub open_fault : (part : Part) (text : List ℕ) (p q : Progress) (line : List ℕ) (e : AuditError) → line ≢ [] →
     IsAnswer part line p q (Err e) → IsFed part text p line → IsFaulty part text e

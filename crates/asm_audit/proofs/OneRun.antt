@@ -1,5 +1,5 @@
 -- The moves of parts that go on from one another are one run.
-use Rattle.std.proofs.Common.{◌≡◌, ◌+◌, ℕ, List, [], ◌∷◌, ◌++◌, length, refl, sym, ap, subst, ◌∙◌, length-append, arith}
+use Rattle.std.proofs.Common.{◌≡◌, ◌+◌, ℕ, List, [], ◌∷◌, ◌++◌, length, refl, sym, ap, subst, ◌∙◌, length-append}
 use Rattle.asm_update.specs.Fire.{Part, state_of, state_or, fire}
 use Rattle.asm_update.specs.Move.{Move}
 use Rattle.asm_update.specs.State.{State}
@@ -8,12 +8,12 @@ use Rattle.asm_storage.specs.declared.history.History.{History}
 use Rattle.asm_storage.specs.History.{fired_moves, IsLegal}
 use Rattle.asm_storage.proofs.Legal.{fired_moves-append}
 use Rattle.asm_storage.proofs.Run.{run_from}
-use Rattle.asm_journal.specs.Check.{machine, machine_of}
+use Rattle.asm_journal.specs.Check.{machine}
 use Rattle.asm_journal.specs.Next.{IsRunFromStart}
 use Rattle.asm_journal.proofs.GoesOn.{run_goes_on}
 use Rattle.asm_audit.specs.Chain.{state_left, last_left, AreLegalFrom}
 use Rattle.asm_audit.specs.Audited.{moves_of}
-use Rattle.asm_audit.specs.Run.{all_events, IsOneRun}
+use Rattle.asm_audit.specs.Run.{all_events}
 use Rattle.asm_audit.specs.Laws.{OneRun}
 use Rattle.asm_audit.proofs.Chains.{legal_behind}
 

@@ -1,21 +1,17 @@
 -- Of a text an audit tells one thing alone.
-use Rattle.std.proofs.Common.{◌≡◌, ◌≢◌, ◌<◌, ◌+◌, ◌≤◌, ◌⊎◌, ℕ, List, [], ◌∷◌, ◌++◌, length, Option, Some, None, Result, Ok, Err, refl, sym, ap, subst, ◌∙◌, inl, inr, append-nil, length-append, arith}
+use Rattle.std.proofs.Common.{◌≡◌, ◌≢◌, ◌<◌, ◌+◌, ◌≤◌, ◌⊎◌, ℕ, List, [], ◌∷◌, ◌++◌, length, Some, None, Result, Ok, Err, refl, sym, ap, subst, ◌∙◌, inl, inr, append-nil, length-append, arith}
 use Rattle.std.proofs.lemmas.Bool.{cases_lt}
 use Rattle.asm_update.specs.Fire.{Part}
 use Rattle.asm_update.specs.State.{State}
-use Rattle.asm_storage.specs.declared.history.Event.{Event}
 use Rattle.asm_storage.specs.declared.history.History.{History}
 use Rattle.asm_storage.specs.History.{IsLegal}
-use Rattle.asm_storage.specs.Machine.{Machine}
 use Rattle.asm_journal.specs.declared.error.JournalError.{JournalError}
 use Rattle.asm_journal.specs.declared.error.JournalError.TheVariants as journal_error
-use Rattle.asm_journal.specs.Check.{machine, machine_of, IsFirstWrong}
+use Rattle.asm_journal.specs.Check.{machine_of}
 use Rattle.asm_journal.specs.Fault.{BreaksHeader, BreaksEvent}
-use Rattle.asm_journal.specs.Reading.{IsHeader, HasEvents}
-use Rattle.asm_journal.proofs.OneHistory.{line_once, header_once}
-use Rattle.asm_journal.proofs.Refused.{header_stands, event_stands, next_event, same_left, one_header_fault, one_behind}
+use Rattle.asm_journal.proofs.Refused.{header_stands, one_header_fault}
 use Rattle.asm_audit.specs.declared.error.AuditError.{AuditError}
-use Rattle.asm_audit.specs.declared.error.AuditError.TheVariants.{Journal, Apart, LongLine, Input, Memory}
+use Rattle.asm_audit.specs.declared.error.AuditError.TheVariants.{Journal, Apart, LongLine, Memory}
 use Rattle.asm_audit.specs.declared.progress.Counts.{Counts}
 use Rattle.asm_audit.specs.declared.reading.Verdict.{Verdict}
 use Rattle.asm_audit.specs.declared.reading.Verdict.TheVariants.{Legal, Illegal}
@@ -24,8 +20,7 @@ use Rattle.asm_audit.specs.Chain.{state_left, last_left, AreLegalFrom, HasLegal,
 use Rattle.asm_audit.specs.Fault.{counted, BreaksNext, OpensApart}
 use Rattle.asm_audit.specs.Audited.{AreCounts, HasWrong, IsVerdict}
 use Rattle.asm_audit.specs.Laws.{IsOfText, OneVerdict}
-use Rattle.asm_audit.proofs.OneJournal.{events_begin, wrong_more}
-use Rattle.asm_audit.proofs.Endings.{Ending, Ends, Begins, same_opening, same_end, same_journal}
+use Rattle.asm_audit.proofs.Endings.{Begins, same_opening, same_end, same_journal}
 
 -- ---- what stops an audit behind whole journals
 
@@ -35,7 +30,6 @@ Stop part A hs text (Ok (Illegal j c)) = (j ≡ counted (length hs)) × HasWrong
 Stop part A hs text (Err (Journal j f)) = (j ≡ counted (length hs)) × (f ≢ journal_error.Memory) × BreaksNext part A hs text f
 Stop part A hs text (Err (Apart j)) = (j ≡ counted (length hs)) × OpensApart part A hs text
 Stop part A hs text (Err LongLine) = ⊥
-Stop part A hs text (Err Input) = ⊥
 Stop part A hs text (Err Memory) = ⊥
 
 no_line : (body rest : List ℕ) → [] ≡ body ++ 10 ∷ rest → ⊥
@@ -89,7 +83,6 @@ module _ (part : Part) (A : State) (hs : List History) (text : List ℕ) where
   no_further (Err (Apart j)) s k after f =
       s.1.1.6 (same_opening text _ _ _ _ s.1.1.2 k s.1.1.3 after s.1.1.4 f.0.1 ∙ f.1 s.1.0)
   no_further (Err LongLine) s k after f = s
-  no_further (Err Input) s k after f = s
   no_further (Err Memory) s k after f = s
 
 -- ---- two stops at one place
@@ -181,10 +174,8 @@ stops_here part hs text A B (Err (Apart j)) (Ok (Illegal k c)) p q = absurd (ill
 stops_here part hs text A B (Err (Apart j)) (Err (Journal k e)) p q = absurd (fault_or_apart part hs text B A k j e q p)
 stops_here part hs text A B (Err (Apart j)) (Err (Apart k)) p q = let journal : j ≡ k = p.0 ∙ sym q.0 in cc
 stops_here part hs text A B (Err LongLine) s p q = absurd p
-stops_here part hs text A B (Err Input) s p q = absurd p
 stops_here part hs text A B (Err Memory) s p q = absurd p
 stops_here part hs text A B r (Err LongLine) p q = absurd q
-stops_here part hs text A B r (Err Input) p q = absurd q
 stops_here part hs text A B r (Err Memory) p q = absurd q
 
 -- ---- the whole text
@@ -206,7 +197,6 @@ stopped part text (Err (Journal j e)) of h =
 stopped part text (Err (Apart j)) of h =
     record { first = h.first; hs = h.before; rest = h.rest; has = h.has; stop = (h.numbered, h.next) }
 stopped part text (Err LongLine) of h = absurd of
-stopped part text (Err Input) of h = absurd of
 stopped part text (Err Memory) of h = absurd of
 
 journals_begin : (hs ks : List History) (text rest end : List ℕ) → HasJournals hs text rest → HasJournals ks text end →

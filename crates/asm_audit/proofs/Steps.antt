@@ -1,7 +1,5 @@
 -- What an audit has read after one more line.
-use Rattle.std.proofs.Common.{◌≡◌, ◌≢◌, ◌+◌, ◌≤◌, ◌<◌, ◌↔◌, ◌⊎◌, ℕ, Bool, true, false, List, [], ◌∷◌, ◌++◌, length, Option, Some, None, Result, Ok, Err, refl, sym, ap, subst, ◌∙◌, inl, inr, append-nil, arith, true≢false}
-use Rattle.std.specs.Prelude.{IsTrue}
-use Rattle.std.proofs.lemmas.Bool.{cases_lt}
+use Rattle.std.proofs.Common.{◌≡◌, ◌≢◌, ◌+◌, ◌≤◌, ◌<◌, ℕ, Bool, true, false, List, [], ◌∷◌, ◌++◌, length, Option, Some, None, refl, sym, ap, subst, ◌∙◌, inl, inr, append-nil, arith, true≢false}
 use Rattle.std.proofs.lemmas.List.{length_push}
 use Rattle.serde_json.specs.Data.{Data}
 use Rattle.asm_update.specs.Fire.{Part, state_of}
@@ -22,20 +20,16 @@ use Rattle.asm_journal.specs.Fault.{BreaksHeader, BreaksEvent}
 use Rattle.asm_journal.specs.Reading.{HasLine, IsHeader}
 use Rattle.asm_journal.specs.Value.{IsStateForm}
 use Rattle.asm_audit.specs.declared.opened.Opened.{Opened}
-use Rattle.asm_audit.specs.declared.progress.Progress.{Progress}
 use Rattle.asm_audit.specs.declared.progress.Counts.{Counts}
-use Rattle.asm_audit.specs.declared.progress.Told.{Told}
-use Rattle.asm_audit.specs.declared.progress.Told.TheVariants.{Legal, Illegal}
-use Rattle.asm_audit.specs.declared.error.AuditError.{AuditError}
 use Rattle.asm_audit.specs.declared.error.AuditError.TheVariants.{Apart}
 use Rattle.asm_audit.specs.Text.{IsLineBefore, IsBegun, HasJournals}
 use Rattle.asm_audit.specs.Chain.{last_left, AreLegalFrom, HasLegal, IsGoing}
 use Rattle.asm_audit.specs.Fault.{counted, told_fault, BreaksNext, IsBehind, IsFaulty}
-use Rattle.asm_audit.specs.Opened.{history_of, IsReading, IsTaken, IsEventAnswer}
-use Rattle.asm_audit.specs.Audited.{calls_of, moves_of, AreCounts, IsRead, IsAudited, IsWhole, IsFirstIllegal, IsAnswer}
+use Rattle.asm_audit.specs.Opened.{history_of, IsReading, IsTaken}
+use Rattle.asm_audit.specs.Audited.{calls_of, moves_of, AreCounts, IsAudited, IsWhole, IsFirstIllegal}
 use Rattle.asm_audit.specs.Step.{whole_with, all_with, is_between, IsOnTest}
 use Rattle.asm_audit.proofs.SameState.{IsHeld, proper_held, written_held, left_held, same_values}
-use Rattle.asm_audit.proofs.Extended.{begun_more, journals_more, journals_push, begun_push, some_before, line_before, header_fault, event_fault}
+use Rattle.asm_audit.proofs.Extended.{begun_more, journals_more, journals_push, begun_push, some_before, line_before, header_fault}
 use Rattle.asm_audit.proofs.Chains.{legal_none, legal_push, moves_push, chain_push, last_push, calls_push, moves_of_push, some_push}
 
 -- nothing was read

@@ -1,42 +1,19 @@
 -- What a line tells.
-use Rattle.std.proofs.Common.{◌≡◌, ◌≢◌, ◌+◌, ◌≤◌, ◌<◌, ◌↔◌, ◌⊎◌, ℕ, Bool, true, false, List, [], ◌∷◌, ◌++◌, length, Option, Some, None, Result, Ok, Err, refl, sym, ap, subst, ◌∙◌, inl, inr, append-nil, arith, true≢false}
+use Rattle.std.proofs.Common.{◌≡◌, ◌+◌, ◌≤◌, ◌<◌, ◌↔◌, ◌⊎◌, ℕ, Bool, false, List, [], ◌++◌, Option, Some, Result, Ok, Err, sym, ap, subst, ◌∙◌, inl, inr, true≢false}
 use Rattle.std.specs.Prelude.{IsTrue}
 use Rattle.std.proofs.lemmas.Bool.{cases_lt}
-use Rattle.std.proofs.lemmas.List.{length_push}
-use Rattle.serde_json.specs.Data.{Data}
-use Rattle.asm_update.specs.Fire.{Part, state_of}
-use Rattle.asm_update.specs.State as state
-use Rattle.asm_update.specs.State.{State, IsProper, val}
-use Rattle.asm_element.specs.Place.{Place}
-use Rattle.asm_state.specs.Stands.{Stands}
-use Rattle.asm_state.specs.View.{value_at}
-use Rattle.asm_storage.specs.declared.history.Event.{Event}
-use Rattle.asm_storage.specs.declared.history.History.{History}
-use Rattle.asm_storage.specs.History.{fired_moves}
-use Rattle.asm_journal.specs.declared.error.JournalError.{JournalError}
-use Rattle.asm_journal.specs.declared.error.JournalError.TheVariants as journal_error
-use Rattle.asm_journal.specs.declared.parsing.Header.{Header}
-use Rattle.asm_journal.specs.declared.parsing.Limits.{Limits}
-use Rattle.asm_journal.specs.Check.{machine}
-use Rattle.asm_journal.specs.Fault.{BreaksHeader, BreaksEvent}
-use Rattle.asm_journal.specs.Reading.{HasLine, IsHeader}
-use Rattle.asm_journal.specs.Value.{IsStateForm}
+use Rattle.asm_update.specs.Fire.{Part}
 use Rattle.asm_audit.specs.declared.opened.Opened.{Opened}
 use Rattle.asm_audit.specs.declared.progress.Progress.{Progress}
-use Rattle.asm_audit.specs.declared.progress.Counts.{Counts}
 use Rattle.asm_audit.specs.declared.progress.Told.{Told}
 use Rattle.asm_audit.specs.declared.progress.Told.TheVariants.{Legal, Illegal}
 use Rattle.asm_audit.specs.declared.error.AuditError.{AuditError}
-use Rattle.asm_audit.specs.declared.error.AuditError.TheVariants.{Apart}
-use Rattle.asm_audit.specs.Text.{IsLineBefore, IsBegun, HasJournals}
-use Rattle.asm_audit.specs.Chain.{last_left, AreLegalFrom, HasLegal, IsGoing}
-use Rattle.asm_audit.specs.Fault.{counted, told_fault, BreaksNext, IsBehind, IsFaulty}
-use Rattle.asm_audit.specs.Opened.{history_of, IsReading, IsTaken, IsEventAnswer}
-use Rattle.asm_audit.specs.Audited.{calls_of, moves_of, AreCounts, IsRead, IsAudited, IsWhole, IsFirstIllegal, IsAnswer}
+use Rattle.asm_audit.specs.Text.{IsLineBefore}
+use Rattle.asm_audit.specs.Fault.{IsFaulty}
+use Rattle.asm_audit.specs.Opened.{IsEventAnswer}
+use Rattle.asm_audit.specs.Audited.{IsRead, IsAudited, IsFirstIllegal, IsAnswer}
 use Rattle.asm_audit.specs.Kept.{IsKept}
-use Rattle.asm_audit.proofs.SameState.{IsHeld, proper_held, written_held, left_held, same_values}
-use Rattle.asm_audit.proofs.Extended.{begun_more, journals_more, journals_push, begun_push, some_before, line_before, header_fault, event_fault}
-use Rattle.asm_audit.proofs.Chains.{legal_none, legal_push, moves_push, chain_push, last_push, calls_push, moves_of_push, some_push}
+use Rattle.asm_audit.proofs.Extended.{event_fault}
 use Rattle.asm_audit.proofs.Steps.{event_wrong, event_right, event_broken}
 
 -- the same, where this is what is read

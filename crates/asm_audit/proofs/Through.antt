@@ -1,14 +1,13 @@
 -- An input, as it is read chunk by chunk.
-use Rattle.std.proofs.Common.{◌≡◌, ℕ, zero, suc, ◌<◌, List, [], ◌∷◌, ◌++◌, length, take, Option, Some, None, IfSome, Result, Ok, Err, refl, sym, ap, subst, ◌∙◌, append-nil, append_assoc}
+use Rattle.std.proofs.Common.{◌≡◌, ℕ, List, [], ◌++◌, take, Option, Some, None, IfSome, Ok, Err, refl, sym, ap, subst, ◌∙◌, append-nil, append_assoc}
 use Rattle.std.specs.Io.KnownBytes.{Consumes, IsAtEnd}
 use Rattle.asm_update.specs.Fire.{Part}
 use Rattle.asm_audit.specs.declared.error.AuditError.{AuditError}
 use Rattle.asm_audit.specs.declared.progress.Progress.{Progress}
-use Rattle.asm_audit.specs.declared.progress.Told.TheVariants.{Legal, Illegal}
-use Rattle.asm_audit.specs.declared.reading.Verdict.{Verdict}
-use Rattle.asm_audit.specs.Audited.{IsFirstIllegal, IsVerdict}
+use Rattle.asm_audit.specs.declared.progress.Told.TheVariants.{Illegal}
+use Rattle.asm_audit.specs.Audited.{IsFirstIllegal}
 use Rattle.asm_audit.specs.Fault.{IsFaulty}
-use Rattle.asm_audit.specs.Fed.{IsFed, HasTaken, IsFedAnswer, IsFedEnd}
+use Rattle.asm_audit.specs.Fed.{IsFed, HasTaken, IsFedAnswer}
 
 -- of the text some bytes were fed, and these are left
 pub record IsReadTo (part : Part) (text : List ℕ) (p : Progress) (line : List ℕ) (left : Option (List ℕ)) : Type 0 where
@@ -68,16 +67,15 @@ told_fault part text p q line next bytes left e chunk answer =
     subst (λ (t : List ℕ). IsFaulty part t e) chunk.all (answer chunk.done chunk.rest chunk.fed)
 
 -- no byte was left
-pub told_end : (part : Part) (text : List ℕ) (p : Progress) (line buffer : List ℕ) (left : Option (List ℕ)) (n : ℕ)
-    (r : Result Verdict AuditError) → n ≡ 0 → IsChunk part text p line (take n buffer) left → IsAtEnd left →
-    IsFedEnd part p line r → IsVerdict part text r
-told_end part text p line buffer left n r none chunk end told =
+pub all_fed : (part : Part) (text : List ℕ) (p : Progress) (line buffer : List ℕ) (left : Option (List ℕ)) (n : ℕ) → n ≡ 0 →
+    IsChunk part text p line (take n buffer) left → IsAtEnd left → IsFed part text p line
+all_fed part text p line buffer left n none chunk end =
     let nothing : take n buffer ≡ [] = ap (λ k. take k buffer) none in
     let last : chunk.rest ≡ [] = subst IsAtEnd chunk.known end in
     let same : chunk.done ≡ text =
     sym (append-nil chunk.done) ∙ ap (λ (l : List ℕ). chunk.done ++ l) (sym last)
     ∙ ap (λ (l : List ℕ). chunk.done ++ (l ++ chunk.rest)) (sym nothing) ∙ chunk.all in
-    told text (subst (λ (t : List ℕ). IsFed part t p line) same chunk.fed)
+    subst (λ (t : List ℕ). IsFed part t p line) same chunk.fed
 
 -- what is so where the bytes are known
 pub where_known : (known : Option (List ℕ)) (P Q : List ℕ → Type 0) → ((xs : List ℕ) → P xs → Q xs) → IfSome known P →

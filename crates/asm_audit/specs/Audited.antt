@@ -8,6 +8,8 @@ use Rattle.asm_journal.specs.Check.{machine_of, IsFirstWrong}
 use Rattle.asm_journal.specs.declared.error.JournalError.TheVariants as journal_error
 use Rattle.asm_audit.specs.declared.error.AuditError.{AuditError}
 use Rattle.asm_audit.specs.declared.error.AuditError.TheVariants.{Journal}
+use Rattle.asm_audit.specs.declared.error.AuditInputError.{AuditInputError}
+use Rattle.asm_audit.specs.declared.error.AuditInputError.TheVariants.{Audit, Input}
 use Rattle.asm_audit.specs.declared.opened.Opened.{Opened}
 use Rattle.asm_audit.specs.declared.progress.Progress.{Progress}
 use Rattle.asm_audit.specs.declared.progress.Told.{Told}
@@ -92,3 +94,9 @@ abbrev pub IsVerdict : Part → List ℕ → Result Verdict AuditError → Type 
 IsVerdict part text (Ok (verdict.Legal w)) = IsWhole part text w × HasShortLines text
 IsVerdict part text (Ok (verdict.Illegal j c)) = IsFirstIllegal part text j c
 IsVerdict part text (Err e) = IsFaulty part text e
+
+-- what is told of an input that had this text; a failed read tells nothing of it
+abbrev pub IsInputVerdict : Part → List ℕ → Result Verdict AuditInputError → Type 0
+IsInputVerdict part text (Ok v) = IsVerdict part text (Ok v)
+IsInputVerdict part text (Err (Audit e)) = IsVerdict part text (Err e)
+IsInputVerdict part text (Err Input) = Unit {0}

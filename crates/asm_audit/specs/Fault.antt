@@ -7,7 +7,7 @@ use Rattle.asm_journal.specs.declared.error.JournalError.{JournalError}
 use Rattle.asm_journal.specs.declared.error.JournalError.TheVariants as journal_error
 use Rattle.asm_journal.specs.Fault.{BreaksHeader, BreaksEvent}
 use Rattle.asm_audit.specs.declared.error.AuditError.{AuditError}
-use Rattle.asm_audit.specs.declared.error.AuditError.TheVariants.{Journal, Apart, LongLine, Input, Memory}
+use Rattle.asm_audit.specs.declared.error.AuditError.TheVariants.{Journal, Apart, LongLine, Memory}
 use Rattle.asm_audit.specs.Text.{IsBegun, BeginsWithLong}
 use Rattle.asm_audit.specs.Chain.{last_left, HasLegal, IsGoing}
 
@@ -54,11 +54,10 @@ pub record IsBehind (part : Part) (text : List ℕ) (number : ℕ) (Next : State
     pub numbered : number ≡ counted (length before)
     pub next : Next first before rest
 
--- the text has this fault behind whole legal parts; a failed read and refused memory tell nothing of the text
+-- the text has this fault behind whole legal parts; refused memory tells nothing of the text
 abbrev pub IsFaulty : Part → List ℕ → AuditError → Type 0
 IsFaulty part text (Journal j fault) =
     (fault ≢ journal_error.Memory) × IsBehind part text j (λ A before rest. BreaksNext part A before rest fault)
 IsFaulty part text (Apart j) = IsBehind part text j (OpensApart part)
 IsFaulty part text LongLine = (j : ℕ) × IsBehind part text j (HasLong part)
-IsFaulty part text Input = Unit {0}
 IsFaulty part text Memory = Unit {0}

@@ -5,7 +5,8 @@ use Rattle.asm_audit.specs.declared.error.AuditError.{AuditError}
 use Rattle.asm_audit.specs.declared.progress.Progress.{Progress}
 use Rattle.asm_audit.specs.declared.progress.Told.{Told}
 use Rattle.asm_audit.specs.declared.progress.Told.TheVariants.{Legal, Illegal}
-use Rattle.asm_audit.specs.declared.reading.Verdict.{Verdict}
+use Rattle.asm_audit.specs.declared.progress.Counts.{Counts}
+use Rattle.asm_audit.specs.declared.reading.Verdict.TheVariants as verdict
 use Rattle.asm_audit.specs.Text.{IsShortLine, IsShortLines}
 use Rattle.asm_audit.specs.Fault.{IsFaulty}
 use Rattle.asm_audit.specs.Audited.{IsAudited, IsFirstIllegal, IsVerdict}
@@ -35,9 +36,10 @@ IsFedAnswer part bytes p line q left (Ok (Illegal j c)) =
 IsFedAnswer part bytes p line q left (Err e) =
     (text more : List ℕ) → IsFed part text p line → IsFaulty part (text ++ (bytes ++ more)) e
 
--- what is told where no byte comes behind
-abbrev pub IsFedEnd : Part → Progress → List ℕ → Result Verdict AuditError → Type 0
-IsFedEnd part p line r = (text : List ℕ) → IsFed part text p line → IsVerdict part text r
+-- what is told of any text that was fed where no byte comes behind
+abbrev pub IsFedEnd : Part → Progress → List ℕ → Result Counts AuditError → Type 0
+IsFedEnd part p line (Ok w) = (text : List ℕ) → IsFed part text p line → IsVerdict part text (Ok (verdict.Legal w))
+IsFedEnd part p line (Err e) = (text : List ℕ) → IsFed part text p line → IsVerdict part text (Err e)
 
 -- a line that was told legal is let go; else it is as it was
 abbrev pub LeavesLine : List ℕ → List ℕ → Result Told AuditError → Type 0

@@ -8,7 +8,7 @@ use Rattle.asm_journal.specs.declared.error.JournalError.{JournalError}
 use Rattle.asm_journal.specs.Fault.{IsRefused}
 use Rattle.asm_journal.specs.Reading.{ReadsAs}
 use Rattle.asm_audit.specs.declared.error.AuditError.{AuditError}
-use Rattle.asm_audit.specs.declared.error.AuditError.TheVariants.{Journal, Apart, LongLine, Input, Memory}
+use Rattle.asm_audit.specs.declared.error.AuditError.TheVariants.{Journal, Apart, LongLine, Memory}
 use Rattle.asm_audit.specs.declared.reading.Verdict.{Verdict}
 use Rattle.asm_audit.specs.Fault.{IsFaulty}
 use Rattle.asm_update.specs.State.{State}
@@ -33,13 +33,12 @@ OneIllegal = (part : Part) (text : List ℕ) (h : History) (call : ℕ) → Read
 abbrev pub FirstFault : Type 0
 FirstFault = (part : Part) (text : List ℕ) (fault : JournalError) → IsFaulty part text (Journal 0 fault) → IsRefused text fault
 
--- what is told is of the calls or the form of the text: no memory was refused, no read failed, and no line was too long
+-- what is told is of the calls or of the form of the text: no memory was refused, and no line was too long
 abbrev pub IsOfText : Result Verdict AuditError → Type 0
 IsOfText (Ok v) = Unit {0}
 IsOfText (Err (Journal j fault)) = Unit {0}
 IsOfText (Err (Apart j)) = Unit {0}
 IsOfText (Err LongLine) = ⊥
-IsOfText (Err Input) = ⊥
 IsOfText (Err Memory) = ⊥
 
 -- One thing alone is told of a text.

@@ -11,6 +11,10 @@ abbrev pub IsLineBefore : List ℕ → List ℕ → Type 0
 IsLineBefore line rest =
     ((body : List ℕ) × EndsLine line body []) ⊎ ((rest ≡ []) × (line ≢ []) × HasNoLineFeed line)
 
+-- the line has a line feed
+abbrev pub HasLineFeed : List ℕ → Type 0
+HasLineFeed line = (body rest : List ℕ) × EndsLine line body rest
+
 -- the text is the header line of a journal of this version and of so many events, a line for each event of the history,
 -- which may have fewer, and the rest
 pub record IsBegun (v count : ℕ) (h : History) (text rest : List ℕ) : Type 0 where

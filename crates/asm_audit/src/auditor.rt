@@ -1,6 +1,6 @@
 //! The audit of a run, line by line.
-ghost use Rattle.std.specs.Prelude.{◌≡◌, []};
-ghost use Rattle.asm_audit.specs.Text.{IsLineBefore};
+ghost use Rattle.std.specs.Prelude.{◌≡◌, [], OnOk};
+ghost use Rattle.asm_audit.specs.Text.{IsLineBefore, HasLineFeed};
 ghost use Rattle.asm_audit.specs.Audited.{IsAudited, IsAnswer, IsEnd, IsCutEnd};
 ghost use Rattle.asm_audit.specs.Kept.{IsKept};
 
@@ -33,7 +33,7 @@ impl<A: Aggregator + Drop> Auditor<A> {
     }
 
     /// Takes the next line, with the line feed that ends it. The last line of a text may come without one; it is then
-    /// told to be cut, if it isn't at fault before that.
+    /// told as cut or, where it isn't JSON, so.
     ///
     /// What is told is so whatever lines come behind this one. `Legal`: each answer so far is right. `Illegal`: this
     /// line's event is the first whose answer isn't the one that the storage of one thread gives. `Journal`: the line
@@ -48,6 +48,7 @@ impl<A: Aggregator + Drop> Auditor<A> {
         ensures aggregator { self.new.aggregator ≡ self.old.aggregator }
         ensures told { IsAnswer (A.meaning self.old.aggregator).part line.now self.old.progress self.new.progress result }
         ensures kept { IsKept self.old.progress self.new.progress result }
+        ensures ended { OnOk result (HasLineFeed line.now) }
     {
         self.progress.line(alloc, &self.aggregator, line)
     }

@@ -5,8 +5,7 @@ ghost use Rattle.asm_audit.specs.Limits.{line_limit};
 
 use crate::auditor::Auditor;
 use crate::error::AuditError;
-use crate::progress::Told;
-use crate::reading::Verdict;
+use crate::progress::{Counts, Told};
 use asm_update::Aggregator;
 use std::alloc::Global;
 
@@ -105,20 +104,23 @@ impl<A: Aggregator + Drop> ByteAuditor<A> {
         Ok(Told::Legal)
     }
 
-    /// What is told of the run if no further byte comes.
+    /// What is told of the run if no further byte comes: how many calls, moves and parts it has, where the bytes are
+    /// whole legal parts, one at least. The auditor is as it was, and further bytes may come.
     ///
-    /// `Legal`: the bytes are whole legal parts, one at least. Behind them stands no line without its line feed: such a
-    /// line is told as `Auditor::line` tells it.
-    pub fn finish(&mut self, alloc: Global) -> Result<Verdict, AuditError>
-        ensures { IsFedEnd (A.meaning self.old.auditor.aggregator).part self.old.auditor.progress
+    /// `Journal` with `Cut` where the last part lacks an event or no byte came, and with `Cut` or `NotJson` where the
+    /// last line has no line feed. `Memory` comes only where memory was refused, for such a line.
+    pub fn finish(&mut self, alloc: Global) -> Result<Counts, AuditError>
+        ensures told { IsFedEnd (A.meaning self.old.auditor.aggregator).part self.old.auditor.progress
             self.old.line.items result }
+        ensures auditor { self.new.auditor ≡ self.old.auditor }
+        ensures line { self.new.line.items ≡ self.old.line.items }
     {
         if self.line.is_empty() {
-            return Ok(Verdict::Legal(self.auditor.finish()?));
+            return self.auditor.finish();
         }
-        match self.auditor.line(alloc, self.line.as_slice())? {
-            Told::Legal => Ok(Verdict::Legal(self.auditor.finish()?)),
-            Told::Illegal { part, call } => Ok(Verdict::Illegal { part, call }),
+        match self.auditor.line(alloc, self.line.as_slice()) {
+            Err(error) => Err(error),
+            Ok(_) => unreachable!(),
         }
     }
 }

@@ -2,6 +2,7 @@
 ghost use Rattle.std.specs.Prelude.{◌≡◌};
 ghost use Rattle.asm_audit.specs.Fault.{told_fault};
 ghost use Rattle.asm_audit.specs.declared.error.AuditError.TheVariants as audit_error;
+ghost use Rattle.asm_audit.specs.declared.error.AuditInputError.TheVariants as input_error;
 
 use asm_journal::JournalError;
 use std::alloc::{AllocError, AllocFailed};
@@ -19,9 +20,6 @@ pub enum AuditError {
     /// A line has more than 16,777,216 bytes.
     #[error("a line is too long")]
     LongLine,
-    /// A read of the input failed.
-    #[error("the input failed")]
-    Input,
     /// The memory that the call asked for was refused.
     #[error("out of memory")]
     Memory,
@@ -40,6 +38,25 @@ impl<T: Drop> From<AllocFailed<T>> for AuditError {
 
     fn from(_error: AllocFailed<T>) -> AuditError {
         AuditError::Memory
+    }
+}
+
+/// Why an input isn't audited to its end.
+#[derive(Clone, Copy, Debug, Drop, PartialEq, Eq, Error)]
+pub enum AuditInputError {
+    /// The audit of what it gave has ended so.
+    #[error("{0}")]
+    Audit(AuditError),
+    /// A read of it failed.
+    #[error("the input failed")]
+    Input,
+}
+
+impl From<AuditError> for AuditInputError {
+    ghost from_gives = { λ e r. r ≡ input_error.Audit e };
+
+    fn from(error: AuditError) -> AuditInputError {
+        AuditInputError::Audit(error)
     }
 }
 

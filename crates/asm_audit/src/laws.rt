@@ -8,7 +8,7 @@ pub fn one_journal()
     ensures fault { FirstFault }
 {}
 
-/// Of a text an audit tells one thing alone, unless memory is refused, a read fails or a line is too long.
+/// Of a text an audit tells one thing alone, unless memory is refused or a line is too long.
 pub fn one_verdict()
     ensures { OneVerdict }
 {}

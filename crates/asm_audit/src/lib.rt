@@ -11,6 +11,6 @@ mod reading;
 
 pub use auditor::Auditor;
 pub use byte_auditor::{ByteAuditor, LINE_LIMIT};
-pub use error::AuditError;
+pub use error::{AuditError, AuditInputError};
 pub use progress::{Counts, Told};
 pub use reading::{Verdict, audit};

@@ -1,7 +1,7 @@
 //! How far an audit is.
-ghost use Rattle.std.specs.Prelude.{◌≡◌, ◌<◌, [], List, ℕ, IfOk};
+ghost use Rattle.std.specs.Prelude.{◌≡◌, ◌<◌, [], List, ℕ, IfOk, OnOk};
 ghost use Rattle.asm_update.specs.Fire.{Part};
-ghost use Rattle.asm_audit.specs.Text.{IsLineBefore};
+ghost use Rattle.asm_audit.specs.Text.{IsLineBefore, HasLineFeed};
 ghost use Rattle.asm_audit.specs.Opened.{IsEventAnswer};
 ghost use Rattle.asm_audit.specs.Step.{whole_with, all_with, is_between, IsNextTest, IsOnTest};
 ghost use Rattle.asm_audit.specs.Kept.{IsKept};
@@ -76,6 +76,7 @@ fn take_event<A: Aggregator>(
     requires { opened.old.taken < opened.old.limits.events }
     ensures told { IsEventAnswer (A.meaning aggregator.now).part number line.now opened.old opened.new result }
     ensures kept { IsKept opened.old opened.new result }
+    ensures ended { OnOk result (HasLineFeed line.now) }
 {
     let call = u64::from(opened.taken);
     match opened.take(alloc, aggregator, line) {
@@ -126,6 +127,7 @@ impl Progress {
         requires between { is_between self.old.opened }
         ensures told { (part : Part) → IsAnswer part line.now self.old self.new result }
         ensures kept { IsKept self.old self.new result }
+        ensures ended { OnOk result (HasLineFeed line.now) }
     {
         let before = self.all();
         let header = match read_header(alloc, line) {
@@ -151,6 +153,7 @@ impl Progress {
         requires { IsLineBefore line.now [] }
         ensures told { IsAnswer (A.meaning aggregator.now).part line.now self.old self.new result }
         ensures kept { IsKept self.old self.new result }
+        ensures ended { OnOk result (HasLineFeed line.now) }
     {
         match &mut self.opened {
             Some(opened) => {

@@ -1,10 +1,10 @@
 //! The audit of a whole input.
 ghost use Rattle.std.specs.Prelude.{IfSome, []};
-ghost use Rattle.asm_audit.specs.Audited.{IsVerdict};
+ghost use Rattle.asm_audit.specs.Audited.{IsInputVerdict};
 ghost use Rattle.asm_audit.specs.Fed.{IsFed};
 
 use crate::byte_auditor::ByteAuditor;
-use crate::error::AuditError;
+use crate::error::AuditInputError;
 use crate::progress::{Counts, Told};
 use asm_update::Aggregator;
 use std::alloc::Global;
@@ -28,40 +28,40 @@ fn take_all<A: Aggregator + Drop, R: Read>(
     alloc: Global,
     auditor: &mut ByteAuditor<A>,
     input: &mut R,
-) -> Result<Verdict, AuditError>
+) -> Result<Verdict, AuditInputError>
     requires { IsFed (A.meaning auditor.old.auditor.aggregator).part [] auditor.old.auditor.progress
         auditor.old.line.items }
     ensures { IfSome (R.remaining input.old) (λ text.
-        IsVerdict (A.meaning auditor.old.auditor.aggregator).part text result) }
+        IsInputVerdict (A.meaning auditor.old.auditor.aggregator).part text result) }
 {
     let mut buffer = [0u8; CHUNK];
     'chunks: for _ in 0..u64::MAX {
         let count = match input.read(&mut buffer) {
             Ok(count) => count,
-            Err(_) => return Err(AuditError::Input),
+            Err(_) => return Err(AuditInputError::Input),
         };
         if count == 0 {
-            return auditor.finish(alloc);
+            return Ok(Verdict::Legal(auditor.finish(alloc)?));
         }
         match auditor.feed(alloc, &buffer[..count])? {
             Told::Legal => {}
             Told::Illegal { part, call } => return Ok(Verdict::Illegal { part, call }),
         }
     }
-    Err(AuditError::Input)
+    Err(AuditInputError::Input)
 }
 
-/// Audits the run that an input gives, up to its end or to the byte at which something is told; nothing behind the
-/// chunk of 4,096 bytes with that byte is read.
+/// Audits the run that an input gives, up to its end or to where something is told; it reads no further than the chunk
+/// of 4,096 bytes in which that stands.
 ///
-/// It holds the state, one line and a chunk. The errors are those of `ByteAuditor`, and `Input` where a read failed, or
-/// after 18,446,744,073,709,551,615 reads; no read is tried again.
+/// It holds the state, one line and a chunk. `Audit` has the error of a `ByteAuditor`. `Input` comes only where a read
+/// failed, or after 18,446,744,073,709,551,615 reads; no read is tried again.
 pub fn audit<A: Aggregator + Drop, R: Read>(
     alloc: Global,
     aggregator: A,
     input: &mut R,
-) -> Result<Verdict, AuditError>
-    ensures { IfSome (R.remaining input.old) (λ text. IsVerdict (A.meaning aggregator).part text result) }
+) -> Result<Verdict, AuditInputError>
+    ensures { IfSome (R.remaining input.old) (λ text. IsInputVerdict (A.meaning aggregator).part text result) }
 {
     let mut auditor = ByteAuditor::new(alloc, aggregator);
     let verdict = take_all(alloc, &mut auditor, input);

@@ -1,10 +1,33 @@
-use Rattle.std.proofs.Common.{◌<◌, length, take, Ok, Err, ap, subst, sym, ◌∙◌, rules}
+use Rattle.std.proofs.Common.{◌<◌, length, take, Ok, Err, ap, subst, ◌∙◌, rules}
 use Rattle.std.proofs.lemmas.Result.{err_from_is_err_and}
-use Rattle.asm_audit.specs.declared.progress.Told.TheVariants.{Legal, Illegal}
-use Rattle.asm_audit.specs.Audited.{IsVerdict}
+use Rattle.asm_audit.specs.declared.progress.Told.TheVariants.{Legal}
+use Rattle.asm_audit.specs.declared.reading.Verdict.TheVariants as verdict
+use Rattle.asm_audit.specs.Audited.{IsInputVerdict}
 use Rattle.asm_audit.specs.Fed.{IsFedAnswer, IsFedEnd}
-use Rattle.asm_audit.proofs.Through.{IsReadTo, where_known, read_chunk, told_more, told_wrong, told_fault, told_end}
+use Rattle.asm_audit.proofs.Through.{IsReadTo, where_known, read_chunk, told_more, told_fault, all_fed}
 use Rattle.asm_audit.proofs.reading.take_all.Goals as goal
+
+pub returns-in_err-finish : goal.returns-in_err-finish
+returns-in_err-finish g c =
+    let r = err_from_is_err_and c.from_residual.result c.from_residual.ensures.1 in
+    let l = c.chunks in
+    let part = (g.A.Aggregator.meaning c.args.auditor.now.auditor.aggregator).part in
+    let same = ap (λ a. (g.A.Aggregator.meaning a).part) l.invariant.0 in
+    let p = l.auditor.auditor.progress in
+    let line = l.auditor.line.items in
+    let old = g.R.Read.remaining l.input in
+    let left = g.R.Read.remaining c.read.new.self in
+    let buffer = c.read.new.buf in
+    let some : 0 < length buffer = search rules in
+    let e = c.in_err-finish.field-0.0 in
+    let told = subst (λ q. IsFedEnd q p line (Err e)) same c.in_err-finish.ensures.told in
+    where_known (g.R.Read.remaining c.args.input.now) (λ text. IsReadTo part text p line old)
+    (λ text. IsInputVerdict part text c.from_residual.result)
+    (λ text read.
+    let chunk = read_chunk part text p line (take c.in-Ok.count buffer) old left read c.in-Ok.ensures.bytes.0 in
+    rw (r.1, r.2) (told text (all_fed part text p line buffer left c.in-Ok.count c.if-count-eq0.true chunk
+    (c.in-Ok.ensures.bytes.1 c.if-count-eq0.true some))))
+    l.invariant.1
 
 pub returns-then-count-eq0 : goal.returns-then-count-eq0
 returns-then-count-eq0 g c =
@@ -17,18 +40,19 @@ returns-then-count-eq0 g c =
     let left = g.R.Read.remaining c.read.new.self in
     let buffer = c.read.new.buf in
     let some : 0 < length buffer = search rules in
-    let told = subst (λ q. IsFedEnd q p line c.finish.result) same c.finish.ensures in
+    let w = c.in_ok-finish.field-0 in
+    let told = subst (λ q. IsFedEnd q p line (Ok w)) same c.in_ok-finish.ensures.told in
     where_known (g.R.Read.remaining c.args.input.now) (λ text. IsReadTo part text p line old)
-    (λ text. IsVerdict part text c.finish.result)
+    (λ text. IsInputVerdict part text (Ok (verdict.Legal w)))
     (λ text read.
     let chunk = read_chunk part text p line (take c.in-Ok.count buffer) old left read c.in-Ok.ensures.bytes.0 in
-    told_end part text p line buffer left c.in-Ok.count c.finish.result c.if-count-eq0.true chunk
-    (c.in-Ok.ensures.bytes.1 c.if-count-eq0.true some) told)
+    told text (all_fed part text p line buffer left c.in-Ok.count c.if-count-eq0.true chunk
+    (c.in-Ok.ensures.bytes.1 c.if-count-eq0.true some)))
     l.invariant.1
 
 pub returns-in_err-feed : goal.returns-in_err-feed
 returns-in_err-feed g c =
-    let r = err_from_is_err_and c.from_residual.result c.from_residual.ensures.1 in
+    let r = err_from_is_err_and c.from_residual-in_err-feed.result c.from_residual-in_err-feed.ensures.1 in
     let l = c.chunks in
     let part = (g.A.Aggregator.meaning c.args.auditor.now.auditor.aggregator).part in
     let same = ap (λ a. (g.A.Aggregator.meaning a).part) l.invariant.0 in
@@ -41,7 +65,7 @@ returns-in_err-feed g c =
     let e = c.in_err-feed.field-0.0 in
     let told = subst (λ q. IsFedAnswer q bytes p line new.auditor.progress new.line.items (Err e)) same c.in_err-feed.ensures.told in
     where_known (g.R.Read.remaining c.args.input.now) (λ text. IsReadTo part text p line old)
-    (λ text. IsVerdict part text c.from_residual.result)
+    (λ text. IsInputVerdict part text c.from_residual-in_err-feed.result)
     (λ text read.
     let chunk = read_chunk part text p line bytes old left read c.in-Ok.ensures.bytes.0 in
     rw (r.1, r.2) (told_fault part text p new.auditor.progress line new.line.items bytes left e chunk told))

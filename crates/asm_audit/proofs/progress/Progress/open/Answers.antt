@@ -36,3 +36,6 @@ returns-clause-told c = λ part text audited.
     (header_right part text p.before p.opened c.requires.between (opened_is part text p p.opened refl audited) line
     c.in-Ok.header h.0 c.in-Ok.field-0-1.now h.1 h.2 c.in_ok-goes_on.field-0 c.in_ok-goes_on.ensures o.opened
     c.requires.line c.if-not-branch.false o.ensures.limits o.ensures.taken (o.ensures.stands part))
+
+pub returns-clause-ended : goal.returns-clause-ended
+returns-clause-ended c = let h = c.in-Ok.ensures.ok in (h.1.0, c.in-Ok.field-0-1.now, h.1.1)
