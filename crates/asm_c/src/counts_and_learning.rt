@@ -4,36 +4,61 @@ ghost use Rattle.asm_slots.specs.Calls.{Learns};
 ghost use Rattle.asm_slots.specs.Codes.{IsOneOf, ASM_DONE, ASM_EMPTY, ASM_OTHER};
 ghost use Rattle.asm_slots.specs.Slots.{AreOfOneStorage, HoldsNoAgent, IfHolds, content_of};
 
-use asm_slots::Slot;
+use asm_slots::codes::{DONE, EMPTY, OTHER};
+use asm_slots::take_and_put::{put_agent, take_agent};
+use asm_slots::{Slot, are_one};
 use std::alloc::Global;
 
+/// How many moves the agent has seen; 0 for a slot with no agent.
 #[unsafe(no_mangle)]
 pub extern "C" fn asm_seen(alloc: Global, agent: &mut Slot) -> u32
     ensures kept { content_of agent.new ≡ content_of agent.old }
     ensures value { IfHolds (content_of agent.old) (λ a. result ≡ length a.account.seen) }
     ensures none { HoldsNoAgent (content_of agent.old) → result ≡ 0 }
 {
-    asm_slots::seen(alloc, agent)
+    let Some((shell, inner)) = take_agent(alloc, agent) else {
+        return 0;
+    };
+    let (inner, seen) = inner.seen();
+    put_agent(agent, shell, inner);
+    seen
 }
 
+/// How many moves the agent fired; 0 for a slot with no agent.
 #[unsafe(no_mangle)]
 pub extern "C" fn asm_won(alloc: Global, agent: &mut Slot) -> u32
     ensures kept { content_of agent.new ≡ content_of agent.old }
     ensures value { IfHolds (content_of agent.old) (λ a. result ≡ a.account.won) }
     ensures none { HoldsNoAgent (content_of agent.old) → result ≡ 0 }
 {
-    asm_slots::won(alloc, agent)
+    let Some((shell, inner)) = take_agent(alloc, agent) else {
+        return 0;
+    };
+    let (inner, won) = inner.won();
+    put_agent(agent, shell, inner);
+    won
 }
 
+/// How many looks of the agent found an empty cell; 0 for a slot with no agent.
 #[unsafe(no_mangle)]
 pub extern "C" fn asm_misses(alloc: Global, agent: &mut Slot) -> u64
     ensures kept { content_of agent.new ≡ content_of agent.old }
     ensures value { IfHolds (content_of agent.old) (λ a. result ≡ a.misses) }
     ensures none { HoldsNoAgent (content_of agent.old) → result ≡ 0 }
 {
-    asm_slots::misses(alloc, agent)
+    let Some((shell, inner)) = take_agent(alloc, agent) else {
+        return 0;
+    };
+    let (inner, misses) = inner.misses();
+    put_agent(agent, shell, inner);
+    misses
 }
 
+/// Takes in what the other agent of the same storage has seen, without a look at the storage.
+///
+/// `ASM_EMPTY`: one of the slots has no agent, or the two are one. `ASM_OTHER`: the agents are of two
+/// storages. After each of these both slots are as they were. That the agents are of one storage is owed:
+/// `ASM_OTHER` comes unless other threads learn or give in both storages at that moment.
 #[unsafe(no_mangle)]
 pub extern "C" fn asm_learn(alloc: Global, agent: &mut Slot, other: &mut Slot) -> i32
     requires { AreOfOneStorage (content_of agent.old) (content_of other.old) }
@@ -45,5 +70,20 @@ pub extern "C" fn asm_learn(alloc: Global, agent: &mut Slot, other: &mut Slot) -
     ensures empty { result ≡ ASM_EMPTY →
         HoldsNoAgent (content_of agent.old) ⊎ HoldsNoAgent (content_of other.old) }
 {
-    asm_slots::learn(alloc, agent, other)
+    let Some((other_shell, theirs)) = take_agent(alloc, other) else {
+        return EMPTY;
+    };
+    let Some((shell, inner)) = take_agent(alloc, agent) else {
+        put_agent(other, other_shell, theirs);
+        return EMPTY;
+    };
+    if !are_one(theirs.shared(), inner.shared()) {
+        put_agent(other, other_shell, theirs);
+        put_agent(agent, shell, inner);
+        return OTHER;
+    }
+    let (theirs, mark) = theirs.mark(alloc);
+    put_agent(other, other_shell, theirs);
+    put_agent(agent, shell, inner.learn(alloc, &mark));
+    DONE
 }

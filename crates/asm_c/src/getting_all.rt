@@ -4,8 +4,18 @@ ghost use Rattle.asm_slots.specs.Got.{GetsAll};
 ghost use Rattle.asm_slots.specs.Slots.{content_of};
 
 use asm_slots::Slot;
+use asm_slots::codes::EMPTY;
+use asm_slots::getting_all::get_all_of;
+use asm_slots::take_and_put::{put_both, take_both};
 use std::alloc::Global;
 
+/// Writes `[PAIR, ..]`: what is seen through the pushed moves at all locations with the function name, a text in
+/// UTF-8 without quotes, in ascending order. Each location that is found is got, and is named by the commit, unless
+/// pushed moves put what is seen there; that a further location of the name is written later isn't noticed by it.
+///
+/// It makes no look and no receipt, and the agent's slot stays as it was. `ASM_SHAPE`: the name isn't UTF-8.
+/// `ASM_MOVED`, `ASM_MANY`, `ASM_SMALL`, `ASM_EMPTY` and `ASM_MEMORY` come as of `asm_get`; after each of these the
+/// step's slot is as it was. The step has to be one of the agent's storage.
 #[unsafe(no_mangle)]
 pub extern "C" fn asm_get_all(
     alloc: Global,
@@ -19,5 +29,11 @@ pub extern "C" fn asm_get_all(
         out.old out.new written.new result }
     ensures kept { content_of agent.new ≡ content_of agent.old }
 {
-    asm_slots::get_all(alloc, agent, step, name, out, written)
+    *written = 0;
+    let Some(mut both) = take_both(alloc, agent, step) else {
+        return EMPTY;
+    };
+    let code = get_all_of(alloc, &both.agent, &mut both.step, name, out, written);
+    put_both(agent, step, both);
+    code
 }

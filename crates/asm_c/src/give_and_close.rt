@@ -7,9 +7,17 @@ ghost use Rattle.asm_slots.specs.Codes.{ASM_NUMBER, ASM_MISSING, ASM_OTHER, ASM_
 ghost use Rattle.asm_slots.specs.Slots.{HoldsNoAgent, HoldsNoStore, HoldsStore, IsOfStore, content_of};
 ghost use Rattle.asm_slots.specs.Written.{IsTooLong, IsWritten};
 
-use asm_slots::Slot;
+use asm_slots::codes::{DONE, EMPTY, NONE, OTHER, copied};
+use asm_slots::give_and_close::{code_of_unclosed, give_at};
+use asm_slots::take_and_put::{put_agent, put_store, take_agent, take_store};
+use asm_slots::{Slot, are_one};
 use std::alloc::Global;
 
+/// Tells how many moves stand in the storage's row: it looks from the first one on until it finds nothing more.
+///
+/// `ASM_EMPTY`: the slot has no storage, and `moves` is 0. The slot stays as it was. Other agents may fire
+/// meanwhile. Contracts don't tell what stands in a row: that it counts the moves that were fired before the
+/// call is tested.
 #[unsafe(no_mangle)]
 pub extern "C" fn asm_moves(alloc: Global, store: &mut Slot, moves: &mut u32) -> i32
     ensures codes { IsOneOf (ASM_DONE ∷ ASM_EMPTY ∷ []) result }
@@ -19,9 +27,22 @@ pub extern "C" fn asm_moves(alloc: Global, store: &mut Slot, moves: &mut u32) ->
     ensures none { result ≡ ASM_EMPTY → moves.new ≡ 0 }
     ensures empty { result ≡ ASM_EMPTY → HoldsNoStore (content_of store.old) }
 {
-    asm_slots::moves(alloc, store, moves)
+    *moves = 0;
+    let Some((shell, kept)) = take_store(alloc, store) else {
+        return EMPTY;
+    };
+    *moves = kept.moves();
+    put_store(store, shell, kept);
+    DONE
 }
 
+/// Gives an agent back to its storage, in any order, and leaves its slot empty. The journal that the
+/// storage kept is discarded.
+///
+/// `ASM_EMPTY`: the first slot has no storage, the second no agent, or the two are one. `ASM_NUMBER`: an
+/// agent with this number was given before. `ASM_OTHER`: the agent is of another storage. `ASM_MEMORY`.
+/// After each of these both slots are as they were. That the agent is of the storage is owed: `ASM_OTHER`
+/// comes unless other threads learn or give in both storages at that moment.
 #[unsafe(no_mangle)]
 pub extern "C" fn asm_give(alloc: Global, store: &mut Slot, agent: &mut Slot) -> i32
     requires { IsOfStore (content_of agent.old) (content_of store.old) }
@@ -35,9 +56,32 @@ pub extern "C" fn asm_give(alloc: Global, store: &mut Slot, agent: &mut Slot) ->
     ensures empty { result ≡ ASM_EMPTY →
         HoldsNoStore (content_of store.old) ⊎ HoldsNoAgent (content_of agent.old) }
 {
-    asm_slots::give(alloc, store, agent)
+    let Some((store_shell, kept)) = take_store(alloc, store) else {
+        return EMPTY;
+    };
+    let Some((shell, inner)) = take_agent(alloc, agent) else {
+        put_store(store, store_shell, kept);
+        return EMPTY;
+    };
+    if !are_one(kept.shared(), inner.shared()) {
+        put_store(store, store_shell, kept);
+        put_agent(agent, shell, inner);
+        return OTHER;
+    }
+    give_at(alloc, store, agent, (store_shell, kept), (shell, inner))
 }
 
+/// Closes the agents that were given back into one journal, which the storage keeps for `asm_journal`.
+///
+/// Where each move that they have seen has a receipt among them, it looks along the storage's row, so it tells of a
+/// move that none of them has seen too. Contracts don't tell what stands in a row: that it tells of no such move where
+/// there is none is tested.
+///
+/// `ASM_MISSING`: the move with this number, the least such, has no receipt among them; give back the agent
+/// that fired it, and close again. The moves of an agent that was freed without being given back are missing
+/// for good. With any other code the number is 0. `ASM_LARGE`: more calls than a journal holds.
+/// `ASM_EMPTY`: the slot has no storage. `ASM_MEMORY`. After each of these the slot is as it was. More
+/// agents may be made, given back and closed afterwards.
 #[unsafe(no_mangle)]
 pub extern "C" fn asm_close(alloc: Global, store: &mut Slot, number: &mut u32) -> i32
     ensures codes { IsOneOf (ASM_DONE ∷ ASM_MEMORY ∷ ASM_EMPTY ∷ ASM_MISSING ∷ ASM_LARGE ∷ []) result }
@@ -50,9 +94,26 @@ pub extern "C" fn asm_close(alloc: Global, store: &mut Slot, number: &mut u32) -
         HoldsStore (content_of store.old) (λ s. IsTooLarge s.storage s.agents) }
     ensures empty { result ≡ ASM_EMPTY → HoldsNoStore (content_of store.old) }
 {
-    asm_slots::close(alloc, store, number)
+    *number = 0;
+    let Some((shell, kept)) = take_store(alloc, store) else {
+        return EMPTY;
+    };
+    let (kept, closed) = kept.close(alloc);
+    put_store(store, shell, kept);
+    match closed {
+        Ok(()) => DONE,
+        Err(error) => {
+            let (code, missing) = code_of_unclosed(error);
+            *number = missing;
+            code
+        }
+    }
 }
 
+/// Writes the journal that the storage keeps, as often as it is asked for.
+///
+/// `ASM_SMALL`: `written` is the room that it needs. `ASM_NONE`: the storage wasn't closed since an agent
+/// was given back. `ASM_EMPTY`: the slot has no storage. The slot stays as it was.
 #[unsafe(no_mangle)]
 pub extern "C" fn asm_journal(
     alloc: Global,
@@ -71,5 +132,14 @@ pub extern "C" fn asm_journal(
     ensures empty { result ≡ ASM_EMPTY → HoldsNoStore (content_of store.old) }
     ensures unwritten { result ≢ ASM_DONE → out.new ≡ out.old }
 {
-    asm_slots::write_journal(alloc, store, out, written)
+    *written = 0;
+    let Some((shell, kept)) = take_store(alloc, store) else {
+        return EMPTY;
+    };
+    let code = match kept.journal() {
+        Some(text) => copied(text.as_bytes(), out, written),
+        None => NONE,
+    };
+    put_store(store, shell, kept);
+    code
 }

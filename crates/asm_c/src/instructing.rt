@@ -7,9 +7,19 @@ ghost use Rattle.asm_slots.specs.Kinds.{IsInstructed, IsNoAction, ASM_KIND_TEXT}
 ghost use Rattle.asm_slots.specs.Slots.{HasRoomForMove, HoldsLocation, HoldsMove, HoldsNoLocation};
 ghost use Rattle.asm_slots.specs.Slots.{content_of, move_of};
 
-use asm_slots::Slot;
+use asm_slots::codes::TAKEN;
+use asm_slots::instructing::{instruct_first, instruct_in};
+use asm_slots::take_and_put::{put_shell, take_shell};
+use asm_slots::{Content, Slot};
 use std::alloc::Global;
 
+/// Puts an instruction at the prepared location behind those of the move in a slot; an empty slot holds the move of
+/// this instruction then.
+///
+/// The operand is an element but a list, which kind, number and bytes tell. `ASM_TAKEN`: the first slot holds
+/// something else than a move. `ASM_EMPTY`: the second has no location, or the two are one. `ASM_RANGE`: there is no
+/// such verb, no such operand of it, or no such amount. `ASM_SHAPE`: the bytes of a text aren't UTF-8. `ASM_MANY`:
+/// the move has 4,096 instructions. `ASM_MEMORY`. After each of these both slots are as they were.
 #[unsafe(no_mangle)]
 pub extern "C" fn asm_instruct(
     alloc: Global,
@@ -32,5 +42,15 @@ pub extern "C" fn asm_instruct(
     ensures kept { result ≢ ASM_DONE → content_of instrs.new ≡ content_of instrs.old }
     ensures held { content_of at.new ≡ content_of at.old }
 {
-    asm_slots::instruct(alloc, instrs, at, verb, kind, number, bytes, amount)
+    let Some(mut shell) = take_shell(alloc, instrs) else {
+        return instruct_first(alloc, instrs, at, verb, kind, number, bytes, amount);
+    };
+    let code = match &mut *shell {
+        Content::Move(gathered) => {
+            instruct_in(alloc, gathered, at, verb, kind, number, bytes, amount)
+        }
+        _ => TAKEN,
+    };
+    put_shell(instrs, shell);
+    code
 }

@@ -1,10 +1,9 @@
 //! Agents that are given back, journals that are closed, checked and replayed, and the texts of codes.
 use crate::codes::{asm_error_text, asm_version};
 use crate::give_and_close::{asm_close, asm_give, asm_journal, asm_moves};
-use crate::journals::{asm_check, asm_replay};
+use crate::journals::{asm_check, asm_replay, asm_trace};
 use crate::opening::asm_free;
 use crate::test_slots::{agent, close, fire, give, read, store, two};
-use crate::tracing::asm_trace;
 use asm_slots::Slot;
 use std::alloc::Global;
 use std::test::Fail;

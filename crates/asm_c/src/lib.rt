@@ -1,4 +1,4 @@
-//! The library for C: each export is a call of `asm_slots`, with its contract. A slot of zeros holds nothing.
+//! The library for C: its calls on the slots of `asm_slots`. A slot of zeros holds nothing.
 #![tactic(auto)]
 
 mod codes;
@@ -38,4 +38,3 @@ mod step_tests;
 mod steps;
 #[cfg(test)]
 mod test_slots;
-mod tracing;

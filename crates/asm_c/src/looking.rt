@@ -1,7 +1,7 @@
 //! Values in an agent's own state, and whether named reads still stand: looks that leave no receipt.
 ghost use Rattle.std.specs.Prelude.{◌≡◌, ◌≢◌, ◌∷◌, [], length};
 ghost use Rattle.asm_storage.specs.Storage.{IsSameAgent};
-ghost use Rattle.asm_slots.specs.Bytes.{AreLocations, IsNoJson, IsOtherJson};
+ghost use Rattle.asm_explain.specs.Bytes.{AreLocations, IsNoJson, IsOtherJson};
 ghost use Rattle.asm_slots.specs.Calls.{SeesOn};
 ghost use Rattle.asm_slots.specs.Codes.{IsOneOf, ASM_DONE, ASM_MEMORY, ASM_EMPTY, ASM_SMALL, ASM_NOT_JSON, ASM_SHAPE};
 ghost use Rattle.asm_slots.specs.Looked.{Stands};
@@ -10,8 +10,17 @@ ghost use Rattle.asm_slots.specs.Slots.{Goes, Holds, HoldsNoAgent, content_of};
 ghost use Rattle.asm_slots.specs.Written.{IsTooLong, IsWritten};
 
 use asm_slots::Slot;
-use std::alloc::Global;
+use asm_slots::codes::{DONE, EMPTY, MEMORY, copied};
+use asm_slots::looking::{peeked, stands_at};
+use asm_slots::take_and_put::{put_agent, take_agent};
+use std::alloc::{AllocError, Global};
 
+/// Has the agent look on until it finds nothing more, and its own state follow; `number` is then how many moves
+/// it has seen.
+///
+/// No receipt is made. Between this call and the next that looks on or fires, its state stands at this number,
+/// which contracts don't tell of what comes then: it is tested. `ASM_EMPTY`: the slot has no agent.
+/// `ASM_MEMORY`: it may have seen more. `number` is then 0.
 #[unsafe(no_mangle)]
 pub extern "C" fn asm_follow(alloc: Global, agent: &mut Slot, number: &mut u32) -> i32
     ensures codes { IsOneOf (ASM_DONE ∷ ASM_MEMORY ∷ ASM_EMPTY ∷ []) result }
@@ -24,9 +33,26 @@ pub extern "C" fn asm_follow(alloc: Global, agent: &mut Slot, number: &mut u32) 
     ensures empty { result ≡ ASM_EMPTY → HoldsNoAgent (content_of agent.old) }
     ensures kept { result ≡ ASM_EMPTY → content_of agent.new ≡ content_of agent.old }
 {
-    asm_slots::follow(alloc, agent, number)
+    *number = 0;
+    let Some((shell, inner)) = take_agent(alloc, agent) else {
+        return EMPTY;
+    };
+    let (inner, followed) = inner.follow(alloc);
+    put_agent(agent, shell, inner);
+    match followed {
+        Ok(seen) => {
+            *number = seen;
+            DONE
+        }
+        Err(AllocError) => MEMORY,
+    }
 }
 
+/// Writes `{"number":N,"values":[VALUE, ..]}`: the values of the locations `[LOC, ..]`, of which there may be
+/// any number, in the agent's own state, which stands at N moves.
+///
+/// It makes no look and no receipt. `ASM_SMALL`: `written` is the room that it needs. `ASM_EMPTY`: the slot has
+/// no agent. `ASM_NOT_JSON`, `ASM_SHAPE`, `ASM_MEMORY`. The slot stays as it was.
 #[unsafe(no_mangle)]
 pub extern "C" fn asm_peek(
     alloc: Global,
@@ -47,9 +73,27 @@ pub extern "C" fn asm_peek(
     ensures no_text { IsOneOf (ASM_MEMORY ∷ ASM_EMPTY ∷ ASM_NOT_JSON ∷ ASM_SHAPE ∷ []) result → written.new ≡ 0 }
     ensures unwritten { result ≢ ASM_DONE → out.new ≡ out.old }
 {
-    asm_slots::peek(alloc, agent, locations, out, written)
+    *written = 0;
+    let Some((shell, inner)) = take_agent(alloc, agent) else {
+        return EMPTY;
+    };
+    let peeked = peeked(alloc, &inner, locations);
+    put_agent(agent, shell, inner);
+    match peeked {
+        Ok(text) => copied(text.as_bytes(), out, written),
+        Err(code) => code,
+    }
 }
 
+/// Tells whether the named reads `[NAMED, ..]`, at most 256, still stand: whether no move has written one of
+/// the locations since the number under which it is named.
+///
+/// The agent looks on until it finds nothing more, and its own state follows; no receipt is made. A fire that
+/// names the same reads may still be refused, by a move that comes in between. `ASM_STALE`: one doesn't stand,
+/// and `{"stale":LOC}` with the least such location is written. `ASM_SMALL`: `written` is the room that it
+/// needs. `ASM_EMPTY`: the slot has no agent. `ASM_NOT_JSON`, `ASM_SHAPE`. `ASM_RANGE`: a read has a number above
+/// what the agent had seen, so nothing can be told of it. `ASM_MANY`, after it: more than 256 reads. After these
+/// five the slot is as it was. `ASM_MEMORY`: the agent may have seen more.
 #[unsafe(no_mangle)]
 pub extern "C" fn asm_stands(
     alloc: Global,
@@ -60,5 +104,9 @@ pub extern "C" fn asm_stands(
 ) -> i32
     ensures { Stands reads.now (content_of agent.old) (content_of agent.new) out.old out.new written.new result }
 {
-    asm_slots::stands(alloc, agent, reads, out, written)
+    *written = 0;
+    match take_agent(alloc, agent) {
+        Some((shell, inner)) => stands_at(alloc, agent, shell, inner, reads, out, written),
+        None => EMPTY,
+    }
 }

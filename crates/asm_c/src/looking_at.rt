@@ -3,9 +3,19 @@ ghost use Rattle.std.specs.Prelude.{◌≡◌};
 ghost use Rattle.asm_slots.specs.Slots.{content_of};
 ghost use Rattle.asm_slots.specs.Told.{GetsAt, PeeksAt};
 
+use asm_slots::codes::EMPTY;
+use asm_slots::getting_at::get_in_both;
+use asm_slots::peeking_at::peek_in;
+use asm_slots::take_and_put::{put_shell, take_shell};
 use asm_slots::{Slot, ValueHead};
 use std::alloc::Global;
 
+/// Tells the value at the prepared location in the agent's own state, which stands at `number` moves. The bytes of
+/// a text, and the JSON of a list, a set or a bag, are written.
+///
+/// It makes no look and no receipt, and both slots stay as they were. `ASM_SMALL`: `written` is the room that the
+/// bytes need. `ASM_EMPTY`: the first slot has no agent, the second no location, or the two are one. `ASM_MEMORY`.
+/// With each of these `number` and `value` are 0.
 #[unsafe(no_mangle)]
 pub extern "C" fn asm_peek_at(
     alloc: Global,
@@ -20,9 +30,26 @@ pub extern "C" fn asm_peek_at(
     ensures kept { content_of agent.new ≡ content_of agent.old }
     ensures stays { content_of at.new ≡ content_of at.old }
 {
-    asm_slots::peek_at(alloc, agent, at, number, value, out, written)
+    *written = 0;
+    *number = 0;
+    *value = ValueHead::none();
+    let Some(shell) = take_shell(alloc, at) else {
+        return EMPTY;
+    };
+    let code = peek_in(alloc, agent, &shell, number, value, out, written);
+    put_shell(at, shell);
+    code
 }
 
+/// Tells what is seen at the prepared location through the pushed moves. The bytes of a text, and the JSON of a
+/// list, a set or a bag, are written. The location is got, and is named by the commit, unless pushed moves put what is
+/// seen there.
+///
+/// It makes no look and no receipt, and the slots of the agent and the location stay as they were. `ASM_MOVED`: the
+/// agent's own state doesn't stand at the step's number. `ASM_MANY`: 256 other locations are got. `ASM_SMALL`:
+/// `written` is the room that the bytes need. `ASM_EMPTY`: the first slot has no agent, the second no step, the
+/// third no location, or two of them are one. `ASM_MEMORY`. After each of these the step's slot is as it was, and
+/// `value` is 0. The step has to be one of the agent's storage.
 #[unsafe(no_mangle)]
 pub extern "C" fn asm_get_at(
     alloc: Global,
@@ -38,5 +65,12 @@ pub extern "C" fn asm_get_at(
     ensures kept { content_of agent.new ≡ content_of agent.old }
     ensures held { content_of at.new ≡ content_of at.old }
 {
-    asm_slots::get_at(alloc, agent, step, at, value, out, written)
+    *written = 0;
+    *value = ValueHead::none();
+    let Some(shell) = take_shell(alloc, at) else {
+        return EMPTY;
+    };
+    let code = get_in_both(alloc, agent, step, &shell, value, out, written);
+    put_shell(at, shell);
+    code
 }

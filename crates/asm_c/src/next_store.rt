@@ -6,8 +6,17 @@ ghost use Rattle.asm_slots.specs.Next.{IsNextOf, LacksJournal};
 ghost use Rattle.asm_slots.specs.Slots.{HoldsNoStore, HoldsStore, content_of};
 
 use asm_slots::Slot;
+use asm_slots::codes::{DONE, EMPTY, TAKEN};
+use asm_slots::take_and_put::{put_store, take_store};
 use std::alloc::Global;
 
+/// Opens a storage, for at most `capacity` moves, in an empty slot, that goes on where the one that was closed
+/// ended: its opening state is the one that the moves of the kept journal leave, and its agents start anew.
+///
+/// The first storage's slot stays as it was. The journals of both, one after the other, tell one run.
+/// `ASM_TAKEN`: the second slot is full. `ASM_EMPTY`: the first has no storage. `ASM_NONE`: the storage wasn't
+/// closed since an agent was given back. `ASM_RANGE`: the capacity isn't 1 to 1,048,576. `ASM_MEMORY`. After
+/// each of these both slots are as they were.
 #[unsafe(no_mangle)]
 pub extern "C" fn asm_next(alloc: Global, store: &mut Slot, capacity: u32, next: &mut Slot) -> i32
     ensures codes { IsOneOf (ASM_DONE ∷ ASM_MEMORY ∷ ASM_EMPTY ∷ ASM_RANGE ∷ ASM_NONE ∷ ASM_TAKEN ∷ []) result }
@@ -20,5 +29,19 @@ pub extern "C" fn asm_next(alloc: Global, store: &mut Slot, capacity: u32, next:
     ensures empty { result ≡ ASM_EMPTY → HoldsNoStore (content_of store.old) }
     ensures taken { result ≡ ASM_TAKEN → content_of next.old ≢ None }
 {
-    asm_slots::open_next(alloc, store, capacity, next)
+    if next.is_full() {
+        return TAKEN;
+    }
+    let Some((shell, kept)) = take_store(alloc, store) else {
+        return EMPTY;
+    };
+    let made = kept.next(alloc, capacity);
+    put_store(store, shell, kept);
+    match made {
+        Ok(made) => {
+            *next = Slot::holding(made);
+            DONE
+        }
+        Err(code) => code,
+    }
 }

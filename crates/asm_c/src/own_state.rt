@@ -6,8 +6,16 @@ ghost use Rattle.asm_slots.specs.Slots.{Holds, HoldsNoAgent, content_of};
 ghost use Rattle.asm_slots.specs.Written.{IsTooLong, IsWritten};
 
 use asm_slots::Slot;
-use std::alloc::Global;
+use asm_slots::codes::{EMPTY, MEMORY, copied};
+use asm_slots::own_state::{own_state, scanned};
+use asm_slots::take_and_put::{put_agent, take_agent};
+use std::alloc::{AllocError, Global};
 
+/// Writes the agent's own state `[PAIR, ..]`, in ascending order of locations; `number` is how many moves have
+/// led to it.
+///
+/// It makes no look and no receipt. `ASM_SMALL`: `written` is the room that it needs, and `number` is told too.
+/// `ASM_EMPTY`: the slot has no agent. `ASM_MEMORY`. With these two both are 0. The slot stays as it was.
 #[unsafe(no_mangle)]
 pub extern "C" fn asm_state(
     alloc: Global,
@@ -27,9 +35,29 @@ pub extern "C" fn asm_state(
     ensures no_number { IsOneOf (ASM_MEMORY ∷ ASM_EMPTY ∷ []) result → number.new ≡ 0 }
     ensures unwritten { result ≢ ASM_DONE → out.new ≡ out.old }
 {
-    asm_slots::write_state(alloc, agent, number, out, written)
+    *number = 0;
+    *written = 0;
+    let Some((shell, inner)) = take_agent(alloc, agent) else {
+        return EMPTY;
+    };
+    let stood = own_state(alloc, &inner);
+    put_agent(agent, shell, inner);
+    match stood {
+        Ok(stood) => {
+            *number = stood.number;
+            copied(stood.text.as_bytes(), out, written)
+        }
+        Err(AllocError) => MEMORY,
+    }
 }
 
+/// Writes the values of the agent's own state at all locations with the function name, a text in UTF-8 without
+/// quotes: `[PAIR, ..]`, in ascending order of locations; `number` is how many moves have led to it.
+///
+/// It makes no look and no receipt. A fire may name each location that was found, with this number; that a
+/// further location of the name is written later isn't noticed by it. `ASM_SMALL`: `written` is the room that
+/// it needs, and `number` is told too. `ASM_EMPTY`: the slot has no agent. `ASM_SHAPE`: the name isn't UTF-8.
+/// `ASM_MEMORY`. With these three both are 0. The slot stays as it was.
 #[unsafe(no_mangle)]
 pub extern "C" fn asm_scan(
     alloc: Global,
@@ -51,5 +79,18 @@ pub extern "C" fn asm_scan(
     ensures no_number { IsOneOf (ASM_MEMORY ∷ ASM_EMPTY ∷ ASM_SHAPE ∷ []) result → number.new ≡ 0 }
     ensures unwritten { result ≢ ASM_DONE → out.new ≡ out.old }
 {
-    asm_slots::scan(alloc, agent, name, number, out, written)
+    *number = 0;
+    *written = 0;
+    let Some((shell, inner)) = take_agent(alloc, agent) else {
+        return EMPTY;
+    };
+    let scanned = scanned(alloc, &inner, name);
+    put_agent(agent, shell, inner);
+    match scanned {
+        Ok(stood) => {
+            *number = stood.number;
+            copied(stood.text.as_bytes(), out, written)
+        }
+        Err(code) => code,
+    }
 }

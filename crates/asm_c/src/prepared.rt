@@ -1,13 +1,20 @@
 //! Preparing locations.
 ghost use Rattle.std.specs.Prelude.{◌≡◌, ◌≢◌, ◌↔◌, ◌∷◌, [], None};
 ghost use Rattle.asm_journal.specs.Element.{IsLocationForm};
-ghost use Rattle.asm_slots.specs.Bytes.{IsNoJson, IsOtherJson, ReadAsLocation};
+ghost use Rattle.asm_explain.specs.Bytes.{IsNoJson, IsOtherJson};
+ghost use Rattle.asm_slots.specs.Bytes.{ReadAsLocation};
 ghost use Rattle.asm_slots.specs.Codes.{IsOneOf, ASM_DONE, ASM_MEMORY, ASM_TAKEN, ASM_NOT_JSON, ASM_SHAPE};
 ghost use Rattle.asm_slots.specs.Slots.{HoldsLocation, content_of};
 
 use asm_slots::Slot;
+use asm_slots::codes::{DONE, TAKEN};
+use asm_slots::prepared::prepared;
 use std::alloc::Global;
 
+/// Prepares the location `LOC` in an empty slot, for agents and steps of any storage.
+///
+/// `ASM_TAKEN`: the slot is full. `ASM_NOT_JSON`, `ASM_SHAPE`, `ASM_MEMORY`. After each of these the slot is as it
+/// was.
 #[unsafe(no_mangle)]
 pub extern "C" fn asm_location(alloc: Global, location: &[u8], at: &mut Slot) -> i32
     ensures codes { IsOneOf (ASM_DONE ∷ ASM_MEMORY ∷ ASM_TAKEN ∷ ASM_NOT_JSON ∷ ASM_SHAPE ∷ []) result }
@@ -18,5 +25,14 @@ pub extern "C" fn asm_location(alloc: Global, location: &[u8], at: &mut Slot) ->
     ensures shape { result ≡ ASM_SHAPE → IsOtherJson IsLocationForm location.now }
     ensures taken { (result ≡ ASM_TAKEN) ↔ (content_of at.old ≢ None) }
 {
-    asm_slots::prepare(alloc, location, at)
+    if at.is_full() {
+        return TAKEN;
+    }
+    match prepared(alloc, location) {
+        Ok(made) => {
+            *at = Slot::holding(made);
+            DONE
+        }
+        Err(code) => code,
+    }
 }

@@ -3,9 +3,22 @@ ghost use Rattle.std.specs.Prelude.{◌≡◌};
 ghost use Rattle.asm_slots.specs.Grown.{Extends, Pushes};
 ghost use Rattle.asm_slots.specs.Slots.{content_of};
 
-use asm_slots::Slot;
+use asm_slots::codes::EMPTY;
+use asm_slots::pushing::grow_of;
+use asm_slots::take_and_put::{put_both, take_both};
+use asm_slots::{Slot, Way};
 use std::alloc::Global;
 
+/// Pushes the move `[INSTR, ..]`: what is got or pushed later is seen through what it leaves.
+///
+/// It makes no look and no receipt, and the agent's slot stays as it was. `ASM_CLASH`: its updates clash on what
+/// is seen, and `{"clash":[LOC,CAUSE]}` is written. `ASM_DEEP`: 64 moves are pushed. `ASM_MANY`: the one move of
+/// all that is pushed would have more than 4,096 instructions. `ASM_LARGE`, with `{"large":LOC}`, never comes
+/// for a step of the agent's storage. `ASM_MOVED`: the agent's own state doesn't stand at the step's number.
+/// `ASM_SMALL`: `written` is the room that the text of a refusal needs. `ASM_EMPTY`: the first slot has no agent,
+/// the second no step, or the two are one. `ASM_NOT_JSON`, `ASM_SHAPE`, `ASM_MEMORY`. After each of these the
+/// step's slot is as it was, so a push that is refused, or is popped, is a dry run. The step has to be one of the
+/// agent's storage.
 #[unsafe(no_mangle)]
 pub extern "C" fn asm_push(
     alloc: Global,
@@ -19,9 +32,27 @@ pub extern "C" fn asm_push(
         out.old out.new written.new result }
     ensures kept { content_of agent.new ≡ content_of agent.old }
 {
-    asm_slots::push(alloc, agent, step, instrs, out, written)
+    *written = 0;
+    let Some(mut both) = take_both(alloc, agent, step) else {
+        return EMPTY;
+    };
+    let code = grow_of(
+        alloc,
+        &both.agent,
+        &mut both.step,
+        Way::Push,
+        instrs,
+        out,
+        written,
+    );
+    put_both(agent, step, both);
+    code
 }
 
+/// Extends the move that was pushed last by the move `[INSTR, ..]`: what is got or pushed later is seen through
+/// what it leaves, and a pop takes both away. Without a pushed move it is pushed.
+///
+/// The codes are those of `asm_push`, but `ASM_DEEP`: the step is no deeper, however often it is extended.
 #[unsafe(no_mangle)]
 pub extern "C" fn asm_extend(
     alloc: Global,
@@ -35,5 +66,19 @@ pub extern "C" fn asm_extend(
         out.old out.new written.new result }
     ensures kept { content_of agent.new ≡ content_of agent.old }
 {
-    asm_slots::extend(alloc, agent, step, instrs, out, written)
+    *written = 0;
+    let Some(mut both) = take_both(alloc, agent, step) else {
+        return EMPTY;
+    };
+    let code = grow_of(
+        alloc,
+        &both.agent,
+        &mut both.step,
+        Way::Extend,
+        instrs,
+        out,
+        written,
+    );
+    put_both(agent, step, both);
+    code
 }

@@ -3,9 +3,17 @@ ghost use Rattle.std.specs.Prelude.{◌≡◌};
 ghost use Rattle.asm_slots.specs.Grown.{ExtendsByMove, PushesMove};
 ghost use Rattle.asm_slots.specs.Slots.{content_of};
 
-use asm_slots::Slot;
+use asm_slots::codes::EMPTY;
+use asm_slots::pushing_moves::grow_from;
+use asm_slots::take_and_put::{put_shell, take_shell};
+use asm_slots::{Slot, Way};
 use std::alloc::Global;
 
+/// Pushes the move in the slot: what is got or pushed later is seen through what it leaves.
+///
+/// The codes are those of `asm_push` but `ASM_NOT_JSON` and `ASM_SHAPE`. `ASM_EMPTY`: the first slot has no agent, the
+/// second no step, the third no move, or two of them are one. The slots of the agent and the move stay as they were,
+/// and with any code but `ASM_DONE` that of the step too.
 #[unsafe(no_mangle)]
 pub extern "C" fn asm_push_move(
     alloc: Global,
@@ -20,9 +28,19 @@ pub extern "C" fn asm_push_move(
     ensures kept { content_of agent.new ≡ content_of agent.old }
     ensures held { content_of instrs.new ≡ content_of instrs.old }
 {
-    asm_slots::push_move(alloc, agent, step, instrs, out, written)
+    *written = 0;
+    let Some(shell) = take_shell(alloc, instrs) else {
+        return EMPTY;
+    };
+    let code = grow_from(alloc, agent, step, Way::Push, &shell, out, written);
+    put_shell(instrs, shell);
+    code
 }
 
+/// Extends the move that was pushed last by the one in the slot: what is got or pushed later is seen through what it
+/// leaves, and a pop takes both away. Without a pushed move it is pushed.
+///
+/// The codes are those of `asm_push_move`, but `ASM_DEEP`: the step is no deeper, however often it is extended.
 #[unsafe(no_mangle)]
 pub extern "C" fn asm_extend_move(
     alloc: Global,
@@ -37,5 +55,11 @@ pub extern "C" fn asm_extend_move(
     ensures kept { content_of agent.new ≡ content_of agent.old }
     ensures held { content_of instrs.new ≡ content_of instrs.old }
 {
-    asm_slots::extend_move(alloc, agent, step, instrs, out, written)
+    *written = 0;
+    let Some(shell) = take_shell(alloc, instrs) else {
+        return EMPTY;
+    };
+    let code = grow_from(alloc, agent, step, Way::Extend, &shell, out, written);
+    put_shell(instrs, shell);
+    code
 }

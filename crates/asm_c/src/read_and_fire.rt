@@ -6,16 +6,34 @@ ghost use Rattle.asm_slots.specs.Codes.{IsOneOf, ASM_DONE, ASM_MEMORY, ASM_EMPTY
 ghost use Rattle.asm_slots.specs.Slots.{Holds, HoldsNoAgent, content_of};
 ghost use Rattle.asm_slots.specs.Written.{IsTooLong, IsWritten};
 
+use asm_slots::codes::{EMPTY, MEMORY, NONE, copied};
+use asm_slots::read_and_fire::{fire_at, read_at};
+use asm_slots::take_and_put::{put_agent, take_agent};
 use asm_slots::{Numbers, Slot};
 use std::alloc::Global;
 
+/// Reads the locations `[LOC, ..]`, at most 256; `asm_answer` tells what was read.
+///
+/// `ASM_EMPTY`: the slot has no agent. `ASM_MANY`: more than 256 locations. `ASM_NOT_JSON`, `ASM_SHAPE`.
+/// After these the slot is as it was. `ASM_MEMORY`: the agent has no receipt more, and may have seen more.
 #[unsafe(no_mangle)]
 pub extern "C" fn asm_read(alloc: Global, agent: &mut Slot, locations: &[u8]) -> i32
     ensures { Reads locations.now (content_of agent.old) (content_of agent.new) result }
 {
-    asm_slots::read(alloc, agent, locations)
+    match take_agent(alloc, agent) {
+        Some((shell, inner)) => read_at(alloc, agent, shell, inner, locations),
+        None => EMPTY,
+    }
 }
 
+/// Fires `{"fire":[INSTR, ..],"reads":[NAMED, ..]}`, with at most 256 named locations.
+///
+/// `ASM_DONE`: fired, with the number of the move. `ASM_STALE`, `ASM_CLASH`, `ASM_FULL`: answers too, which
+/// `asm_answer` tells whole. With any other code nothing was fired and there is no receipt more:
+/// `ASM_BUSY`: 64 offers were lost, with what had been seen at the start and at the end; `ASM_MEMORY`; and
+/// with the slot as it was `ASM_EMPTY` (no agent), `ASM_NOT_JSON`, `ASM_SHAPE`, `ASM_RANGE` (a location is named
+/// at a number above what the agent had seen, which would guard nothing), and after it `ASM_MANY` (more than 256
+/// named locations). What a code doesn't set is 0.
 #[unsafe(no_mangle)]
 pub extern "C" fn asm_try_fire(
     alloc: Global,
@@ -25,9 +43,19 @@ pub extern "C" fn asm_try_fire(
 ) -> i32
     ensures { Fires call.now (content_of agent.old) (content_of agent.new) numbers.new result }
 {
-    asm_slots::try_fire(alloc, agent, call, numbers)
+    let Some((shell, inner)) = take_agent(alloc, agent) else {
+        *numbers = Numbers::none();
+        return EMPTY;
+    };
+    let (code, told) = fire_at(alloc, agent, shell, inner, call);
+    *numbers = told;
+    code
 }
 
+/// Writes the answer to the agent's last answered call, as often as it is asked for.
+///
+/// `ASM_SMALL`: `written` is the room that it needs. `ASM_NONE`: no call was answered yet. `ASM_EMPTY`: the
+/// slot has no agent. `ASM_MEMORY`. The slot stays as it was.
 #[unsafe(no_mangle)]
 pub extern "C" fn asm_answer(
     alloc: Global,
@@ -46,5 +74,15 @@ pub extern "C" fn asm_answer(
     ensures empty { result ≡ ASM_EMPTY → HoldsNoAgent (content_of agent.old) }
     ensures unwritten { result ≢ ASM_DONE → out.new ≡ out.old }
 {
-    asm_slots::write_answer(alloc, agent, out, written)
+    *written = 0;
+    let Some((shell, inner)) = take_agent(alloc, agent) else {
+        return EMPTY;
+    };
+    let (inner, answer) = inner.answer(alloc);
+    put_agent(agent, shell, inner);
+    match answer {
+        Ok(Some(text)) => copied(text.as_bytes(), out, written),
+        Ok(None) => NONE,
+        Err(_) => MEMORY,
+    }
 }

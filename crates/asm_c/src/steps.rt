@@ -6,9 +6,18 @@ ghost use Rattle.asm_slots.specs.Looked.{Begins};
 ghost use Rattle.asm_slots.specs.Slots.{GoesStep, HoldsNoStep, HoldsStep, IfHoldsStep, content_of};
 ghost use Rattle.asm_slots.specs.Steps.{HasPopped};
 
-use asm_slots::Slot;
-use std::alloc::Global;
+use asm_slots::codes::{DONE, EMPTY, MEMORY, NONE, TAKEN};
+use asm_slots::steps::{get_of, has_room, put_begun};
+use asm_slots::take_and_put::{put_agent, put_both, put_shell, take_agent, take_both, take_shell};
+use asm_slots::{Content, Slot};
+use std::alloc::{AllocError, Global};
 
+/// Begins a step of the agent in a slot that is empty or holds a step, which is then dropped: the agent looks on
+/// until it finds nothing more, its own state follows, and `number` is how many moves it has then seen.
+///
+/// Until the agent's next call that looks on, fires or learns, all that is got and pushed is seen at this number.
+/// `ASM_TAKEN`: the second slot holds something else. `ASM_EMPTY`: the first has no agent. `ASM_MEMORY`: the
+/// agent may have seen more. After these the step's slot is as it was, and `number` is 0.
 #[unsafe(no_mangle)]
 pub extern "C" fn asm_begin(
     alloc: Global,
@@ -19,18 +28,54 @@ pub extern "C" fn asm_begin(
     ensures { Begins (content_of agent.old) (content_of agent.new) (content_of step.old) (content_of step.new)
         number.new result }
 {
-    asm_slots::begin(alloc, agent, step, number)
+    *number = 0;
+    if !has_room(alloc, step) {
+        return TAKEN;
+    }
+    let Some((shell, inner)) = take_agent(alloc, agent) else {
+        return EMPTY;
+    };
+    let (inner, followed) = inner.follow(alloc);
+    put_agent(agent, shell, inner);
+    let Ok(seen) = followed else {
+        return MEMORY;
+    };
+    match put_begun(alloc, step, seen) {
+        Ok(()) => {
+            *number = seen;
+            DONE
+        }
+        Err(AllocError) => MEMORY,
+    }
 }
 
+/// How many moves are pushed, at most 64; 0 for a slot with no step.
 #[unsafe(no_mangle)]
 pub extern "C" fn asm_depth(alloc: Global, step: &mut Slot) -> u32
     ensures kept { content_of step.new ≡ content_of step.old }
     ensures value { IfHoldsStep (content_of step.old) (λ s. result ≡ length s.layers) }
     ensures none { HoldsNoStep (content_of step.old) → result ≡ 0 }
 {
-    asm_slots::depth(alloc, step)
+    let Some(shell) = take_shell(alloc, step) else {
+        return 0;
+    };
+    let depth = match &*shell {
+        Content::Step(taken) => taken.depth(),
+        _ => 0,
+    };
+    put_shell(step, shell);
+    depth
 }
 
+/// Writes `{"number":N,"values":[VALUE, ..]}`: what is seen at the locations `[LOC, ..]` through the pushed
+/// moves, with the step's number. Each location at which what is seen rests on the state below is got, and is named by
+/// the commit; what pushed moves put there rests on nothing.
+///
+/// It makes no look and no receipt, and the agent's slot stays as it was. `ASM_MOVED`: the agent's own state
+/// doesn't stand at the step's number, which another agent may not have reached. `ASM_MANY`: more than 256
+/// locations would be got. `ASM_SMALL`: `written` is the room that it needs. `ASM_EMPTY`: the first slot has no agent, the second no step, or the two
+/// are one. `ASM_NOT_JSON`, `ASM_SHAPE`, `ASM_MEMORY`. After each of these the step's slot is as it was. The step
+/// has to be one of the agent's storage.
 #[unsafe(no_mangle)]
 pub extern "C" fn asm_get(
     alloc: Global,
@@ -44,9 +89,19 @@ pub extern "C" fn asm_get(
         out.old out.new written.new result }
     ensures kept { content_of agent.new ≡ content_of agent.old }
 {
-    asm_slots::get(alloc, agent, step, locations, out, written)
+    *written = 0;
+    let Some(mut both) = take_both(alloc, agent, step) else {
+        return EMPTY;
+    };
+    let code = get_of(alloc, &both.agent, &mut both.step, locations, out, written);
+    put_both(agent, step, both);
+    code
 }
 
+/// Takes away the move that was pushed last, with those that extended it.
+///
+/// What was got stays got. `ASM_NONE`: none is pushed. `ASM_EMPTY`: the slot has no step. After these the slot is
+/// as it was.
 #[unsafe(no_mangle)]
 pub extern "C" fn asm_pop(alloc: Global, step: &mut Slot) -> i32
     ensures codes { IsOneOf (ASM_DONE ∷ ASM_EMPTY ∷ ASM_NONE ∷ []) result }
@@ -55,5 +110,13 @@ pub extern "C" fn asm_pop(alloc: Global, step: &mut Slot) -> i32
     ensures empty { result ≡ ASM_EMPTY → HoldsNoStep (content_of step.old) }
     ensures kept { result ≢ ASM_DONE → content_of step.new ≡ content_of step.old }
 {
-    asm_slots::pop(alloc, step)
+    let Some(mut shell) = take_shell(alloc, step) else {
+        return EMPTY;
+    };
+    let code = match &mut *shell {
+        Content::Step(taken) => { if taken.pop() { DONE } else { NONE } }
+        _ => EMPTY,
+    };
+    put_shell(step, shell);
+    code
 }

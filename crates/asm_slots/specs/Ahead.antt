@@ -4,7 +4,8 @@ use Rattle.std.specs.List.{list_any}
 use Rattle.asm_update.specs.Move.{Move}
 use Rattle.asm_state.specs.declared.named.Named.{Named}
 use Rattle.asm_storage.specs.Storage.{AgentAt}
-use Rattle.asm_slots.specs.Bytes.{ReadAsFire, ReadAsReads}
+use Rattle.asm_explain.specs.Bytes.{ReadAsFire}
+use Rattle.asm_slots.specs.Bytes.{ReadAsReads}
 use Rattle.asm_slots.specs.Standard.{Standard}
 
 -- whether one of the reads has a number above this one

@@ -3,7 +3,8 @@ use Rattle.std.specs.Prelude.{◌≡◌, ◌≢◌, ◌≤◌, ◌+◌, ℤ, Lis
 use Rattle.asm_storage.specs.Limits.{offers_limit}
 use Rattle.asm_storage.specs.Storage.{IsSameAgent}
 use Rattle.asm_slots.specs.Ahead.{FiresAhead, FiresWithin}
-use Rattle.asm_slots.specs.Bytes.{AreLocations, IsFireForm, IsNoJson, IsOtherJson, ReadAsManyLocations, ReadAsManyReads}
+use Rattle.asm_explain.specs.Bytes.{AreLocations, IsFireForm, IsNoJson, IsOtherJson}
+use Rattle.asm_slots.specs.Bytes.{ReadAsManyLocations, ReadAsManyReads}
 use Rattle.asm_slots.specs.Calls.{HasFired, HasLooked, HasRead, IsReplyCode, MayHaveLooked, MayHaveOffered}
 use Rattle.asm_slots.specs.Calls.{MissedFew, MissedOne, SeesOn, WasBusy}
 use Rattle.asm_slots.specs.Codes.{IsOneOf, ASM_DONE, ASM_STALE, ASM_CLASH, ASM_MEMORY, ASM_FULL}

@@ -17,7 +17,8 @@ use Rattle.asm_storage.specs.Calls.{ReadingView, IsRead, IsAnswered, IsBusy, IsC
 use Rattle.asm_journal.specs.Event.{answer_json_of}
 use Rattle.asm_row.specs.Limits.{capacity_limit}
 use Rattle.asm_slots.specs.Standard.{Standard, meaning}
-use Rattle.asm_slots.specs.Bytes.{ReadAsLocations, ReadAsFire, ReadAsState}
+use Rattle.asm_explain.specs.Bytes.{ReadAsFire}
+use Rattle.asm_slots.specs.Bytes.{ReadAsLocations, ReadAsState}
 use Rattle.asm_slots.specs.Closed.{IsJournalOf}
 use Rattle.asm_slots.specs.Codes.{ASM_DONE, ASM_STALE, ASM_CLASH, ASM_FULL}
 use Rattle.asm_slots.specs.Slots.{HoldsStore, Goes}

@@ -1,7 +1,7 @@
 -- What pushing a move onto the step of a slot leaves, or extending by it the one that was pushed last.
 use Rattle.std.specs.Prelude.{◌≡◌, ◌≢◌, ◌⊎◌, ℕ, ℤ, List, [], ◌∷◌, length, Option}
 use Rattle.asm_journal.specs.Event.{IsMoveForm}
-use Rattle.asm_slots.specs.Bytes.{IsNoJson, IsOtherJson}
+use Rattle.asm_explain.specs.Bytes.{IsNoJson, IsOtherJson}
 use Rattle.asm_slots.specs.Codes.{IsOneOf, ASM_DONE, ASM_CLASH, ASM_MEMORY, ASM_EMPTY, ASM_SMALL}
 use Rattle.asm_slots.specs.Codes.{ASM_MANY, ASM_NOT_JSON, ASM_SHAPE, ASM_LARGE, ASM_MOVED, ASM_DEEP}
 use Rattle.asm_slots.specs.Slots.{HoldBoth, HoldsMove, HoldsNoMove, HoldsStep, LacksOne}

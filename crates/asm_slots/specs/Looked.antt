@@ -2,7 +2,8 @@
 use Rattle.std.specs.Prelude.{◌≡◌, ◌≢◌, ◌↔◌, ℕ, ℤ, List, [], ◌∷◌, length, Option}
 use Rattle.asm_storage.specs.Storage.{IsSameAgent}
 use Rattle.asm_slots.specs.Ahead.{ReadsAhead, ReadsWithin}
-use Rattle.asm_slots.specs.Bytes.{AreReads, IsNoJson, IsOtherJson, ReadAsMoreReads}
+use Rattle.asm_explain.specs.Bytes.{IsNoJson, IsOtherJson}
+use Rattle.asm_slots.specs.Bytes.{AreReads, ReadAsMoreReads}
 use Rattle.asm_slots.specs.Calls.{HasLooked, MayHaveLooked, SeesOn}
 use Rattle.asm_slots.specs.Codes.{IsOneOf, ASM_DONE, ASM_STALE, ASM_MEMORY, ASM_EMPTY, ASM_SMALL, ASM_MANY}
 use Rattle.asm_slots.specs.Codes.{ASM_RANGE, ASM_TAKEN, ASM_NOT_JSON, ASM_SHAPE}

@@ -2,61 +2,61 @@
 ghost use Rattle.std.specs.Prelude.{◌≡◌, ◌≢◌, ◌⊎◌, ◌<◌, ◌≤◌, length, slice_range, string_bytes};
 ghost use Rattle.asm_slots.specs.Codes.{ASM_DONE, ASM_SMALL, text_of_code};
 
-pub(crate) const DONE: i32 = 0;
+pub const DONE: i32 = 0;
 
-pub(crate) const STALE: i32 = 1;
+pub const STALE: i32 = 1;
 
-pub(crate) const CLASH: i32 = 2;
+pub const CLASH: i32 = 2;
 
-pub(crate) const MEMORY: i32 = 3;
+pub const MEMORY: i32 = 3;
 
-pub(crate) const FULL: i32 = 4;
+pub const FULL: i32 = 4;
 
-pub(crate) const EMPTY: i32 = 5;
+pub const EMPTY: i32 = 5;
 
-pub(crate) const RANGE: i32 = 6;
+pub const RANGE: i32 = 6;
 
-pub(crate) const SMALL: i32 = 7;
+pub const SMALL: i32 = 7;
 
-pub(crate) const BUSY: i32 = 8;
+pub const BUSY: i32 = 8;
 
-pub(crate) const MANY: i32 = 9;
+pub const MANY: i32 = 9;
 
-pub(crate) const NONE: i32 = 10;
+pub const NONE: i32 = 10;
 
-pub(crate) const TAKEN: i32 = 11;
+pub const TAKEN: i32 = 11;
 
-pub(crate) const NUMBER: i32 = 12;
+pub const NUMBER: i32 = 12;
 
-pub(crate) const MISSING: i32 = 13;
+pub const MISSING: i32 = 13;
 
-pub(crate) const OTHER: i32 = 14;
+pub const OTHER: i32 = 14;
 
-pub(crate) const ILLEGAL: i32 = 15;
+pub const ILLEGAL: i32 = 15;
 
-pub(crate) const NOT_JSON: i32 = 16;
+pub const NOT_JSON: i32 = 16;
 
-pub(crate) const SHAPE: i32 = 17;
+pub const SHAPE: i32 = 17;
 
-pub(crate) const VERSION: i32 = 18;
+pub const VERSION: i32 = 18;
 
-pub(crate) const CUT: i32 = 19;
+pub const CUT: i32 = 19;
 
-pub(crate) const LARGE: i32 = 20;
+pub const LARGE: i32 = 20;
 
-pub(crate) const MOVED: i32 = 21;
+pub const MOVED: i32 = 21;
 
-pub(crate) const DEEP: i32 = 22;
+pub const DEEP: i32 = 22;
 
 /// A text that is to be written, with its code.
 #[derive(Drop)]
-pub(crate) struct Told {
-    pub(crate) code: i32,
-    pub(crate) text: String,
+pub struct Told {
+    pub code: i32,
+    pub text: String,
 }
 
 /// Copies the bytes to the start of the buffer, where they fit.
-pub(crate) fn copied(bytes: &[u8], out: &mut [u8], written: &mut usize) -> i32
+pub fn copied(bytes: &[u8], out: &mut [u8], written: &mut usize) -> i32
     ensures written { written.new ≡ length bytes.now }
     ensures codes { (result ≡ ASM_DONE) ⊎ (result ≡ ASM_SMALL) }
     ensures bytes { result ≡ ASM_DONE → slice_range out.new 0 written.new ≡ bytes.now }
@@ -73,7 +73,7 @@ pub(crate) fn copied(bytes: &[u8], out: &mut [u8], written: &mut usize) -> i32
 }
 
 /// Copies the text to the start of the buffer and answers the code, where it fits.
-pub(crate) fn written_as(told: &Told, out: &mut [u8], written: &mut usize) -> i32
+pub fn written_as(told: &Told, out: &mut [u8], written: &mut usize) -> i32
     requires { told.now.code ≢ ASM_SMALL }
     ensures written { written.new ≡ length (string_bytes told.now.text) }
     ensures codes { (result ≡ told.now.code) ⊎ (result ≡ ASM_SMALL) }
@@ -88,7 +88,8 @@ pub(crate) fn written_as(told: &Told, out: &mut [u8], written: &mut usize) -> i3
     SMALL
 }
 
-fn text_of_code(code: i32) -> &'static str
+/// What the code means, in a line of English.
+pub fn text_of_code(code: i32) -> &'static str
     ensures { result.now ≡ text_of_code code }
 {
     match code {
@@ -118,15 +119,4 @@ fn text_of_code(code: i32) -> &'static str
         DEEP => "64 moves are pushed already",
         _ => "no code of this library",
     }
-}
-
-/// Writes what the code means, in a line of English. `ASM_SMALL` comes with the room that it needs.
-pub fn write_error_text(code: i32, out: &mut [u8], written: &mut usize) -> i32
-    ensures codes { (result ≡ ASM_DONE) ⊎ (result ≡ ASM_SMALL) }
-    ensures written { written.new ≡ length (text_of_code code) }
-    ensures told { result ≡ ASM_DONE → slice_range out.new 0 written.new ≡ text_of_code code }
-    ensures unwritten { result ≢ ASM_DONE → out.new ≡ out.old }
-    ensures small { result ≡ ASM_SMALL → length out.old < written.new }
-{
-    copied(text_of_code(code).as_bytes(), out, written)
 }

@@ -8,10 +8,10 @@ ghost use Rattle.asm_journal.specs.Value.{IsStateForm};
 ghost use Rattle.asm_slots.specs.Bytes.{AreMisread};
 ghost use Rattle.asm_slots.specs.Codes.{IsOneOf, ASM_DONE, ASM_CLASH, ASM_MEMORY, ASM_MANY};
 ghost use Rattle.asm_slots.specs.Codes.{ASM_LARGE, ASM_NOT_JSON, ASM_SHAPE};
-ghost use Rattle.asm_slots.specs.Moves.{Aggregates, Composes, IsAggregated, IsComposed};
+ghost use Rattle.asm_slots.specs.Moves.{IsAggregated, IsComposed};
 ghost use Rattle.asm_slots.specs.Moves.{TellsAggregate, TellsComposition, clash_text, large_text};
 
-use crate::codes::{CLASH, DONE, LARGE, MANY, MEMORY, Told, written_as};
+use crate::codes::{CLASH, DONE, LARGE, MANY, MEMORY, Told};
 use crate::parsing::{code_of_text_error, read_both};
 use asm_aggregate::{ComposeError, aggregate, compose, standard};
 use asm_element::Location;
@@ -85,7 +85,8 @@ fn told_move(alloc: Global, answer: Result<Instructions, ComposeError>) -> Resul
     }
 }
 
-fn aggregated(alloc: Global, state: &[u8], instrs: &[u8]) -> Result<Told, i32>
+/// What the aggregation of the move of these bytes on the state of those answers.
+pub fn aggregated(alloc: Global, state: &[u8], instrs: &[u8]) -> Result<Told, i32>
     ensures ok { IfOk result (λ t. IsAggregated state.now instrs.now t.code (string_bytes t.text)) }
     ensures few { IfOk result (λ t. IsOneOf (ASM_DONE ∷ ASM_CLASH ∷ []) t.code) }
     ensures err { IfErr result (λ code. IsOneOf (ASM_NOT_JSON ∷ ASM_SHAPE ∷ []) code →
@@ -102,29 +103,8 @@ fn aggregated(alloc: Global, state: &[u8], instrs: &[u8]) -> Result<Told, i32>
     }
 }
 
-/// Writes the updates `[PAIR, ..]` of the move `[INSTR, ..]` on the state `[PAIR, ..]`, in ascending order of
-/// locations; null is a value that leaves a location empty, as each is that the state doesn't have.
-///
-/// `ASM_CLASH`: the updates clash, and `{"clash":[LOC,CAUSE]}` is written. `ASM_SMALL`: `written` is the room
-/// that it needs. `ASM_NOT_JSON` and `ASM_SHAPE`: the state, or else the move, is not JSON or none.
-/// `ASM_MEMORY`.
-pub fn aggregate_move(
-    alloc: Global,
-    state: &[u8],
-    instrs: &[u8],
-    out: &mut [u8],
-    written: &mut usize,
-) -> i32
-    ensures { Aggregates state.now instrs.now out.old out.new written.new result }
-{
-    *written = 0;
-    match aggregated(alloc, state, instrs) {
-        Ok(told) => written_as(&told, out, written),
-        Err(code) => code,
-    }
-}
-
-fn composed(alloc: Global, first: &[u8], second: &[u8]) -> Result<Told, i32>
+/// What the composition of the moves of these bytes answers.
+pub fn composed(alloc: Global, first: &[u8], second: &[u8]) -> Result<Told, i32>
     ensures ok { IfOk result (λ t. IsComposed first.now second.now t.code (string_bytes t.text)) }
     ensures few { IfOk result (λ t. IsOneOf (ASM_DONE ∷ ASM_CLASH ∷ ASM_MANY ∷ ASM_LARGE ∷ []) t.code) }
     ensures err { IfErr result (λ code. IsOneOf (ASM_NOT_JSON ∷ ASM_SHAPE ∷ []) code →
@@ -138,28 +118,5 @@ fn composed(alloc: Global, first: &[u8], second: &[u8]) -> Result<Told, i32>
     match told_move(alloc, compose(alloc, &standard(), &one, &two)) {
         Ok(told) => Ok(told),
         Err(AllocError) => Err(MEMORY),
-    }
-}
-
-/// Writes one move `[INSTR, ..]` that does what the two moves do in turn.
-///
-/// Where the first fires, the written move fires as the first and then the second, clashes included. On no state
-/// do both fire with `ASM_CLASH`, where `{"clash":[LOC,CAUSE]}` is written, and with `ASM_LARGE`: an amount or a
-/// sum is too large, and `{"large":LOC}` is written. `ASM_MANY`: the move would have more than 4,096
-/// instructions. `ASM_SMALL`: `written` is the room that it needs. `ASM_NOT_JSON` and `ASM_SHAPE`: the first, or
-/// else the second, is not JSON or no move. `ASM_MEMORY`.
-pub fn compose_moves(
-    alloc: Global,
-    first: &[u8],
-    second: &[u8],
-    out: &mut [u8],
-    written: &mut usize,
-) -> i32
-    ensures { Composes first.now second.now out.old out.new written.new result }
-{
-    *written = 0;
-    match composed(alloc, first, second) {
-        Ok(told) => written_as(&told, out, written),
-        Err(code) => code,
     }
 }

@@ -7,7 +7,6 @@ ghost use Rattle.asm_storage.specs.Limits.{reads_limit};
 ghost use Rattle.asm_slots.specs.Codes.{IsOneOf, ASM_DONE, ASM_MEMORY, ASM_SMALL, ASM_MANY};
 ghost use Rattle.asm_slots.specs.Codes.{ASM_SHAPE, ASM_MOVED};
 ghost use Rattle.asm_slots.specs.Got.{GetsAll};
-ghost use Rattle.asm_slots.specs.Slots.{content_of};
 ghost use Rattle.asm_slots.specs.Steps.{HasGotAll, HasReached, IsFound, IsFoundText, WouldGetManyMore, from_below};
 ghost use Rattle.asm_slots.specs.Written.{IsTooLong, IsWritten};
 
@@ -15,9 +14,8 @@ use crate::codes::{DONE, EMPTY, MANY, MEMORY, MOVED, SHAPE, copied};
 use crate::content::Content;
 use crate::owned_agent::OwnedAgent;
 use crate::owned_step::{OwnedStep, each_of, from_below};
-use crate::slot::Slot;
 use crate::steps::{GetError, Got};
-use crate::take_and_put::{agent_in, put_both, take_both};
+use crate::take_and_put::agent_in;
 use asm_element::Location;
 use asm_journal::state_text;
 use asm_storage::READS_LIMIT;
@@ -140,8 +138,8 @@ fn get_all_in(
     }
 }
 
-// The same, where the boxes hold an agent and a step.
-fn get_all_of(
+/// Tells what is seen at the locations with this name through the step in a box, over the agent in another.
+pub fn get_all_of(
     alloc: Global,
     agent: &Content,
     step: &mut Content,
@@ -159,32 +157,4 @@ fn get_all_of(
         Content::Step(step) => get_all_in(alloc, agent, step, name, out, written),
         _ => EMPTY,
     }
-}
-
-/// Writes `[PAIR, ..]`: what is seen through the pushed moves at all locations with the function name, a text in
-/// UTF-8 without quotes, in ascending order. Each location that is found is got, and is named by the commit, unless
-/// pushed moves put what is seen there; that a further location of the name is written later isn't noticed by it.
-///
-/// It makes no look and no receipt, and the agent's slot stays as it was. `ASM_SHAPE`: the name isn't UTF-8.
-/// `ASM_MOVED`, `ASM_MANY`, `ASM_SMALL`, `ASM_EMPTY` and `ASM_MEMORY` come as of `get`; after each of these the
-/// step's slot is as it was. The step has to be one of the agent's storage.
-pub fn get_all(
-    alloc: Global,
-    agent: &mut Slot,
-    step: &mut Slot,
-    name: &[u8],
-    out: &mut [u8],
-    written: &mut usize,
-) -> i32
-    ensures gets { GetsAll name.now (content_of agent.old) (content_of step.old) (content_of step.new)
-        out.old out.new written.new result }
-    ensures kept { content_of agent.new ≡ content_of agent.old }
-{
-    *written = 0;
-    let Some(mut both) = take_both(alloc, agent, step) else {
-        return EMPTY;
-    };
-    let code = get_all_of(alloc, &both.agent, &mut both.step, name, out, written);
-    put_both(agent, step, both);
-    code
 }

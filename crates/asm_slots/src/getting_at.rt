@@ -21,7 +21,7 @@ use crate::owned_step::OwnedStep;
 use crate::prepared::location_in;
 use crate::slot::Slot;
 use crate::steps::GetError;
-use crate::take_and_put::{agent_in, put_both, put_shell, take_both, take_shell};
+use crate::take_and_put::{agent_in, put_both, take_both};
 use crate::value_head::{ValueHead, tell_at};
 use asm_element::Location;
 use asm_storage::READS_LIMIT;
@@ -132,7 +132,8 @@ fn get_one_of(
     }
 }
 
-fn get_in_both(
+/// Tells what is seen at the location in a box through the step of a slot, where it is got.
+pub fn get_in_both(
     alloc: Global,
     agent: &mut Slot,
     step: &mut Slot,
@@ -155,38 +156,5 @@ fn get_in_both(
     };
     let code = get_one_of(alloc, &both.agent, &mut both.step, at, value, out, written);
     put_both(agent, step, both);
-    code
-}
-
-/// Tells what is seen at the prepared location through the pushed moves. The bytes of a text, and the JSON of a
-/// list, a set or a bag, are written. The location is got, and is named by the commit, unless pushed moves put what is
-/// seen there.
-///
-/// It makes no look and no receipt, and the slots of the agent and the location stay as they were. `ASM_MOVED`: the
-/// agent's own state doesn't stand at the step's number. `ASM_MANY`: 256 other locations are got. `ASM_SMALL`:
-/// `written` is the room that the bytes need. `ASM_EMPTY`: the first slot has no agent, the second no step, the
-/// third no location, or two of them are one. `ASM_MEMORY`. After each of these the step's slot is as it was, and
-/// `value` is 0. The step has to be one of the agent's storage.
-pub fn get_at(
-    alloc: Global,
-    agent: &mut Slot,
-    step: &mut Slot,
-    at: &mut Slot,
-    value: &mut ValueHead,
-    out: &mut [u8],
-    written: &mut usize,
-) -> i32
-    ensures gets { GetsAt (content_of at.old) (content_of agent.old) (content_of step.old) (content_of step.new)
-        value.new out.old out.new written.new result }
-    ensures kept { content_of agent.new ≡ content_of agent.old }
-    ensures held { content_of at.new ≡ content_of at.old }
-{
-    *written = 0;
-    *value = ValueHead::none();
-    let Some(shell) = take_shell(alloc, at) else {
-        return EMPTY;
-    };
-    let code = get_in_both(alloc, agent, step, &shell, value, out, written);
-    put_shell(at, shell);
     code
 }

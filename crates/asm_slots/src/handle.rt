@@ -25,7 +25,7 @@ impl Model for Handle {
 }
 
 impl Handle {
-    pub(crate) fn empty(alloc: Global) -> Handle
+    pub fn empty(alloc: Global) -> Handle
         ensures { result.value ≡ None }
     {
         Handle {

@@ -1,13 +1,13 @@
 //! Moves that are gathered in slots, instruction by instruction.
-ghost use Rattle.std.specs.Prelude.{◌≡◌, ◌≢◌, ◌↔◌, ◌∷◌, ◌++◌, [], IsUtf8, OnErr, OnOk, length};
+ghost use Rattle.std.specs.Prelude.{◌≡◌, ◌≢◌, ◌∷◌, ◌++◌, [], IsUtf8, OnErr, OnOk, length};
 ghost use Rattle.asm_update.specs.Limits.{instructions_limit};
 ghost use Rattle.asm_slots.specs.Codes.{IsOneOf, ASM_DONE, ASM_MEMORY, ASM_EMPTY, ASM_RANGE, ASM_MANY};
-ghost use Rattle.asm_slots.specs.Codes.{ASM_TAKEN, ASM_SHAPE};
+ghost use Rattle.asm_slots.specs.Codes.{ASM_SHAPE};
 ghost use Rattle.asm_slots.specs.Kinds.{IsInstructed, IsNoAction, ASM_KIND_TEXT};
-ghost use Rattle.asm_slots.specs.Slots.{HasRoomForMove, HoldsLocation, HoldsMove, HoldsNoLocation};
-ghost use Rattle.asm_slots.specs.Slots.{content_of, move_of};
+ghost use Rattle.asm_slots.specs.Slots.{HoldsLocation, HoldsMove, HoldsNoLocation};
+ghost use Rattle.asm_slots.specs.Slots.{content_of};
 
-use crate::codes::{DONE, EMPTY, MANY, MEMORY, TAKEN};
+use crate::codes::{DONE, EMPTY, MANY, MEMORY};
 use crate::content::Content;
 use crate::operands::action_of;
 use crate::prepared::location_in;
@@ -59,7 +59,8 @@ fn instruct_at(
     }
 }
 
-fn instruct_in(
+/// Puts the instruction at the location of a slot behind those of the move.
+pub fn instruct_in(
     alloc: Global,
     gathered: &mut Instructions,
     at: &mut Slot,
@@ -100,7 +101,8 @@ fn hold(alloc: Global, slot: &mut Slot, gathered: Instructions) -> Result<(), Al
     Ok(())
 }
 
-fn instruct_first(
+/// Puts a move of this instruction alone into an empty slot.
+pub fn instruct_first(
     alloc: Global,
     instrs: &mut Slot,
     at: &mut Slot,
@@ -128,45 +130,4 @@ fn instruct_first(
         Ok(()) => DONE,
         Err(AllocError) => MEMORY,
     }
-}
-
-/// Puts an instruction at the prepared location behind those of the move in a slot; an empty slot holds the move of
-/// this instruction then.
-///
-/// The operand is an element but a list, which kind, number and bytes tell. `ASM_TAKEN`: the first slot holds
-/// something else than a move. `ASM_EMPTY`: the second has no location, or the two are one. `ASM_RANGE`: there is no
-/// such verb, no such operand of it, or no such amount. `ASM_SHAPE`: the bytes of a text aren't UTF-8. `ASM_MANY`:
-/// the move has 4,096 instructions. `ASM_MEMORY`. After each of these both slots are as they were.
-pub fn instruct(
-    alloc: Global,
-    instrs: &mut Slot,
-    at: &mut Slot,
-    verb: i32,
-    kind: i32,
-    number: i64,
-    bytes: &[u8],
-    amount: u32,
-) -> i32
-    ensures codes { IsOneOf (ASM_DONE ∷ ASM_MEMORY ∷ ASM_EMPTY ∷ ASM_RANGE ∷ ASM_MANY ∷ ASM_TAKEN ∷ ASM_SHAPE ∷ []) result }
-    ensures done { result ≡ ASM_DONE → HoldsLocation (content_of at.old) (λ l. HoldsMove (content_of instrs.new)
-        (IsInstructed l verb kind number bytes.now amount (move_of (content_of instrs.old)))) }
-    ensures taken { (result ≡ ASM_TAKEN) ↔ ¬ HasRoomForMove (content_of instrs.old) }
-    ensures empty { result ≡ ASM_EMPTY → HoldsNoLocation (content_of at.old) }
-    ensures range { result ≡ ASM_RANGE → IsNoAction verb kind number bytes.now amount }
-    ensures shape { result ≡ ASM_SHAPE → (kind ≡ ASM_KIND_TEXT) × ¬ IsUtf8 bytes.now }
-    ensures many { result ≡ ASM_MANY → length (move_of (content_of instrs.old)) ≡ instructions_limit }
-    ensures kept { result ≢ ASM_DONE → content_of instrs.new ≡ content_of instrs.old }
-    ensures held { content_of at.new ≡ content_of at.old }
-{
-    let Some(mut shell) = take_shell(alloc, instrs) else {
-        return instruct_first(alloc, instrs, at, verb, kind, number, bytes, amount);
-    };
-    let code = match &mut *shell {
-        Content::Move(gathered) => {
-            instruct_in(alloc, gathered, at, verb, kind, number, bytes, amount)
-        }
-        _ => TAKEN,
-    };
-    put_shell(instrs, shell);
-    code
 }

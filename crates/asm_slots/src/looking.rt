@@ -2,60 +2,28 @@
 ghost use Rattle.std.specs.Prelude.{◌≡◌, ◌≢◌, ◌∷◌, [], length, map, string_bytes, IfOk, IfErr, Some};
 ghost use Rattle.asm_storage.specs.Storage.{IsSameAgent};
 ghost use Rattle.asm_slots.specs.Ahead.{ReadsAhead, ReadsWithin};
-ghost use Rattle.asm_slots.specs.Bytes.{AreLocations, AreReads, IsNoJson, IsOtherJson, ReadAsMoreReads};
+ghost use Rattle.asm_explain.specs.Bytes.{AreLocations, IsNoJson, IsOtherJson};
+ghost use Rattle.asm_slots.specs.Bytes.{AreReads, ReadAsMoreReads};
 ghost use Rattle.asm_slots.specs.Calls.{HasLooked, MayHaveLooked, SeesOn};
-ghost use Rattle.asm_slots.specs.Codes.{IsOneOf, ASM_DONE, ASM_STALE, ASM_MEMORY, ASM_EMPTY, ASM_SMALL};
+ghost use Rattle.asm_slots.specs.Codes.{IsOneOf, ASM_DONE, ASM_STALE, ASM_MEMORY, ASM_SMALL};
 ghost use Rattle.asm_slots.specs.Codes.{ASM_RANGE, ASM_MANY, ASM_NOT_JSON, ASM_SHAPE};
-ghost use Rattle.asm_slots.specs.Looked.{Stands};
-ghost use Rattle.asm_slots.specs.Own.{AllStand, HasFollowed, HasLookedOn, IsPeekOf};
+ghost use Rattle.asm_slots.specs.Own.{AllStand, HasLookedOn, IsPeekOf};
 ghost use Rattle.asm_slots.specs.Own.{IsStaleOf, IsStaleText, values_text};
-ghost use Rattle.asm_slots.specs.Slots.{Goes, Holds, HoldsNoAgent, content_of};
+ghost use Rattle.asm_slots.specs.Slots.{Holds, content_of};
 ghost use Rattle.asm_slots.specs.Written.{IsTooLong, IsWritten};
 ghost use Rattle.asm_slots.specs.declared.content.Content.TheVariants as content;
 
-use crate::codes::{DONE, EMPTY, MANY, MEMORY, RANGE, STALE, Told, copied, written_as};
+use crate::codes::{DONE, MANY, MEMORY, RANGE, STALE, Told, written_as};
 use crate::content::Content;
 use crate::owned_agent::OwnedAgent;
 use crate::parsing::{code_of_text_error, locations_of, reads_of};
 use crate::slot::Slot;
-use crate::take_and_put::{put_agent, take_agent};
+use crate::take_and_put::put_agent;
 use asm_element::{Element, Items, Location, Value};
 use asm_journal::answer_text;
 use asm_storage::{Answer, ReadError, Reply};
 use asm_update::Lookup;
 use std::alloc::{AllocError, Global};
-
-/// Has the agent look on until it finds nothing more, and its own state follow; `number` is then how many moves
-/// it has seen.
-///
-/// No receipt is made. Between this call and the next that looks on or fires, its state stands at this number,
-/// which contracts don't tell of what comes then: it is tested. `ASM_EMPTY`: the slot has no agent.
-/// `ASM_MEMORY`: it may have seen more. `number` is then 0.
-pub fn follow(alloc: Global, agent: &mut Slot, number: &mut u32) -> i32
-    ensures codes { IsOneOf (ASM_DONE ∷ ASM_MEMORY ∷ ASM_EMPTY ∷ []) result }
-    ensures followed { result ≡ ASM_DONE →
-        Goes (content_of agent.old) (content_of agent.new) (HasFollowed number.new) }
-    ensures memory { result ≡ ASM_MEMORY → Goes (content_of agent.old) (content_of agent.new) HasLookedOn }
-    ensures same { result ≢ ASM_EMPTY → Goes (content_of agent.old) (content_of agent.new) IsSameAgent }
-    ensures seen { result ≢ ASM_EMPTY → Goes (content_of agent.old) (content_of agent.new) SeesOn }
-    ensures none { result ≢ ASM_DONE → number.new ≡ 0 }
-    ensures empty { result ≡ ASM_EMPTY → HoldsNoAgent (content_of agent.old) }
-    ensures kept { result ≡ ASM_EMPTY → content_of agent.new ≡ content_of agent.old }
-{
-    *number = 0;
-    let Some((shell, inner)) = take_agent(alloc, agent) else {
-        return EMPTY;
-    };
-    let (inner, followed) = inner.follow(alloc);
-    put_agent(agent, shell, inner);
-    match followed {
-        Ok(seen) => {
-            *number = seen;
-            DONE
-        }
-        Err(AllocError) => MEMORY,
-    }
-}
 
 fn value_at<L: Lookup>(alloc: Global, seen: &L, at: &Location) -> Result<Value, AllocError>
     ensures { IfOk result (λ value. value ≡ L.value_at seen.now at.now) }
@@ -93,7 +61,8 @@ pub(crate) fn text_of_values<L: Lookup>(
     answer_text(alloc, &Answer::Read { number, values })
 }
 
-fn peeked(alloc: Global, agent: &OwnedAgent, locations: &[u8]) -> Result<String, i32>
+/// The text of the values of the locations of these bytes in the agent's own state.
+pub fn peeked(alloc: Global, agent: &OwnedAgent, locations: &[u8]) -> Result<String, i32>
     ensures ok { IfOk result (λ text. IsPeekOf locations.now agent.now (string_bytes text)) }
     ensures codes { IfErr result (IsOneOf (ASM_MEMORY ∷ ASM_NOT_JSON ∷ ASM_SHAPE ∷ [])) }
     ensures not_json { IfErr result (λ code. code ≡ ASM_NOT_JSON → IsNoJson locations.now) }
@@ -107,42 +76,6 @@ fn peeked(alloc: Global, agent: &OwnedAgent, locations: &[u8]) -> Result<String,
     match text_of_values(alloc, state.number(), state, &locations) {
         Ok(text) => Ok(text),
         Err(AllocError) => Err(MEMORY),
-    }
-}
-
-/// Writes `{"number":N,"values":[VALUE, ..]}`: the values of the locations `[LOC, ..]`, of which there may be
-/// any number, in the agent's own state, which stands at N moves.
-///
-/// It makes no look and no receipt. `ASM_SMALL`: `written` is the room that it needs. `ASM_EMPTY`: the slot has
-/// no agent. `ASM_NOT_JSON`, `ASM_SHAPE`, `ASM_MEMORY`. The slot stays as it was.
-pub fn peek(
-    alloc: Global,
-    agent: &mut Slot,
-    locations: &[u8],
-    out: &mut [u8],
-    written: &mut usize,
-) -> i32
-    ensures codes { IsOneOf (ASM_DONE ∷ ASM_MEMORY ∷ ASM_EMPTY ∷ ASM_SMALL ∷ ASM_NOT_JSON ∷ ASM_SHAPE ∷ []) result }
-    ensures kept { content_of agent.new ≡ content_of agent.old }
-    ensures told { result ≡ ASM_DONE → Holds (content_of agent.old)
-        (λ a. IsWritten (IsPeekOf locations.now a) out.new written.new) }
-    ensures small { result ≡ ASM_SMALL → Holds (content_of agent.old)
-        (λ a. IsTooLong (IsPeekOf locations.now a) (length out.old) written.new) }
-    ensures not_json { result ≡ ASM_NOT_JSON → IsNoJson locations.now }
-    ensures shape { result ≡ ASM_SHAPE → IsOtherJson AreLocations locations.now }
-    ensures empty { result ≡ ASM_EMPTY → HoldsNoAgent (content_of agent.old) }
-    ensures no_text { IsOneOf (ASM_MEMORY ∷ ASM_EMPTY ∷ ASM_NOT_JSON ∷ ASM_SHAPE ∷ []) result → written.new ≡ 0 }
-    ensures unwritten { result ≢ ASM_DONE → out.new ≡ out.old }
-{
-    *written = 0;
-    let Some((shell, inner)) = take_agent(alloc, agent) else {
-        return EMPTY;
-    };
-    let peeked = peeked(alloc, &inner, locations);
-    put_agent(agent, shell, inner);
-    match peeked {
-        Ok(text) => copied(text.as_bytes(), out, written),
-        Err(code) => code,
     }
 }
 
@@ -161,7 +94,8 @@ fn tell_stale(alloc: Global, at: Location, out: &mut [u8], written: &mut usize) 
     }
 }
 
-fn stands_at(
+/// Has the agent look on, puts it into the slot, and tells whether the named reads of these bytes stand.
+pub fn stands_at(
     alloc: Global,
     slot: &mut Slot,
     shell: Box<Content>,
@@ -214,30 +148,5 @@ fn stands_at(
         Ok(Some(at)) => tell_stale(alloc, at, out, written),
         Err(ReadError::ManyLocations) => MANY,
         Err(ReadError::Memory) => MEMORY,
-    }
-}
-
-/// Tells whether the named reads `[NAMED, ..]`, at most 256, still stand: whether no move has written one of
-/// the locations since the number under which it is named.
-///
-/// The agent looks on until it finds nothing more, and its own state follows; no receipt is made. A fire that
-/// names the same reads may still be refused, by a move that comes in between. `ASM_STALE`: one doesn't stand,
-/// and `{"stale":LOC}` with the least such location is written. `ASM_SMALL`: `written` is the room that it
-/// needs. `ASM_EMPTY`: the slot has no agent. `ASM_NOT_JSON`, `ASM_SHAPE`. `ASM_RANGE`: a read has a number above
-/// what the agent had seen, so nothing can be told of it. `ASM_MANY`, after it: more than 256 reads. After these
-/// five the slot is as it was. `ASM_MEMORY`: the agent may have seen more.
-pub fn stands(
-    alloc: Global,
-    agent: &mut Slot,
-    reads: &[u8],
-    out: &mut [u8],
-    written: &mut usize,
-) -> i32
-    ensures { Stands reads.now (content_of agent.old) (content_of agent.new) out.old out.new written.new result }
-{
-    *written = 0;
-    match take_agent(alloc, agent) {
-        Some((shell, inner)) => stands_at(alloc, agent, shell, inner, reads, out, written),
-        None => EMPTY,
     }
 }

@@ -4,16 +4,14 @@ ghost use Rattle.asm_journal.specs.Reading.{ReadsAs};
 ghost use Rattle.asm_journal.specs.declared.error.JournalError.TheVariants as journal_error;
 ghost use Rattle.asm_storage.specs.declared.history.History.{History};
 ghost use Rattle.asm_slots.specs.Calls.{IsNoCapacity};
-ghost use Rattle.asm_slots.specs.Codes.{IsOneOf, ASM_DONE, ASM_MEMORY, ASM_EMPTY, ASM_RANGE, ASM_NONE, ASM_TAKEN};
-ghost use Rattle.asm_slots.specs.Next.{GoesOn, HasOpened, IsNextOf, IsOpenedAfter, LacksJournal};
-ghost use Rattle.asm_slots.specs.Slots.{HoldsNoStore, HoldsStore, content_of};
+ghost use Rattle.asm_slots.specs.Codes.{IsOneOf, ASM_MEMORY, ASM_RANGE, ASM_NONE};
+ghost use Rattle.asm_slots.specs.Next.{GoesOn, HasOpened, IsOpenedAfter, LacksJournal};
+ghost use Rattle.asm_slots.specs.Slots.{HoldsStore};
 
-use crate::codes::{DONE, EMPTY, MEMORY, NONE, RANGE, TAKEN};
+use crate::codes::{MEMORY, NONE, RANGE};
 use crate::content::Content;
 use crate::shared::{Shared, Standard};
-use crate::slot::Slot;
 use crate::store::Store;
-use crate::take_and_put::{put_store, take_store};
 use asm_aggregate::standard;
 use asm_journal::{JournalError, from_text, next_storage};
 use asm_storage::{Storage, StorageError};
@@ -74,8 +72,8 @@ fn opened_after(alloc: Global, journal: &[u8], capacity: u32) -> Result<Box<Cont
 }
 
 impl Store {
-    // The storage that goes on from the journal that is kept.
-    fn next(&self, alloc: Global, capacity: u32) -> Result<Box<Content>, i32>
+    /// The storage that goes on from the journal that is kept, in a slot's box.
+    pub fn next(&self, alloc: Global, capacity: u32) -> Result<Box<Content>, i32>
         ensures ok { IfOk result (λ b. HoldsStore (Some b.value) (GoesOn capacity self.now)) }
         ensures codes { IfErr result (IsOneOf (ASM_MEMORY ∷ ASM_RANGE ∷ ASM_NONE ∷ [])) }
         ensures range { IfErr result (λ code. code ≡ ASM_RANGE → IsNoCapacity capacity) }
@@ -85,40 +83,5 @@ impl Store {
             Some(journal) => opened_after(alloc, journal.as_bytes(), capacity),
             None => Err(NONE),
         }
-    }
-}
-
-/// Opens a storage, for at most `capacity` moves, in an empty slot, that goes on where the one that was closed
-/// ended: its opening state is the one that the moves of the kept journal leave, and its agents start anew.
-///
-/// The first storage's slot stays as it was. The journals of both, one after the other, tell one run.
-/// `ASM_TAKEN`: the second slot is full. `ASM_EMPTY`: the first has no storage. `ASM_NONE`: the storage wasn't
-/// closed since an agent was given back. `ASM_RANGE`: the capacity isn't 1 to 1,048,576. `ASM_MEMORY`. After
-/// each of these both slots are as they were.
-pub fn open_next(alloc: Global, store: &mut Slot, capacity: u32, next: &mut Slot) -> i32
-    ensures codes { IsOneOf (ASM_DONE ∷ ASM_MEMORY ∷ ASM_EMPTY ∷ ASM_RANGE ∷ ASM_NONE ∷ ASM_TAKEN ∷ []) result }
-    ensures opened { result ≡ ASM_DONE → IsNextOf capacity (content_of store.old) (content_of next.new) }
-    ensures was_empty { result ≡ ASM_DONE → content_of next.old ≡ None }
-    ensures kept { content_of store.new ≡ content_of store.old }
-    ensures refused { result ≢ ASM_DONE → content_of next.new ≡ content_of next.old }
-    ensures range { result ≡ ASM_RANGE → IsNoCapacity capacity }
-    ensures none { result ≡ ASM_NONE → HoldsStore (content_of store.old) LacksJournal }
-    ensures empty { result ≡ ASM_EMPTY → HoldsNoStore (content_of store.old) }
-    ensures taken { result ≡ ASM_TAKEN → content_of next.old ≢ None }
-{
-    if next.is_full() {
-        return TAKEN;
-    }
-    let Some((shell, kept)) = take_store(alloc, store) else {
-        return EMPTY;
-    };
-    let made = kept.next(alloc, capacity);
-    put_store(store, shell, kept);
-    match made {
-        Ok(made) => {
-            *next = Slot::holding(made);
-            DONE
-        }
-        Err(code) => code,
     }
 }

@@ -73,6 +73,13 @@ impl OwnedAgent {
         Ok(OwnedAgent { shared, part })
     }
 
+    /// The share of the storage.
+    pub fn shared(&self) -> &Arc<Shared>
+        ensures { (arc_value result.now).storage ≡ self.now.storage }
+    {
+        &self.shared
+    }
+
     /// Reads the locations.
     pub(crate) fn read(
         self,
@@ -130,7 +137,7 @@ impl OwnedAgent {
     }
 
     /// Has its state follow the row to the end; how many moves it has then seen.
-    pub(crate) fn follow(self, alloc: Global) -> (OwnedAgent, Result<u32, AllocError>)
+    pub fn follow(self, alloc: Global) -> (OwnedAgent, Result<u32, AllocError>)
         ensures same { IsSameAgent self result.0 }
         ensures looked { HasLookedOn self result.0 }
         ensures seen { SeesOn self result.0 }
@@ -178,7 +185,7 @@ impl OwnedAgent {
     }
 
     /// How many moves it has seen.
-    pub(crate) fn seen(self) -> (OwnedAgent, u32)
+    pub fn seen(self) -> (OwnedAgent, u32)
         ensures same { result.0 ≡ self }
         ensures seen { result.1 ≡ length self.account.seen }
     {
@@ -199,7 +206,7 @@ impl OwnedAgent {
     }
 
     /// How many of its offers won.
-    pub(crate) fn won(self) -> (OwnedAgent, u32)
+    pub fn won(self) -> (OwnedAgent, u32)
         ensures same { result.0 ≡ self }
         ensures won { result.1 ≡ self.account.won }
     {
@@ -211,7 +218,7 @@ impl OwnedAgent {
     }
 
     /// How many of its looks found an empty cell.
-    pub(crate) fn misses(self) -> (OwnedAgent, u64)
+    pub fn misses(self) -> (OwnedAgent, u64)
         ensures same { result.0 ≡ self }
         ensures misses { result.1 ≡ self.misses }
     {
@@ -223,7 +230,7 @@ impl OwnedAgent {
     }
 
     /// A mark of what it has seen.
-    pub(crate) fn mark(self, alloc: Global) -> (OwnedAgent, Mark)
+    pub fn mark(self, alloc: Global) -> (OwnedAgent, Mark)
         ensures same { result.0 ≡ self }
         ensures mark { result.1 ≡ record { row = self.storage.row; seen = self.account.seen } }
     {
@@ -235,7 +242,7 @@ impl OwnedAgent {
     }
 
     /// Takes in what the mark holds.
-    pub(crate) fn learn(self, alloc: Global, mark: &Mark) -> OwnedAgent
+    pub fn learn(self, alloc: Global, mark: &Mark) -> OwnedAgent
         requires { mark.now.row ≡ self.storage.row }
         ensures { HasLearnt mark.now.seen self result }
     {
@@ -247,7 +254,7 @@ impl OwnedAgent {
     }
 
     /// The text of the answer to its last answered call.
-    pub(crate) fn answer(self, alloc: Global) -> (OwnedAgent, Result<Option<String>, AllocError>)
+    pub fn answer(self, alloc: Global) -> (OwnedAgent, Result<Option<String>, AllocError>)
         ensures same { result.0 ≡ self }
         ensures told { IfOk result.1 (λ o. TellsLast self (option_map string_bytes o)) }
     {

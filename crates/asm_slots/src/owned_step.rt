@@ -1,5 +1,5 @@
 //! A step of an engine: moves pushed over the state at one number of moves, and the locations that were got.
-ghost use Rattle.std.specs.Prelude.{◌≡◌, ◌++◌, ◌∷◌, [], All, List, filter, map, IfOk, OnOk, OnErr, IfErr};
+ghost use Rattle.std.specs.Prelude.{◌≡◌, ◌++◌, ◌∷◌, [], All, List, filter, length, map, IfOk, OnOk, OnErr, IfErr};
 ghost use Rattle.std.specs.Bool.{OnTrue, OnFalse};
 ghost use Rattle.asm_update.specs.Move.{Move};
 ghost use Rattle.asm_update.specs.State as plain;
@@ -53,7 +53,7 @@ impl Model for OwnedStep {
 
 /// How a move is put onto a step.
 #[derive(Clone, Copy, Drop)]
-pub(crate) enum Way {
+pub enum Way {
     Push,
     Extend,
 }
@@ -154,8 +154,15 @@ impl OwnedStep {
         }
     }
 
+    /// How many moves are pushed.
+    pub fn depth(&self) -> u32
+        ensures { result ≡ length self.now.layers }
+    {
+        self.step.depth() as u32
+    }
+
     /// Takes the move that was pushed last away, with those that extend it; false where there is none.
-    pub(crate) fn pop(&mut self) -> bool
+    pub fn pop(&mut self) -> bool
         ensures popped { OnTrue result (HasPopped self.old self.new) }
         ensures none { OnFalse result (self.old.layers ≡ []) }
         ensures same { OnFalse result (self.new ≡ self.old) }

@@ -1,11 +1,10 @@
 //! Pushing moves onto a step, and extending the one that was pushed last.
 ghost use Rattle.std.specs.Prelude.{◌≡◌, ◌≢◌, ◌∷◌, [], ℤ, length, string_bytes, IfOk, Some};
 ghost use Rattle.asm_journal.specs.Event.{IsMoveForm};
-ghost use Rattle.asm_slots.specs.Bytes.{IsNoJson, IsOtherJson};
+ghost use Rattle.asm_explain.specs.Bytes.{IsNoJson, IsOtherJson};
 ghost use Rattle.asm_slots.specs.Codes.{IsOneOf, ASM_DONE, ASM_CLASH, ASM_MEMORY, ASM_SMALL};
 ghost use Rattle.asm_slots.specs.Codes.{ASM_MANY, ASM_NOT_JSON, ASM_SHAPE, ASM_LARGE, ASM_MOVED, ASM_DEEP};
-ghost use Rattle.asm_slots.specs.Grown.{Extends, Grows, Pushes};
-ghost use Rattle.asm_slots.specs.Slots.{content_of};
+ghost use Rattle.asm_slots.specs.Grown.{Grows};
 ghost use Rattle.asm_slots.specs.Steps.{HasGrown, IsGrown, IsNotGrown, IsRefused, TellsRefusal};
 ghost use Rattle.asm_slots.specs.Written.{IsTooLong, IsWritten};
 
@@ -15,9 +14,7 @@ use crate::content::Content;
 use crate::owned_agent::OwnedAgent;
 use crate::owned_step::{OwnedStep, Way, grow};
 use crate::parsing::{code_of_text_error, move_of};
-use crate::slot::Slot;
-use crate::take_and_put::{agent_in, put_both, take_both};
-use asm_aggregate::standard;
+use crate::take_and_put::agent_in;
 use asm_step::StepError;
 use asm_update::Instructions;
 use std::alloc::{AllocError, Global};
@@ -128,8 +125,8 @@ fn grow_in(
     }
 }
 
-// The same, where the boxes hold an agent and a step.
-fn grow_of(
+/// Puts the move of these bytes onto the step in a box, over the agent in another.
+pub fn grow_of(
     alloc: Global,
     agent: &Content,
     step: &mut Content,
@@ -148,76 +145,4 @@ fn grow_of(
         Content::Step(step) => grow_in(alloc, agent, step, way, instrs, out, written),
         _ => EMPTY,
     }
-}
-
-/// Pushes the move `[INSTR, ..]`: what is got or pushed later is seen through what it leaves.
-///
-/// It makes no look and no receipt, and the agent's slot stays as it was. `ASM_CLASH`: its updates clash on what
-/// is seen, and `{"clash":[LOC,CAUSE]}` is written. `ASM_DEEP`: 64 moves are pushed. `ASM_MANY`: the one move of
-/// all that is pushed would have more than 4,096 instructions. `ASM_LARGE`, with `{"large":LOC}`, never comes
-/// for a step of the agent's storage. `ASM_MOVED`: the agent's own state doesn't stand at the step's number.
-/// `ASM_SMALL`: `written` is the room that the text of a refusal needs. `ASM_EMPTY`: the first slot has no agent,
-/// the second no step, or the two are one. `ASM_NOT_JSON`, `ASM_SHAPE`, `ASM_MEMORY`. After each of these the
-/// step's slot is as it was, so a push that is refused, or is popped, is a dry run. The step has to be one of the
-/// agent's storage.
-pub fn push(
-    alloc: Global,
-    agent: &mut Slot,
-    step: &mut Slot,
-    instrs: &[u8],
-    out: &mut [u8],
-    written: &mut usize,
-) -> i32
-    ensures grows { Pushes instrs.now (content_of agent.old) (content_of step.old) (content_of step.new)
-        out.old out.new written.new result }
-    ensures kept { content_of agent.new ≡ content_of agent.old }
-{
-    *written = 0;
-    let Some(mut both) = take_both(alloc, agent, step) else {
-        return EMPTY;
-    };
-    let code = grow_of(
-        alloc,
-        &both.agent,
-        &mut both.step,
-        Way::Push,
-        instrs,
-        out,
-        written,
-    );
-    put_both(agent, step, both);
-    code
-}
-
-/// Extends the move that was pushed last by the move `[INSTR, ..]`: what is got or pushed later is seen through
-/// what it leaves, and a pop takes both away. Without a pushed move it is pushed.
-///
-/// The codes are those of `push`, but `ASM_DEEP`: the step is no deeper, however often it is extended.
-pub fn extend(
-    alloc: Global,
-    agent: &mut Slot,
-    step: &mut Slot,
-    instrs: &[u8],
-    out: &mut [u8],
-    written: &mut usize,
-) -> i32
-    ensures grows { Extends instrs.now (content_of agent.old) (content_of step.old) (content_of step.new)
-        out.old out.new written.new result }
-    ensures kept { content_of agent.new ≡ content_of agent.old }
-{
-    *written = 0;
-    let Some(mut both) = take_both(alloc, agent, step) else {
-        return EMPTY;
-    };
-    let code = grow_of(
-        alloc,
-        &both.agent,
-        &mut both.step,
-        Way::Extend,
-        instrs,
-        out,
-        written,
-    );
-    put_both(agent, step, both);
-    code
 }

@@ -26,7 +26,7 @@ impl Slot {
         }
     }
 
-    pub(crate) fn holding(value: Box<Content>) -> Slot
+    pub fn holding(value: Box<Content>) -> Slot
         ensures { result.handle.value ≡ Some value.value }
     {
         Slot {

@@ -1,4 +1,7 @@
 //! A share of a storage, with the numbers of its agents, those that were given back to it, and their journal.
+ghost use Rattle.std.specs.Prelude.{◌≡◌, ◌≤◌, IfNone, IfSome, None, Some, length, string_bytes};
+ghost use Rattle.std_alloc.specs.Arc.{arc_value};
+
 use crate::shared::Shared;
 use asm_storage::AgentPart;
 use std::marker::Model;
@@ -48,4 +51,31 @@ impl Model for Store {
 
     ghost invariant = { λ s. All (IsPartOf meaning (arc_value s.shared).storage) s.parts.items
         × IsStrictlyIncreasing (map (λ p. p.id) s.parts.items) };
+}
+
+impl Store {
+    /// The share of the storage.
+    pub fn shared(&self) -> &Arc<Shared>
+        ensures { (arc_value result.now).storage ≡ self.now.storage }
+    {
+        &self.shared
+    }
+
+    /// How many moves stand in the storage's row: it looks from the first one on until it finds nothing more.
+    pub fn moves(&self) -> u32
+        ensures { result ≤ length self.now.storage.row }
+    {
+        self.shared.storage.moves()
+    }
+
+    /// The text of the journal, where it is kept.
+    pub fn journal(&self) -> Option<&String>
+        ensures some { IfSome result (λ text. self.now.journal ≡ Some (string_bytes text.now)) }
+        ensures none { IfNone result (self.now.journal ≡ None) }
+    {
+        match &self.journal {
+            Some(text) => Some(text),
+            None => None,
+        }
+    }
 }

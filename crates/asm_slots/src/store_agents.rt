@@ -123,7 +123,7 @@ fn noted_agents(
 
 impl Store {
     /// Makes an agent, whose number is noted.
-    pub(crate) fn make_agent(mut self, alloc: Global, id: u32) -> (Store, Result<Box<Content>, i32>)
+    pub fn make_agent(mut self, alloc: Global, id: u32) -> (Store, Result<Box<Content>, i32>)
         requires { id < agents_limit }
         ensures agent { IfOk result.1 (λ b. Holds (Some b.value) (λ a. a ≡ at_start self.storage id)) }
         ensures made { OnOk result.1 (HasMade (id ∷ []) self result.0) }
@@ -138,7 +138,7 @@ impl Store {
     }
 
     /// Makes an agent in each of the slots, with the numbers from 0 up, which are noted.
-    pub(crate) fn make_agents(mut self, alloc: Global, agents: &mut [Slot]) -> (Store, i32)
+    pub fn make_agents(mut self, alloc: Global, agents: &mut [Slot]) -> (Store, i32)
         requires { length agents.old ≤ agents_limit }
         ensures codes { IsOneOf (ASM_DONE ∷ ASM_MEMORY ∷ ASM_NUMBER ∷ []) result.1 }
         ensures agents { result.1 ≡ ASM_DONE → AreNew self.storage agents.new }

@@ -55,7 +55,7 @@ fn parts_of(
 
 /// Why a storage wasn't closed.
 #[derive(Drop)]
-pub(crate) enum Unclosed {
+pub enum Unclosed {
     Missing(u32),
     Large,
     Memory,
@@ -128,7 +128,7 @@ fn journal_of(
 
 impl Store {
     /// Closes the agents that were given back, and keeps the text of their journal.
-    pub(crate) fn close(self, alloc: Global) -> (Store, Result<(), Unclosed>)
+    pub fn close(self, alloc: Global) -> (Store, Result<(), Unclosed>)
         ensures closed { OnOk result.1 (HasClosed self result.0) }
         ensures unchanged { OnErr result.1 (result.0 ≡ self) }
         ensures err { IfErr result.1 (IsUnclosed self.storage self.agents) }

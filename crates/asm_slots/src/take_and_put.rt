@@ -12,7 +12,7 @@ use crate::store::Store;
 use std::alloc::Global;
 
 /// The box of what the slot holds, taken out of it.
-pub(crate) fn take_shell(alloc: Global, slot: &mut Slot) -> Option<Box<Content>>
+pub fn take_shell(alloc: Global, slot: &mut Slot) -> Option<Box<Content>>
     ensures some { IfSome result (λ shell. content_of slot.old ≡ Some shell.value) }
     ensures none { IfNone result (content_of slot.new ≡ content_of slot.old) }
     ensures empty { IfNone result (content_of slot.old ≡ None) }
@@ -21,7 +21,7 @@ pub(crate) fn take_shell(alloc: Global, slot: &mut Slot) -> Option<Box<Content>>
 }
 
 /// Puts the box into the slot.
-pub(crate) fn put_shell(slot: &mut Slot, shell: Box<Content>)
+pub fn put_shell(slot: &mut Slot, shell: Box<Content>)
     ensures { content_of slot.new ≡ Some shell.value }
 {
     *slot = Slot::holding(shell);
@@ -39,7 +39,7 @@ pub(crate) fn agent_in(held: &Content) -> Option<&OwnedAgent>
 }
 
 /// The agent of the slot and its box, taken out of it.
-pub(crate) fn take_agent(alloc: Global, slot: &mut Slot) -> Option<(Box<Content>, OwnedAgent)>
+pub fn take_agent(alloc: Global, slot: &mut Slot) -> Option<(Box<Content>, OwnedAgent)>
     ensures some { IfSome result (λ p. content_of slot.old ≡ Some (content.Agent p.1)) }
     ensures none { IfNone result (content_of slot.new ≡ content_of slot.old) }
     ensures other { IfNone result (HoldsNoAgent (content_of slot.old)) }
@@ -56,7 +56,7 @@ pub(crate) fn take_agent(alloc: Global, slot: &mut Slot) -> Option<(Box<Content>
 }
 
 /// Puts the agent into the slot, in its box.
-pub(crate) fn put_agent(slot: &mut Slot, mut shell: Box<Content>, agent: OwnedAgent)
+pub fn put_agent(slot: &mut Slot, mut shell: Box<Content>, agent: OwnedAgent)
     ensures { content_of slot.new ≡ Some (content.Agent agent) }
 {
     *shell = Content::Agent(agent);
@@ -64,7 +64,7 @@ pub(crate) fn put_agent(slot: &mut Slot, mut shell: Box<Content>, agent: OwnedAg
 }
 
 /// The storage of the slot and its box, taken out of it.
-pub(crate) fn take_store(alloc: Global, slot: &mut Slot) -> Option<(Box<Content>, Store)>
+pub fn take_store(alloc: Global, slot: &mut Slot) -> Option<(Box<Content>, Store)>
     ensures some { IfSome result (λ p. content_of slot.old ≡ Some (content.Store p.1)) }
     ensures none { IfNone result (content_of slot.new ≡ content_of slot.old) }
     ensures other { IfNone result (HoldsNoStore (content_of slot.old)) }
@@ -81,7 +81,7 @@ pub(crate) fn take_store(alloc: Global, slot: &mut Slot) -> Option<(Box<Content>
 }
 
 /// Puts the storage into the slot, in its box.
-pub(crate) fn put_store(slot: &mut Slot, mut shell: Box<Content>, store: Store)
+pub fn put_store(slot: &mut Slot, mut shell: Box<Content>, store: Store)
     ensures { content_of slot.new ≡ Some (content.Store store) }
 {
     *shell = Content::Store(store);
@@ -90,13 +90,13 @@ pub(crate) fn put_store(slot: &mut Slot, mut shell: Box<Content>, store: Store)
 
 /// The boxes of two slots, taken out of them.
 #[derive(Drop)]
-pub(crate) struct Both {
-    pub(crate) agent: Box<Content>,
-    pub(crate) step: Box<Content>,
+pub struct Both {
+    pub agent: Box<Content>,
+    pub step: Box<Content>,
 }
 
 /// The boxes of what the two slots hold, taken out of them.
-pub(crate) fn take_both(alloc: Global, agent: &mut Slot, step: &mut Slot) -> Option<Both>
+pub fn take_both(alloc: Global, agent: &mut Slot, step: &mut Slot) -> Option<Both>
     ensures agent { IfSome result (λ b. content_of agent.old ≡ Some b.agent.value) }
     ensures step { IfSome result (λ b. content_of step.old ≡ Some b.step.value) }
     ensures none { IfNone result ((content_of agent.new ≡ content_of agent.old)
@@ -114,7 +114,7 @@ pub(crate) fn take_both(alloc: Global, agent: &mut Slot, step: &mut Slot) -> Opt
 }
 
 /// Puts both boxes into their slots.
-pub(crate) fn put_both(agent: &mut Slot, step: &mut Slot, both: Both)
+pub fn put_both(agent: &mut Slot, step: &mut Slot, both: Both)
     ensures agent { content_of agent.new ≡ Some both.agent.value }
     ensures step { content_of step.new ≡ Some both.step.value }
 {

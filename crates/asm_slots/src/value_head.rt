@@ -38,7 +38,7 @@ pub struct ValueHead {
 }
 
 impl ValueHead {
-    pub(crate) fn none() -> ValueHead
+    pub fn none() -> ValueHead
         ensures kind { result.kind ≡ pos 0 }
         ensures number { result.number ≡ pos 0 }
     {

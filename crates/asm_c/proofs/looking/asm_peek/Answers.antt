@@ -2,7 +2,7 @@ use Rattle.std.proofs.Common.{sym, ◌∙◌}
 use Rattle.asm_slots.specs.Own.{IsPeekOf}
 use Rattle.asm_slots.proofs.CopiedTexts.{coded}
 use Rattle.asm_slots.proofs.Held.{holds_long, holds_written}
-use Rattle.asm_slots.proofs.looking.peek.Goals as goal
+use Rattle.asm_c.proofs.looking.asm_peek.Goals as goal
 
 pub returns-in-Ok-clause-told : goal.returns-in-Ok-clause-told
 returns-in-Ok-clause-told c done =

@@ -2,7 +2,7 @@ use Rattle.std.proofs.Common.{sym, ◌∙◌}
 use Rattle.asm_slots.specs.Own.{IsOwnState}
 use Rattle.asm_slots.proofs.CopiedTexts.{coded}
 use Rattle.asm_slots.proofs.Held.{holds_long, holds_written}
-use Rattle.asm_slots.proofs.own_state.write_state.Goals as goal
+use Rattle.asm_c.proofs.own_state.asm_state.Goals as goal
 
 pub returns-in-Ok-clause-told : goal.returns-in-Ok-clause-told
 returns-in-Ok-clause-told c done =

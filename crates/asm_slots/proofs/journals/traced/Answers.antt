@@ -1,4 +1,4 @@
-use Rattle.asm_slots.proofs.tracing.traced.Goals as goal
+use Rattle.asm_slots.proofs.journals.traced.Goals as goal
 
 pub returns-in-Ok-clause-ok : goal.returns-in-Ok-clause-ok
 returns-in-Ok-clause-ok c = record {

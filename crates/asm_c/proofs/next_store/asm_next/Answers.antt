@@ -2,7 +2,7 @@ use Rattle.std.proofs.Common.{sym, ◌∙◌}
 use Rattle.asm_slots.specs.Next.{LacksJournal}
 use Rattle.asm_slots.specs.Slots.{content_of}
 use Rattle.asm_slots.proofs.GoingOn.{coded, holds_store}
-use Rattle.asm_slots.proofs.next_store.open_next.Goals as goal
+use Rattle.asm_c.proofs.next_store.asm_next.Goals as goal
 
 pub returns-in-Err-clause-none : goal.returns-in-Err-clause-none
 returns-in-Err-clause-none c none =

@@ -1,7 +1,7 @@
 use Rattle.std.proofs.Common.{rules, sym, ◌∙◌}
 use Rattle.asm_slots.specs.Journals.{IsTraceOf}
 use Rattle.asm_slots.proofs.CopiedTexts.{coded, is_too_long, is_written}
-use Rattle.asm_slots.proofs.tracing.trace_journal.Goals as goal
+use Rattle.asm_c.proofs.journals.asm_trace.Goals as goal
 
 pub returns-in-Ok : goal.returns-in-Ok
 returns-in-Ok c = record {

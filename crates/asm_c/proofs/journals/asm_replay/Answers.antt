@@ -1,7 +1,7 @@
 use Rattle.std.proofs.Common.{rules, sym, ◌∙◌}
 use Rattle.asm_slots.specs.Journals.{IsReplayed}
 use Rattle.asm_slots.proofs.CopiedTexts.{coded, is_too_long, is_written}
-use Rattle.asm_slots.proofs.journals.replay_journal.Goals as goal
+use Rattle.asm_c.proofs.journals.asm_replay.Goals as goal
 
 pub returns-in-Ok : goal.returns-in-Ok
 returns-in-Ok c = record {
