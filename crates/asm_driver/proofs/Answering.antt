@@ -5,13 +5,15 @@ use Rattle.std.specs.Prelude.{IfOk, IfErr, IfSome, IfNone, ◌⊎◌}
 use Rattle.std.specs.Option.{ok_or}
 use Rattle.std.specs.Str.Parse.{IsNumeral, digits_value, without_leading_plus}
 use Rattle.clap.proofs.OnLiterals.{clap_on_literals}
-use Rattle.clap.specs.Words.{Row, Text, Kinds, IsAmong, one_of, subcommand_of}
+use Rattle.clap.specs.Words.{Row, Text, Kinds, IsAmong, first_of, one_of, subcommand_of}
 use Rattle.clap.specs.declared.error.kind.ErrorKind.{ErrorKind}
 use Rattle.clap.specs.declared.error.kind.ErrorKind.TheVariants as kind
-use Rattle.asm_driver.specs.Words.{Words, program, faults, Asks, AsksFor, IsNoCommand, IsRefusal, IsMadeOf, IsTold}
+use Rattle.asm_driver.specs.Words.{Words, program, faults, kind_word, Asks, AsksFor, IsNoCommand, IsRefusal, IsMadeOf, IsTold}
 use Rattle.asm_driver.specs.Words.{Gives, RefusesWords, Helps, TellsVersion, Answers}
 use Rattle.asm_driver.specs.declared.program.words.Request.{Request}
-use Rattle.asm_driver.specs.declared.program.words.Request.TheVariants.{Run, Check, Rewrite, Trace}
+use Rattle.asm_driver.specs.declared.program.words.Request.TheVariants.{Run, Check, Rewrite, Trace, Explain}
+use Rattle.asm_driver.specs.declared.program.words.TextKind.{TextKind}
+use Rattle.asm_driver.specs.declared.program.words.TextKind.TheVariants.{Script, Journal}
 use Rattle.asm_driver.specs.declared.program.words.WordsError.{WordsError}
 use Rattle.asm_driver.specs.declared.program.words.WordsError.TheVariants.{Help, Version, Bad, Memory}
 
@@ -39,6 +41,7 @@ word (Run c j) = codes "run"
 word Check = codes "check"
 word Rewrite = codes "rewrite"
 word Trace = codes "trace"
+word (Explain t) = codes "explain"
 
 -- its second letter, which no two of the words share
 abbrev letter : Request → ℕ
@@ -51,11 +54,13 @@ with_letter l r =
 
 with_own_letter : (r : Request) → with_letter (letter r) r ≡ r
 with_own_letter (Run c j) = refl
+with_own_letter (Explain t) = refl
 with_own_letter r = refl
 
 -- what is asked for has the word of the command
 same_letter : (n m : Request) (rows : List Row) → Asks (Some (word n, rows)) m → letter n ≡ letter m
 same_letter n (Run c j) rows h = ap (λ (t : Text). get_or t 1 0) h.0
+same_letter n (Explain k) rows h = ap (λ (t : Text). get_or t 1 0) h.0
 same_letter n m rows h = ap (λ (t : Text). get_or t 1 0) h
 
 -- so it is the command without options that has this letter
@@ -73,7 +78,25 @@ HasOptions rows (Run c j) =
     (t : Text) × IsNumeral 10 (without_leading_plus t) × (digits_value 10 (without_leading_plus t) < 2 ^ 32)
     × (digits_value 10 (without_leading_plus t) ≡ c) × (one_of (codes "capacity") rows ≡ Some t)
     × (one_of (codes "journal") rows ≡ Some (flag_text j))
+HasOptions rows (Explain t) = first_of (codes "kind") rows ≡ Some (kind_word t)
 HasOptions rows r = Unit {0}
+
+-- the first letter of a kind's word tells the kind
+abbrev with_first : ℕ → TextKind
+with_first l = if l == 115 then Script else Journal
+
+with_own_first : (t : TextKind) → with_first (get_or (kind_word t) 0 0) ≡ t
+with_own_first Script = refl
+with_own_first Journal = refl
+
+-- the word that is there
+abbrev there : Option Text → Text
+there (Some t) = t
+there None = []
+
+same_kind : (t u : TextKind) (o : Option Text) → o ≡ Some (kind_word t) → o ≡ Some (kind_word u) → u ≡ t
+same_kind t u o is same =
+    sym (with_own_first u) ∙ ap (λ x. with_first (get_or (there x) 0 0)) (sym same ∙ is) ∙ with_own_first t
 
 -- a command with these options asks for nothing else
 asked_alone : (n m : Request) (rows : List Row) → HasOptions rows n → Asks (Some (word n, rows)) m → m ≡ n
@@ -82,14 +105,17 @@ asked_alone (Run c true) (Run d k) rows (t, numeral, small, value, number, flag)
 asked_alone (Run c false) (Run d k) rows (t, numeral, small, value, number, flag) h =
     ap₂ Run (h.1.0 t number numeral small ∙ value) (h.1.1.1 flag)
 asked_alone (Run c j) m rows has h = absurd (omega (arith, same_letter (Run c j) m rows h))
+asked_alone (Explain t) (Explain u) rows has h = ap Explain (same_kind t u _ has h.1)
+asked_alone (Explain t) m rows has h = absurd (omega (arith, same_letter (Explain t) m rows h))
 asked_alone n m rows has h = by_letter n m rows h
 
 -- the word is a command's
-known : (n : Request) (rows : List Row) → IsNoCommand (Some (word n, rows)) → ⊥
-known (Run c j) rows none = none.0 refl
-known Check rows none = none.1 refl
-known Rewrite rows none = none.2 refl
-known Trace rows none = none.3 refl
+known : (n : Request) (rows : List Row) → HasOptions rows n → IsNoCommand (Some (word n, rows)) → ⊥
+known (Run c j) rows has none = none.0 refl
+known Check rows has none = none.1 refl
+known Rewrite rows has none = none.2 refl
+known Trace rows has none = none.3 refl
+known (Explain t) rows has none = none.4 t (refl, has)
 
 none_among : (k : ErrorKind) (ks : Kinds) → ks ≡ [] → IsAmong k ks → ⊥
 none_among k [] e h = h
@@ -103,7 +129,7 @@ given words n rows (Err (Help text)) taken command options right = absurd (none_
 given words n rows (Err Version) taken command options right = absurd (none_among _ _ taken right.err)
 given words n rows (Err Bad) taken command options right = elim right.err [
   | inl one ↦ absurd (none_among _ _ taken one.1)
-  | inr other ↦ absurd (known n rows (subst IsNoCommand command other.1))
+  | inr other ↦ absurd (known n rows options (subst IsNoCommand command other.1))
 ]
 given words n rows (Err Memory) taken command options right = inr refl
 
@@ -112,6 +138,40 @@ gives : {example words : Words} {n : Request} {rows : List Row} {r : Result Requ
     words ≡ example → Gives n r
 gives right taken command options e =
     given _ _ _ _ (ap faults e ∙ taken) (ap (subcommand_of program) e ∙ command) options right
+
+-- ---- a word behind explain that is no kind of text
+
+-- the word of no kind
+abbrev IsOther : Text → Type 0
+IsOther t = (k : TextKind) → t ≡ kind_word k → ⊥
+
+some_word : (t : Text) (o : Option Text) (u : Text) → o ≡ Some t → o ≡ Some u → t ≡ u
+some_word t o u is same = ap there (sym is ∙ same)
+
+unasked : (t : Text) (rows : List Row) (m : Request) → first_of (codes "kind") rows ≡ Some t → IsOther t
+    → Asks (Some (codes "explain", rows)) m → ⊥
+unasked t rows (Explain k) is other h = other k (some_word t _ (kind_word k) is h.1)
+unasked t rows m is other h = absurd (omega (arith, same_letter (Explain Script) m rows h))
+
+other_kind : (words : Words) (t : Text) (rows : List Row) (r : Result Request WordsError) → faults words ≡ [] →
+    subcommand_of program words ≡ Some (codes "explain", rows) → first_of (codes "kind") rows ≡ Some t → IsOther t
+    → IsRight words r → RefusesWords r
+other_kind words t rows (Ok m) taken command is other right =
+    absurd (unasked t rows m is other (subst (λ s. Asks s m) command right.ok.1))
+other_kind words t rows (Err (Help text)) taken command is other right = absurd (none_among _ _ taken right.err)
+other_kind words t rows (Err Version) taken command is other right = absurd (none_among _ _ taken right.err)
+other_kind words t rows (Err Bad) taken command is other right = inl refl
+other_kind words t rows (Err Memory) taken command is other right = inr refl
+
+refuses_kind : {example words : Words} {t : Text} {rows : List Row} {r : Result Request WordsError} → IsRight words r
+    → faults example ≡ [] → subcommand_of program example ≡ Some (codes "explain", rows)
+    → first_of (codes "kind") rows ≡ Some t → IsOther t → words ≡ example → RefusesWords r
+refuses_kind right taken command is other e =
+    other_kind _ _ _ _ (ap faults e ∙ taken) (ap (subcommand_of program) e ∙ command) is other right
+
+other_report : IsOther (codes "report")
+other_report Script e = let bad : 114 ≡ 115 = ap (λ (x : Text). get_or x 0 0) e in absurd (omega (arith, bad))
+other_report Journal e = let bad : 114 ≡ 106 = ap (λ (x : Text). get_or x 0 0) e in absurd (omega (arith, bad))
 
 -- ---- words at which clap finds something
 
@@ -219,11 +279,17 @@ answers words r right = record {
   rewrite_further = refuses right refl (tt, tt);
   trace = gives right refl refl tt;
   trace_further = refuses right refl (tt, tt);
+  explain_script = gives right refl refl refl;
+  explain_journal = gives right refl refl refl;
+  explain_nothing = refuses right refl (tt, tt);
+  explain_other = refuses_kind right refl refl refl other_report;
+  explain_further = refuses right refl (tt, tt);
   help = helps right refl;
   run_help = helps right refl;
   check_help = helps right refl;
   rewrite_help = helps right refl;
   trace_help = helps right refl;
+  explain_help = helps right refl;
   version = tells right refl;
   short_version = tells right refl;
   run_version = refuses right refl (tt, tt);

@@ -1,14 +1,17 @@
 -- What the matches of a subcommand ask for.
 use Rattle.std.proofs.Common.{◌≡◌, ◌∙◌, ◌<◌, ◌^◌, ℕ, Bool, true, false, Option, Some, None, Result, Ok, Err}
-use Rattle.std.proofs.Common.{codes}
+use Rattle.std.proofs.Common.{Bor, List, [], ap, bytes_eq, codes, option_map, sym}
 use Rattle.std.specs.Prelude.{unwrap_or}
 use Rattle.std.specs.Str.Parse.{ParsesUnsigned, IsNumeral, digits_value, without_leading_plus}
-use Rattle.clap.specs.Words.{Text, one_text, rows_of}
+use Rattle.std.proofs.lemmas.Slice.Eq.{bytes_eq-Decides}
+use Rattle.clap.specs.Words.{Text, first_of, first_value, one_text, rows_of}
 use Rattle.clap.specs.Matches.{ReadsOne}
 use Rattle.clap.specs.declared.parser.matches.Found.{Found}
-use Rattle.clap.proofs.WalkLemmas.{one_text-rows}
+use Rattle.clap.proofs.WalkLemmas.{first_value-rows, one_text-rows}
 use Rattle.asm_driver.specs.Limits.{default_capacity}
-use Rattle.asm_driver.specs.Words.{AsksCapacity, AsksJournal}
+use Rattle.asm_driver.specs.Words.{AsksCapacity, AsksJournal, AsksKind, kind_word}
+use Rattle.asm_driver.specs.declared.program.words.TextKind.{TextKind}
+use Rattle.asm_driver.specs.declared.program.words.TextKind.TheVariants.{Script, Journal}
 
 -- the number that was read is the one that the digits write
 digits : {E : Type 0} (gives : Text → Result ℕ E → Type 0) (t : Text) (found : Option ℕ)
@@ -31,3 +34,35 @@ journal_asked f asked given left = (
   λ e. given (one_text-rows f (codes "journal") ∙ e),
   λ e. left (one_text-rows f (codes "journal") ∙ e),
 )
+
+-- ---- the word behind explain
+
+-- what is found at the word of a kind
+module _ (f : Found) (o : Option (Bor (List ℕ))) (found : option_map (λ s. s.now) o ≡ first_value f (codes "kind")) where
+  word_at : first_of (codes "kind") (rows_of f) ≡ option_map (λ s. s.now) o
+  word_at = sym (found ∙ first_value-rows f (codes "kind"))
+
+  -- no word
+  pub no_word : o ≡ None → (t : TextKind) → ¬ AsksKind (rows_of f) t
+  no_word is t h =
+      let both : None ≡ Some (kind_word t) = sym (word_at ∙ ap (option_map (λ s. s.now)) is) ∙ h in cc (both)
+
+  module _ (word : Bor (List ℕ)) (is : o ≡ Some word) where
+    there : first_of (codes "kind") (rows_of f) ≡ Some word.now
+    there = word_at ∙ ap (option_map (λ s. s.now)) is
+
+    -- the word of this kind
+    pub word_asked : (t : TextKind) (r : Bool) → r ≡ bytes_eq word.now (kind_word t) → r ≡ true → AsksKind (rows_of f) t
+    word_asked t r same holds = there ∙ ap Some ((bytes_eq-Decides word.now (kind_word t)).0 (sym same ∙ holds))
+
+    -- another word
+    differs : (t : TextKind) (r : Bool) → r ≡ bytes_eq word.now (kind_word t) → r ≡ false → ¬ AsksKind (rows_of f) t
+    differs t r same fails h =
+        let same_word : word.now ≡ kind_word t = ap (λ x. unwrap_or x []) (sym there ∙ h) in
+        let both : true ≡ false = sym ((bytes_eq-Decides word.now (kind_word t)).1 same_word) ∙ sym same ∙ fails in cc (both)
+
+    -- the word of neither
+    pub other_word : (r q : Bool) → r ≡ bytes_eq word.now (kind_word Script) → r ≡ false
+        → q ≡ bytes_eq word.now (kind_word Journal) → q ≡ false → (t : TextKind) → ¬ AsksKind (rows_of f) t
+    other_word r q first fails second none Script = differs Script r first fails
+    other_word r q first fails second none Journal = differs Journal q second none

@@ -11,7 +11,7 @@ use Rattle.asm_driver.specs.Run.{Input, Output, IsAnswer, IsNoAnswer, IsShown, W
 use Rattle.asm_driver.specs.declared.program.refusal.Refusal.{Refusal}
 use Rattle.asm_driver.specs.declared.program.refusal.Refusal.TheVariants as refusal
 use Rattle.asm_driver.specs.declared.program.words.Request.{Request}
-use Rattle.asm_driver.specs.declared.program.words.Request.TheVariants.{Run, Check}
+use Rattle.asm_driver.specs.declared.program.words.Request.TheVariants.{Run, Check, Explain}
 
 -- it has failed, and it hasn't
 both : true ≡ false → ⊥
@@ -26,6 +26,8 @@ legality_works (Illegal call) e = cc (e)
 done_works : (bytes : List ℕ) (request : Request) (status : ℕ) (text : List ℕ) → IsDone bytes request status text →
     status ≡ 4 → ⊥
 done_works bytes Check status text (h, l, reads, is, same, written) e = legality_works l (sym same ∙ e)
+done_works bytes (Explain t) status text (inl done) e = omega (arith, done.0, e)
+done_works bytes (Explain t) status text (inr done) e = omega (arith, done.0, e)
 done_works bytes request status text done e = omega (arith, done.0, e)
 
 answer_works : (words : Words) (i : Input) (status : ℕ) (text : List ℕ) → IsAnswer words i status text → status ≡ 4 → ⊥
@@ -73,6 +75,7 @@ fault_shown r shown (inr (is, number)) e = let bad : true ≡ false = sym number
 
 done_reads : (bytes : List ℕ) (request : Request) → IsNotDone bytes request refusal.InputFault → ⊥
 done_reads bytes (Run capacity asked) is = is
+done_reads bytes (Explain t) is = cc (is)
 done_reads bytes request is = is
 
 -- a failed read is refused so

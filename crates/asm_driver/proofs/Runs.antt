@@ -9,7 +9,7 @@ use Rattle.asm_driver.specs.Run.{RunsOver, input_of, output_of}
 use Rattle.asm_driver.specs.declared.program.refusal.Refusal.{Refusal}
 use Rattle.asm_driver.specs.declared.program.refusal.Refusal.TheVariants as refusal
 use Rattle.asm_driver.specs.declared.program.words.Request.{Request}
-use Rattle.asm_driver.specs.declared.program.words.Request.TheVariants.{Run}
+use Rattle.asm_driver.specs.declared.program.words.Request.TheVariants.{Run, Explain}
 
 pub answered : (given words : Words) (i : Input) (o : Output) (status : ℕ) (text bytes : List ℕ) (result : ℕ) →
     given ≡ words → bytes ≡ text → IsAnswer given i status text → Writes o status bytes result → Runs words i o result
@@ -24,6 +24,7 @@ answered given words i o status text bytes result same written answer writes = (
 -- an allocation failure may come wherever something is done
 memory_done : (bytes : List ℕ) (request : Request) → IsNotDone bytes request refusal.Memory
 memory_done bytes (Run capacity asked) = tt
+memory_done bytes (Explain t) = refl
 memory_done bytes request = tt
 
 -- a refusal of the input has no number

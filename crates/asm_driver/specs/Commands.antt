@@ -12,6 +12,7 @@ use Rattle.asm_journal.specs.declared.checking.Legality.TheVariants.{Legal, Ille
 use Rattle.asm_journal.specs.declared.error.JournalError.TheVariants as journal_error
 use Rattle.asm_script.specs.Plan.{Plan}
 use Rattle.asm_play.specs.Play.{IsNoCapacity, IsPlayOf}
+use Rattle.asm_driver.specs.Explained.{IsExplained}
 use Rattle.asm_driver.specs.Report.{line, report_of}
 use Rattle.asm_script.specs.Script.{IsScriptOf, IsRefusedScript}
 use Rattle.asm_play.specs.Standard.{standard_part}
@@ -21,7 +22,7 @@ use Rattle.asm_driver.specs.declared.program.refusal.Refusal.{Refusal}
 use Rattle.asm_driver.specs.declared.program.refusal.Refusal.TheVariants as refusal
 use Rattle.asm_script.specs.declared.script.ScriptError.TheVariants.{BadScript}
 use Rattle.asm_driver.specs.declared.program.words.Request.{Request}
-use Rattle.asm_driver.specs.declared.program.words.Request.TheVariants.{Run, Check, Rewrite, Trace}
+use Rattle.asm_driver.specs.declared.program.words.Request.TheVariants.{Run, Check, Rewrite, Trace, Explain}
 
 -- ---- run
 
@@ -111,6 +112,7 @@ IsDone bytes (Run capacity asked) status text = (status ≡ 0) × IsRunText byte
 IsDone bytes Check status text = IsCheck bytes status text
 IsDone bytes Rewrite status text = (status ≡ 0) × IsRewrite bytes text
 IsDone bytes Trace status text = (status ≡ 0) × IsTraceOf bytes text
+IsDone bytes (Explain t) status text = IsExplained bytes t status text
 
 -- why it isn't done
 abbrev pub IsNotDone : List ℕ → Request → Refusal → Type 0
@@ -118,3 +120,4 @@ IsNotDone bytes (Run capacity asked) r = IsNoRun bytes capacity asked r
 IsNotDone bytes Check r = IsNoJournal bytes r
 IsNotDone bytes Rewrite r = IsNoJournal bytes r
 IsNotDone bytes Trace r = IsNoJournal bytes r
+IsNotDone bytes (Explain t) r = r ≡ refusal.Memory

@@ -4,5 +4,6 @@ pub mod Input
 pub mod Output
 pub mod Words
 pub mod Refusal
+pub mod Explained
 pub mod Commands
 pub mod Run

@@ -3,7 +3,8 @@ use Rattle.std.specs.Prelude.{◌≡◌, ◌<◌, ◌^◌, ◌⊎◌, ℕ, Bool,
 use Rattle.std.specs.Prelude.{Result, Ok, Err, codes, String}
 use Rattle.std.specs.declared.alloc.Global.{Global}
 use Rattle.std.specs.Str.Parse.{IsNumeral, digits_value, without_leading_plus}
-use Rattle.clap.specs.Words.{App, Row, Rule, Text, Kinds, IsAmong, fault_of, new_app, new_rule, one_of, subcommand_of}
+use Rattle.clap.specs.Words.{App, Row, Rule, Text, Kinds, IsAmong, fault_of, first_of, new_app, new_rule, one_of}
+use Rattle.clap.specs.Words.{subcommand_of}
 use Rattle.clap.specs.Words.{with_rule, with_subcommand}
 use Rattle.clap.specs.declared.builder.action.ArgAction.TheVariants.{Set, SetTrue}
 use Rattle.clap.specs.declared.builder.value_parser.ValueParser.TheVariants.{Signed}
@@ -12,7 +13,9 @@ use Rattle.clap.specs.declared.error.kind.ErrorKind.TheVariants as kind
 use Rattle.asm_row.specs.Limits.{capacity_limit}
 use Rattle.asm_driver.specs.Limits.{default_capacity}
 use Rattle.asm_driver.specs.declared.program.words.Request.{Request}
-use Rattle.asm_driver.specs.declared.program.words.Request.TheVariants.{Run, Check, Rewrite, Trace}
+use Rattle.asm_driver.specs.declared.program.words.Request.TheVariants.{Run, Check, Rewrite, Trace, Explain}
+use Rattle.asm_driver.specs.declared.program.words.TextKind.{TextKind}
+use Rattle.asm_driver.specs.declared.program.words.TextKind.TheVariants.{Script, Journal}
 use Rattle.asm_driver.specs.declared.program.words.WordsError.{WordsError}
 use Rattle.asm_driver.specs.declared.program.words.WordsError.TheVariants.{Help, Version, Bad, Memory}
 
@@ -46,16 +49,28 @@ rewrite = new_app (codes "rewrite")
 abbrev pub trace : App
 trace = new_app (codes "trace")
 
+-- the kind of text that is explained, which must be given
+abbrev pub kind_rule : Rule
+kind_rule = record (new_rule (codes "kind")) { action = Some Set; value_names = 1; required = true }
+
+-- the command explain, with the kind of text
+abbrev pub explain : App
+explain = with_rule (new_app (codes "explain")) kind_rule
+
 -- with the commands that read a journal
 abbrev pub with_journals : App → App
 with_journals a = with_subcommand (with_subcommand (with_subcommand a check.top) rewrite.top) trace.top
 
--- the commands run, check, rewrite and trace, of which one must be given unless help or the version is asked for
+-- with the command that explains a text
+abbrev pub with_explain : App → App
+with_explain a = with_subcommand a explain.top
+
+-- the commands run, check, rewrite, trace and explain, of which one must be given unless help or the version is asked for
 abbrev pub program : App
 program =
     let named = new_app (codes "asm_driver") in
     let required = record named { top = record named.top { has_version = true; subcommand_required = true } } in
-    with_journals (with_subcommand required run.top)
+    with_explain (with_journals (with_subcommand required run.top))
 
 -- the words, each with its bytes
 abbrev pub Words : Type 0
@@ -83,6 +98,15 @@ abbrev pub AsksRun : List Row → Request → Type 0
 AsksRun rows (Run number asked) = AsksCapacity rows number × AsksJournal rows asked
 AsksRun rows r = ⊥
 
+-- the word of a kind of text
+abbrev pub kind_word : TextKind → Text
+kind_word Script = codes "script"
+kind_word Journal = codes "journal"
+
+-- the words behind explain are that of this kind
+abbrev pub AsksKind : List Row → TextKind → Type 0
+AsksKind rows t = first_of (codes "kind") rows ≡ Some (kind_word t)
+
 -- the command with its options asks for this
 abbrev pub Asks : Option (Text × List Row) → Request → Type 0
 Asks None r = ⊥
@@ -90,6 +114,7 @@ Asks (Some p) (Run number asked) = (p.0 ≡ codes "run") × AsksRun p.1 (Run num
 Asks (Some p) Check = p.0 ≡ codes "check"
 Asks (Some p) Rewrite = p.0 ≡ codes "rewrite"
 Asks (Some p) Trace = p.0 ≡ codes "trace"
+Asks (Some p) (Explain t) = (p.0 ≡ codes "explain") × AsksKind p.1 t
 
 -- the words are taken, and ask for this
 abbrev pub AsksFor : Words → Request → Type 0
@@ -107,11 +132,12 @@ AsksForVersion words = IsAmong kind.DisplayVersion (faults words)
 abbrev pub IsTold : ErrorKind → Type 0
 IsTold k = (k ≡ kind.DisplayHelp) ⊎ (k ≡ kind.DisplayVersion)
 
--- there is another command, or none
+-- there is another command, or none, or one that explains another text
 abbrev pub IsNoCommand : Option (Text × List Row) → Type 0
 IsNoCommand None = Unit {0}
 IsNoCommand (Some p) =
     ¬ (p.0 ≡ codes "run") × ¬ (p.0 ≡ codes "check") × ¬ (p.0 ≡ codes "rewrite") × ¬ (p.0 ≡ codes "trace")
+    × ((t : TextKind) → ¬ Asks (Some p) (Explain t))
 
 -- the words have a mistake: one that clap may find, or clap takes them and there is no command of the program's
 abbrev pub HasMistake : Words → Type 0
@@ -143,6 +169,10 @@ program_with more = codes "asm_driver" ∷ more
 -- the program's name, the word run, and further ones
 abbrev pub run_with : Words → Words
 run_with more = program_with (codes "run" ∷ more)
+
+-- the program's name, the word explain, and further ones
+abbrev pub explain_with : Words → Words
+explain_with more = program_with (codes "explain" ∷ more)
 
 -- this is answered, unless memory is refused
 abbrev pub Gives : Request → Result Request WordsError → Type 0
@@ -180,11 +210,17 @@ pub record Answers (words : Words) (r : Result Request WordsError) : Type 0 wher
   pub rewrite_further : words ≡ program_with (codes "rewrite" ∷ codes "more" ∷ []) → RefusesWords r
   pub trace : words ≡ program_with (codes "trace" ∷ []) → Gives Trace r
   pub trace_further : words ≡ program_with (codes "trace" ∷ codes "more" ∷ []) → RefusesWords r
+  pub explain_script : words ≡ explain_with (codes "script" ∷ []) → Gives (Explain Script) r
+  pub explain_journal : words ≡ explain_with (codes "journal" ∷ []) → Gives (Explain Journal) r
+  pub explain_nothing : words ≡ explain_with [] → RefusesWords r
+  pub explain_other : words ≡ explain_with (codes "report" ∷ []) → RefusesWords r
+  pub explain_further : words ≡ explain_with (codes "script" ∷ codes "journal" ∷ []) → RefusesWords r
   pub help : words ≡ program_with (codes "--help" ∷ []) → Helps r
   pub run_help : words ≡ run_with (codes "--help" ∷ []) → Helps r
   pub check_help : words ≡ program_with (codes "check" ∷ codes "--help" ∷ []) → Helps r
   pub rewrite_help : words ≡ program_with (codes "rewrite" ∷ codes "--help" ∷ []) → Helps r
   pub trace_help : words ≡ program_with (codes "trace" ∷ codes "--help" ∷ []) → Helps r
+  pub explain_help : words ≡ explain_with (codes "--help" ∷ []) → Helps r
   pub version : words ≡ program_with (codes "--version" ∷ []) → TellsVersion r
   pub short_version : words ≡ program_with (codes "-V" ∷ []) → TellsVersion r
   pub run_version : words ≡ run_with (codes "--version" ∷ []) → RefusesWords r

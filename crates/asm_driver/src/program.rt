@@ -8,6 +8,7 @@ ghost use Rattle.asm_driver.specs.Run.{IsAnswer, IsNoAnswer, IsAnswerTo, version
 ghost use Rattle.asm_driver.specs.Run.{input_of, output_of, Runs, RunsOver, HasFailed, RefusesKind, IsRefusalOfKind};
 
 mod commands;
+mod explained;
 mod refusal;
 mod words;
 
@@ -131,12 +132,14 @@ pub fn run_noted<T: Threads + Wait + Sync, S: Source, K: Sink>(
 
 /// Does what the words ask for, and gives the program's status.
 ///
-/// The words begin with the program's name, and are `run` with its options, `check`, `rewrite` or `trace`. The input
+/// The words begin with the program's name, and are `run` with its options, `check`, `rewrite`, `trace` or `explain` with the
+/// kind of text. The input
 /// is read to its end, at most 16,777,216 bytes. With `run` it is a script, which is played, and the report
 /// is written with status 0, or with `--journal` the journal of the calls. With `check` it is a journal, and
 /// `legal CALLS MOVES` is written with status 0, or `illegal CALL` with status 1. With `rewrite` it is a
 /// journal too, whether legal or not, and the journal of the same history is written with status 0; so is its
-/// trace with `trace`. Help that is asked for has status 0, and so has the line `asm_driver 0.2.0` where the words ask
+/// trace with `trace`. With `explain script` or `explain journal` nothing is written, with status 0, where `run` or
+/// `check` would take the input, and else a line that says where and why not, with status 1. Help that is asked for has status 0, and so has the line `asm_driver 0.2.0` where the words ask
 /// for the version.
 ///
 /// Otherwise one line tells why: status 1 for a fired move without a receipt, 2 for words, a size, a script

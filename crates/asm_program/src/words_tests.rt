@@ -9,7 +9,7 @@ use std::test::Fail;
 use std::thread::Threads;
 
 const HELP: &str =
-    r#"Plays the steps of an abstract state machine's agents on one storage, and checks, rewrites and traces journals
+    r#"Plays the steps of an abstract state machine's agents on one storage, checks, rewrites and traces journals, and explains why a text is refused
 
 Usage: asm_driver <COMMAND>
 
@@ -18,6 +18,7 @@ Commands:
   check    Checks a journal, which is read from standard input, and writes whether it is legal
   rewrite  Rewrites a journal, which is read from standard input, in version 2, and doesn't check it
   trace    Traces a journal, which is read from standard input, and writes what each call did
+  explain  Explains where and why a script or a journal, which is read from standard input, is refused
   help     Print this message or the help of the given subcommand(s)
 
 Options:
@@ -62,7 +63,19 @@ Options:
   -h, --help  Print help
 "#;
 
-static HELPS: [(&[&str], &str); 9] = [
+const EXPLAIN_HELP: &str =
+    r#"Explains where and why a script or a journal, which is read from standard input, is refused
+
+Usage: asm_driver explain <script|journal>
+
+Arguments:
+  <script|journal>  What the text should be
+
+Options:
+  -h, --help  Print help
+"#;
+
+static HELPS: [(&[&str], &str); 11] = [
     (&["asm_driver", "--help"], HELP),
     (&["asm_driver", "help"], HELP),
     (&["asm_driver", "run", "--help"], RUN_HELP),
@@ -72,6 +85,8 @@ static HELPS: [(&[&str], &str); 9] = [
     (&["asm_driver", "help", "rewrite"], REWRITE_HELP),
     (&["asm_driver", "trace", "--help"], TRACE_HELP),
     (&["asm_driver", "help", "trace"], TRACE_HELP),
+    (&["asm_driver", "explain", "--help"], EXPLAIN_HELP),
+    (&["asm_driver", "help", "explain"], EXPLAIN_HELP),
 ];
 
 #[test]

@@ -4,6 +4,7 @@ ghost use Rattle.asm_driver.specs.Commands.{text_of_played, IsNoText, IsRunText,
 ghost use Rattle.asm_driver.specs.Commands.{IsNoJournal, IsRewrite, IsTraceOf};
 ghost use Rattle.asm_driver.specs.Commands.{legality_line, legality_status, IsDone, IsNotDone};
 
+use crate::program::explained::explained;
 use crate::program::refusal::Refusal;
 use crate::program::words::Request;
 use crate::reporting::report_of_owned;
@@ -122,5 +123,6 @@ pub(crate) fn carry_out<T: Threads + Wait + Sync>(
             status: 0,
             text: trace(alloc, bytes)?,
         }),
+        Request::Explain(kind) => Ok(explained(alloc, kind, bytes)?),
     }
 }

@@ -2,8 +2,8 @@
 ghost use Rattle.std.specs.Prelude.{◌≡◌, false, map, IfOk, IfErr, IfSome, IfNone, string_bytes};
 ghost use Rattle.clap.specs.Words.{FailsBy, app_of, found_of, kind_of, rows_of, rule_of, subcommand_of};
 ghost use Rattle.clap.specs.Words.{subcommand_rows_of};
-ghost use Rattle.asm_driver.specs.Words.{capacity as capacity_rule, journal as journal_rule, with_journals, program, faults};
-ghost use Rattle.asm_driver.specs.Words.{Asks, AsksRun, AsksFor, IsNoCommand, IsMadeOf, IsRefusal, Answers};
+ghost use Rattle.asm_driver.specs.Words.{capacity as capacity_rule, journal as journal_rule, kind_rule, with_explain, with_journals, program, faults};
+ghost use Rattle.asm_driver.specs.Words.{Asks, AsksKind, AsksRun, AsksFor, IsNoCommand, IsMadeOf, IsRefusal, Answers};
 
 use asm_row::CAPACITY_LIMIT;
 use clap::error::ErrorKind;
@@ -24,6 +24,17 @@ pub enum Request {
     Rewrite,
     /// To write the trace of a journal.
     Trace,
+    /// To write where and why a text of this kind is refused.
+    Explain(TextKind),
+}
+
+/// The kinds of texts that are explained.
+#[derive(Clone, Copy, Debug, PartialEq, Eq)]
+pub enum TextKind {
+    /// A script.
+    Script,
+    /// A journal.
+    Journal,
 }
 
 /// Why the words are no request.
@@ -81,6 +92,29 @@ fn with_journals<'a>(alloc: Global, command: Command<'a>) -> Result<Command<'a>,
         .subcommand(trace)
 }
 
+fn kind_word<'a>(alloc: Global) -> Arg<'a>
+    ensures rule { rule_of result ≡ kind_rule }
+    ensures local { result.global ≡ false }
+{
+    Arg::new(alloc, "kind")
+        .action(ArgAction::Set)
+        .required(true)
+        .value_name("script|journal")
+        .help("What the text should be")
+}
+
+/// Adds the command that explains a text.
+fn with_explain<'a>(alloc: Global, command: Command<'a>) -> Result<Command<'a>, AllocError>
+    ensures app { IfOk result (λ c. app_of c ≡ with_explain (app_of command.entry)) }
+{
+    let explain = Command::new(alloc, "explain")
+        .about(
+            "Explains where and why a script or a journal, which is read from standard input, is refused",
+        )
+        .arg(kind_word(alloc))?;
+    command.subcommand(explain)
+}
+
 fn program_command<'a>(alloc: Global) -> Result<Command<'a>, AllocError>
     ensures app { IfOk result (λ c. app_of c ≡ program) }
 {
@@ -90,11 +124,11 @@ fn program_command<'a>(alloc: Global) -> Result<Command<'a>, AllocError>
         .arg(journal_option(alloc))?;
     let named = Command::new(alloc, "asm_driver")
         .about(
-            "Plays the steps of an abstract state machine's agents on one storage, and checks, rewrites and traces journals",
+            "Plays the steps of an abstract state machine's agents on one storage, checks, rewrites and traces journals, and explains why a text is refused",
         )
         .version("0.2.0")
         .subcommand_required(true);
-    with_journals(alloc, named.subcommand(run)?)
+    with_explain(alloc, with_journals(alloc, named.subcommand(run)?)?)
 }
 
 fn parse<'a>(alloc: Global, words: &'a [String]) -> Result<ArgMatches<'a>, Error>
@@ -117,6 +151,24 @@ fn run_asked(options: &ArgMatches<'_>) -> Request
     }
 }
 
+/// The kind of text that the word behind `explain` names.
+fn kind_asked(options: &ArgMatches<'_>) -> Option<TextKind>
+    ensures some { IfSome result (AsksKind (rows_of (found_of options.now))) }
+    ensures none { IfNone result ((t : TextKind) → ¬ AsksKind (rows_of (found_of options.now)) t) }
+{
+    let Some(word) = options.get_str("kind") else {
+        return None;
+    };
+    if word == "script" {
+        return Some(TextKind::Script);
+    }
+    if word == "journal" {
+        Some(TextKind::Journal)
+    } else {
+        None
+    }
+}
+
 /// What the command asks for, if the program has this command.
 fn asked(matches: &ArgMatches<'_>) -> Option<Request>
     ensures some { IfSome result (Asks (subcommand_rows_of matches.now)) }
@@ -133,7 +185,10 @@ fn asked(matches: &ArgMatches<'_>) -> Option<Request>
         return Some(Request::Rewrite);
     }
     if name == "trace" {
-        Some(Request::Trace)
+        return Some(Request::Trace);
+    }
+    if name == "explain" {
+        Some(Request::Explain(kind_asked(options)?))
     } else {
         None
     }
