@@ -13,11 +13,11 @@ export function addressed() {
   };
 }
 function told() {
-  const out = [`event=${shown.count - 1}`], put = (name, value) => value && value !== "all" && out.push(`${name}=${encodeURIComponent(value)}`);
+  const out = [`event=${shown.count - 1}`], put = (name, value, usual = "") => value && value !== usual && out.push(`${name}=${encodeURIComponent(value)}`);
   put("at", shown.location?.key);
   if (shown.mark !== null) put("from", String(shown.mark - 1));
-  put("kind", filter.kind);
-  put("agent", filter.agent);
+  put("kind", filter.kind, "all");
+  put("agent", filter.agent, "all");
   put("of", filter.place);
   put("cause", filter.cause);
   put("find", filter.text);

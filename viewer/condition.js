@@ -88,15 +88,12 @@ class Tokens {
 }
 const has = (element, isThere) => ({ test: it => !!it.items && (it.countOf(element) > 0) === isThere });
 function compare(isSize, word, value, fail) {
-  if ((isSize || ORDERS[word]) && !isNumber(value)) fail(`a number has to stand behind ${isSize ? "size" : word}`);
+  const order = ORDERS[word], isSame = word === "=";
+  if ((isSize || order) && !isNumber(value)) fail(`a number has to stand behind ${isSize ? "size" : word}`);
+  // (A BigInt may be equal to a number.)
+  const holds = number => order ? order(number < value ? -1 : number > value ? 1 : 0) : (number == value) === isSame;
   if (isSize) return { test: it => !!it.items && holds(it.size) };
-  if (ORDERS[word]) return { test: it => isNumber(it.value) && holds(it.value) };
-  return { test: it => it.equals(value) === (word === "=") };
-
-  function holds(number) {
-    if (!ORDERS[word]) return (number == value) === (word === "="); // a BigInt may be equal to a number
-    return ORDERS[word](number < value ? -1 : number > value ? 1 : 0);
-  }
+  return { test: order ? it => isNumber(it.value) && holds(it.value) : it => it.equals(value) === isSame };
 }
 
 // The locations of the run that a condition is about; `here` is the chosen one.

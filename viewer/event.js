@@ -8,7 +8,7 @@ import { act, shown } from "./shown.js";
 import { afterMoves, grouped, keyOf, plural } from "./terms.js";
 import { apartNode, isOther, wrongNote } from "./wrong.js";
 
-const MOST_ITEMS = 24, MOST_ROWS = 300, MOST_STALED = 12, MOST_PRINTED = 14;
+const MOST_ITEMS = 24, MOST_ROWS = 300, MOST_STALED = 12, MOST_PRINTED = 8;
 
 export function eventNode(event) {
   const answer = event.isWrong ? event.right : event.reply;

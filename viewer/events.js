@@ -27,7 +27,8 @@ const labelOf = (event, what) => `Event ${event.number}, agent ${event.agent}: $
 function eventRow(i) {
   const event = shown.run.events[listItem(i)], isChosen = event.number === shown.count - 1, what = span("what", whatNodes(event));
   what.title = what.textContent;
-  return make("div", { class: "row event", id: `event-${event.number}`, role: "option", "aria-selected": String(isChosen), "aria-posinset": i + 1, "aria-setsize": listLength(), "aria-label": labelOf(event, what.textContent), onclick: () => act.choose(event.number + 1, { isPressed: true }) },
+  const told = { role: "option", "aria-selected": String(isChosen), "aria-posinset": i + 1, "aria-setsize": listLength(), "aria-label": labelOf(event, what.textContent) };
+  return make("div", { class: "row event", id: `event-${event.number}`, ...told, onclick: () => act.choose(event.number + 1, { isPressed: true }) },
     span("number", String(event.number)), glyph(event.kind, event.isWrong), span("agent", `a${event.agent}`), what, event.isWrong ? span("tag wrong", "wrong") : null);
 }
 export const events = new List($("events"), ROW, {

@@ -59,7 +59,7 @@ function listEvents() {
   if (cause) keep(it => (it.right ?? it.reply).clash?.[1] === cause);
   if (place) keep(it => isAbout(it, place));
   if (words.length) {
-    if (!texts || textsOf !== place) [texts, textsOf] = [[], place];
+    if (!texts || textsOf !== place) [texts, textsOf] = [new Array(run.events.length), place];
     keep(it => hasAll(texts[it.number] ??= searchText(it, place), words));
   }
   listed = list;

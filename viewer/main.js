@@ -36,10 +36,12 @@ act.chooseLocation = (location, isStep = false) => {
   shown.location = location;
   followLocation();
   showHere();
+  if (!location) bringBack(); // before the page gets shorter
   showWrites();
-  if (location) bring($("writes-pane"));
-  else bringBack();
-  if (location) revealPlace();
+  if (location) {
+    bring($("writes-pane"));
+    revealPlace();
+  }
   act.show();
   changed(!isStep);
 };

@@ -94,12 +94,12 @@ export function valueNode(value, most = Infinity, from = 0) {
 }
 
 // What a write made of its location: the items of a set or a bag that changed among the others, else the old value and the new.
-export function changeNode(write, most = Infinity) {
+export function changeNode(write, most = Infinity, isInRow = false) {
   if (!write.items) return replacedNode(write.old, write.value, most);
   const out = span("value", sizeNode(write.isBag, write.size), " "), more = () => changeNode(write, most + MORE);
   const removed = write.items.filter(it => it[2] === 0).length, same = write.size + removed - write.items.length;
   if (write.size + removed === 0) out.append(span("undef", "empty"));
-  if (write.size + removed <= most) out.append(...allItems(write).flatMap(it => changedNode(write, it)));
+  if (write.size + removed <= most) out.append(...allItems(write, isInRow).flatMap(it => changedNode(write, it)));
   else {
     out.append(...write.items.slice(0, most).flatMap(it => changedNode(write, it)));
     if (write.items.length > most) out.append(restNode("value", `${grouped(write.items.length - most)} more changed`, more));
@@ -109,11 +109,13 @@ export function changeNode(write, most = Infinity) {
   if (!write.items.length) out.append(span("same", " unchanged"));
   return out;
 }
-// Every item that the location holds before or after the write, with its counts before and after.
-function allItems(write) {
+// Every item that the location holds before or after the write, with its counts before and after; in a row, which may be cut off,
+// those that changed come first.
+function allItems(write, isInRow) {
   const changed = new Set(write.items.map(it => keyOf(it[0])));
   const same = itemsOf(write.location.after(write.index)).filter(it => !changed.has(keyOf(it[0])));
-  return [...same.map(([it, count]) => [it, count, count]), ...write.items].sort((a, b) => byElement(a[0], b[0]));
+  const unchanged = same.map(([it, count]) => [it, count, count]);
+  return isInRow ? [...write.items, ...unchanged] : [...unchanged, ...write.items].sort((a, b) => byElement(a[0], b[0]));
 }
 function changedNode(write, [element, was, now]) {
   const kind = was === now ? "" : was === 0 ? "added" : now === 0 ? "removed" : "";

@@ -5,15 +5,14 @@ import { shown } from "./shown.js";
 import { AXIS, reveal, setHeight } from "./sight.js";
 
 const LEAST_HIGH = AXIS + 24, MOST_HIGH = 640, STEP = 24, KEPT = "folugben-lanes";
-// What the person chose: a height, 0 where the lanes are folded; null where nothing was chosen.
-let wanted = null;
+// What the person chose: a height, 0 where the lanes are folded; null is the usual height.
+let wanted = null, unfolded = null; // and what it is when they are unfolded
 try {
   const found = Number.parseInt(localStorage.getItem(KEPT) ?? "", 10);
   if (found >= 0) wanted = Math.min(MOST_HIGH, found);
 } catch {
   // some browsers keep nothing for a file
 }
-let unfolded = wanted || null;
 
 const usual = () => Math.max(LEAST_HIGH, Math.min(290, Math.round(innerHeight * 0.17)));
 // Gives the lanes their height; true where it is another one than before.
@@ -28,18 +27,19 @@ export function fitLanes() {
   return before !== `${box.hidden} ${box.style.maxHeight}`;
 }
 function setRoom(high) {
-  wanted = high < LEAST_HIGH ? 0 : Math.min(MOST_HIGH, Math.round(high));
-  if (wanted) unfolded = wanted;
+  if (wanted !== 0) unfolded = wanted;
+  wanted = high === null ? null : high < LEAST_HIGH ? 0 : Math.min(MOST_HIGH, Math.round(high));
   try {
-    localStorage.setItem(KEPT, wanted);
+    if (wanted === null) localStorage.removeItem(KEPT);
+    else localStorage.setItem(KEPT, wanted);
   } catch {
     // as above
   }
   fitLanes();
-  if (wanted && shown.run) reveal();
+  if (wanted !== 0) reveal();
   draw();
 }
-export const foldLanes = () => setRoom(wanted === 0 ? unfolded ?? usual() : 0);
+export const foldLanes = () => setRoom(wanted === 0 ? unfolded : 0);
 
 $("fold").addEventListener("click", foldLanes);
 const now = () => $("lanes-box").hidden ? 0 : $("lanes-box").clientHeight;

@@ -4,7 +4,7 @@ import { List, ROW } from "./lists.js";
 import { $, changeNode, locationNode, make, moveLink, valueNode } from "./nodes.js";
 import { itemsApart } from "./run.js";
 import { act, chosen, shown } from "./shown.js";
-import { grouped, keyOf, plural, valueText } from "./terms.js";
+import { grouped, keyOf, valueText } from "./terms.js";
 
 let rows = []; // the locations in the list
 let marks = new Map(); // those with which the chosen event has to do
@@ -48,7 +48,7 @@ $("state-compare").addEventListener("click", () => act.mark(isComparing() ? null
 function stateRow(i) {
   const { run, count } = shown, location = rows[i], mark = marks.get(location), at = isComparing() ? ends()[1] : count, write = run.lastWrite(location, at), value = run.valueAt(location, at);
   const kind = mark ? mark.kind : value === null ? "nothing" : "", isChosen = location === shown.location;
-  const told = isComparing() ? changeNode(differenceAt(location), 4) : mark?.write ? changeNode(mark.write, 4) : valueNode(value, 8);
+  const told = isComparing() ? changeNode(differenceAt(location), 4, true) : mark?.write ? changeNode(mark.write, 4, true) : valueNode(value, 8);
   return make("div", { class: `row place ${kind}`, id: `place-${i}`, role: "row", "aria-rowindex": i + 2, "aria-selected": String(isChosen), onclick: () => act.chooseLocation(location) },
     make("span", { role: "gridcell", title: location.label }, locationNode(location)),
     make("span", { role: "gridcell", title: valueText(value).slice(0, 600) }, told),
@@ -71,7 +71,7 @@ export function showState() {
   findMarks();
   findRows();
   const left = run.sorted.length - rows.length;
-  $("state-title").replaceChildren(titleText(), " ", make("span", { class: "faint" }, isComparing() ? plural(rows.length, "difference") : left ? `${grouped(rows.length)} of ${grouped(run.sorted.length)}` : ""));
+  $("state-title").replaceChildren(titleText(), " ", make("span", { class: "faint" }, isComparing() ? `${grouped(rows.length)} differ` : left ? `${grouped(rows.length)} of ${grouped(run.sorted.length)}` : ""));
   $("state-compare").setAttribute("aria-pressed", String(isComparing()));
   $("state").setAttribute("aria-rowcount", rows.length + 1);
   const first = marks.size && countShown !== shown.count ? rows.findIndex(it => marks.has(it)) : -1;

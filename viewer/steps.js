@@ -46,6 +46,12 @@ function jumpOfAgent(by) {
   if (to === undefined) none(by, `event of agent ${event.agent}`);
   else act.choose(to + 1);
 }
+// Goes to the last event of the chosen one's agent, or to its first.
+function jumpToEndOfAgent(by) {
+  const event = chosen(), list = event && shown.run.byAgent[event.agent];
+  if (list) act.choose((by > 0 ? list.at(-1) : list[0]) + 1);
+  else act.speak("No event is chosen");
+}
 // Goes to an event that belongs to the chosen one.
 function follow(find, what) {
   const event = chosen(), to = event && find(event);
@@ -94,7 +100,7 @@ function escape() {
 const keys = {
   ArrowLeft: by => by > 0 ? acts.back() : jumpMove(-1), ArrowRight: by => by > 0 ? acts.on() : jumpMove(1), Home: acts.first, End: acts.last,
   c: by => jump(shown.run.byKind.clash, by, "clash"), s: by => jump(shown.run.byKind.stale, by, "stale fire"), w: by => jump(shown.run.wrong, by, "wrong answer"),
-  a: jumpOfAgent, r: () => follow(lastRead, "read of its own"), t: by => by > 0 ? follow(retryOf, "later try") : follow(tryBefore, "earlier try"),
+  a: jumpOfAgent, z: jumpToEndOfAgent, r: () => follow(lastRead, "read of its own"), t: by => by > 0 ? follow(retryOf, "later try") : follow(tryBefore, "earlier try"),
   n: goToHold, v: () => find("watch"), m: () => act.mark(shown.mark === null ? shown.count : null), x: () => act.list({}), l: foldLanes,
   "[": acts["write-back"], "]": acts["write-on"], "/": () => find("state-find"), e: () => find("events-find"), g: () => find("move"),
   "+": acts["zoom-in"], "=": acts["zoom-in"], "-": acts["zoom-out"], "−": acts["zoom-out"], 0: fit, "?": acts["help-open"], Escape: escape, " ": acts.play,

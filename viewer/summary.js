@@ -94,6 +94,7 @@ function lineNode({ count, label, more = null, asked }, all) {
 export function marksNode() {
   const { run } = shown, names = { fired: "fired move", read: "read", stale: "stale fire", clash: "clash", full: "full" };
   const kinds = Object.keys(names).filter(it => run.byKind[it].length).map(it => span("", glyph(it), names[it]));
-  return block("Marks in the lanes", make("div", { class: "legend" }, kinds, run.wrong.length ? span("", glyph("fired", true), "wrong answer") : null, span("", span("dash"), "writes the chosen location"), span("", span("dash holds"), "the condition holds"),
+  return block("Marks in the lanes", make("div", { class: "legend" }, kinds, run.wrong.length ? span("", glyph("fired", true), "wrong answer") : null,
+    span("", span("dash"), "writes the chosen location"), span("", span("dash holds"), "the condition holds"),
     span("", span("dash stale"), "from the move that made it stale"), span("", span("dash ground"), "from what it rests on")));
 }

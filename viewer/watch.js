@@ -37,14 +37,21 @@ export function followLocation() {
   if (condition && !condition.pattern && condition.of !== shown.location) findHolds();
 }
 export function showWatch() {
-  const { holds, count } = shown, i = firstFrom(holds, count + 1, it => it[0]) - 1, isNow = i >= 0 && count < holds[i][1];
-  const told = fault ? `${fault[0].toUpperCase()}${fault.slice(1)}.` : !condition ? "" : !holds.length ? "Never."
-    : condition.isChange ? `${plural(holds.length, "time")}${isNow ? `, now the ${ordinal(i + 1)}` : ""}.` : `${isNow ? "Holds now" : "Doesn't hold now"}: ${isNow && holds.length > 1 ? `${ordinal(i + 1)} of ` : ""}${plural(holds.length, "stretch", "stretches")}, after ${grouped(lengthOf(holds))} of ${grouped(shown.run.events.length)} events.`;
+  const told = toldText();
   $("watch-told").textContent = told;
   $("watch-told").title = told;
   $("watch-told").classList.toggle("wrong-words", !!fault);
   $("watch").setAttribute("aria-invalid", String(!!fault));
-  for (const id of ["watch-back", "watch-on"]) $(id).disabled = !holds.length;
+  for (const id of ["watch-back", "watch-on"]) $(id).disabled = !shown.holds.length;
+}
+function toldText() {
+  if (fault) return `${fault[0].toUpperCase()}${fault.slice(1)}.`;
+  if (!condition) return "";
+  const { holds, count, run } = shown, i = firstFrom(holds, count + 1, it => it[0]) - 1, isNow = i >= 0 && count < holds[i][1];
+  if (!holds.length) return "Never.";
+  if (condition.isChange) return `${plural(holds.length, "time")}${isNow ? `, now the ${ordinal(i + 1)}` : ""}.`;
+  const which = isNow && holds.length > 1 ? `${ordinal(i + 1)} of ` : "";
+  return `${isNow ? "Holds now" : "Doesn't hold now"}: ${which}${plural(holds.length, "stretch", "stretches")}, after ${grouped(lengthOf(holds))} of ${grouped(run.events.length)} events.`;
 }
 // (The opening state is a moment and no event.)
 const lengthOf = holds => holds.reduce((all, [from, to]) => all + to - Math.max(1, from), 0);

@@ -12,7 +12,7 @@ from samples import journal_of, strange, warehouse
 from selenium.webdriver.common.keys import Keys
 from showing import HISTORY
 from tries import Tries
-from values import Location, location_json, value_json
+from values import UNDEF, Location, location_json, value_json
 
 BUSY = warehouse(4, 40, 9)
 RICE, PACKED, OPEN, DOOR = '["stock","rice"]', '["packed"]', '["open"]', '["door"]'
@@ -23,15 +23,23 @@ def key(place: Location) -> str:
     return json.dumps(location_json(place), separators=(",", ":"))
 
 
+KNOWN: dict[int, list[State]] = {}  # the moments of HISTORY and of BUSY, which are asked for often
+
+
 def moments(history: History) -> list[State]:
     """What each location holds at each moment, in JSON: before the first event, and after each."""
+    if id(history) in KNOWN:
+        return KNOWN[id(history)]
     storage = Storage(history.init, history.capacity)
-    tell = lambda: {key(place): value_json(value) for place, value in storage.state.items()}
-    out = [tell()]
+    out = [{key(place): value_json(value) for place, value in storage.state.items()}]
     for event in history.events:
+        state = out[-1]
         if isinstance(event.reply, Fired):
             storage.follow(event.call.move)
-        out.append(tell())
+            state = state | {key(place): value_json(storage.state.get(place, UNDEF)) for place, _ in event.call.move}
+        out.append({place: value for place, value in state.items() if value is not None})
+    if history is HISTORY or history is BUSY:
+        KNOWN[id(history)] = out
     return out
 
 
@@ -126,7 +134,7 @@ def told_of(place: str) -> list[tuple[int, str]]:
     return out
 
 
-def try_values(tries: Tries, browser: Browser) -> None:
+def try_location_search(tries: Tries, browser: Browser) -> None:
     browser.load(tries.trace("warehouse", HISTORY), "#at=%5B%22stock%22%2C%22rice%22%5D")
     tries.has("the search can be limited to the chosen location", browser.text("events-here"), 'only stock("rice")')
     browser.click("events-here")

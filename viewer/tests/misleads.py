@@ -97,7 +97,9 @@ def try_back(tries: Tries, browser: Browser) -> None:
     tries.same("an address that is written there is followed", (browser.title()[:8], browser.find("writes-pane").is_displayed(), browser.text("events-count")), ("Event 5 ", False, ""))
     browser.go(-1)
     tries.has("and Back from it", browser.title(), f"Event {stale[0] + 2} ")
-    browser.run("act.list({})")
+    browser.problems()  # those of parts before
+    browser.load(path, "#event=x&at=1&from=y&kind=toString&agent=length&of=9&cause=z&if=(")
+    tries.same("what makes no sense in an address is left out", (browser.title(), browser.text("events-count"), browser.find("writes-pane").is_displayed(), browser.problems()), ("Opening state", "", False, []))
 
 
 def try_enter(tries: Tries, browser: Browser) -> None:
@@ -135,7 +137,7 @@ def try_filter_keys(tries: Tries, browser: Browser) -> None:
 
 
 def try_zoom(tries: Tries, browser: Browser) -> None:
-    browser.load(tries.trace("busy", warehouse(4, 60, 9)), "#event=20")
+    browser.load(tries.trace("busy", warehouse(4, 40, 9)), "#event=20")
     browser.press("0")
     lost = []
     for key in "++++---+++0++":

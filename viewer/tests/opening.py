@@ -47,8 +47,9 @@ def try_empty(tries: Tries, browser: Browser) -> None:
     tries.has("a run without a call says so", browser.text("detail"), "No call was made in this run")
     tries.has("so does its list of events", browser.text("events"), "This run has no event")
     tries.has("so does its state", browser.text("state"), "No location is written or read in this run")
-    browser.press("c")
-    browser.press(" ")
+    for key in "c artnmxll[]+-0m":  # (l twice, as the page keeps whether the lanes are folded)
+        browser.press(key)
+    browser.run("renewWatch('x > 1'); showWatch()")
     tries.same("keys do nothing there, and no problem is told", browser.problems(), [])
 
 

@@ -20,7 +20,7 @@ HIGH = "return document.getElementById('lanes-box').getBoundingClientRect().heig
 
 def try_rows(tries: Tries, browser: Browser) -> None:
     browser.resize(1280, 720)
-    for name, history in {"5 agents": HISTORY, "16 agents": warehouse(16, 20, 4)}.items():
+    for name, history in {"5 agents": HISTORY, "16 agents": warehouse(16, 8, 4)}.items():
         for part in ("", "#event=60", "#event=60&at=%5B%22packed%22%5D", "#event=60&at=%5B%22packed%22%5D&kind=fired&agent=1&if=packed%20size%20%3E%201"):
             browser.load(tries.trace("room", history), part)
             found = [browser.run(SEEN, it) for it in ("events", "state")]
@@ -69,6 +69,8 @@ def try_values(tries: Tries, browser: Browser) -> None:
     tries.claim("and of a stale fire the value that it rests on, and the one that is there", " → " in browser.run(row, stale), browser.run(row, stale))
     opened = next(it for it in range(1, len(states)) if len(states[it][OPEN]["set"]) > len(states[it - 1][OPEN]["set"]))
     tries.has("and of a set what is new and its size", browser.run(row, opened - 1), f"added, set of {len(states[opened][OPEN]['set'])}")
+    first = browser.run("return [...document.querySelectorAll('#state .row')].find(it => it.children[0].innerText === 'open')?.querySelector('.item').className")
+    tries.has("in the state what is new of it stands first", first or "", "added")
     browser.press(Keys.END)
     sizes = browser.run("return [...document.querySelectorAll('#state .row')].map(it => [it.children[0].innerText, it.querySelector('.kind')?.innerText])")
     tries.same("the state tells the sizes of sets and bags", [told for name, told in sizes if name in ("carts", "open")][:2],

@@ -6,8 +6,8 @@ import re
 
 from asking import BUSY, moments
 from browser import Browser
-from journal import Fired, Stale
-from samples import warehouse, wrong
+from journal import Fired, History, Stale
+from samples import journal_of, warehouse, wrong
 from script import read_script
 from showing import HISTORY
 from tries import Tries
@@ -39,6 +39,13 @@ def try_copying(tries: Tries, browser: Browser) -> None:
     tries.same("where a page has no clipboard of its own it is copied still", json.loads(copied(browser, "writes-copy")), state['["packed"]'])
 
 
+def large_move() -> History:
+    """A move of 120 instructions at sets of 60 elements, which names 120 reads."""
+    places = [["set", f"of a shelf {it}"] for it in range(120)]
+    init = [[it, {"set": [f"good {number}" for number in range(10, 70)]}] for it in places]
+    return journal_of((0, {"fire": [["add", it, "new good"] for it in places], "reads": [[it, 0] for it in places]}, {"fired": 1}), init=init)
+
+
 def pages(browser: Browser) -> int:
     """How many pages of A4 the print has."""
     printed = browser.driver.execute_cdp_cmd("Page.printToPDF", {"paperWidth": 8.27, "paperHeight": 11.69, "printBackground": True})
@@ -53,8 +60,8 @@ return [detail.height > 80, ...["time", "events-pane", "side", "help-open"].map(
 
 def try_printing(tries: Tries, browser: Browser) -> None:
     stale, fired = ([it for it, event in enumerate(BUSY.events) if isinstance(event.reply, kind)] for kind in (Stale, Fired))
-    busy, large = tries.trace("busy", BUSY), tries.trace("large", warehouse(24, 40, 6))
-    for what, path, part in [("the summary", busy, ""), ("the summary of many agents", large, ""), ("a stale fire", busy, f"#event={stale[0]}"), ("a move", busy, f"#event={fired[9]}&at=%5B%22packed%22%5D"), ("a wrong answer", tries.trace("wrong", wrong()), "#event=2")]:
+    busy, large = tries.trace("busy", BUSY), tries.trace("large", warehouse(24, 8, 6))
+    for what, path, part in [("the summary", busy, ""), ("the summary of many agents", large, ""), ("a stale fire", busy, f"#event={stale[0]}"), ("a move", busy, f"#event={fired[9]}&at=%5B%22packed%22%5D"), ("a wrong answer", tries.trace("wrong", wrong()), "#event=2"), ("a large move", tries.trace("move", large_move()), "#event=0")]:
         browser.load(path, part)
         tries.same(f"{what} is printed on one page", pages(browser), 1)
     browser.scheme("print")
