@@ -1,4 +1,5 @@
-"""Cases of long journals, of journals that are cut at each byte, and of journals with a list in each place."""
+"""Cases of long journals, of runs of many parts, of journals that are cut at each byte, and of journals with a list in each
+place."""
 
 from collections.abc import Iterator
 
@@ -52,12 +53,35 @@ def long(pairs: int) -> Iterator[Case]:
     yield Case(f"rewrite_{name}", ("rewrite",), journal.replace('"version":2', '"version":1').encode(), journal.encode())
     wrong = header(2 * pairs, init=init) + "".join(lines[:-1]) + event(calls[-1], '"full"')
     yield Case(f"check_wrong_{name}", ("check",), wrong.encode(), f"illegal {2 * pairs - 1}\n".encode(), 1)
+    yield Case(f"audit_{name}", ("audit",), journal.encode(), f"legal {2 * pairs} {pairs} 1\n".encode())
+    yield Case(f"audit_wrong_{name}", ("audit",), wrong.encode(), f"illegal 0 {2 * pairs - 1}\n".encode(), 1)
     traced = [text({"agents": 1, "capacity": 1048576, "events": 2 * pairs, "init": init, "trace": 1}) + "\n"]
     for k in range(pairs):
         traced.append(reads[k].replace(',"reply"', f',"event":{2 * k},"reply"'))
         fire = fires[k].replace(',"reply"', f',"event":{2 * k + 1},"reply"')
         traced.append(f'{fire[:-2]},"updates":[[["n"],{k},{k + 1}]]}}\n')
     yield Case(f"trace_{name}", ("trace",), journal.encode(), "".join(traced).encode())
+
+
+def parts(n: int) -> Iterator[Case]:
+    """A run of so many parts of one move each, longer than any other input: legal, and with a last part that opens with
+    another state or has a wrong answer."""
+    fired = event('{"fire":[["inc",["n"],1]],"reads":[]}', '{"fired":1}')
+    run = "".join(header(1, init=[[N, k]]) + fired for k in range(n))
+    yield Case(f"audit_{n}_parts", ("audit",), run.encode(), f"legal {n} {n} {n}\n".encode())
+    apart = run + header(1, init=[[N, n - 1]]) + fired
+    yield Case(f"audit_{n}_parts_and_one_apart", ("audit",), apart.encode(), f"part {n} apart\n".encode(), 2)
+    wrong = run + header(1, init=[[N, n]]) + event('{"read":[["n"]]}', f'{{"number":0,"values":[{n - 1}]}}')
+    yield Case(f"audit_{n}_parts_and_a_wrong_one", ("audit",), wrong.encode(), f"illegal {n} 0\n".encode(), 1)
+
+
+def lines() -> Iterator[Case]:
+    """A line that is as long as one may be, and lines with a byte more, which are refused before they end."""
+    most = 16_777_216
+    yield Case(f"audit_a_line_of_{most}_bytes", ("audit",), b"x" * most + b"\n", b"part 0 journal line 1: not JSON\n", 2)
+    for name, end in (("", b""), ("_and_its_line_feed", b"\n")):
+        name = f"audit_a_line_of_{most + 1}_bytes{name}"
+        yield Case(name, ("audit",), b"x" * (most + 1) + end, b"input too large\n", 2)
 
 
 def cut() -> Iterator[Case]:
@@ -132,4 +156,4 @@ def judged(name: str, journal: str, line: str, at: int) -> Iterator[Case]:
 
 def journals() -> list[Case]:
     found = [it for n in (4097, 16385, 65537) for make in (raises, plain) for it in make(n)]
-    return [*found, *default(), *long(35000), *cut(), *placed()]
+    return [*found, *default(), *long(35000), *parts(120000), *lines(), *cut(), *placed()]

@@ -30,9 +30,6 @@ use Rattle.asm_audit.proofs.Steps.{legal_more}
 pub none_open : IsShortLine []
 none_open = (All-nil (λ b. b ≢ 10), omega arith)
 
-no_lines : IsShortLines []
-no_lines = ([], refl, All-nil IsShortLine)
-
 -- one line more
 lines_push : (text line : List ℕ) → IsShortLines text → IsShortLine line → IsShortLines (text ++ (line ++ 10 ∷ []))
 lines_push text line h short = (
@@ -41,11 +38,6 @@ lines_push text line h short = (
       ∙ sym (flat_map-append (λ (l : List ℕ). l ++ 10 ∷ []) h.0 (line ∷ [])),
   All-append IsShortLine h.0 (line ∷ []) h.2 (All-from_recursion IsShortLine (line ∷ []) (short, tt)),
 )
-
--- nothing was fed
-pub fed_nothing : (part : Part) (p : Progress) → IsAudited part [] p → IsFed part [] p []
-fed_nothing part p audited =
-    record { ended = []; all = refl; short = no_lines; open_line = none_open; audited = audited }
 
 -- ---- one byte
 
@@ -85,30 +77,10 @@ fed_end part p q line left b r feed answer leaves =
           subst (λ (t : List ℕ). IsFaulty part t e) (same_bytes fed.ended line text new (10 ∷ []) more fed.all refl)
           (answer fed.ended more fed.audited (inl (line, ends_line line fed.open_line.0)))
 
--- unless all is told legal, the line is as it was
-pub line_kept : (line left : List ℕ) (r : Result Told AuditError) → LeavesLine line left r → IsKept line left r
-line_kept line left (Ok Legal) leaves = tt
-line_kept line left (Ok (Illegal j c)) leaves = leaves
-line_kept line left (Err e) leaves = leaves
-
 -- one byte more without a line feed
 pub no_feed_push : (line : List ℕ) (b : ℕ) → HasNoLineFeed line → b ≢ 10 → HasNoLineFeed (line ++ b ∷ [])
 no_feed_push line b none other =
     All-append (λ x. x ≢ 10) line (b ∷ []) none (All-from_recursion (λ x. x ≢ 10) (b ∷ []) (other, tt))
-
-pub short_push : (line : List ℕ) (b : ℕ) → length line < line_limit → length (line ++ b ∷ []) ≤ line_limit
-short_push line b less = omega (arith, length-append line (b ∷ []), less)
-
--- a byte of a line
-pub fed_byte : (part : Part) (p : Progress) (line left : List ℕ) (b : ℕ) → left ≡ line ++ b ∷ [] → IsShortLine left →
-    HasTaken part (b ∷ []) p line p left
-fed_byte part p line left b is short = λ text fed. record {
-  ended = fed.ended;
-  all = ap (λ l. fed.ended ++ l) is ∙ sym (append_assoc fed.ended line (b ∷ [])) ∙ ap (λ t. t ++ b ∷ []) fed.all;
-  short = fed.short;
-  open_line = short;
-  audited = fed.audited;
-}
 
 -- ---- a line that is too long
 

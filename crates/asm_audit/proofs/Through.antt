@@ -54,12 +54,6 @@ told_more part text p q line next bytes left chunk taken = record {
   fed = taken chunk.done chunk.fed;
 }
 
-pub told_wrong : (part : Part) (text : List ℕ) (p q : Progress) (line next bytes : List ℕ) (left : Option (List ℕ)) (j c : ℕ) →
-    IsChunk part text p line bytes left → IsFedAnswer part bytes p line q next (Ok (Illegal j c)) →
-    IsFirstIllegal part text j c
-told_wrong part text p q line next bytes left j c chunk answer =
-    subst (λ (t : List ℕ). IsFirstIllegal part t j c) chunk.all (answer chunk.done chunk.rest chunk.fed)
-
 pub told_fault : (part : Part) (text : List ℕ) (p q : Progress) (line next bytes : List ℕ) (left : Option (List ℕ))
     (e : AuditError) → IsChunk part text p line bytes left → IsFedAnswer part bytes p line q next (Err e) →
     IsFaulty part text e

@@ -11,7 +11,7 @@ use Rattle.clap.specs.declared.error.kind.ErrorKind.TheVariants as kind
 use Rattle.asm_driver.specs.Words.{Words, program, faults, kind_word, Asks, AsksFor, IsNoCommand, IsRefusal, IsMadeOf, IsTold}
 use Rattle.asm_driver.specs.Words.{Gives, RefusesWords, Helps, TellsVersion, Answers}
 use Rattle.asm_driver.specs.declared.program.words.Request.{Request}
-use Rattle.asm_driver.specs.declared.program.words.Request.TheVariants.{Run, Check, Rewrite, Trace, Explain}
+use Rattle.asm_driver.specs.declared.program.words.Request.TheVariants.{Run, Check, Rewrite, Trace, Audit, Explain}
 use Rattle.asm_driver.specs.declared.program.words.TextKind.{TextKind}
 use Rattle.asm_driver.specs.declared.program.words.TextKind.TheVariants.{Script, Journal}
 use Rattle.asm_driver.specs.declared.program.words.WordsError.{WordsError}
@@ -41,16 +41,17 @@ word (Run c j) = codes "run"
 word Check = codes "check"
 word Rewrite = codes "rewrite"
 word Trace = codes "trace"
+word Audit = codes "audit"
 word (Explain t) = codes "explain"
 
--- its second letter, which no two of the words share
+-- its third letter, which no two of the words share
 abbrev letter : Request → ℕ
-letter r = get_or (word r) 1 0
+letter r = get_or (word r) 2 0
 
 -- the request with this letter, where it has no options, and else this one
 abbrev with_letter : ℕ → Request → Request
 with_letter l r =
-    if l == 104 then Check else (if l == 101 then Rewrite else (if l == 114 then Trace else r))
+    if l == 101 then Check else (if l == 119 then Rewrite else (if l == 97 then Trace else (if l == 100 then Audit else r)))
 
 with_own_letter : (r : Request) → with_letter (letter r) r ≡ r
 with_own_letter (Run c j) = refl
@@ -59,9 +60,9 @@ with_own_letter r = refl
 
 -- what is asked for has the word of the command
 same_letter : (n m : Request) (rows : List Row) → Asks (Some (word n, rows)) m → letter n ≡ letter m
-same_letter n (Run c j) rows h = ap (λ (t : Text). get_or t 1 0) h.0
-same_letter n (Explain k) rows h = ap (λ (t : Text). get_or t 1 0) h.0
-same_letter n m rows h = ap (λ (t : Text). get_or t 1 0) h
+same_letter n (Run c j) rows h = ap (λ (t : Text). get_or t 2 0) h.0
+same_letter n (Explain k) rows h = ap (λ (t : Text). get_or t 2 0) h.0
+same_letter n m rows h = ap (λ (t : Text). get_or t 2 0) h
 
 -- so it is the command without options that has this letter
 by_letter : (n m : Request) (rows : List Row) → Asks (Some (word n, rows)) m → m ≡ with_letter (letter n) m
@@ -115,7 +116,8 @@ known (Run c j) rows has none = none.0 refl
 known Check rows has none = none.1 refl
 known Rewrite rows has none = none.2 refl
 known Trace rows has none = none.3 refl
-known (Explain t) rows has none = none.4 t (refl, has)
+known Audit rows has none = none.4 refl
+known (Explain t) rows has none = none.5 t (refl, has)
 
 none_among : (k : ErrorKind) (ks : Kinds) → ks ≡ [] → IsAmong k ks → ⊥
 none_among k [] e h = h
@@ -279,6 +281,8 @@ answers words r right = record {
   rewrite_further = refuses right refl (tt, tt);
   trace = gives right refl refl tt;
   trace_further = refuses right refl (tt, tt);
+  audit = gives right refl refl tt;
+  audit_further = refuses right refl (tt, tt);
   explain_script = gives right refl refl refl;
   explain_journal = gives right refl refl refl;
   explain_nothing = refuses right refl (tt, tt);
@@ -289,6 +293,7 @@ answers words r right = record {
   check_help = helps right refl;
   rewrite_help = helps right refl;
   trace_help = helps right refl;
+  audit_help = helps right refl;
   explain_help = helps right refl;
   version = tells right refl;
   short_version = tells right refl;

@@ -1,5 +1,5 @@
 -- When a run has the status of a fault.
-use Rattle.std.proofs.Common.{◌≡◌, ◌↔◌, ℕ, List, true, false, refl, sym, ◌∙◌, subst, inl, inr, arith}
+use Rattle.std.proofs.Common.{◌≡◌, ◌↔◌, ℕ, List, true, false, Err, refl, sym, ◌∙◌, subst, inl, inr, arith}
 use Rattle.asm_journal.specs.declared.error.JournalError.{JournalError}
 use Rattle.asm_journal.specs.declared.error.JournalError.TheVariants as journal
 use Rattle.asm_journal.specs.declared.checking.Legality.{Legality}
@@ -11,7 +11,10 @@ use Rattle.asm_driver.specs.Run.{Input, Output, IsAnswer, IsNoAnswer, IsShown, W
 use Rattle.asm_driver.specs.declared.program.refusal.Refusal.{Refusal}
 use Rattle.asm_driver.specs.declared.program.refusal.Refusal.TheVariants as refusal
 use Rattle.asm_driver.specs.declared.program.words.Request.{Request}
-use Rattle.asm_driver.specs.declared.program.words.Request.TheVariants.{Run, Check, Explain}
+use Rattle.asm_driver.specs.declared.program.words.Request.TheVariants.{Run, Check, Audit, Explain}
+use Rattle.asm_audit.specs.declared.reading.Verdict.{Verdict}
+use Rattle.asm_audit.specs.declared.reading.Verdict.TheVariants as verdict
+use Rattle.asm_driver.specs.Audit.{verdict_status, is_failed_read}
 
 -- it has failed, and it hasn't
 both : true ≡ false → ⊥
@@ -26,20 +29,28 @@ legality_works (Illegal call) e = cc (e)
 done_works : (bytes : List ℕ) (request : Request) (status : ℕ) (text : List ℕ) → IsDone bytes request status text →
     status ≡ 4 → ⊥
 done_works bytes Check status text (h, l, reads, is, same, written) e = legality_works l (sym same ∙ e)
+done_works bytes Audit status text done e = absurd done
 done_works bytes (Explain t) status text (inl done) e = omega (arith, done.0, e)
 done_works bytes (Explain t) status text (inr done) e = omega (arith, done.0, e)
 done_works bytes request status text done e = omega (arith, done.0, e)
 
+-- and so has a verdict
+verdict_works : (v : Verdict) → verdict_status v ≡ 4 → ⊥
+verdict_works (verdict.Legal w) e = cc (e)
+verdict_works (verdict.Illegal part call) e = cc (e)
+
 answer_works : (words : Words) (i : Input) (status : ℕ) (text : List ℕ) → IsAnswer words i status text → status ≡ 4 → ⊥
 answer_works words i status text (inl (bytes, request, whole, asks, done)) e = done_works bytes request status text
     done e
-answer_works words i status text (inr (same, asks, unread)) e = omega (arith, same, e)
+answer_works words i status text (inr (inl (asks, (v, is, same, written)))) e = verdict_works v (sym same ∙ e)
+answer_works words i status text (inr (inr (same, asks, unread))) e = omega (arith, same, e)
 
 -- where there is an answer, no read failed
 answer_reads : (words : Words) (i : Input) (status : ℕ) (text : List ℕ) → IsAnswer words i status text →
     i.failed ≡ false
 answer_reads words i status text (inl (bytes, request, whole, asks, done)) = whole.whole
-answer_reads words i status text (inr (same, asks, unread)) = unread.whole
+answer_reads words i status text (inr (inl (asks, (v, is, same, written)))) = is.noted
+answer_reads words i status text (inr (inr (same, asks, unread))) = unread.whole
 
 pub faults_answered : (given : Words) (i : Input) (o : Output) (status : ℕ) (text bytes : List ℕ) (result : ℕ)
     → IsAnswer given i status text → Writes o status bytes result → (result ≡ 4) ↔ HasFailed i o
@@ -61,6 +72,7 @@ journal_four f e = omega (arith, e)
 four : (r : Refusal) → refusal_status r ≡ 4 → r ≡ refusal.InputFault
 four refusal.InputFault e = refl
 four (refusal.BadJournal f) e = absurd (journal_four f e)
+four (refusal.BadPart part f) e = absurd (journal_four f e)
 four r e = absurd (omega (arith, e))
 
 -- a failed read is shown as it is
@@ -78,11 +90,17 @@ done_reads bytes (Run capacity asked) is = is
 done_reads bytes (Explain t) is = cc (is)
 done_reads bytes request is = is
 
+-- an audit that ended by a failed read is refused so
+fault_read : (r : Refusal) → is_failed_read (Err r) ≡ true → r ≡ refusal.InputFault
+fault_read refusal.InputFault is = refl
+fault_read r is = absurd (both (sym is))
+
 -- a failed read is refused so
 fault_failed : (words : Words) (i : Input) → IsNoAnswer words i refusal.InputFault → i.failed ≡ true
 fault_failed words i (inl (is, unread)) = absurd is
 fault_failed words i (inr (inl (taken, is))) = is.1
-fault_failed words i (inr (inr (bytes, request, whole, asks, is))) = absurd (done_reads bytes request is)
+fault_failed words i (inr (inr (inl (bytes, request, whole, asks, is)))) = absurd (done_reads bytes request is)
+fault_failed words i (inr (inr (inr (asks, told)))) = told.noted
 
 -- and what is refused so is a failed read
 failed_fault : (words : Words) (i : Input) (r : Refusal) → IsNoAnswer words i r → i.failed ≡ true →
@@ -92,7 +110,8 @@ failed_fault words i refusal.TooLarge (inr (inl (taken, is))) e = absurd (both (
 failed_fault words i refusal.InputFault (inr (inl (taken, is))) e = refl
 failed_fault words i refusal.Memory (inr (inl (taken, is))) e = absurd (both (sym e ∙ is.1))
 failed_fault words i r (inr (inl (taken, is))) e = absurd is
-failed_fault words i r (inr (inr (bytes, request, whole, asks, is))) e = absurd (both (sym e ∙ whole.whole))
+failed_fault words i r (inr (inr (inl (bytes, request, whole, asks, is)))) e = absurd (both (sym e ∙ whole.whole))
+failed_fault words i r (inr (inr (inr (asks, told)))) e = fault_read r (sym told.noted ∙ e)
 
 pub faults_refused : (given : Words) (i : Input) (o : Output) (r : Refusal) (result : ℕ)
     → IsNoAnswer given i r → Refuses o r result → (result ≡ 4) ↔ HasFailed i o

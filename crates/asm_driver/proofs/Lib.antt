@@ -7,3 +7,4 @@ mod Answering
 mod Runs
 mod Faulting
 mod Taking
+mod Auditing

@@ -1,5 +1,5 @@
 -- A run, from what was answered; and a run over a reader and a writer, from one over an input and an output.
-use Rattle.std.proofs.Common.{◌≡◌, ℕ, List, Bool, true, false, refl, sym, ap₂, subst, inl, inr}
+use Rattle.std.proofs.Common.{◌≡◌, ℕ, List, Bool, true, false, Err, refl, sym, ◌∙◌, ap₂, subst, inl, inr}
 use Rattle.asm_driver.specs.Commands.{IsNotDone}
 use Rattle.asm_driver.specs.Input.{Known}
 use Rattle.asm_driver.specs.Refusal.{refusal_line, refusal_status, has_number}
@@ -9,7 +9,8 @@ use Rattle.asm_driver.specs.Run.{RunsOver, input_of, output_of}
 use Rattle.asm_driver.specs.declared.program.refusal.Refusal.{Refusal}
 use Rattle.asm_driver.specs.declared.program.refusal.Refusal.TheVariants as refusal
 use Rattle.asm_driver.specs.declared.program.words.Request.{Request}
-use Rattle.asm_driver.specs.declared.program.words.Request.TheVariants.{Run, Explain}
+use Rattle.asm_driver.specs.declared.program.words.Request.TheVariants.{Run, Audit, Explain}
+use Rattle.asm_driver.specs.Audit.{is_failed_read, IsNoAudit}
 
 pub answered : (given words : Words) (i : Input) (o : Output) (status : ℕ) (text bytes : List ℕ) (result : ℕ) →
     given ≡ words → bytes ≡ text → IsAnswer given i status text → Writes o status bytes result → Runs words i o result
@@ -22,10 +23,27 @@ answered given words i o status text bytes result same written answer writes = (
 )
 
 -- an allocation failure may come wherever something is done
-memory_done : (bytes : List ℕ) (request : Request) → IsNotDone bytes request refusal.Memory
-memory_done bytes (Run capacity asked) = tt
-memory_done bytes (Explain t) = refl
-memory_done bytes request = tt
+memory_done : (bytes : List ℕ) (request : Request) (r : Refusal) → IsNotDone bytes request r →
+    IsNotDone bytes request refusal.Memory
+memory_done bytes (Run capacity asked) r is = tt
+memory_done bytes Audit r is = is
+memory_done bytes (Explain t) r is = refl
+memory_done bytes request r is = tt
+
+-- a refusal with a number tells of no failed read
+number_read : (r : Refusal) → has_number r ≡ true → is_failed_read (Err r) ≡ false
+number_read refusal.InputFault number = sym number
+number_read r number = refl
+
+-- and so it may in an audit
+memory_audited : (had left : Known) (failed : Bool) (r : Refusal) → has_number r ≡ true → IsNoAudit had left failed r →
+    IsNoAudit had left failed refusal.Memory
+memory_audited had left failed r number told = record {
+  bytes = told.bytes;
+  consumed = told.consumed;
+  told = inr (λ more. tt);
+  noted = told.noted ∙ number_read r number;
+}
 
 -- a refusal of the input has no number
 input_plain : (i : Input) (r : Refusal) → IsNoInput i r → has_number r ≡ true → ⊥
@@ -38,8 +56,10 @@ memory_told : (words : Words) (i : Input) (r : Refusal) → has_number r ≡ tru
     IsNoAnswer words i refusal.Memory
 memory_told words i r number (inl (bad, unread)) = inl (tt, unread)
 memory_told words i r number (inr (inl (taken, is))) = absurd (input_plain i r is number)
-memory_told words i r number (inr (inr (bytes, request, whole, asks, is))) = inr
-    (inr (bytes, request, whole, asks, memory_done bytes request))
+memory_told words i r number (inr (inr (inl (bytes, request, whole, asks, is)))) =
+    inr (inr (inl (bytes, request, whole, asks, memory_done bytes request r is)))
+memory_told words i r number (inr (inr (inr (asks, is)))) =
+    inr (inr (inr (asks, memory_audited i.had i.left i.failed r number is)))
 
 -- the refusal that is shown tells why there is no answer
 shown_told : (words : Words) (i : Input) (r shown : Refusal) → IsNoAnswer words i r → IsShown r shown →

@@ -4,7 +4,7 @@ use Rattle.std.proofs.KnownBytes.{Consumes-nil}
 use Rattle.std.specs.Io.KnownBytes.{Consumes}
 use Rattle.asm_driver.specs.Input.{Known, TakesSome}
 use Rattle.asm_driver.specs.Limits.{input_limit}
-use Rattle.asm_driver.specs.Run.{Input, IsAnswer, IsNoAnswer, IsNoInput, IsUnread, IsWhole}
+use Rattle.asm_driver.specs.Run.{Input, IsAnswer, IsNoAnswer, IsNoInput, IsUnread, IsWhole, Takes}
 use Rattle.asm_driver.specs.Words.{Words}
 use Rattle.asm_driver.specs.declared.program.refusal.Refusal.{Refusal}
 use Rattle.asm_driver.specs.declared.program.refusal.Refusal.TheVariants as refusal
@@ -20,9 +20,10 @@ all_taken i bytes whole =
     let within : length bytes ≤ input_limit = whole.all.within in (bytes, whole.all.consumed, omega (arith, within))
 
 pub answered_taken : (words : Words) (i : Input) (status : ℕ) (text : List ℕ) → IsAnswer words i status text →
-    TakesSome i.had i.left
-answered_taken words i status text (inl (bytes, request, whole, asks, done)) = all_taken i bytes whole
-answered_taken words i status text (inr (same, asks, unread)) = none_taken i unread
+    Takes words i.had i.left
+answered_taken words i status text (inl (bytes, request, whole, asks, done)) = inl (all_taken i bytes whole)
+answered_taken words i status text (inr (inl (asks, (v, is, same, written)))) = inr (asks, (is.bytes, is.consumed))
+answered_taken words i status text (inr (inr (same, asks, unread))) = inl (none_taken i unread)
 
 -- where there is no input, at most one byte beyond the limit was taken
 input_taken : (i : Input) (r : Refusal) → IsNoInput i r → TakesSome i.had i.left
@@ -31,7 +32,8 @@ input_taken i refusal.InputFault is = is.0
 input_taken i refusal.Memory is = is.0
 input_taken i r is = absurd is
 
-pub refused_taken : (words : Words) (i : Input) (r : Refusal) → IsNoAnswer words i r → TakesSome i.had i.left
-refused_taken words i r (inl (bad, unread)) = none_taken i unread
-refused_taken words i r (inr (inl (taken, is))) = input_taken i r is
-refused_taken words i r (inr (inr (bytes, request, whole, asks, is))) = all_taken i bytes whole
+pub refused_taken : (words : Words) (i : Input) (r : Refusal) → IsNoAnswer words i r → Takes words i.had i.left
+refused_taken words i r (inl (bad, unread)) = inl (none_taken i unread)
+refused_taken words i r (inr (inl (taken, is))) = inl (input_taken i r is)
+refused_taken words i r (inr (inr (inl (bytes, request, whole, asks, is)))) = inl (all_taken i bytes whole)
+refused_taken words i r (inr (inr (inr (asks, told)))) = inr (asks, (told.bytes, told.consumed))

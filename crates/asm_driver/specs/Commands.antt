@@ -22,7 +22,7 @@ use Rattle.asm_driver.specs.declared.program.refusal.Refusal.{Refusal}
 use Rattle.asm_driver.specs.declared.program.refusal.Refusal.TheVariants as refusal
 use Rattle.asm_script.specs.declared.script.ScriptError.TheVariants.{BadScript}
 use Rattle.asm_driver.specs.declared.program.words.Request.{Request}
-use Rattle.asm_driver.specs.declared.program.words.Request.TheVariants.{Run, Check, Rewrite, Trace, Explain}
+use Rattle.asm_driver.specs.declared.program.words.Request.TheVariants.{Run, Check, Rewrite, Trace, Audit, Explain}
 
 -- ---- run
 
@@ -106,12 +106,14 @@ IsNoJournal bytes r = ⊥
 
 -- ---- each command
 
--- what is asked is done with these bytes: the status and the text
+-- what is asked is done with these bytes, which are the whole input: the status and the text; an audit asks for no whole
+-- input
 abbrev pub IsDone : List ℕ → Request → ℕ → List ℕ → Type 0
 IsDone bytes (Run capacity asked) status text = (status ≡ 0) × IsRunText bytes capacity asked text
 IsDone bytes Check status text = IsCheck bytes status text
 IsDone bytes Rewrite status text = (status ≡ 0) × IsRewrite bytes text
 IsDone bytes Trace status text = (status ≡ 0) × IsTraceOf bytes text
+IsDone bytes Audit status text = ⊥
 IsDone bytes (Explain t) status text = IsExplained bytes t status text
 
 -- why it isn't done
@@ -120,4 +122,5 @@ IsNotDone bytes (Run capacity asked) r = IsNoRun bytes capacity asked r
 IsNotDone bytes Check r = IsNoJournal bytes r
 IsNotDone bytes Rewrite r = IsNoJournal bytes r
 IsNotDone bytes Trace r = IsNoJournal bytes r
+IsNotDone bytes Audit r = ⊥
 IsNotDone bytes (Explain t) r = r ≡ refusal.Memory

@@ -4,6 +4,7 @@ pub mod Input
 pub mod Output
 pub mod Words
 pub mod Refusal
+pub mod Audit
 pub mod Explained
 pub mod Commands
 pub mod Run

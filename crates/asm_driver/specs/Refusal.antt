@@ -71,12 +71,18 @@ journal_line journal.Version = line (codes "journal version")
 journal_line journal.Cut = line (codes "journal cut")
 journal_line journal.Memory = memory_line
 
+-- why the journal of this part of a run is refused
+abbrev pub part_line : ℕ → JournalError → List ℕ
+part_line part fault = codes "part " ++ decimal part ++ codes " " ++ journal_line fault
+
 -- the line that is written
 abbrev pub refusal_line : Refusal → List ℕ
 refusal_line refusal.Words = line (codes "bad words")
 refusal_line refusal.TooLarge = line (codes "input too large")
 refusal_line (refusal.BadScript cause) = cause_line cause
 refusal_line (refusal.BadJournal e) = journal_line e
+refusal_line (refusal.BadPart part fault) = part_line part fault
+refusal_line (refusal.Apart part) = line (codes "part " ++ decimal part ++ codes " apart")
 refusal_line refusal.Unfit = line (codes "bad script: shape")
 refusal_line (refusal.Missing k) = line (codes "missing move " ++ decimal k)
 refusal_line refusal.InputFault = line (codes "input fault")
@@ -92,6 +98,8 @@ journal_has_number _ = false
 -- whether a number stands in the line, so that memory is needed for it
 abbrev pub has_number : Refusal → Bool
 has_number (refusal.BadJournal e) = journal_has_number e
+has_number (refusal.BadPart part fault) = true
+has_number (refusal.Apart part) = true
 has_number (refusal.Missing k) = true
 has_number _ = false
 
@@ -108,6 +116,8 @@ refusal_status refusal.Words = 2
 refusal_status refusal.TooLarge = 2
 refusal_status (refusal.BadScript cause) = 2
 refusal_status (refusal.BadJournal e) = journal_status e
+refusal_status (refusal.BadPart part fault) = journal_status fault
+refusal_status (refusal.Apart part) = 2
 refusal_status refusal.Unfit = 2
 refusal_status (refusal.Missing k) = 1
 refusal_status refusal.InputFault = 4

@@ -1,18 +1,20 @@
 -- How a run of the program ends: its status, and the text that it writes.
-use Rattle.std.specs.Prelude.{◌≡◌, ◌⊎◌, ℕ, Bool, true, false, [], List, Result, Ok, Err, codes, string_bytes}
+use Rattle.std.specs.Prelude.{◌≡◌, ◌≢◌, ◌⊎◌, ℕ, Bool, true, false, List, Result, Ok, Err, codes, string_bytes}
 use Rattle.std.specs.Io.KnownBytes.{Appends}
 use Rattle.std.specs.declared.io.ErrorKind.{ErrorKind}
 use Rattle.std.specs.declared.io.ErrorKind.TheVariants.{InvalidData}
-use Rattle.asm_driver.specs.Input.{Known, ReadsAll, TakesTooMany, TakesSome}
+use Rattle.asm_driver.specs.Input.{Known, ReadsAll, TakesTooMany, TakesSome, TakesAny}
 use Rattle.asm_driver.specs.Output.{AppendsSome}
-use Rattle.asm_driver.specs.Words.{Words, AsksFor, AsksForHelp, AsksForVersion, HasMistake, faults}
+use Rattle.asm_driver.specs.Words.{Words, AsksFor, AsksForHelp, AsksForVersion, HasMistake}
 use Rattle.asm_driver.specs.Report.{line}
+use Rattle.asm_driver.specs.Audit.{IsAudit, IsNoAudit}
 use Rattle.asm_driver.specs.Commands.{IsDone, IsNotDone}
 use Rattle.asm_driver.specs.Refusal.{refusal_line, refusal_status, has_number}
 use Rattle.asm_driver.specs.declared.program.commands.Ending.{Ending}
 use Rattle.asm_driver.specs.declared.program.refusal.Refusal.{Refusal}
 use Rattle.asm_driver.specs.declared.program.refusal.Refusal.TheVariants as refusal
 use Rattle.asm_driver.specs.declared.program.words.Request.{Request}
+use Rattle.asm_driver.specs.declared.program.words.Request.TheVariants.{Audit}
 use Rattle.asm_driver.specs.declared.program.words.WordsError.{WordsError}
 use Rattle.asm_driver.specs.declared.program.words.WordsError.TheVariants as words
 
@@ -45,6 +47,10 @@ abbrev pub IsAsked : Words → Input → ℕ → List ℕ → Type 0
 IsAsked words i status text =
     (bytes : List ℕ) × (request : Request) × IsWhole i bytes × AsksFor words request × IsDone bytes request status text
 
+-- the audit that the words ask for, of the run that the input gives
+abbrev pub IsAudited : Words → Input → ℕ → List ℕ → Type 0
+IsAudited words i status text = AsksFor words Audit × IsAudit i.had i.left i.failed status text
+
 -- the line that tells the version
 abbrev pub version_line : List ℕ
 version_line = line (codes "asm_driver 0.2.0")
@@ -56,7 +62,7 @@ IsToldOf words text = AsksForHelp words ⊎ (AsksForVersion words × (text ≡ v
 -- what the words ask for; or help or the version that is asked for, before anything is read
 abbrev pub IsAnswer : Words → Input → ℕ → List ℕ → Type 0
 IsAnswer words i status text =
-    IsAsked words i status text ⊎ ((status ≡ 0) × IsToldOf words text × IsUnread i)
+    IsAsked words i status text ⊎ IsAudited words i status text ⊎ ((status ≡ 0) × IsToldOf words text × IsUnread i)
 
 -- why the words are refused
 abbrev pub IsWordsRefusal : Words → Refusal → Type 0
@@ -71,12 +77,22 @@ IsNoInput i refusal.InputFault = TakesSome i.had i.left × (i.failed ≡ true)
 IsNoInput i refusal.Memory = TakesSome i.had i.left × (i.failed ≡ false)
 IsNoInput i r = ⊥
 
--- why there is no answer: the words, before anything is read; then the input; then what it holds
+-- the words ask for something that is done with the whole input
+abbrev pub AsksForWhole : Words → Type 0
+AsksForWhole words = (request : Request) × AsksFor words request × (request ≢ Audit)
+
+-- why there is no answer: the words, before anything is read; then the input, where all of it is asked for; then what it
+-- holds; or why there is no audit
 abbrev pub IsNoAnswer : Words → Input → Refusal → Type 0
 IsNoAnswer words i r =
     (IsWordsRefusal words r × IsUnread i)
-    ⊎ ((faults words ≡ []) × IsNoInput i r)
+    ⊎ (AsksForWhole words × IsNoInput i r)
     ⊎ ((bytes : List ℕ) × (request : Request) × IsWhole i bytes × AsksFor words request × IsNotDone bytes request r)
+    ⊎ (AsksFor words Audit × IsNoAudit i.had i.left i.failed r)
+
+-- bytes of the input were taken: as many as an audit wants, else at most one beyond the limit
+abbrev pub Takes : Words → Known → Known → Type 0
+Takes words had left = TakesSome had left ⊎ (AsksFor words Audit × TakesAny had left)
 
 -- the line of the version is answered, for which there has to be memory
 abbrev pub IsVersion : Result Ending Refusal → Type 0

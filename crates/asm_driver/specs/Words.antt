@@ -13,7 +13,7 @@ use Rattle.clap.specs.declared.error.kind.ErrorKind.TheVariants as kind
 use Rattle.asm_row.specs.Limits.{capacity_limit}
 use Rattle.asm_driver.specs.Limits.{default_capacity}
 use Rattle.asm_driver.specs.declared.program.words.Request.{Request}
-use Rattle.asm_driver.specs.declared.program.words.Request.TheVariants.{Run, Check, Rewrite, Trace, Explain}
+use Rattle.asm_driver.specs.declared.program.words.Request.TheVariants.{Run, Check, Rewrite, Trace, Audit, Explain}
 use Rattle.asm_driver.specs.declared.program.words.TextKind.{TextKind}
 use Rattle.asm_driver.specs.declared.program.words.TextKind.TheVariants.{Script, Journal}
 use Rattle.asm_driver.specs.declared.program.words.WordsError.{WordsError}
@@ -49,6 +49,10 @@ rewrite = new_app (codes "rewrite")
 abbrev pub trace : App
 trace = new_app (codes "trace")
 
+-- the command audit
+abbrev pub audit : App
+audit = new_app (codes "audit")
+
 -- the kind of text that is explained, which must be given
 abbrev pub kind_rule : Rule
 kind_rule = record (new_rule (codes "kind")) { action = Some Set; value_names = 1; required = true }
@@ -61,16 +65,21 @@ explain = with_rule (new_app (codes "explain")) kind_rule
 abbrev pub with_journals : App → App
 with_journals a = with_subcommand (with_subcommand (with_subcommand a check.top) rewrite.top) trace.top
 
+-- with the command that audits a run
+abbrev pub with_audit : App → App
+with_audit a = with_subcommand a audit.top
+
 -- with the command that explains a text
 abbrev pub with_explain : App → App
 with_explain a = with_subcommand a explain.top
 
--- the commands run, check, rewrite, trace and explain, of which one must be given unless help or the version is asked for
+-- the commands run, check, rewrite, trace, explain and audit, of which one must be given unless help or the version is
+-- asked for
 abbrev pub program : App
 program =
     let named = new_app (codes "asm_driver") in
     let required = record named { top = record named.top { has_version = true; subcommand_required = true } } in
-    with_explain (with_journals (with_subcommand required run.top))
+    with_audit (with_explain (with_journals (with_subcommand required run.top)))
 
 -- the words, each with its bytes
 abbrev pub Words : Type 0
@@ -114,6 +123,7 @@ Asks (Some p) (Run number asked) = (p.0 ≡ codes "run") × AsksRun p.1 (Run num
 Asks (Some p) Check = p.0 ≡ codes "check"
 Asks (Some p) Rewrite = p.0 ≡ codes "rewrite"
 Asks (Some p) Trace = p.0 ≡ codes "trace"
+Asks (Some p) Audit = p.0 ≡ codes "audit"
 Asks (Some p) (Explain t) = (p.0 ≡ codes "explain") × AsksKind p.1 t
 
 -- the words are taken, and ask for this
@@ -137,6 +147,7 @@ abbrev pub IsNoCommand : Option (Text × List Row) → Type 0
 IsNoCommand None = Unit {0}
 IsNoCommand (Some p) =
     ¬ (p.0 ≡ codes "run") × ¬ (p.0 ≡ codes "check") × ¬ (p.0 ≡ codes "rewrite") × ¬ (p.0 ≡ codes "trace")
+    × ¬ (p.0 ≡ codes "audit")
     × ((t : TextKind) → ¬ Asks (Some p) (Explain t))
 
 -- the words have a mistake: one that clap may find, or clap takes them and there is no command of the program's
@@ -210,6 +221,8 @@ pub record Answers (words : Words) (r : Result Request WordsError) : Type 0 wher
   pub rewrite_further : words ≡ program_with (codes "rewrite" ∷ codes "more" ∷ []) → RefusesWords r
   pub trace : words ≡ program_with (codes "trace" ∷ []) → Gives Trace r
   pub trace_further : words ≡ program_with (codes "trace" ∷ codes "more" ∷ []) → RefusesWords r
+  pub audit : words ≡ program_with (codes "audit" ∷ []) → Gives Audit r
+  pub audit_further : words ≡ program_with (codes "audit" ∷ codes "more" ∷ []) → RefusesWords r
   pub explain_script : words ≡ explain_with (codes "script" ∷ []) → Gives (Explain Script) r
   pub explain_journal : words ≡ explain_with (codes "journal" ∷ []) → Gives (Explain Journal) r
   pub explain_nothing : words ≡ explain_with [] → RefusesWords r
@@ -220,6 +233,7 @@ pub record Answers (words : Words) (r : Result Request WordsError) : Type 0 wher
   pub check_help : words ≡ program_with (codes "check" ∷ codes "--help" ∷ []) → Helps r
   pub rewrite_help : words ≡ program_with (codes "rewrite" ∷ codes "--help" ∷ []) → Helps r
   pub trace_help : words ≡ program_with (codes "trace" ∷ codes "--help" ∷ []) → Helps r
+  pub audit_help : words ≡ program_with (codes "audit" ∷ codes "--help" ∷ []) → Helps r
   pub explain_help : words ≡ explain_with (codes "--help" ∷ []) → Helps r
   pub version : words ≡ program_with (codes "--version" ∷ []) → TellsVersion r
   pub short_version : words ≡ program_with (codes "-V" ∷ []) → TellsVersion r

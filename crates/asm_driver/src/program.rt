@@ -1,12 +1,12 @@
 //! The program over an input and an output.
 ghost use Rattle.std.specs.Prelude.{◌≡◌, ◌↔◌, false, [], map, IfOk, IfErr, string_bytes};
 ghost use Rattle.std.specs.IoError.{error_kind};
-ghost use Rattle.asm_driver.specs.Input.{TakesSome};
 ghost use Rattle.asm_driver.specs.Refusal.{has_number};
 ghost use Rattle.asm_driver.specs.Words.{faults};
-ghost use Rattle.asm_driver.specs.Run.{IsAnswer, IsNoAnswer, IsAnswerTo, version_line, Writes, Refuses};
+ghost use Rattle.asm_driver.specs.Run.{IsAnswer, IsNoAnswer, IsAnswerTo, version_line, Takes, Writes, Refuses};
 ghost use Rattle.asm_driver.specs.Run.{input_of, output_of, Runs, RunsOver, HasFailed, RefusesKind, IsRefusalOfKind};
 
+mod auditing;
 mod commands;
 mod explained;
 mod refusal;
@@ -16,9 +16,10 @@ use crate::ports::input::read_input;
 use crate::ports::output::write_whole;
 use crate::ports::sink::{NotedWriter, Sink};
 use crate::ports::source::{NotedReader, Source};
+use crate::program::auditing::audit_input;
 use crate::program::commands::{Ending, carry_out};
 use crate::program::refusal::Refusal;
-use crate::program::words::{WordsError, read_words};
+use crate::program::words::{Request, WordsError, read_words};
 use std::alloc::{AllocError, Global};
 use std::io;
 use std::io::{ErrorKind, Read, Write};
@@ -67,6 +68,9 @@ fn answer<T: Threads + Wait + Sync, S: Source>(
         Ok(request) => request,
         Err(error) => return answer_to(alloc, error),
     };
+    if request == Request::Audit {
+        return audit_input(rt, alloc, input);
+    }
     let bytes = read_input(alloc, input)?;
     carry_out(rt, alloc, request, bytes.as_slice())
 }
@@ -121,7 +125,7 @@ pub fn run_noted<T: Threads + Wait + Sync, S: Source, K: Sink>(
     ensures faults { (result ≡ 4) ↔ HasFailed
         (input_of (S.remaining input.old) (S.remaining input.new) (S.failed input.new))
         (output_of (K.contents output.old) (K.contents output.new) (K.failed output.new) (K.flushed output.new)) }
-    ensures taken { TakesSome (S.remaining input.old) (S.remaining input.new) }
+    ensures taken { Takes (map string_bytes words.items) (S.remaining input.old) (S.remaining input.new) }
     ensures unread { ¬ (faults (map string_bytes words.items) ≡ []) → input.new ≡ input.old }
 {
     match answer(rt, alloc, words.as_slice(), input) {
@@ -132,18 +136,20 @@ pub fn run_noted<T: Threads + Wait + Sync, S: Source, K: Sink>(
 
 /// Does what the words ask for, and gives the program's status.
 ///
-/// The words begin with the program's name, and are `run` with its options, `check`, `rewrite`, `trace` or `explain` with the
-/// kind of text. The input
-/// is read to its end, at most 16,777,216 bytes. With `run` it is a script, which is played, and the report
-/// is written with status 0, or with `--journal` the journal of the calls. With `check` it is a journal, and
-/// `legal CALLS MOVES` is written with status 0, or `illegal CALL` with status 1. With `rewrite` it is a
-/// journal too, whether legal or not, and the journal of the same history is written with status 0; so is its
-/// trace with `trace`. With `explain script` or `explain journal` nothing is written, with status 0, where `run` or
-/// `check` would take the input, and else a line that says where and why not, with status 1. Help that is asked for has status 0, and so has the line `asm_driver 0.2.0` where the words ask
+/// The words begin with the program's name, and are `run` with its options, `check`, `rewrite`, `trace`, `explain` with
+/// the kind of text, or `audit`. But with `audit` the input is read to its end, at most 16,777,216 bytes. With `run` it
+/// is a script, which is played, and the report is written with status 0, or with `--journal` the journal of the calls.
+/// With `check` it is a journal, and `legal CALLS MOVES` is written with status 0, or `illegal CALL` with status 1. With
+/// `rewrite` it is a journal too, whether legal or not, and the journal of the same history is written with status 0; so
+/// is its trace with `trace`. With `explain script` or `explain journal` nothing is written, with status 0, where `run`
+/// or `check` would take the input, and else a line that says where and why not, with status 1. With `audit` it is a run
+/// of any length, whose parts are journals, of which no line may have more than 16,777,216 bytes; it is read to its end
+/// or to where something is told, and `legal CALLS MOVES PARTS` is written with status 0, or `illegal PART CALL` with
+/// status 1. Help that is asked for has status 0, and so has the line `asm_driver 0.2.0` where the words ask
 /// for the version.
 ///
-/// Otherwise one line tells why: status 1 for a fired move without a receipt, 2 for words, a size, a script
-/// or a journal that is refused, 3 for an allocation failure or a thread that couldn't be started, 4 for a failed
+/// Otherwise one line tells why: status 1 for a fired move without a receipt, 2 for words, a size, a script,
+/// a journal or a run that is refused, 3 for an allocation failure or a thread that couldn't be started, 4 for a failed
 /// read. Where a write or the flush fails the status is 4, and what went out is the first part of the
 /// text. Faults are found in this order: words, input, script or journal, the command, output.
 pub fn run_main<T: Threads + Wait + Sync, R: Read, W: Write>(

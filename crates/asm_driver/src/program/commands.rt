@@ -1,5 +1,6 @@
 //! What the commands do with the input.
-ghost use Rattle.std.specs.Prelude.{◌≡◌, IfOk, IfErr, string_bytes};
+ghost use Rattle.std.specs.Prelude.{◌≡◌, ◌≢◌, IfOk, IfErr, string_bytes};
+ghost use Rattle.asm_driver.specs.declared.program.words.Request.TheVariants as requests;
 ghost use Rattle.asm_driver.specs.Commands.{text_of_played, IsNoText, IsRunText, IsNoRun, IsCheck};
 ghost use Rattle.asm_driver.specs.Commands.{IsNoJournal, IsRewrite, IsTraceOf};
 ghost use Rattle.asm_driver.specs.Commands.{legality_line, legality_status, IsDone, IsNotDone};
@@ -99,13 +100,14 @@ fn trace(alloc: Global, bytes: &[u8]) -> Result<String, Refusal>
     Ok(standard_trace_text(alloc, &history)?)
 }
 
-/// Does what is asked with the bytes of the input.
+/// Does what is asked with the bytes of the whole input.
 pub(crate) fn carry_out<T: Threads + Wait + Sync>(
     rt: &T,
     alloc: Global,
     request: Request,
     bytes: &[u8],
 ) -> Result<Ending, Refusal>
+    requires { request ≢ requests.Audit }
     ensures ok { IfOk result (λ e. IsDone bytes.now request e.status (string_bytes e.text)) }
     ensures err { IfErr result (IsNotDone bytes.now request) }
 {
@@ -123,6 +125,7 @@ pub(crate) fn carry_out<T: Threads + Wait + Sync>(
             status: 0,
             text: trace(alloc, bytes)?,
         }),
+        Request::Audit => unreachable!(),
         Request::Explain(kind) => Ok(explained(alloc, kind, bytes)?),
     }
 }

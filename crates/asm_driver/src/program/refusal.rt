@@ -1,12 +1,14 @@
 //! Why the program doesn't do what is asked, with the line and the status of each cause.
-ghost use Rattle.std.specs.Prelude.{◌≡◌, false, IfOk, IsOk};
+ghost use Rattle.std.specs.Prelude.{◌≡◌, false, IfOk, IsOk, string_bytes};
+ghost use Rattle.asm_driver.specs.Audit.{refusal_of_audit};
 ghost use Rattle.asm_driver.specs.Refusal.{refusal_line, refusal_status, has_number, cause_line as line_of_cause};
-ghost use Rattle.asm_driver.specs.Refusal.{journal_line as line_of_journal, journal_has_number, line_bytes};
+ghost use Rattle.asm_driver.specs.Refusal.{journal_line as line_of_journal, part_line as line_of_part, journal_has_number, line_bytes};
 ghost use Rattle.asm_driver.specs.Refusal.{journal_status as status_of_journal, refusal_of_input, refusal_of_script};
 ghost use Rattle.asm_driver.specs.Refusal.{refusal_of_run, refusal_of_journal};
 ghost use Rattle.asm_driver.specs.declared.program.refusal.Refusal.TheVariants as refusals;
 
 use crate::ports::input::InputError;
+use asm_audit::AuditError;
 use asm_journal::JournalError;
 use asm_play::RunError;
 use asm_script::{ScriptCause, ScriptError};
@@ -17,12 +19,16 @@ use std::alloc::{AllocError, Global};
 pub enum Refusal {
     /// The program does not take these words.
     Words,
-    /// The input has more than 16,777,216 bytes.
+    /// The input, or a line of a run, has more than 16,777,216 bytes.
     TooLarge,
     /// The input is not a script.
     BadScript(ScriptCause),
     /// The input is not a journal.
     BadJournal(JournalError),
+    /// This part of a run is not a journal.
+    BadPart { part: u64, fault: JournalError },
+    /// This part of a run opens with another state than the part before it leaves.
+    Apart(u64),
     /// The history of the script's calls is too long for a journal.
     Unfit,
     /// The fired move with this number has no receipt.
@@ -90,6 +96,19 @@ impl From<JournalError> for Refusal {
     }
 }
 
+impl From<AuditError> for Refusal {
+    ghost from_gives = { λ e r. r ≡ refusal_of_audit e };
+
+    fn from(error: AuditError) -> Refusal {
+        match error {
+            AuditError::Journal { part, fault } => Refusal::BadPart { part, fault },
+            AuditError::Apart { part } => Refusal::Apart(part),
+            AuditError::LongLine => Refusal::TooLarge,
+            AuditError::Memory => Refusal::Memory,
+        }
+    }
+}
+
 /// A line with its line feed: a fixed one, which needs no memory, or one that was put together.
 #[derive(Drop)]
 pub(crate) enum Line {
@@ -138,6 +157,22 @@ fn journal_line(alloc: Global, error: JournalError) -> Result<Line, AllocError>
     })
 }
 
+fn part_line(alloc: Global, part: u64, fault: JournalError) -> Result<String, AllocError>
+    ensures { IfOk result (λ l. string_bytes l ≡ line_of_part part fault) }
+{
+    match fault {
+        JournalError::NotJson(line) => {
+            format!(in alloc; "part {part} journal line {line}: not JSON\n")
+        }
+        JournalError::Shape(line) => {
+            format!(in alloc; "part {part} journal line {line}: shape\n")
+        }
+        JournalError::Version => format!(in alloc; "part {part} journal version\n"),
+        JournalError::Cut => format!(in alloc; "part {part} journal cut\n"),
+        JournalError::Memory => format!(in alloc; "part {part} out of memory\n"),
+    }
+}
+
 fn journal_status(error: JournalError) -> u8
     ensures { result ≡ status_of_journal error }
 {
@@ -158,6 +193,8 @@ impl Refusal {
             Refusal::TooLarge => Line::Known(b"input too large\n"),
             Refusal::BadScript(cause) => Line::Known(cause_line(cause)),
             Refusal::BadJournal(error) => return journal_line(alloc, error),
+            Refusal::BadPart { part, fault } => Line::Made(part_line(alloc, part, fault)?),
+            Refusal::Apart(part) => Line::Made(format!(in alloc; "part {part} apart\n")?),
             Refusal::Unfit => Line::Known(b"bad script: shape\n"),
             Refusal::Missing(number) => {
                 Line::Made(format!(in alloc; "missing move {number}\n")?)
@@ -174,8 +211,13 @@ impl Refusal {
     {
         match self {
             Refusal::Missing(_) => 1,
-            Refusal::Words | Refusal::TooLarge | Refusal::BadScript(_) | Refusal::Unfit => 2,
+            Refusal::Words
+            | Refusal::TooLarge
+            | Refusal::BadScript(_)
+            | Refusal::Unfit
+            | Refusal::Apart(_) => 2,
             Refusal::BadJournal(error) => journal_status(error),
+            Refusal::BadPart { part: _, fault } => journal_status(fault),
             Refusal::NoThread | Refusal::Memory => 3,
             Refusal::InputFault => 4,
         }

@@ -2,8 +2,8 @@
 ghost use Rattle.std.specs.Prelude.{◌≡◌, false, map, IfOk, IfErr, IfSome, IfNone, string_bytes};
 ghost use Rattle.clap.specs.Words.{FailsBy, app_of, found_of, kind_of, rows_of, rule_of, subcommand_of};
 ghost use Rattle.clap.specs.Words.{subcommand_rows_of};
-ghost use Rattle.asm_driver.specs.Words.{capacity as capacity_rule, journal as journal_rule, kind_rule, with_explain, with_journals, program, faults};
-ghost use Rattle.asm_driver.specs.Words.{Asks, AsksKind, AsksRun, AsksFor, IsNoCommand, IsMadeOf, IsRefusal, Answers};
+ghost use Rattle.asm_driver.specs.Words.{capacity as capacity_rule, journal as journal_rule, kind_rule, with_audit, with_explain, with_journals};
+ghost use Rattle.asm_driver.specs.Words.{program, faults, Asks, AsksKind, AsksRun, AsksFor, IsNoCommand, IsMadeOf, IsRefusal, Answers};
 
 use asm_row::CAPACITY_LIMIT;
 use clap::error::ErrorKind;
@@ -24,6 +24,8 @@ pub enum Request {
     Rewrite,
     /// To write the trace of a journal.
     Trace,
+    /// To audit a run, whose parts are journals.
+    Audit,
     /// To write where and why a text of this kind is refused.
     Explain(TextKind),
 }
@@ -78,18 +80,28 @@ fn with_journals<'a>(alloc: Global, command: Command<'a>) -> Result<Command<'a>,
     ensures app { IfOk result (λ c. app_of c ≡ with_journals (app_of command.entry)) }
 {
     let check = Command::new(alloc, "check").about(
-        "Checks a journal, which is read from standard input, and writes whether it is legal",
+        "Checks a journal of at most 16777216 bytes, which is read from standard input, and writes whether it is legal",
     );
     let rewrite = Command::new(alloc, "rewrite").about(
-        "Rewrites a journal, which is read from standard input, in version 2, and doesn't check it",
+        "Rewrites a journal of at most 16777216 bytes, which is read from standard input, in version 2, and doesn't check it",
     );
     let trace = Command::new(alloc, "trace").about(
-        "Traces a journal, which is read from standard input, and writes what each call did",
+        "Traces a journal of at most 16777216 bytes, which is read from standard input, and writes what each call did",
     );
     command
         .subcommand(check)?
         .subcommand(rewrite)?
         .subcommand(trace)
+}
+
+/// Adds the command that audits a run.
+fn with_audit<'a>(alloc: Global, command: Command<'a>) -> Result<Command<'a>, AllocError>
+    ensures app { IfOk result (λ c. app_of c ≡ with_audit (app_of command.entry)) }
+{
+    let audit = Command::new(alloc, "audit").about(
+        "Audits a run of any length, whose parts are journals and are read from standard input, and writes whether it is legal",
+    );
+    command.subcommand(audit)
 }
 
 fn kind_word<'a>(alloc: Global) -> Arg<'a>
@@ -124,11 +136,14 @@ fn program_command<'a>(alloc: Global) -> Result<Command<'a>, AllocError>
         .arg(journal_option(alloc))?;
     let named = Command::new(alloc, "asm_driver")
         .about(
-            "Plays the steps of an abstract state machine's agents on one storage, checks, rewrites and traces journals, and explains why a text is refused",
+            "Plays the steps of an abstract state machine's agents on one storage, checks, rewrites and traces journals, audits runs, and explains why a text is refused",
         )
         .version("0.2.0")
         .subcommand_required(true);
-    with_explain(alloc, with_journals(alloc, named.subcommand(run)?)?)
+    with_audit(
+        alloc,
+        with_explain(alloc, with_journals(alloc, named.subcommand(run)?)?)?,
+    )
 }
 
 fn parse<'a>(alloc: Global, words: &'a [String]) -> Result<ArgMatches<'a>, Error>
@@ -186,6 +201,9 @@ fn asked(matches: &ArgMatches<'_>) -> Option<Request>
     }
     if name == "trace" {
         return Some(Request::Trace);
+    }
+    if name == "audit" {
+        return Some(Request::Audit);
     }
     if name == "explain" {
         Some(Request::Explain(kind_asked(options)?))

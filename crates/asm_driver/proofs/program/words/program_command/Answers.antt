@@ -2,7 +2,7 @@ use Rattle.std.proofs.Common.{rules, ap, ap₂, codes, true, ◌≡◌, ◌∙�
 use Rattle.std.proofs.lemmas.Result.{IfOk-weaker}
 use Rattle.clap.specs.Simple.{app_of_fields}
 use Rattle.clap.specs.Words.{App, app_of, new_app, with_rule, with_subcommand}
-use Rattle.asm_driver.specs.Words.{capacity, run, with_explain, with_journals}
+use Rattle.asm_driver.specs.Words.{capacity, run, with_audit, with_explain, with_journals}
 use Rattle.asm_driver.proofs.program.words.program_command.Goals as goal
 
 abbrev versioned : App → App
@@ -30,6 +30,8 @@ returns c =
     c.in_ok-subcommand.ensures.shape (search rules) ∙ ap₂ with_subcommand named_is (ap (λ (a : App). a.top) run_is) in
     let journals_are : app_of c.in_ok-with_journals.field-0 ≡ with_journals (with_subcommand wanted run.top) =
     c.in_ok-with_journals.ensures.app ∙ ap with_journals one_is in
+    let explain_is : app_of c.in_ok-with_explain.field-0 ≡ with_explain (with_journals (with_subcommand wanted run.top)) =
+    c.in_ok-with_explain.ensures.app ∙ ap with_explain journals_are in
     record {
-      app = IfOk-weaker c.with_explain.result _ _ (λ m h. h ∙ ap with_explain journals_are) c.with_explain.ensures.app;
+      app = IfOk-weaker c.with_audit.result _ _ (λ m h. h ∙ ap with_audit explain_is) c.with_audit.ensures.app;
     }
