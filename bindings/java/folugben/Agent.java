@@ -23,9 +23,28 @@ public final class Agent implements AutoCloseable {
 
     private final Room room = slot.room;
     private final Storage storage;
+    private final int number;
 
-    Agent(Storage storage) {
+    Agent(Storage storage, int number) {
         this.storage = storage;
+        this.number = number;
+    }
+
+    /** Its number among the agents of its storage. */
+    public int number() {
+        return number;
+    }
+
+    /** Tells that it was given back, if this code was answered for that; to be called with its lock. */
+    int held(int code) {
+        if (code == FolugbenException.EMPTY && !slot.isFull())
+            throw FolugbenException.closed("the agent was given back");
+        return code;
+    }
+
+    /** What is expected of the code of a call on it. */
+    void expect(int code) {
+        FolugbenException.expect(held(code));
     }
 
     /**
@@ -100,7 +119,7 @@ public final class Agent implements AutoCloseable {
         synchronized (slot) {
             int code = room.make(call,
                     (text, out, length, written) -> Calls.asm_read(slot.at, text, call.length));
-            FolugbenException.expectRead(code, Storage.Form.LOCATIONS, call);
+            FolugbenException.expectRead(held(code), Storage.Form.LOCATIONS, call);
             return answer();
         }
     }
@@ -111,7 +130,8 @@ public final class Agent implements AutoCloseable {
      * @throws FolugbenException as a {@link ManyException} if there are more
      */
     public Reading read(List<Location> locations) {
-        return JsonReader.reading(read(JsonWriter.locations(locations)), locations);
+        List<Location> copy = Copies.of(locations, "locations");
+        return JsonReader.reading(read(JsonWriter.locations(copy)), copy);
     }
 
     /**
@@ -175,7 +195,7 @@ public final class Agent implements AutoCloseable {
         switch (code) {
             case FolugbenException.STALE, FolugbenException.CLASH -> answer = answer();
             case FolugbenException.FULL, FolugbenException.BUSY -> {}
-            default -> FolugbenException.expect(code);
+            default -> expect(code);
         }
         return new Reply(code, move, from, to, answer, isOfStep);
     }
@@ -235,7 +255,7 @@ public final class Agent implements AutoCloseable {
      */
     public int follow() {
         synchronized (slot) {
-            FolugbenException.expect(Calls.asm_follow(slot.at, room.numbers()));
+            expect(Calls.asm_follow(slot.at, room.numbers()));
             return room.number(0);
         }
     }
@@ -252,14 +272,15 @@ public final class Agent implements AutoCloseable {
                     (text, out, length, written)
                             -> Calls.asm_peek(
                                     slot.at, text, call.length, out, length, written));
-            FolugbenException.expectRead(told.code(), Storage.Form.LOCATIONS, call);
+            FolugbenException.expectRead(held(told.code()), Storage.Form.LOCATIONS, call);
             return told.text();
         }
     }
 
     /** The same of any number of locations as objects. */
     public Reading peek(List<Location> locations) {
-        return JsonReader.reading(peek(JsonWriter.locations(locations)), locations);
+        List<Location> copy = Copies.of(locations, "locations");
+        return JsonReader.reading(peek(JsonWriter.locations(copy)), copy);
     }
 
     /** The value of a prepared location after so many moves. */
@@ -288,10 +309,10 @@ public final class Agent implements AutoCloseable {
     private void look(PreparedLocation location) {
         Objects.requireNonNull(location, "location");
         synchronized (location.slot) {
-            location.expect(room.make(
+            location.expect(held(room.make(
                     (text, out, length, written)
                             -> Calls.asm_peek_at(slot.at, location.slot.at, room.numbers(),
-                                    room.value(), out, length, written)));
+                                    room.value(), out, length, written))));
         }
     }
 
@@ -301,7 +322,7 @@ public final class Agent implements AutoCloseable {
             Calls.Told told = room.told(
                     (text, out, length, written)
                             -> Calls.asm_state(slot.at, room.numbers(), out, length, written));
-            FolugbenException.expect(told.code());
+            expect(told.code());
             return new State(room.number(0), told.text());
         }
     }
@@ -317,7 +338,7 @@ public final class Agent implements AutoCloseable {
                     (text, out, length, written)
                             -> Calls.asm_scan(slot.at, text, bytes.length, room.numbers(), out,
                                     length, written));
-            FolugbenException.expect(told.code());
+            expect(told.code());
             return new State(room.number(0), told.text());
         }
     }
@@ -341,7 +362,7 @@ public final class Agent implements AutoCloseable {
                 return new Reply(told.code(), 0, 0, 0, told.text());
             if (told.code() == FolugbenException.RANGE)
                 throw FolugbenException.ahead(reads, Calls.asm_seen(slot.at));
-            FolugbenException.expectReads(told.code(), reads);
+            FolugbenException.expectReads(held(told.code()), reads);
             return new Reply(told.code(), 0, 0, 0, null);
         }
     }
@@ -361,7 +382,7 @@ public final class Agent implements AutoCloseable {
             Calls.Told told = room.told(
                     (text, out, length, written)
                             -> Calls.asm_answer(slot.at, out, length, written));
-            FolugbenException.expect(told.code());
+            expect(told.code());
             return told.text();
         }
     }
@@ -376,7 +397,9 @@ public final class Agent implements AutoCloseable {
         synchronized (LEARNING) {
             synchronized (slot) {
                 synchronized (other.slot) {
-                    FolugbenException.expect(Calls.asm_learn(slot.at, other.slot.at));
+                    int code = Calls.asm_learn(slot.at, other.slot.at);
+                    other.held(code);
+                    expect(code);
                 }
             }
         }

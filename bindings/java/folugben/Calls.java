@@ -17,12 +17,16 @@ final class Calls {
     static final int WRITTEN_FOR = 2000;
     /** The room for a text of which it isn't known how long it is. */
     static final int ROOM = 512;
+    /** The most bytes of an array. */
+    static final int MOST = Integer.MAX_VALUE - 8;
 
     static {
         Class<?> own = Calls.class;
         NativeLibrary library = NativeLibrary.getInstance(
                 libraryName(), Map.of(Library.OPTION_CLASSLOADER, own.getClassLoader()));
         Native.register(own, library);
+        Quick.forget(own, library.getOptions());
+        Quick.forget(own, Native.getLibraryOptions(own));
         expectVersion(asm_version());
         Quick.bind(own, library);
     }
@@ -158,6 +162,16 @@ final class Calls {
         int write(byte[] out, long room, long[] written);
     }
 
+    /** The room to begin with for a text of about so many bytes: what an array has at most. */
+    static int room(long bytes) {
+        return (int) Math.min(bytes, MOST);
+    }
+
+    static OutOfMemoryError tooLong(long bytes) {
+        return new OutOfMemoryError(
+                "a text of " + bytes + " bytes, and an array has at most " + MOST);
+    }
+
     /** The code of a call, and the text that it wrote with it. */
     record Told(int code, String text) {}
 
@@ -170,8 +184,8 @@ final class Calls {
         long[] written = new long[1];
         int code = call.write(out, out.length, written);
         while (code == FolugbenException.SMALL) {
-            if (written[0] > Integer.MAX_VALUE - 8)
-                throw new OutOfMemoryError("a text of " + written[0] + " bytes");
+            if (written[0] > MOST)
+                throw tooLong(written[0]);
             out = new byte[(int) written[0]];
             code = call.write(out, out.length, written);
         }

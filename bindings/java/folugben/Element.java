@@ -57,10 +57,10 @@ public sealed interface Element extends Value, Comparable<Element> {
     /** A list of at most 4,096 items, which is at most 8 deep. */
     record ListOf(List<Element> items) implements Element {
         public ListOf {
+            items = Copies.of(items, "items");
             if (items.size() > MAX_ITEMS)
                 throw new IllegalArgumentException(
                         "a list of " + items.size() + " items, at most " + MAX_ITEMS);
-            items = List.copyOf(items);
             if (deepest(items) >= MAX_DEPTH)
                 throw Words.isTooDeep();
         }

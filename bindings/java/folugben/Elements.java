@@ -1,11 +1,18 @@
 package folugben;
 
 import java.util.Arrays;
+import java.util.Comparator;
 import java.util.List;
 import java.util.Objects;
 
 /** Elements of plain objects, and the order in which sets, bags and states are written. */
 final class Elements {
+    /**
+     * The order of elements, for sets and maps: who asks these for another object is told so by a
+     * ClassCastException, as their contract has it.
+     */
+    static final Comparator<Object> ORDER = (one, other) -> compare(asked(one), asked(other));
+
     private Elements() {}
 
     /** An element of each. */
@@ -34,6 +41,13 @@ final class Elements {
             return list(items, depth + 1);
         throw new IllegalArgumentException(
                 "no element: " + value + " (" + value.getClass().getName() + ")");
+    }
+
+    private static Element asked(Object object) {
+        if (object instanceof Element element)
+            return element;
+        throw new ClassCastException(
+                object + " is no folugben.Element: ask for Element.of(" + object + ")");
     }
 
     /** Too deep a list is refused on the way down: it may hold itself. */

@@ -232,9 +232,19 @@ public sealed class FolugbenException extends RuntimeException
         return of(RANGE, 0, said, "");
     }
 
-    /** The exception for what is closed. */
-    static FolugbenException closed(String what) {
-        return of(EMPTY, 0, "", what);
+    /** The exception for what is closed, as is said. */
+    static FolugbenException closed(String said) {
+        return of(EMPTY, 0, said, "");
+    }
+
+    /** The exception for a number that an agent has or had. */
+    static FolugbenException numberTaken(int agent) {
+        return of(NUMBER, 0, "agent " + agent, "");
+    }
+
+    /** The exception for a journal that lacks a move, with what is said of the agents. */
+    static FolugbenException missing(int move, String said) {
+        return of(MISSING, move, said, numberName(MISSING) + " " + move);
     }
 
     /** The exception for an argument that isn't one value of JSON. */

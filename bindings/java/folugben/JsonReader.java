@@ -6,7 +6,9 @@ import com.fasterxml.jackson.core.JsonProcessingException;
 import com.fasterxml.jackson.core.JsonToken;
 
 import java.io.IOException;
+import java.io.StringWriter;
 import java.io.UncheckedIOException;
+import java.lang.reflect.Method;
 import java.util.ArrayList;
 import java.util.Collections;
 import java.util.List;
@@ -19,12 +21,35 @@ import java.util.TreeMap;
  * the keys of an object once and in the order in which the storage writes them.
  */
 final class JsonReader {
-    private static final JsonFactory FACTORY = new JsonFactory();
+    private static final JsonFactory FACTORY = unlimited(JsonFactory.builder()).build();
+
+    /** The longest text that getText tells in each version. */
+    private static final int SURE = 20_000_000;
 
     private final JsonParser in;
 
     private JsonReader(JsonParser in) {
         this.in = in;
+    }
+
+    /**
+     * The builder of a factory that reads texts of any length. Jackson from 2.15 on otherwise
+     * refuses those above 20,000,000 characters.
+     */
+    static <T> T unlimited(T builder) {
+        for (Method method : builder.getClass().getMethods())
+            if (method.getName().equals("streamReadConstraints")
+                    && method.getParameterCount() == 1)
+                try {
+                    Class<?> constraints = method.getParameterTypes()[0];
+                    Object limits = constraints.getMethod("builder").invoke(null);
+                    Method most = limits.getClass().getMethod("maxStringLength", int.class);
+                    most.invoke(limits, Integer.MAX_VALUE);
+                    method.invoke(builder, limits.getClass().getMethod("build").invoke(limits));
+                } catch (ReflectiveOperationException error) {
+                    throw new IllegalStateException("a version of Jackson that isn't known", error);
+                }
+        return builder;
     }
 
     /** What is read, which begins at the token on which the parser stands and ends on its last. */
@@ -146,9 +171,18 @@ final class JsonReader {
             case VALUE_NULL -> Element.undef();
             case VALUE_TRUE -> new Element.Bool(true);
             case VALUE_FALSE -> new Element.Bool(false);
-            case VALUE_STRING -> new Element.Text(in.getText());
+            case VALUE_STRING -> new Element.Text(text());
             default -> new Element.Num(number());
         };
+    }
+
+    /** The text of a string. The getText of some distributions has its limit in any case. */
+    private String text() throws IOException {
+        if (in.getTextLength() <= SURE)
+            return in.getText();
+        StringWriter text = new StringWriter(in.getTextLength());
+        in.getText(text);
+        return text.toString();
     }
 
     /** A whole number of 64 bits. */

@@ -37,8 +37,10 @@ final class JsonWriter {
         return text.toString();
     }
 
-    private static <T> String list(Item<? super T> form, Collection<? extends T> items) {
-        return text((writer, all) -> writer.each(form, all), items);
+    /** An exception names the argument that is null, or of which an item is. */
+    private static <T> String list(
+            Item<? super T> form, Collection<? extends T> items, String name) {
+        return text((writer, all) -> writer.each(form, all), Copies.<T>of(items, name));
     }
 
     static String text(Value value) {
@@ -54,25 +56,24 @@ final class JsonWriter {
     }
 
     static String locations(Collection<Location> locations) {
-        return list(JsonWriter::location, Objects.requireNonNull(locations, "locations"));
+        return list(JsonWriter::location, locations, "locations");
     }
 
-    /** The text of a move; an exception names the argument that is null, as of a state. */
     static String move(Collection<? extends Instruction> move, String name) {
-        return list(JsonWriter::instruction, Objects.requireNonNull(move, name));
+        return list(JsonWriter::instruction, move, name);
     }
 
     static String reads(Collection<Named> reads) {
-        return list(JsonWriter::named, Objects.requireNonNull(reads, "reads"));
+        return list(JsonWriter::named, reads, "reads");
     }
 
     static String state(Collection<Pair> pairs, String name) {
-        return list(JsonWriter::pair, Objects.requireNonNull(pairs, name));
+        return list(JsonWriter::pair, pairs, name);
     }
 
     /** The text of a state whose values are such as Value.of takes. */
     static String state(Map<Location, ?> state, String name) {
-        return list(JsonWriter::entry, Objects.requireNonNull(state, name).entrySet());
+        return list(JsonWriter::entry, Objects.requireNonNull(state, name).entrySet(), name);
     }
 
     private <T> void each(Item<? super T> form, Collection<? extends T> items) throws IOException {
@@ -125,7 +126,8 @@ final class JsonWriter {
     }
 
     private void entry(Map.Entry<Location, ?> entry) throws IOException {
-        pair(entry.getKey(), Value.of(entry.getValue()));
+        pair(Objects.requireNonNull(entry.getKey(), "a location is null"),
+                Value.of(entry.getValue()));
     }
 
     private void pair(Location location, Value value) throws IOException {

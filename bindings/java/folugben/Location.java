@@ -20,10 +20,10 @@ public record Location(String name, List<Element> arguments) implements Comparab
         if (!isName(name))
             throw new IllegalArgumentException("a name has 1 to " + MAX_NAME
                     + " letters, digits and _, and begins with no digit");
+        arguments = Copies.of(arguments, "arguments");
         if (arguments.size() > MAX_ARGUMENTS)
             throw new IllegalArgumentException(
                     arguments.size() + " arguments, at most " + MAX_ARGUMENTS);
-        arguments = List.copyOf(arguments);
     }
 
     /**

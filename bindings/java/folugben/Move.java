@@ -15,7 +15,7 @@ import java.util.Objects;
  * try (PreparedLocation count = Location.of("count").prepare(); Move move = new Move()) {
  *     try (Step step = agent.step()) {
  *         step.push(move.clear().put(count, step.getNumber(count) + 1));
- *         if (step.fire().shouldRetry()) ..  // begin another step
+ *         step.fire(); // throws a RetryException where another step is to be begun
  *     }
  * }
  * }</pre>
@@ -33,6 +33,8 @@ public final class Move implements AutoCloseable {
 
     private int size;
     private boolean isClosed;
+    /** Whether a thread was stopped, or out of stack, where it isn't known if it instructed. */
+    boolean isCutOff;
 
     /** A move of no instructions. */
     public Move() {}
@@ -47,9 +49,9 @@ public final class Move implements AutoCloseable {
     /** Drops its instructions. */
     public Move clear() {
         synchronized (slot) {
-            expectOpen();
-            Calls.asm_free(slot.at);
-            size = 0;
+            if (isClosed)
+                throw isClosed();
+            drop();
         }
         return this;
     }
@@ -58,16 +60,28 @@ public final class Move implements AutoCloseable {
     @Override
     public void close() {
         synchronized (slot) {
-            Calls.asm_free(slot.at);
-            size = 0;
             isClosed = true;
+            drop();
         }
+    }
+
+    private void drop() {
+        Calls.asm_free(slot.at);
+        size = 0;
+        isCutOff = false;
     }
 
     /** To be called with its lock. */
     void expectOpen() {
         if (isClosed)
-            throw FolugbenException.closed("move");
+            throw isClosed();
+        if (isCutOff)
+            throw new IllegalStateException(
+                    "a call on the move was cut off, and may have been done: clear the move");
+    }
+
+    private static FolugbenException isClosed() {
+        return FolugbenException.closed("the move was closed");
     }
 
     /** Puts a number. */
@@ -204,10 +218,10 @@ public final class Move implements AutoCloseable {
         synchronized (slot) {
             expectOpen();
             synchronized (at.slot) {
-                at.expect(Calls.asm_instruct(
+                isCutOff = true;
+                took(at, Calls.asm_instruct(
                         slot.at, at.slot.at, verb, kind, number, 0, 0, (int) amount));
             }
-            size++;
         }
         return this;
     }
@@ -218,11 +232,19 @@ public final class Move implements AutoCloseable {
         synchronized (slot) {
             expectOpen();
             synchronized (at.slot) {
-                at.expect(Calls.asm_instruct(slot.at, at.slot.at, verb, Room.STRING, 0, bytes,
+                isCutOff = true;
+                took(at, Calls.asm_instruct(slot.at, at.slot.at, verb, Room.STRING, 0, bytes,
                         bytes.length, (int) amount));
             }
-            size++;
         }
         return this;
+    }
+
+    /** Counts the instruction, if the code says that it was taken. */
+    private void took(PreparedLocation at, int code) {
+        if (code == FolugbenException.DONE)
+            size++;
+        isCutOff = false;
+        at.expect(code);
     }
 }

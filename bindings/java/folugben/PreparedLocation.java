@@ -32,7 +32,7 @@ public final class PreparedLocation implements AutoCloseable {
         if (code == FolugbenException.EMPTY)
             synchronized (slot) {
                 if (!slot.isFull())
-                    throw FolugbenException.closed("location");
+                    throw FolugbenException.closed("the location was closed");
             }
         FolugbenException.expect(code);
     }

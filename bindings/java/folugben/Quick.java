@@ -15,7 +15,7 @@ import java.util.Map;
 final class Quick {
     private static final String NAME = "folugben_quick";
     private static final Object[] NO_WORDS = {};
-    /** Null where it isn't there. It is kept, as JNA unloads a library that nothing has. */
+    /** Null where none of this version is there. It is kept, as JNA unloads what nothing has. */
     private static final NativeLibrary LIBRARY = found();
 
     private Quick() {}
@@ -26,19 +26,32 @@ final class Quick {
 
     private static NativeLibrary found() {
         try {
-            return NativeLibrary.getInstance(NAME,
+            NativeLibrary found = NativeLibrary.getInstance(NAME,
                     Map.of(Library.OPTION_ALLOW_OBJECTS, true, Library.OPTION_CLASSLOADER,
                             Quick.class.getClassLoader()));
+            forget(Quick.class, found.getOptions());
+            // One of another version lies there by chance: JNA calls what these classes call.
+            int version = found.getFunction("folugben_quick_version").invokeInt(NO_WORDS);
+            return version == Calls.WRITTEN_FOR ? found : null;
         } catch (UnsatisfiedLinkError error) {
             return null;
         }
+    }
+
+    /**
+     * Takes the class and its loader, which were for finding the library, out of options that JNA
+     * keeps. Where JNA lies in a parent of this loader, this one can then be let go, once the class
+     * Calls is unregistered, which JNA's own native code has until then.
+     */
+    static void forget(Class<?> own, Map<String, ?> options) {
+        if (options != null)
+            options.values().removeIf(kept -> kept == own || kept == own.getClassLoader());
     }
 
     /** Binds methods of this class, which JNA has bound before, to the calls of the library. */
     static void bind(Class<?> calls, NativeLibrary library) {
         if (!isThere())
             return;
-        Calls.expectVersion(LIBRARY.getFunction("folugben_quick_version").invokeInt(NO_WORDS));
         Function name = LIBRARY.getFunction("folugben_bindable");
         Function bind = LIBRARY.getFunction("folugben_bind");
         for (int index = 0;; index++) {

@@ -5,8 +5,8 @@ import java.util.List;
 /** The values of locations, in the order in which these were passed, after so many moves. */
 public record Reading(int number, List<Location> locations, List<Value> values) {
     public Reading {
-        locations = List.copyOf(locations);
-        values = List.copyOf(values);
+        locations = Copies.of(locations, "locations");
+        values = Copies.of(values, "values");
         if (locations.size() != values.size())
             throw new IllegalArgumentException(
                     locations.size() + " locations have " + values.size() + " values");

@@ -28,7 +28,6 @@ final class Room {
     static final int STRING = 3;
 
     private static final byte[] NO_TEXT = {};
-    private static final int MOST = Integer.MAX_VALUE - 8;
 
     private ByteBuffer bytes;
     private long at;
@@ -42,14 +41,17 @@ final class Room {
     private void reserve(long size) {
         if (size <= bytes.capacity())
             return;
-        if (size > MOST)
-            throw new OutOfMemoryError("texts of " + size + " bytes");
-        take((int) Math.min(MOST, Math.max(size, 2L * bytes.capacity())));
+        if (size > Calls.MOST)
+            throw Calls.tooLong(size);
+        take(Calls.room(Math.max(size, 2L * bytes.capacity())));
     }
 
     private void take(int size) {
-        bytes = ByteBuffer.allocateDirect(size).order(ByteOrder.nativeOrder());
-        at = Pointer.nativeValue(Native.getDirectBufferPointer(bytes));
+        ByteBuffer taken = ByteBuffer.allocateDirect(size).order(ByteOrder.nativeOrder());
+        long address = Pointer.nativeValue(Native.getDirectBufferPointer(taken));
+        // Both or none, also where this thread is stopped.
+        bytes = taken;
+        at = address;
     }
 
     /** A call that is passed a text and writes one. */

@@ -1,5 +1,6 @@
 package folugben;
 
+import java.util.Arrays;
 import java.util.List;
 import java.util.Objects;
 import java.util.SortedMap;
@@ -32,30 +33,37 @@ public final class Step implements AutoCloseable {
     private final Room room;
     private final int number;
 
-    /** The step's slot; null once the step is over, as the agent then has it for another. */
-    private Slot slot;
+    /** The step's slot, until the step is over: the agent then has it for another. */
+    private final AgentSlot.StepSlot slot;
 
     /** To be called with the agent's lock, as all that uses the slot. */
     Step(Agent agent) {
         this.agent = agent;
         room = agent.slot.room;
-        slot = agent.slot.takeStep();
-        int code = Calls.asm_begin(agent.slot.at, slot.at, room.numbers());
-        if (code != FolugbenException.DONE)
-            end();
-        FolugbenException.expect(code);
-        number = room.number(0);
+        slot = agent.slot.takeStep(this);
+        boolean isBegun = false;
+        try {
+            agent.expect(Calls.asm_begin(agent.slot.at, slot.at, room.numbers()));
+            number = room.number(0);
+            isBegun = true;
+        } finally {
+            if (!isBegun)
+                close();
+        }
     }
 
     private void end() {
-        agent.slot.giveStep(slot);
-        slot = null;
+        agent.slot.giveStep(slot, this);
+    }
+
+    private boolean isOver() {
+        return !slot.isOf(this) || !slot.isFull();
     }
 
     /** The slot of a step that isn't over. */
     private Slot slot() {
-        if (slot == null)
-            FolugbenException.expect(FolugbenException.EMPTY);
+        if (isOver())
+            throw FolugbenException.closed("the step is over: it was fired or closed");
         return slot;
     }
 
@@ -73,10 +81,12 @@ public final class Step implements AutoCloseable {
     private Calls.Told told(Call call, byte[] text) {
         synchronized (agent.slot) {
             long step = slot().at;
-            return room.told(text,
+            Calls.Told told = room.told(text,
                     (at, out, length, written)
                             -> call.call(
                                     agent.slot.at, step, at, text.length, out, length, written));
+            agent.held(told.code());
+            return told;
         }
     }
 
@@ -103,12 +113,13 @@ public final class Step implements AutoCloseable {
      *         than 256 would be got
      */
     public List<Value> get(List<Location> locations) {
-        return JsonReader.reading(get(JsonWriter.locations(locations)), locations).values();
+        List<Location> copy = Copies.of(locations, "locations");
+        return JsonReader.reading(get(JsonWriter.locations(copy)), copy).values();
     }
 
     /** The same of one location. */
     public Value get(Location location) {
-        return get(List.of(location)).get(0);
+        return get(List.of(Objects.requireNonNull(location, "location"))).get(0);
     }
 
     /**
@@ -166,10 +177,10 @@ public final class Step implements AutoCloseable {
         Objects.requireNonNull(location, "location");
         long step = slot().at;
         synchronized (location.slot) {
-            location.expect(room.make(
+            location.expect(agent.held(room.make(
                     (text, out, length, written)
                             -> Calls.asm_get_at(agent.slot.at, step, location.slot.at,
-                                    room.value(), out, length, written)));
+                                    room.value(), out, length, written))));
         }
     }
 
@@ -215,7 +226,7 @@ public final class Step implements AutoCloseable {
 
     /** The same of a move of these instructions. */
     public void push(Instruction... move) {
-        push(List.of(move));
+        push(Arrays.asList(Objects.requireNonNull(move, "move")));
     }
 
     /**
@@ -248,7 +259,7 @@ public final class Step implements AutoCloseable {
 
     /** The same of a move of these instructions. */
     public void extend(Instruction... move) {
-        extend(List.of(move));
+        extend(Arrays.asList(Objects.requireNonNull(move, "move")));
     }
 
     /**
@@ -271,7 +282,7 @@ public final class Step implements AutoCloseable {
         int call(long agent, long step, long move, long out, long room, long written);
     }
 
-    /** Of no instructions there is no move in a slot: their text is pushed. */
+    /** A slot holds no move of no instructions: their text is pushed. */
     private void grow(MoveCall call, Call textCall, Move move) {
         Objects.requireNonNull(move, "move");
         Calls.Told told;
@@ -279,12 +290,13 @@ public final class Step implements AutoCloseable {
             long step = slot().at;
             synchronized (move.slot) {
                 move.expectOpen();
-                told = move.size() == 0
-                        ? told(textCall, NO_INSTRUCTIONS)
-                        : room.told((text, out, length, written)
+                told = move.slot.isFull()
+                        ? room.told((text, out, length, written)
                                             -> call.call(agent.slot.at, step, move.slot.at, out,
-                                                    length, written));
+                                                    length, written))
+                        : told(textCall, NO_INSTRUCTIONS);
             }
+            agent.held(told.code());
         }
         FolugbenException.expectNoObjection(told);
         FolugbenException.expect(told.code());
@@ -304,7 +316,7 @@ public final class Step implements AutoCloseable {
     /** How many moves are pushed, at most 64. */
     public int depth() {
         synchronized (agent.slot) {
-            return slot == null ? 0 : Calls.asm_depth(slot.at);
+            return isOver() ? 0 : Calls.asm_depth(slot.at);
         }
     }
 
@@ -348,7 +360,7 @@ public final class Step implements AutoCloseable {
     @Override
     public void close() {
         synchronized (agent.slot) {
-            if (slot != null) {
+            if (slot.isOf(this)) {
                 Calls.asm_free(slot.at);
                 end();
             }

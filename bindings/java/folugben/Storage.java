@@ -4,6 +4,7 @@ import java.io.IOException;
 import java.io.UncheckedIOException;
 import java.nio.file.Files;
 import java.nio.file.Path;
+import java.util.ArrayList;
 import java.util.List;
 import java.util.Map;
 import java.util.Objects;
@@ -25,6 +26,9 @@ public final class Storage implements AutoCloseable {
 
     /** Where the journal is written when it is closed; null for nowhere. */
     private final Path path;
+
+    /** Those that were made and not given back, by their numbers; with the lock of the slot. */
+    private final Agent[] agents = new Agent[AGENTS];
 
     private Storage(Path path) {
         this.path = path;
@@ -87,20 +91,31 @@ public final class Storage implements AutoCloseable {
     public Agent agent(int number) {
         if (number < 0 || number >= AGENTS)
             throw FolugbenException.outOfRange("agent " + number + ": numbers are 0 to 255");
-        Agent agent = new Agent(this);
+        Agent agent = new Agent(this, number);
         synchronized (slot) {
             synchronized (agent.slot) {
-                FolugbenException.expect(Calls.asm_agent(slot.at, number, agent.slot.at));
+                int code = Calls.asm_agent(slot.at, number, agent.slot.at);
+                if (code == FolugbenException.NUMBER)
+                    throw FolugbenException.numberTaken(number);
+                expect(code);
             }
+            agents[number] = agent;
         }
         return agent;
+    }
+
+    /** What is expected of the code of a call on it, with its lock. */
+    private void expect(int code) {
+        if (code == FolugbenException.EMPTY && !slot.isFull())
+            throw FolugbenException.closed("the storage was closed");
+        FolugbenException.expect(code);
     }
 
     /** How many moves were fired on it. */
     public int moves() {
         int[] moves = new int[1];
         synchronized (slot) {
-            FolugbenException.expect(Calls.asm_moves(slot.at, moves));
+            expect(Calls.asm_moves(slot.at, moves));
         }
         return moves[0];
     }
@@ -112,9 +127,18 @@ public final class Storage implements AutoCloseable {
             FolugbenException.expect(FolugbenException.OTHER);
         synchronized (slot) {
             synchronized (agent.slot) {
-                FolugbenException.expect(Calls.asm_give(slot.at, agent.slot.at));
+                take(agent);
             }
         }
+    }
+
+    private void take(Agent agent) {
+        int code = Calls.asm_give(slot.at, agent.slot.at);
+        if (slot.isFull())
+            agent.expect(code);
+        else
+            expect(code);
+        agents[agent.number()] = null;
     }
 
     /** Takes the agent back, if it is there and this isn't closed; whether this isn't closed. */
@@ -122,7 +146,7 @@ public final class Storage implements AutoCloseable {
         synchronized (slot) {
             synchronized (agent.slot) {
                 if (slot.isFull() && agent.slot.isFull())
-                    FolugbenException.expect(Calls.asm_give(slot.at, agent.slot.at));
+                    take(agent);
                 return slot.isFull();
             }
         }
@@ -135,11 +159,30 @@ public final class Storage implements AutoCloseable {
     public String closeJournal() {
         int[] missing = new int[1];
         synchronized (slot) {
-            FolugbenException.expect(Calls.asm_close(slot.at, missing), missing[0]);
+            int code = Calls.asm_close(slot.at, missing);
+            if (code == FolugbenException.MISSING)
+                throw FolugbenException.missing(missing[0], whoIsOut());
+            expect(code);
             return Calls.text((out, room, written)
                                       -> Calls.asm_journal(slot.at, out, room, written),
                     Calls.ROOM);
         }
+    }
+
+    /** Which agents that fired have to be given back, with the lock of the slot. */
+    private String whoIsOut() {
+        List<String> numbers = new ArrayList<>();
+        for (Agent agent : agents)
+            if (agent != null)
+                synchronized (agent.slot) {
+                    if (agent.slot.isFull() && Calls.asm_won(agent.slot.at) > 0)
+                        numbers.add("" + agent.number());
+                }
+        if (numbers.isEmpty())
+            return "an agent was abandoned";
+        boolean isOne = numbers.size() == 1;
+        return (isOne ? "agent " : "agents ") + String.join(", ", numbers)
+                + (isOne ? " was" : " were") + " not given back";
     }
 
     /**
@@ -162,7 +205,7 @@ public final class Storage implements AutoCloseable {
         expectCapacity(capacity);
         synchronized (slot) {
             synchronized (next.slot) {
-                FolugbenException.expect(Calls.asm_next(slot.at, capacity, next.slot.at));
+                expect(Calls.asm_next(slot.at, capacity, next.slot.at));
             }
         }
         return next;
@@ -216,7 +259,7 @@ public final class Storage implements AutoCloseable {
             if (code != FolugbenException.SMALL)
                 FolugbenException.expectJournal(code, text, line[0]);
             return code;
-        }, times * text.length);
+        }, Calls.room((long) times * text.length));
     }
 
     /** The state [PAIR, ..] that the moves of a journal leave. */

@@ -27,8 +27,8 @@ public sealed interface Value permits Element, Value.SetOf, Value.BagOf {
     /** A set, whose elements are kept in ascending order. */
     record SetOf(Set<Element> elements) implements Value {
         public SetOf {
-            SortedSet<Element> kept = new TreeSet<>();
-            kept.addAll(Objects.requireNonNull(elements, "elements"));
+            SortedSet<Element> kept = new TreeSet<>(Elements.ORDER);
+            kept.addAll(Copies.of(elements, "elements"));
             elements = Collections.unmodifiableSortedSet(kept);
         }
 
@@ -41,7 +41,7 @@ public sealed interface Value permits Element, Value.SetOf, Value.BagOf {
     /** A bag: how often each element is there, 1 to 4294967295 times, in ascending order. */
     record BagOf(Map<Element, Long> counts) implements Value {
         public BagOf {
-            SortedMap<Element, Long> kept = new TreeMap<>();
+            SortedMap<Element, Long> kept = new TreeMap<>(Elements.ORDER);
             Objects.requireNonNull(counts, "counts")
                     .forEach((element, count) -> kept.put(element, inRange(count)));
             counts = Collections.unmodifiableSortedMap(kept);
@@ -93,7 +93,7 @@ public sealed interface Value permits Element, Value.SetOf, Value.BagOf {
     }
 
     private static Value setOf(Collection<?> elements) {
-        SortedSet<Element> kept = new TreeSet<>();
+        SortedSet<Element> kept = new TreeSet<>(Elements.ORDER);
         for (Object element : elements)
             if (!kept.add(Element.of(element)))
                 throw Words.isTwice("set", element);
@@ -108,7 +108,7 @@ public sealed interface Value permits Element, Value.SetOf, Value.BagOf {
      *         an element stands twice, as 1 and 1L are one; or as Element.of
      */
     static Value bag(Map<?, ?> counts) {
-        SortedMap<Element, Long> kept = new TreeMap<>();
+        SortedMap<Element, Long> kept = new TreeMap<>(Elements.ORDER);
         counts.forEach((key, count) -> {
             if (!(count instanceof Integer || count instanceof Long))
                 throw new IllegalArgumentException("a count is an Integer or a Long: " + count);
@@ -174,6 +174,20 @@ public sealed interface Value permits Element, Value.SetOf, Value.BagOf {
         if (this instanceof SetOf set)
             return set.elements();
         throw Words.isNo("set", this);
+    }
+
+    /**
+     * Whether the set or the bag has the element, as {@link Element#of} takes it. The set that asSet
+     * tells has Elements, and answers by a ClassCastException where it is asked for an Integer.
+     *
+     * @throws IllegalArgumentException as Element.of
+     */
+    default boolean has(Object element) {
+        if (this instanceof SetOf set)
+            return set.elements().contains(Element.of(element));
+        if (this instanceof BagOf bag)
+            return bag.counts().containsKey(Element.of(element));
+        throw Words.isNo("set or bag", this);
     }
 
     /** The elements of the bag with their counts, in ascending order. */

@@ -262,11 +262,11 @@ final class PlainTests {
             Step next = agent.step();
             x.close();
             x.close();
-            String told = FolugbenException.errorText(FolugbenException.EMPTY) + " (";
+            String told = FolugbenException.errorText(FolugbenException.EMPTY) + ": the ";
             for (Runnable call : List.<Runnable>of(() -> next.get(x), () -> next.getNumber(x),
                          () -> agent.peek(x), () -> agent.peekNumber(x), () -> move.put(x, 1),
                          () -> move.put(x, "text")))
-                equal(refused(FolugbenException.EMPTY, call).getMessage(), told + "location)");
+                equal(refused(FolugbenException.EMPTY, call).getMessage(), told + "location was closed");
             next.push(move);
             equal(next.get(X), Element.of(5));
             move.close();
@@ -274,7 +274,7 @@ final class PlainTests {
             try (PreparedLocation y = Location.of("y").prepare()) {
                 for (Runnable call : List.<Runnable>of(() -> next.push(move),
                              () -> next.extend(move), () -> move.put(y, 1), move::clear))
-                    equal(refused(FolugbenException.EMPTY, call).getMessage(), told + "move)");
+                    equal(refused(FolugbenException.EMPTY, call).getMessage(), told + "move was closed");
                 equal(move.size(), 0);
                 equal(next.depth(), 1);
                 agent.give();

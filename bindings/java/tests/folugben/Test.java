@@ -89,10 +89,10 @@ public final class Test {
                 lost.abandon();
             }
             equal(storage.moves(), 1);
-            refusedAt(FolugbenException.MISSING, 1, " (move 1)", storage::closeJournal);
+            refusedAt(FolugbenException.MISSING, 1, ": an agent was abandoned (move 1)", storage::closeJournal);
             reader.read("[]");
             reader.give();
-            refusedAt(FolugbenException.MISSING, 1, " (move 1)", storage::closeJournal);
+            refusedAt(FolugbenException.MISSING, 1, ": an agent was abandoned (move 1)", storage::closeJournal);
         }
     }
 
@@ -223,5 +223,6 @@ public final class Test {
         KindTests.all();
         PlainTests.all();
         ScopeTests.all();
+        OddTests.all();
     }
 }
