@@ -36,7 +36,9 @@ good. A `with` gives its agent back. The error of a refused text says where and 
 
 Signal handlers and finalizers should call none of these: where one interrupts a call of its own thread, on whichever of
 them, its calls raise `Nested` and do nothing. A handler does better to set a flag. An exception that it lets through ends
-the call which it interrupted, though the library may have answered that one: `Agent.answer` tells.
+the call which it interrupted, though the library may have answered that one: `Agent.answer` tells, and of a step `fired`. An
+instruction that was ended so isn't in its `Move`, and can be made again. A trace function that raises at the end of one of
+Python's `with`s leaves the lock held, which here is that of an agent or a storage; its own thread goes on.
 
 The storage tells true from 1 and false from 0, but in Python True == 1 and False == 0, and equal keys are one. So don't
 hold elements in Python's sets or as keys of its dicts: {True, 1} has one item, while {"set": [True, 1]}, as a set is written

@@ -6,7 +6,7 @@ from types import TracebackType
 from typing import TYPE_CHECKING, Any, TypeVar, overload
 
 from ._errors import READS, Busy, Error, ahead, expect, expect_part, expect_read, refusal
-from ._held import Held, here, marked, nested, one_call
+from ._held import Held, expect_over, here, is_in_call, marked, one_call, own_call
 from ._library import BUSY, CLASH, DONE, EMPTY, LOCATIONS, MOVE, NUMBER, OTHER, RANGE, SMALL, STALE
 from ._library import Buffer, Numbers, Slot, lib, quick
 from ._location import Location
@@ -107,7 +107,7 @@ class Agent(Held):
 
     def read(self, places: Sequence[Form]) -> tuple[int, list[Any]]:
         """The number of moves, and the values of the locations after them; at most 256 locations, else `Many`."""
-        return self._read(encoded(places))
+        return self._read(encoded(places, "places"))
 
     @one_call
     def _read(self, call: bytes) -> tuple[int, list[Any]]:
@@ -127,7 +127,7 @@ class Agent(Held):
         above that of the moves that it has seen guards nothing, and is an `Error` with the code RANGE, which says of which
         location. After `Storage.next` numbers begin anew: keep none.
         """
-        return self._fire(encoded({"fire": instructions, "reads": list(reads)}))
+        return self._fire(b'{"fire":%b,"reads":%b}' % (encoded(instructions, "instructions"), encoded(list(reads), "reads")))
 
     @one_call
     def _fire(self, call: bytes) -> int:
@@ -194,10 +194,14 @@ class Agent(Held):
         Of a `Location` it is the value alone.
         """
         if not isinstance(places, Location):
-            return self._peek(encoded(places))
+            return self._peek(encoded(places, "places"))
+        return self._peek_at(places)
+
+    @own_call
+    def _peek_at(self, places: Location) -> tuple[int, Any]:
         mark = here.mark or marked()
         if mark.in_call:
-            raise nested()
+            expect_over(mark)
         try:
             mark.in_call = True
             with self._lock, places._lock:
@@ -254,7 +258,7 @@ class Agent(Held):
         The reads are pairs of a location and a number, at most 256, else `Many`; a number is refused as by `fire`. A fire
         that names them may still be stale, by a move that comes in between.
         """
-        return self._stands(encoded(list(reads)))
+        return self._stands(encoded(list(reads), "reads"))
 
     @one_call
     def _stands(self, reads: bytes) -> list[Any] | None:
@@ -299,7 +303,7 @@ class Agent(Held):
         self.free()
 
     def __exit__(self, kind: type[BaseException] | None, error: BaseException | None, traced: TracebackType | None) -> None:
-        if (here.mark or marked()).in_call:
+        if is_in_call():
             # A finalizer ends a `with` in the midst of another call: what can't be done now is done by the storage's next call.
             self._storage._left.append(self)
         else:

@@ -1,10 +1,14 @@
 """The exceptions of calls that weren't answered, or whose move wasn't fired or pushed."""
 import json
+import operator
 from collections.abc import Iterable
-from typing import Any
+from typing import Any, TypeAlias
 
 from ._library import BUSY, CLASH, DEEP, DONE, FULL, ILLEGAL, LARGE, MANY, MEMORY, MISSING, MOVE, MOVED
 from ._library import NOT_JSON, RANGE, SHAPE, STALE, Buffer, lib
+
+# A text in UTF-8, or as Python has it.
+Text: TypeAlias = bytes | bytearray | memoryview | str
 
 # What the numbers of an error mean, for the codes that have some.
 NUMBERS = {
@@ -22,6 +26,7 @@ READS = b'{"fire":[],"reads":%b}'
 
 def error_text(code: int) -> str:
     """What a code means, in a line."""
+    code = int.__index__(operator.index(code))
     # ctypes would take 2**32 for 0.
     code = code if -(2**31) <= code < 2**31 else -1
     return Buffer().text(lib.asm_error_text, code)[1].decode()
@@ -149,8 +154,21 @@ def ahead(reads: Iterable[Any], seen: int) -> Error:
     return Error(RANGE)
 
 
-def explain(form: int, text: bytes) -> str:
+def exact(text: Text, name: str) -> bytes:
+    """The bytes of a text, whatever a subclass tells of its own length and of its encoding."""
+    if isinstance(text, str):
+        try:
+            return str.encode(text)
+        except UnicodeEncodeError as error:
+            raise Error(SHAPE, said=f"{name} has {text[error.start]!r} at {error.start}, which isn't Unicode") from None
+    if isinstance(text, (bytes, bytearray, memoryview)):
+        return b"".join((text,))
+    raise TypeError(f"{name} is bytes or a str, and not {type(text).__name__!r}")
+
+
+def explain(form: int, text: Text) -> str:
     """Where and why a text isn't of a form, LOCATIONS, MOVE, STATE, EVENT or SCRIPT; empty for a text that is."""
+    form, text = int.__index__(operator.index(form)), exact(text, "a text")
     if not 0 <= form < 2**31:
         raise Error(RANGE)
     code, said = Buffer().text(lib.asm_explain, form, text, len(text))
@@ -158,10 +176,26 @@ def explain(form: int, text: bytes) -> str:
     return said.decode()
 
 
+def refused_number(text: bytes) -> str:
+    """Where in a text the first number is that is none of 64 bits, as [0][2]["set"][1]; empty where there is none."""
+
+    def found(value: Any, path: str) -> str:
+        if isinstance(value, float) or isinstance(value, int) and not -(2**63) <= value < 2**63:
+            return f"{path} is {value}"
+        inner = value.items() if isinstance(value, dict) else enumerate(value) if isinstance(value, list) else ()
+        return next((told for key, it in inner if (told := found(it, f"{path}[{json.dumps(key)}]"))), "")
+
+    told = found(json.loads(text), "")
+    return told.replace('["fire"]', "instructions", 1).replace('["reads"]', "reads", 1)
+
+
 def expect_read(code: int, form: int, text: bytes) -> None:
     """Raises what the code of a call says that was passed a text of this form, unless it is DONE."""
     if code in (NOT_JSON, SHAPE):
-        expect(code, said=explain(form, text))
+        said = explain(form, text)
+        if " is whole, from " in said and (at := refused_number(text)):
+            said += f", and {at}"
+        expect(code, said=said)
     expect(code)
 
 

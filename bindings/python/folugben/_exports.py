@@ -16,7 +16,7 @@ PAGES = [pathlib.Path(__file__).with_name("run.html"), pathlib.Path(__file__).pa
 
 
 def _text(value: Any) -> str:
-    return encoded(value).decode()
+    return encoded(value, "value").decode()
 
 
 def write_csv(journal: bytes, out: TextIO) -> None:

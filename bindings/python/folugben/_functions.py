@@ -3,9 +3,9 @@ import ctypes
 from collections.abc import Iterable, Iterator, Sequence
 from typing import Any
 
-from ._errors import INSTRUCTIONS, BadJournal, expect, expect_part, expect_read, explain, refusal
+from ._errors import INSTRUCTIONS, BadJournal, Text, exact, expect, expect_part, expect_read, explain, refusal
 from ._library import CLASH, EVENT, LARGE, MOVE, NOT_JSON, SHAPE, STATE, Buffer, lib
-from ._texts import Form, decoded, encoded, utf_8
+from ._texts import Form, decoded, encoded
 
 
 def version() -> int:
@@ -21,16 +21,11 @@ def _expect_journal(code: int, journal: bytes, number: int) -> None:
     expect(code, BadJournal, (number,), said)
 
 
-def _bytes(journal: bytes | str) -> bytes:
-    if isinstance(journal, str):
-        return utf_8(journal)
-    if isinstance(journal, (bytes, bytearray, memoryview)):
-        # A subclass may tell another length.
-        return bytes(journal)
-    raise TypeError(f"a journal is bytes or a str, and not {type(journal).__name__!r}")
+def _bytes(journal: Text) -> bytes:
+    return exact(journal, "a journal")
 
 
-def check(journal: bytes | str) -> tuple[int, int]:
+def check(journal: Text) -> tuple[int, int]:
     """The numbers of calls and of moves of a journal that is legal. `BadJournal` where it isn't, or is none."""
     journal = _bytes(journal)
     calls, moves = ctypes.c_uint64(), ctypes.c_uint32()
@@ -39,7 +34,7 @@ def check(journal: bytes | str) -> tuple[int, int]:
     return calls.value, moves.value
 
 
-def replay(journal: bytes | str) -> list[Any]:
+def replay(journal: Text) -> list[Any]:
     """The state that the moves of a journal leave, as a list of pairs."""
     journal = _bytes(journal)
     line = ctypes.c_uint64()
@@ -50,7 +45,7 @@ def replay(journal: bytes | str) -> list[Any]:
     return pairs
 
 
-def trace(journal: bytes | str) -> Iterator[dict[str, Any]]:
+def trace(journal: Text) -> Iterator[dict[str, Any]]:
     """What each call of a journal did, whether it is legal or not: the objects of its trace, the header first.
 
     An event has `right` where a storage of one thread gives another answer, and `updates` where its move was fired: the page
@@ -70,7 +65,7 @@ def aggregate(state: Iterable[Form], instructions: Sequence[Form]) -> list[Any]:
     The value None leaves a location empty. The state, a list of pairs, needs the locations of partial updates alone. `Clash`
     where the updates clash, with the least location that does.
     """
-    old, move = encoded(list(state)), encoded(instructions)
+    old, move = encoded(list(state), "state"), encoded(instructions, "instructions")
     code, told = Buffer().text(lib.asm_aggregate, old, len(old), move, len(move))
     # The code is that of the state where that is at fault.
     if code in (NOT_JSON, SHAPE) and explain(STATE, old):
@@ -84,7 +79,7 @@ def compose(first: Sequence[Form], second: Sequence[Form]) -> list[Any]:
     `Clash` and `Large` where on no state both fire: updates clash, or an amount or a sum of increments is too large. `Many`
     where it would have more than 4,096 instructions.
     """
-    one, two = encoded(first), encoded(second)
+    one, two = encoded(first, "first"), encoded(second, "second")
     code, told = Buffer().text(lib.asm_compose, one, len(one), two, len(two))
     if code in (NOT_JSON, SHAPE) and explain(MOVE, INSTRUCTIONS % one):
         expect_part(code, INSTRUCTIONS, one)

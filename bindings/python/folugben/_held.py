@@ -2,11 +2,12 @@
 import ctypes
 import functools
 import os
+import sys
 import threading
 import weakref
 from collections.abc import Callable
 from contextlib import AbstractContextManager
-from types import TracebackType
+from types import CodeType, FrameType, TracebackType
 from typing import Any, NoReturn, ParamSpec, Self, TypeVar
 
 from ._library import Slot, lib
@@ -76,9 +77,38 @@ def marked() -> Mark:
     return mark
 
 
-def nested() -> Nested:
-    """What a call in the midst of another one raises."""
-    return Nested("this thread is in another call, which a signal handler or a finalizer has interrupted")
+# The code of the methods that are one call, by which one that is under way is found.
+_CALLS: set[CodeType] = set()
+
+
+def own_call(method: Callable[_P, _R]) -> Callable[_P, _R]:
+    """A method that is one call by lines of its own, as those of `one_call`."""
+    _CALLS.add(method.__code__)
+    return method
+
+
+def is_under_way(mark: Mark, depth: int = 1) -> bool:
+    """Whether a marked thread is in a call at so many frames above this one, or only was: what a trace function raises at the
+    last line of a call leaves the mark, which is then taken back here."""
+    frame: FrameType | None = sys._getframe(depth + 1)
+    while frame is not None:
+        if frame.f_code in _CALLS:
+            return True
+        frame = frame.f_back
+    mark.in_call = False
+    return False
+
+
+def expect_over(mark: Mark) -> None:
+    """Raises `Nested` in the midst of another call; the method that asks is one itself."""
+    if is_under_way(mark, 2):
+        raise Nested("this thread is in another call, which a signal handler or a finalizer has interrupted")
+
+
+def is_in_call() -> bool:
+    """Whether this thread is in a call; the method that asks is none itself."""
+    mark = here.mark or marked()
+    return mark.in_call and is_under_way(mark)
 
 
 def one_call(method: Callable[_P, _R]) -> Callable[_P, _R]:
@@ -93,7 +123,7 @@ def one_call(method: Callable[_P, _R]) -> Callable[_P, _R]:
     def call(*arguments: _P.args, **named: _P.kwargs) -> _R:
         mark = here.mark or marked()
         if mark.in_call:
-            raise nested()
+            expect_over(mark)
         # A handler may raise at any step, so the mark is set where it is sure to be taken back.
         try:
             mark.in_call = True
@@ -101,6 +131,7 @@ def one_call(method: Callable[_P, _R]) -> Callable[_P, _R]:
         finally:
             mark.in_call = False
 
+    _CALLS.add(call.__code__)
     return call
 
 

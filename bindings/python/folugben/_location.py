@@ -16,7 +16,7 @@ class Location(Held):
 
     def __init__(self, place: Form) -> None:
         super().__init__()
-        self._text = text = encoded(place)
+        self._text = text = encoded(place, "place")
         code = lib.asm_location(text, len(text), self._slot)
         if code in (NOT_JSON, SHAPE):
             # Where it isn't JSON, the byte is told, counted from its own beginning.

@@ -1,16 +1,19 @@
 """Moves that are gathered."""
 import ctypes
+import operator
 from typing import Self
 
-from ._errors import Error
-from ._held import Held, here, marked, nested, one_call
-from ._library import ADD, BAGADD, BAGREMOVE, BOOL, DONE, EMPTY, INC, NUM, PUT, RANGE, REMOVE, TEXT, UNDEF, quick
+from ._errors import Error, expect
+from ._held import Held, expect_over, here, marked, one_call, own_call
+from ._library import ADD, BAGADD, BAGREMOVE, BOOL, DONE, EMPTY, INC, NUM, PUT, RANGE, REMOVE, TEXT, UNDEF, Slot, lib, quick
 from ._location import Location
 from ._texts import utf_8
 
 # What an instruction takes: undef, a truth, a number or a text.
 Plain = bool | int | str | None
 LEAST, MOST = -(2**63), 2**63 - 1
+# The text of its location, its verb, and the kind, the number, the text and the amount of what it takes.
+_Instruction = tuple[bytes, int, int, int, bytes, int]
 
 
 class Move(Held):
@@ -25,17 +28,19 @@ class Move(Held):
 
     def __init__(self) -> None:
         super().__init__()
-        self._size, self._is_freed = 0, False
+        # Its instructions, and whether the slot is known to have these: a signal may end a call that the library has done.
+        self._told: list[_Instruction] = []
+        self._is_whole, self._is_freed = True, False
         self._number, self._length = ctypes.c_int64(), ctypes.c_size_t()
 
     def __len__(self) -> int:
-        return self._size
+        return len(self._told)
 
     def __bool__(self) -> bool:
         return True
 
     def __repr__(self) -> str:
-        return "<Move, freed>" if self._is_freed else f"<Move of {self._size} instructions>"
+        return "<Move, freed>" if self._is_freed else f"<Move of {len(self._told)} instructions>"
 
     def put(self, at: Location, value: Plain) -> Self:
         """Puts a value; None leaves the location empty."""
@@ -61,31 +66,59 @@ class Move(Held):
         """Raises a number, by 0 or less too."""
         return self._instruct(at, INC, by)
 
+    @own_call
     def _instruct(self, at: Location, verb: int, value: Plain, amount: int = 0) -> Self:
         if type(at) is not Location:
             raise TypeError(f"a gathered instruction is at a Location, as Location(['n']), and not at {type(at).__name__!r}")
         kind, number, text = operand(value)
+        own: _Instruction = (at._text, verb, kind, number, text, amount)
         mark = here.mark or marked()
         if mark.in_call:
-            raise nested()
+            expect_over(mark)
         try:
-            mark.in_call = True
-            with self._lock, at._lock:
-                self._expect_held()
-                self._number.value, self._length.value = number, len(text)
-                code = quick.asm_instruct(self._at, at._at, verb, kind, self._number, text, self._length, amount)
-                if code != DONE:
-                    at._expect_on(code)
-                self._size += 1
-        finally:
-            mark.in_call = False
-        return self
+            try:
+                mark.in_call = True
+                with self._lock, at._lock:
+                    self._expect_held()
+                    self._number.value, self._length.value = number, len(text)
+                    self._is_whole = False
+                    code = quick.asm_instruct(self._at, at._at, verb, kind, self._number, text, self._length, amount)
+                    if code == DONE:
+                        self._told.append(own)
+                    self._is_whole = True
+                    if code != DONE:
+                        at._expect_on(code)
+                return self
+            finally:
+                mark.in_call = False
+        except BaseException:
+            self._take_back(own)
+            raise
+
+    def _take_back(self, own: _Instruction) -> None:
+        """A call that raises has added nothing, so that it can be made again."""
+        left = [it for it in self._told if it is not own]
+        if len(left) < len(self._told):
+            self._told, self._is_whole = left, False
+
+    def _mend(self) -> None:
+        """Has the slot have the instructions that it is told to have, by the texts of their locations."""
+        quick.asm_free(self._at)
+        for place, verb, kind, number, text, amount in self._told:
+            slot = Slot()
+            try:
+                expect(lib.asm_location(place, len(place), slot))
+                words = ctypes.c_int64(number), text, ctypes.c_size_t(len(text)), amount
+                expect(quick.asm_instruct(self._at, ctypes.byref(slot), verb, kind, *words))
+            finally:
+                lib.asm_free(slot)
+        self._is_whole = True
 
     @one_call
     def clear(self) -> Self:
         """Drops its instructions."""
         with self._lock:
-            self._expect_held()
+            self._expect_open()
             self._drop()
         return self
 
@@ -97,15 +130,21 @@ class Move(Held):
             self._is_freed = True
 
     def _drop(self) -> None:
+        self._told, self._is_whole = [], False
         quick.asm_free(self._at)
-        self._size = 0
+        self._is_whole = True
 
     def _is_full(self) -> bool:
         """Whether it has instructions."""
         self._expect_held()
-        return self._size > 0
+        return len(self._told) > 0
 
     def _expect_held(self) -> None:
+        self._expect_open()
+        if not self._is_whole:
+            self._mend()
+
+    def _expect_open(self) -> None:
         if self._is_freed:
             raise Error(EMPTY, said="the move was freed")
 
@@ -132,7 +171,7 @@ def operand(value: Plain) -> tuple[int, int, bytes]:
 
 def amount_of(amount: int) -> int:
     """The amount, which ctypes would cut to 32 bits."""
-    amount = int.__index__(amount)
+    amount = int.__index__(operator.index(amount))
     if not 1 <= amount < 2**32:
         raise Error(RANGE, said=f"an amount is 1 to {2**32 - 1:,}, not {amount}")
     return amount

@@ -5,6 +5,7 @@ from collections.abc import Callable, Iterator, Sequence
 from typing import Any, TypeVar
 
 from ._agent import Agent
+from ._errors import Text
 from ._functions import trace
 from ._held import here
 from ._texts import encoded
@@ -27,24 +28,24 @@ def _changed(old: Any, change: list[Any]) -> Any:
         return change[2]
     told = change[1]
     if "counts" in told:
-        counts = {encoded(element): [element, count] for element, count in old["bag"]}
+        counts = {encoded(element, "element"): [element, count] for element, count in old["bag"]}
         for element, _, count in told["counts"]:
-            counts[encoded(element)] = [element, count]
+            counts[encoded(element, "element")] = [element, count]
         return {"bag": sorted((it for it in counts.values() if it[1]), key=lambda it: _ordered(it[0]))}
-    members = {encoded(element): element for element in old["set"] + told["added"]}
+    members = {encoded(element, "element"): element for element in old["set"] + told["added"]}
     for element in told["removed"]:
-        members.pop(encoded(element), None)
+        members.pop(encoded(element, "element"), None)
     return {"set": sorted(members.values(), key=_ordered)}
 
 
-def states(journal: bytes | str) -> Iterator[tuple[int, dict[str, Any]]]:
+def states(journal: Text) -> Iterator[tuple[int, dict[str, Any]]]:
     """The number and the values of each state of the run that a journal tells, the opening state first, as number 0.
 
     The values are those of the locations that hold one, by the location's JSON, such as '["count"]'; it is one dict, which
     each further move changes: copy what you keep. `BadJournal` where it is no journal.
     """
     lines = trace(journal)
-    values = {encoded(at).decode(): value for at, value in next(lines)["init"] if value is not None}
+    values = {encoded(at, "at").decode(): value for at, value in next(lines)["init"] if value is not None}
     yield 0, values
     number = 0
     for event in lines:
@@ -52,7 +53,7 @@ def states(journal: bytes | str) -> Iterator[tuple[int, dict[str, Any]]]:
             continue
         number += 1
         for change in event["updates"]:
-            at = encoded(change[0]).decode()
+            at = encoded(change[0], "at").decode()
             value = _changed(values.get(at), change)
             if value is None:
                 values.pop(at, None)

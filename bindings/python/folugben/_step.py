@@ -6,7 +6,7 @@ from types import TracebackType
 from typing import TYPE_CHECKING, Any, overload
 
 from ._errors import INSTRUCTIONS, Over, expect, expect_part, expect_read, refusal
-from ._held import Held, here, marked, nested, one_call
+from ._held import Held, expect_over, here, is_in_call, marked, one_call, own_call
 from ._library import BUSY, CLASH, DONE, EMPTY, LARGE, LOCATIONS, SMALL, STALE, lib, quick
 from ._location import Location
 from ._move import Move
@@ -30,12 +30,13 @@ class Step(Held):
     To get a `Location` and to push a `Move` takes a part of the time that lists take: no text is written or read.
     """
 
+    @own_call
     def __init__(self, agent: "Agent") -> None:
         self._hold()
-        self._agent, self._is_fired, self._is_tried = agent, False, False
+        self._agent, self._is_fired, self._is_tried, self._fired = agent, False, False, 0
         mark = here.mark or marked()
         if mark.in_call:
-            raise nested()
+            expect_over(mark)
         try:
             mark.in_call = True
             with agent._lock:
@@ -52,7 +53,7 @@ class Step(Held):
         return self._agent._lock
 
     def __exit__(self, kind: type[BaseException] | None, error: BaseException | None, traced: TracebackType | None) -> None:
-        if self._is_fired or (here.mark or marked()).in_call:
+        if self._is_fired or is_in_call():
             # The slot is released with the step, where a finalizer ends it in the midst of another call.
             return
         is_forgotten = kind is None and not self._is_tried and self.depth > 0
@@ -68,6 +69,11 @@ class Step(Held):
     def number(self) -> int:
         """How many moves had led to the state that it sees."""
         return self._number
+
+    @property
+    def fired(self) -> int:
+        """The number of the move that it fired, 0 where it fired none; it tells so too where a signal ended the fire."""
+        return self._fired
 
     @property
     def depth(self) -> int:
@@ -92,15 +98,19 @@ class Step(Held):
         else `Many`. What a pushed move put there, and all that was done to it since, rests on nothing.
         """
         if not isinstance(places, Location):
-            text = encoded(places)
+            text = encoded(places, "places")
             if here.turn is not None:
                 here.turn()
             return self._get(text)
+        return self._get_at(places)
+
+    @own_call
+    def _get_at(self, places: Location) -> Any:
         if here.turn is not None:
             here.turn()
         mark = here.mark or marked()
         if mark.in_call:
-            raise nested()
+            expect_over(mark)
         try:
             mark.in_call = True
             with self._agent._lock, places._lock:
@@ -151,7 +161,7 @@ class Step(Held):
         if isinstance(instructions, Move):
             self._grow_by(quick.asm_push_move, lib.asm_push, instructions)
         else:
-            self._grow_at_turn(lib.asm_push, encoded(instructions))
+            self._grow_at_turn(lib.asm_push, encoded(instructions, "instructions"))
 
     def extend(self, instructions: Sequence[Form] | Move) -> None:
         """The same, but the move joins the one that was pushed last, and is popped with it. Without one it is pushed.
@@ -161,7 +171,7 @@ class Step(Held):
         if isinstance(instructions, Move):
             self._grow_by(quick.asm_extend_move, lib.asm_extend, instructions)
         else:
-            self._grow_at_turn(lib.asm_extend, encoded(instructions))
+            self._grow_at_turn(lib.asm_extend, encoded(instructions, "instructions"))
 
     def _grow_at_turn(self, call: Callable[..., int], move: bytes) -> None:
         if here.turn is not None:
@@ -176,12 +186,13 @@ class Step(Held):
             raise refusal(code, decoded(told))
         expect_part(code, INSTRUCTIONS, move)
 
+    @own_call
     def _grow_by(self, call: Callable[..., int], text_call: Callable[..., int], move: Move) -> None:
         if here.turn is not None:
             here.turn()
         mark = here.mark or marked()
         if mark.in_call:
-            raise nested()
+            expect_over(mark)
         try:
             mark.in_call = True
             with self._agent._lock, move._lock:
@@ -226,20 +237,26 @@ class Step(Held):
         """The same, but 0 where the step is to be begun again, for `Stale`, `Clash` or `Busy`: that makes no exception."""
         return self._fire((STALE, CLASH, BUSY))
 
+    @own_call
     def _fire(self, vain: tuple[int, ...]) -> int:
         if here.turn is not None:
             here.turn()
         mark = here.mark or marked()
         if mark.in_call:
-            raise nested()
+            expect_over(mark)
         try:
             mark.in_call = True
             with self._agent._lock:
-                agent = self._agent
-                code = quick.asm_commit(agent._at, self._at, agent._numbers_at)
+                agent, numbers = self._agent, self._agent._numbers
+                numbers.fired = 0
+                try:
+                    code = quick.asm_commit(agent._at, self._at, agent._numbers_at)
+                finally:
+                    # What a signal handler raises after the commit doesn't undo it.
+                    if numbers.fired and not self._is_fired and not self._slot.full:
+                        self._fired, self._is_fired = numbers.fired, True
                 if code == DONE:
-                    self._is_fired = True
-                    return agent._numbers.fired
+                    return self._fired
                 self._expect_on(code)
                 self._is_tried = True
                 if code in vain:

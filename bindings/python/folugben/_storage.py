@@ -8,7 +8,7 @@ from types import TracebackType
 
 from ._agent import Agent
 from ._errors import Error, Missing, expect, expect_read
-from ._held import Held, here, marked, one_call
+from ._held import Held, is_in_call, one_call
 from ._library import DONE, EMPTY, MISSING, NONE, OTHER, RANGE, STATE, Buffer, lib
 from ._texts import Form, encoded, unsigned
 
@@ -27,7 +27,7 @@ class Storage(Held):
         self, init: Iterable[Form] = (), capacity: int = 4096, journal: str | os.PathLike[str] | None = None
     ) -> None:
         self._begin(journal)
-        state = encoded(list(init))
+        state = encoded(list(init), "init")
         expect_read(lib.asm_open(state, len(state), capacity_of(capacity), self._slot), STATE, state)
 
     def _begin(self, journal: str | os.PathLike[str] | None) -> None:
@@ -89,7 +89,8 @@ class Storage(Held):
         return journal
 
     def _missing(self, move: int) -> Missing:
-        at_work = sorted(number for number, agent in self._agents.items() if agent._slot.full)
+        slots = {number: agent._slot for number, agent in self._agents.items()}
+        at_work = sorted(number for number, slot in slots.items() if slot.full and lib.asm_won(slot))
         if not at_work:
             return Missing(MISSING, (move,), "an agent was abandoned")
         one = "agent " if len(at_work) == 1 else "agents "
@@ -130,7 +131,7 @@ class Storage(Held):
         return f"<Storage, {self.moves()} moves>" if self._slot.full else "<Storage, freed>"
 
     def __exit__(self, kind: type[BaseException] | None, error: BaseException | None, traced: TracebackType | None) -> None:
-        if (here.mark or marked()).in_call:
+        if is_in_call():
             # The slot is released with the storage, where a finalizer ends its `with` in the midst of another call.
             return
         try:

@@ -1,30 +1,68 @@
 """The texts that calls take and write: JSON, and the numbers beside them."""
 import json
+import math
 import operator
-from collections.abc import Callable, Sequence
+import re
+from collections import Counter
+from collections.abc import Callable, Iterable, Sequence
 from typing import Any, TypeAlias
 
-from ._errors import Error
+from ._errors import Error, exact
 from ._library import BOOL, NUM, RANGE, SHAPE, TEXT, UNDEF, Buffer
 
 # A location, an instruction, or a pair of a location and its value or number, as JSON has it.
 Form: TypeAlias = Sequence[Any]
 
+# What JSON has where an object has one of no value's members, which a Counter has, or a dict that is no value.
+_ODD = re.compile(r'\{(?!"(?:list|set|bag)":)')
+
+
+def _members(value: Iterable[Any], kind: str) -> list[Any]:
+    """The members of a Python set, or of a Counter, which are no two elements there that are equal in Python."""
+    members = list(value)
+    if any(type(it) not in (int, str) and it is not None for it in members):
+        word = "set" if kind == "set" else "bag"
+        raise TypeError(f"True and 1 are one in a Python {kind}, so a {kind} with other members than None, whole numbers and "
+                        f'texts is written {{"{word}": [..]}}')
+    return members
 
 
 def _otherwise(value: object) -> Any:
-    """What stands for a value that JSON has no form for: a Python set for a set, and a Counter, which is a dict, for itself."""
+    """What stands for a value that JSON has no form for: a Python set for a set."""
     if isinstance(value, (set, frozenset)):
-        if any(type(it) not in (int, str) and it is not None for it in value):
-            raise TypeError("True and 1 are one in a Python set, so a set with other members than None, whole numbers and texts "
-                            'is written {"set": [..]}')
-        return {"set": list(value)}
+        return {"set": _members(value, "set")}
     raise TypeError(f"{type(value).__name__!r} is no value: values are None, True, False, whole numbers, texts, "
                     '{"list": [..]}, {"set": [..]} and {"bag": [[element, count], ..]}')
 
 
+def _walked(value: Any, path: str) -> Any:
+    """The value with each Counter as a bag; what is refused is told with its path."""
+    if isinstance(value, str):
+        exact(value, path)
+    elif isinstance(value, float):
+        if not math.isfinite(value):
+            raise Error(SHAPE, said=f"{path} is {value}, and a number is whole")
+    elif isinstance(value, Counter):
+        try:
+            members = _members(value, "Counter")
+        except TypeError as error:
+            raise TypeError(f"{path}: {error}") from None
+        # A Counter tells 0 of what it doesn't have.
+        return {"bag": [[_walked(it, f"{path}[{it!r}]"), value[it]] for it in members if value[it] != 0]}
+    elif isinstance(value, dict):
+        return {key: _walked(it, f"{path}[{json.dumps(key)}]") for key, it in value.items()}
+    elif isinstance(value, (list, tuple)):
+        return [_walked(it, f"{path}[{place}]") for place, it in enumerate(value)]
+    elif value is not None and not isinstance(value, int):
+        try:
+            return _walked(_otherwise(value), path)
+        except TypeError as error:
+            raise TypeError(str(error) if str(error).startswith(path) else f"{path}: {error}") from None
+    return value
+
+
 # Without a look for circles, which takes a quarter of the time: what contains itself ends in a RecursionError.
-_json = json.JSONEncoder(separators=(",", ":"), ensure_ascii=False, check_circular=False, default=_otherwise)
+_json = json.JSONEncoder(separators=(",", ":"), ensure_ascii=False, check_circular=False, allow_nan=False, default=_otherwise)
 
 
 def _encoder() -> Callable[[object], str]:
@@ -32,7 +70,7 @@ def _encoder() -> Callable[[object], str]:
     sample, inner = [1, -0.5, "ä\n", None, {"a": True}, []], json.encoder
     try:
         string = getattr(inner, "encode_basestring")
-        chunks = getattr(inner, "c_make_encoder")(None, _json.default, string, None, ":", ",", False, False, True)
+        chunks = getattr(inner, "c_make_encoder")(None, _json.default, string, None, ":", ",", False, False, False)
         if "".join(chunks(sample, 0)) == _json.encode(sample):
             return lambda value: "".join(chunks(value, 0))
     except Exception:
@@ -48,15 +86,19 @@ _decode = json.JSONDecoder().raw_decode
 
 def utf_8(text: str) -> bytes:
     """The text in UTF-8, which has no half of a pair of surrogates."""
+    return exact(text, "a text")
+
+
+def encoded(value: object, name: str) -> bytes:
+    """The text of a value, which the call names so; what is refused is told with its path, as instructions[0][2]["set"][1]."""
     try:
-        return text.encode()
-    except UnicodeEncodeError as error:
-        raise Error(SHAPE, said=f"a text has {text[error.start]!r} at {error.start}, which isn't Unicode") from None
-
-
-def encoded(value: object) -> bytes:
-    """The text of a value."""
-    return utf_8(_encode(value))
+        text = _encode(value)
+        if "{" not in text or not _ODD.search(text):
+            return text.encode()
+    except (TypeError, ValueError):
+        # A UnicodeEncodeError is a ValueError too.
+        pass
+    return utf_8(_encode(_walked(value, name)))
 
 
 def decoded(text: bytes) -> Any:

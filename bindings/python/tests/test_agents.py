@@ -253,7 +253,7 @@ class Agents(unittest.TestCase):
         shape = "JSON of another shape: "
         for said, call, *arguments in [
             (shape + "pair 1: a pair is an array of a location and its value", Storage, [1]),
-            ("not JSON at byte 9", Storage, [[["x"], float("nan")]]),
+            (shape + "init[0][1] is nan, and a number is whole", Storage, [[["x"], float("nan")]]),
             (shape + "location 2: a location can't hold a bag", agent.read, [["x"], ["y", {"bag": []}]]),
             (shape + "instruction 3: a set can't hold a set", agent.fire, nested),
             (shape + "4,097 instructions, at most 4,096", agent.fire, [["put", ["x"], 1]] * 4097),

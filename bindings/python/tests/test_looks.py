@@ -108,7 +108,7 @@ class Looks(unittest.TestCase):
         for said, call, *arguments in [
             (shape + "location 2: a location can't hold a bag", self.agent.peek, [["x"], ["y", {"bag": []}]]),
             (shape + "read 2: a read is an array of a location and a number", self.agent.stands, [[["x"], 0], ["x"]]),
-            ("not JSON at byte 9", self.agent.stands, [[["x"], float("nan")]]),
+            (shape + "reads[0][1] is nan, and a number is whole", self.agent.stands, [[["x"], float("nan")]]),
         ]:
             with self.subTest(said), self.assertRaises(Error) as caught:
                 call(*arguments)

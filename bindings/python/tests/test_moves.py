@@ -123,7 +123,7 @@ class Moves(unittest.TestCase):
             (shape + "pair 2: a pair is an array of a location and its value", aggregate, [[X, 1], 7], [7]),
             (shape + "instruction 1: an instruction is an array of a word, a location and operands", aggregate, [], [7]),
             (shape + "4,097 instructions, at most 4,096", aggregate, [], [["put", X, 1]] * 4097),
-            ("not JSON at byte 15", aggregate, [], [["put", ["x"], float("nan")]]),
+            (shape + "instructions[0][2] is nan, and a number is whole", aggregate, [], [["put", ["x"], float("nan")]]),
             (shape + "instruction 2: a set can't hold a set", compose, [], [["put", X, 1], ["put", X, of_set(of_set())]]),
             (shape + "instruction 1: a set can't hold a set", compose, [["put", X, of_set(of_set())]], [7]),
         ]:

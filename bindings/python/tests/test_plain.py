@@ -153,7 +153,7 @@ class Plain(unittest.TestCase):
         self.assertEqual(said, "location 1: a location is an array of a name and at most 8 arguments")
         self.assertEqual(self.code_of(Location, ["1x"])[0], folugben.SHAPE)
         self.assertEqual(self.code_of(Location, ["x", 2**63])[0], folugben.SHAPE)
-        self.assertEqual(self.code_of(Location, ["x", float("nan")])[0], folugben.NOT_JSON)
+        self.assertEqual(self.code_of(Location, ["x", float("nan")])[0], folugben.SHAPE)
 
     def test_what_is_over_or_freed_or_moved_on(self):
         at, move = Location(["count"]), Move()

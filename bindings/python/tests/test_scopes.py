@@ -100,6 +100,8 @@ class Scopes(unittest.TestCase):
     def test_missing_tells_who_is_not_given_back(self):
         agents = [self.storage.agent(number) for number in (3, 7)]
         put(agents[0], 1)
+        put(agents[1], 2)
+        self.storage.agent(9)  # it fired nothing that could be missing
         with self.assertRaises(Missing) as caught:
             self.storage.close_journal()
         self.assertIn("agents 3, 7 were not given back", str(caught.exception))

@@ -245,7 +245,7 @@ class Steps(unittest.TestCase):
                 (shape + "location 2: a location can't hold a bag", step.get, [["x"], ["y", {"bag": []}]]),
                 (shape + "instruction 2: a set can't hold a set", step.push, put(1) + put({"set": [{"set": []}]})),
                 (shape + "4,097 instructions, at most 4,096", step.extend, put(1) * 4097),
-                ("not JSON at byte 19", step.push, put(float("nan"))),
+                (shape + "instructions[0][2] is nan, and a number is whole", step.push, put(float("nan"))),
             ]:
                 with self.subTest(said), self.assertRaises(Error) as caught:
                     call(*arguments)
