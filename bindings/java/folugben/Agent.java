@@ -59,6 +59,11 @@ public final class Agent implements AutoCloseable {
             this(code, move, from, to, answer, false);
         }
 
+        /** Its code, for a switch. */
+        public Code kind() {
+            return Code.of(code);
+        }
+
         /** Whether a move was fired; `move` is then its number, from 1 up. */
         public boolean isFired() {
             return code == FolugbenException.DONE && move != 0;
@@ -105,7 +110,10 @@ public final class Agent implements AutoCloseable {
         }
     }
 
-    /** A state [PAIR, ..], or a part of it, after so many moves. */
+    /**
+     * A state [PAIR, ..], or a part of it: as it is after so many moves, and, where a step tells it,
+     * as it is seen through the pushed ones.
+     */
     public record State(int number, String pairs) {
         /** Its locations that aren't empty with their values, in ascending order. */
         public SortedMap<Location, Value> values() {
@@ -203,6 +211,7 @@ public final class Agent implements AutoCloseable {
     /** What is played on a step; it tells what the play is to answer. */
     @FunctionalInterface
     public interface Rule<T> {
+        /** Gets from the step and pushes to it; what it answers is told with the move. */
         T play(Step step);
     }
 

@@ -4,7 +4,9 @@ package folugben;
 public final class BusyException extends RetryException {
     private static final long serialVersionUID = 1;
 
+    /** How many moves the agent had seen at the start of the call. */
     private final int from;
+    /** How many at its end. */
     private final int to;
 
     BusyException(int from, int to) {

@@ -44,6 +44,7 @@ public sealed interface Element extends Value, Comparable<Element> {
 
     /** A text, without lone surrogates. */
     record Text(String value) implements Element {
+        /** The text, if it is Unicode. */
         public Text {
             Texts.unicode(value, "a text");
         }
@@ -56,6 +57,7 @@ public sealed interface Element extends Value, Comparable<Element> {
 
     /** A list of at most 4,096 items, which is at most 8 deep. */
     record ListOf(List<Element> items) implements Element {
+        /** A copy of the items, if they are within the limits. */
         public ListOf {
             items = Copies.of(items, "items");
             if (items.size() > MAX_ITEMS)

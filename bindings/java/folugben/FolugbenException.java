@@ -9,32 +9,58 @@ public sealed class FolugbenException extends RuntimeException
                 MovedException, RetryException {
     private static final long serialVersionUID = 1;
 
+    /** The number of {@link Code#DONE}. */
     public static final int DONE = 0;
+    /** The number of {@link Code#STALE}. */
     public static final int STALE = 1;
+    /** The number of {@link Code#CLASH}. */
     public static final int CLASH = 2;
+    /** The number of {@link Code#MEMORY}. */
     public static final int MEMORY = 3;
+    /** The number of {@link Code#FULL}. */
     public static final int FULL = 4;
+    /** The number of {@link Code#EMPTY}. */
     public static final int EMPTY = 5;
+    /** The number of {@link Code#RANGE}. */
     public static final int RANGE = 6;
+    /** The number of {@link Code#SMALL}. */
     public static final int SMALL = 7;
+    /** The number of {@link Code#BUSY}. */
     public static final int BUSY = 8;
+    /** The number of {@link Code#MANY}. */
     public static final int MANY = 9;
+    /** The number of {@link Code#NONE}. */
     public static final int NONE = 10;
+    /** The number of {@link Code#TAKEN}. */
     public static final int TAKEN = 11;
+    /** The number of {@link Code#NUMBER}. */
     public static final int NUMBER = 12;
+    /** The number of {@link Code#MISSING}. */
     public static final int MISSING = 13;
+    /** The number of {@link Code#OTHER}. */
     public static final int OTHER = 14;
+    /** The number of {@link Code#ILLEGAL}. */
     public static final int ILLEGAL = 15;
+    /** The number of {@link Code#NOT_JSON}. */
     public static final int NOT_JSON = 16;
+    /** The number of {@link Code#SHAPE}. */
     public static final int SHAPE = 17;
+    /** The number of {@link Code#VERSION}. */
     public static final int VERSION = 18;
+    /** The number of {@link Code#CUT}. */
     public static final int CUT = 19;
+    /** The number of {@link Code#LARGE}. */
     public static final int LARGE = 20;
+    /** The number of {@link Code#MOVED}. */
     public static final int MOVED = 21;
+    /** The number of {@link Code#DEEP}. */
     public static final int DEEP = 22;
 
+    /** The number of its code. */
     private final int code;
+    /** What the code counts; else 0. */
     private final long number;
+    /** The text that was answered; else null. */
     private final String answer;
 
     FolugbenException(int code, long number, String said, String where, String answer) {
@@ -87,9 +113,14 @@ public sealed class FolugbenException extends RuntimeException
         return code == NOT_JSON ? said : errorText(code) + ": " + said;
     }
 
-    /** One of the codes above. */
+    /** The number of its code, one of the constants above. */
     public int code() {
         return code;
+    }
+
+    /** Its code, for a switch. */
+    public Code kind() {
+        return Code.of(code);
     }
 
     /**

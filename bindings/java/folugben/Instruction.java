@@ -12,6 +12,7 @@ public sealed interface Instruction {
 
     /** Puts a value. */
     record Put(Location location, Value value) implements Instruction {
+        /** Its parts, of which none is null. */
         public Put {
             Objects.requireNonNull(location, "location");
             Objects.requireNonNull(value, "value");
@@ -25,6 +26,7 @@ public sealed interface Instruction {
 
     /** Adds an element to a set. */
     record Add(Location location, Element element) implements Instruction {
+        /** Its parts, of which none is null. */
         public Add {
             Objects.requireNonNull(location, "location");
             Objects.requireNonNull(element, "element");
@@ -38,6 +40,7 @@ public sealed interface Instruction {
 
     /** Removes an element from a set. */
     record Remove(Location location, Element element) implements Instruction {
+        /** Its parts, of which none is null. */
         public Remove {
             Objects.requireNonNull(location, "location");
             Objects.requireNonNull(element, "element");
@@ -51,6 +54,7 @@ public sealed interface Instruction {
 
     /** Adds an element to a bag, 1 to 4294967295 times. */
     record BagAdd(Location location, Element element, long amount) implements Instruction {
+        /** Its parts, of which none is null, if the amount is in range. */
         public BagAdd {
             Objects.requireNonNull(location, "location");
             Objects.requireNonNull(element, "element");
@@ -65,6 +69,7 @@ public sealed interface Instruction {
 
     /** Removes an element from a bag, 1 to 4294967295 times. */
     record BagRemove(Location location, Element element, long amount) implements Instruction {
+        /** Its parts, of which none is null, if the amount is in range. */
         public BagRemove {
             Objects.requireNonNull(location, "location");
             Objects.requireNonNull(element, "element");
@@ -79,6 +84,7 @@ public sealed interface Instruction {
 
     /** Raises a number, by 0 or less too. */
     record Inc(Location location, long by) implements Instruction {
+        /** Its parts, of which none is null. */
         public Inc {
             Objects.requireNonNull(location, "location");
         }

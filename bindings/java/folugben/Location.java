@@ -15,6 +15,7 @@ public record Location(String name, List<Element> arguments) implements Comparab
     /** The most arguments. */
     public static final int MAX_ARGUMENTS = 8;
 
+    /** A copy of the arguments, if they and the name are within the limits. */
     public Location {
         Objects.requireNonNull(name, "name");
         if (!isName(name))

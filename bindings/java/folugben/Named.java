@@ -7,6 +7,7 @@ import java.util.Objects;
  * if it wasn't written since.
  */
 public record Named(Location location, int number) {
+    /** Both, if the number is 0 or more. */
     public Named {
         Objects.requireNonNull(location, "location");
         if (number < 0)

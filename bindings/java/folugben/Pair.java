@@ -4,6 +4,7 @@ import java.util.Objects;
 
 /** A location and its value, of which a state has one for each location that isn't empty. */
 public record Pair(Location location, Value value) {
+    /** Both, of which none is null. */
     public Pair {
         Objects.requireNonNull(location, "location");
         Objects.requireNonNull(value, "value");

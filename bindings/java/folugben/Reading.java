@@ -4,6 +4,7 @@ import java.util.List;
 
 /** The values of locations, in the order in which these were passed, after so many moves. */
 public record Reading(int number, List<Location> locations, List<Value> values) {
+    /** Copies of both, which are of one length. */
     public Reading {
         locations = Copies.of(locations, "locations");
         values = Copies.of(values, "values");

@@ -185,20 +185,20 @@ public final class Step implements AutoCloseable {
     }
 
     /**
-     * What is seen through the pushed moves at all locations with a function name, as [PAIR, ..].
-     * Those that are found are got, as by get; that a further one is written later isn't noticed.
+     * What is seen through the pushed moves at all locations with a function name, as {@link
+     * Agent#scan} tells those of the agent's own state. Those that are found are got, as by get; that a further one is written later isn't noticed.
      *
      * @throws FolugbenException MOVED; MANY if more than 256 would be got
      */
-    public String scan(String name) {
+    public Agent.State scan(String name) {
         Calls.Told told = told(Calls::asm_get_all, Texts.utf8(name, "name"));
         FolugbenException.expect(told.code());
-        return told.text();
+        return new Agent.State(number, told.text());
     }
 
-    /** The same as objects: the locations with their values, in ascending order. */
+    /** The values of such a scan: the locations with their values, in ascending order. */
     public SortedMap<Location, Value> getAll(String name) {
-        return JsonReader.state(scan(name));
+        return scan(name).values();
     }
 
     /**

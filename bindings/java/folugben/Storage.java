@@ -281,7 +281,18 @@ public final class Storage implements AutoCloseable {
     }
 
     /** The forms that explain knows; of a journal, the lines behind the first are events. */
-    public enum Form { LOCATIONS, MOVE, STATE, EVENT, SCRIPT }
+    public enum Form {
+        /** Locations [LOC, ..]. */
+        LOCATIONS,
+        /** A move {"fire":[INSTR, ..],"reads":[NAMED, ..]}. */
+        MOVE,
+        /** A state [PAIR, ..]. */
+        STATE,
+        /** A line of a journal behind the first. */
+        EVENT,
+        /** A script of the program. */
+        SCRIPT
+    }
 
     /** Where and why a text isn't of a form; empty for a text that is. */
     public static String explain(Form form, String text) {

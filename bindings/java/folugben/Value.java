@@ -26,6 +26,7 @@ public sealed interface Value permits Element, Value.SetOf, Value.BagOf {
 
     /** A set, whose elements are kept in ascending order. */
     record SetOf(Set<Element> elements) implements Value {
+        /** A copy of the elements. */
         public SetOf {
             SortedSet<Element> kept = new TreeSet<>(Elements.ORDER);
             kept.addAll(Copies.of(elements, "elements"));
@@ -40,6 +41,7 @@ public sealed interface Value permits Element, Value.SetOf, Value.BagOf {
 
     /** A bag: how often each element is there, 1 to 4294967295 times, in ascending order. */
     record BagOf(Map<Element, Long> counts) implements Value {
+        /** A copy of the counts, if they are in range. */
         public BagOf {
             SortedMap<Element, Long> kept = new TreeMap<>(Elements.ORDER);
             Objects.requireNonNull(counts, "counts")

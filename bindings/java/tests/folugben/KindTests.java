@@ -88,6 +88,24 @@ final class KindTests {
         }
     }
 
+    static void codes() {
+        for (Code code : Code.values()) {
+            equal(Code.of(code.number()), code);
+            equal(code.text(), FolugbenException.errorText(code.number()));
+            try {
+                equal(FolugbenException.class.getField(code.name()).getInt(null), code.number());
+            } catch (ReflectiveOperationException error) {
+                throw new IllegalStateException(error);
+            }
+        }
+        equal(Code.values().length, FolugbenException.DEEP + 1);
+        try (Storage storage = Storage.open(INIT, 8); Agent agent = storage.agent(0)) {
+            equal(agent.tryFire("[]", "[]").kind(), Code.DONE);
+            equal(agent.tryFire(List.of(Instruction.add(X, 2)), List.of()).kind(), Code.CLASH);
+            equal(refused(FolugbenException.RANGE, () -> storage.agent(-1)).kind(), Code.RANGE);
+        }
+    }
+
     static void large() {
         Instruction all = Instruction.bagRemove(B, 2, Value.MAX_COUNT);
         LargeException error = kind(LargeException.class, FolugbenException.LARGE,
@@ -144,6 +162,7 @@ final class KindTests {
         System.out.println("clashes");
         stale();
         System.out.println("stale");
+        codes();
         large();
         System.out.println("large");
         many();

@@ -66,7 +66,8 @@ final class StepTests {
             step.extend(inc("x", 5));
             equal(step.depth(), 1);
             step.push("[[\"put\",[\"y\",2],\"two\"],[\"add\",[\"s\"],2]]");
-            equal(step.scan("y"), "[[[\"y\",1],\"one\"],[[\"y\",2],\"two\"]]");
+            equal(step.scan("y"),
+                    new Agent.State(0, "[[[\"y\",1],\"one\"],[[\"y\",2],\"two\"]]"));
             equal(step.get("[[\"x\"],[\"s\"]]"), seen(0, "15,{\"set\":[1,2]}"));
             step.push(put("x", "0"));
             step.pop();
