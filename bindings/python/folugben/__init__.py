@@ -19,6 +19,8 @@ is fired as one move, which alone stands in the journal:
         step.push([["put", ["double"], 2 * step.get([["count"]])[0]]])
         step.fire()
 
+For annotations there are the types `Value`, `Element`, `Place` and `Update`: a location as a list is a Place.
+
 A Location is prepared once, and a Move is gathered, for steps that write and read no text, which are quicker by far:
 
     count, move = Location(["count"]), Move()
@@ -57,12 +59,13 @@ from ._move import Move
 from ._runs import interleave, states
 from ._step import Step
 from ._storage import Storage
+from ._types import Element, Place, Update, Value
 
 __version__ = "0.2.0"
 
 __all__ = [
-    "Agent", "BadJournal", "Busy", "Clash", "Deep", "Error", "Forked", "Full", "Large", "Location", "Many", "Missing", "Move",
-    "Moved", "Nested", "Over", "Retry", "Stale", "Step", "Storage",
+    "Agent", "BadJournal", "Busy", "Clash", "Deep", "Element", "Error", "Forked", "Full", "Large", "Location", "Many", "Missing", "Move",
+    "Moved", "Nested", "Over", "Place", "Retry", "Stale", "Step", "Storage", "Update", "Value",
     "aggregate", "check", "compose", "error_text", "explain", "interleave", "replay", "states", "trace", "version",
     "EVENT", "LOCATIONS", "MOVE", "SCRIPT", "STATE",
     "BUSY", "CLASH", "CUT", "DEEP", "DONE", "EMPTY", "FULL", "ILLEGAL", "LARGE", "MANY", "MEMORY", "MISSING", "MOVED",

@@ -33,7 +33,7 @@ class Step(Held):
     @own_call
     def __init__(self, agent: "Agent") -> None:
         self._hold()
-        self._agent, self._is_fired, self._is_tried, self._fired = agent, False, False, 0
+        self._agent, self._is_fired, self._is_tried, self._is_pushed, self._fired = agent, False, False, False, 0
         mark = here.mark or marked()
         if mark.in_call:
             expect_over(mark)
@@ -56,7 +56,7 @@ class Step(Held):
         if self._is_fired or is_in_call():
             # The slot is released with the step, where a finalizer ends it in the midst of another call.
             return
-        is_forgotten = kind is None and not self._is_tried and self.depth > 0
+        is_forgotten = kind is None and not self._is_tried and self._is_pushed and self.depth > 0
         self.free()
         if is_forgotten:
             warnings.warn("a step ended with moves that were pushed and not fired", ResourceWarning, stacklevel=2)
@@ -185,6 +185,8 @@ class Step(Held):
         if code in (CLASH, LARGE):
             raise refusal(code, decoded(told))
         expect_part(code, INSTRUCTIONS, move)
+        # A move of no instructions is none that is missed.
+        self._is_pushed = self._is_pushed or move != b"[]"
 
     @own_call
     def _grow_by(self, call: Callable[..., int], text_call: Callable[..., int], move: Move) -> None:
@@ -201,6 +203,7 @@ class Step(Held):
                 while move._is_full():
                     code = call(at, self._at, move._at, told.out, told.room, told.written_at)
                     if code == DONE:
+                        self._is_pushed = True
                         return
                     if code != SMALL:
                         self._expect_pushed(code, told.written())
