@@ -5,12 +5,12 @@ import re
 import unittest
 from threading import Event
 
-import engine
+import folugben_engine
 from checkout import ROOT
-from engine import bank, crossing, philosophers
-from engine.agents import live, run, states
-from engine.rules import Add, Choose, Forall, If, Instruction, Iterate, Let, Par, Remove, Rule, Seq, Update
 from folugben import Clash, Stale, Storage, check
+from folugben_engine import bank, crossing, philosophers
+from folugben_engine.agents import live, run, states
+from folugben_engine.rules import Add, Choose, Forall, If, Instruction, Iterate, Let, Par, Remove, Rule, Seq, Update
 from threads import in_threads
 
 COUNT = ["count"]
@@ -164,7 +164,7 @@ class Page(unittest.TestCase):
     def test_the_page_shows_the_code(self):
         page = (ROOT / "docs" / "ENGINE.md").read_text()
         first, *blocks = re.findall(r"```python\n(.*?)\n```", page, re.DOTALL)
-        code = [file.read_text() for file in pathlib.Path(engine.__file__).parent.glob("*.py")]
+        code = [file.read_text() for file in pathlib.Path(folugben_engine.__file__).parent.glob("*.py")]
         for part in "\n\n\n".join(blocks).split("\n\n\n"):
             self.assertEqual(sum(part in file for file in code), 1, part)
         with Storage(INIT) as storage, storage.agent(0) as agent:

@@ -8,10 +8,10 @@ import sys
 import tempfile
 import unittest
 
-from engine import bank
-from engine.turns import run_by_turns
 from folugben import BadJournal, Storage, check, interleave, replay, states
 from folugben import _exports
+from folugben_engine import bank
+from folugben_engine.turns import run_by_turns
 
 ACCOUNTS = [["account", i] for i in range(4)]
 

@@ -1,1 +1,0 @@
-"""An engine of abstract state machines, and three machines: python3 -m engine runs them."""
