@@ -57,7 +57,7 @@ public final class Step implements AutoCloseable {
     }
 
     private boolean isOver() {
-        return !slot.isOf(this) || !slot.isFull();
+        return !slot.isOf(this);
     }
 
     /** The slot of a step that isn't over. */
@@ -290,11 +290,11 @@ public final class Step implements AutoCloseable {
             long step = slot().at;
             synchronized (move.slot) {
                 move.expectOpen();
-                told = move.slot.isFull()
-                        ? room.told((text, out, length, written)
+                told = move.size() == 0
+                        ? told(textCall, NO_INSTRUCTIONS)
+                        : room.told((text, out, length, written)
                                             -> call.call(agent.slot.at, step, move.slot.at, out,
-                                                    length, written))
-                        : told(textCall, NO_INSTRUCTIONS);
+                                                    length, written));
             }
             agent.held(told.code());
         }

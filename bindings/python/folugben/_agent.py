@@ -93,7 +93,8 @@ class Agent(Held):
         """Begins a step, plays the rule on it and fires it, and begins anew where other agents were quicker: where it was stale
         or busy, or clashed with what was written since. The number of the fired move, and what the rule returned.
 
-        What the rule raises ends it, and nothing is fired; so does `Full`. Between tries in vain other threads run.
+        What the rule raises ends it, and nothing is fired; so does `Full`. Between tries in vain other threads run. What a
+        signal handler raises may end it behind the fire: `won` counts that.
         """
         tries = 0
         while True:

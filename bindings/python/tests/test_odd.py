@@ -176,6 +176,7 @@ class CutOff(unittest.TestCase):
         with self.agent.step() as step:
             step.push(move)
             self.assertEqual(step.get(self.count), 1)
+            step.pop()
         self.cut_off(lambda: move.clear())
         self.assertEqual(len(move), 0)
         with self.agent.step() as step:
