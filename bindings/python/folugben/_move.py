@@ -97,9 +97,13 @@ class Move(Held):
 
     def _take_back(self, own: _Instruction) -> None:
         """A call that raises has added nothing, so that it can be made again."""
-        left = [it for it in self._told if it is not own]
-        if len(left) < len(self._told):
-            self._told, self._is_whole = left, False
+        told = self._told
+        # The last one, unless another thread added more.
+        for place in range(len(told) - 1, -1, -1):
+            if told[place] is own:
+                self._is_whole = False
+                del told[place]
+                return
 
     def _mend(self) -> None:
         """Has the slot have the instructions that it is told to have, by the texts of their locations."""

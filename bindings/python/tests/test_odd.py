@@ -1,8 +1,11 @@
 """Tests of odd use: what is lost or mixed up by none of it, and what is said of what is refused: python3 test.py runs them too."""
+import signal
 import sys
+import time
 import unittest
 from collections import Counter
 from collections.abc import Callable
+from types import FrameType
 from unittest import mock
 
 import folugben
@@ -183,6 +186,41 @@ class CutOff(unittest.TestCase):
             step.push(move.inc(self.count, 5))
             self.assertEqual(step.get(self.count), 5)
             step.pop()
+
+    def test_signals_count_nothing_twice(self) -> None:
+        move, done, raised = Move(), 0, 0
+
+        def handler(_: int, frame: FrameType | None) -> None:
+            if frame is not None and frame.f_code.co_name in ("inc", "_instruct", "_expect_held"):
+                raise Stop
+
+        was = signal.signal(signal.SIGALRM, handler)
+        self.addCleanup(signal.signal, signal.SIGALRM, was)
+        self.addCleanup(signal.setitimer, signal.ITIMER_REAL, 0)
+        signal.setitimer(signal.ITIMER_REAL, 0.0005, 0.0005)
+        end = time.monotonic() + 60
+        while raised < 100:
+            self.assertLess(time.monotonic(), end)
+            try:
+                move.inc(self.count, 1)
+                done += 1
+            except Stop:
+                raised += 1
+            if done == 2000:
+                self.assertEqual((self.pushed(move), len(move)), (done, done))
+                move.clear()
+                done = 0
+        signal.setitimer(signal.ITIMER_REAL, 0)
+        if done:
+            self.assertEqual((self.pushed(move), len(move)), (done, done))
+
+    def pushed(self, move: Move) -> int:
+        """The count as it is behind the move."""
+        with self.agent.step() as step:
+            step.push(move)
+            told: int = step.get(self.count)
+            step.pop()
+        return told
 
     def test_what_the_library_did_before_a_signal_is_undone_in_a_move(self) -> None:
         move, real = Move().inc(self.count, 10), _move.quick.asm_instruct
