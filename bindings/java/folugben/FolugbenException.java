@@ -275,7 +275,8 @@ public sealed class FolugbenException extends RuntimeException
 
     /** The exception for a journal that lacks a move, with what is said of the agents. */
     static FolugbenException missing(int move, String said) {
-        return of(MISSING, move, said, numberName(MISSING) + " " + move);
+        String where = numberName(MISSING) + " " + move;
+        return of(MISSING, move, said, said.endsWith(where) ? "" : where);
     }
 
     /** The exception for an argument that isn't one value of JSON. */

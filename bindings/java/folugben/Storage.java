@@ -161,7 +161,7 @@ public final class Storage implements AutoCloseable {
         synchronized (slot) {
             int code = Calls.asm_close(slot.at, missing);
             if (code == FolugbenException.MISSING)
-                throw FolugbenException.missing(missing[0], whoIsOut());
+                throw FolugbenException.missing(missing[0], whoIsOut(missing[0]));
             expect(code);
             return Calls.text((out, room, written)
                                       -> Calls.asm_journal(slot.at, out, room, written),
@@ -170,19 +170,22 @@ public final class Storage implements AutoCloseable {
     }
 
     /** Which agents that fired have to be given back, with the lock of the slot. */
-    private String whoIsOut() {
+    private String whoIsOut(int move) {
         List<String> numbers = new ArrayList<>();
+        boolean isAbandoned = false;
         for (Agent agent : agents)
             if (agent != null)
                 synchronized (agent.slot) {
-                    if (agent.slot.isFull() && Calls.asm_won(agent.slot.at) > 0)
+                    isAbandoned |= !agent.slot.isFull();
+                    if (Calls.asm_won(agent.slot.at) > 0)
                         numbers.add("" + agent.number());
                 }
         if (numbers.isEmpty())
             return "an agent was abandoned";
-        boolean isOne = numbers.size() == 1;
-        return (isOne ? "agent " : "agents ") + String.join(", ", numbers)
-                + (isOne ? " was" : " were") + " not given back";
+        if (numbers.size() > 1)
+            return "agents " + String.join(", ", numbers) + " were not given back";
+        String one = "agent " + numbers.get(0) + " was not given back";
+        return isAbandoned ? one : one + ": it fired move " + move;
     }
 
     /**

@@ -303,6 +303,11 @@ class Agent(Held):
         """Releases it without giving it back: what it fired stands, and is `Missing` in each journal of its storage."""
         self.free()
 
+    def free(self) -> None:
+        """The same; it may be called again."""
+        self._storage._is_one_abandoned |= self._slot.full
+        super().free()
+
     def __exit__(self, kind: type[BaseException] | None, error: BaseException | None, traced: TracebackType | None) -> None:
         if is_in_call():
             # A finalizer ends a `with` in the midst of another call: what can't be done now is done by the storage's next call.

@@ -49,7 +49,8 @@ class Error(Exception):
         text = error_text(self.code)
         if self.said:
             text = self.said if self.code == NOT_JSON else f"{text}: {self.said}"
-        return f"{text} ({NUMBERS[self.code].format(*self.numbers)})" if self.numbers else text
+        where = NUMBERS[self.code].format(*self.numbers) if self.numbers else ""
+        return text if text.endswith(where) else f"{text} ({where})"
 
 
 class Retry(Error):

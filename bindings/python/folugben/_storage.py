@@ -36,6 +36,7 @@ class Storage(Held):
         # How many moves the journal tells that was made last.
         self._closed: int | None = None
         self._agents: weakref.WeakValueDictionary[int, Agent] = weakref.WeakValueDictionary()
+        self._is_one_abandoned = False
         # Agents that are to be given back by the next call.
         self._left: list[Agent] = []
 
@@ -92,10 +93,14 @@ class Storage(Held):
         slots = {number: agent._slot for number, agent in self._agents.items()}
         at_work = sorted(number for number, slot in slots.items() if slot.full and lib.asm_won(slot))
         if not at_work:
-            return Missing(MISSING, (move,), "an agent was abandoned")
-        one = "agent " if len(at_work) == 1 else "agents "
-        told = ", ".join(map(str, at_work))
-        return Missing(MISSING, (move,), f"{one}{told} {'was' if len(at_work) == 1 else 'were'} not given back")
+            said = "an agent was abandoned"
+        elif len(at_work) > 1:
+            said = f"agents {', '.join(map(str, at_work))} were not given back"
+        elif self._is_one_abandoned:
+            said = f"agent {at_work[0]} was not given back"
+        else:
+            said = f"agent {at_work[0]} was not given back: it fired move {move}"
+        return Missing(MISSING, (move,), said)
 
     def next(self, capacity: int = 4096, journal: str | os.PathLike[str] | None = None) -> "Storage":
         """A storage that goes on where this one ended, for so many moves; its agents start anew.

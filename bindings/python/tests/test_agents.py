@@ -71,7 +71,7 @@ class Agents(unittest.TestCase):
         with self.assertRaises(Missing) as caught:
             self.storage.close_journal()
         self.assertEqual(caught.exception.numbers, (1,))
-        self.assertEqual(str(caught.exception), folugben.error_text(folugben.MISSING) + ": agent 0 was not given back (move 1)")
+        self.assertEqual(str(caught.exception), folugben.error_text(folugben.MISSING) + ": agent 0 was not given back: it fired move 1")
         first.give()
         journal = self.storage.close_journal()
         self.assertEqual(check(journal), (2, 1))

@@ -108,7 +108,12 @@ class Scopes(unittest.TestCase):
         agents.pop().give()
         with self.assertRaises(Missing) as caught:
             self.storage.close_journal()
-        self.assertIn("agent 3 was not given back", str(caught.exception))
+        self.assertTrue(str(caught.exception).endswith("given back: agent 3 was not given back: it fired move 1"))
+        self.storage.agent(10).abandon()  # which may have fired it
+        with self.assertRaises(Missing) as caught:
+            self.storage.close_journal()
+        self.assertTrue(str(caught.exception).endswith(": agent 3 was not given back (move 1)"))
+        self.assertEqual(caught.exception.numbers, (1,))
 
     def test_an_agent_that_nobody_holds_comes_back(self):
         put(self.storage.agent(0), 1)

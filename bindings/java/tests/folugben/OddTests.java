@@ -94,6 +94,9 @@ final class OddTests {
                          () -> step.get(x), () -> step.scan("x"), step::push, () -> step.push(move)))
                 equal(refused(FolugbenException.EMPTY, call).getMessage(),
                         over + "the step is over: it was fired or closed");
+            refusedAt(FolugbenException.MISSING, 1, ": agent 3 was not given back: it fired move 1",
+                    storage::closeJournal);
+            storage.agent(4).abandon(); // which may have fired it
             refusedAt(FolugbenException.MISSING, 1, ": agent 3 was not given back (move 1)",
                     storage::closeJournal);
             Agent other = storage.agent(9);

@@ -83,7 +83,7 @@ final class ScopeTests {
             Agent agent = storage.agent(0);
             try (agent) {
                 put(agent, 1);
-                refusedAt(FolugbenException.MISSING, 1, ": agent 0 was not given back (move 1)", storage::closeJournal);
+                refusedAt(FolugbenException.MISSING, 1, ": agent 0 was not given back: it fired move 1", storage::closeJournal);
             }
             agent.close();
             equal(Storage.check(storage.closeJournal()), new Storage.Checked(1, 1));
