@@ -16,7 +16,7 @@ except ImportError:  # before setuptools 70.1
     from wheel.bdist_wheel import bdist_wheel
 
 HERE = Path(__file__).resolve().parent
-LIBRARY = "libfolugben.so"
+LIBRARY, PAGE = "libfolugben.so", "run.html"
 
 
 class Platform(Distribution):
@@ -34,6 +34,10 @@ class WithLibrary(build_py):
         if not found:
             raise SystemExit(f"there is no {places[1]}; ./build_c proves and builds it")
         self.copy_file(str(found), str(Path(self.build_lib) / "folugben" / LIBRARY))
+        # The page that shows runs lies in the package where packaging/pack has put it; in a clone it is the viewer's.
+        page = HERE.parents[1] / "viewer" / "index.html"
+        if not (HERE / "folugben" / PAGE).is_file() and page.is_file():
+            self.copy_file(str(page), str(Path(self.build_lib) / "folugben" / PAGE))
 
 
 class Tagged(bdist_wheel):
