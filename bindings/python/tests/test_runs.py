@@ -2,6 +2,7 @@
 import csv
 import io
 import json
+import os
 import pathlib
 import subprocess
 import sys
@@ -156,8 +157,12 @@ class Exports(unittest.TestCase):
             good.write_bytes(self.journal)
             bad.write_bytes(self.journal[:-1])
 
+            # The package that is tested, wherever this is run.
+            package = pathlib.Path(_exports.__file__).resolve().parents[1]
+
             def call(*words, **more):
-                return subprocess.run([sys.executable, "-m", "folugben", *words], capture_output=True, text=True, **more)
+                command = [sys.executable, "-m", "folugben", *words]
+                return subprocess.run(command, capture_output=True, text=True, env=os.environ | {"PYTHONPATH": str(package)}, **more)
 
             told = call("check", str(good), str(bad))
             calls, moves = check(self.journal)
