@@ -138,6 +138,13 @@ inline std::string explained(std::int32_t form, std::string_view refused) {
     return text;
 }
 
+// The text within what stands before and behind it.
+inline std::string within(std::string_view before, std::string_view text, std::string_view behind) {
+    std::string whole;
+    whole.reserve(before.size() + text.size() + behind.size());
+    return whole.append(before).append(text).append(behind);
+}
+
 inline void done(std::int32_t code, std::string text = {}) {
     if (code != ASM_DONE) fail(code, std::move(text));
 }
@@ -173,7 +180,7 @@ class location {
     explicit location(std::string_view json) {
         std::int32_t code = asm_location(detail::bytes(json), json.size(), slot_.get());
         if (code == ASM_NOT_JSON || code == ASM_SHAPE)
-            detail::fail(code, detail::explained(ASM_FORM_LOCATIONS, "[" + std::string(json) + "]"));
+            detail::fail(code, detail::explained(ASM_FORM_LOCATIONS, detail::within("[", json, "]")));
         detail::done(code);
     }
     asm_slot *get() const noexcept { return slot_.get(); }
@@ -500,7 +507,7 @@ template <class Call> void step::grow_json(Call call, std::string_view move) {
         },
         text);
     if (code == ASM_NOT_JSON || code == ASM_SHAPE)
-        text = detail::explained(ASM_FORM_MOVE, "{\"fire\":" + std::string(move) + ",\"reads\":[]}");
+        text = detail::explained(ASM_FORM_MOVE, detail::within("{\"fire\":", move, ",\"reads\":[]}"));
     detail::done(code, std::move(text));
 }
 
