@@ -36,7 +36,7 @@ fn refuses<T: Threads + Wait + Sync>(
 }
 
 /// A word, an input, and the line.
-static REFUSALS: [(&str, &str, &str); 12] = [
+static REFUSALS: [(&str, &str, &str); 14] = [
     ("play", "", "bad words\n"),
     ("run", "{", "bad script: not JSON\n"),
     ("run", "{}", "bad script: shape\n"),
@@ -70,6 +70,14 @@ static REFUSALS: [(&str, &str, &str); 12] = [
     ),
     ("trace", "", "journal cut\n"),
     ("trace", "{}\n", "journal line 1: shape\n"),
+    ("audit", "", "part 0 journal cut\n"),
+    (
+        "audit",
+        r#"{"agents":0,"capacity":1,"events":0,"init":[],"version":2}
+{"agents":0,"capacity":1,"events":0,"init":[[["x"],1]],"version":2}
+"#,
+        "part 1 apart\n",
+    ),
 ];
 
 #[test]

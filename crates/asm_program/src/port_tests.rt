@@ -167,7 +167,7 @@ const FAULT: Ending = Ending {
     text: "input fault\n",
 };
 
-static REFUSED: [(&str, (usize, Option<ErrorKind>), Ending); 10] = [
+static REFUSED: [(&str, (usize, Option<ErrorKind>), Ending); 11] = [
     ("run", (16_777_216, None), NOT_JSON),
     ("run", (16_777_217, None), TOO_LARGE),
     ("check", (usize::MAX, None), TOO_LARGE),
@@ -178,6 +178,7 @@ static REFUSED: [(&str, (usize, Option<ErrorKind>), Ending); 10] = [
     ("trace", (16_777_216, None), NO_JOURNAL),
     ("trace", (16_777_217, None), TOO_LARGE),
     ("trace", (4096, Some(ErrorKind::Other)), FAULT),
+    ("audit", (4096, Some(ErrorKind::Other)), FAULT),
 ];
 
 #[test]

@@ -9,16 +9,17 @@ use std::test::Fail;
 use std::thread::Threads;
 
 const HELP: &str =
-    r#"Plays the steps of an abstract state machine's agents on one storage, checks, rewrites and traces journals, and explains why a text is refused
+    r#"Plays the steps of an abstract state machine's agents on one storage, checks, rewrites and traces journals, audits runs, and explains why a text is refused
 
 Usage: asm_driver <COMMAND>
 
 Commands:
   run      Plays a script, which is read from standard input, and writes the report
-  check    Checks a journal, which is read from standard input, and writes whether it is legal
-  rewrite  Rewrites a journal, which is read from standard input, in version 2, and doesn't check it
-  trace    Traces a journal, which is read from standard input, and writes what each call did
+  check    Checks a journal of at most 16777216 bytes, which is read from standard input, and writes whether it is legal
+  rewrite  Rewrites a journal of at most 16777216 bytes, which is read from standard input, in version 2, and doesn't check it
+  trace    Traces a journal of at most 16777216 bytes, which is read from standard input, and writes what each call did
   explain  Explains where and why a script or a journal, which is read from standard input, is refused
+  audit    Audits a run of any length, whose parts are journals and are read from standard input, and writes whether it is legal
   help     Print this message or the help of the given subcommand(s)
 
 Options:
@@ -37,7 +38,7 @@ Options:
 "#;
 
 const CHECK_HELP: &str =
-    r#"Checks a journal, which is read from standard input, and writes whether it is legal
+    r#"Checks a journal of at most 16777216 bytes, which is read from standard input, and writes whether it is legal
 
 Usage: asm_driver check
 
@@ -46,7 +47,7 @@ Options:
 "#;
 
 const REWRITE_HELP: &str =
-    r#"Rewrites a journal, which is read from standard input, in version 2, and doesn't check it
+    r#"Rewrites a journal of at most 16777216 bytes, which is read from standard input, in version 2, and doesn't check it
 
 Usage: asm_driver rewrite
 
@@ -55,7 +56,7 @@ Options:
 "#;
 
 const TRACE_HELP: &str =
-    r#"Traces a journal, which is read from standard input, and writes what each call did
+    r#"Traces a journal of at most 16777216 bytes, which is read from standard input, and writes what each call did
 
 Usage: asm_driver trace
 
@@ -75,7 +76,16 @@ Options:
   -h, --help  Print help
 "#;
 
-static HELPS: [(&[&str], &str); 11] = [
+const AUDIT_HELP: &str =
+    r#"Audits a run of any length, whose parts are journals and are read from standard input, and writes whether it is legal
+
+Usage: asm_driver audit
+
+Options:
+  -h, --help  Print help
+"#;
+
+static HELPS: [(&[&str], &str); 13] = [
     (&["asm_driver", "--help"], HELP),
     (&["asm_driver", "help"], HELP),
     (&["asm_driver", "run", "--help"], RUN_HELP),
@@ -87,6 +97,8 @@ static HELPS: [(&[&str], &str); 11] = [
     (&["asm_driver", "help", "trace"], TRACE_HELP),
     (&["asm_driver", "explain", "--help"], EXPLAIN_HELP),
     (&["asm_driver", "help", "explain"], EXPLAIN_HELP),
+    (&["asm_driver", "audit", "--help"], AUDIT_HELP),
+    (&["asm_driver", "help", "audit"], AUDIT_HELP),
 ];
 
 #[test]
