@@ -108,7 +108,11 @@ pub(crate) fn not_json(
     with_line: bool,
 ) -> Result<String, AllocError> {
     let line = error.line();
-    let byte = byte_of(text, line, error.column());
+    let byte = if error.is_eof() {
+        text.len()
+    } else {
+        byte_of(text, line, error.column())
+    };
     let place = if with_line && line > 1 {
         format!(in alloc; "{byte}, in line {line}")?
     } else {
