@@ -3,10 +3,8 @@ ghost use Rattle.std.specs.Prelude.{◌≡◌};
 ghost use Rattle.asm_slots.specs.Got.{GetsAll};
 ghost use Rattle.asm_slots.specs.Slots.{content_of};
 
-use asm_slots::Slot;
-use asm_slots::codes::EMPTY;
-use asm_slots::getting_all::get_all_of;
-use asm_slots::take_and_put::{put_both, take_both};
+use asm_slots::getting_all::get_all_in;
+use asm_slots::{Slot, in_both};
 use std::alloc::Global;
 
 /// Writes `[PAIR, ..]`: what is seen through the pushed moves at all locations with the function name, a text in
@@ -30,10 +28,5 @@ pub extern "C" fn asm_get_all(
     ensures kept { content_of agent.new ≡ content_of agent.old }
 {
     *written = 0;
-    let Some(mut both) = take_both(alloc, agent, step) else {
-        return EMPTY;
-    };
-    let code = get_all_of(alloc, &both.agent, &mut both.step, name, out, written);
-    put_both(agent, step, both);
-    code
+    in_both!(alloc, agent, step => get_all_in(alloc, agent, step, name, out, written))
 }

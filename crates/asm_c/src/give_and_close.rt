@@ -5,12 +5,12 @@ ghost use Rattle.asm_slots.specs.Closed.{IsTooLarge, LacksReceipt};
 ghost use Rattle.asm_slots.specs.Codes.{IsOneOf, ASM_DONE, ASM_MEMORY, ASM_EMPTY, ASM_SMALL, ASM_NONE};
 ghost use Rattle.asm_slots.specs.Codes.{ASM_NUMBER, ASM_MISSING, ASM_OTHER, ASM_LARGE};
 ghost use Rattle.asm_slots.specs.Slots.{HoldsNoAgent, HoldsNoStore, HoldsStore, IsOfStore, content_of};
-ghost use Rattle.asm_slots.specs.Written.{IsTooLong, IsWritten};
+ghost use Rattle.asm_slots.specs.Written.{TellsText};
 
 use asm_slots::codes::{DONE, EMPTY, NONE, OTHER, copied};
 use asm_slots::give_and_close::{code_of_unclosed, give_at};
-use asm_slots::take_and_put::{put_agent, put_store, take_agent, take_store};
-use asm_slots::{Slot, are_one};
+use asm_slots::take_and_put::{put_agent, put_store, store_in, take_agent, take_store};
+use asm_slots::{Slot, are_one, in_box};
 use std::alloc::Global;
 
 /// Tells how many moves stand in the storage's row: it looks from the first one on until it finds nothing more.
@@ -28,11 +28,7 @@ pub extern "C" fn asm_moves(alloc: Global, store: &mut Slot, moves: &mut u32) ->
     ensures empty { result ≡ ASM_EMPTY → HoldsNoStore (content_of store.old) }
 {
     *moves = 0;
-    let Some((shell, kept)) = take_store(alloc, store) else {
-        return EMPTY;
-    };
-    *moves = kept.moves();
-    put_store(store, shell, kept);
+    *moves = in_box!(alloc, store, store_in, kept => kept.moves());
     DONE
 }
 
@@ -123,23 +119,16 @@ pub extern "C" fn asm_journal(
 ) -> i32
     ensures codes { IsOneOf (ASM_DONE ∷ ASM_EMPTY ∷ ASM_SMALL ∷ ASM_NONE ∷ []) result }
     ensures kept { content_of store.new ≡ content_of store.old }
-    ensures told { result ≡ ASM_DONE → HoldsStore (content_of store.old)
-        (λ s. IsWritten (λ text. s.journal ≡ Some text) out.new written.new) }
-    ensures small { result ≡ ASM_SMALL → HoldsStore (content_of store.old)
-        (λ s. IsTooLong (λ text. s.journal ≡ Some text) (length out.old) written.new) }
-    ensures no_text { IsOneOf (ASM_EMPTY ∷ ASM_NONE ∷ []) result → written.new ≡ 0 }
+    ensures text { TellsText (λ text. HoldsStore (content_of store.old) (λ s. s.journal ≡ Some text))
+        out.old out.new written.new result }
     ensures none { result ≡ ASM_NONE → HoldsStore (content_of store.old) (λ s. s.journal ≡ None) }
     ensures empty { result ≡ ASM_EMPTY → HoldsNoStore (content_of store.old) }
-    ensures unwritten { result ≢ ASM_DONE → out.new ≡ out.old }
 {
     *written = 0;
-    let Some((shell, kept)) = take_store(alloc, store) else {
-        return EMPTY;
-    };
-    let code = match kept.journal() {
-        Some(text) => copied(text.as_bytes(), out, written),
-        None => NONE,
-    };
-    put_store(store, shell, kept);
-    code
+    in_box!(alloc, store, store_in, kept => {
+        match kept.journal() {
+            Some(text) => copied(text.as_bytes(), out, written),
+            None => NONE,
+        }
+    })
 }

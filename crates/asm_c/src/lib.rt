@@ -15,7 +15,6 @@ mod instructing;
 mod journal_tests;
 mod journals;
 mod looking;
-mod looking_at;
 #[cfg(test)]
 mod moves_tests;
 mod next_store;
@@ -38,3 +37,4 @@ mod step_tests;
 mod steps;
 #[cfg(test)]
 mod test_slots;
+mod values_at;

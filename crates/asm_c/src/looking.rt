@@ -1,5 +1,5 @@
 //! Values in an agent's own state, and whether named reads still stand: looks that leave no receipt.
-ghost use Rattle.std.specs.Prelude.{◌≡◌, ◌≢◌, ◌∷◌, [], length};
+ghost use Rattle.std.specs.Prelude.{◌≡◌, ◌≢◌, ◌∷◌, []};
 ghost use Rattle.asm_storage.specs.Storage.{IsSameAgent};
 ghost use Rattle.asm_explain.specs.Bytes.{AreLocations, IsNoJson, IsOtherJson};
 ghost use Rattle.asm_slots.specs.Calls.{SeesOn};
@@ -7,20 +7,19 @@ ghost use Rattle.asm_slots.specs.Codes.{IsOneOf, ASM_DONE, ASM_MEMORY, ASM_EMPTY
 ghost use Rattle.asm_slots.specs.Looked.{Stands};
 ghost use Rattle.asm_slots.specs.Own.{HasFollowed, HasLookedOn, IsPeekOf};
 ghost use Rattle.asm_slots.specs.Slots.{Goes, Holds, HoldsNoAgent, content_of};
-ghost use Rattle.asm_slots.specs.Written.{IsTooLong, IsWritten};
+ghost use Rattle.asm_slots.specs.Written.{TellsText};
 
-use asm_slots::Slot;
 use asm_slots::codes::{DONE, EMPTY, MEMORY, copied};
 use asm_slots::looking::{peeked, stands_at};
-use asm_slots::take_and_put::{put_agent, take_agent};
+use asm_slots::take_and_put::{agent_in, put_agent, take_agent};
+use asm_slots::{Slot, in_box};
 use std::alloc::{AllocError, Global};
 
 /// Has the agent look on until it finds nothing more, and its own state follow; `number` is then how many moves
 /// it has seen.
 ///
-/// No receipt is made. Between this call and the next that looks on or fires, its state stands at this number,
-/// which contracts don't tell of what comes then: it is tested. `ASM_EMPTY`: the slot has no agent.
-/// `ASM_MEMORY`: it may have seen more. `number` is then 0.
+/// No receipt is made. Until the next call that looks on or fires, its state stands at this number. `ASM_EMPTY`: the
+/// slot has no agent. `ASM_MEMORY`: it may have seen more. `number` is then 0.
 #[unsafe(no_mangle)]
 pub extern "C" fn asm_follow(alloc: Global, agent: &mut Slot, number: &mut u32) -> i32
     ensures codes { IsOneOf (ASM_DONE ∷ ASM_MEMORY ∷ ASM_EMPTY ∷ []) result }
@@ -63,23 +62,14 @@ pub extern "C" fn asm_peek(
 ) -> i32
     ensures codes { IsOneOf (ASM_DONE ∷ ASM_MEMORY ∷ ASM_EMPTY ∷ ASM_SMALL ∷ ASM_NOT_JSON ∷ ASM_SHAPE ∷ []) result }
     ensures kept { content_of agent.new ≡ content_of agent.old }
-    ensures told { result ≡ ASM_DONE → Holds (content_of agent.old)
-        (λ a. IsWritten (IsPeekOf locations.now a) out.new written.new) }
-    ensures small { result ≡ ASM_SMALL → Holds (content_of agent.old)
-        (λ a. IsTooLong (IsPeekOf locations.now a) (length out.old) written.new) }
+    ensures text { TellsText (λ text. Holds (content_of agent.old) (λ a. IsPeekOf locations.now a text))
+        out.old out.new written.new result }
     ensures not_json { result ≡ ASM_NOT_JSON → IsNoJson locations.now }
     ensures shape { result ≡ ASM_SHAPE → IsOtherJson AreLocations locations.now }
     ensures empty { result ≡ ASM_EMPTY → HoldsNoAgent (content_of agent.old) }
-    ensures no_text { IsOneOf (ASM_MEMORY ∷ ASM_EMPTY ∷ ASM_NOT_JSON ∷ ASM_SHAPE ∷ []) result → written.new ≡ 0 }
-    ensures unwritten { result ≢ ASM_DONE → out.new ≡ out.old }
 {
     *written = 0;
-    let Some((shell, inner)) = take_agent(alloc, agent) else {
-        return EMPTY;
-    };
-    let peeked = peeked(alloc, &inner, locations);
-    put_agent(agent, shell, inner);
-    match peeked {
+    match in_box!(alloc, agent, agent_in, inner => peeked(alloc, inner, locations)) {
         Ok(text) => copied(text.as_bytes(), out, written),
         Err(code) => code,
     }

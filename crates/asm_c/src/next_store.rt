@@ -5,9 +5,9 @@ ghost use Rattle.asm_slots.specs.Codes.{IsOneOf, ASM_DONE, ASM_MEMORY, ASM_EMPTY
 ghost use Rattle.asm_slots.specs.Next.{IsNextOf, LacksJournal};
 ghost use Rattle.asm_slots.specs.Slots.{HoldsNoStore, HoldsStore, content_of};
 
-use asm_slots::Slot;
-use asm_slots::codes::{DONE, EMPTY, TAKEN};
-use asm_slots::take_and_put::{put_store, take_store};
+use asm_slots::codes::{DONE, TAKEN};
+use asm_slots::take_and_put::store_in;
+use asm_slots::{Slot, in_box};
 use std::alloc::Global;
 
 /// Opens a storage, for at most `capacity` moves, in an empty slot, that goes on where the one that was closed
@@ -32,12 +32,7 @@ pub extern "C" fn asm_next(alloc: Global, store: &mut Slot, capacity: u32, next:
     if next.is_full() {
         return TAKEN;
     }
-    let Some((shell, kept)) = take_store(alloc, store) else {
-        return EMPTY;
-    };
-    let made = kept.next(alloc, capacity);
-    put_store(store, shell, kept);
-    match made {
+    match in_box!(alloc, store, store_in, kept => kept.next(alloc, capacity)) {
         Ok(made) => {
             *next = Slot::holding(made);
             DONE

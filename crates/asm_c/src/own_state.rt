@@ -1,14 +1,14 @@
 //! The whole of an agent's own state, and the part of it with one function name.
-ghost use Rattle.std.specs.Prelude.{◌≡◌, ◌≢◌, ◌∷◌, [], length, IsUtf8};
+ghost use Rattle.std.specs.Prelude.{◌≡◌, ◌∷◌, [], IsUtf8};
 ghost use Rattle.asm_slots.specs.Codes.{IsOneOf, ASM_DONE, ASM_MEMORY, ASM_EMPTY, ASM_SMALL, ASM_SHAPE};
 ghost use Rattle.asm_slots.specs.Own.{IsOwnOfName, IsOwnState};
 ghost use Rattle.asm_slots.specs.Slots.{Holds, HoldsNoAgent, content_of};
-ghost use Rattle.asm_slots.specs.Written.{IsTooLong, IsWritten};
+ghost use Rattle.asm_slots.specs.Written.{TellsText};
 
-use asm_slots::Slot;
-use asm_slots::codes::{EMPTY, MEMORY, copied};
+use asm_slots::codes::{MEMORY, copied};
 use asm_slots::own_state::{own_state, scanned};
-use asm_slots::take_and_put::{put_agent, take_agent};
+use asm_slots::take_and_put::agent_in;
+use asm_slots::{Slot, in_box};
 use std::alloc::{AllocError, Global};
 
 /// Writes the agent's own state `[PAIR, ..]`, in ascending order of locations; `number` is how many moves have
@@ -26,23 +26,14 @@ pub extern "C" fn asm_state(
 ) -> i32
     ensures codes { IsOneOf (ASM_DONE ∷ ASM_MEMORY ∷ ASM_EMPTY ∷ ASM_SMALL ∷ []) result }
     ensures kept { content_of agent.new ≡ content_of agent.old }
-    ensures told { result ≡ ASM_DONE → Holds (content_of agent.old)
-        (λ a. IsWritten (IsOwnState a number.new) out.new written.new) }
-    ensures small { result ≡ ASM_SMALL → Holds (content_of agent.old)
-        (λ a. IsTooLong (IsOwnState a number.new) (length out.old) written.new) }
+    ensures text { TellsText (λ text. Holds (content_of agent.old) (λ a. IsOwnState a number.new text))
+        out.old out.new written.new result }
     ensures empty { result ≡ ASM_EMPTY → HoldsNoAgent (content_of agent.old) }
-    ensures no_text { IsOneOf (ASM_MEMORY ∷ ASM_EMPTY ∷ []) result → written.new ≡ 0 }
     ensures no_number { IsOneOf (ASM_MEMORY ∷ ASM_EMPTY ∷ []) result → number.new ≡ 0 }
-    ensures unwritten { result ≢ ASM_DONE → out.new ≡ out.old }
 {
     *number = 0;
     *written = 0;
-    let Some((shell, inner)) = take_agent(alloc, agent) else {
-        return EMPTY;
-    };
-    let stood = own_state(alloc, &inner);
-    put_agent(agent, shell, inner);
-    match stood {
+    match in_box!(alloc, agent, agent_in, inner => own_state(alloc, inner)) {
         Ok(stood) => {
             *number = stood.number;
             copied(stood.text.as_bytes(), out, written)
@@ -69,24 +60,15 @@ pub extern "C" fn asm_scan(
 ) -> i32
     ensures codes { IsOneOf (ASM_DONE ∷ ASM_MEMORY ∷ ASM_EMPTY ∷ ASM_SMALL ∷ ASM_SHAPE ∷ []) result }
     ensures kept { content_of agent.new ≡ content_of agent.old }
-    ensures told { result ≡ ASM_DONE → Holds (content_of agent.old)
-        (λ a. IsWritten (IsOwnOfName name.now a number.new) out.new written.new) }
-    ensures small { result ≡ ASM_SMALL → Holds (content_of agent.old)
-        (λ a. IsTooLong (IsOwnOfName name.now a number.new) (length out.old) written.new) }
+    ensures text { TellsText (λ text. Holds (content_of agent.old) (λ a. IsOwnOfName name.now a number.new text))
+        out.old out.new written.new result }
     ensures shape { result ≡ ASM_SHAPE → ¬ IsUtf8 name.now }
     ensures empty { result ≡ ASM_EMPTY → HoldsNoAgent (content_of agent.old) }
-    ensures no_text { IsOneOf (ASM_MEMORY ∷ ASM_EMPTY ∷ ASM_SHAPE ∷ []) result → written.new ≡ 0 }
     ensures no_number { IsOneOf (ASM_MEMORY ∷ ASM_EMPTY ∷ ASM_SHAPE ∷ []) result → number.new ≡ 0 }
-    ensures unwritten { result ≢ ASM_DONE → out.new ≡ out.old }
 {
     *number = 0;
     *written = 0;
-    let Some((shell, inner)) = take_agent(alloc, agent) else {
-        return EMPTY;
-    };
-    let scanned = scanned(alloc, &inner, name);
-    put_agent(agent, shell, inner);
-    match scanned {
+    match in_box!(alloc, agent, agent_in, inner => scanned(alloc, inner, name)) {
         Ok(stood) => {
             *number = stood.number;
             copied(stood.text.as_bytes(), out, written)

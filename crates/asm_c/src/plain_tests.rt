@@ -1,11 +1,11 @@
 //! Calls without text: prepared locations, and moves that are gathered in slots.
 use crate::committing::asm_commit;
 use crate::instructing::asm_instruct;
-use crate::looking_at::{asm_get_at, asm_peek_at};
 use crate::prepared::asm_location;
 use crate::pushing_moves::{asm_extend_move, asm_push_move};
 use crate::steps::asm_begin;
 use crate::test_slots::{agent, store};
+use crate::values_at::{asm_get_at, asm_peek_at};
 use asm_slots::{Numbers, Slot, ValueHead};
 use std::alloc::Global;
 

@@ -3,9 +3,7 @@ ghost use Rattle.std.specs.Prelude.{◌≡◌};
 ghost use Rattle.asm_slots.specs.Grown.{Extends, Pushes};
 ghost use Rattle.asm_slots.specs.Slots.{content_of};
 
-use asm_slots::codes::EMPTY;
 use asm_slots::pushing::grow_of;
-use asm_slots::take_and_put::{put_both, take_both};
 use asm_slots::{Slot, Way};
 use std::alloc::Global;
 
@@ -32,21 +30,7 @@ pub extern "C" fn asm_push(
         out.old out.new written.new result }
     ensures kept { content_of agent.new ≡ content_of agent.old }
 {
-    *written = 0;
-    let Some(mut both) = take_both(alloc, agent, step) else {
-        return EMPTY;
-    };
-    let code = grow_of(
-        alloc,
-        &both.agent,
-        &mut both.step,
-        Way::Push,
-        instrs,
-        out,
-        written,
-    );
-    put_both(agent, step, both);
-    code
+    grow_of(alloc, agent, step, Way::Push, instrs, out, written)
 }
 
 /// Extends the move that was pushed last by the move `[INSTR, ..]`: what is got or pushed later is seen through
@@ -66,19 +50,5 @@ pub extern "C" fn asm_extend(
         out.old out.new written.new result }
     ensures kept { content_of agent.new ≡ content_of agent.old }
 {
-    *written = 0;
-    let Some(mut both) = take_both(alloc, agent, step) else {
-        return EMPTY;
-    };
-    let code = grow_of(
-        alloc,
-        &both.agent,
-        &mut both.step,
-        Way::Extend,
-        instrs,
-        out,
-        written,
-    );
-    put_both(agent, step, both);
-    code
+    grow_of(alloc, agent, step, Way::Extend, instrs, out, written)
 }

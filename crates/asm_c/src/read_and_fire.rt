@@ -1,10 +1,10 @@
 //! Reading, firing, and the answers to both.
-ghost use Rattle.std.specs.Prelude.{◌≡◌, ◌≢◌, ◌∷◌, [], length};
+ghost use Rattle.std.specs.Prelude.{◌≡◌, ◌∷◌, []};
 ghost use Rattle.asm_slots.specs.Answered.{Fires, Reads};
 ghost use Rattle.asm_slots.specs.Calls.{IsLastAnswer};
 ghost use Rattle.asm_slots.specs.Codes.{IsOneOf, ASM_DONE, ASM_MEMORY, ASM_EMPTY, ASM_SMALL, ASM_NONE};
 ghost use Rattle.asm_slots.specs.Slots.{Holds, HoldsNoAgent, content_of};
-ghost use Rattle.asm_slots.specs.Written.{IsTooLong, IsWritten};
+ghost use Rattle.asm_slots.specs.Written.{TellsText};
 
 use asm_slots::codes::{EMPTY, MEMORY, NONE, copied};
 use asm_slots::read_and_fire::{fire_at, read_at};
@@ -65,14 +65,10 @@ pub extern "C" fn asm_answer(
 ) -> i32
     ensures codes { IsOneOf (ASM_DONE ∷ ASM_MEMORY ∷ ASM_EMPTY ∷ ASM_SMALL ∷ ASM_NONE ∷ []) result }
     ensures kept { content_of agent.new ≡ content_of agent.old }
-    ensures told { result ≡ ASM_DONE → Holds (content_of agent.old)
-        (λ a. IsWritten (IsLastAnswer a.account.receipts) out.new written.new) }
-    ensures small { result ≡ ASM_SMALL → Holds (content_of agent.old)
-        (λ a. IsTooLong (IsLastAnswer a.account.receipts) (length out.old) written.new) }
-    ensures no_text { IsOneOf (ASM_MEMORY ∷ ASM_EMPTY ∷ ASM_NONE ∷ []) result → written.new ≡ 0 }
+    ensures text { TellsText (λ text. Holds (content_of agent.old) (λ a. IsLastAnswer a.account.receipts text))
+        out.old out.new written.new result }
     ensures none { result ≡ ASM_NONE → Holds (content_of agent.old) (λ a. a.account.receipts ≡ []) }
     ensures empty { result ≡ ASM_EMPTY → HoldsNoAgent (content_of agent.old) }
-    ensures unwritten { result ≢ ASM_DONE → out.new ≡ out.old }
 {
     *written = 0;
     let Some((shell, inner)) = take_agent(alloc, agent) else {

@@ -7,9 +7,9 @@ ghost use Rattle.asm_slots.specs.Slots.{GoesStep, HoldsNoStep, HoldsStep, IfHold
 ghost use Rattle.asm_slots.specs.Steps.{HasPopped};
 
 use asm_slots::codes::{DONE, EMPTY, MEMORY, NONE, TAKEN};
-use asm_slots::steps::{get_of, has_room, put_begun};
-use asm_slots::take_and_put::{put_agent, put_both, put_shell, take_agent, take_both, take_shell};
-use asm_slots::{Content, Slot};
+use asm_slots::steps::{get_in, has_room, put_begun};
+use asm_slots::take_and_put::{put_agent, put_shell, take_agent, take_shell};
+use asm_slots::{Content, Slot, in_both};
 use std::alloc::{AllocError, Global};
 
 /// Begins a step of the agent in a slot that is empty or holds a step, which is then dropped: the agent looks on
@@ -90,12 +90,7 @@ pub extern "C" fn asm_get(
     ensures kept { content_of agent.new ≡ content_of agent.old }
 {
     *written = 0;
-    let Some(mut both) = take_both(alloc, agent, step) else {
-        return EMPTY;
-    };
-    let code = get_of(alloc, &both.agent, &mut both.step, locations, out, written);
-    put_both(agent, step, both);
-    code
+    in_both!(alloc, agent, step => get_in(alloc, agent, step, locations, out, written))
 }
 
 /// Takes away the move that was pushed last, with those that extended it.

@@ -1,21 +1,46 @@
 -- What is told of a text that was copied into a buffer, or is too long for it.
-use Rattle.std.proofs.Common.{◌≡◌, ◌<◌, ◌≤◌, ◌⊎◌, ◌∙◌, ℕ, ℤ, List, length, inl, inr, ap, refl, sym, subst, w32, of_z, to_z}
+use Rattle.std.proofs.Common.{◌≡◌, ◌∙◌, ℕ, ℤ, List, [], ◌∷◌, length, inl, inr, refl, sym, subst, w32, of_z, to_z}
 use Rattle.std.specs.Prelude.{slice_range}
-use Rattle.asm_slots.specs.Codes.{ASM_DONE, ASM_SMALL}
-use Rattle.asm_slots.specs.Written.{IsTooLong, IsWritten}
+use Rattle.asm_slots.specs.Codes.{IsOneOf, ASM_DONE, ASM_SMALL}
+use Rattle.asm_slots.specs.Written.{IsTextTooLong, IsTextWritten, Tells, TellsOneOf, TellsText}
 
 -- the code as an i32
-pub coded : (code : ℤ) → (code ≡ ASM_DONE) ⊎ (code ≡ ASM_SMALL) → to_z w32 (of_z w32 code) ≡ code
+pub coded : (code : ℤ) → IsOneOf (ASM_DONE ∷ ASM_SMALL ∷ []) code → to_z w32 (of_z w32 code) ≡ code
 coded code (inl e) = subst (λ (z : ℤ). to_z w32 (of_z w32 z) ≡ z) (sym e) refl
-coded code (inr e) = subst (λ (z : ℤ). to_z w32 (of_z w32 z) ≡ z) (sym e) refl
+coded code (inr (inl e)) = subst (λ (z : ℤ). to_z w32 (of_z w32 z) ≡ z) (sym e) refl
+coded code (inr (inr h)) = absurd h
 
--- a text of this kind that was copied
-pub is_written : (P : List ℕ → Type 0) (bytes text out : List ℕ) (written : ℕ) → bytes ≡ text → P text
-    → slice_range out 0 written ≡ bytes → written ≤ length out → IsWritten P out written
-is_written P bytes text out written same p copied fits = (subst P (sym (copied ∙ same)) p, fits)
+module _ (first : List ℤ) (P Q : ℤ → List ℕ → Type 0) (out after : List ℕ) (written : ℕ) (code : ℤ)
+    (kinds : (c : ℤ) (text : List ℕ) → P c text → Q c text) where
+  -- texts of one kind are texts of another
+  pub tells_too : (K L : List ℕ → Type 0) → ((text : List ℕ) → K text → L text) →
+      Tells first P K out after written code → Tells first Q L out after written code
+  tells_too K L longs told = record {
+    told = λ one. by_written (told.told one);
+    small = λ small. by_long (told.small small);
+    no_text = told.no_text;
+    unwritten = told.unwritten;
+  } where
+    by_written : IsTextWritten (P code) after written → IsTextWritten (Q code) after written
+    by_written (is, fits) = (kinds code (slice_range after 0 written) is, fits)
 
--- a text of this kind for which there was too little room
-pub is_too_long : (P : List ℕ → Type 0) (bytes text : List ℕ) (room written : ℕ) → bytes ≡ text → P text
-    → written ≡ length bytes → room < length bytes → IsTooLong P room written
-is_too_long P bytes text room written same p is less =
-    (text, p, is ∙ ap length same, subst (λ (xs : List ℕ). room < length xs) same less)
+    by_long : IsTextTooLong K (length out) written → IsTextTooLong L (length out) written
+    by_long (text, is, same, less) = (text, longs text is, same, less)
+
+  -- the same, where the kind goes with the code
+  pub tells_one_too : TellsOneOf first P out after written code → TellsOneOf first Q out after written code
+  tells_one_too = tells_too (λ text. (c : ℤ) × P c text) (λ text. (c : ℤ) × Q c text) by_code where
+    by_code : (text : List ℕ) → ((c : ℤ) × P c text) → (c : ℤ) × Q c text
+    by_code text (c, is) = (c, kinds c text is)
+
+-- where these bytes are told, a text of a kind that they are of is told; the code as an i32
+pub retold : (IsText : List ℕ → Type 0) (bytes text out after : List ℕ) (written : ℕ) (code : ℤ) → bytes ≡ text → IsText text →
+    IsOneOf (ASM_DONE ∷ ASM_SMALL ∷ []) code → TellsText (λ t. t ≡ bytes) out after written code →
+    TellsText IsText out after written (to_z w32 (of_z w32 code))
+retold IsText bytes text out after written code same is codes told =
+    subst (TellsText IsText out after written) (sym (coded code codes))
+    (tells_too (ASM_DONE ∷ []) (λ c t. t ≡ bytes) (λ c. IsText) out after written code (λ c. kind)
+    (λ t. t ≡ bytes) IsText kind told)
+  where
+    kind : (t : List ℕ) → t ≡ bytes → IsText t
+    kind t e = subst IsText (sym (e ∙ same)) is

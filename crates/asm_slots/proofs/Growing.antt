@@ -1,5 +1,5 @@
 -- A step that grows or shrinks over the state at its number.
-use Rattle.std.proofs.Common.{Bool, true, false, ℕ, ℤ, slice_range, ◌≡◌, ◌≤◌, length, List, [], ◌∷◌, ◌++◌, Result, Ok, Err, refl, ap, subst, sym}
+use Rattle.std.proofs.Common.{Bool, true, false, ℕ, ℤ, ◌≡◌, ◌≤◌, length, List, [], ◌∷◌, ◌++◌, Result, Ok, Err, refl, ap, subst, sym}
 use Rattle.std.specs.Bool.{OnTrue}
 use Rattle.asm_update.specs.Fire.{Part, Old}
 use Rattle.asm_update.specs.Move.{Move}
@@ -12,13 +12,15 @@ use Rattle.asm_step.specs.declared.error.StepError.{StepError}
 use Rattle.asm_step.specs.declared.error.StepError.TheVariants.{Deep}
 use Rattle.asm_storage.specs.Storage.{AgentAt}
 use Rattle.asm_slots.specs.Bytes.{ReadAsMove}
-use Rattle.asm_slots.specs.Written.{IsTooLong, IsWritten}
+use Rattle.asm_slots.specs.Written.{TellsOneOf}
+use Rattle.asm_slots.specs.Grown.{refusals}
 use Rattle.asm_slots.specs.Own.{state_at}
 use Rattle.asm_slots.specs.Standard.{Standard, standard, part}
 use Rattle.asm_slots.specs.Step.{StepView}
 use Rattle.asm_slots.specs.Steps.{HasPopped, HasReached, IsAnsweredBelow, IsGrown, IsLayered, IsNotGrown, IsPushError, IsRefused, TellsRefusal, below, grown}
 use Rattle.asm_slots.specs.declared.owned_step.Way.{Way}
 use Rattle.asm_slots.specs.declared.owned_step.Way.TheVariants as ways
+use Rattle.asm_slots.proofs.CopiedTexts.{tells_one_too}
 use Rattle.asm_slots.proofs.OwnStates.{IsOwn, below_is}
 
 -- what a push or an extension owes to proper states that have what is below the step where partial updates are
@@ -102,31 +104,27 @@ module _ (way : Way) (a : AgentAt Standard) (s : StateView) (t inside : StepView
       (subst (λ (x : List Layer). AnswersOn (value_at s) inside.layers x M (Err e)) kept on) in
       (e, subst (λ (x : StepView). IsPushError way M a x e) view error, told)
 
-  pub is_refused : (code : ℤ) (out : List ℕ) (written : ℕ) → inside ≡ t → IsOwn a s → s.number ≡ inside.number →
+  pub is_refused : (out after : List ℕ) (written : ℕ) (code : ℤ) → inside ≡ t → IsOwn a s → s.number ≡ inside.number →
       (way ≡ ways.Extend → ¬ (e ≡ Deep)) → ls ≡ inside.layers →
       IsAnswer standard (value_at s) inside.layers ls M (Err e) → AnswersOn (value_at s) inside.layers ls M (Err e) →
-      IsWritten (TellsRefusal e code) out written →
-      IsWritten (IsRefused way M a t code) out written
-  is_refused code out written view own same deep kept answer on (told, fits) =
-      (told_of code (slice_range out 0 written) view own same deep kept answer on told, fits)
-
-  pub is_refused_long : (room written : ℕ) → inside ≡ t → IsOwn a s → s.number ≡ inside.number →
-      (way ≡ ways.Extend → ¬ (e ≡ Deep)) → ls ≡ inside.layers →
-      IsAnswer standard (value_at s) inside.layers ls M (Err e) → AnswersOn (value_at s) inside.layers ls M (Err e) →
-      IsTooLong (λ text. (code : ℤ) × TellsRefusal e code text) room written →
-      IsTooLong (λ text. (code : ℤ) × IsRefused way M a t code text) room written
-  is_refused_long room written view own same deep kept answer on (text, (code, told), is, less) =
-      (text, (code, told_of code text view own same deep kept answer on told), is, less)
+      TellsOneOf refusals (TellsRefusal e) out after written code →
+      TellsOneOf refusals (IsRefused way M a t) out after written code
+  is_refused out after written code view own same deep kept answer on =
+      tells_one_too refusals (TellsRefusal e) (IsRefused way M a t) out after written code
+      (λ c text told. told_of c text view own same deep kept answer on told)
 
 -- the same of a move that the bytes are JSON of
-module _ (way : Way) (bytes : List ℕ) (M : Move) (a : AgentAt Standard) (t : StepView) (reads : ReadAsMove bytes M) where
-  pub not_grown : (code : ℤ) (out : List ℕ) (written : ℕ) → IsWritten (IsRefused way M a t code) out written →
-      IsWritten (IsNotGrown way bytes a t code) out written
-  not_grown code out written (refused, fits) = ((M, reads, refused), fits)
+pub not_grown : (way : Way) (bytes : List ℕ) (M : Move) (a : AgentAt Standard) (t : StepView) → ReadAsMove bytes M →
+    (out after : List ℕ) (written : ℕ) (code : ℤ) → TellsOneOf refusals (IsRefused way M a t) out after written code →
+    TellsOneOf refusals (IsNotGrown way bytes a t) out after written code
+not_grown way bytes M a t reads out after written code =
+    tells_one_too refusals (IsRefused way M a t) (IsNotGrown way bytes a t) out after written code
+    (λ c text refused. (M, reads, refused))
 
-  pub not_grown_long : (room written : ℕ) → IsTooLong (λ text. (code : ℤ) × IsRefused way M a t code text) room written →
-      IsTooLong (λ text. (code : ℤ) × IsNotGrown way bytes a t code text) room written
-  not_grown_long room written (text, (code, refused), is, less) = (text, (code, (M, reads, refused)), is, less)
+-- what isn't an extension is a push
+pub pushes : (way : Way) → ¬ (way ≡ ways.Extend) → way ≡ ways.Push
+pushes ways.Push other = refl
+pushes ways.Extend other = absurd (other refl)
 
 -- the topmost layer is gone, and the step is of the groups before the last one
 pub is_popped : (b : Bool) (old : StepView) (ls : List Layer) → OnTrue b ((y : Layer) × (old.layers ≡ ls ++ y ∷ [])) →

@@ -1,26 +1,58 @@
--- What is so of the agent that a slot holds, and is told in a text that was copied into a buffer or is too long for it.
-use Rattle.std.proofs.Common.{◌≡◌, ◌<◌, ◌≤◌, ℕ, List, Option, Some, length, subst, sym}
-use Rattle.std.specs.Prelude.{slice_range}
+-- What is so of the agent that a slot holds, and of the step that another does.
+use Rattle.std.proofs.Common.{◌≡◌, ℕ, ℤ, List, [], ◌∷◌, Option, Some, subst, sym, w32, of_z, to_z}
+use Rattle.asm_update.specs.Move.{Move}
 use Rattle.asm_storage.specs.Storage.{AgentAt}
-use Rattle.asm_slots.specs.Slots.{Holds}
+use Rattle.asm_slots.specs.Written.{TellsOneOf, TellsText}
+use Rattle.asm_slots.specs.Codes.{IsOneOf, ASM_DONE, ASM_SMALL}
+use Rattle.asm_slots.specs.Slots.{HoldBoth, Holds, HoldsMove, HoldsStep}
 use Rattle.asm_slots.specs.Standard.{Standard}
-use Rattle.asm_slots.specs.Written.{IsTooLong, IsWritten}
+use Rattle.asm_slots.specs.Step.{StepView}
 use Rattle.asm_slots.specs.declared.content.Content.{Content}
 use Rattle.asm_slots.specs.declared.content.Content.TheVariants as content
-use Rattle.asm_slots.proofs.CopiedTexts.{is_too_long, is_written}
+use Rattle.asm_slots.proofs.CopiedTexts.{retold, tells_one_too, tells_too}
 
 holds : (o : Option Content) (a : AgentAt Standard) (P : AgentAt Standard → Type 0) → o ≡ Some (content.Agent a) → P a →
     Holds o P
 holds o a P is p = subst (λ (x : Option Content). Holds x P) (sym is) p
 
--- a text of this kind is told of the agent
-module _ (o : Option Content) (a : AgentAt Standard) (P : AgentAt Standard → List ℕ → Type 0) (is : o ≡ Some (content.Agent a))
-    (bytes text : List ℕ) (same : bytes ≡ text) (p : P a text) where
-  pub holds_written : (out : List ℕ) (written : ℕ) → slice_range out 0 written ≡ bytes → written ≤ length out →
-      Holds o (λ b. IsWritten (P b) out written)
-  holds_written out written copied fits =
-      holds o a (λ b. IsWritten (P b) out written) is (is_written (P a) bytes text out written same p copied fits)
+-- where these bytes are told, a text is told that is so of the agent
+pub holds_told : (o : Option Content) (a : AgentAt Standard) (P : AgentAt Standard → List ℕ → Type 0)
+    (bytes text out after : List ℕ) (written : ℕ) (code : ℤ) → o ≡ Some (content.Agent a) → bytes ≡ text → P a text →
+    IsOneOf (ASM_DONE ∷ ASM_SMALL ∷ []) code → TellsText (λ t. t ≡ bytes) out after written code →
+    TellsText (λ t. Holds o (λ b. P b t)) out after written (to_z w32 (of_z w32 code))
+holds_told o a P bytes text out after written code is same so =
+    retold (λ t. Holds o (λ b. P b t)) bytes text out after written code same (holds o a (λ b. P b text) is so)
 
-  pub holds_long : (room written : ℕ) → written ≡ length bytes → room < length bytes → Holds o (λ b. IsTooLong (P b) room written)
-  holds_long room written long less =
-      holds o a (λ b. IsTooLong (P b) room written) is (is_too_long (P a) bytes text room written same p long less)
+hold_both : (agent step : Option Content) (a : AgentAt Standard) (s : StepView) (P : AgentAt Standard → StepView → Type 0) →
+    agent ≡ Some (content.Agent a) → step ≡ Some (content.Step s) → P a s → HoldBoth agent step P
+hold_both agent step a s P e f p =
+    subst (λ (x : Option Content). HoldBoth x step P) (sym e) (subst (λ (x : Option Content). HoldsStep x (P a)) (sym f) p)
+
+module _ (first : List ℤ) (agent step : Option Content) (a : AgentAt Standard) (s : StepView) (out after : List ℕ) (written : ℕ)
+    (code : ℤ) (e : agent ≡ Some (content.Agent a)) (f : step ≡ Some (content.Step s)) where
+  -- what is told of an agent and a step is told of both slots
+  pub both_told : (P : AgentAt Standard → StepView → ℤ → List ℕ → Type 0) → TellsOneOf first (P a s) out after written code →
+      TellsOneOf first (λ c t. HoldBoth agent step (λ b r. P b r c t)) out after written code
+  both_told P =
+      tells_one_too first (P a s) (λ c t. HoldBoth agent step (λ b r. P b r c t)) out after written code
+      (λ c t is. hold_both agent step a s (λ b r. P b r c t) e f is)
+
+  -- and of the move in a box
+  pub move_told : (P : Move → AgentAt Standard → StepView → ℤ → List ℕ → Type 0) (held : Content) (M : Move) →
+      held ≡ content.Move M → TellsOneOf first (P M a s) out after written code →
+      TellsOneOf first (λ c t. HoldsMove (Some held) (λ N. HoldBoth agent step (λ b r. P N b r c t))) out after written code
+  move_told P held M is =
+      tells_one_too first (P M a s) (λ c t. HoldsMove (Some held) (λ N. HoldBoth agent step (λ b r. P N b r c t)))
+      out after written code
+      (λ c t so. subst (λ (x : Content). HoldsMove (Some x) (λ N. HoldBoth agent step (λ b r. P N b r c t))) (sym is)
+      (hold_both agent step a s (λ b r. P M b r c t) e f so))
+
+-- the same of a text of one kind
+pub both_text_told : (agent step : Option Content) (a : AgentAt Standard) (s : StepView) (out after : List ℕ) (written : ℕ) (code : ℤ) →
+    agent ≡ Some (content.Agent a) → step ≡ Some (content.Step s) → (P : AgentAt Standard → StepView → List ℕ → Type 0) →
+    TellsText (P a s) out after written code → TellsText (λ t. HoldBoth agent step (λ b r. P b r t)) out after written code
+both_text_told agent step a s out after written code e f P =
+    let Both : List ℕ → Type 0 = λ t. HoldBoth agent step (λ b r. P b r t) in
+    let held : (t : List ℕ) → P a s t → HoldBoth agent step (λ b r. P b r t) =
+    λ t is. hold_both agent step a s (λ b r. P b r t) e f is in
+    tells_too (ASM_DONE ∷ []) (λ c. P a s) (λ c. Both) out after written code (λ c. held) (P a s) Both held

@@ -28,28 +28,28 @@ pub own_values : (a : AgentAt Standard) (s : StateView) → IsOwn a s → value_
 own_values a s own = same_old part a.storage.init (take s.number (moves_seen a.account.seen)) s own.stands
 
 pub own_peek : (a : AgentAt Standard) (s : StateView) (n : ℕ) (bytes text : List ℕ) (locations : List Place) → IsOwn a s →
-    n ≡ s.number → ReadAsLocations bytes locations → text ≡ values_text n (value_at s) locations → IsPeekOf bytes a text
-own_peek a s n bytes text locations own same reads is = (
+    s.number ≡ a.number → n ≡ s.number → ReadAsLocations bytes locations → text ≡ values_text n (value_at s) locations → IsPeekOf bytes a text
+own_peek a s n bytes text locations own stands same reads is = (
   locations,
   s.number,
   reads,
-  own.within,
+  (stands, own.within),
   is ∙ ap (λ (k : ℕ). values_text k (value_at s) locations) same
       ∙ ap (λ (o : Old). values_text s.number o locations) (own_values a s own),
 )
 
-pub own_state : (a : AgentAt Standard) (s : StateView) (S : State) (n : ℕ) (text : List ℕ) → IsOwn a s → n ≡ s.number →
-    IsProper S → ((l : Place) → val S l ≡ value_at s l) → text ≡ compact_text (state_json_of S) → IsOwnState a n text
-own_state a s S n text own same proper values is =
+pub own_state : (a : AgentAt Standard) (s : StateView) (S : State) (n : ℕ) (text : List ℕ) → IsOwn a s →
+    s.number ≡ a.number → n ≡ s.number → IsProper S → ((l : Place) → val S l ≡ value_at s l) → text ≡ compact_text (state_json_of S) → IsOwnState a n text
+own_state a s S n text own stands same proper values is =
     subst (λ (k : ℕ). IsOwnState a k text) (sym same)
-    (own.within, (S, proper, (λ l. values l ∙ ap (λ (o : Old). o l) (own_values a s own)), is))
+    ((stands, own.within), (S, proper, (λ l. values l ∙ ap (λ (o : Old). o l) (own_values a s own)), is))
 
 pub own_of_name : (a : AgentAt Standard) (s : StateView) (S : State) (name : List ℕ) (n : ℕ) (text : List ℕ) → IsOwn a s →
-    n ≡ s.number → IsProper S → ((l : Place) → val S l ≡ value_of_name s name l) → text ≡ compact_text (state_json_of S) →
+    s.number ≡ a.number → n ≡ s.number → IsProper S → ((l : Place) → val S l ≡ value_of_name s name l) → text ≡ compact_text (state_json_of S) →
     IsOwnOfName name a n text
-own_of_name a s S name n text own same proper values is =
+own_of_name a s S name n text own stands same proper values is =
     subst (λ (k : ℕ). IsOwnOfName name a k text) (sym same)
-    (own.within, (S, proper, (λ l. values l ∙ ap (λ (o : Old). of_name name o l) (own_values a s own)), is))
+    ((stands, own.within), (S, proper, (λ l. values l ∙ ap (λ (o : Old). of_name name o l) (own_values a s own)), is))
 
 -- the state stands at the step's number, so what is below the step is what it has
 pub below_is : (a : AgentAt Standard) (s : StateView) (t : StepView) → IsOwn a s → s.number ≡ t.number →

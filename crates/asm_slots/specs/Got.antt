@@ -5,34 +5,28 @@ use Rattle.asm_slots.specs.Codes.{IsOneOf, ASM_DONE, ASM_MEMORY, ASM_EMPTY, ASM_
 use Rattle.asm_slots.specs.Codes.{ASM_NOT_JSON, ASM_SHAPE, ASM_MOVED}
 use Rattle.asm_slots.specs.Slots.{GoesStep, HoldBoth, HoldsStep, LacksOne}
 use Rattle.asm_slots.specs.Steps.{HasGot, HasGotAll, HasReached, IsFoundText, IsGotText, WouldGetMany, WouldGetManyMore}
-use Rattle.asm_slots.specs.Written.{IsTooLong, IsWritten}
+use Rattle.asm_slots.specs.Written.{TellsText}
 use Rattle.asm_slots.specs.declared.content.Content.{Content}
 
 -- what is seen at the locations of these bytes is told, and they are got; or the code tells why not
 pub record Gets (bytes : List ℕ) (agent step after : Option Content) (out out_after : List ℕ) (written : ℕ) (code : ℤ) : Type 0 where
   pub codes : IsOneOf (ASM_DONE ∷ ASM_MEMORY ∷ ASM_EMPTY ∷ ASM_SMALL ∷ ASM_MANY ∷ ASM_NOT_JSON ∷ ASM_SHAPE ∷ ASM_MOVED ∷ []) code
-  pub told : code ≡ ASM_DONE → HoldBoth agent step (λ a s. IsWritten (IsGotText bytes a s) out_after written)
+  pub text : TellsText (λ text. HoldBoth agent step (λ a s. IsGotText bytes a s text)) out out_after written code
   pub got : code ≡ ASM_DONE → GoesStep step after (HasGot bytes)
-  pub small : code ≡ ASM_SMALL → HoldBoth agent step (λ a s. IsTooLong (IsGotText bytes a s) (length out) written)
   pub reached : IsOneOf (ASM_DONE ∷ ASM_SMALL ∷ ASM_MANY ∷ []) code → HoldBoth agent step HasReached
   pub many : code ≡ ASM_MANY → HoldsStep step (WouldGetMany bytes)
   pub not_json : code ≡ ASM_NOT_JSON → IsNoJson bytes
   pub shape : code ≡ ASM_SHAPE → IsOtherJson AreLocations bytes
   pub empty : code ≡ ASM_EMPTY → LacksOne agent step
   pub stays : code ≢ ASM_DONE → after ≡ step
-  pub no_text : IsOneOf (ASM_MEMORY ∷ ASM_EMPTY ∷ ASM_MANY ∷ ASM_NOT_JSON ∷ ASM_SHAPE ∷ ASM_MOVED ∷ []) code → written ≡ 0
-  pub unwritten : code ≢ ASM_DONE → out_after ≡ out
 
 -- the same of all locations with this function name
 pub record GetsAll (name : List ℕ) (agent step after : Option Content) (out out_after : List ℕ) (written : ℕ) (code : ℤ) : Type 0 where
   pub codes : IsOneOf (ASM_DONE ∷ ASM_MEMORY ∷ ASM_EMPTY ∷ ASM_SMALL ∷ ASM_MANY ∷ ASM_SHAPE ∷ ASM_MOVED ∷ []) code
-  pub told : code ≡ ASM_DONE → HoldBoth agent step (λ a s. IsWritten (IsFoundText name a s) out_after written)
+  pub text : TellsText (λ text. HoldBoth agent step (λ a s. IsFoundText name a s text)) out out_after written code
   pub got : code ≡ ASM_DONE → HoldBoth agent step (λ a s. HoldsStep after (HasGotAll name a s))
-  pub small : code ≡ ASM_SMALL → HoldBoth agent step (λ a s. IsTooLong (IsFoundText name a s) (length out) written)
   pub reached : IsOneOf (ASM_DONE ∷ ASM_SMALL ∷ ASM_MANY ∷ []) code → HoldBoth agent step HasReached
   pub many : code ≡ ASM_MANY → HoldBoth agent step (WouldGetManyMore name)
   pub shape : code ≡ ASM_SHAPE → ¬ IsUtf8 name
   pub empty : code ≡ ASM_EMPTY → LacksOne agent step
   pub stays : code ≢ ASM_DONE → after ≡ step
-  pub no_text : IsOneOf (ASM_MEMORY ∷ ASM_EMPTY ∷ ASM_MANY ∷ ASM_SHAPE ∷ ASM_MOVED ∷ []) code → written ≡ 0
-  pub unwritten : code ≢ ASM_DONE → out_after ≡ out

@@ -6,10 +6,14 @@ use Rattle.asm_slots.specs.Codes.{IsOneOf, ASM_DONE, ASM_CLASH, ASM_MEMORY, ASM_
 use Rattle.asm_slots.specs.Codes.{ASM_MANY, ASM_NOT_JSON, ASM_SHAPE, ASM_LARGE, ASM_MOVED, ASM_DEEP}
 use Rattle.asm_slots.specs.Slots.{HoldBoth, HoldsMove, HoldsNoMove, HoldsStep, LacksOne}
 use Rattle.asm_slots.specs.Steps.{HasGrown, IsGrown, IsNotGrown, IsRefused}
-use Rattle.asm_slots.specs.Written.{IsTooLong, IsWritten}
+use Rattle.asm_slots.specs.Written.{TellsOneOf}
 use Rattle.asm_slots.specs.declared.content.Content.{Content}
 use Rattle.asm_slots.specs.declared.owned_step.Way.{Way}
 use Rattle.asm_slots.specs.declared.owned_step.Way.TheVariants as ways
+
+-- the codes of why a move is neither pushed nor extends the last one, each with a text
+abbrev pub refusals : List ℤ
+refusals = ASM_CLASH ∷ ASM_MANY ∷ ASM_LARGE ∷ ASM_DEEP ∷ []
 
 -- the move of these bytes is pushed, or extends the one that was pushed last, and all but the step stays as it was; or the
 -- code, with the text that is written, tells why not, and the step stays too. An extension is never too deep
@@ -18,18 +22,11 @@ pub record Grows (way : Way) (instrs : List ℕ) (agent step after : Option Cont
       ∷ ASM_NOT_JSON ∷ ASM_SHAPE ∷ ASM_LARGE ∷ ASM_MOVED ∷ ASM_DEEP ∷ []) code
   pub deep : code ≡ ASM_DEEP → way ≡ ways.Push
   pub grown : code ≡ ASM_DONE → HoldBoth agent step (λ a s. HoldsStep after (HasGrown way instrs a s))
-  pub told : IsOneOf (ASM_CLASH ∷ ASM_MANY ∷ ASM_LARGE ∷ ASM_DEEP ∷ []) code →
-      HoldBoth agent step (λ a s. IsWritten (IsNotGrown way instrs a s code) out_after written)
-  pub small : code ≡ ASM_SMALL → HoldBoth agent step
-      (λ a s. IsTooLong (λ text. (c : ℤ) × IsNotGrown way instrs a s c text) (length out) written)
+  pub text : TellsOneOf refusals (λ c text. HoldBoth agent step (λ a s. IsNotGrown way instrs a s c text)) out out_after written code
   pub not_json : code ≡ ASM_NOT_JSON → IsNoJson instrs
   pub shape : code ≡ ASM_SHAPE → IsOtherJson IsMoveForm instrs
   pub empty : code ≡ ASM_EMPTY → LacksOne agent step
   pub stays : code ≢ ASM_DONE → after ≡ step
-  pub no_text : IsOneOf (ASM_DONE ∷ ASM_MEMORY ∷ ASM_EMPTY ∷ ASM_NOT_JSON ∷ ASM_SHAPE ∷ ASM_MOVED ∷ []) code →
-      written ≡ 0
-  pub unwritten : IsOneOf (ASM_DONE ∷ ASM_MEMORY ∷ ASM_EMPTY ∷ ASM_SMALL ∷ ASM_NOT_JSON ∷ ASM_SHAPE ∷ ASM_MOVED ∷ []) code →
-      out_after ≡ out
 
 -- the same, of the move that a slot holds
 pub record GrowsBy (way : Way) (move agent step after : Option Content) (out out_after : List ℕ) (written : ℕ) (code : ℤ) : Type 0 where
@@ -37,14 +34,10 @@ pub record GrowsBy (way : Way) (move agent step after : Option Content) (out out
       ∷ ASM_LARGE ∷ ASM_MOVED ∷ ASM_DEEP ∷ []) code
   pub deep : code ≡ ASM_DEEP → way ≡ ways.Push
   pub grown : code ≡ ASM_DONE → HoldsMove move (λ M. HoldBoth agent step (λ a s. HoldsStep after (IsGrown way M a s)))
-  pub told : IsOneOf (ASM_CLASH ∷ ASM_MANY ∷ ASM_LARGE ∷ ASM_DEEP ∷ []) code →
-      HoldsMove move (λ M. HoldBoth agent step (λ a s. IsWritten (IsRefused way M a s code) out_after written))
-  pub small : code ≡ ASM_SMALL → HoldsMove move (λ M. HoldBoth agent step
-      (λ a s. IsTooLong (λ text. (c : ℤ) × IsRefused way M a s c text) (length out) written))
+  pub text : TellsOneOf refusals (λ c text. HoldsMove move (λ M. HoldBoth agent step (λ a s. IsRefused way M a s c text)))
+      out out_after written code
   pub empty : code ≡ ASM_EMPTY → HoldsNoMove move ⊎ LacksOne agent step
   pub stays : code ≢ ASM_DONE → after ≡ step
-  pub no_text : IsOneOf (ASM_DONE ∷ ASM_MEMORY ∷ ASM_EMPTY ∷ ASM_MOVED ∷ []) code → written ≡ 0
-  pub unwritten : IsOneOf (ASM_DONE ∷ ASM_MEMORY ∷ ASM_EMPTY ∷ ASM_SMALL ∷ ASM_MOVED ∷ []) code → out_after ≡ out
 
 -- of a push
 abbrev pub Pushes : List ℕ → Option Content → Option Content → Option Content → List ℕ → List ℕ → ℕ → ℤ → Type 0

@@ -16,7 +16,7 @@ use Rattle.asm_trace.specs.Text.{IsTrace}
 use Rattle.asm_slots.specs.Codes.{IsOneOf, ASM_DONE, ASM_MEMORY, ASM_SMALL, ASM_ILLEGAL}
 use Rattle.asm_slots.specs.Codes.{ASM_NOT_JSON, ASM_SHAPE, ASM_VERSION, ASM_CUT}
 use Rattle.asm_slots.specs.Standard.{part}
-use Rattle.asm_slots.specs.Written.{IsTooLong, IsWritten}
+use Rattle.asm_slots.specs.Written.{TellsText}
 
 -- the bytes are a journal, and this is what its check tells
 pub record IsChecked (bytes : List ℕ) (l : Legality) : Type 0 where
@@ -62,9 +62,6 @@ pub record Checks (bytes : List ℕ) (calls moves : ℕ) (code : ℤ) : Type 0 w
 -- a text of this kind is told of a journal's bytes; or the code tells why not, with the number of the line at fault
 pub record Retells (IsText : List ℕ → Type 0) (bytes out out_after : List ℕ) (written line : ℕ) (code : ℤ) : Type 0 where
   pub codes : IsOneOf (ASM_DONE ∷ ASM_MEMORY ∷ ASM_SMALL ∷ ASM_NOT_JSON ∷ ASM_SHAPE ∷ ASM_VERSION ∷ ASM_CUT ∷ []) code
-  pub told : code ≡ ASM_DONE → IsWritten IsText out_after written
-  pub small : code ≡ ASM_SMALL → IsTooLong IsText (length out) written
-  pub unwritten : code ≢ ASM_DONE → out_after ≡ out
+  pub text : TellsText IsText out out_after written code
   pub refused : IsOneOf (ASM_NOT_JSON ∷ ASM_SHAPE ∷ ASM_VERSION ∷ ASM_CUT ∷ []) code → IsRefusal bytes code line
-  pub no_text : IsOneOf (ASM_MEMORY ∷ ASM_NOT_JSON ∷ ASM_SHAPE ∷ ASM_VERSION ∷ ASM_CUT ∷ []) code → written ≡ 0
   pub no_line : IsOneOf (ASM_DONE ∷ ASM_MEMORY ∷ ASM_SMALL ∷ ASM_VERSION ∷ ASM_CUT ∷ []) code → line ≡ 0

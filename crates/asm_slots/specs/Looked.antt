@@ -10,8 +10,12 @@ use Rattle.asm_slots.specs.Codes.{ASM_RANGE, ASM_TAKEN, ASM_NOT_JSON, ASM_SHAPE}
 use Rattle.asm_slots.specs.Own.{AllStand, HasFollowed, HasLookedOn, IsStaleOf}
 use Rattle.asm_slots.specs.Slots.{Goes, HasRoomForStep, Holds, HoldsNoAgent, HoldsStep}
 use Rattle.asm_slots.specs.Step.{begun}
-use Rattle.asm_slots.specs.Written.{IsTooLong, IsWritten}
+use Rattle.asm_slots.specs.Written.{Tells}
 use Rattle.asm_slots.specs.declared.content.Content.{Content}
+
+-- the text tells the least location of the named reads of these bytes that is stale after what the slot's agent has seen
+abbrev pub IsStaleTold : List ℕ → Option Content → List ℕ → Type 0
+IsStaleTold reads agent text = Holds agent (λ a. IsStaleOf reads a text)
 
 -- the named reads of these bytes stand after what the agent has then seen, or a stale one is told; or the code tells why not.
 -- A number that is yet to come is told before the agent looks, and before more than 256 reads are
@@ -19,8 +23,7 @@ pub record Stands (reads : List ℕ) (agent after : Option Content) (out out_aft
   pub codes : IsOneOf (ASM_DONE ∷ ASM_STALE ∷ ASM_MEMORY ∷ ASM_EMPTY ∷ ASM_RANGE ∷ ASM_SMALL ∷ ASM_MANY
       ∷ ASM_NOT_JSON ∷ ASM_SHAPE ∷ []) code
   pub stand : code ≡ ASM_DONE → Holds after (AllStand reads)
-  pub told : code ≡ ASM_STALE → Holds after (λ a. IsWritten (IsStaleOf reads a) out_after written)
-  pub small : code ≡ ASM_SMALL → Holds after (λ a. IsTooLong (IsStaleOf reads a) (length out) written)
+  pub text : Tells (ASM_STALE ∷ []) (λ c. IsStaleTold reads after) (IsStaleTold reads after) out out_after written code
   pub looked : IsOneOf (ASM_DONE ∷ ASM_STALE ∷ ASM_SMALL ∷ []) code → Goes agent after HasLookedOn
   pub memory : code ≡ ASM_MEMORY → Goes agent after MayHaveLooked
   pub refused : code ≢ ASM_EMPTY → Goes agent after HasLooked
@@ -33,8 +36,6 @@ pub record Stands (reads : List ℕ) (agent after : Option Content) (out out_aft
   pub shape : code ≡ ASM_SHAPE → IsOtherJson AreReads reads
   pub empty : code ≡ ASM_EMPTY → HoldsNoAgent agent
   pub kept : IsOneOf (ASM_EMPTY ∷ ASM_RANGE ∷ ASM_MANY ∷ ASM_NOT_JSON ∷ ASM_SHAPE ∷ []) code → after ≡ agent
-  pub no_text : IsOneOf (ASM_DONE ∷ ASM_MEMORY ∷ ASM_EMPTY ∷ ASM_RANGE ∷ ASM_MANY ∷ ASM_NOT_JSON ∷ ASM_SHAPE ∷ []) code → written ≡ 0
-  pub unwritten : code ≢ ASM_STALE → out_after ≡ out
 
 -- the agent has looked on, and the other slot holds a step at so many moves; or the code tells why not, and what it held stays
 pub record Begins (agent after step step_after : Option Content) (number : ℕ) (code : ℤ) : Type 0 where

@@ -21,7 +21,7 @@ use Rattle.asm_slots.specs.Bytes.{AreMisread, ReadAsMove, ReadAsState}
 use Rattle.asm_slots.specs.Codes.{IsOneOf, ASM_DONE, ASM_CLASH, ASM_MEMORY, ASM_SMALL, ASM_MANY}
 use Rattle.asm_slots.specs.Codes.{ASM_NOT_JSON, ASM_SHAPE, ASM_LARGE}
 use Rattle.asm_slots.specs.Standard.{standard, part}
-use Rattle.asm_slots.specs.Written.{IsTooLong, IsWritten}
+use Rattle.asm_slots.specs.Written.{TellsOneOf}
 
 -- {"clash":[LOC,CAUSE]}
 abbrev pub clash_text : Clash → List ℕ
@@ -50,11 +50,8 @@ pub record IsAggregated (state instrs : List ℕ) (code : ℤ) (text : List ℕ)
 -- what the move of these bytes does on the state of those is told; or the code tells why not
 pub record Aggregates (state instrs out out_after : List ℕ) (written : ℕ) (code : ℤ) : Type 0 where
   pub codes : IsOneOf (ASM_DONE ∷ ASM_CLASH ∷ ASM_MEMORY ∷ ASM_SMALL ∷ ASM_NOT_JSON ∷ ASM_SHAPE ∷ []) code
-  pub told : IsOneOf (ASM_DONE ∷ ASM_CLASH ∷ []) code → IsWritten (IsAggregated state instrs code) out_after written
-  pub small : code ≡ ASM_SMALL → IsTooLong (λ text. (c : ℤ) × IsAggregated state instrs c text) (length out) written
+  pub text : TellsOneOf (ASM_DONE ∷ ASM_CLASH ∷ []) (IsAggregated state instrs) out out_after written code
   pub refused : IsOneOf (ASM_NOT_JSON ∷ ASM_SHAPE ∷ []) code → AreMisread IsStateForm IsMoveForm state instrs code
-  pub no_text : IsOneOf (ASM_MEMORY ∷ ASM_NOT_JSON ∷ ASM_SHAPE ∷ []) code → written ≡ 0
-  pub unwritten : IsOneOf (ASM_MEMORY ∷ ASM_SMALL ∷ ASM_NOT_JSON ∷ ASM_SHAPE ∷ []) code → out_after ≡ out
 
 -- the code and the text of what a composition answers: the move [INSTR, ..], the clash, the location where an amount or a
 -- sum is too large, or nothing where the move is too long
@@ -80,9 +77,5 @@ pub record IsComposed (first second : List ℕ) (code : ℤ) (text : List ℕ) :
 pub record Composes (first second out out_after : List ℕ) (written : ℕ) (code : ℤ) : Type 0 where
   pub codes : IsOneOf (ASM_DONE ∷ ASM_CLASH ∷ ASM_MEMORY ∷ ASM_SMALL ∷ ASM_MANY
       ∷ ASM_NOT_JSON ∷ ASM_SHAPE ∷ ASM_LARGE ∷ []) code
-  pub told : IsOneOf (ASM_DONE ∷ ASM_CLASH ∷ ASM_MANY ∷ ASM_LARGE ∷ []) code →
-      IsWritten (IsComposed first second code) out_after written
-  pub small : code ≡ ASM_SMALL → IsTooLong (λ text. (c : ℤ) × IsComposed first second c text) (length out) written
+  pub text : TellsOneOf (ASM_DONE ∷ ASM_CLASH ∷ ASM_MANY ∷ ASM_LARGE ∷ []) (IsComposed first second) out out_after written code
   pub refused : IsOneOf (ASM_NOT_JSON ∷ ASM_SHAPE ∷ []) code → AreMisread IsMoveForm IsMoveForm first second code
-  pub no_text : IsOneOf (ASM_MEMORY ∷ ASM_NOT_JSON ∷ ASM_SHAPE ∷ []) code → written ≡ 0
-  pub unwritten : IsOneOf (ASM_MEMORY ∷ ASM_SMALL ∷ ASM_NOT_JSON ∷ ASM_SHAPE ∷ []) code → out_after ≡ out

@@ -23,24 +23,28 @@ use Rattle.asm_slots.specs.Standard.{Standard, meaning, part}
 abbrev pub state_at : AgentAt Standard → ℕ → State
 state_at a n = state_of part a.storage.init (take n (moves_seen a.account.seen))
 
+-- the agent's own state stands at this number, and the agent has seen so many moves
+abbrev pub StandsAt : AgentAt Standard → ℕ → Type 0
+StandsAt a n = (n ≡ a.number) × (n ≤ length a.account.seen)
+
 -- {"number":N,"values":[VALUE, ..]}: what is seen at the locations after so many moves
 abbrev pub values_text : ℕ → Old → List Place → List ℕ
 values_text n seen locations = compact_text (answer_json_of (answer.Read n (map seen locations)))
 
 -- the bytes are JSON of locations, and the text tells what the first moves that the agent has seen leave there, as many
--- as its number says
+-- as its own state has followed
 abbrev pub IsPeekOf : List ℕ → AgentAt Standard → List ℕ → Type 0
 IsPeekOf bytes a text =
-    (locations : List Place) × (n : ℕ) × ReadAsLocations bytes locations × (n ≤ length a.account.seen)
+    (locations : List Place) × (n : ℕ) × ReadAsLocations bytes locations × StandsAt a n
     × (text ≡ values_text n (val (state_at a n)) locations)
 
--- kind, number and bytes tell what the first so many moves leave at the location, of those that the agent has seen
+-- kind, number and bytes tell what the first so many moves leave at the location, at which the agent's own state stands
 abbrev pub IsToldAt : Place → AgentAt Standard → ℕ → ℤ → ℤ → List ℕ → Type 0
-IsToldAt l a n kind number bytes = (n ≤ length a.account.seen) × IsTold (val (state_at a n) l) kind number bytes
+IsToldAt l a n kind number bytes = StandsAt a n × IsTold (val (state_at a n) l) kind number bytes
 
--- the bytes tell what some first moves leave at the location, of those that the agent has seen
+-- the bytes tell what the moves leave at the location at which the agent's own state stands
 abbrev pub HasBytesAt : Place → AgentAt Standard → List ℕ → Type 0
-HasBytesAt l a bytes = (n : ℕ) × (n ≤ length a.account.seen) × (bytes ≡ bytes_of (val (state_at a n) l))
+HasBytesAt l a bytes = (n : ℕ) × StandsAt a n × (bytes ≡ bytes_of (val (state_at a n) l))
 
 -- the text is the JSON of a state without undef, which has these values
 abbrev pub IsTextOfState : Old → List ℕ → Type 0
@@ -51,21 +55,21 @@ IsTextOfState values text =
 abbrev pub of_name : List ℕ → Old → Old
 of_name name old l = if pointwise nat_eq l.name name then old l else undef
 
--- the text is the JSON of the state that the first so many moves leave, of those that the agent has seen
+-- the text is the JSON of the state that the first so many moves leave, at which the agent's own state stands
 abbrev pub IsOwnState : AgentAt Standard → ℕ → List ℕ → Type 0
-IsOwnState a n text = (n ≤ length a.account.seen) × IsTextOfState (val (state_at a n)) text
+IsOwnState a n text = StandsAt a n × IsTextOfState (val (state_at a n)) text
 
 -- the same, with the locations of this function name alone
 abbrev pub IsOwnOfName : List ℕ → AgentAt Standard → ℕ → List ℕ → Type 0
-IsOwnOfName name a n text = (n ≤ length a.account.seen) × IsTextOfState (of_name name (val (state_at a n))) text
+IsOwnOfName name a n text = StandsAt a n × IsTextOfState (of_name name (val (state_at a n))) text
 
 -- it has looked on until it found nothing more, and nothing else
 abbrev pub HasLookedOn : AgentAt Standard → AgentAt Standard → Type 0
 HasLookedOn old new = HasLooked old new × Missed old (last_look new) new
 
--- it has looked on until it found nothing more, and has then seen so many moves
+-- it has looked on until it found nothing more, and has then seen so many moves, where its own state stands
 abbrev pub HasFollowed : ℕ → AgentAt Standard → AgentAt Standard → Type 0
-HasFollowed n old new = HasLookedOn old new × (n ≡ length new.account.seen)
+HasFollowed n old new = HasLookedOn old new × (n ≡ length new.account.seen) × (n ≡ new.number)
 
 -- the bytes are JSON of named reads, and none of them is stale after what the agent has then seen
 abbrev pub AllStand : List ℕ → AgentAt Standard → Type 0

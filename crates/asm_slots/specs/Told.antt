@@ -5,9 +5,14 @@ use Rattle.asm_slots.specs.Kinds.{IsTold, bytes_of}
 use Rattle.asm_slots.specs.Own.{HasBytesAt, IsToldAt}
 use Rattle.asm_slots.specs.Slots.{GoesStep, HoldBoth, Holds, HoldsLocation, HoldsNoAgent, HoldsNoLocation, HoldsStep, LacksOne}
 use Rattle.asm_slots.specs.Steps.{HasGotOne, HasReached, WouldGetOneMore, seen}
-use Rattle.asm_slots.specs.Written.{IsTooLong, IsWritten}
+use Rattle.asm_element.specs.declared.value.Value.{Value}
+use Rattle.asm_slots.specs.Written.{Tells}
 use Rattle.asm_slots.specs.declared.content.Content.{Content}
 use Rattle.asm_slots.specs.declared.value_head.ValueHead.{ValueHead}
+
+-- the value is told: its bytes are written, and kind and number tell the rest
+abbrev pub TellsValue : Value → ValueHead → List ℕ → List ℕ → ℕ → ℤ → Type 0
+TellsValue v head = Tells (ASM_DONE ∷ []) (λ code. IsTold v head.kind head.number) (λ bytes. bytes ≡ bytes_of v)
 
 -- the value is told by nothing
 abbrev pub IsNoValue : ValueHead → Type 0
@@ -16,27 +21,21 @@ IsNoValue value = (value.kind ≡ pos 0) × (value.number ≡ pos 0)
 -- the agent's own state, which stands at so many moves, tells the value at the location; or the code tells why not
 pub record PeeksAt (at agent : Option Content) (number : ℕ) (value : ValueHead) (out out_after : List ℕ) (written : ℕ) (code : ℤ) : Type 0 where
   pub codes : IsOneOf (ASM_DONE ∷ ASM_MEMORY ∷ ASM_EMPTY ∷ ASM_SMALL ∷ []) code
-  pub told : code ≡ ASM_DONE → HoldsLocation at (λ l. Holds agent
-      (λ a. IsWritten (IsToldAt l a number value.kind value.number) out_after written))
-  pub small : code ≡ ASM_SMALL → HoldsLocation at (λ l. Holds agent (λ a. IsTooLong (HasBytesAt l a) (length out) written))
+  pub text : Tells (ASM_DONE ∷ []) (λ c bytes. HoldsLocation at (λ l. Holds agent (λ a. IsToldAt l a number value.kind value.number bytes)))
+      (λ bytes. HoldsLocation at (λ l. Holds agent (λ a. HasBytesAt l a bytes))) out out_after written code
   pub empty : code ≡ ASM_EMPTY → HoldsNoLocation at ⊎ HoldsNoAgent agent
-  pub no_text : IsOneOf (ASM_MEMORY ∷ ASM_EMPTY ∷ []) code → written ≡ 0
   pub no_number : code ≢ ASM_DONE → number ≡ 0
   pub no_value : code ≢ ASM_DONE → IsNoValue value
-  pub unwritten : code ≢ ASM_DONE → out_after ≡ out
 
 -- what is seen at the location through the pushed moves is told, and the location is got; or the code tells why not
 pub record GetsAt (at agent step after : Option Content) (value : ValueHead) (out out_after : List ℕ) (written : ℕ) (code : ℤ) : Type 0 where
   pub codes : IsOneOf (ASM_DONE ∷ ASM_MEMORY ∷ ASM_EMPTY ∷ ASM_SMALL ∷ ASM_MANY ∷ ASM_MOVED ∷ []) code
-  pub told : code ≡ ASM_DONE → HoldsLocation at (λ l. HoldBoth agent step
-      (λ a s. IsWritten (IsTold (seen a s l) value.kind value.number) out_after written))
+  pub text : Tells (ASM_DONE ∷ []) (λ c bytes. HoldsLocation at (λ l. HoldBoth agent step
+      (λ a s. IsTold (seen a s l) value.kind value.number bytes)))
+      (λ bytes. HoldsLocation at (λ l. HoldBoth agent step (λ a s. bytes ≡ bytes_of (seen a s l)))) out out_after written code
   pub got : code ≡ ASM_DONE → HoldsLocation at (λ l. GoesStep step after (HasGotOne l))
-  pub small : code ≡ ASM_SMALL → HoldsLocation at (λ l. HoldBoth agent step
-      (λ a s. IsTooLong (λ bytes. bytes ≡ bytes_of (seen a s l)) (length out) written))
   pub reached : IsOneOf (ASM_DONE ∷ ASM_SMALL ∷ ASM_MANY ∷ []) code → HoldBoth agent step HasReached
   pub many : code ≡ ASM_MANY → HoldsLocation at (λ l. HoldsStep step (WouldGetOneMore l))
   pub empty : code ≡ ASM_EMPTY → HoldsNoLocation at ⊎ LacksOne agent step
   pub stays : code ≢ ASM_DONE → after ≡ step
-  pub no_text : IsOneOf (ASM_MEMORY ∷ ASM_EMPTY ∷ ASM_MANY ∷ ASM_MOVED ∷ []) code → written ≡ 0
   pub no_value : code ≢ ASM_DONE → IsNoValue value
-  pub unwritten : code ≢ ASM_DONE → out_after ≡ out

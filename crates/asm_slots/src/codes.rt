@@ -1,6 +1,7 @@
 //! The codes that calls answer, and their texts.
-ghost use Rattle.std.specs.Prelude.{◌≡◌, ◌≢◌, ◌⊎◌, ◌<◌, ◌≤◌, length, slice_range, string_bytes};
-ghost use Rattle.asm_slots.specs.Codes.{ASM_DONE, ASM_SMALL, text_of_code};
+ghost use Rattle.std.specs.Prelude.{◌∷◌, [], ◌≡◌, ◌≢◌, ◌<◌, length, string_bytes};
+ghost use Rattle.asm_slots.specs.Codes.{IsOneOf, text_of_code, ASM_DONE, ASM_SMALL};
+ghost use Rattle.asm_slots.specs.Written.{Tells, TellsText};
 
 pub const DONE: i32 = 0;
 
@@ -58,11 +59,8 @@ pub struct Told {
 /// Copies the bytes to the start of the buffer, where they fit.
 pub fn copied(bytes: &[u8], out: &mut [u8], written: &mut usize) -> i32
     ensures written { written.new ≡ length bytes.now }
-    ensures codes { (result ≡ ASM_DONE) ⊎ (result ≡ ASM_SMALL) }
-    ensures bytes { result ≡ ASM_DONE → slice_range out.new 0 written.new ≡ bytes.now }
-    ensures fits { result ≡ ASM_DONE → written.new ≤ length out.new }
-    ensures small { result ≡ ASM_SMALL → out.new ≡ out.old }
-    ensures room { result ≡ ASM_SMALL → length out.old < length bytes.now }
+    ensures codes { IsOneOf (ASM_DONE ∷ ASM_SMALL ∷ []) result }
+    ensures text { TellsText (λ text. text ≡ bytes.now) out.old out.new written.new result }
 {
     *written = bytes.len();
     if out.len() < bytes.len() {
@@ -75,12 +73,9 @@ pub fn copied(bytes: &[u8], out: &mut [u8], written: &mut usize) -> i32
 /// Copies the text to the start of the buffer and answers the code, where it fits.
 pub fn written_as(told: &Told, out: &mut [u8], written: &mut usize) -> i32
     requires { told.now.code ≢ ASM_SMALL }
-    ensures written { written.new ≡ length (string_bytes told.now.text) }
-    ensures codes { (result ≡ told.now.code) ⊎ (result ≡ ASM_SMALL) }
-    ensures bytes { result ≢ ASM_SMALL → slice_range out.new 0 written.new ≡ string_bytes told.now.text }
-    ensures fits { result ≢ ASM_SMALL → written.new ≤ length out.new }
-    ensures small { result ≡ ASM_SMALL → out.new ≡ out.old }
-    ensures room { result ≡ ASM_SMALL → length out.old < length (string_bytes told.now.text) }
+    ensures codes { IsOneOf (told.now.code ∷ ASM_SMALL ∷ []) result }
+    ensures text { Tells (told.now.code ∷ []) (λ code text. text ≡ string_bytes told.now.text)
+        (λ text. text ≡ string_bytes told.now.text) out.old out.new written.new result }
 {
     if copied(told.text.as_bytes(), out, written) == DONE {
         return told.code;

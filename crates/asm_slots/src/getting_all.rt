@@ -1,21 +1,18 @@
 //! What is seen through a step at all locations with one function name.
-ghost use Rattle.std.specs.Prelude.{◌≡◌, ◌≢◌, ◌≤◌, ◌∷◌, ◌++◌, [], length, string_bytes, IsUtf8, IfOk, IfErr, OnOk, Some};
+ghost use Rattle.std.specs.Prelude.{◌≡◌, ◌≢◌, ◌≤◌, ◌∷◌, ◌++◌, [], length, string_bytes, IsUtf8, IfOk, IfErr, OnOk};
 ghost use Rattle.std.specs.FinMap as finite;
 ghost use Rattle.asm_update.specs.State.{State};
 ghost use Rattle.asm_step.specs.Places.{AreEach};
 ghost use Rattle.asm_storage.specs.Limits.{reads_limit};
 ghost use Rattle.asm_slots.specs.Codes.{IsOneOf, ASM_DONE, ASM_MEMORY, ASM_SMALL, ASM_MANY};
 ghost use Rattle.asm_slots.specs.Codes.{ASM_SHAPE, ASM_MOVED};
-ghost use Rattle.asm_slots.specs.Got.{GetsAll};
 ghost use Rattle.asm_slots.specs.Steps.{HasGotAll, HasReached, IsFound, IsFoundText, WouldGetManyMore, from_below};
-ghost use Rattle.asm_slots.specs.Written.{IsTooLong, IsWritten};
+ghost use Rattle.asm_slots.specs.Written.{TellsText};
 
-use crate::codes::{DONE, EMPTY, MANY, MEMORY, MOVED, SHAPE, copied};
-use crate::content::Content;
+use crate::codes::{DONE, MANY, MEMORY, MOVED, SHAPE, copied};
 use crate::owned_agent::OwnedAgent;
 use crate::owned_step::{OwnedStep, each_of, from_below};
 use crate::steps::{GetError, Got};
-use crate::take_and_put::agent_in;
 use asm_element::Location;
 use asm_journal::state_text;
 use asm_storage::READS_LIMIT;
@@ -101,7 +98,8 @@ fn got_all_at(
     Ok(Got { text, all })
 }
 
-fn get_all_in(
+/// Tells what is seen at the locations with this name through the step, which are got.
+pub fn get_all_in(
     alloc: Global,
     agent: &OwnedAgent,
     step: &mut OwnedStep,
@@ -111,17 +109,12 @@ fn get_all_in(
 ) -> i32
     requires { written.old ≡ 0 }
     ensures codes { IsOneOf (ASM_DONE ∷ ASM_MEMORY ∷ ASM_SMALL ∷ ASM_MANY ∷ ASM_SHAPE ∷ ASM_MOVED ∷ []) result }
-    ensures told { result ≡ ASM_DONE →
-        IsWritten (IsFoundText name.now agent.now step.old) out.new written.new }
+    ensures text { TellsText (IsFoundText name.now agent.now step.old) out.old out.new written.new result }
     ensures got { result ≡ ASM_DONE → HasGotAll name.now agent.now step.old step.new }
-    ensures small { result ≡ ASM_SMALL →
-        IsTooLong (IsFoundText name.now agent.now step.old) (length out.old) written.new }
     ensures reached { IsOneOf (ASM_DONE ∷ ASM_SMALL ∷ ASM_MANY ∷ []) result → HasReached agent.now step.old }
     ensures many { result ≡ ASM_MANY → WouldGetManyMore name.now agent.now step.old }
     ensures shape { result ≡ ASM_SHAPE → ¬ IsUtf8 name.now }
     ensures stays { result ≢ ASM_DONE → step.new ≡ step.old }
-    ensures no_text { IsOneOf (ASM_MEMORY ∷ ASM_MANY ∷ ASM_SHAPE ∷ ASM_MOVED ∷ []) result → written.new ≡ 0 }
-    ensures unwritten { result ≢ ASM_DONE → out.new ≡ out.old }
 {
     match got_all_at(alloc, agent, step, name) {
         Ok(got) => {
@@ -135,26 +128,5 @@ fn get_all_in(
         Err(GetError::Many) => MANY,
         Err(GetError::Shape) => SHAPE,
         Err(GetError::Memory) => MEMORY,
-    }
-}
-
-/// Tells what is seen at the locations with this name through the step in a box, over the agent in another.
-pub fn get_all_of(
-    alloc: Global,
-    agent: &Content,
-    step: &mut Content,
-    name: &[u8],
-    out: &mut [u8],
-    written: &mut usize,
-) -> i32
-    requires { written.old ≡ 0 }
-    ensures { GetsAll name.now (Some agent.now) (Some step.old) (Some step.new) out.old out.new written.new result }
-{
-    let Some(agent) = agent_in(agent) else {
-        return EMPTY;
-    };
-    match step {
-        Content::Step(step) => get_all_in(alloc, agent, step, name, out, written),
-        _ => EMPTY,
     }
 }

@@ -7,21 +7,18 @@ ghost use Rattle.asm_element.specs.Place.{Place, location_cmp};
 ghost use Rattle.asm_step.specs.Places.{AreEach};
 ghost use Rattle.asm_storage.specs.Limits.{reads_limit};
 ghost use Rattle.asm_slots.specs.Codes.{IsOneOf, ASM_DONE, ASM_MEMORY, ASM_SMALL, ASM_MANY, ASM_MOVED};
-ghost use Rattle.asm_slots.specs.Kinds.{IsTold, bytes_of};
 ghost use Rattle.asm_slots.specs.Slots.{content_of};
 ghost use Rattle.asm_slots.specs.Steps.{HasGotOne, HasReached, IsCopyFor, WouldGetOneMore, seen};
-ghost use Rattle.asm_slots.specs.Told.{GetsAt, IsNoValue};
-ghost use Rattle.asm_slots.specs.Written.{IsTooLong, IsWritten};
-ghost use Rattle.asm_slots.specs.declared.content.Content.TheVariants as content;
+ghost use Rattle.asm_slots.specs.Told.{GetsAt, IsNoValue, TellsValue};
 
 use crate::codes::{DONE, EMPTY, MANY, MEMORY, MOVED};
 use crate::content::Content;
+use crate::in_both;
 use crate::owned_agent::OwnedAgent;
 use crate::owned_step::OwnedStep;
 use crate::prepared::location_in;
 use crate::slot::Slot;
 use crate::steps::GetError;
-use crate::take_and_put::{agent_in, put_both, take_both};
 use crate::value_head::{ValueHead, tell_at};
 use asm_element::Location;
 use asm_storage::READS_LIMIT;
@@ -46,7 +43,8 @@ fn copy_for(
         return Err(GetError::Many);
     }
     let copy = at.copy(alloc)?;
-    got.reserve(1)?;
+    // Twice as many places at most, and one for the first.
+    got.reserve_exact(got.len().max(1))?;
     Ok(Some(copy))
 }
 
@@ -77,17 +75,12 @@ fn get_one(
 ) -> i32
     requires { written.old ≡ 0 }
     ensures codes { IsOneOf (ASM_DONE ∷ ASM_MEMORY ∷ ASM_SMALL ∷ ASM_MANY ∷ ASM_MOVED ∷ []) result }
-    ensures told { result ≡ ASM_DONE → IsWritten
-        (IsTold (seen agent.now step.old at.now) value.new.kind value.new.number) out.new written.new }
+    ensures text { TellsValue (seen agent.now step.old at.now) value.new out.old out.new written.new result }
     ensures got { result ≡ ASM_DONE → HasGotOne at.now step.old step.new }
-    ensures small { result ≡ ASM_SMALL →
-        IsTooLong (λ bytes. bytes ≡ bytes_of (seen agent.now step.old at.now)) (length out.old) written.new }
     ensures reached { IsOneOf (ASM_DONE ∷ ASM_SMALL ∷ ASM_MANY ∷ []) result → HasReached agent.now step.old }
     ensures many { result ≡ ASM_MANY → WouldGetOneMore at.now step.old }
     ensures stays { result ≢ ASM_DONE → step.new ≡ step.old }
-    ensures no_text { IsOneOf (ASM_MEMORY ∷ ASM_MANY ∷ ASM_MOVED ∷ []) result → written.new ≡ 0 }
     ensures no_value { result ≢ ASM_DONE → value.new ≡ value.old }
-    ensures unwritten { result ≢ ASM_DONE → out.new ≡ out.old }
 {
     let state = agent.state();
     if state.number() != step.number {
@@ -106,30 +99,6 @@ fn get_one(
         note(&mut step.got, copy);
     }
     code
-}
-
-// The same, where the boxes hold an agent and a step.
-fn get_one_of(
-    alloc: Global,
-    agent: &Content,
-    step: &mut Content,
-    at: &Location,
-    value: &mut ValueHead,
-    out: &mut [u8],
-    written: &mut usize,
-) -> i32
-    requires no_text { written.old ≡ 0 }
-    requires no_value { IsNoValue value.old }
-    ensures { GetsAt (Some (content.Location at.now)) (Some agent.now) (Some step.old) (Some step.new) value.new out.old
-        out.new written.new result }
-{
-    let Some(agent) = agent_in(agent) else {
-        return EMPTY;
-    };
-    match step {
-        Content::Step(step) => get_one(alloc, agent, step, at, value, out, written),
-        _ => EMPTY,
-    }
 }
 
 /// Tells what is seen at the location in a box through the step of a slot, where it is got.
@@ -151,10 +120,5 @@ pub fn get_in_both(
     let Some(at) = location_in(held) else {
         return EMPTY;
     };
-    let Some(mut both) = take_both(alloc, agent, step) else {
-        return EMPTY;
-    };
-    let code = get_one_of(alloc, &both.agent, &mut both.step, at, value, out, written);
-    put_both(agent, step, both);
-    code
+    in_both!(alloc, agent, step => get_one(alloc, agent, step, at, value, out, written))
 }

@@ -1,5 +1,5 @@
 //! Values in an agent's own state, and whether named reads still stand: looks that leave no receipt.
-ghost use Rattle.std.specs.Prelude.{◌≡◌, ◌≢◌, ◌∷◌, [], length, map, string_bytes, IfOk, IfErr, Some};
+ghost use Rattle.std.specs.Prelude.{◌≡◌, ◌∷◌, [], map, string_bytes, IfOk, IfErr, Some};
 ghost use Rattle.asm_storage.specs.Storage.{IsSameAgent};
 ghost use Rattle.asm_slots.specs.Ahead.{ReadsAhead, ReadsWithin};
 ghost use Rattle.asm_explain.specs.Bytes.{AreLocations, IsNoJson, IsOtherJson};
@@ -8,10 +8,11 @@ ghost use Rattle.asm_slots.specs.Calls.{HasLooked, MayHaveLooked, SeesOn};
 ghost use Rattle.asm_slots.specs.Codes.{IsOneOf, ASM_DONE, ASM_STALE, ASM_MEMORY, ASM_SMALL};
 ghost use Rattle.asm_slots.specs.Codes.{ASM_RANGE, ASM_MANY, ASM_NOT_JSON, ASM_SHAPE};
 ghost use Rattle.asm_slots.specs.Own.{AllStand, HasLookedOn, IsPeekOf};
-ghost use Rattle.asm_slots.specs.Own.{IsStaleOf, IsStaleText, values_text};
+ghost use Rattle.asm_slots.specs.Own.{IsStaleText, values_text};
 ghost use Rattle.asm_slots.specs.Slots.{Holds, content_of};
-ghost use Rattle.asm_slots.specs.Written.{IsTooLong, IsWritten};
+ghost use Rattle.asm_slots.specs.Written.{Tells};
 ghost use Rattle.asm_slots.specs.declared.content.Content.TheVariants as content;
+ghost use Rattle.asm_slots.specs.Looked.{IsStaleTold};
 
 use crate::codes::{DONE, MANY, MEMORY, RANGE, STALE, Told, written_as};
 use crate::content::Content;
@@ -19,7 +20,7 @@ use crate::owned_agent::OwnedAgent;
 use crate::parsing::{code_of_text_error, locations_of, reads_of};
 use crate::slot::Slot;
 use crate::take_and_put::put_agent;
-use asm_element::{Element, Items, Location, Value};
+use asm_element::{Items, Location, Value};
 use asm_journal::answer_text;
 use asm_storage::{Answer, ReadError, Reply};
 use asm_update::Lookup;
@@ -28,10 +29,7 @@ use std::alloc::{AllocError, Global};
 fn value_at<L: Lookup>(alloc: Global, seen: &L, at: &Location) -> Result<Value, AllocError>
     ensures { IfOk result (λ value. value ≡ L.value_at seen.now at.now) }
 {
-    match seen.get(at) {
-        Some(value) => value.copy(alloc),
-        None => Ok(Value::Plain(Element::Undef)),
-    }
+    Value::copy_or_undef(alloc, seen.get(at))
 }
 
 fn values_at<L: Lookup>(
@@ -83,10 +81,7 @@ pub fn peeked(alloc: Global, agent: &OwnedAgent, locations: &[u8]) -> Result<Str
 fn tell_stale(alloc: Global, at: Location, out: &mut [u8], written: &mut usize) -> i32
     requires { written.old ≡ 0 }
     ensures codes { IsOneOf (ASM_STALE ∷ ASM_MEMORY ∷ ASM_SMALL ∷ []) result }
-    ensures told { result ≡ ASM_STALE → IsWritten (IsStaleText at) out.new written.new }
-    ensures small { result ≡ ASM_SMALL → IsTooLong (IsStaleText at) (length out.old) written.new }
-    ensures no_text { result ≡ ASM_MEMORY → written.new ≡ 0 }
-    ensures unwritten { result ≢ ASM_STALE → out.new ≡ out.old }
+    ensures text { Tells (ASM_STALE ∷ []) (λ code. IsStaleText at) (IsStaleText at) out.old out.new written.new result }
 {
     match answer_text(alloc, &Answer::Fire(Reply::Stale(at))) {
         Ok(text) => written_as(&Told { code: STALE, text }, out, written),
@@ -108,10 +103,8 @@ pub fn stands_at(
     ensures codes { IsOneOf (ASM_DONE ∷ ASM_STALE ∷ ASM_MEMORY ∷ ASM_RANGE ∷ ASM_SMALL ∷ ASM_MANY
         ∷ ASM_NOT_JSON ∷ ASM_SHAPE ∷ []) result }
     ensures stand { result ≡ ASM_DONE → Holds (content_of slot.new) (AllStand reads.now) }
-    ensures told { result ≡ ASM_STALE → Holds (content_of slot.new)
-        (λ a. IsWritten (IsStaleOf reads.now a) out.new written.new) }
-    ensures small { result ≡ ASM_SMALL → Holds (content_of slot.new)
-        (λ a. IsTooLong (IsStaleOf reads.now a) (length out.old) written.new) }
+    ensures text { Tells (ASM_STALE ∷ []) (λ code. IsStaleTold reads.now (content_of slot.new))
+        (IsStaleTold reads.now (content_of slot.new)) out.old out.new written.new result }
     ensures looked { IsOneOf (ASM_DONE ∷ ASM_STALE ∷ ASM_SMALL ∷ []) result →
         Holds (content_of slot.new) (HasLookedOn agent) }
     ensures memory { result ≡ ASM_MEMORY → Holds (content_of slot.new) (MayHaveLooked agent) }
@@ -125,9 +118,6 @@ pub fn stands_at(
     ensures shape { result ≡ ASM_SHAPE → IsOtherJson AreReads reads.now }
     ensures kept { IsOneOf (ASM_RANGE ∷ ASM_MANY ∷ ASM_NOT_JSON ∷ ASM_SHAPE ∷ []) result →
         content_of slot.new ≡ Some (content.Agent agent) }
-    ensures no_text { IsOneOf (ASM_DONE ∷ ASM_MEMORY ∷ ASM_RANGE ∷ ASM_MANY ∷ ASM_NOT_JSON ∷ ASM_SHAPE ∷ []) result →
-        written.new ≡ 0 }
-    ensures unwritten { result ≢ ASM_STALE → out.new ≡ out.old }
 {
     let reads = match reads_of(alloc, reads) {
         Ok(reads) => reads,

@@ -10,9 +10,9 @@ ghost use Rattle.asm_slots.specs.Slots.{HoldsStore};
 
 use crate::codes::{MEMORY, NONE, RANGE};
 use crate::content::Content;
-use crate::shared::{Shared, Standard};
+use crate::shared::Shared;
 use crate::store::Store;
-use asm_aggregate::standard;
+use asm_aggregate::{Standard, standard};
 use asm_journal::{JournalError, from_text, next_storage};
 use asm_storage::{Storage, StorageError};
 use std::alloc::Global;

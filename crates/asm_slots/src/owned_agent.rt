@@ -15,7 +15,8 @@ ghost use Rattle.asm_slots.specs.Ahead.{is_any_above};
 ghost use Rattle.asm_slots.specs.Own.{HasLookedOn};
 ghost use Rattle.asm_slots.specs.Calls.{HasLearnt, HasLooked, MissedFew, MissedOne, SeesOn, TellsLast};
 
-use crate::shared::{Shared, Standard};
+use crate::shared::Shared;
+use asm_aggregate::Standard;
 use asm_element::Location;
 use asm_journal::answer_text;
 use asm_state::{Named, State};
@@ -132,6 +133,7 @@ impl OwnedAgent {
     pub(crate) fn state(&self) -> &State
         ensures following { IsFollowing (machine_of meaning self.now.storage) self.now.account.seen result.now }
         ensures within { result.now.number ≤ length self.now.account.seen }
+        ensures number { result.now.number ≡ self.now.number }
     {
         self.part.state()
     }
@@ -142,6 +144,7 @@ impl OwnedAgent {
         ensures looked { HasLookedOn self result.0 }
         ensures seen { SeesOn self result.0 }
         ensures number { IfOk result.1 (λ n. n ≡ length result.0.account.seen) }
+        ensures stands { IfOk result.1 (λ n. n ≡ result.0.number) }
     {
         let OwnedAgent { shared, part } = self;
         let mut agent = Agent::of(&shared.storage, part);

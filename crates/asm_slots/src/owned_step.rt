@@ -80,7 +80,7 @@ pub(crate) fn from_below(
 ) -> Result<Vec<Location>, AllocError>
     ensures { IfOk result (λ kept. kept.items ≡ filter (shows_below step.now) locations.items) }
 {
-    let mut kept = Vec::new(alloc);
+    let mut kept = Vec::with_capacity(alloc, locations.len())?;
     for at in locations {
         if step.sees_below(&at) {
             kept.push(at)?;
@@ -135,7 +135,7 @@ fn named_at(alloc: Global, locations: Vec<Location>, number: u32) -> Result<Vec<
     ensures locations { IfOk result (λ reads. map (λ r. r.at) reads.items ≡ locations.items) }
     ensures numbers { IfOk result (λ reads. All (λ r. r.number ≡ number) reads.items) }
 {
-    let mut reads = Vec::new(alloc);
+    let mut reads = Vec::with_capacity(alloc, locations.len())?;
     for at in locations {
         reads.push(Named { at, number })?;
     }

@@ -5,9 +5,10 @@ ghost use Rattle.asm_slots.specs.Told.{IsNoValue, PeeksAt};
 
 use crate::codes::{DONE, EMPTY};
 use crate::content::Content;
+use crate::in_box;
 use crate::prepared::location_in;
 use crate::slot::Slot;
-use crate::take_and_put::{put_agent, take_agent};
+use crate::take_and_put::agent_in;
 use crate::value_head::{ValueHead, tell_at};
 use std::alloc::Global;
 
@@ -30,14 +31,12 @@ pub fn peek_in(
     let Some(at) = location_in(held) else {
         return EMPTY;
     };
-    let Some((shell, inner)) = take_agent(alloc, agent) else {
-        return EMPTY;
-    };
-    let state = inner.state();
-    let code = tell_at(alloc, state, at, value, out, written);
-    if code == DONE {
-        *number = state.number();
-    }
-    put_agent(agent, shell, inner);
-    code
+    in_box!(alloc, agent, agent_in, inner => {
+        let state = inner.state();
+        let code = tell_at(alloc, state, at, value, out, written);
+        if code == DONE {
+            *number = state.number();
+        }
+        code
+    })
 }

@@ -1,20 +1,22 @@
 //! Pushing moves onto a step, and extending the one that was pushed last.
-ghost use Rattle.std.specs.Prelude.{◌≡◌, ◌≢◌, ◌∷◌, [], ℤ, length, string_bytes, IfOk, Some};
+ghost use Rattle.std.specs.Prelude.{◌≡◌, ◌≢◌, ◌∷◌, [], string_bytes, IfOk};
 ghost use Rattle.asm_journal.specs.Event.{IsMoveForm};
 ghost use Rattle.asm_explain.specs.Bytes.{IsNoJson, IsOtherJson};
 ghost use Rattle.asm_slots.specs.Codes.{IsOneOf, ASM_DONE, ASM_CLASH, ASM_MEMORY, ASM_SMALL};
 ghost use Rattle.asm_slots.specs.Codes.{ASM_MANY, ASM_NOT_JSON, ASM_SHAPE, ASM_LARGE, ASM_MOVED, ASM_DEEP};
-ghost use Rattle.asm_slots.specs.Grown.{Grows};
+ghost use Rattle.asm_slots.specs.Grown.{Grows, refusals};
+ghost use Rattle.asm_slots.specs.Slots.{content_of};
 ghost use Rattle.asm_slots.specs.Steps.{HasGrown, IsGrown, IsNotGrown, IsRefused, TellsRefusal};
-ghost use Rattle.asm_slots.specs.Written.{IsTooLong, IsWritten};
+ghost use Rattle.asm_slots.specs.Written.{TellsOneOf};
+ghost use Rattle.asm_slots.specs.declared.owned_step.Way.TheVariants as ways;
 
-use crate::codes::{CLASH, DEEP, DONE, EMPTY, LARGE, MANY, MEMORY, MOVED, Told, written_as};
+use crate::codes::{CLASH, DEEP, DONE, LARGE, MANY, MEMORY, MOVED, Told, written_as};
 use crate::composing::{clash_text, large_text};
-use crate::content::Content;
+use crate::in_both;
 use crate::owned_agent::OwnedAgent;
 use crate::owned_step::{OwnedStep, Way, grow};
 use crate::parsing::{code_of_text_error, move_of};
-use crate::take_and_put::agent_in;
+use crate::slot::Slot;
 use asm_step::StepError;
 use asm_update::Instructions;
 use std::alloc::{AllocError, Global};
@@ -22,6 +24,7 @@ use std::alloc::{AllocError, Global};
 fn told_refusal(alloc: Global, error: StepError) -> Result<Told, AllocError>
     ensures told { IfOk result (λ t. TellsRefusal error t.code (string_bytes t.text)) }
     ensures codes { IfOk result (λ t. IsOneOf (ASM_CLASH ∷ ASM_MANY ∷ ASM_LARGE ∷ ASM_DEEP ∷ []) t.code) }
+    ensures deep { IfOk result (λ t. t.code ≡ ASM_DEEP → error ≡ StepError.Deep) }
 {
     match error {
         StepError::Clash(clash) => Ok(Told {
@@ -48,12 +51,8 @@ fn told_refusal(alloc: Global, error: StepError) -> Result<Told, AllocError>
 fn tell_refusal(alloc: Global, error: StepError, out: &mut [u8], written: &mut usize) -> i32
     requires { written.old ≡ 0 }
     ensures codes { IsOneOf (ASM_CLASH ∷ ASM_MEMORY ∷ ASM_SMALL ∷ ASM_MANY ∷ ASM_LARGE ∷ ASM_DEEP ∷ []) result }
-    ensures told { IsOneOf (ASM_CLASH ∷ ASM_MANY ∷ ASM_LARGE ∷ ASM_DEEP ∷ []) result →
-        IsWritten (TellsRefusal error result) out.new written.new }
-    ensures small { result ≡ ASM_SMALL →
-        IsTooLong (λ text. (code : ℤ) × TellsRefusal error code text) (length out.old) written.new }
-    ensures no_text { result ≡ ASM_MEMORY → written.new ≡ 0 }
-    ensures unwritten { IsOneOf (ASM_MEMORY ∷ ASM_SMALL ∷ []) result → out.new ≡ out.old }
+    ensures text { TellsOneOf refusals (TellsRefusal error) out.old out.new written.new result }
+    ensures deep { result ≡ ASM_DEEP → error ≡ StepError.Deep }
 {
     match told_refusal(alloc, error) {
         Ok(told) => written_as(&told, out, written),
@@ -75,13 +74,9 @@ pub(crate) fn grow_by(
     ensures codes { IsOneOf (ASM_DONE ∷ ASM_CLASH ∷ ASM_MEMORY ∷ ASM_SMALL ∷ ASM_MANY
         ∷ ASM_LARGE ∷ ASM_MOVED ∷ ASM_DEEP ∷ []) result }
     ensures grown { result ≡ ASM_DONE → IsGrown way instrs.now agent.now step.old step.new }
-    ensures told { IsOneOf (ASM_CLASH ∷ ASM_MANY ∷ ASM_LARGE ∷ ASM_DEEP ∷ []) result →
-        IsWritten (IsRefused way instrs.now agent.now step.old result) out.new written.new }
-    ensures small { result ≡ ASM_SMALL → IsTooLong
-        (λ text. (code : ℤ) × IsRefused way instrs.now agent.now step.old code text) (length out.old) written.new }
+    ensures text { TellsOneOf refusals (IsRefused way instrs.now agent.now step.old) out.old out.new written.new result }
+    ensures deep { result ≡ ASM_DEEP → way ≡ ways.Push }
     ensures stays { result ≢ ASM_DONE → step.new ≡ step.old }
-    ensures no_text { IsOneOf (ASM_DONE ∷ ASM_MEMORY ∷ ASM_MOVED ∷ []) result → written.new ≡ 0 }
-    ensures unwritten { IsOneOf (ASM_DONE ∷ ASM_MEMORY ∷ ASM_SMALL ∷ ASM_MOVED ∷ []) result → out.new ≡ out.old }
 {
     let state = agent.state();
     if state.number() != step.number {
@@ -107,17 +102,11 @@ fn grow_in(
     ensures codes { IsOneOf (ASM_DONE ∷ ASM_CLASH ∷ ASM_MEMORY ∷ ASM_SMALL ∷ ASM_MANY
         ∷ ASM_NOT_JSON ∷ ASM_SHAPE ∷ ASM_LARGE ∷ ASM_MOVED ∷ ASM_DEEP ∷ []) result }
     ensures grown { result ≡ ASM_DONE → HasGrown way instrs.now agent.now step.old step.new }
-    ensures told { IsOneOf (ASM_CLASH ∷ ASM_MANY ∷ ASM_LARGE ∷ ASM_DEEP ∷ []) result →
-        IsWritten (IsNotGrown way instrs.now agent.now step.old result) out.new written.new }
-    ensures small { result ≡ ASM_SMALL → IsTooLong
-        (λ text. (code : ℤ) × IsNotGrown way instrs.now agent.now step.old code text) (length out.old) written.new }
+    ensures text { TellsOneOf refusals (IsNotGrown way instrs.now agent.now step.old) out.old out.new written.new result }
+    ensures deep { result ≡ ASM_DEEP → way ≡ ways.Push }
     ensures not_json { result ≡ ASM_NOT_JSON → IsNoJson instrs.now }
     ensures shape { result ≡ ASM_SHAPE → IsOtherJson IsMoveForm instrs.now }
     ensures stays { result ≢ ASM_DONE → step.new ≡ step.old }
-    ensures no_text { IsOneOf (ASM_DONE ∷ ASM_MEMORY ∷ ASM_NOT_JSON ∷ ASM_SHAPE ∷ ASM_MOVED ∷ []) result →
-        written.new ≡ 0 }
-    ensures unwritten { IsOneOf (ASM_DONE ∷ ASM_MEMORY ∷ ASM_SMALL ∷ ASM_NOT_JSON ∷ ASM_SHAPE ∷ ASM_MOVED ∷ []) result →
-        out.new ≡ out.old }
 {
     match move_of(alloc, instrs) {
         Ok(instrs) => grow_by(alloc, agent, step, way, &instrs, out, written),
@@ -125,24 +114,20 @@ fn grow_in(
     }
 }
 
-/// Puts the move of these bytes onto the step in a box, over the agent in another.
+/// Puts the move of these bytes onto the step of a slot, over the own state of the agent in another.
 pub fn grow_of(
     alloc: Global,
-    agent: &Content,
-    step: &mut Content,
+    agent: &mut Slot,
+    step: &mut Slot,
     way: Way,
     instrs: &[u8],
     out: &mut [u8],
     written: &mut usize,
 ) -> i32
-    requires { written.old ≡ 0 }
-    ensures { Grows way instrs.now (Some agent.now) (Some step.old) (Some step.new) out.old out.new written.new result }
+    ensures grows { Grows way instrs.now (content_of agent.old) (content_of step.old) (content_of step.new)
+        out.old out.new written.new result }
+    ensures kept { content_of agent.new ≡ content_of agent.old }
 {
-    let Some(agent) = agent_in(agent) else {
-        return EMPTY;
-    };
-    match step {
-        Content::Step(step) => grow_in(alloc, agent, step, way, instrs, out, written),
-        _ => EMPTY,
-    }
+    *written = 0;
+    in_both!(alloc, agent, step => grow_in(alloc, agent, step, way, instrs, out, written))
 }

@@ -5,11 +5,11 @@ ghost use Rattle.asm_slots.specs.Slots.{content_of};
 
 use crate::codes::EMPTY;
 use crate::content::Content;
+use crate::in_both;
 use crate::owned_step::Way;
 use crate::prepared::move_in;
 use crate::pushing::grow_by;
 use crate::slot::Slot;
-use crate::take_and_put::{agent_in, put_both, take_both};
 use std::alloc::Global;
 
 pub fn grow_from(
@@ -29,15 +29,5 @@ pub fn grow_from(
     let Some(instrs) = move_in(held) else {
         return EMPTY;
     };
-    let Some(mut both) = take_both(alloc, agent, step) else {
-        return EMPTY;
-    };
-    let code = match (agent_in(&both.agent), &mut *both.step) {
-        (Some(agent), Content::Step(step)) => {
-            grow_by(alloc, agent, step, way, instrs, out, written)
-        }
-        _ => EMPTY,
-    };
-    put_both(agent, step, both);
-    code
+    in_both!(alloc, agent, step => grow_by(alloc, agent, step, way, instrs, out, written))
 }

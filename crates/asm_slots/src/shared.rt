@@ -1,13 +1,10 @@
 //! What the slots of one storage share.
 ghost use Rattle.std.specs.Prelude.{◌≡◌};
 
-use asm_aggregate::{BagAgg, CountAgg, Pair, SetAgg};
+use asm_aggregate::Standard;
 use asm_storage::Storage;
 use std::sync::Arc;
 use std::sync::atomic::{AtomicU64, Ordering};
-
-/// Sets, bags and counters, each by its own aggregator.
-pub type Standard = Pair<Pair<SetAgg, BagAgg>, CountAgg>;
 
 /// A storage, and a count that tells it from others.
 #[derive(Drop)]

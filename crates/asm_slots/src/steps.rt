@@ -7,21 +7,20 @@ ghost use Rattle.asm_step.specs.Places.{AreEach};
 ghost use Rattle.asm_explain.specs.Bytes.{AreLocations, IsNoJson, IsOtherJson};
 ghost use Rattle.asm_slots.specs.Codes.{IsOneOf, ASM_DONE, ASM_MEMORY, ASM_SMALL, ASM_MANY};
 ghost use Rattle.asm_slots.specs.Codes.{ASM_NOT_JSON, ASM_SHAPE, ASM_MOVED};
-ghost use Rattle.asm_slots.specs.Got.{Gets};
 ghost use Rattle.asm_slots.specs.Own.{values_text};
 ghost use Rattle.asm_slots.specs.Slots.{HasRoomForStep, HoldsStep, content_of};
 ghost use Rattle.asm_slots.specs.Steps.{HasGot, HasReached, IsGotText, WouldGetMany, from_below, seen};
 ghost use Rattle.asm_slots.specs.Step.{begun};
-ghost use Rattle.asm_slots.specs.Written.{IsTooLong, IsWritten};
+ghost use Rattle.asm_slots.specs.Written.{TellsText};
 
-use crate::codes::{DONE, EMPTY, MANY, MEMORY, MOVED, SHAPE, copied};
+use crate::codes::{DONE, MANY, MEMORY, MOVED, SHAPE, copied};
 use crate::content::Content;
 use crate::looking::text_of_values;
 use crate::owned_agent::OwnedAgent;
 use crate::owned_step::{OwnedStep, each_of, from_below};
 use crate::parsing::{code_of_text_error, locations_of};
 use crate::slot::Slot;
-use crate::take_and_put::{agent_in, put_shell, take_shell};
+use crate::take_and_put::{put_shell, take_shell};
 use asm_element::Location;
 use asm_storage::READS_LIMIT;
 use std::alloc::{AllocError, Global};
@@ -107,7 +106,8 @@ fn got_at(
     Ok(Got { text, all })
 }
 
-fn get_in(
+/// Tells what is seen at the locations of these bytes through the step, which are got.
+pub fn get_in(
     alloc: Global,
     agent: &OwnedAgent,
     step: &mut OwnedStep,
@@ -118,19 +118,13 @@ fn get_in(
     requires { written.old ≡ 0 }
     ensures codes { IsOneOf (ASM_DONE ∷ ASM_MEMORY ∷ ASM_SMALL ∷ ASM_MANY
         ∷ ASM_NOT_JSON ∷ ASM_SHAPE ∷ ASM_MOVED ∷ []) result }
-    ensures told { result ≡ ASM_DONE →
-        IsWritten (IsGotText locations.now agent.now step.old) out.new written.new }
+    ensures text { TellsText (IsGotText locations.now agent.now step.old) out.old out.new written.new result }
     ensures got { result ≡ ASM_DONE → HasGot locations.now step.old step.new }
-    ensures small { result ≡ ASM_SMALL →
-        IsTooLong (IsGotText locations.now agent.now step.old) (length out.old) written.new }
     ensures reached { IsOneOf (ASM_DONE ∷ ASM_SMALL ∷ ASM_MANY ∷ []) result → HasReached agent.now step.old }
     ensures many { result ≡ ASM_MANY → WouldGetMany locations.now step.old }
     ensures not_json { result ≡ ASM_NOT_JSON → IsNoJson locations.now }
     ensures shape { result ≡ ASM_SHAPE → IsOtherJson AreLocations locations.now }
     ensures stays { result ≢ ASM_DONE → step.new ≡ step.old }
-    ensures no_text { IsOneOf (ASM_MEMORY ∷ ASM_MANY ∷ ASM_NOT_JSON ∷ ASM_SHAPE ∷ ASM_MOVED ∷ []) result →
-        written.new ≡ 0 }
-    ensures unwritten { result ≢ ASM_DONE → out.new ≡ out.old }
 {
     let locations = match locations_of(alloc, locations) {
         Ok(locations) => locations,
@@ -148,26 +142,5 @@ fn get_in(
         Err(GetError::Many) => MANY,
         Err(GetError::Shape) => SHAPE,
         Err(GetError::Memory) => MEMORY,
-    }
-}
-
-/// Tells what is seen at the locations of these bytes through the step in a box, over the agent in another.
-pub fn get_of(
-    alloc: Global,
-    agent: &Content,
-    step: &mut Content,
-    locations: &[u8],
-    out: &mut [u8],
-    written: &mut usize,
-) -> i32
-    requires { written.old ≡ 0 }
-    ensures { Gets locations.now (Some agent.now) (Some step.old) (Some step.new) out.old out.new written.new result }
-{
-    let Some(agent) = agent_in(agent) else {
-        return EMPTY;
-    };
-    match step {
-        Content::Step(step) => get_in(alloc, agent, step, locations, out, written),
-        _ => EMPTY,
     }
 }

@@ -12,8 +12,8 @@ ghost use Rattle.asm_slots.specs.Closed.{IsJournalOf, IsUnseen};
 ghost use Rattle.asm_slots.specs.Standard.{meaning};
 ghost use Rattle.asm_slots.specs.Unclosed.{IsUnclosed, IsUnwritten};
 
-use crate::shared::Standard;
 use crate::store::Store;
+use asm_aggregate::Standard;
 use asm_journal::to_text;
 use asm_storage::{Agent, AgentPart, CloseError, History, Storage};
 use std::alloc::{AllocError, Global};

@@ -28,12 +28,23 @@ pub fn put_shell(slot: &mut Slot, shell: Box<Content>)
 }
 
 /// The agent in the box, if one is there.
-pub(crate) fn agent_in(held: &Content) -> Option<&OwnedAgent>
+pub fn agent_in(held: &Content) -> Option<&OwnedAgent>
     ensures some { IfSome result (λ agent. held.now ≡ content.Agent agent.now) }
     ensures none { IfNone result (HoldsNoAgent (Some held.now)) }
 {
     match held {
         Content::Agent(agent) => Some(agent),
+        _ => None,
+    }
+}
+
+/// The storage in the box, if one is there.
+pub fn store_in(held: &Content) -> Option<&Store>
+    ensures some { IfSome result (λ store. held.now ≡ content.Store store.now) }
+    ensures none { IfNone result (HoldsNoStore (Some held.now)) }
+{
+    match held {
+        Content::Store(store) => Some(store),
         _ => None,
     }
 }
@@ -120,6 +131,49 @@ pub fn put_both(agent: &mut Slot, step: &mut Slot, both: Both)
 {
     put_shell(agent, both.agent);
     put_shell(step, both.step);
+}
+
+/// What the call answers on what is in the slot's box, which it looks at; without it the code is `ASM_EMPTY`.
+#[macro_export]
+macro_rules! in_box {
+    ($alloc:expr, $slot:ident, $look:path, $inner:ident => $call:expr) => {{
+        let Some(shell) = $crate::take_and_put::take_shell($alloc, $slot) else {
+            return $crate::codes::EMPTY;
+        };
+        let Some($inner) = $look(&shell) else {
+            $crate::take_and_put::put_shell($slot, shell);
+            return $crate::codes::EMPTY;
+        };
+        let answer = $call;
+        $crate::take_and_put::put_shell($slot, shell);
+        answer
+    }};
+}
+
+/// Has the call look at the agent and change the step in the boxes of the two slots, which go back; without both
+/// the code is `ASM_EMPTY`.
+#[macro_export]
+macro_rules! in_both {
+    ($alloc:expr, $agent:ident, $step:ident => $call:expr) => {{
+        let Some(mut both) = $crate::take_and_put::take_both($alloc, $agent, $step) else {
+            return $crate::codes::EMPTY;
+        };
+        let Some(held) = $crate::take_and_put::agent_in(&both.agent) else {
+            $crate::take_and_put::put_both($agent, $step, both);
+            return $crate::codes::EMPTY;
+        };
+        let $crate::Content::Step(taken) = &mut *both.step else {
+            $crate::take_and_put::put_both($agent, $step, both);
+            return $crate::codes::EMPTY;
+        };
+        let code = {
+            let $agent = held;
+            let $step = taken;
+            $call
+        };
+        $crate::take_and_put::put_both($agent, $step, both);
+        code
+    }};
 }
 
 // A claim that no goal needs, and that can only be proved at a function: what a slot contains may go from thread to thread.

@@ -1,11 +1,11 @@
 //! Values told by kind, number and bytes.
-ghost use Rattle.std.specs.Prelude.{◌≡◌, ◌≢◌, ◌∷◌, [], pos, IfNone, IfOk, IfSome, length, string_bytes};
+ghost use Rattle.std.specs.Prelude.{◌≡◌, ◌≢◌, ◌∷◌, [], pos, IfNone, IfOk, IfSome, string_bytes};
 ghost use Rattle.serde_json.specs.Written.{compact_text};
 ghost use Rattle.asm_element.specs.declared.value.Value.TheVariants as values;
 ghost use Rattle.asm_journal.specs.Value.{value_json_of};
 ghost use Rattle.asm_slots.specs.Codes.{IsOneOf, ASM_DONE, ASM_MEMORY, ASM_SMALL};
-ghost use Rattle.asm_slots.specs.Kinds.{IsTold, bytes_of, kind_of, number_of};
-ghost use Rattle.asm_slots.specs.Written.{IsTooLong, IsWritten};
+ghost use Rattle.asm_slots.specs.Kinds.{bytes_of, kind_of, number_of};
+ghost use Rattle.asm_slots.specs.Told.{TellsValue};
 
 use crate::codes::{DONE, MEMORY, copied};
 use asm_element::{Element, Location, Value};
@@ -117,13 +117,8 @@ fn tell_value(
 ) -> i32
     requires { written.old ≡ 0 }
     ensures codes { IsOneOf (ASM_DONE ∷ ASM_MEMORY ∷ ASM_SMALL ∷ []) result }
-    ensures told { result ≡ ASM_DONE →
-        IsWritten (IsTold value.now head.new.kind head.new.number) out.new written.new }
-    ensures small { result ≡ ASM_SMALL →
-        IsTooLong (λ bytes. bytes ≡ bytes_of value.now) (length out.old) written.new }
-    ensures no_text { result ≡ ASM_MEMORY → written.new ≡ 0 }
+    ensures text { TellsValue value.now head.new out.old out.new written.new result }
     ensures no_value { result ≢ ASM_DONE → head.new ≡ head.old }
-    ensures unwritten { result ≢ ASM_DONE → out.new ≡ out.old }
 {
     let code = match bytes_in(value) {
         Some(bytes) => copied(bytes, out, written),
@@ -149,13 +144,8 @@ pub(crate) fn tell_at<L: Lookup>(
 ) -> i32
     requires { written.old ≡ 0 }
     ensures codes { IsOneOf (ASM_DONE ∷ ASM_MEMORY ∷ ASM_SMALL ∷ []) result }
-    ensures told { result ≡ ASM_DONE → IsWritten
-        (IsTold (L.value_at seen.now at.now) head.new.kind head.new.number) out.new written.new }
-    ensures small { result ≡ ASM_SMALL →
-        IsTooLong (λ bytes. bytes ≡ bytes_of (L.value_at seen.now at.now)) (length out.old) written.new }
-    ensures no_text { result ≡ ASM_MEMORY → written.new ≡ 0 }
+    ensures text { TellsValue (L.value_at seen.now at.now) head.new out.old out.new written.new result }
     ensures no_value { result ≢ ASM_DONE → head.new ≡ head.old }
-    ensures unwritten { result ≢ ASM_DONE → out.new ≡ out.old }
 {
     match seen.get(at) {
         Some(value) => tell_value(alloc, value, head, out, written),

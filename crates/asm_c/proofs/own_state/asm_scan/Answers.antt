@@ -1,19 +1,12 @@
-use Rattle.std.proofs.Common.{sym, ◌∙◌}
+use Rattle.std.proofs.Common.{◌≡◌, Some, rules}
 use Rattle.asm_slots.specs.Own.{IsOwnOfName}
-use Rattle.asm_slots.proofs.CopiedTexts.{coded}
-use Rattle.asm_slots.proofs.Held.{holds_long, holds_written}
+use Rattle.asm_slots.specs.Slots.{content_of}
+use Rattle.asm_slots.specs.declared.content.Content.TheVariants as content
+use Rattle.asm_slots.proofs.Held.{holds_told}
 use Rattle.asm_c.proofs.own_state.asm_scan.Goals as goal
 
-pub returns-in-Ok-clause-told : goal.returns-in-Ok-clause-told
-returns-in-Ok-clause-told c done =
-    let d = sym (coded c.copied.result c.copied.ensures.codes) ∙ done in
-    holds_written _ c.in-Some.inner (λ a. IsOwnOfName c.args.name.now a c.in-Ok.stood.number) c.in-Some.ensures.some
-    _ _ c.as_bytes.ensures.value c.in-Ok.ensures.ok c.copied.new.out c.copied.new.written
-    (c.copied.ensures.bytes d) (c.copied.ensures.fits d)
-
-pub returns-in-Ok-clause-small : goal.returns-in-Ok-clause-small
-returns-in-Ok-clause-small c small =
-    let s = sym (coded c.copied.result c.copied.ensures.codes) ∙ small in
-    holds_long _ c.in-Some.inner (λ a. IsOwnOfName c.args.name.now a c.in-Ok.stood.number) c.in-Some.ensures.some
-    _ _ c.as_bytes.ensures.value c.in-Ok.ensures.ok _ c.copied.new.written
-    c.copied.ensures.written (c.copied.ensures.room s)
+pub returns-in-Ok-clause-text : goal.returns-in-Ok-clause-text
+returns-in-Ok-clause-text c =
+    let agent : content_of c.args.agent.now ≡ Some (content.Agent c.in-Some-in_box-in_box.inner.now) = search rules in
+    holds_told _ c.in-Some-in_box-in_box.inner.now (λ a. IsOwnOfName c.args.name.now a c.in-Ok.stood.number) _ _ _ c.copied.new.out c.copied.new.written c.copied.result
+    agent c.as_bytes.ensures.value c.in-Ok.ensures.ok c.copied.ensures.codes c.copied.ensures.text

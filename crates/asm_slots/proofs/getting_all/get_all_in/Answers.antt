@@ -1,15 +1,8 @@
-use Rattle.std.proofs.Common.{◌≡◌, refl, subst, sym, ◌∙◌}
+use Rattle.std.proofs.Common.{◌≡◌, refl, subst}
 use Rattle.asm_slots.specs.Step.{StepView}
 use Rattle.asm_slots.specs.Steps.{IsFoundText}
-use Rattle.asm_slots.proofs.CopiedTexts.{coded, is_too_long, is_written}
+use Rattle.asm_slots.proofs.CopiedTexts.{retold}
 use Rattle.asm_slots.proofs.getting_all.get_all_in.Goals as goal
-
-pub returns-then-code-eq-DONE-clause-told : goal.returns-then-code-eq-DONE-clause-told
-returns-then-code-eq-DONE-clause-told c done =
-    let copied = c.copied-code in
-    let d = sym (coded copied.result copied.ensures.codes) ∙ done in
-    is_written (IsFoundText c.args.name.now c.args.agent.now c.args.step.now) _ _ copied.new.out copied.new.written
-    c.as_bytes.ensures.value c.in-Ok.ensures.text (copied.ensures.bytes d) (copied.ensures.fits d)
 
 pub returns-then-code-eq-DONE-clause-got : goal.returns-then-code-eq-DONE-clause-got
 returns-then-code-eq-DONE-clause-got c done =
@@ -21,9 +14,14 @@ returns-then-code-eq-DONE-clause-got c done =
       c.in-Ok.ensures.few,
     )
 
-pub returns-else-code-eq-DONE-clause-small : goal.returns-else-code-eq-DONE-clause-small
-returns-else-code-eq-DONE-clause-small c small =
+pub returns-then-code-eq-DONE-clause-text : goal.returns-then-code-eq-DONE-clause-text
+returns-then-code-eq-DONE-clause-text c =
     let copied = c.copied-code in
-    let s = sym (coded copied.result copied.ensures.codes) ∙ small in
-    is_too_long (IsFoundText c.args.name.now c.args.agent.now c.args.step.now) _ _ _ copied.new.written
-    c.as_bytes.ensures.value c.in-Ok.ensures.text copied.ensures.written (copied.ensures.room s)
+    retold (IsFoundText c.args.name.now c.args.agent.now c.args.step.now) _ _ _ copied.new.out copied.new.written copied.result
+    c.as_bytes.ensures.value c.in-Ok.ensures.text copied.ensures.codes copied.ensures.text
+
+pub returns-else-code-eq-DONE-clause-text : goal.returns-else-code-eq-DONE-clause-text
+returns-else-code-eq-DONE-clause-text c =
+    let copied = c.copied-code in
+    retold (IsFoundText c.args.name.now c.args.agent.now c.args.step.now) _ _ _ copied.new.out copied.new.written copied.result
+    c.as_bytes.ensures.value c.in-Ok.ensures.text copied.ensures.codes copied.ensures.text

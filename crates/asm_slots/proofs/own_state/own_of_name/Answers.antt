@@ -6,4 +6,4 @@ pub returns : goal.returns
 returns c =
     own_of_name c.args.agent.now c.state-state.result.now c.in_ok-plain.plain c.args.name.now c.number.result
     (string_bytes c.in_ok-text.text)
-    c.state-state.ensures.following c.number.ensures c.proper.ensures c.in_ok-plain.ensures c.in_ok-text.ensures
+    c.state-state.ensures.following c.state-state.ensures.number c.number.ensures c.proper.ensures c.in_ok-plain.ensures c.in_ok-text.ensures

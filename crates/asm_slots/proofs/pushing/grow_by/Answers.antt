@@ -1,10 +1,10 @@
-use Rattle.std.proofs.Common.{◌∷◌, [], ℤ, sym, subst, w32, ◌∙◌}
+use Rattle.std.proofs.Common.{sym, subst, w32, ◌∙◌}
 use Rattle.std.proofs.Math.Facts.{to_z-of_z}
-use Rattle.asm_slots.specs.Codes.{IsOneOf, ASM_CLASH, ASM_MANY, ASM_LARGE, ASM_DEEP}
 use Rattle.asm_slots.specs.Step.{StepView}
 use Rattle.asm_slots.specs.Steps.{IsRefused}
-use Rattle.asm_slots.specs.Written.{IsWritten}
-use Rattle.asm_slots.proofs.Growing.{is_grown_of, is_refused, is_refused_long}
+use Rattle.asm_slots.specs.Written.{TellsOneOf}
+use Rattle.asm_slots.specs.Grown.{refusals}
+use Rattle.asm_slots.proofs.Growing.{is_grown_of, is_refused, pushes}
 use Rattle.asm_slots.proofs.pushing.grow_by.Goals as goal
 
 pub returns-in-Ok-clause-grown : goal.returns-in-Ok-clause-grown
@@ -14,23 +14,17 @@ returns-in-Ok-clause-grown c _ =
     c.step.view_is c.state-state.ensures.following (sym c.number.ensures ∙ c.if-number-step.false) c.in-Ok.ensures.layers
     c.in-Ok.ensures.answer c.in-Ok.ensures.answer_on c.in-Ok.ensures.step
 
-pub returns-clause-told : goal.returns-clause-told
-returns-clause-told c one =
+pub returns-clause-text : goal.returns-clause-text
+returns-clause-text c =
     let inside : StepView = record { number = c.step.inside.number; layers = c.step.inside.step; got = c.step.inside.got.items } in
-    let same = to_z-of_z {w = w32} (record { sfits = c.tell_refusal.type_inv }) in
-    subst (λ (code : ℤ). IsWritten (IsRefused c.args.way c.args.instrs.now c.args.agent.now c.args.step.now code)
-    c.tell_refusal.new.out c.tell_refusal.new.written) (sym same)
+    subst (TellsOneOf refusals (IsRefused c.args.way c.args.instrs.now c.args.agent.now c.args.step.now) c.args.out.now
+    c.tell_refusal.new.out c.tell_refusal.new.written) (sym (to_z-of_z {w = w32} (record { sfits = c.tell_refusal.type_inv })))
     (is_refused c.args.way c.args.agent.now c.state-state.result.now c.args.step.now inside c.grow.new.step c.args.instrs.now
-    c.in-Err.error c.tell_refusal.result c.tell_refusal.new.out c.tell_refusal.new.written c.step.view_is
+    c.in-Err.error _ c.tell_refusal.new.out c.tell_refusal.new.written c.tell_refusal.result c.step.view_is
     c.state-state.ensures.following (sym c.number.ensures ∙ c.if-number-step.false) c.in-Err.ensures.deep c.in-Err.ensures.err
-    c.in-Err.ensures.answer c.in-Err.ensures.answer_on
-    (c.tell_refusal.ensures.told (subst (IsOneOf (ASM_CLASH ∷ ASM_MANY ∷ ASM_LARGE ∷ ASM_DEEP ∷ [])) same one)))
+    c.in-Err.ensures.answer c.in-Err.ensures.answer_on c.tell_refusal.ensures.text)
 
-pub returns-clause-small : goal.returns-clause-small
-returns-clause-small c small =
-    let inside : StepView = record { number = c.step.inside.number; layers = c.step.inside.step; got = c.step.inside.got.items } in
+pub returns-clause-deep : goal.returns-clause-deep
+returns-clause-deep c is =
     let same = to_z-of_z {w = w32} (record { sfits = c.tell_refusal.type_inv }) in
-    is_refused_long c.args.way c.args.agent.now c.state-state.result.now c.args.step.now inside c.grow.new.step c.args.instrs.now
-    c.in-Err.error _ c.tell_refusal.new.written c.step.view_is
-    c.state-state.ensures.following (sym c.number.ensures ∙ c.if-number-step.false) c.in-Err.ensures.deep c.in-Err.ensures.err
-    c.in-Err.ensures.answer c.in-Err.ensures.answer_on (c.tell_refusal.ensures.small (sym same ∙ small))
+    pushes c.args.way (λ extends. c.in-Err.ensures.deep extends (c.tell_refusal.ensures.deep (sym same ∙ is)))

@@ -1,0 +1,29 @@
+use Rattle.std.proofs.Common.{◌≡◌, Some, rules, sym, subst, w32}
+use Rattle.std.proofs.Math.Facts.{to_z-of_z}
+use Rattle.asm_slots.specs.Grown.{refusals}
+use Rattle.asm_slots.specs.Slots.{HoldBoth, content_of}
+use Rattle.asm_slots.specs.Steps.{IsNotGrown}
+use Rattle.asm_slots.specs.Written.{TellsOneOf}
+use Rattle.asm_slots.specs.declared.content.Content.TheVariants as content
+use Rattle.asm_slots.proofs.Held.{both_told}
+use Rattle.asm_slots.proofs.pushing.grow_of.Goals as goal
+
+pub returns-clause-grows : goal.returns-clause-grows
+returns-clause-grows c =
+    let agent : content_of c.args.agent.now ≡ Some (content.Agent c.in-Some-agent_in.held.now) = search rules in
+    let step : content_of c.args.step.now ≡ Some (content.Step c.in-Step.taken) = search rules in
+    record {
+      codes = search rules;
+      deep = search rules;
+      grown = search rules;
+      text =
+          subst (TellsOneOf refusals (λ k t. HoldBoth (content_of c.args.agent.now) (content_of c.args.step.now)
+          (λ a s. IsNotGrown c.args.way c.args.instrs.now a s k t)) c.args.out.now c.grow_in-code.new.out c.grow_in-code.new.written)
+          (sym (to_z-of_z {w = w32} (record { sfits = c.grow_in-code.type_inv })))
+          (both_told refusals _ _ c.in-Some-agent_in.held.now c.in-Step.taken _ c.grow_in-code.new.out c.grow_in-code.new.written
+          c.grow_in-code.result agent step (IsNotGrown c.args.way c.args.instrs.now) c.grow_in-code.ensures.text);
+      not_json = search rules;
+      shape = search rules;
+      empty = search rules;
+      stays = search rules;
+    }
