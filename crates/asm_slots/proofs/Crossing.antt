@@ -16,6 +16,8 @@ use Rattle.asm_storage.specs.contracts.storage.Storage.TheInside as InsideStorag
 use Rattle.asm_element.proofs.Crossing.{location_is_sent}
 use Rattle.asm_step.proofs.Crossing.{step_is_sent}
 use Rattle.asm_slots.specs.contracts.content.Content as Content
+use Rattle.asm_slots.specs.contracts.kept_journal.KeptJournal as KeptJournal
+use Rattle.asm_slots.specs.contracts.kept_journal.KeptJournal.TheInside as InsideJournal
 use Rattle.asm_slots.specs.contracts.owned_agent.OwnedAgent as OwnedAgent
 use Rattle.asm_slots.specs.contracts.owned_agent.OwnedAgent.TheInside as InsideAgent
 use Rattle.asm_slots.specs.contracts.owned_step.OwnedStep as OwnedStep
@@ -54,8 +56,14 @@ inside_agent_is_sent = declared_send InsideAgent.the_type (Arc-send Shared.the_r
 agent_is_sent : IsSend OwnedAgent.the_row
 agent_is_sent = search (sendable, inside_agent_is_sent) depth 20
 
+inside_journal_is_sent : IsSend InsideJournal.the_row
+inside_journal_is_sent = search (sendable, Arc-send, Vec-send, state_is_sent, state_is_shared) depth 20
+
+journal_is_sent : IsSend KeptJournal.the_row
+journal_is_sent = search (sendable, inside_journal_is_sent) depth 20
+
 inside_store_is_sent : IsSend InsideStore.the_row
-inside_store_is_sent = search (sendable, Arc-send, Vec-send, shared_is_sent, shared_is_shared, part_is_sent) depth 20
+inside_store_is_sent = search (sendable, Arc-send, Vec-send, shared_is_sent, shared_is_shared, part_is_sent, journal_is_sent) depth 20
 
 store_is_sent : IsSend Store.the_row
 store_is_sent = search (sendable, inside_store_is_sent) depth 20

@@ -15,6 +15,7 @@ pub mod Calls
 pub mod Journals
 pub mod Moves
 pub mod Own
+pub mod KeptJournal
 pub mod Next
 pub mod Ahead
 pub mod Looked

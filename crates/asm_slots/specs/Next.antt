@@ -1,21 +1,16 @@
 -- The storage that goes on from the journal of another.
 use Rattle.std.specs.Prelude.{◌≡◌, ℕ, List, [], length, Option, None, Some}
-use Rattle.asm_update.specs.Fire.{state_of}
-use Rattle.asm_storage.specs.History.{fired_moves}
 use Rattle.asm_storage.specs.Storage.{StorageView}
-use Rattle.asm_storage.specs.declared.history.History.{History}
-use Rattle.asm_journal.specs.Reading.{ReadsAs}
+use Rattle.asm_slots.specs.KeptJournal.{Leaves}
 use Rattle.asm_slots.specs.Slots.{HoldsStore}
-use Rattle.asm_slots.specs.Standard.{Standard, part}
+use Rattle.asm_slots.specs.Standard.{Standard}
 use Rattle.asm_slots.specs.Store.{StoreView}
 use Rattle.asm_slots.specs.declared.content.Content.{Content}
 use Rattle.asm_slots.specs.declared.content.Content.TheVariants as content
 
 -- the bytes read as a journal, and the storage of so many moves opens with the state that its moves leave
 pub record HasOpened (bytes : List ℕ) (most : ℕ) (s : StorageView Standard) : Type 0 where
-  pub history : History
-  pub reads : ReadsAs bytes history
-  pub init : s.init ≡ state_of part history.init (fired_moves history.events)
+  pub init : Leaves bytes s.init
   pub capacity : length s.row ≡ most
 
 -- the same, of which no agent was made
@@ -32,6 +27,6 @@ abbrev pub IsNextOf : ℕ → Option Content → Option Content → Type 0
 IsNextOf capacity (Some (content.Store s)) new = HoldsStore new (GoesOn capacity s)
 IsNextOf capacity _ new = ⊥
 
--- the storage keeps no text that reads as a journal
+-- the storage keeps no journal
 abbrev pub LacksJournal : StoreView → Type 0
-LacksJournal s = (text : List ℕ) (history : History) → s.journal ≡ Some text → ¬ ReadsAs text history
+LacksJournal s = s.journal ≡ None

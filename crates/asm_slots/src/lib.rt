@@ -15,6 +15,7 @@ pub mod give_and_close;
 mod handle;
 pub mod instructing;
 pub mod journals;
+mod kept_journal;
 pub mod looking;
 mod next_store;
 pub mod opening;

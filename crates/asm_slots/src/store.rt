@@ -2,6 +2,7 @@
 ghost use Rattle.std.specs.Prelude.{◌≡◌, ◌≤◌, IfNone, IfSome, None, Some, length, string_bytes};
 ghost use Rattle.std_alloc.specs.Arc.{arc_value};
 
+use crate::kept_journal::KeptJournal;
 use crate::shared::Shared;
 use asm_storage::AgentPart;
 use std::marker::Model;
@@ -14,11 +15,11 @@ pub struct Store {
     // The number of each agent that was made: a freed agent's moves may stand in the row.
     pub(crate) numbers: Vec<u32>,
     pub(crate) parts: Vec<AgentPart>,
-    pub(crate) journal: Option<String>,
+    pub(crate) journal: Option<KeptJournal>,
 }
 
 impl Model for Store {
-    ghost use Rattle.std.specs.Prelude.{All, map, option_map, string_bytes};
+    ghost use Rattle.std.specs.Prelude.{All, map};
     ghost use Rattle.std.specs.List.Sorted.{IsStrictlyIncreasing};
     ghost use Rattle.std_alloc.specs.Arc.{arc_value};
     ghost use Rattle.asm_aggregate.specs.contracts.pair.Pair.{the_row as pair_row};
@@ -46,7 +47,7 @@ impl Model for Store {
       storage = (arc_value s.shared).storage;
       numbers = s.numbers.items;
       agents = map (agent_of (arc_value s.shared).storage) s.parts.items;
-      journal = option_map string_bytes s.journal;
+      journal = s.journal;
     } };
 
     ghost invariant = { λ s. All (IsPartOf meaning (arc_value s.shared).storage) s.parts.items
@@ -74,7 +75,7 @@ impl Store {
         ensures none { IfNone result (self.now.journal ≡ None) }
     {
         match &self.journal {
-            Some(text) => Some(text),
+            Some(journal) => Some(journal.text()),
             None => None,
         }
     }

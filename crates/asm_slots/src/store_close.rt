@@ -1,5 +1,5 @@
 //! Closing the agents that were given back into one journal.
-ghost use Rattle.std.specs.Prelude.{◌≡◌, ◌≤◌, [], All, length, map, string_bytes, vec_capacity};
+ghost use Rattle.std.specs.Prelude.{◌≡◌, ◌≤◌, [], All, length, map, vec_capacity};
 ghost use Rattle.std.specs.Prelude.{IfErr, IfOk, IfSome, OnOk, OnErr};
 ghost use Rattle.std.specs.List.Sorted.{IsStrictlyIncreasing};
 ghost use Rattle.asm_storage.specs.Agents.{ids, most_seen};
@@ -12,9 +12,9 @@ ghost use Rattle.asm_slots.specs.Closed.{IsJournalOf, IsUnseen};
 ghost use Rattle.asm_slots.specs.Standard.{meaning};
 ghost use Rattle.asm_slots.specs.Unclosed.{IsUnclosed, IsUnwritten};
 
+use crate::kept_journal::KeptJournal;
 use crate::store::Store;
 use asm_aggregate::Standard;
-use asm_journal::to_text;
 use asm_storage::{Agent, AgentPart, CloseError, History, Storage};
 use std::alloc::{AllocError, Global};
 
@@ -83,15 +83,15 @@ fn unseen_move(storage: &Storage<Standard>, agents: &[Agent<'_, Standard>]) -> O
     Some(seen + 1)
 }
 
-// The text of the agents' history as a journal, unless a move stands in the row that none of them has seen.
-fn text_of(
+// The journal of the agents' history, unless a move stands in the row that none of them has seen.
+fn written(
     alloc: Global,
     storage: &Storage<Standard>,
     agents: &[Agent<'_, Standard>],
-    history: &History,
-) -> Result<String, Unclosed>
-    ensures ok { IfOk result (λ text. Fits history.now × (string_bytes text ≡ text_of history.now)) }
-    ensures err { IfErr result (IsUnwritten storage.now agents.now history.now) }
+    history: History,
+) -> Result<KeptJournal, Unclosed>
+    ensures ok { IfOk result (λ journal. Fits history × (journal ≡ text_of history)) }
+    ensures err { IfErr result (IsUnwritten storage.now agents.now history) }
 {
     if let Some(number) = unseen_move(storage, agents) {
         return Err(Unclosed::Missing(number));
@@ -99,26 +99,26 @@ fn text_of(
     if !history.fits() {
         return Err(Unclosed::Large);
     }
-    match to_text(alloc, history) {
-        Ok(text) => Ok(text),
+    match KeptJournal::of(alloc, history) {
+        Ok(journal) => Ok(journal),
         Err(AllocError) => Err(Unclosed::Memory),
     }
 }
 
-// The text of the journal of the agents' history, unless a move has no receipt among them.
+// The journal of the agents' history, unless a move has no receipt among them.
 fn journal_of(
     alloc: Global,
     storage: &Storage<Standard>,
     agents: &[Agent<'_, Standard>],
-) -> Result<String, Unclosed>
+) -> Result<KeptJournal, Unclosed>
     requires of_this { All (IsOf storage.now) agents.now }
     requires ascending { IsStrictlyIncreasing (ids (accounts agents.now)) }
-    ensures ok { IfOk result (λ text. IsJournalOf storage.now agents.now (string_bytes text)) }
+    ensures ok { IfOk result (IsJournalOf storage.now agents.now) }
     ensures err { IfErr result (IsUnclosed storage.now agents.now) }
 {
     match storage.close(alloc, agents) {
-        Ok(history) => match text_of(alloc, storage, agents, &history) {
-            Ok(text) => Ok(text),
+        Ok(history) => match written(alloc, storage, agents, history) {
+            Ok(journal) => Ok(journal),
             Err(error) => Err(error),
         },
         Err(CloseError::Missing(number)) => Err(Unclosed::Missing(number)),
@@ -127,7 +127,7 @@ fn journal_of(
 }
 
 impl Store {
-    /// Closes the agents that were given back, and keeps the text of their journal.
+    /// Closes the agents that were given back, and keeps their journal.
     pub fn close(self, alloc: Global) -> (Store, Result<(), Unclosed>)
         ensures closed { OnOk result.1 (HasClosed self result.0) }
         ensures unchanged { OnErr result.1 (result.0 ≡ self) }
@@ -147,15 +147,15 @@ impl Store {
             journal,
         } = self;
         let agents = agents_of(&shared.storage, parts, agents);
-        let text = journal_of(alloc, &shared.storage, agents.as_slice());
+        let closed = journal_of(alloc, &shared.storage, agents.as_slice());
         let parts = parts_of(&shared.storage, agents, room);
-        match text {
-            Ok(text) => {
+        match closed {
+            Ok(kept) => {
                 let store = Store {
                     shared,
                     numbers,
                     parts,
-                    journal: Some(text),
+                    journal: Some(kept),
                 };
                 (store, Ok(()))
             }

@@ -1,8 +1,8 @@
 use Rattle.asm_slots.proofs.Unwritten.{unclosed_by}
 use Rattle.asm_slots.proofs.store_close.journal_of.Goals as goal
 
-pub returns-in-Ok-clause-err : goal.returns-in-Ok-clause-err
-returns-in-Ok-clause-err c = unclosed_by c.args.storage.now c.args.agents.now _ _ (record {
+pub returns-in-Err-clause-err : goal.returns-in-Err-clause-err
+returns-in-Err-clause-err c = unclosed_by c.args.storage.now c.args.agents.now _ _ (record {
   init = c.in-Ok.ensures.init;
   capacity = c.in-Ok.ensures.capacity;
   agents = c.in-Ok.ensures.agents;

@@ -1,4 +1,4 @@
-use Rattle.std.proofs.Common.{rules, string_bytes, List, All, subst, sym, ap, ◌∙◌}
+use Rattle.std.proofs.Common.{rules, List, All, subst, sym, ap, ◌∙◌}
 use Rattle.std.proofs.lemmas.List.Elements.{All-map}
 use Rattle.asm_storage.specs.Part.{agent_of, IsPartOf}
 use Rattle.std.specs.List.Sorted.{IsStrictlyIncreasing}
@@ -12,8 +12,8 @@ use Rattle.asm_slots.specs.Store.{StoreView}
 use Rattle.asm_slots.specs.Unclosed.{IsUnclosed}
 use Rattle.asm_slots.proofs.store.Store.close.Goals as goal
 
-pub journal_of-text-requires-clause-of_this : goal.journal_of-text-requires-clause-of_this
-journal_of-text-requires-clause-of_this c =
+pub journal_of-closed-requires-clause-of_this : goal.journal_of-closed-requires-clause-of_this
+journal_of-closed-requires-clause-of_this c =
     let of = IsOf c.deref-2.result.now.storage in
     subst (All of) (sym (c.as_slice.ensures.value ∙ c.agents_of-agents.ensures))
     (All-map of (agent_of c.deref.result.now.storage) c.self.inside.parts.items (λ k d lt. ap (λ (s : Shared). s.storage) (c.deref.ensures ∙ sym c.deref-2.ensures)))
@@ -24,8 +24,8 @@ parts_of-parts-requires-clause-storage c =
     subst (All of) (sym c.agents_of-agents.ensures)
     (All-map of (agent_of c.deref.result.now.storage) c.self.inside.parts.items (λ k d lt. ap (λ (s : Shared). s.storage) (c.deref.ensures ∙ sym c.deref-3.ensures)))
 
-pub journal_of-text-requires-clause-ascending : goal.journal_of-text-requires-clause-ascending
-journal_of-text-requires-clause-ascending c =
+pub journal_of-closed-requires-clause-ascending : goal.journal_of-closed-requires-clause-ascending
+journal_of-closed-requires-clause-ascending c =
     let s = c.deref.result.now.storage in
     let parts = c.self.inside.parts.items in
     subst (λ (l : List (AgentAt Standard)). IsStrictlyIncreasing (ids (accounts l))) (sym (c.as_slice.ensures.value ∙ c.agents_of-agents.ensures))
@@ -53,7 +53,7 @@ returns-in-Err-clause-err c =
 
 pub returns-in-Ok-clause-closed : goal.returns-in-Ok-clause-closed
 returns-in-Ok-clause-closed c =
-    let told = told_of_store (λ s all. IsJournalOf s all (string_bytes c.in-Ok.text)) _ c.deref.result.now c.deref-2.result.now
+    let told = told_of_store (λ s all. IsJournalOf s all c.in-Ok.kept) _ c.deref.result.now c.deref-2.result.now
     c.self.inside.parts.items c.as_slice.result.now c.deref.ensures c.deref-2.ensures
     (c.as_slice.ensures.value ∙ c.agents_of-agents.ensures) c.in-Ok.ensures.ok in
-    (search rules, subst (λ (v : StoreView). IsJournalOf v.storage v.agents (string_bytes c.in-Ok.text)) c.self.view_is told)
+    (search rules, subst (λ (v : StoreView). IsJournalOf v.storage v.agents c.in-Ok.kept) c.self.view_is told)

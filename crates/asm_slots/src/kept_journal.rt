@@ -1,0 +1,73 @@
+//! The journal that a closed storage keeps, with the state that its moves leave.
+ghost use Rattle.std.specs.Prelude.{◌≡◌, ◌↔◌, IfOk, IsErrOf, string_bytes};
+ghost use Rattle.asm_storage.specs.History.{Fits};
+ghost use Rattle.asm_storage.specs.declared.error.StorageError.TheVariants.{BadCapacity};
+ghost use Rattle.asm_journal.specs.Text.{text_of};
+ghost use Rattle.asm_slots.specs.Calls.{IsNoCapacity};
+ghost use Rattle.asm_slots.specs.Next.{HasOpened};
+
+use asm_aggregate::{Standard, standard};
+use asm_journal::laws::reads_back;
+use asm_journal::{replay_over, to_text};
+use asm_storage::{History, Storage, StorageError};
+use asm_update::PlainState;
+use std::alloc::{AllocError, Global};
+use std::marker::Model;
+use std::sync::Arc;
+
+/// A journal's text, and the state that its moves leave, which storages that go on from it share.
+#[derive(Drop)]
+pub struct KeptJournal {
+    text: String,
+    left: Arc<PlainState>,
+}
+
+impl Model for KeptJournal {
+    ghost use Rattle.std.specs.Prelude.{List, ℕ, string_bytes};
+    ghost use Rattle.std_alloc.specs.Arc.{arc_value};
+    ghost use Rattle.asm_slots.specs.KeptJournal.{Leaves};
+
+    ghost Value = { List ℕ };
+
+    ghost view = { λ j. string_bytes j.text };
+
+    ghost invariant = { λ j. Leaves (string_bytes j.text) (arc_value j.left) };
+}
+
+impl KeptJournal {
+    /// The journal of a history, which moves in.
+    pub(crate) fn of(alloc: Global, history: History) -> Result<KeptJournal, AllocError>
+        requires { Fits history }
+        ensures { IfOk result (λ journal. journal ≡ text_of history) }
+    {
+        // The invariant needs that the text reads as the history.
+        reads_back(&history);
+        let text = to_text(alloc, &history)?;
+        let History { init, events, .. } = history;
+        let left = replay_over(alloc, &standard(), init, events.as_slice())?;
+        let left = Arc::new(alloc, left)?;
+        Ok(KeptJournal { text, left })
+    }
+
+    /// Its text.
+    pub fn text(&self) -> &String
+        ensures { string_bytes result.now ≡ self.now }
+    {
+        &self.text
+    }
+
+    /// A storage for so many moves that opens with the state that the journal's moves leave.
+    pub(crate) fn next(
+        &self,
+        alloc: Global,
+        capacity: u32,
+    ) -> Result<Storage<Standard>, StorageError>
+        ensures opened { IfOk result (HasOpened self.now capacity) }
+        ensures bad { IsErrOf result BadCapacity → IsNoCapacity capacity }
+    {
+        let Ok(left) = Arc::try_clone(&self.left) else {
+            return Err(StorageError::Memory);
+        };
+        Storage::over(alloc, standard(), left, capacity)
+    }
+}
