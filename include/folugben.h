@@ -112,6 +112,17 @@
 extern "C" {
 #endif
 
+/* What is refused hasn't been done, so each code is to be looked at: C++17 and C23 warn where one
+ * isn't. To have no warnings, define this as nothing before the header is included. */
+#ifndef FOLUGBEN_NODISCARD
+#if (defined(__cplusplus) && __cplusplus >= 201703L) || \
+    (defined(__STDC_VERSION__) && __STDC_VERSION__ >= 202311L)
+#define FOLUGBEN_NODISCARD [[nodiscard]]
+#else
+#define FOLUGBEN_NODISCARD
+#endif
+#endif
+
 /* The version of this header, as asm_version tells that of the library: a million for each major
  * version, a thousand for each minor one. */
 #define FOLUGBEN_VERSION 2000
@@ -147,7 +158,7 @@ enum asm_code {
 };
 
 /* Writes what a code means, in a line of English. ASM_SMALL. */
-int32_t asm_error_text(int32_t code, uint8_t *out, size_t room, size_t *written);
+FOLUGBEN_NODISCARD int32_t asm_error_text(int32_t code, uint8_t *out, size_t room, size_t *written);
 
 /* The version of the library. */
 uint32_t asm_version(void);
@@ -161,24 +172,25 @@ typedef struct asm_slot {
 
 /* Opens a storage with the state [PAIR, ..], for 1 to 1,048,576 moves, in an empty slot.
  * ASM_TAKEN, ASM_NOT_JSON, ASM_SHAPE, ASM_RANGE (the capacity), ASM_MEMORY. */
-int32_t asm_open(const uint8_t *init, size_t len, uint32_t capacity, asm_slot *storage);
+FOLUGBEN_NODISCARD int32_t asm_open(const uint8_t *init, size_t len, uint32_t capacity,
+    asm_slot *storage);
 
 /* Makes an agent with this number, below 256, in an empty slot, at any time. A storage has one
  * agent of each number: also one that was freed keeps its number, as its moves may be in the
  * journal. ASM_RANGE (the number), ASM_TAKEN (`agent` is full), ASM_EMPTY (`storage`), ASM_NUMBER
  * (an agent with this number was made before), ASM_MEMORY; the first of these that holds is
  * answered. */
-int32_t asm_agent(asm_slot *storage, uint32_t number, asm_slot *agent);
+FOLUGBEN_NODISCARD int32_t asm_agent(asm_slot *storage, uint32_t number, asm_slot *agent);
 
 /* Makes an agent in each of at most 256 empty slots, with the numbers from 0 up. ASM_RANGE (the
  * count), ASM_TAKEN (one of the slots), ASM_EMPTY (`storage`), ASM_NUMBER (an agent with one of
  * the numbers was made before), ASM_MEMORY; the first of these that holds is answered. */
-int32_t asm_agents(asm_slot *storage, asm_slot *agents, size_t count);
+FOLUGBEN_NODISCARD int32_t asm_agents(asm_slot *storage, asm_slot *agents, size_t count);
 
 /* Reads the locations [LOC, ..], at most 256. The answer is the text {"number":N,"values":[VALUE,
  * ..]}: their values after the first N moves, which asm_answer writes. ASM_EMPTY, ASM_NOT_JSON,
  * ASM_SHAPE, ASM_MANY, ASM_MEMORY. */
-int32_t asm_read(asm_slot *agent, const uint8_t *locations, size_t len);
+FOLUGBEN_NODISCARD int32_t asm_read(asm_slot *agent, const uint8_t *locations, size_t len);
 
 /* The numbers of a fire; each is 0 where its code isn't answered. */
 typedef struct asm_numbers {
@@ -195,16 +207,17 @@ typedef struct asm_numbers {
  * ASM_STALE, ASM_CLASH and ASM_FULL are answers too: asm_answer writes {"fired":N}, {"stale":LOC},
  * {"clash":[LOC,CAUSE]} or "full". ASM_BUSY, ASM_EMPTY, ASM_NOT_JSON, ASM_SHAPE, ASM_RANGE, ASM_MANY,
  * ASM_MEMORY: not answered, and nothing was fired. */
-int32_t asm_try_fire(asm_slot *agent, const uint8_t *call, size_t len, asm_numbers *numbers);
+FOLUGBEN_NODISCARD int32_t asm_try_fire(asm_slot *agent, const uint8_t *call, size_t len,
+    asm_numbers *numbers);
 
 /* Writes the text of the answer to the agent's last answered call.
  * ASM_EMPTY, ASM_NONE, ASM_SMALL, ASM_MEMORY. */
-int32_t asm_answer(asm_slot *agent, uint8_t *out, size_t room, size_t *written);
+FOLUGBEN_NODISCARD int32_t asm_answer(asm_slot *agent, uint8_t *out, size_t room, size_t *written);
 
 /* Takes in what the other agent of the same storage has seen, so that what the agent is answered
  * from then on comes after all that the other was answered before. Neither slot may be in another
  * call. ASM_EMPTY (one of the slots), ASM_OTHER. */
-int32_t asm_learn(asm_slot *agent, asm_slot *other);
+FOLUGBEN_NODISCARD int32_t asm_learn(asm_slot *agent, asm_slot *other);
 
 /* AN AGENT'S OWN STATE stands at one number of moves, and moves on only in asm_follow, asm_stands,
  * asm_begin, asm_read, asm_try_fire and asm_commit; a move that the agent fired itself is taken in by
@@ -214,29 +227,33 @@ int32_t asm_learn(asm_slot *agent, asm_slot *other);
 
 /* Looks on until nothing more is found, and has the agent's own state follow: `*number` is then how
  * many moves it has seen. ASM_EMPTY, ASM_MEMORY. */
-int32_t asm_follow(asm_slot *agent, uint32_t *number);
+FOLUGBEN_NODISCARD int32_t asm_follow(asm_slot *agent, uint32_t *number);
 
 /* Writes {"number":N,"values":[VALUE, ..]}: the values of the locations [LOC, ..], any number of them,
  * in the agent's own state, which stands at N moves. ASM_EMPTY, ASM_SMALL, ASM_NOT_JSON, ASM_SHAPE,
  * ASM_MEMORY. */
-int32_t asm_peek(asm_slot *agent, const uint8_t *locations, size_t len, uint8_t *out, size_t room,
+FOLUGBEN_NODISCARD int32_t asm_peek(asm_slot *agent, const uint8_t *locations, size_t len,
+    uint8_t *out, size_t room,
                  size_t *written);
 
 /* Writes the agent's own state [PAIR, ..], in ascending order of locations, which stands at `*number`
  * moves; with ASM_SMALL `*number` is set too. ASM_EMPTY, ASM_MEMORY. */
-int32_t asm_state(asm_slot *agent, uint32_t *number, uint8_t *out, size_t room, size_t *written);
+FOLUGBEN_NODISCARD int32_t asm_state(asm_slot *agent, uint32_t *number, uint8_t *out, size_t room,
+    size_t *written);
 
 /* The same with the locations of one function name alone, which is passed in UTF-8 without quotes.
  * A fire that names each that was found doesn't notice that a further one is written later.
  * ASM_EMPTY, ASM_SHAPE (the name isn't UTF-8), ASM_SMALL, ASM_MEMORY. */
-int32_t asm_scan(asm_slot *agent, const uint8_t *name, size_t len, uint32_t *number, uint8_t *out,
+FOLUGBEN_NODISCARD int32_t asm_scan(asm_slot *agent, const uint8_t *name, size_t len,
+    uint32_t *number, uint8_t *out,
                  size_t room, size_t *written);
 
 /* Tells whether the named reads [NAMED, ..], at most 256, still stand: it looks on, as asm_follow does.
  * ASM_DONE: none of the locations was written since. ASM_STALE, with the text {"stale":LOC}: the least
  * location that was. A fire may still be refused, by a move that comes in between. ASM_RANGE as of
  * asm_try_fire. ASM_EMPTY, ASM_MANY, ASM_SMALL, ASM_NOT_JSON, ASM_SHAPE, ASM_MEMORY. */
-int32_t asm_stands(asm_slot *agent, const uint8_t *reads, size_t len, uint8_t *out, size_t room,
+FOLUGBEN_NODISCARD int32_t asm_stands(asm_slot *agent, const uint8_t *reads, size_t len,
+    uint8_t *out, size_t room,
                    size_t *written);
 
 /* A STEP is what an engine does between a look and a fire. Its slot keeps the number of moves at
@@ -255,19 +272,21 @@ int32_t asm_stands(asm_slot *agent, const uint8_t *reads, size_t len, uint8_t *o
 
 /* Follows, and begins a step at `*number` moves, in a slot that is empty or holds a step, which is
  * dropped. ASM_TAKEN (`step` holds something else), ASM_EMPTY (`agent`), ASM_MEMORY. */
-int32_t asm_begin(asm_slot *agent, asm_slot *step, uint32_t *number);
+FOLUGBEN_NODISCARD int32_t asm_begin(asm_slot *agent, asm_slot *step, uint32_t *number);
 
 /* Writes {"number":N,"values":[VALUE, ..]}: what is seen through the pushed moves at the locations
  * [LOC, ..], any number of them. Those are got where that is made from the state. ASM_MANY: more than
  * 256 different ones would be got. ASM_MOVED, ASM_EMPTY (one of the slots), ASM_SMALL, ASM_NOT_JSON,
  * ASM_SHAPE, ASM_MEMORY. */
-int32_t asm_get(asm_slot *agent, asm_slot *step, const uint8_t *locations, size_t len, uint8_t *out,
+FOLUGBEN_NODISCARD int32_t asm_get(asm_slot *agent, asm_slot *step, const uint8_t *locations,
+    size_t len, uint8_t *out,
                 size_t room, size_t *written);
 
 /* Writes [PAIR, ..]: what is seen through the pushed moves at all locations with a function name,
  * which is passed in UTF-8 without quotes. The locations that are found are got as by asm_get; that a
  * further one is written later isn't noticed. ASM_SHAPE: the name isn't UTF-8. Else as asm_get. */
-int32_t asm_get_all(asm_slot *agent, asm_slot *step, const uint8_t *name, size_t len, uint8_t *out,
+FOLUGBEN_NODISCARD int32_t asm_get_all(asm_slot *agent, asm_slot *step, const uint8_t *name,
+    size_t len, uint8_t *out,
                     size_t room, size_t *written);
 
 /* Pushes the move [INSTR, ..]: what is got and pushed later is seen through what it leaves. A push
@@ -276,18 +295,20 @@ int32_t asm_get_all(asm_slot *agent, asm_slot *step, const uint8_t *name, size_t
  * instructions. ASM_LARGE, with {"large":LOC}: never for a step of the agent's storage. ASM_MOVED,
  * ASM_EMPTY (one of the slots), ASM_SMALL (for the text of a refusal), ASM_NOT_JSON, ASM_SHAPE,
  * ASM_MEMORY. It costs by the move's own instructions, however many others are pushed. */
-int32_t asm_push(asm_slot *agent, asm_slot *step, const uint8_t *move, size_t len, uint8_t *out,
+FOLUGBEN_NODISCARD int32_t asm_push(asm_slot *agent, asm_slot *step, const uint8_t *move,
+    size_t len, uint8_t *out,
                  size_t room, size_t *written);
 
 /* The same, but the move joins the one that was pushed last, and is popped with it: a loop of a
  * thousand rounds is one move deep, and each round costs by what it does itself. Without a pushed
  * move it is pushed. Never ASM_DEEP. */
-int32_t asm_extend(asm_slot *agent, asm_slot *step, const uint8_t *move, size_t len, uint8_t *out,
+FOLUGBEN_NODISCARD int32_t asm_extend(asm_slot *agent, asm_slot *step, const uint8_t *move,
+    size_t len, uint8_t *out,
                    size_t room, size_t *written);
 
 /* Takes away the move that was pushed last, with those that joined it. What was got stays got; the
  * step no longer rests on what these changed. ASM_NONE, ASM_EMPTY. */
-int32_t asm_pop(asm_slot *step);
+FOLUGBEN_NODISCARD int32_t asm_pop(asm_slot *step);
 
 /* How many moves are pushed; 0 for a slot without a step. */
 uint32_t asm_depth(asm_slot *step);
@@ -299,7 +320,7 @@ uint32_t asm_depth(asm_slot *step);
  * was written since that one of the moves doesn't fit, such as a bag out of which another agent took
  * what it removes; begin again, as after ASM_STALE. ASM_MANY: more than 256 different locations would
  * be named. It looks on, so it answers neither ASM_MOVED nor ASM_RANGE. */
-int32_t asm_commit(asm_slot *agent, asm_slot *step, asm_numbers *numbers);
+FOLUGBEN_NODISCARD int32_t asm_commit(asm_slot *agent, asm_slot *step, asm_numbers *numbers);
 
 /* WITHOUT TEXT: calls that do what asm_peek, asm_get, asm_push and asm_extend do, with a location
  * that is prepared once, and with a move that is gathered in a slot. No JSON is made or read, but for
@@ -335,18 +356,20 @@ typedef struct asm_value {
 
 /* Prepares the location LOC in an empty slot, for agents and steps of any storage. asm_free releases
  * it. ASM_TAKEN, ASM_NOT_JSON, ASM_SHAPE, ASM_MEMORY. */
-int32_t asm_location(const uint8_t *location, size_t len, asm_slot *at);
+FOLUGBEN_NODISCARD int32_t asm_location(const uint8_t *location, size_t len, asm_slot *at);
 
 /* Tells the value at a prepared location in the agent's own state, which stands at `*number` moves.
  * The bytes of the value, if it is of a kind that has some, are written to the buffer. `*number` and
  * `*value` are 0 with each code but ASM_DONE. ASM_EMPTY (one of the slots), ASM_SMALL, ASM_MEMORY. */
-int32_t asm_peek_at(asm_slot *agent, asm_slot *at, uint32_t *number, asm_value *value, uint8_t *out,
+FOLUGBEN_NODISCARD int32_t asm_peek_at(asm_slot *agent, asm_slot *at, uint32_t *number,
+    asm_value *value, uint8_t *out,
                     size_t room, size_t *written);
 
 /* Tells what is seen through the pushed moves at a prepared location, as asm_peek_at does. The
  * location is got as by asm_get. `*value` is 0 with each code but ASM_DONE. ASM_MANY: more than 256
  * would be got. ASM_MOVED, ASM_EMPTY (one of the slots), ASM_SMALL, ASM_MEMORY. */
-int32_t asm_get_at(asm_slot *agent, asm_slot *step, asm_slot *at, asm_value *value, uint8_t *out,
+FOLUGBEN_NODISCARD int32_t asm_get_at(asm_slot *agent, asm_slot *step, asm_slot *at,
+    asm_value *value, uint8_t *out,
                    size_t room, size_t *written);
 
 /* Puts an instruction at a prepared location behind those of the move in a slot; an empty slot holds
@@ -357,14 +380,17 @@ int32_t asm_get_at(asm_slot *agent, asm_slot *step, asm_slot *at, asm_value *val
  * verb, the kind, the number or the bytes of this kind, the amount), ASM_SHAPE (the bytes of a text
  * aren't UTF-8), ASM_MANY (the move has 4,096 instructions), ASM_MEMORY. ASM_TAKEN comes before
  * all others; where several of these hold, one of them is answered. */
-int32_t asm_instruct(asm_slot *move, asm_slot *at, int32_t verb, int32_t kind, int64_t number,
+FOLUGBEN_NODISCARD int32_t asm_instruct(asm_slot *move, asm_slot *at, int32_t verb, int32_t kind,
+    int64_t number,
                      const uint8_t *bytes, size_t len, uint32_t amount);
 
 /* As asm_push and asm_extend, with the move in a slot, which stays there until asm_free. ASM_EMPTY:
  * one of the slots; an empty one has no move, not one of no instructions. */
-int32_t asm_push_move(asm_slot *agent, asm_slot *step, asm_slot *move, uint8_t *out, size_t room,
+FOLUGBEN_NODISCARD int32_t asm_push_move(asm_slot *agent, asm_slot *step, asm_slot *move,
+    uint8_t *out, size_t room,
                       size_t *written);
-int32_t asm_extend_move(asm_slot *agent, asm_slot *step, asm_slot *move, uint8_t *out, size_t room,
+FOLUGBEN_NODISCARD int32_t asm_extend_move(asm_slot *agent, asm_slot *step, asm_slot *move,
+    uint8_t *out, size_t room,
                         size_t *written);
 
 /* How many moves the agent has seen, how many it fired, and how many of its looks found no further
@@ -375,22 +401,23 @@ uint64_t asm_misses(asm_slot *agent);
 
 /* How many moves were fired on the storage: `*moves` is that number. It looks along all of them,
  * and agents may fire more meanwhile. ASM_EMPTY. */
-int32_t asm_moves(asm_slot *storage, uint32_t *moves);
+FOLUGBEN_NODISCARD int32_t asm_moves(asm_slot *storage, uint32_t *moves);
 
 /* Gives an agent back to its storage, in any order; its slot is then empty, and the journal of an
  * earlier asm_close is discarded. ASM_EMPTY (one of the slots), ASM_OTHER, ASM_MEMORY, and
  * ASM_NUMBER for an agent of another storage, if it isn't told as such: of one storage no two
  * agents have the same number. */
-int32_t asm_give(asm_slot *storage, asm_slot *agent);
+FOLUGBEN_NODISCARD int32_t asm_give(asm_slot *storage, asm_slot *agent);
 
 /* Makes the journal of the agents that were given back, if they have a receipt of every move that
  * was fired before this call. ASM_MISSING: the move `*number`, the least such, has none among
  * them; give back the agent that fired it, and close again. The moves of an agent that was freed
  * are missing for good. Else `*number` is 0. ASM_EMPTY, ASM_LARGE, ASM_MEMORY. */
-int32_t asm_close(asm_slot *storage, uint32_t *number);
+FOLUGBEN_NODISCARD int32_t asm_close(asm_slot *storage, uint32_t *number);
 
 /* Writes the journal that asm_close made. ASM_EMPTY, ASM_NONE, ASM_SMALL. */
-int32_t asm_journal(asm_slot *storage, uint8_t *out, size_t room, size_t *written);
+FOLUGBEN_NODISCARD int32_t asm_journal(asm_slot *storage, uint8_t *out, size_t room,
+    size_t *written);
 
 /* Opens a storage for 1 to 1,048,576 moves, in an empty slot, that goes on where a closed one ended:
  * its opening state is the one that the moves of the kept journal leave, its agents start anew, and
@@ -399,7 +426,7 @@ int32_t asm_journal(asm_slot *storage, uint8_t *out, size_t room, size_t *writte
  * The journals of both, one after the other, tell one run; moves that were fired after asm_close
  * are in neither. ASM_TAKEN (`next`), ASM_EMPTY (`storage`), ASM_NONE, ASM_RANGE (the capacity),
  * ASM_MEMORY. */
-int32_t asm_next(asm_slot *storage, uint32_t capacity, asm_slot *next);
+FOLUGBEN_NODISCARD int32_t asm_next(asm_slot *storage, uint32_t capacity, asm_slot *next);
 
 /* Releases what the slot holds, if anything, and leaves it empty. The memory of a storage is
  * freed with the last slot that holds it or an agent of it. */
@@ -409,18 +436,21 @@ void asm_free(asm_slot *slot);
  * ASM_DONE: it is legal, with the numbers of its calls and of its moves. ASM_ILLEGAL: `*calls` is
  * the number of the first call whose answer is another, from 0 up. ASM_NOT_JSON, ASM_SHAPE:
  * `*calls` is the number of the line, from 1 up. ASM_VERSION, ASM_CUT, ASM_MEMORY. */
-int32_t asm_check(const uint8_t *journal, size_t len, uint64_t *calls, uint32_t *moves);
+FOLUGBEN_NODISCARD int32_t asm_check(const uint8_t *journal, size_t len, uint64_t *calls,
+    uint32_t *moves);
 
 /* Writes the state [PAIR, ..] that the moves of a journal leave, with its locations in ascending
  * order; the journal isn't checked. ASM_NOT_JSON, ASM_SHAPE: `*line` is the number of the line,
  * else 0. ASM_VERSION, ASM_CUT, ASM_SMALL, ASM_MEMORY. */
-int32_t asm_replay(const uint8_t *journal, size_t len, uint8_t *out, size_t room, size_t *written,
+FOLUGBEN_NODISCARD int32_t asm_replay(const uint8_t *journal, size_t len, uint8_t *out,
+    size_t room, size_t *written,
                    uint64_t *line);
 
 /* Writes the trace of a journal, legal or not: what each of its calls did, in the form that the page on
  * formats has, for a viewer or a debugger. ASM_NOT_JSON, ASM_SHAPE: `*line` is the number of the line,
  * else 0. ASM_VERSION, ASM_CUT, ASM_SMALL, ASM_MEMORY. */
-int32_t asm_trace(const uint8_t *journal, size_t len, uint8_t *out, size_t room, size_t *written,
+FOLUGBEN_NODISCARD int32_t asm_trace(const uint8_t *journal, size_t len, uint8_t *out, size_t room,
+    size_t *written,
                   uint64_t *line);
 
 /* Writes the updates [PAIR, ..] of the move [INSTR, ..] on the state [PAIR, ..], in ascending order of
@@ -428,7 +458,8 @@ int32_t asm_trace(const uint8_t *journal, size_t len, uint8_t *out, size_t room,
  * the locations of partial updates alone. ASM_CLASH, with the text {"clash":[LOC,CAUSE]} of the least
  * location that clashes. ASM_NOT_JSON, ASM_SHAPE (the state, or else the move), ASM_SMALL,
  * ASM_MEMORY. */
-int32_t asm_aggregate(const uint8_t *state, size_t state_len, const uint8_t *move, size_t move_len,
+FOLUGBEN_NODISCARD int32_t asm_aggregate(const uint8_t *state, size_t state_len,
+    const uint8_t *move, size_t move_len,
                       uint8_t *out, size_t room, size_t *written);
 
 /* Writes one move [INSTR, ..] that does what the first move [INSTR, ..] and then the second do: on a
@@ -437,7 +468,8 @@ int32_t asm_aggregate(const uint8_t *state, size_t state_len, const uint8_t *mov
  * {"large":LOC} where an amount would be above 4294967295 or a sum of increments farther from 0 than
  * 18446744073709551615. ASM_MANY: more than 4,096 instructions. ASM_NOT_JSON, ASM_SHAPE (the first, or
  * else the second), ASM_SMALL, ASM_MEMORY. */
-int32_t asm_compose(const uint8_t *first, size_t first_len, const uint8_t *second,
+FOLUGBEN_NODISCARD int32_t asm_compose(const uint8_t *first, size_t first_len,
+    const uint8_t *second,
                     size_t second_len, uint8_t *out, size_t room, size_t *written);
 
 /* The forms that asm_explain knows, by the calls that take them; a script, which no call takes. */
@@ -457,7 +489,8 @@ enum asm_form {
  * is said of what makes ASM_MANY, nor of an event that doesn't fit the journal's first line; a
  * script is within its limits. The sentences may change with the version. ASM_RANGE (the form),
  * ASM_SMALL, ASM_MEMORY. */
-int32_t asm_explain(int32_t form, const uint8_t *text, size_t len, uint8_t *out, size_t room,
+FOLUGBEN_NODISCARD int32_t asm_explain(int32_t form, const uint8_t *text, size_t len, uint8_t *out,
+    size_t room,
                     size_t *written);
 
 #ifdef __cplusplus
