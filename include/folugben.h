@@ -233,8 +233,7 @@ FOLUGBEN_NODISCARD int32_t asm_follow(asm_slot *agent, uint32_t *number);
  * in the agent's own state, which stands at N moves. ASM_EMPTY, ASM_SMALL, ASM_NOT_JSON, ASM_SHAPE,
  * ASM_MEMORY. */
 FOLUGBEN_NODISCARD int32_t asm_peek(asm_slot *agent, const uint8_t *locations, size_t len,
-    uint8_t *out, size_t room,
-                 size_t *written);
+    uint8_t *out, size_t room, size_t *written);
 
 /* Writes the agent's own state [PAIR, ..], in ascending order of locations, which stands at `*number`
  * moves; with ASM_SMALL `*number` is set too. ASM_EMPTY, ASM_MEMORY. */
@@ -245,16 +244,14 @@ FOLUGBEN_NODISCARD int32_t asm_state(asm_slot *agent, uint32_t *number, uint8_t 
  * A fire that names each that was found doesn't notice that a further one is written later.
  * ASM_EMPTY, ASM_SHAPE (the name isn't UTF-8), ASM_SMALL, ASM_MEMORY. */
 FOLUGBEN_NODISCARD int32_t asm_scan(asm_slot *agent, const uint8_t *name, size_t len,
-    uint32_t *number, uint8_t *out,
-                 size_t room, size_t *written);
+    uint32_t *number, uint8_t *out, size_t room, size_t *written);
 
 /* Tells whether the named reads [NAMED, ..], at most 256, still stand: it looks on, as asm_follow does.
  * ASM_DONE: none of the locations was written since. ASM_STALE, with the text {"stale":LOC}: the least
  * location that was. A fire may still be refused, by a move that comes in between. ASM_RANGE as of
  * asm_try_fire. ASM_EMPTY, ASM_MANY, ASM_SMALL, ASM_NOT_JSON, ASM_SHAPE, ASM_MEMORY. */
 FOLUGBEN_NODISCARD int32_t asm_stands(asm_slot *agent, const uint8_t *reads, size_t len,
-    uint8_t *out, size_t room,
-                   size_t *written);
+    uint8_t *out, size_t room, size_t *written);
 
 /* A STEP is what an engine does between a look and a fire. Its slot keeps the number of moves at
  * which it began, the moves that were pushed, and the locations that were got. asm_free abandons it.
@@ -279,15 +276,13 @@ FOLUGBEN_NODISCARD int32_t asm_begin(asm_slot *agent, asm_slot *step, uint32_t *
  * 256 different ones would be got. ASM_MOVED, ASM_EMPTY (one of the slots), ASM_SMALL, ASM_NOT_JSON,
  * ASM_SHAPE, ASM_MEMORY. */
 FOLUGBEN_NODISCARD int32_t asm_get(asm_slot *agent, asm_slot *step, const uint8_t *locations,
-    size_t len, uint8_t *out,
-                size_t room, size_t *written);
+    size_t len, uint8_t *out, size_t room, size_t *written);
 
 /* Writes [PAIR, ..]: what is seen through the pushed moves at all locations with a function name,
  * which is passed in UTF-8 without quotes. The locations that are found are got as by asm_get; that a
  * further one is written later isn't noticed. ASM_SHAPE: the name isn't UTF-8. Else as asm_get. */
 FOLUGBEN_NODISCARD int32_t asm_get_all(asm_slot *agent, asm_slot *step, const uint8_t *name,
-    size_t len, uint8_t *out,
-                    size_t room, size_t *written);
+    size_t len, uint8_t *out, size_t room, size_t *written);
 
 /* Pushes the move [INSTR, ..]: what is got and pushed later is seen through what it leaves. A push
  * that is refused, or is popped, is a dry run. ASM_CLASH, with the text {"clash":[LOC,CAUSE]}: its
@@ -296,15 +291,13 @@ FOLUGBEN_NODISCARD int32_t asm_get_all(asm_slot *agent, asm_slot *step, const ui
  * ASM_EMPTY (one of the slots), ASM_SMALL (for the text of a refusal), ASM_NOT_JSON, ASM_SHAPE,
  * ASM_MEMORY. It costs by the move's own instructions, however many others are pushed. */
 FOLUGBEN_NODISCARD int32_t asm_push(asm_slot *agent, asm_slot *step, const uint8_t *move,
-    size_t len, uint8_t *out,
-                 size_t room, size_t *written);
+    size_t len, uint8_t *out, size_t room, size_t *written);
 
 /* The same, but the move joins the one that was pushed last, and is popped with it: a loop of a
  * thousand rounds is one move deep, and each round costs by what it does itself. Without a pushed
  * move it is pushed. Never ASM_DEEP. */
 FOLUGBEN_NODISCARD int32_t asm_extend(asm_slot *agent, asm_slot *step, const uint8_t *move,
-    size_t len, uint8_t *out,
-                   size_t room, size_t *written);
+    size_t len, uint8_t *out, size_t room, size_t *written);
 
 /* Takes away the move that was pushed last, with those that joined it. What was got stays got; the
  * step no longer rests on what these changed. ASM_NONE, ASM_EMPTY. */
@@ -362,15 +355,13 @@ FOLUGBEN_NODISCARD int32_t asm_location(const uint8_t *location, size_t len, asm
  * The bytes of the value, if it is of a kind that has some, are written to the buffer. `*number` and
  * `*value` are 0 with each code but ASM_DONE. ASM_EMPTY (one of the slots), ASM_SMALL, ASM_MEMORY. */
 FOLUGBEN_NODISCARD int32_t asm_peek_at(asm_slot *agent, asm_slot *at, uint32_t *number,
-    asm_value *value, uint8_t *out,
-                    size_t room, size_t *written);
+    asm_value *value, uint8_t *out, size_t room, size_t *written);
 
 /* Tells what is seen through the pushed moves at a prepared location, as asm_peek_at does. The
  * location is got as by asm_get. `*value` is 0 with each code but ASM_DONE. ASM_MANY: more than 256
  * would be got. ASM_MOVED, ASM_EMPTY (one of the slots), ASM_SMALL, ASM_MEMORY. */
 FOLUGBEN_NODISCARD int32_t asm_get_at(asm_slot *agent, asm_slot *step, asm_slot *at,
-    asm_value *value, uint8_t *out,
-                   size_t room, size_t *written);
+    asm_value *value, uint8_t *out, size_t room, size_t *written);
 
 /* Puts an instruction at a prepared location behind those of the move in a slot; an empty slot holds
  * the move of this instruction then. The operand is of ASM_KIND_UNDEF, ASM_KIND_BOOL, ASM_KIND_NUM or
@@ -381,17 +372,14 @@ FOLUGBEN_NODISCARD int32_t asm_get_at(asm_slot *agent, asm_slot *step, asm_slot 
  * aren't UTF-8), ASM_MANY (the move has 4,096 instructions), ASM_MEMORY. ASM_TAKEN comes before
  * all others; where several of these hold, one of them is answered. */
 FOLUGBEN_NODISCARD int32_t asm_instruct(asm_slot *move, asm_slot *at, int32_t verb, int32_t kind,
-    int64_t number,
-                     const uint8_t *bytes, size_t len, uint32_t amount);
+    int64_t number, const uint8_t *bytes, size_t len, uint32_t amount);
 
 /* As asm_push and asm_extend, with the move in a slot, which stays there until asm_free. ASM_EMPTY:
  * one of the slots; an empty one has no move, not one of no instructions. */
 FOLUGBEN_NODISCARD int32_t asm_push_move(asm_slot *agent, asm_slot *step, asm_slot *move,
-    uint8_t *out, size_t room,
-                      size_t *written);
+    uint8_t *out, size_t room, size_t *written);
 FOLUGBEN_NODISCARD int32_t asm_extend_move(asm_slot *agent, asm_slot *step, asm_slot *move,
-    uint8_t *out, size_t room,
-                        size_t *written);
+    uint8_t *out, size_t room, size_t *written);
 
 /* How many moves the agent has seen, how many it fired, and how many of its looks found no further
  * move; 0 for a slot without an agent. */
@@ -442,16 +430,14 @@ FOLUGBEN_NODISCARD int32_t asm_check(const uint8_t *journal, size_t len, uint64_
 /* Writes the state [PAIR, ..] that the moves of a journal leave, with its locations in ascending
  * order; the journal isn't checked. ASM_NOT_JSON, ASM_SHAPE: `*line` is the number of the line,
  * else 0. ASM_VERSION, ASM_CUT, ASM_SMALL, ASM_MEMORY. */
-FOLUGBEN_NODISCARD int32_t asm_replay(const uint8_t *journal, size_t len, uint8_t *out,
-    size_t room, size_t *written,
-                   uint64_t *line);
+FOLUGBEN_NODISCARD int32_t asm_replay(const uint8_t *journal, size_t len, uint8_t *out, size_t room,
+    size_t *written, uint64_t *line);
 
 /* Writes the trace of a journal, legal or not: what each of its calls did, in the form that the page on
  * formats has, for a viewer or a debugger. ASM_NOT_JSON, ASM_SHAPE: `*line` is the number of the line,
  * else 0. ASM_VERSION, ASM_CUT, ASM_SMALL, ASM_MEMORY. */
 FOLUGBEN_NODISCARD int32_t asm_trace(const uint8_t *journal, size_t len, uint8_t *out, size_t room,
-    size_t *written,
-                  uint64_t *line);
+    size_t *written, uint64_t *line);
 
 /* Writes the updates [PAIR, ..] of the move [INSTR, ..] on the state [PAIR, ..], in ascending order of
  * locations; null leaves a location empty, as each is that the state doesn't have. The state needs
@@ -459,8 +445,7 @@ FOLUGBEN_NODISCARD int32_t asm_trace(const uint8_t *journal, size_t len, uint8_t
  * location that clashes. ASM_NOT_JSON, ASM_SHAPE (the state, or else the move), ASM_SMALL,
  * ASM_MEMORY. */
 FOLUGBEN_NODISCARD int32_t asm_aggregate(const uint8_t *state, size_t state_len,
-    const uint8_t *move, size_t move_len,
-                      uint8_t *out, size_t room, size_t *written);
+    const uint8_t *move, size_t move_len, uint8_t *out, size_t room, size_t *written);
 
 /* Writes one move [INSTR, ..] that does what the first move [INSTR, ..] and then the second do: on a
  * state on which the first fires, it fires as the two in turn, or clashes as the second does then.
@@ -469,8 +454,7 @@ FOLUGBEN_NODISCARD int32_t asm_aggregate(const uint8_t *state, size_t state_len,
  * 18446744073709551615. ASM_MANY: more than 4,096 instructions. ASM_NOT_JSON, ASM_SHAPE (the first, or
  * else the second), ASM_SMALL, ASM_MEMORY. */
 FOLUGBEN_NODISCARD int32_t asm_compose(const uint8_t *first, size_t first_len,
-    const uint8_t *second,
-                    size_t second_len, uint8_t *out, size_t room, size_t *written);
+    const uint8_t *second, size_t second_len, uint8_t *out, size_t room, size_t *written);
 
 /* The forms that asm_explain knows, by the calls that take them; a script, which no call takes. */
 enum asm_form {
@@ -490,8 +474,7 @@ enum asm_form {
  * script is within its limits. The sentences may change with the version. ASM_RANGE (the form),
  * ASM_SMALL, ASM_MEMORY. */
 FOLUGBEN_NODISCARD int32_t asm_explain(int32_t form, const uint8_t *text, size_t len, uint8_t *out,
-    size_t room,
-                    size_t *written);
+    size_t room, size_t *written);
 
 #ifdef __cplusplus
 }
