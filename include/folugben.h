@@ -30,6 +30,9 @@
  *    and committed has no meaning, and no code tells so.
  *    ASM_OTHER reports a mistake, except possibly while other threads are in asm_learn or asm_give
  *    on both storages. The behaviour is undefined where a mistake isn't reported.
+ *  - Stack. A call without text took less than 16 KiB of its thread's stack, and one with texts up to
+ *    84 KiB, that of a text which is nested as deep as any is read; both were measured. So a thread
+ *    that makes calls with texts has 128 KiB or more.
  *  - malloc, realloc and free are of one allocator, and malloc aligns a block to each power of two
  *    up to 16 that divides its size.
  *  - The platform has pointers and size_t of 64 bits. ./build_c builds for Linux on x86-64
@@ -94,9 +97,9 @@
  *    case ASM_DONE: printf("move %u\n", numbers.fired); break;
  *    case ASM_STALE: .. read again; break;
  *    }
- *    asm_give(&storage, &agent);
- *    if (asm_close(&storage, &missing) == ASM_DONE)
- *        asm_journal(&storage, text, sizeof text, &written);
+ *    if (asm_give(&storage, &agent) == ASM_DONE && asm_close(&storage, &missing) == ASM_DONE &&
+ *        asm_journal(&storage, text, sizeof text, &written) == ASM_DONE)
+ *        printf("%.*s", (int)written, (const char *)text);
  *    asm_free(&storage);
  *
  * bindings/c/example.c is a whole program, with an agent on each of eight threads. Link with
