@@ -117,20 +117,20 @@ pub on_ok : {T E P Q : Type 0} (r : Result T E) → (P → Q) → OnOk r P → O
 on_ok (Ok x) f p = f p
 on_ok (Err e) f p = tt
 
-below_places : (k : Place) (es : List (Bor Place × Bundle)) →
+below_places : {X : Type 0} (k : Place) (es : List (Bor Place × X)) →
     AllByRecursion (λ (q : Bor Place). location_cmp k q.now ≡ Less) (keys_of es) →
     AllByRecursion (λ q. location_cmp k q ≡ Less) (keys_of (by_place es))
 below_places k [] h = tt
 below_places k (e ∷ es) h = (h.0, below_places k es h.1)
 
-sorted_places : (es : List (Bor Place × Bundle)) → IsStrictlySortedBy ref_cmp (keys_of es) →
+sorted_places : {X : Type 0} (es : List (Bor Place × X)) → IsStrictlySortedBy ref_cmp (keys_of es) →
     IsStrictlySortedBy location_cmp (keys_of (by_place es))
 unfolding IsStrictlySortedBy
 sorted_places [] h = tt
 sorted_places (e ∷ es) h = (below_places e.0.now es h.0, sorted_places es h.1)
 
 -- the walk of a tree gives the entries of its map, in order
-pub walk-shown : (t : BTreeMap (Bor Place) Bundle) (m : finite.FinMap location_cmp Bundle) →
+pub walk-shown : {X : Type 0} (t : BTreeMap (Bor Place) X) (m : finite.FinMap location_cmp X) →
     IsStrictlySortedBy ref_cmp (keys_of t.entries) → shown t ≡ m → by_place t.entries ≡ finite.entries m
 walk-shown t m sorted is =
     sym (entries-from_tree location_cmp_total (by_place t.entries) (sorted_places t.entries sorted))
@@ -157,7 +157,7 @@ taken_more move i x read =
     ∙ ap (λ y. take i move ++ y ∷ []) (get_or_from_slice_get move i x x read))
 
 -- one location more is put in
-pub put_in : (t u : BTreeMap (Bor Place) Bundle) (k : Bor Place) (v : Bundle) →
+pub put_in : {X : Type 0} (t u : BTreeMap (Bor Place) X) (k : Bor Place) (v : X) →
     ((q : Bor Place) → tree.get ref_cmp u q ≡ cond (is_at (ref_cmp k) q) (Some v) (tree.get ref_cmp t q)) →
     (l : Place) → finite.get (shown u) l ≡ cond (eq_by_cmp location_cmp l k.now) (Some v) (finite.get (shown t) l)
 put_in t u k v updates l =

@@ -6,6 +6,7 @@ pub mod SetMeaning
 pub mod BagMeaning
 pub mod CountMeaning
 pub mod PairMeaning
+pub mod Standard
 pub mod Bundle
 pub mod Stretch
 pub mod OnlyPut

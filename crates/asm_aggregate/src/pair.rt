@@ -2,11 +2,9 @@ ghost use Rattle.std.specs.Prelude.{◌≡◌, ◌≢◌, ◌++◌, true, false,
 ghost use Rattle.std.specs.List.{list_all};
 ghost use Rattle.asm_update.specs.Action.{is_partial};
 ghost use Rattle.asm_update.specs.declared.action.Family as family;
-ghost use Rattle.asm_aggregate.specs.BagMeaning.{bag_meaning};
-ghost use Rattle.asm_aggregate.specs.CountMeaning.{count_meaning};
 ghost use Rattle.asm_aggregate.specs.laws.PairLaws.{pair_laws};
 ghost use Rattle.asm_aggregate.specs.PairMeaning.{pair_meaning, by_owner, refused, cause_by_owner};
-ghost use Rattle.asm_aggregate.specs.SetMeaning.{set_meaning};
+ghost use Rattle.asm_aggregate.specs.Standard.{standard_meaning};
 ghost use Rattle.asm_aggregate.specs.Steps.{IsRefusedFor};
 
 use crate::bag_agg::BagAgg;
@@ -146,8 +144,7 @@ pub type Standard = Pair<Pair<SetAgg, BagAgg>, CountAgg>;
 
 /// The aggregator of sets, bags and counters.
 pub fn standard() -> Standard
-    ensures { ⟦<Standard as Aggregator>⟧.meaning result
-        ≡ pair_meaning (pair_meaning set_meaning bag_meaning) count_meaning }
+    ensures { ⟦<Standard as Aggregator>⟧.meaning result ≡ standard_meaning }
 {
     Pair::new(Pair::new(SetAgg, BagAgg), CountAgg)
 }

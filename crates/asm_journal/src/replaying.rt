@@ -1,6 +1,6 @@
 //! The state that a history leaves, and the storage that goes on from it.
-ghost use Rattle.std.specs.Prelude.{◌≡◌, ◌↔◌, ◌⊎◌, ◌<◌, OnOk, IfOk, IsErrOf};
-ghost use Rattle.asm_row.specs.Limits.{capacity_limit};
+ghost use Rattle.std.specs.Prelude.{◌≡◌, ◌↔◌, OnOk, IfOk, IsErrOf};
+ghost use Rattle.asm_row.specs.Limits.{IsNoCapacity};
 ghost use Rattle.asm_update.specs.State.{overwrite};
 ghost use Rattle.asm_update.specs.Fire.{state_of};
 ghost use Rattle.asm_update.specs.Move.{Move};
@@ -133,7 +133,7 @@ pub fn next_storage<A: Aggregator + Sync + Drop>(
     ensures aggregator { IfOk result (λ s. s.agg ≡ aggregator) }
     ensures machine { IfOk result (λ s. machine_of A.meaning s ≡ next_machine
         (history_machine (A.meaning aggregator).part history.now) history.now.events capacity) }
-    ensures bad { IsErrOf result storage_error.BadCapacity ↔ ((capacity ≡ 0) ⊎ (capacity_limit < capacity)) }
+    ensures bad { IsErrOf result storage_error.BadCapacity ↔ IsNoCapacity capacity }
 {
     if capacity == 0 || capacity > CAPACITY_LIMIT {
         return Err(StorageError::BadCapacity);

@@ -20,7 +20,7 @@ use Rattle.asm_script.specs.Plan.{Plan}
 use Rattle.asm_play.specs.Play as play
 use Rattle.asm_play.specs.Play.{AreAgentsTold, IsPlayOf}
 use Rattle.asm_play.specs.AgentPlay.{AreProper, Plays}
-use Rattle.asm_play.specs.Standard.{standard_meaning, standard_part}
+use Rattle.asm_aggregate.specs.Standard.{standard_meaning, standard_part}
 use Rattle.asm_play.specs.StepEvents.{AreTold}
 use Rattle.asm_play.specs.PlayedAgents.{close_error_told, ArePlayed, IsNotClosed}
 use Rattle.asm_script.specs.declared.step.Step.{Step}

@@ -16,7 +16,7 @@ use Rattle.asm_state.specs.Stands.{after_move}
 use Rattle.asm_state.specs.Verdict.{least_stale}
 use Rattle.asm_state.specs.declared.named.Named.{Named}
 use Rattle.asm_storage.specs.Agents.{event_of, moves_seen}
-use Rattle.asm_storage.specs.Calls.{ReadingView, receipt_at, IsAnswered}
+use Rattle.asm_storage.specs.Calls.{ReadingView, receipt_at, IsReplied}
 use Rattle.asm_storage.specs.Machine.{Machine, machine_state, reply_to}
 use Rattle.asm_storage.specs.Storage.{AgentAt, StorageView, machine_of, has_looked}
 use Rattle.asm_storage.specs.declared.call.Answer.TheVariants as answer
@@ -211,7 +211,7 @@ module _ {A : Type 0} (meaning : A → Meaning) where
           storage_is
 
       -- the fire was answered Fired
-      fired_told : (k : ℕ) → IsAnswered meaning mid new reads_named M (reply.Fired k) →
+      fired_told : (k : ℕ) → IsReplied meaning mid new reads_named M (reply.Fired k) →
           IsTry meaning own old new step places (Some (outcome.Fired k))
       fired_told k is =
           let agent = is.agent in
@@ -279,7 +279,7 @@ module _ {A : Type 0} (meaning : A → Meaning) where
           ([], append-nil new.account.seen))
 
       -- where a fire was stale, something was read
-      reads_some : (l : Place) → IsAnswered meaning mid new reads_named M (reply.Stale l) → places ≢ []
+      reads_some : (l : Place) → IsReplied meaning mid new reads_named M (reply.Stale l) → places ≢ []
       reads_some l is none =
           by_reading reading read (replied (reply.Stale l) (moves_seen new.account.seen) is.reply) where
             by_reading : (o : Option ReadingView) → HasRead meaning old mid places o →

@@ -1,5 +1,4 @@
 pub mod Limits
-pub mod Standard
 pub mod StepEvents
 pub mod AgentPlay
 pub mod Trying

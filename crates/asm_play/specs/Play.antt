@@ -1,19 +1,14 @@
 -- What playing a script leaves: its history, and the outcome of each step.
-use Rattle.std.specs.Prelude.{◌≡◌, ◌≤◌, ◌<◌, ◌⊎◌, ◌+◌, ℕ, List, [], ◌∷◌, length}
-use Rattle.asm_row.specs.Limits.{capacity_limit}
+use Rattle.std.specs.Prelude.{◌≡◌, ◌≤◌, ◌+◌, ℕ, List, [], ◌∷◌, length}
 use Rattle.asm_storage.specs.Machine.{Machine}
 use Rattle.asm_storage.specs.History.{fired_moves, events_of, IsLegal}
 use Rattle.asm_storage.specs.declared.history.Event.{Event}
 use Rattle.asm_script.specs.Plan.{Plan}
-use Rattle.asm_play.specs.Standard.{standard_meaning, standard_part}
+use Rattle.asm_aggregate.specs.Standard.{standard_meaning, standard_part}
 use Rattle.asm_play.specs.StepEvents.{AreTold}
 use Rattle.asm_script.specs.declared.step.Step.{Step}
 use Rattle.asm_play.specs.declared.outcome.Outcome.{Outcome}
 use Rattle.asm_play.specs.declared.outcome.Played.{Played}
-
--- no moves, or more than 1,048,576
-abbrev pub IsNoCapacity : ℕ → Type 0
-IsNoCapacity capacity = (capacity ≡ 0) ⊎ (capacity_limit < capacity)
 
 -- the storage of one thread that the script opens
 abbrev pub machine_of : Plan → ℕ → Machine

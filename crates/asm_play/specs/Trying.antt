@@ -11,7 +11,7 @@ use Rattle.asm_update.specs.Fire.{Old}
 use Rattle.asm_update.specs.Move.{Move}
 use Rattle.asm_state.specs.declared.named.Named.{Named}
 use Rattle.asm_storage.specs.Agents.{event_of, moves_seen}
-use Rattle.asm_storage.specs.Calls.{ReadingView, IsRead, IsAnswered}
+use Rattle.asm_storage.specs.Calls.{ReadingView, IsRead, IsReplied}
 use Rattle.asm_storage.specs.Limits.{offers_limit, reads_limit}
 use Rattle.asm_storage.specs.Storage.{AgentAt, IsSameAgent, machine_of, has_looked}
 use Rattle.asm_storage.specs.declared.call.Answer.TheVariants as answer
@@ -58,7 +58,7 @@ pub record WasBusy {A : Type 0} (old new : AgentAt A) : Type 0 where
 -- the fire of a step was answered by this reply; by none where it was busy
 abbrev pub HasTried : {A : Type 0} → (A → Meaning) → AgentAt A → AgentAt A → List Named → Move → Option Reply → Type 0
 HasTried meaning old new reads M None = WasBusy old new
-HasTried meaning old new reads M (Some r) = IsAnswered meaning old new reads M r
+HasTried meaning old new reads M (Some r) = IsReplied meaning old new reads M r
 
 -- the outcome that a reply is; none where the step is to be tried again
 abbrev pub outcome_of : Option Reply → Option Outcome

@@ -1,6 +1,6 @@
-ghost use Rattle.std.specs.Prelude.{◌≡◌, ◌<◌, ◌≤◌, ◌↔◌, ◌⊎◌, [], length, slice_get, IfOk, IsOk, IsErrOf};
+ghost use Rattle.std.specs.Prelude.{◌≡◌, ◌<◌, ◌≤◌, ◌↔◌, [], length, slice_get, IfOk, IsOk, IsErrOf};
 ghost use Rattle.once_cell.specs.Once.{cell_name};
-ghost use Rattle.asm_row.specs.Limits.{capacity_limit};
+ghost use Rattle.asm_row.specs.Limits.{capacity_limit, IsNoCapacity};
 ghost use Rattle.asm_row.specs.declared.row.RowError.TheVariants.{Memory};
 
 use crate::progress::Progress;
@@ -64,7 +64,7 @@ impl<T: Drop> Row<T> {
     #[tactic(auto, using(crate::proofs::Cells::names))]
     pub fn new(alloc: Global, capacity: u32) -> Result<Row<T>, RowError>
         ensures ok { IfOk result (λ row. length row ≡ capacity) }
-        ensures bad { IsErrOf result RowError.BadCapacity ↔ ((capacity ≡ 0) ⊎ (capacity_limit < capacity)) }
+        ensures bad { IsErrOf result RowError.BadCapacity ↔ IsNoCapacity capacity }
     {
         if capacity == 0 || capacity > CAPACITY_LIMIT {
             return Err(RowError::BadCapacity);

@@ -15,7 +15,7 @@ use Rattle.asm_update.specs.declared.clash.Clash.{Clash}
 use Rattle.asm_overlay.specs.Frames.{Frames, under, topmost, seen_through}
 use Rattle.asm_overlay.specs.Limits.{frames_limit}
 use Rattle.asm_overlay.proofs.FrameLemmas.{val-under}
-use Rattle.asm_step.specs.Answer.{IsAnswer, IsAnswerOn, IsContinuedBy, IsFollowedBy, IsLastOn}
+use Rattle.asm_step.specs.Answer.{IsPushAnswer, IsPushAnswerOn, IsContinuedBy, IsFollowedBy, IsLastOn}
 use Rattle.asm_step.specs.Continued.{composed_after}
 use Rattle.asm_step.specs.InTurn.{Agrees}
 use Rattle.asm_step.specs.Layers.{Layer, frames_of, one_move, all_moves, IsStepOf}
@@ -218,8 +218,8 @@ module _ (a : Meaning) (old : Old) (step : Step) (pushed : List Layer) where
         agrees_more A read l there = read.same l (partials_more l there)
 
         -- what is answered where the block isn't taken
-        pub push_fault : (e : StepError) → IsAnswer a old pushed pushed M (Err e) →
-            ((A : State) → IsReadOf A old step → IsAnswerOn part A pushed pushed M (Err e)) → length pushed < frames_limit →
+        pub push_fault : (e : StepError) → IsPushAnswer a old pushed pushed M (Err e) →
+            ((A : State) → IsReadOf A old step → IsPushAnswerOn part A pushed pushed M (Err e)) → length pushed < frames_limit →
             IsStepMove a old step (Err (fault_of e))
         push_fault (step_error.Clash clash) answer on room = λ A read. (
           goes_on A read ∙ ap (on_fired onward) (on A read),
@@ -238,8 +238,8 @@ module _ (a : Meaning) (old : Old) (step : Step) (pushed : List Layer) where
         -- one more block is pushed
         pub one_more : (new : List Layer) →
             (IsStepOf part old pushed played.groups → IsStepOf part old new (played.groups ++ (M ∷ []) ∷ [])) →
-            IsAnswer a old pushed new M (Ok tt) →
-            ((A : State) → IsReadOf A old step → IsAnswerOn part A pushed new M (Ok tt)) →
+            IsPushAnswer a old pushed new M (Ok tt) →
+            ((A : State) → IsReadOf A old step → IsPushAnswerOn part A pushed new M (Ok tt)) →
             AreSequenced a old step new left last
         one_more new pushes answer on = record {
           groups = played.groups ++ (M ∷ []) ∷ [];

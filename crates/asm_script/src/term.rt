@@ -84,10 +84,7 @@ pub fn evaluate<L: Lookup>(alloc: Global, term: &Term, lookup: &L) -> Result<Val
 {
     match term {
         Term::Value(value) => Ok(value.copy(alloc)?),
-        Term::Val(at) => match lookup.get(at) {
-            Some(value) => Ok(value.copy(alloc)?),
-            None => Ok(Value::Plain(Element::Undef)),
-        },
+        Term::Val(at) => Ok(Value::copy_or_undef(alloc, lookup.get(at))?),
         Term::Sum(..) => match number(term, lookup) {
             Some(n) => Ok(Value::Plain(Element::Num(n))),
             None => Err(TermFault::Faulty),

@@ -18,7 +18,7 @@ use Rattle.asm_storage.specs.declared.part.AgentPart.{AgentPart}
 use Rattle.asm_storage.specs.declared.entry.Entry.{Entry}
 use Rattle.asm_storage.specs.declared.receipt.Receipt.{Receipt}
 use Rattle.asm_storage.specs.Agents.{moves_seen}
-use Rattle.asm_storage.specs.Calls.{receipt_at, after_answer, after_fire, judged_on, HasOffered, IsAnswered, MadeOffers, Ran}
+use Rattle.asm_storage.specs.Calls.{receipt_at, after_answer, after_fire, judged_on, HasOffered, IsReplied, MadeOffers, Ran}
 use Rattle.asm_storage.specs.History.{fired_move}
 use Rattle.asm_storage.specs.Machine.{reply_to}
 use Rattle.asm_storage.specs.Offering.{IsOffering}
@@ -60,7 +60,7 @@ module _ {A : Type 0} (meaning : A → Meaning) (old mid : AgentAt A) (reads : L
       IsPrefix old.account.seen mid.account.seen → IsReplyOf meaning mid (call.Fire reads M) (answer.Fire r) →
       fired_move (call.Fire reads M) (answer.Fire r) ≡ None →
       new ≡ with_receipt mid (receipt_at (length mid.account.seen) (call.Fire reads M) (answer.Fire r)) →
-      IsAnswered meaning old new reads M r
+      IsReplied meaning old new reads M r
   answered_quiet new r looked begins told quiet is =
       let receipt : Receipt = receipt_at (length mid.account.seen) (call.Fire reads M) (answer.Fire r) in
       let kept : AgentAt A = with_receipt mid receipt in
@@ -68,7 +68,7 @@ module _ {A : Type 0} (meaning : A → Meaning) (old mid : AgentAt A) (reads : L
       let replies : StorageView A → List Entry → Type 0 = λ s q.
       answer.Fire r ≡ reply_to (machine_of meaning s) (moves_seen q) (call.Fire reads M) in
       let there = subst (λ q. replies mid.storage q) (sym same.0) told in
-      subst (λ (n : AgentAt A). IsAnswered meaning old n reads M r) (sym is) (record {
+      subst (λ (n : AgentAt A). IsReplied meaning old n reads M r) (sym is) (record {
         reply = subst (λ s. replies s (judged_on r mid.account.seen)) (ap (λ (a : AgentAt A). a.storage) looked) there;
         begins = subst (IsPrefix old.account.seen) (sym same.0) begins;
         agent = ap (λ (a : AgentAt A). with_receipt a receipt) looked ∙ sym same.1;
@@ -80,7 +80,7 @@ module _ {A : Type 0} (meaning : A → Meaning) (old mid : AgentAt A) (reads : L
       IsReplyOf meaning mid (call.Fire reads M) (answer.Fire (reply.Fired (length mid.account.seen + 1))) →
       new ≡ with_fired mid (receipt_at (length mid.account.seen) (call.Fire reads M)
       (answer.Fire (reply.Fired (length mid.account.seen + 1)))) M →
-      IsAnswered meaning old new reads M (reply.Fired (length mid.account.seen + 1))
+      IsReplied meaning old new reads M (reply.Fired (length mid.account.seen + 1))
   answered_fired new looked begins told is =
       let n = length mid.account.seen in
       let r : Reply = reply.Fired (n + 1) in
@@ -92,7 +92,7 @@ module _ {A : Type 0} (meaning : A → Meaning) (old mid : AgentAt A) (reads : L
       let there = subst (λ q. replies mid.storage q) (sym before) told in
       let grown = take (n + 1 - 1) (mid.account.seen ++ entry ∷ []) in
       let receipt : ℕ → Receipt = λ k. receipt_at k (call.Fire reads M) (answer.Fire r) in
-      subst (λ (a : AgentAt A). IsAnswered meaning old a reads M r) (sym is) (record {
+      subst (λ (a : AgentAt A). IsReplied meaning old a reads M r) (sym is) (record {
         reply = subst (λ s. replies s grown) (ap (λ (a : AgentAt A). a.storage) looked) there;
         begins = subst (IsPrefix old.account.seen) (sym before) begins;
         agent = ap (λ (a : AgentAt A). with_fired a (receipt n) M) looked
@@ -102,8 +102,8 @@ module _ {A : Type 0} (meaning : A → Meaning) (old mid : AgentAt A) (reads : L
 
   -- what a turn answers after others were lost is an answer of the whole call
   pub answered_after : (new : AgentAt A) (r : Reply) → mid ≡ has_looked old mid.account.seen mid.misses mid.number →
-      IsPrefix old.account.seen mid.account.seen → IsAnswered meaning mid new reads M r →
-      IsAnswered meaning old new reads M r
+      IsPrefix old.account.seen mid.account.seen → IsReplied meaning mid new reads M r →
+      IsReplied meaning old new reads M r
   answered_after new r looked begins is = record {
     reply = subst (λ s. answer.Fire r ≡
         reply_to (machine_of meaning s) (moves_seen (judged_on r new.account.seen)) (call.Fire reads M))
@@ -157,7 +157,7 @@ module _ {A : Type 0} (meaning : A → Meaning) (s : StorageView A) (old mid new
       let first = agent_of s old in
       let is = won.agent ∙ ap (λ t. with_fired (agent_of s mid)
       (receipt_at (length mid.progress.seen) (call.Fire reads M) (answer.Fire t)) M) won.reply in
-      subst (IsAnswered meaning first (agent_of s new) reads M) (sym won.reply)
+      subst (IsReplied meaning first (agent_of s new) reads M) (sym won.reply)
       (answered_fired meaning first (agent_of s mid) reads M (agent_of s new) looks.agent looks.seen told is)
   attempted (Ok None) part told won lost = lost_after lost part
   attempted (Err e) part told won lost = tt

@@ -27,7 +27,7 @@ use Rattle.asm_storage.specs.declared.error.FireError.{FireError}
 use Rattle.asm_storage.specs.declared.error.FireError.TheVariants as fire_error
 use Rattle.asm_storage.specs.declared.part.AgentPart.{AgentPart}
 use Rattle.asm_storage.specs.Agents.{moves_seen}
-use Rattle.asm_storage.specs.Calls.{judged_on, IsAnswered, IsBusy, IsCoherentReply, IsFire, IsFireOver, MadeOffers, StandsAfter}
+use Rattle.asm_storage.specs.Calls.{judged_on, IsReplied, IsBusy, IsCoherentReply, IsFire, IsFireOver, MadeOffers, StandsAfter}
 use Rattle.asm_storage.specs.History.{fired_move}
 use Rattle.asm_storage.specs.Limits.{reads_limit}
 use Rattle.asm_storage.specs.Machine.{Machine, fire_reply, reply_to}
@@ -171,7 +171,7 @@ module _ {A : Type 0} (meaning : A → Meaning) (s : StorageView A) (old mid new
       IsNamedOver (machine_of meaning s) (moves_seen mid.progress.seen) reads scans named →
       answer.Fire r ≡ reply_to (machine_of meaning s) (moves_seen mid.progress.seen) (call.Fire named M) →
       fired_move (call.Fire named M) (answer.Fire r) ≡ None → new.progress.seen ≡ mid.progress.seen →
-      IsAnswered meaning (agent_of s old) (agent_of s new) named M r → IsTurnOver meaning s old new reads scans M (Some r)
+      IsReplied meaning (agent_of s old) (agent_of s new) named M r → IsTurnOver meaning s old new reads scans M (Some r)
   turn_quiet named r over told quiet same is =
       let m = machine_of meaning s in
       let seen = mid.progress.seen in
@@ -179,7 +179,7 @@ module _ {A : Type 0} (meaning : A → Meaning) (s : StorageView A) (old mid new
       (told ∙ ap (λ ns. reply_to m (moves_seen seen) (call.Fire ns M)) over.named_is) in
       let judged : seen ≡ judged_on r new.progress.seen = sym (quiet_seen named M r new.progress.seen quiet ∙ same) in (
         over.found,
-        subst (λ ns. IsAnswered meaning (agent_of s old) (agent_of s new) ns M r) over.named_is is,
+        subst (λ ns. IsReplied meaning (agent_of s old) (agent_of s new) ns M r) over.named_is is,
         subst (λ q. RestsOn m (moves_seen q) scans over.found r) judged rest,
       )
 
@@ -200,7 +200,7 @@ module _ {A : Type 0} (meaning : A → Meaning) (old new : AgentAt A) (reads : L
   -- a fire over scans, from its reply and how many offers it made
   pub is_over : (r : Result Reply FireError) (found : Option Named) (n : ℕ) →
       IsSameAgent old new → IsPrefix old.account.seen new.account.seen →
-      IfOk r (IsAnswered meaning old new (with_found reads found) M) →
+      IfOk r (IsReplied meaning old new (with_found reads found) M) →
       IfOk r (λ t. RestsOn (machine_of meaning new.storage) (moves_seen (judged_on t new.account.seen)) scans found t) →
       OnErr r (new ≡ has_looked old new.account.seen new.misses new.number) → IfErr r (IsBusy old new) →
       IsErrOf r fire_error.ManyReads ↔ (reads_limit < length reads + length scans) → MadeOffers old new r n →
@@ -223,7 +223,7 @@ module _ {A : Type 0} (meaning : A → Meaning) (old new : AgentAt A) (reads : L
     few = few_misses old new r n made;
     lost = busy_lost old new r n made busy;
   } where
-    coherent : (q : Result Reply FireError) → IfOk q (IsAnswered meaning old new (with_found reads found) M) →
+    coherent : (q : Result Reply FireError) → IfOk q (IsReplied meaning old new (with_found reads found) M) →
         IfOk q (IsCoherentReply meaning new (with_found reads found) M)
     coherent (Ok q) is = answered_coherent meaning old new (with_found reads found) M q is
     coherent (Err e) is = tt
@@ -255,9 +255,9 @@ no_scans meaning old new reads M r over = record {
 
   names_none : (r : Result Reply FireError) →
       IfOk r (λ t. RestsOn (machine_of meaning new.storage) (moves_seen (judged_on t new.account.seen)) [] over.found t) →
-      IfOk r (IsAnswered meaning old new (with_found reads over.found) M) → IfOk r (IsAnswered meaning old new reads M)
+      IfOk r (IsReplied meaning old new (with_found reads over.found) M) → IfOk r (IsReplied meaning old new reads M)
   names_none (Ok t) rests is =
-      subst (λ o. IsAnswered meaning old new (with_found reads o) M t) (rest_none over.found (moves_seen (judged_on t new.account.seen)) t rests) is
+      subst (λ o. IsReplied meaning old new (with_found reads o) M t) (rest_none over.found (moves_seen (judged_on t new.account.seen)) t rests) is
   names_none (Err e) rests is = tt
 
   coherent_none : (r : Result Reply FireError) →

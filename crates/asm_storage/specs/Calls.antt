@@ -101,7 +101,7 @@ IsStaleRead meaning a reads found =
 
 -- a fire was answered by this reply: it is that of the storage of one thread after a list of moves that begins with
 -- all that had been seen
-pub record IsAnswered {A : Type 0} (meaning : A → Meaning) (old new : AgentAt A) (reads : List Named) (M : Move)
+pub record IsReplied {A : Type 0} (meaning : A → Meaning) (old new : AgentAt A) (reads : List Named) (M : Move)
     (r : Reply) : Type 0 where
   pub reply : answer.Fire r ≡
       reply_to (machine_of meaning old.storage) (moves_seen (judged_on r new.account.seen)) (call.Fire reads M)
@@ -145,7 +145,7 @@ pub record IsFire {A : Type 0} (meaning : A → Meaning) (old new : AgentAt A) (
   pub follows : FollowsOn old new
   pub stands : IfOk result (StandsAfter old new (is_plain reads M))
   -- a reply is that of the storage of one thread, and what fired finds what it named as it was
-  pub answered : IfOk result (IsAnswered meaning old new reads M)
+  pub answered : IfOk result (IsReplied meaning old new reads M)
   pub coherent : IfOk result (IsCoherentReply meaning new reads M)
   -- after an error it has looked on, and no more
   pub refused : OnErr result (new ≡ has_looked old new.account.seen new.misses new.number)
@@ -168,7 +168,7 @@ pub record IsFireOver {A : Type 0} (meaning : A → Meaning) (old new : AgentAt 
   pub stands : IfOk result (StandsAfter old new (is_plain_over reads scans M))
   -- a reply is that of the storage of one thread to the fire that names what was found too, and rests on the scans
   pub found : Option Named
-  pub answered : IfOk result (IsAnswered meaning old new (with_found reads found) M)
+  pub answered : IfOk result (IsReplied meaning old new (with_found reads found) M)
   pub coherent : IfOk result (IsCoherentReply meaning new (with_found reads found) M)
   pub rests : IfOk result (λ r.
       RestsOn (machine_of meaning new.storage) (moves_seen (judged_on r new.account.seen)) scans found r)

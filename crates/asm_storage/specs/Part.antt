@@ -22,7 +22,7 @@ use Rattle.asm_storage.specs.Limits.{agents_limit}
 use Rattle.asm_storage.specs.Machine.{Machine, reply_to}
 use Rattle.asm_storage.specs.History.{fired_move}
 use Rattle.asm_storage.specs.Agents.{AgentView, IsAgent, moves_seen}
-use Rattle.asm_storage.specs.Calls.{receipt_at, judged_on, IsAnswered}
+use Rattle.asm_storage.specs.Calls.{receipt_at, judged_on, IsReplied}
 use Rattle.asm_storage.specs.Scans.{with_found, RestsOn}
 use Rattle.asm_storage.specs.Storage.{AgentAt, StorageView, machine_of, has_seen, has_looked, with_fired, last_look}
 
@@ -91,14 +91,14 @@ IsJudged m seen reads M None =
 -- one turn of a fire: it was answered, or an offer was lost, and another entry was seen
 abbrev pub IsTurn : {A : Type 0} → (A → Meaning) → StorageView A → AgentPart → AgentPart → List Named → Move →
     Option Reply → Type 0
-IsTurn meaning s old new reads M (Some r) = IsAnswered meaning (agent_of s old) (agent_of s new) reads M r
+IsTurn meaning s old new reads M (Some r) = IsReplied meaning (agent_of s old) (agent_of s new) reads M r
 IsTurn meaning s old new reads M None = LooksOn meaning s old new
 
 -- one turn of a fire that rests on scans: it was answered, and rests on what was found; or an offer was lost
 abbrev pub IsTurnOver : {A : Type 0} → (A → Meaning) → StorageView A → AgentPart → AgentPart → List Named →
     List Scanned → Move → Option Reply → Type 0
 IsTurnOver meaning s old new reads scans M (Some r) = (found : Option Named)
-    × IsAnswered meaning (agent_of s old) (agent_of s new) (with_found reads found) M r
+    × IsReplied meaning (agent_of s old) (agent_of s new) (with_found reads found) M r
     × RestsOn (machine_of meaning s) (moves_seen (judged_on r new.progress.seen)) scans found r
 IsTurnOver meaning s old new reads scans M None = LooksOn meaning s old new
 

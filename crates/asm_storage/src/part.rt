@@ -41,6 +41,27 @@ impl AgentPart {
         self.id
     }
 
+    /// How many moves the agent has seen.
+    pub fn seen(&self) -> u32
+        ensures { result ≡ length self.now.progress.seen }
+    {
+        self.progress.seen_len()
+    }
+
+    /// How many of its offers were won.
+    pub fn won(&self) -> u32
+        ensures { result ≡ self.now.progress.won }
+    {
+        self.progress.won()
+    }
+
+    /// How many of its looks found an empty cell.
+    pub fn misses(&self) -> u64
+        ensures { result ≡ self.now.progress.misses }
+    {
+        self.progress.misses()
+    }
+
     /// The agent's state: it has followed the first of the moves that the agent has seen, and may lag behind.
     pub fn state(&self) -> &State
         ensures { result.now ≡ self.now.state }
@@ -115,8 +136,10 @@ impl AgentPart {
         self.catch_up(alloc, storage)
     }
 
-    /// Looks on, has the state follow, and tells at which number the state then stands.
-    pub(crate) fn follow<A: Aggregator + Sync + Drop>(
+    /// Looks at the row of the storage that the part came from until it finds nothing more, has the state follow, and
+    /// tells at which number the state then stands, as `Agent::follow` does. `AllocError` comes only where memory was
+    /// refused; it may then have seen more, and the state may lag behind.
+    pub fn follow<A: Aggregator + Sync + Drop>(
         &mut self,
         alloc: Global,
         storage: &Storage<A>,

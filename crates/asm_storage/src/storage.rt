@@ -5,7 +5,7 @@ ghost use Rattle.std.specs.Bool.{OnTrue, OnFalse};
 ghost use Rattle.std.specs.List.{range_with_len};
 ghost use Rattle.asm_storage.specs.declared.error.StorageError.TheVariants as storage_error;
 ghost use Rattle.asm_storage.specs.declared.error.AgentsError.TheVariants as agents_error;
-ghost use Rattle.asm_row.specs.Limits.{capacity_limit};
+ghost use Rattle.asm_row.specs.Limits.{IsNoCapacity};
 ghost use Rattle.asm_update.specs.Fire.{Part};
 ghost use Rattle.asm_state.specs.Stands.{Stands};
 ghost use Rattle.asm_storage.specs.declared.entry.Entry.{Entry};
@@ -53,7 +53,7 @@ impl<A: Aggregator + Sync + Drop> Model for Storage<A> {
 // A row for so many moves.
 fn new_row(alloc: Global, capacity: u32) -> Result<Row<Entry>, StorageError>
     ensures capacity { IfOk result (λ r. length r ≡ capacity) }
-    ensures bad { IsErrOf result storage_error.BadCapacity ↔ ((capacity ≡ 0) ⊎ (capacity_limit < capacity)) }
+    ensures bad { IsErrOf result storage_error.BadCapacity ↔ IsNoCapacity capacity }
 {
     match Row::new(alloc, capacity) {
         Ok(row) => Ok(row),
@@ -78,7 +78,7 @@ impl<A: Aggregator + Sync + Drop> Storage<A> {
         ensures aggregator { IfOk result (λ s. s.agg ≡ aggregator) }
         ensures init { IfOk result (λ s. s.init ≡ init) }
         ensures capacity { IfOk result (λ s. length s.row ≡ capacity) }
-        ensures bad { IsErrOf result storage_error.BadCapacity ↔ ((capacity ≡ 0) ⊎ (capacity_limit < capacity)) }
+        ensures bad { IsErrOf result storage_error.BadCapacity ↔ IsNoCapacity capacity }
     {
         let row = new_row(alloc, capacity)?;
         let init = match Arc::new(alloc, init) {
@@ -103,7 +103,7 @@ impl<A: Aggregator + Sync + Drop> Storage<A> {
         ensures aggregator { IfOk result (λ s. s.agg ≡ aggregator) }
         ensures init { IfOk result (λ s. s.init ≡ arc_value init) }
         ensures capacity { IfOk result (λ s. length s.row ≡ capacity) }
-        ensures bad { IsErrOf result storage_error.BadCapacity ↔ ((capacity ≡ 0) ⊎ (capacity_limit < capacity)) }
+        ensures bad { IsErrOf result storage_error.BadCapacity ↔ IsNoCapacity capacity }
     {
         let row = new_row(alloc, capacity)?;
         Ok(Storage {

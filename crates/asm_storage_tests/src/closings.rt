@@ -4,7 +4,7 @@ ghost use Rattle.std.specs.List.Sorted.{IsStrictlyIncreasing};
 ghost use Rattle.asm_storage.specs.Agents.{ids};
 ghost use Rattle.asm_storage.specs.Storage.{accounts, IsOf};
 
-use crate::performing::Standard;
+use asm_aggregate::Standard;
 use asm_storage::{Agent, CloseError, Event, History, Storage};
 use std::alloc::Global;
 

@@ -2,7 +2,8 @@
 ghost use Rattle.asm_storage.specs.Storage.{IsSameAgent};
 
 use crate::asked::{Act, Put, Want, move_of, receipt_of};
-use crate::performing::{Standard, is_last};
+use crate::performing::is_last;
+use asm_aggregate::Standard;
 use asm_state::Named;
 use asm_storage::{Agent, Answer, Call, FireError, Receipt, Reply};
 use asm_update::Instructions;

@@ -4,9 +4,9 @@ ghost use Rattle.asm_storage.specs.Storage.{IsSameAgent};
 
 use crate::asked::{move_at, places_of};
 use crate::closings::Closing;
-use crate::performing::Standard;
 use crate::two_agents::{Two, storage_of, storage_with};
 use crate::workers::{fires_as, puts, two_with};
+use asm_aggregate::Standard;
 use asm_element::{ElemBag, Element, Value};
 use asm_storage::{Agent, Answer, Reading, Receipt, Reply, Storage};
 use asm_test_support::location;

@@ -3,12 +3,13 @@ ghost use Rattle.asm_storage.specs.Storage.{IsSameAgent};
 
 use crate::asked::{Act, At, Put, Want, named_of, places_of, values_of};
 use crate::closings::Closing;
-use crate::performing::{Standard, are_read};
+use crate::performing::are_read;
 use crate::two_agents::{Case, Step, Who, check_all};
 use Act::{Clear, Fire, Read};
 use Glance::{Follow, Peek, Stands};
 use Step::{Ask, Count, Glance as Look, Learn, Receipts, Row};
 use Who::{A, B};
+use asm_aggregate::Standard;
 use asm_storage::{Agent, ReadError};
 use asm_test_support::{location, value};
 use asm_update::Lookup;

@@ -3,12 +3,12 @@ ghost use Rattle.asm_storage.specs.Storage.{IsSameAgent};
 
 use crate::asked::{Act, At, Put, Want, is_number, places_of};
 use crate::closings::Closing;
-use crate::performing::{Standard, asks};
+use crate::performing::asks;
 use crate::two_agents::{Case, Step, Who, check_all, storage_of};
 use Act::{Fire, Read};
 use Step::{Ask, Learn, NameMany, ReadMany, Receipts, Retry, Row};
 use Who::{A, B};
-use asm_aggregate::standard;
+use asm_aggregate::{Standard, standard};
 use asm_element::Location;
 use asm_state::Named;
 use asm_storage::{

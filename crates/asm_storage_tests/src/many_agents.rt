@@ -7,8 +7,8 @@ ghost use Rattle.asm_storage.specs.Storage.{accounts, at_start, IsOf, IsSameAgen
 
 use crate::asked::{Put, move_of};
 use crate::closings::holds;
-use crate::performing::Standard;
 use crate::two_agents::storage_of;
+use asm_aggregate::Standard;
 use asm_storage::{Agent, Answer, CloseError, Event, History, Reply, Storage};
 use asm_update::Instructions;
 use std::alloc::{AllocError, Global};

@@ -3,9 +3,10 @@ ghost use Rattle.asm_storage.specs.Storage.{IsSameAgent};
 
 use crate::asked::{Act, At, Put, Want, is_number, places_of, receipt_of};
 use crate::closings::Closing;
-use crate::performing::{Standard, asks, fires, is_last};
+use crate::performing::{asks, fires, is_last};
 use crate::two_agents::{Case, Step, check_all};
 use Step::{Rest, Row};
+use asm_aggregate::Standard;
 use asm_state::Named;
 use asm_storage::{Agent, Answer, Call, Reading, Receipt};
 use std::alloc::{AllocError, Global};

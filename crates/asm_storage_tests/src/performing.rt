@@ -3,14 +3,12 @@ ghost use Rattle.std.specs.Prelude.{◌≡◌};
 ghost use Rattle.asm_storage.specs.Storage.{IsSameAgent};
 
 use crate::asked::{Act, Want, receipt_of};
-use asm_aggregate::{BagAgg, CountAgg, Pair, SetAgg};
+use asm_aggregate::Standard;
 use asm_element::{Location, Value};
 use asm_state::Named;
 use asm_storage::{Agent, Answer, Call, FireError, ReadError, Reading, Receipt, Reply};
 use asm_update::Instructions;
 use std::alloc::{AllocError, Global};
-
-pub(crate) type Standard = Pair<Pair<SetAgg, BagAgg>, CountAgg>;
 
 /// Whether these values were read, in this order.
 pub(crate) fn are_read(reading: &Reading, values: &[Value]) -> bool {

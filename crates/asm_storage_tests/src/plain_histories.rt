@@ -4,9 +4,9 @@ ghost use Rattle.asm_storage.specs.Storage.{IsSameAgent};
 
 use crate::asked::{At, named_of};
 use crate::closings::holds;
-use crate::performing::Standard;
 use crate::two_agents::storage_of;
 use crate::wide_moves::{place, push_put};
+use asm_aggregate::Standard;
 use asm_element::Location;
 use asm_state::Named;
 use asm_storage::{Agent, Answer, Event, History, Reply, Storage};

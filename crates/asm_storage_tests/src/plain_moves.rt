@@ -3,11 +3,12 @@ ghost use Rattle.asm_storage.specs.Storage.{IsSameAgent};
 
 use crate::asked::{Act, At, Put, Want, move_of};
 use crate::closings::Closing;
-use crate::performing::{Standard, fires};
+use crate::performing::fires;
 use crate::two_agents::{Case, Step, Who, check_all};
 use Act::{Fire, Read};
 use Step::{Ask, Count, PutOften, Row};
 use Who::{A, B};
+use asm_aggregate::Standard;
 use asm_storage::{Agent, Reply};
 use std::alloc::{AllocError, Global};
 use std::test::Fail;

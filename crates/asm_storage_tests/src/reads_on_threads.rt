@@ -4,9 +4,9 @@ ghost use Rattle.asm_storage.specs.Storage.{IsSameAgent};
 
 use crate::asked::places_of;
 use crate::closings::Closing;
-use crate::performing::Standard;
 use crate::two_agents::{Two, storage_of};
 use crate::workers::{first_marks, is_put, puts, second_reads, two_with};
+use asm_aggregate::Standard;
 use asm_element::Location;
 use asm_storage::{Agent, Answer, Mark, Receipt, Storage};
 use asm_update::Instructions;

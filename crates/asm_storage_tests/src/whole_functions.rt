@@ -3,10 +3,10 @@ ghost use Rattle.asm_storage.specs.Storage.{IsSameAgent};
 
 use crate::asked::push;
 use crate::closings::Closing;
-use crate::performing::Standard;
 use crate::two_agents::{Case, Step, Who, check_all};
 use Step::{Over, OverMany, Row};
 use Who::{A, B};
+use asm_aggregate::Standard;
 use asm_state::{Named, Scanned};
 use asm_storage::{Agent, Answer, Call, FireError, Reply};
 use asm_test_support::{location_at, value};

@@ -3,9 +3,10 @@ ghost use Rattle.asm_storage.specs.Storage.{IsSameAgent};
 
 use crate::asked::push;
 use crate::closings::Closing;
-use crate::performing::{Standard, fires, reads};
+use crate::performing::{fires, reads};
 use crate::two_agents::{Case, Step, check_all};
 use Step::Row;
+use asm_aggregate::Standard;
 use asm_element::{Element, Location, Value};
 use asm_storage::{Agent, Reply};
 use asm_test_support::{number, value};

@@ -3,8 +3,8 @@ ghost use Rattle.std.specs.Prelude.{◌≡◌, ◌<◌, All, IfOk};
 ghost use Rattle.asm_storage.specs.Storage.{IsSameAgent};
 
 use crate::asked::{Put, is_number, move_of};
-use crate::performing::Standard;
 use crate::two_agents::Two;
+use asm_aggregate::Standard;
 use asm_element::{Location, Value};
 use asm_storage::{Agent, FireError, Mark, ReadError, Storage};
 use asm_update::Instructions;

@@ -4,9 +4,9 @@ ghost use Rattle.asm_storage.specs.Storage.{IsSameAgent};
 
 use crate::asked::places_of;
 use crate::closings::holds;
-use crate::performing::Standard;
 use crate::two_agents::storage_of;
 use crate::workers::{fires, fires_as, is_put, puts, read_once};
+use asm_aggregate::Standard;
 use asm_element::{Element, Location, Value};
 use asm_storage::{Agent, Answer, Call, CloseError, Event, History, Reply, Storage};
 use asm_update::{Action, Instructions};

@@ -34,7 +34,8 @@ use Rattle.asm_aggregate.specs.Steps as steps
 use Rattle.asm_aggregate.specs.laws.BagAlgebra.{has, has-names, held, held_count, get-recounted}
 use Rattle.asm_aggregate.specs.laws.SetAlgebra.{contains-elements, contains-elements_by, contains_updated}
 use Rattle.asm_trace.specs.Change.{OfSet, OfBag, is_missing, without, differ_at, differing, recount, recounts, Recount}
-use Rattle.asm_trace.specs.Local.{standard_part, names, is_named, AreSameTo, told, IsLocal}
+use Rattle.asm_aggregate.specs.Standard.{standard_meaning, standard_part}
+use Rattle.asm_trace.specs.Local.{names, is_named, AreSameTo, told, IsLocal}
 use Rattle.asm_trace.proofs.Differing.{contains-differing}
 use Rattle.asm_trace.proofs.Making.{has-without, same_count}
 
@@ -357,6 +358,7 @@ pair_local a b one other v w ps alike = by_family (common_family ps) where
 
 -- so are partial updates of all three
 pub standard_local : IsLocal standard_part
+unfolding standard_meaning
 standard_local =
     pair_local (pair_meaning set_meaning bag_meaning) count_meaning
     (pair_local set_meaning bag_meaning set_local bag_local) count_local

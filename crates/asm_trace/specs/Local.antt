@@ -10,16 +10,8 @@ use Rattle.asm_element.specs.declared.value.Value.TheVariants as values
 use Rattle.asm_update.specs.Fire.{Part, GroupResult}
 use Rattle.asm_update.specs.declared.action.Action.{Action}
 use Rattle.asm_update.specs.declared.action.Action.TheVariants.{SetAdd, SetRemove, BagAdd, BagRemove}
-use Rattle.asm_aggregate.specs.BagMeaning.{bag_meaning}
-use Rattle.asm_aggregate.specs.CountMeaning.{count_meaning}
-use Rattle.asm_aggregate.specs.PairMeaning.{pair_meaning}
-use Rattle.asm_aggregate.specs.SetMeaning.{set_meaning}
 use Rattle.asm_aggregate.specs.Sets.{is_the}
 use Rattle.asm_trace.specs.Change.{Change, change_of}
-
--- what partial updates of sets, bags and counters mean
-abbrev pub standard_part : Part
-standard_part = (pair_meaning (pair_meaning set_meaning bag_meaning) count_meaning).part
 
 -- the element that a partial update adds or removes
 abbrev pub element_named : Action → Option Element

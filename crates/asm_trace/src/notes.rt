@@ -15,7 +15,7 @@ ghost use Rattle.asm_trace.specs.Text.{event_with, IsNoted};
 
 use crate::changes::event_changes;
 use crate::json::put_some;
-use asm_element::{Element, Items, Location, Value};
+use asm_element::{Items, Location, Value};
 use asm_journal::{ToJson, judge_event, push_line};
 use asm_state::{Objection, State};
 use asm_storage::{Answer, Call, Event, Reply};
@@ -27,10 +27,7 @@ use std::alloc::{AllocError, Global};
 fn held(alloc: Global, state: &State, at: &Location) -> Result<Value, AllocError>
     ensures { IfOk result (λ v. v ≡ value_at state.now at.now) }
 {
-    match state.get(at) {
-        Some(value) => value.copy(alloc),
-        None => Ok(Value::Plain(Element::Undef)),
-    }
+    Value::copy_or_undef(alloc, state.get(at))
 }
 
 /// The values of the locations, in their order.

@@ -3,7 +3,8 @@ ghost use Rattle.std.specs.Prelude.{◌≡◌, ◌≤◌, true, IfOk, length, st
 ghost use Rattle.serde_json.specs.View.{view};
 ghost use Rattle.asm_storage.specs.History.{Fits};
 ghost use Rattle.asm_storage.specs.Limits.{events_limit};
-ghost use Rattle.asm_trace.specs.Local.{standard_part, IsLocal};
+ghost use Rattle.asm_aggregate.specs.Standard.{standard_part};
+ghost use Rattle.asm_trace.specs.Local.{IsLocal};
 ghost use Rattle.asm_trace.specs.Text.{header_of, IsTrace};
 
 use crate::notes::push_note;

@@ -15,7 +15,7 @@ ghost use Rattle.asm_storage.specs.Part.{HasWon, IsJudged, IsLost, IsPartOf, IsT
 
 use crate::call::{Answer, Call, Reply, fire_call};
 use crate::error::FireError;
-use crate::limits::OFFERS_LIMIT;
+use crate::limits::{OFFERS_LIMIT, READS_LIMIT};
 use crate::part::AgentPart;
 use crate::part::judging::{is_plain, judged, judged_plain};
 use crate::part::offering::Offering;
@@ -306,5 +306,33 @@ impl AgentPart {
             from,
             to: self.progress.seen_len(),
         })
+    }
+
+    /// Fires a move of the agent whose part this is, on the storage that it came from, as `Agent::try_fire_over_with`
+    /// does, with the same answers and errors. Its receipt shares the list of the reads, which isn't copied.
+    pub fn try_fire_over<A: Aggregator + Sync + Drop, F: FnMut()>(
+        &mut self,
+        alloc: Global,
+        storage: &Storage<A>,
+        reads: &Items<Named>,
+        scans: &[Scanned],
+        instrs: &Instructions,
+        between: &mut F,
+    ) -> Result<Reply, FireError>
+        requires part { IsPartOf A.meaning storage.now self.old }
+        requires callable { F.IsAlwaysCallable between.old }
+        ensures part { IsPartOf A.meaning storage.now self.new }
+        ensures fire { IsFireOver A.meaning (agent_of storage.now self.old) (agent_of storage.now self.new)
+            reads.now scans.now instrs.now result }
+        ensures callable { F.IsAlwaysCallable between.new }
+        ensures offers { (n : ℕ) ×
+            MadeOffers (agent_of storage.now self.old) (agent_of storage.now self.new) result n ×
+            Ran (λ f g. F.step f tt g) between.old n between.new }
+    {
+        let named = reads.as_slice().len();
+        if named > READS_LIMIT || scans.len() > READS_LIMIT - named {
+            return Err(FireError::ManyReads);
+        }
+        self.fire(alloc, storage, reads, scans, instrs, between)
     }
 }

@@ -14,20 +14,10 @@ use crate::reading::Reading;
 use crate::receipt::Receipt;
 use crate::shared_lists::{places_again, same_list, shared_list};
 use crate::storage::Storage;
-use asm_element::{Element, Items, Location, Value};
+use asm_element::{Items, Location, Value};
 use asm_state::{Named, Objection};
 use asm_update::{Aggregator, Instructions, Lookup};
 use std::alloc::{AllocError, Global};
-
-// The value at a location, in memory of its own.
-fn value_or_undef<L: Lookup>(alloc: Global, lookup: &L, at: &Location) -> Result<Value, AllocError>
-    ensures { IfOk result (λ v. v ≡ L.value_at lookup.now at.now) }
-{
-    match lookup.get(at) {
-        Some(value) => value.copy(alloc),
-        None => Ok(Value::Plain(Element::Undef)),
-    }
-}
 
 // Copies of the values of the locations, in their order.
 fn copied_values<L: Lookup>(
@@ -39,7 +29,7 @@ fn copied_values<L: Lookup>(
 {
     let mut values = Vec::with_capacity(alloc, places.len())?;
     for place in places {
-        let value = value_or_undef(alloc, lookup, place)?;
+        let value = Value::copy_or_undef(alloc, lookup.get(place))?;
         values.push(value)?;
     }
     shared_list(alloc, values)

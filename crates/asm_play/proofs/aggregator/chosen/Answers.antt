@@ -1,4 +1,4 @@
-use Rattle.asm_play.specs.Standard.{standard_meaning}
+use Rattle.asm_aggregate.specs.Standard.{standard_meaning}
 use Rattle.asm_play.proofs.aggregator.chosen.Goals as goal
 
 pub returns : goal.returns

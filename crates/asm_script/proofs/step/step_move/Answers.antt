@@ -2,7 +2,7 @@ use Rattle.std.proofs.Common.{◌≡◌, ◌<◌, List, [], ◌∷◌, ◌++◌,
 use Rattle.std.proofs.lemmas.Result.{err_from_is_err_and}
 use Rattle.asm_aggregate.proofs.Exits.{handed_on}
 use Rattle.asm_overlay.specs.Limits.{frames_limit}
-use Rattle.asm_step.specs.Answer.{IsAnswer, IsAnswerOn}
+use Rattle.asm_step.specs.Answer.{IsPushAnswer, IsPushAnswerOn}
 use Rattle.asm_step.specs.Layers.{Layer}
 use Rattle.asm_script.specs.Sequencing.{IsStepMove}
 use Rattle.asm_script.specs.declared.block.Block.{Block}
@@ -50,8 +50,8 @@ returns-in-Err g c =
     ) in
     subst (λ fault. IsStepMove a old c.args.step.now (Err fault)) (sym c.fault_of.ensures)
     (push_fault _ _ _ _ _ _ _ played M c.in_ok-next.ensures e
-    (subst (λ (new : List Layer). IsAnswer a old pushed new M (Err e)) c.in-Err.ensures.err c.in-Err.ensures.answer)
-    (λ A read. subst (λ (new : List Layer). IsAnswerOn a.part A pushed new M (Err e)) c.in-Err.ensures.err
+    (subst (λ (new : List Layer). IsPushAnswer a old pushed new M (Err e)) c.in-Err.ensures.err c.in-Err.ensures.answer)
+    (λ A read. subst (λ (new : List Layer). IsPushAnswerOn a.part A pushed new M (Err e)) c.in-Err.ensures.err
     (c.in-Err.ensures.answer_on played.groups A played.pushes read.proper
     (agrees_more _ _ _ _ _ _ _ played M c.in_ok-next.ensures A read)))
     room)
