@@ -13,10 +13,10 @@ use Rattle.asm_update.specs.declared.clash.Clash.{Clash}
 use Rattle.asm_update.proofs.FireLemmas.{fire_updates, fire_clash}
 use Rattle.asm_overlay.specs.Frames.{under, topmost, seen_through}
 use Rattle.asm_overlay.proofs.FrameLemmas.{topmost-append, val-under}
-use Rattle.asm_step.specs.Answer.{HasUpdates, IsAnswer, IsAnswerOn, IsLastOn}
+use Rattle.asm_step.specs.Answer.{HasUpdates, IsPushAnswer, IsPushAnswerOn, IsLastOn}
 use Rattle.asm_step.specs.Column.{DoesEach}
 use Rattle.asm_step.specs.InTurn.{DoesAll, Agrees}
-use Rattle.asm_step.specs.Layers.{Layer, IsLayerOf, frames_of, one_move_of, top_of, one_move, all_moves}
+use Rattle.asm_step.specs.Layers.{Layer, IsLayerOf, behind, frames_of, one_move_of, top_of, one_move, all_moves}
 use Rattle.asm_step.specs.Layers.{IsStepOf, extended}
 use Rattle.asm_step.specs.Next.{KeepsEach, KeepsOrder, NeverFollows, IsComposed, IsContinued, IsNext, IsNextLayer}
 use Rattle.asm_step.specs.Outcomes.{frame}
@@ -27,7 +27,7 @@ use Rattle.asm_step.specs.declared.error.StepError.TheVariants as step_error
 use Rattle.asm_step.proofs.Agreeing.{agrees_before, agrees_last, same_clash, same_update_set}
 use Rattle.asm_step.proofs.Built.{builds_push, rests_push}
 use Rattle.asm_step.proofs.Columns.{each_next, each_one}
-use Rattle.asm_step.proofs.Layered.{extended-push, fires_all, fires_as, group_there, layers_push}
+use Rattle.asm_step.proofs.Layered.{extended-push, fires_all, fires_as, group_there, layer_behind, layers_last, layers_push}
 use Rattle.asm_step.proofs.Layered.{layers_split, moves-push, no_groups, none_there, seen, top_does, top_is}
 use Rattle.asm_step.proofs.Prefixes.{has_top}
 use Rattle.asm_step.proofs.Pushed.{keeps_one, keeps_push}
@@ -104,22 +104,25 @@ pub step_push : (a : Meaning) (old : Old) (s : List Layer) (groups : List (List 
     IsStepOf a.part old s groups → IsNextLayer a old s M y →
     IsStepOf a.part old (s ++ y ∷ []) (groups ++ (M ∷ []) ∷ [])
 step_push a old s groups M y step next =
-    layers_push a.part old [] groups s (M ∷ []) y step (next_is a old s groups M y step next)
+    layers_push a.part old [] groups s (M ∷ []) y step next.moves (next_is a old s groups M y step next)
 
 pub step_extend : (a : Meaning) (old : Old) (s : List Layer) (groups : List (List Move)) (M : Move) (x y : Layer) →
     IsStepOf a.part old (s ++ x ∷ []) groups → IsNextLayer a old (s ++ x ∷ []) M y →
-    IsStepOf a.part old (s ++ y ∷ []) (extended groups M)
+    IsStepOf a.part old (s ++ behind x.moves y ∷ []) (extended groups M)
 step_extend a old s groups M x y step next =
     let last = group_there a.part old [] groups s x step in
-    let below = layers_split a.part old [] last.before s last.last x
-    (subst (λ gs. IsStepOf a.part old (s ++ x ∷ []) gs) last.parts step) in
+    let split = subst (λ gs. IsStepOf a.part old (s ++ x ∷ []) gs) last.parts step in
+    let below = layers_split a.part old [] last.before s last.last x split in
+    let has : x.moves ++ y.moves ≡ last.last ++ M ∷ [] =
+    (λ i. layers_last a.part old [] last.before s last.last x split i ++ next.moves i) in
     let all : all_moves groups ++ M ∷ [] ≡ all_moves last.before ++ (last.last ++ M ∷ []) =
     ap (λ gs. all_moves gs ++ M ∷ []) last.parts ∙ ap (λ Ms. Ms ++ M ∷ []) (moves-push last.before last.last)
     ∙ append_assoc (all_moves last.before) last.last (M ∷ []) in
-    subst (λ gs. IsStepOf a.part old (s ++ y ∷ []) gs)
+    subst (λ gs. IsStepOf a.part old (s ++ behind x.moves y ∷ []) gs)
     (sym (ap (λ gs. extended gs M) last.parts ∙ extended-push last.before last.last M))
-    (layers_push a.part old [] last.before s (last.last ++ M ∷ []) y below
-    (subst (λ Ms. IsLayerOf a.part old Ms y) all (next_is a old (s ++ x ∷ []) groups M y step next)))
+    (layers_push a.part old [] last.before s (last.last ++ M ∷ []) (behind x.moves y) below has
+    (layer_behind a.part old _ x.moves y
+    (subst (λ Ms. IsLayerOf a.part old Ms y) all (next_is a old (s ++ x ∷ []) groups M y step next))))
 
 pub step_pop : (part : Part) (old : Old) (s : List Layer) (groups : List (List Move)) (group : List Move) (y : Layer) →
     IsStepOf part old (s ++ y ∷ []) (groups ++ group ∷ []) → IsStepOf part old s groups
@@ -128,7 +131,7 @@ step_pop part old s groups group y step = layers_split part old [] groups s grou
 -- what is answered
 
 pub answered_ok : (a : Meaning) (old : Old) (s new : List Layer) (M : Move) (y : Layer) → IsNextLayer a old s M y →
-    one_move new ≡ Some (one_move_of y) → IsAnswer a old s new M (Ok tt)
+    one_move new ≡ Some (one_move_of y) → IsPushAnswer a old s new M (Ok tt)
 answered_ok a old s new M y next is = ((next.updates, next.set), (one_move_of y, is, next.goes_on.0))
 
 -- on a state that has what is below, a move that fires is not refused for those before it
@@ -161,7 +164,7 @@ module _ (a : Meaning) (old : Old) (s : List Layer) (groups : List (List Move)) 
 
   pub answered_on_ok : (new : List Layer) (V : Updates) → IsUpdateSet a.part (seen_through (frames_of s) old) M V →
       ((l : Place) → topmost (frames_of new) l ≡ option_or (finite.get V l) (topmost (frames_of s) l)) →
-      IsAnswerOn a.part B s new M (Ok tt)
+      IsPushAnswerOn a.part B s new M (Ok tt)
   answered_on_ok new V updates show =
       fires_there V updates
       ∙ ap Ok (sym (under-push B (frames_of s) V)
@@ -172,7 +175,7 @@ module _ (a : Meaning) (old : Old) (s : List Layer) (groups : List (List Move)) 
       not_refused a old s groups M (overwrite (under B (frames_of s)) updates.0) B step proper
       (agrees_before B old (all_moves groups) M has) (fires_there updates.0 updates.1) never
 
-  pub answered_on_err : (e : StepError) → IsNext a old s M (Err e) → IsAnswerOn a.part B s s M (Err e)
+  pub answered_on_err : (e : StepError) → IsNext a old s M (Err e) → IsPushAnswerOn a.part B s s M (Err e)
   answered_on_err (step_error.Clash clash) (inl least) =
       fire_clash a.part (under B (frames_of s)) M clash
       (same_clash a.part (seen_through (frames_of s) old) (val (under B (frames_of s))) M seen_there clash least)

@@ -1,4 +1,4 @@
--- A step may go to another thread.
+-- A step may go to another thread, and so may what a pop hands back.
 use denote.Param.Send.{IsSend, sendable}
 use denote.Param.SendFields.{declared_send}
 use Rattle.std.proofs.Crossing.{Vec-send}
@@ -13,6 +13,8 @@ use Rattle.asm_step.specs.contracts.outcomes.Outcomes as Outcomes
 use Rattle.asm_step.specs.contracts.outcomes.Outcomes.TheInside as InsideOutcomes
 use Rattle.asm_step.specs.contracts.own.Own as Own
 use Rattle.asm_step.specs.contracts.own.Own.TheInside as InsideOwn
+use Rattle.asm_step.specs.contracts.popped.Popped as Popped
+use Rattle.asm_step.specs.contracts.popped.Popped.TheInside as InsidePopped
 use Rattle.asm_step.specs.contracts.step.Step as Step
 use Rattle.asm_step.specs.contracts.step.Step.TheInside as InsideStep
 
@@ -36,8 +38,14 @@ inside_own_is_sent = search (sendable, outcomes_is_sent, instructions_is_sent) d
 own_is_sent : IsSend Own.the_row
 own_is_sent = search (sendable, inside_own_is_sent) depth 20
 
+inside_popped_is_sent : IsSend InsidePopped.the_row
+inside_popped_is_sent = search (sendable, Vec-send, instructions_is_sent) depth 20
+
+pub popped_is_sent : IsSend Popped.the_row
+popped_is_sent = search (sendable, inside_popped_is_sent) depth 20
+
 layer_is_sent : IsSend Layer.the_row
-layer_is_sent = search (sendable, own_is_sent, instructions_is_sent) depth 20
+layer_is_sent = search (sendable, own_is_sent, popped_is_sent) depth 20
 
 inside_step_is_sent : IsSend InsideStep.the_row
 inside_step_is_sent = search (sendable, Vec-send, layer_is_sent) depth 20

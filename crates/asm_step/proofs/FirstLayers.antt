@@ -91,18 +91,16 @@ module _ {a : Meaning} (laws : AggregatorLaws a) (old : Old) (s : List Layer) (M
           by_test false e = refl
 
     -- of one put
-    pub put_answer : (y : OwnLayer) → y ≡ record { own = own_of M finite.empty; alone = Some M; count = 1 } →
+    pub put_answer : (y : OwnLayer) → y ≡ record { own = own_of M finite.empty; moves = M ∷ []; is_alone = true; count = 1 } →
         IsNext a old s M (Ok (laid_on (outcomes_of s) y))
     put_answer y seen =
         first_answer (alone k v) (only_put_updates a.part (seen_through (frames_of s) old) M k v is) (Ok y) (
           put_next y.own own,
           omega (arith, counted),
           omega (arith, ap (λ (z : OwnLayer). z.count) seen),
-          ap (λ (z : OwnLayer). z.alone) seen ∙ sym (ap (λ (t : Option Layer). option_map_or (λ (z : Layer). no_move) t (Some M)) top),
+          ap (λ (z : OwnLayer). z.moves) seen,
+          ap (λ (z : OwnLayer). z.is_alone) seen ∙ sym (ap (λ (t : Option Layer). option_map_or (λ (z : Layer). false) t true) top),
         ) where
-          no_move : Option Move
-          no_move = None
-
           own : y.own ≡ put_alone (k, v)
           own = as_put M finite.empty y.own (k, v) (sym (ap (λ (z : OwnLayer). z.own) seen)) is
 

@@ -2,17 +2,17 @@
 use Rattle.std.proofs.Common.{◌≡◌, List, [], ◌∷◌, ◌++◌, append_assoc, append-nil}
 use Rattle.std.proofs.Common.{Option, Some, None, Ok, IsOk, refl, sym, ap, ◌∙◌, subst}
 use Rattle.std.specs.FinMap as finite
-use Rattle.std.specs.Option.{option_map_or}
+use Rattle.std.specs.Option.{option_map, option_map_or}
 use Rattle.asm_element.specs.Place.{Place, location_cmp}
 use Rattle.asm_update.specs.Fire.{Part, Old, fire}
 use Rattle.asm_update.specs.Move.{Move}
 use Rattle.asm_update.specs.State.{State, Updates, IsProper}
 use Rattle.asm_overlay.specs.Frames.{under, topmost}
 use Rattle.asm_step.specs.InTurn.{fire_all, all_but_last, DoesAll, IsWrittenInTurn, Agrees}
-use Rattle.asm_step.specs.Layers.{Layer, frames_of, one_move_of, top_of, all_moves, IsLayerOf, AreLayers}
+use Rattle.asm_step.specs.Layers.{Layer, behind, frames_of, one_move_of, top_of, all_moves, IsLayerOf, AreLayers}
 use Rattle.asm_step.specs.Layers.{IsStepOf, extended}
 use Rattle.asm_step.specs.Outcomes.{frame}
-use Rattle.asm_step.proofs.Prefixes.{has_top}
+use Rattle.asm_step.proofs.Prefixes.{has_top, without_layers}
 use Rattle.asm_step.proofs.Stacked.{same_under}
 use Rattle.asm_step.proofs.Turns.{but_last_ok, does_none, fires_in_turn}
 
@@ -54,29 +54,70 @@ split_top (y ∷ z ∷ s) x is = ap (λ t. y ∷ t) (split_top (z ∷ s) x is)
 -- layers
 
 pub layers_push : (part : Part) (old : Old) (before : List Move) (groups : List (List Move)) (s : List Layer)
-    (group : List Move) (y : Layer) → AreLayers part old before groups s →
+    (group : List Move) (y : Layer) → AreLayers part old before groups s → y.moves ≡ group →
     IsLayerOf part old ((before ++ all_moves groups) ++ group) y →
     AreLayers part old before (groups ++ group ∷ []) (s ++ y ∷ [])
-layers_push part old before [] [] group y h on_top =
-    (subst (λ Ns. IsLayerOf part old (Ns ++ group) y) (append-nil before) on_top, tt)
-layers_push part old before (first ∷ groups) (x ∷ s) group y h on_top = (
+layers_push part old before [] [] group y h has on_top =
+    (has, subst (λ Ns. IsLayerOf part old (Ns ++ group) y) (append-nil before) on_top, tt)
+layers_push part old before (first ∷ groups) (x ∷ s) group y h has on_top = (
   h.0,
-  layers_push part old (before ++ first) groups s group y h.1
+  h.1,
+  layers_push part old (before ++ first) groups s group y h.2 has
       (subst (λ Ns. IsLayerOf part old (Ns ++ group) y) (sym (append_assoc before first (all_moves groups))) on_top),
 )
-layers_push part old before [] (x ∷ s) group y h on_top = absurd h
-layers_push part old before (first ∷ groups) [] group y h on_top = absurd h
+layers_push part old before [] (x ∷ s) group y h has on_top = absurd h
+layers_push part old before (first ∷ groups) [] group y h has on_top = absurd h
 
 pub layers_split : (part : Part) (old : Old) (before : List Move) (groups : List (List Move)) (s : List Layer)
     (group : List Move) (y : Layer) →
     AreLayers part old before (groups ++ group ∷ []) (s ++ y ∷ []) → AreLayers part old before groups s
 layers_split part old before [] [] group y h = tt
 layers_split part old before (first ∷ groups) (x ∷ s) group y h =
-    (h.0, layers_split part old (before ++ first) groups s group y h.1)
-layers_split part old before [] (x ∷ []) group y h = absurd h.1
-layers_split part old before [] (x ∷ z ∷ s) group y h = absurd h.1
-layers_split part old before (first ∷ []) [] group y h = absurd h.1
-layers_split part old before (first ∷ next ∷ groups) [] group y h = absurd h.1
+    (h.0, h.1, layers_split part old (before ++ first) groups s group y h.2)
+layers_split part old before [] (x ∷ []) group y h = absurd h.2
+layers_split part old before [] (x ∷ z ∷ s) group y h = absurd h.2
+layers_split part old before (first ∷ []) [] group y h = absurd h.2
+layers_split part old before (first ∷ next ∷ groups) [] group y h = absurd h.2
+
+-- the last layer keeps the last group
+pub layers_last : (part : Part) (old : Old) (before : List Move) (groups : List (List Move)) (s : List Layer)
+    (group : List Move) (y : Layer) → AreLayers part old before (groups ++ group ∷ []) (s ++ y ∷ []) → y.moves ≡ group
+layers_last part old before [] [] group y h = h.0
+layers_last part old before (first ∷ groups) (x ∷ s) group y h = layers_last part old (before ++ first) groups s group y h.2
+layers_last part old before [] (x ∷ []) group y h = absurd h.2
+layers_last part old before [] (x ∷ z ∷ s) group y h = absurd h.2
+layers_last part old before (first ∷ []) [] group y h = absurd h.2
+layers_last part old before (first ∷ next ∷ groups) [] group y h = absurd h.2
+
+-- without layers there is no last group
+pub no_last : {X : Type 0} (part : Part) (old : Old) (before : List Move) (groups : List (List Move)) (group : List Move) →
+    AreLayers part old before (groups ++ group ∷ []) [] → X
+no_last part old before [] group h = absurd h
+no_last part old before (first ∷ groups) group h = absurd h
+
+-- so the topmost layer keeps the last group
+pub last_group : (part : Part) (old : Old) (s : List Layer) (groups : List (List Move)) (group : List Move) →
+    IsStepOf part old s (groups ++ group ∷ []) → option_map (λ (y : Layer). y.moves) (top_of s) ≡ Some group
+last_group part old s groups group step = by_top (top_of s) refl where
+  by_top : (t : Option Layer) → top_of s ≡ t → option_map (λ (y : Layer). y.moves) t ≡ Some group
+  by_top (Some y) top =
+      ap Some (layers_last part old [] groups (all_but_last s) group y
+      (subst (λ (t : List Layer). IsStepOf part old t (groups ++ group ∷ [])) (split_top s y top) step))
+  by_top None top =
+      no_last part old [] groups group
+      (subst (λ (t : List Layer). IsStepOf part old t (groups ++ group ∷ [])) (without_layers s top) step)
+
+-- moves in front of a layer's own leave it what it is
+pub layer_behind : (part : Part) (old : Old) (Ms Ns : List Move) (y : Layer) → IsLayerOf part old Ms y →
+    IsLayerOf part old Ms (behind Ns y)
+layer_behind part old Ms Ns y h = record {
+  written = h.written;
+  does = h.does;
+  each = h.each;
+  keeps = h.keeps;
+  building = h.building;
+  resting = h.resting;
+}
 
 -- where there is a layer, there is a group
 pub group_there : (part : Part) (old : Old) (before : List Move) (groups : List (List Move)) (s : List Layer) (y : Layer) →
@@ -97,13 +138,13 @@ of_all part old before [] [] y h is = absurd (cc is)
 of_all part old before (group ∷ []) (x ∷ []) y h is =
     let same : x ≡ y = cc is in
     subst (IsLayerOf part old (before ++ (group ++ []))) same
-    (subst (λ Ms. IsLayerOf part old (before ++ Ms) x) (sym (append-nil group)) h.0)
+    (subst (λ Ms. IsLayerOf part old (before ++ Ms) x) (sym (append-nil group)) h.1)
 of_all part old before (group ∷ groups) (x ∷ z ∷ s) y h is =
     subst (λ Ms. IsLayerOf part old Ms y) (append_assoc before group (all_moves groups))
-    (of_all part old (before ++ group) groups (z ∷ s) y h.1 is)
+    (of_all part old (before ++ group) groups (z ∷ s) y h.2 is)
 of_all part old before [] (x ∷ s) y h is = absurd h
 of_all part old before (group ∷ groups) [] y h is = absurd h
-of_all part old before (group ∷ next ∷ groups) (x ∷ []) y h is = absurd h.1
+of_all part old before (group ∷ next ∷ groups) (x ∷ []) y h is = absurd h.2
 
 -- what the moves of a step write, and its frames show
 pub record IsSeen (part : Part) (old : Old) (s : List Layer) (Ms : List Move) : Type 0 where

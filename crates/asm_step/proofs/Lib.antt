@@ -16,6 +16,7 @@ pub mod OkWeaker
 pub mod OneMove
 pub mod Opened
 pub mod Placed
+pub mod Popping
 pub mod Prefixes
 pub mod Pushed
 pub mod PutAlone

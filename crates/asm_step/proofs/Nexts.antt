@@ -10,9 +10,9 @@ use Rattle.asm_update.specs.Fire.{Old, IsUpdateSet}
 use Rattle.asm_update.specs.Move.{Move, actions_at, writes}
 use Rattle.asm_update.specs.State.{Updates}
 use Rattle.asm_overlay.specs.Frames.{topmost, seen_through}
-use Rattle.asm_step.specs.Layers.{Layer, IsSound, frames_of, laid_on, one_move, one_move_of, outcomes_of, top_of}
+use Rattle.asm_step.specs.Layers.{Layer, IsSound, alone_in, first_of, frames_of, laid_on, one_move, one_move_of, outcomes_of, top_of}
 use Rattle.asm_step.specs.Column.{IsSequenceAt}
-use Rattle.asm_step.specs.Next.{AreNext, IsComposed, IsContinued, IsLayerFrom, IsNext, IsNextLayer, KeepsEach, first_alone, next_at, on_top, those}
+use Rattle.asm_step.specs.Next.{AreNext, IsComposed, IsContinued, IsLayerFrom, IsNext, IsNextLayer, KeepsEach, first_alone, is_first, next_at, on_top, those}
 use Rattle.asm_step.specs.Outcomes.{Outcome, Outcomes, actions_in, frame, laid, listed}
 use Rattle.asm_step.specs.declared.error.StepError.{StepError}
 use Rattle.asm_step.specs.declared.error.StepError.TheVariants as step_error
@@ -158,7 +158,14 @@ module _ {a : Meaning} (laws : AggregatorLaws a) (old : Old) (s : List Layer) (M
 
     module _ (y : OwnLayer) (next : AreNext (outcomes_of s) U C M y.own)
         (counted : y.count ≡ (n - length E) + length (listed y.own)) (few : y.count ≤ 4096)
-        (alone : y.alone ≡ first_alone s M) where
+        (moves : y.moves ≡ M ∷ []) (first : y.is_alone ≡ is_first s) where
+      alone : alone_in y ≡ first_alone s M
+      alone = (λ i. cond (first i) (first_of (moves i)) None) ∙ by_top (top_of s) where
+        by_top : (t : Option Layer) →
+            cond (option_map_or (λ (z : Layer). false) t true) (Some M) no_move ≡ option_map_or (λ (z : Layer). no_move) t (Some M)
+        by_top (Some z) = refl
+        by_top None = refl
+
       long : y.count ≡ length (listed (laid (outcomes_of s) y.own))
       long = sum_of y.own y.count next counted
 
@@ -178,7 +185,7 @@ module _ {a : Meaning} (laws : AggregatorLaws a) (old : Old) (s : List Layer) (M
             by_test false w = unwritten M l w ∙ ap (λ b. cond b (actions_at M l) []) (sym w)
 
       -- the move that is alone does what the outcomes say
-      is_alone : (N : Move) → y.alone ≡ Some N → (l : Place) → actions_at N l ≡ actions_in (laid (outcomes_of s) y.own) l
+      is_alone : (N : Move) → alone_in y ≡ Some N → (l : Place) → actions_at N l ≡ actions_in (laid (outcomes_of s) y.own) l
       is_alone N is l = by_top (top_of s) refl composed (sym alone ∙ is) where
         by_top : (t : Option Layer) → top_of s ≡ t → IsComposed a (option_map (λ (y : Layer). E) t) S (Ok F) →
             option_map_or (λ (y : Layer). no_move) t (Some M) ≡ Some N →
@@ -200,8 +207,8 @@ module _ {a : Meaning} (laws : AggregatorLaws a) (old : Old) (s : List Layer) (M
       goes_on : IsContinued a (one_move s) M (Ok (one_move_of (laid_on (outcomes_of s) y)))
       goes_on = by_top (top_of s) refl composed alone where
         by_top : (t : Option Layer) → top_of s ≡ t → IsComposed a (option_map (λ (y : Layer). E) t) S (Ok F) →
-            y.alone ≡ option_map_or (λ (y : Layer). no_move) t (Some M) →
-            IsContinued a (option_map one_move_of t) M (Ok (unwrap_or y.alone R))
+            alone_in y ≡ option_map_or (λ (y : Layer). no_move) t (Some M) →
+            IsContinued a (option_map one_move_of t) M (Ok (unwrap_or (alone_in y) R))
         by_top (Some z) top h e =
             let gave = continues_as a (outcomes_of s) y.own U (one_move_of z) M C has (same_as z top) next E S O F (split z top) h.0.0 refl in
             subst (λ (o : Option Move). IsContinued a (Some (one_move_of z)) M (Ok (unwrap_or o R))) (sym e) (
@@ -214,8 +221,8 @@ module _ {a : Meaning} (laws : AggregatorLaws a) (old : Old) (s : List Layer) (M
       keeps_each : KeepsEach a.part (one_move s) M (one_move_of (laid_on (outcomes_of s) y))
       keeps_each = by_top (top_of s) refl composed alone where
         by_top : (t : Option Layer) → top_of s ≡ t → IsComposed a (option_map (λ (y : Layer). E) t) S (Ok F) →
-            y.alone ≡ option_map_or (λ (y : Layer). no_move) t (Some M) →
-            KeepsEach a.part (option_map one_move_of t) M (unwrap_or y.alone R)
+            alone_in y ≡ option_map_or (λ (y : Layer). no_move) t (Some M) →
+            KeepsEach a.part (option_map one_move_of t) M (unwrap_or (alone_in y) R)
         by_top (Some z) top h e =
             subst (λ (o : Option Move). IsSequenceAt a.part (one_move_of z) M (unwrap_or o R)) (sym e) (goes_each z top h.0.0)
         by_top None top h e = tt
@@ -231,6 +238,8 @@ module _ {a : Meaning} (laws : AggregatorLaws a) (old : Old) (s : List Layer) (M
         building = next_building (outcomes_of s) y.own U C M next has;
         resting = next_resting (outcomes_of s) y.own U C M next has;
         sound = record { count = long; few = few; alone = is_alone };
+        moves = moves;
+        alone = alone;
       }
 
     -- or there are too many instructions
@@ -261,7 +270,7 @@ module _ {a : Meaning} (laws : AggregatorLaws a) (old : Old) (s : List Layer) (M
 
     -- what is answered
     pub next_answer : (r : Result OwnLayer StepError) → IsLayerFrom s U (n - length E) C M r → IsNext a old s M (on_top s r)
-    next_answer (Ok y) (next, counted, few, alone) = next_ok y next counted few alone
+    next_answer (Ok y) (next, counted, few, moves, first) = next_ok y next counted few moves first
     next_answer (Err step_error.Many) (own, next, few, many) = inr ((U, set), too_many own next few many)
     next_answer (Err step_error.Memory) h = inr ((U, set), (tt, tt))
     next_answer (Err (step_error.Clash clash)) h = absurd h

@@ -1,13 +1,14 @@
 -- Layers over those below them, and one layer more on top.
-use Rattle.std.proofs.Common.{◌≡◌, ◌≢◌, ◌≤◌, ◌-◌, ℕ, suc, arith, slice_get, slice_set, get_or, unwrap_or, Bor, is_some, true, false, List, [], ◌∷◌, ◌++◌, length, All, Option, Some, None, refl, sym, ap, ◌∙◌, subst}
+use Rattle.std.proofs.Common.{◌≡◌, ◌≢◌, ◌≤◌, ◌-◌, ℕ, cond, suc, arith, slice_get, slice_set, get_or, unwrap_or, Bor, is_some, true, false, List, [], ◌∷◌, ◌++◌, length, All, Option, Some, None, refl, sym, ap, ◌∙◌, subst}
 use Rattle.std.proofs.lemmas.Bool.{false≢true}
 use Rattle.std.proofs.lemmas.List.Elements.{All-cons, All-head, All-nil, All-tail}
 use Rattle.std.specs.FinMap as finite
 use Rattle.std.specs.Option.{option_copied, option_map, option_map_or, option_or}
 use Rattle.asm_element.specs.Place.{Place, location_cmp}
+use Rattle.asm_update.specs.Move.{Move}
 use Rattle.asm_step.specs.InTurn.{all_but_last}
-use Rattle.asm_step.specs.Layers.{Layer, IsSound, laid_on, layers_on, outcomes_of, top_of}
-use Rattle.asm_step.specs.Next.{count_of}
+use Rattle.asm_step.specs.Layers.{Layer, IsSound, alone_in, behind, first_of, laid_on, layers_on, moves_of, outcomes_of, top_of}
+use Rattle.asm_step.specs.Next.{count_of, is_first}
 use Rattle.asm_step.specs.Outcomes.{Outcome, Outcomes, laid, listed}
 use Rattle.asm_step.specs.declared.layer.OwnLayer.{OwnLayer}
 use Rattle.asm_step.proofs.Laid.{get-laid, laid_is, none_listed}
@@ -73,9 +74,16 @@ own_by_index (x ∷ s) =
     last_there x [] = refl
     last_there x (y ∷ s) = last_there y s
 
--- is the topmost of the layers that are seen, which has its count and its move alone
+-- is the topmost of the layers that are seen, which has its moves, its move alone and its count
+pub top_moves : (m : Outcomes) (s : List OwnLayer) →
+    option_map (λ (y : OwnLayer). y.moves) (own_top s) ≡ option_map (λ (y : Layer). y.moves) (top_of (layers_on m s))
+unfolding own_top
+top_moves m [] = refl
+top_moves m (y ∷ []) = refl
+top_moves m (y ∷ z ∷ s) = top_moves (laid m y.own) (z ∷ s)
+
 pub top_alone : (m : Outcomes) (s : List OwnLayer) →
-    option_map (λ (y : OwnLayer). y.alone) (own_top s) ≡ option_map (λ (y : Layer). y.alone) (top_of (layers_on m s))
+    option_map alone_in (own_top s) ≡ option_map (λ (y : Layer). y.alone) (top_of (layers_on m s))
 unfolding own_top
 top_alone m [] = refl
 top_alone m (y ∷ []) = refl
@@ -180,16 +188,29 @@ or_both : (x y z : Option Outcome) → option_or (option_or x y) z ≡ option_or
 or_both (Some o) y z = refl
 or_both None y z = refl
 
+moves_on_top : (s : List Layer) (y : Layer) → moves_of (s ++ y ∷ []) ≡ y.moves
+moves_on_top [] y = refl
+moves_on_top (x ∷ []) y = refl
+moves_on_top (x ∷ z ∷ s) y = moves_on_top (z ∷ s) y
+
 pub extended_top : (t items : List OwnLayer) (now : List Layer) (x new next : OwnLayer) → layers_on finite.empty items ≡ now →
     items ≡ t ++ x ∷ [] →
     ((l : Place) → finite.get new.own l ≡ option_or (finite.get next.own l) (finite.get x.own l)) →
-    new.alone ≡ next.alone → new.count ≡ next.count →
-    layers_on finite.empty (t ++ new ∷ []) ≡ all_but_last now ++ laid_on (outcomes_of now) next ∷ []
-extended_top t items now x new next seen is own alone count =
+    new.moves ≡ x.moves ++ next.moves → new.is_alone ≡ false → alone_in next ≡ None → new.count ≡ next.count →
+    layers_on finite.empty (t ++ new ∷ []) ≡ all_but_last now ++ behind (moves_of now) (laid_on (outcomes_of now) next) ∷ []
+extended_top t items now x new next seen is own more several later count =
     layers-push finite.empty t new
-    ∙ (λ i. before i ++ record { outcomes = outcomes i; alone = alone i; count = count i } ∷ []) where
+    ∙ (λ i. before i ++ record { outcomes = outcomes i; moves = moves i; alone = alone i; count = count i } ∷ []) where
       all : layers_on finite.empty t ++ laid_on (all_laid finite.empty t) x ∷ [] ≡ now
       all = sym (layers-push finite.empty t x) ∙ ap (λ (s : List OwnLayer). layers_on finite.empty s) (sym is) ∙ seen
+
+      moves : new.moves ≡ moves_of now ++ next.moves
+      moves =
+          more ∙ ap (λ (Ms : List Move). Ms ++ next.moves)
+          (sym (moves_on_top (layers_on finite.empty t) (laid_on (all_laid finite.empty t) x)) ∙ ap moves_of all)
+
+      alone : alone_in new ≡ alone_in next
+      alone = ap (λ b. cond b (first_of new.moves) None) several ∙ sym later
 
       before : layers_on finite.empty t ≡ all_but_last now
       before = sym (but_last_push (layers_on finite.empty t) (laid_on (all_laid finite.empty t) x)) ∙ ap all_but_last all
@@ -223,6 +244,19 @@ pub no_top_by_test : (s : List Layer) (o : Option (Bor OwnLayer)) →
     is_some o ≡ false → top_of s ≡ None
 no_top_by_test s (Some x) is none = absurd (false≢true (sym none))
 no_top_by_test s None is none = without_top s is
+
+-- whether there is none
+pub first_by : (s : List Layer) (o : Option ℕ) → o ≡ option_map (λ (y : Layer). y.count) (top_of s) →
+    option_map_or (λ n. false) o true ≡ is_first s
+first_by s o is = ap (λ (x : Option ℕ). option_map_or (λ n. false) x true) is ∙ by_top (top_of s) where
+  by_top : (t : Option Layer) →
+      option_map_or (λ n. false) (option_map (λ (y : Layer). y.count) t) true ≡ option_map_or (λ (y : Layer). false) t true
+  by_top (Some y) = refl
+  by_top None = refl
+
+-- more moves in front of its own leave a layer sound
+pub sound_behind : (Ms : List Move) (y : Layer) → IsSound y → IsSound (behind Ms y)
+sound_behind Ms y sound = record { count = sound.count; few = sound.few; alone = sound.alone }
 
 pub some_layers : (s : List Layer) (y : Layer) → top_of s ≡ Some y → s ≢ []
 some_layers s y is none = let no : None ≡ Some y = ap top_of (sym none) ∙ is in cc

@@ -20,6 +20,12 @@ all_but_last-push [] x = refl
 all_but_last-push (y ∷ []) x = refl
 all_but_last-push (y ∷ z ∷ xs) x = ap (λ ys. y ∷ ys) (all_but_last-push (z ∷ xs) x)
 
+-- moves in turn, and then others
+pub fire_all-both : (part : Part) (r : Result State Clash) (Ms Ns : List Move) →
+    fire_all part r (Ms ++ Ns) ≡ fire_all part (fire_all part r Ms) Ns
+fire_all-both part r [] Ns = refl
+fire_all-both part r (M ∷ Ms) Ns = fire_all-both part (then_fire part r M) Ms Ns
+
 fire_all-push : (part : Part) (r : Result State Clash) (Ms : List Move) (M : Move) →
     fire_all part r (Ms ++ M ∷ []) ≡ then_fire part (fire_all part r Ms) M
 fire_all-push part r [] M = refl

@@ -38,26 +38,26 @@ IsContinuedBy a o M r = IsTold o (continued_after a o M) r
 
 -- A move is taken where it has an update set on what is seen, and goes on with those before it, to what is then the one
 -- move; else the first of these that fails is told. A refusal of memory tells nothing.
-abbrev pub IsAnswer : Meaning → Old → List Layer → List Layer → Move → Result (Unit {0}) StepError → Type 0
-IsAnswer a old s new M (Ok _) =
+abbrev pub IsPushAnswer : Meaning → Old → List Layer → List Layer → Move → Result (Unit {0}) StepError → Type 0
+IsPushAnswer a old s new M (Ok _) =
     HasUpdates a.part old s M × ((C : Move) × (one_move new ≡ Some C) × IsContinuedBy a (one_move s) M (Ok C))
-IsAnswer a old s new M (Err (Clash clash)) =
+IsPushAnswer a old s new M (Err (Clash clash)) =
     IsLeastClash a.part (seen_through (frames_of s) old) M clash
     ⊎ (HasUpdates a.part old s M × IsContinuedBy a (one_move s) M (Err (Clash clash)))
-IsAnswer a old s new M (Err (Large l)) = HasUpdates a.part old s M × IsContinuedBy a (one_move s) M (Err (Large l))
-IsAnswer a old s new M (Err Many) = HasUpdates a.part old s M × IsContinuedBy a (one_move s) M (Err Many)
-IsAnswer a old s new M (Err Deep) = length s ≡ frames_limit
-IsAnswer a old s new M (Err Memory) = Unit {0}
+IsPushAnswer a old s new M (Err (Large l)) = HasUpdates a.part old s M × IsContinuedBy a (one_move s) M (Err (Large l))
+IsPushAnswer a old s new M (Err Many) = HasUpdates a.part old s M × IsContinuedBy a (one_move s) M (Err Many)
+IsPushAnswer a old s new M (Err Deep) = length s ≡ frames_limit
+IsPushAnswer a old s new M (Err Memory) = Unit {0}
 
 -- the same on a state on which the step's moves fire: the move fires there in its turn, or its clash is told, and none is
 -- too large
-abbrev pub IsAnswerOn : Part → State → List Layer → List Layer → Move → Result (Unit {0}) StepError → Type 0
-IsAnswerOn part A s new M (Ok _) = fire part (under A (frames_of s)) M ≡ Ok (under A (frames_of new))
-IsAnswerOn part A s new M (Err (Clash clash)) = fire part (under A (frames_of s)) M ≡ Err clash
-IsAnswerOn part A s new M (Err (Large l)) = ⊥
-IsAnswerOn part A s new M (Err Many) = Unit {0}
-IsAnswerOn part A s new M (Err Deep) = Unit {0}
-IsAnswerOn part A s new M (Err Memory) = Unit {0}
+abbrev pub IsPushAnswerOn : Part → State → List Layer → List Layer → Move → Result (Unit {0}) StepError → Type 0
+IsPushAnswerOn part A s new M (Ok _) = fire part (under A (frames_of s)) M ≡ Ok (under A (frames_of new))
+IsPushAnswerOn part A s new M (Err (Clash clash)) = fire part (under A (frames_of s)) M ≡ Err clash
+IsPushAnswerOn part A s new M (Err (Large l)) = ⊥
+IsPushAnswerOn part A s new M (Err Many) = Unit {0}
+IsPushAnswerOn part A s new M (Err Deep) = Unit {0}
+IsPushAnswerOn part A s new M (Err Memory) = Unit {0}
 
 -- what the one move with a last one owes to such a state: it does there what the last one does after the others, and where
 -- they don't compose, the last one clashes

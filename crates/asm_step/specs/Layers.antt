@@ -1,6 +1,6 @@
 -- What contracts see of a step, and of which moves it is one.
-use Rattle.std.specs.Prelude.{◌≡◌, ◌≤◌, ℕ, Bool, List, [], ◌∷◌, ◌++◌, length, Option, None, Some, unwrap_or, refl}
-use Rattle.std.specs.Coded.{Coded, code_by, coded×, coded_ℕ, coded_option}
+use Rattle.std.specs.Prelude.{◌≡◌, ◌≤◌, ℕ, Bool, List, [], ◌∷◌, ◌++◌, length, Option, None, Some, unwrap_or, refl, if◌then◌else◌}
+use Rattle.std.specs.Coded.{Coded, code_by, coded×, coded_list, coded_ℕ, coded_option}
 use Rattle.std.specs.FinMap as finite
 use Rattle.std.specs.Option.{option_map, option_map_or}
 use Rattle.asm_element.specs.Place.{Place}
@@ -14,23 +14,33 @@ use Rattle.asm_step.specs.Outcomes.{Outcomes, actions_in, builds_at, frame, laid
 use Rattle.asm_step.specs.Resting.{builds, rests, KeepsGroups}
 use Rattle.asm_step.specs.declared.layer.OwnLayer.{OwnLayer}
 
--- what all moves up to a layer come to at each location that one of them writes; the move, where it is one alone; and how
--- many instructions the outcomes have
+-- what all moves up to a layer come to at each location that one of them writes; the moves of the layer itself, the pushed
+-- one and those that extend it; the step's one move, where it is one alone; and how many instructions the outcomes have
 pub record Layer : Type 0 where
   pub outcomes : Outcomes
+  pub moves : List Move
   pub alone : Option Move
   pub count : ℕ
 
 -- it is stored as a tuple
 abbrev pub layer_code : Coded Outcomes → Coded Move → Coded Layer
 layer_code os m =
-    code_by (Outcomes × (Option Move × ℕ)) (coded× os (coded× (coded_option m) coded_ℕ))
-    (λ y. (y.outcomes, (y.alone, y.count)))
-    (λ p. record { outcomes = p.0; alone = p.1.0; count = p.1.1 }) (λ _. refl)
+    code_by (Outcomes × (List Move × (Option Move × ℕ))) (coded× os (coded× (coded_list m) (coded× (coded_option m) coded_ℕ)))
+    (λ y. (y.outcomes, (y.moves, (y.alone, y.count))))
+    (λ p. record { outcomes = p.0; moves = p.1.0; alone = p.1.1.0; count = p.1.1.1 }) (λ _. refl)
+
+-- the first of some moves, if there is one
+abbrev pub first_of : List Move → Option Move
+first_of [] = None
+first_of (M ∷ Ms) = Some M
+
+-- the step's one move, where it is the first of the layer's
+abbrev pub alone_in : OwnLayer → Option Move
+alone_in y = if y.is_alone then first_of y.moves else None
 
 -- a layer over what is below it, of which its own outcomes are kept
 abbrev pub laid_on : Outcomes → OwnLayer → Layer
-laid_on below y = record { outcomes = laid below y.own; alone = y.alone; count = y.count }
+laid_on below y = record { outcomes = laid below y.own; moves = y.moves; alone = alone_in y; count = y.count }
 
 -- the layers, each over those below it
 abbrev pub layers_on : Outcomes → List OwnLayer → List Layer
@@ -50,6 +60,14 @@ outcomes_of s = option_map_or (λ y. y.outcomes) (top_of s) finite.empty
 -- what the moves of a step write, as one frame; without moves there is none
 abbrev pub frames_of : List Layer → Frames
 frames_of s = option_map_or (λ y. frame y.outcomes ∷ []) (top_of s) []
+
+-- the moves of the topmost layer
+abbrev pub moves_of : List Layer → List Move
+moves_of s = option_map_or (λ y. y.moves) (top_of s) []
+
+-- a layer with these moves in front of its own
+abbrev pub behind : List Move → Layer → Layer
+behind Ms y = record y { moves = Ms ++ y.moves }
 
 -- the one move of all moves up to a layer: one alone is as it is
 abbrev pub one_move_of : Layer → Move
@@ -89,11 +107,11 @@ pub record IsLayerOf (part : Part) (old : Old) (Ms : List Move) (y : Layer) : Ty
   pub building : (l : Place) → builds_at y.outcomes l ≡ builds Ms l
   pub resting : (l : Place) → rests_at y.outcomes l ≡ rests Ms l
 
--- each group of moves has its layer, which is of all moves up to there
+-- each group of moves has its layer, which keeps them, and is of all moves up to there
 abbrev pub AreLayers : Part → Old → List Move → List (List Move) → List Layer → Type 0
 AreLayers part old before [] [] = Unit {0}
 AreLayers part old before (group ∷ groups) (y ∷ s) =
-    IsLayerOf part old (before ++ group) y × AreLayers part old (before ++ group) groups s
+    (y.moves ≡ group) × IsLayerOf part old (before ++ group) y × AreLayers part old (before ++ group) groups s
 AreLayers part old before _ _ = ⊥
 
 -- the step is of these groups of moves, over what is looked up below it: each is a pushed move with those that extend it

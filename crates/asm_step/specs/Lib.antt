@@ -6,5 +6,6 @@ pub mod Layers
 pub mod Next
 pub mod Outcomes
 pub mod Places
+pub mod Popped
 pub mod Resting
 pub mod Scan

@@ -1,5 +1,5 @@
 -- What comes to the layer of a move that is next.
-use Rattle.std.specs.Prelude.{◌≡◌, ◌⊎◌, ◌≤◌, ◌<◌, ◌+◌, ℕ, Bool, not, filter, if◌then◌else◌, List, [], ◌++◌, length, Option, None, Some, Result, Ok, Err}
+use Rattle.std.specs.Prelude.{◌≡◌, ◌⊎◌, ◌≤◌, ◌<◌, ◌+◌, ℕ, Bool, true, false, not, filter, if◌then◌else◌, List, [], ◌∷◌, ◌++◌, length, Option, None, Some, Result, Ok, Err}
 use Rattle.std.specs.FinMap as map
 use Rattle.std.specs.List.{list_any}
 use Rattle.std.specs.Option.{option_or, option_map, option_map_or}
@@ -74,6 +74,10 @@ builds_next os M l = if writes M l then (if puts M l then builds_at os l else se
 abbrev pub rests_next : Outcomes → Move → Place → Bool
 rests_next os M l = if writes M l then builds_at os l else rests_at os l
 
+-- the move, where there is none before it
+abbrev pub first_alone : List Layer → Move → Option Move
+first_alone s M = option_map_or (λ _. None) (top_of s) (Some M)
+
 -- the layer of a move that comes next: it writes the move's update set, over what those before write
 pub record IsNextLayer (a : Meaning) (old : Old) (s : List Layer) (M : Move) (y : Layer) : Type 0 where
   pub updates : Updates
@@ -84,6 +88,8 @@ pub record IsNextLayer (a : Meaning) (old : Old) (s : List Layer) (M : Move) (y 
   pub building : (l : Place) → builds_at y.outcomes l ≡ builds_next (outcomes_of s) M l
   pub resting : (l : Place) → rests_at y.outcomes l ≡ rests_next (outcomes_of s) M l
   pub sound : IsSound y
+  pub moves : y.moves ≡ M ∷ []
+  pub alone : y.alone ≡ first_alone s M
 
 -- the answer is the layer of a move that is next, or why it has none: it has no update set, or doesn't compose
 abbrev pub IsNext : Meaning → Old → List Layer → Move → Result Layer StepError → Type 0
@@ -119,9 +125,9 @@ next_at os C M l v = record {
 abbrev pub AreNext : Outcomes → Updates → Move → Move → Outcomes → Type 0
 AreNext os U C M own = (l : Place) → map.get own l ≡ option_map (next_at os C M l) (map.get U l)
 
--- the move, where there is none before it
-abbrev pub first_alone : List Layer → Move → Option Move
-first_alone s M = option_map_or (λ _. None) (top_of s) (Some M)
+-- whether there is no move before it
+abbrev pub is_first : List Layer → Bool
+is_first s = option_map_or (λ _. false) (top_of s) true
 
 -- the move of a step that was pushed alone, if it is one
 abbrev pub alone_of : List Layer → Option Move
@@ -159,7 +165,7 @@ AreOpened os U new = (l : Place) → map.get new l ≡ option_map (opened_at os 
 abbrev pub IsLayerFrom : List Layer → Updates → ℕ → Move → Move → Result OwnLayer StepError → Type 0
 IsLayerFrom s U others C M (Ok y) =
     AreNext (outcomes_of s) U C M y.own × (y.count ≡ others + length (listed y.own)) × (y.count ≤ instructions_limit)
-    × (y.alone ≡ first_alone s M)
+    × (y.moves ≡ M ∷ []) × (y.is_alone ≡ is_first s)
 IsLayerFrom s U others C M (Err Many) =
     (own : Outcomes) × AreNext (outcomes_of s) U C M own × (length (listed own) ≤ length C)
     × (instructions_limit < others + length (listed own))

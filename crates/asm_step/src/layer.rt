@@ -1,13 +1,16 @@
 //! What a layer keeps, and how its parts are made.
-ghost use Rattle.std.specs.Prelude.{◌≡◌, Some, None, IfOk, OnErr, OnOk};
+ghost use Rattle.std.specs.Prelude.{◌≡◌, ◌++◌, ◌∷◌, [], Some, None, IfOk, OnErr, OnOk, false};
 ghost use Rattle.std.specs.FinMap as map;
 ghost use Rattle.asm_element.specs.Place.{Place};
 ghost use Rattle.asm_update.specs.Aggregator.{Meaning};
+ghost use Rattle.asm_update.specs.Move.{Move};
 ghost use Rattle.std.specs.Option.{option_copied, option_or};
+ghost use Rattle.asm_step.specs.Layers.{alone_in};
 ghost use Rattle.asm_step.specs.Next.{IsComposed, IsFrame};
 
 use crate::error::StepError;
 use crate::own::Own;
+use crate::popped::Popped;
 use asm_aggregate::{ComposeError, aggregate, compose};
 use asm_update::{AggError, Aggregator, Instructions, Lookup, UpdateSet};
 use std::alloc::{AllocError, Global};
@@ -17,23 +20,40 @@ use std::alloc::{AllocError, Global};
 pub(crate) struct OwnLayer {
     /// What all moves of the step up to here come to, where these write.
     pub(crate) own: Own,
-    /// The step's one move, if it is one that was pushed alone.
-    pub(crate) alone: Option<Instructions>,
+    /// These moves, as a pop hands them back.
+    pub(crate) moves: Popped,
+    /// Whether the first of them is the step's one move: it was pushed alone.
+    pub(crate) is_alone: bool,
     /// How many instructions all moves up to here come to.
     pub(crate) count: usize,
 }
 
 impl OwnLayer {
+    /// The step's one move, if it is one that was pushed alone.
+    pub(crate) fn alone(&self) -> Option<&Instructions>
+        ensures { option_copied result ≡ alone_in self.now }
+    {
+        if self.is_alone {
+            return Some(self.moves.moves().0);
+        }
+        None
+    }
+
     /// Takes in the layer of a move that extends this one. After an error nothing is changed.
     pub(crate) fn extend(&mut self, alloc: Global, next: OwnLayer) -> Result<(), AllocError>
         ensures own { OnOk result ((q : Place) →
             map.get self.new.own q ≡ option_or (map.get next.own q) (map.get self.old.own q)) }
-        ensures alone { OnOk result (self.new.alone ≡ next.alone) }
+        ensures moves { OnOk result ((M : Move) → next.moves ≡ M ∷ [] → self.new.moves ≡ self.old.moves ++ M ∷ []) }
+        ensures alone { OnOk result (self.new.is_alone ≡ false) }
         ensures count { OnOk result (self.new.count ≡ next.count) }
         ensures err { OnErr result (self.new ≡ self.old) }
     {
-        self.own.take_in(alloc, next.own)?;
-        self.alone = next.alone;
+        self.moves.push(next.moves.into_first())?;
+        if let Err(error) = self.own.take_in(alloc, next.own) {
+            self.moves.take_back();
+            return Err(error);
+        }
+        self.is_alone = false;
         self.count = next.count;
         Ok(())
     }

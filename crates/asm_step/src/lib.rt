@@ -14,9 +14,11 @@ mod next;
 mod outcomes;
 mod over;
 mod own;
+mod popped;
 mod scan;
 mod step;
 
 pub use error::StepError;
 pub use over::OverStep;
+pub use popped::Popped;
 pub use step::Step;

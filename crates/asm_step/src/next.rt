@@ -6,7 +6,7 @@ ghost use Rattle.std.specs.FinMap as finite;
 ghost use Rattle.asm_aggregate.specs.Compose.{placed};
 ghost use Rattle.asm_update.specs.Limits.{instructions_limit};
 ghost use Rattle.asm_step.specs.Layers.{outcomes_of, top_of};
-ghost use Rattle.asm_step.specs.Next.{IsNext, AreFilled, AreMarked, AreOpened, IsLayerFrom, count_of, first_alone, on_top, opened_at, those};
+ghost use Rattle.asm_step.specs.Next.{IsNext, AreFilled, AreMarked, AreOpened, IsLayerFrom, count_of, is_first, on_top, opened_at, those};
 ghost use Rattle.asm_update.specs.Action.{is_regular};
 ghost use Rattle.asm_step.specs.Outcomes.{acts_at, actions_in, listed, own_of, with_put};
 
@@ -15,6 +15,7 @@ use crate::layer::{OwnLayer, frame_on, move_after};
 use crate::listing::push_within;
 use crate::outcomes::{Outcome, Outcomes};
 use crate::own::Own;
+use crate::popped::Popped;
 use crate::step::Step;
 use asm_aggregate::only_put;
 use asm_element::{Location, Value};
@@ -63,11 +64,13 @@ fn mark_each(outcomes: &mut Outcomes, instructions: &Instructions)
 
 // The layer of a move of one put.
 fn put_layer(alloc: Global, put: &Instructions) -> Result<OwnLayer, AllocError>
-    ensures { IfOk result (λ y. y ≡ record { own = own_of put.now finite.empty; alone = Some put.now; count = 1 }) }
+    ensures { IfOk result (λ y. y
+        ≡ record { own = own_of put.now finite.empty; moves = put.now ∷ []; is_alone = true; count = 1 }) }
 {
     Ok(OwnLayer {
         own: Own::of_put(alloc, put.copy(alloc)?),
-        alone: Some(put.copy(alloc)?),
+        moves: Popped::of(alloc, put.copy(alloc)?),
+        is_alone: true,
         count: 1,
     })
 }
@@ -149,17 +152,13 @@ impl Step {
         }
     }
 
-    // The move, if it is the first one.
-    fn alone(
-        &self,
-        alloc: Global,
-        instructions: &Instructions,
-    ) -> Result<Option<Instructions>, AllocError>
-        ensures { IfOk result (λ alone. alone ≡ first_alone self.now instructions.now) }
+    // Whether there are no moves so far.
+    fn is_first(&self) -> bool
+        ensures { result ≡ is_first self.now }
     {
         match self.top() {
-            Some(_) => Ok(None),
-            None => Ok(Some(instructions.copy(alloc)?)),
+            Some(_) => false,
+            None => true,
         }
     }
 
@@ -240,10 +239,11 @@ impl Step {
         if count > INSTRUCTIONS_LIMIT {
             return Err(StepError::Many);
         }
-        let alone = self.alone(alloc, instructions)?;
+        let moves = Popped::of(alloc, instructions.copy(alloc)?);
         Ok(OwnLayer {
             own: Own::of_each(alloc, own),
-            alone,
+            moves,
+            is_alone: self.is_first(),
             count,
         })
     }

@@ -1,6 +1,6 @@
 ghost use Rattle.std.specs.Prelude.{◌≡◌, ◌≢◌, ◌↔◌, ◌++◌, ◌∷◌, ◌≤◌, [], List, length, unwrap_or};
-ghost use Rattle.std.specs.Prelude.{OnOk, OnErr, IfOk, IfErr, IsErrOf, IsNone, Ok, Err};
-ghost use Rattle.std.specs.Bool.{OnTrue, OnFalse};
+ghost use Rattle.std.specs.Prelude.{OnOk, OnErr, IfOk, IfErr, IfSome, IsErrOf, IsNone, Ok, Err, None, Some};
+ghost use Rattle.std.specs.Bool.{OnFalse};
 ghost use Rattle.std.specs.FinMap as finite;
 ghost use Rattle.std.specs.Option.{option_copied, option_map};
 ghost use Rattle.asm_element.specs.Value.{undef};
@@ -11,11 +11,11 @@ ghost use Rattle.asm_update.specs.Move.{Move};
 ghost use Rattle.asm_update.specs.State.{State, IsProper, val};
 ghost use Rattle.asm_overlay.specs.Frames.{under, seen_through, topmost};
 ghost use Rattle.asm_overlay.specs.Limits.{frames_limit};
-ghost use Rattle.asm_step.specs.Answer.{IsAnswer, IsAnswerOn, IsFollowedBy, IsLastOn};
+ghost use Rattle.asm_step.specs.Answer.{IsPushAnswer, IsPushAnswerOn, IsFollowedBy, IsLastOn};
 ghost use Rattle.asm_step.specs.Column.{IsClashOfOne};
 ghost use Rattle.asm_step.specs.InTurn.{fire_all, all_but_last, Agrees, DoesAll};
 ghost use Rattle.asm_step.specs.Layers.{Layer, frames_of, outcomes_of, one_move, all_moves, resting_of, shows_below};
-ghost use Rattle.asm_step.specs.Layers.{extended, laid_on, top_of, IsSound, IsStepOf};
+ghost use Rattle.asm_step.specs.Layers.{alone_in, behind, extended, laid_on, moves_of, top_of, IsSound, IsStepOf};
 ghost use Rattle.asm_step.specs.Next.{alone_of};
 ghost use Rattle.asm_step.specs.Resting.{left_by, rests, sees_below, AgreesAtRests, AgreesIfSeen, AreThose};
 
@@ -25,6 +25,7 @@ use crate::held::Held;
 use crate::layer::{OwnLayer, move_after};
 use crate::listing::{listing, resting_places};
 use crate::over::OverStep;
+use crate::popped::Popped;
 use asm_element::{Location, Value};
 use asm_overlay::FRAMES_LIMIT;
 use asm_update::{Aggregator, Instructions, Lookup};
@@ -81,7 +82,8 @@ impl Step {
 
     // The topmost layer, if there is one.
     pub(crate) fn top(&self) -> Option<&OwnLayer>
-        ensures alone { option_map (λ y. y.alone) (option_copied result) ≡ option_map (λ y. y.alone) (top_of self.now) }
+        ensures moves { option_map (λ y. y.moves) (option_copied result) ≡ option_map (λ y. y.moves) (top_of self.now) }
+        ensures alone { option_map alone_in (option_copied result) ≡ option_map (λ y. y.alone) (top_of self.now) }
         ensures count { option_map (λ y. y.count) (option_copied result) ≡ option_map (λ y. y.count) (top_of self.now) }
     {
         self.layers.as_slice().last()
@@ -91,7 +93,10 @@ impl Step {
     fn extend_top(&mut self, alloc: Global, next: OwnLayer) -> Result<(), AllocError>
         requires some { self.old ≢ [] }
         requires sound { IsSound (laid_on (outcomes_of self.old) next) }
-        ensures ok { OnOk result (self.new ≡ all_but_last self.old ++ laid_on (outcomes_of self.old) next ∷ []) }
+        requires one { (M : Move) × (next.moves ≡ M ∷ []) }
+        requires later { alone_in next ≡ None }
+        ensures ok { OnOk result (self.new ≡ all_but_last self.old
+            ++ behind (moves_of self.old) (laid_on (outcomes_of self.old) next) ∷ []) }
         ensures err { OnErr result (self.new ≡ self.old) }
     {
         let last = self.layers.len() - 1;
@@ -120,12 +125,12 @@ impl Step {
             IsStepOf (A.meaning aggregator.now).part (L.value_at below.now) self.new
             (groups ++ (instructions.now ∷ []) ∷ [])) }
         ensures more { OnOk result ((y : Layer) × (self.new ≡ self.old ++ y ∷ [])) }
-        ensures answer { IsAnswer (A.meaning aggregator.now) (L.value_at below.now) self.old self.new
+        ensures answer { IsPushAnswer (A.meaning aggregator.now) (L.value_at below.now) self.old self.new
             instructions.now result }
         ensures answer_on { (groups : List (List Move)) (B : State) →
             IsStepOf (A.meaning aggregator.now).part (L.value_at below.now) self.old groups →
             IsProper B → Agrees B (L.value_at below.now) (all_moves groups ++ instructions.now ∷ []) →
-            IsAnswerOn (A.meaning aggregator.now).part B self.old self.new instructions.now result }
+            IsPushAnswerOn (A.meaning aggregator.now).part B self.old self.new instructions.now result }
         ensures err { OnErr result (self.new ≡ self.old) }
         ensures deep { IsErrOf result StepError.Deep ↔ (length self.old ≡ frames_limit) }
     {
@@ -154,12 +159,12 @@ impl Step {
             IsStepOf (A.meaning aggregator.now).part (L.value_at below.now) self.new
             (extended groups instructions.now)) }
         ensures instead { OnOk result ((y : Layer) × (self.new ≡ all_but_last self.old ++ y ∷ [])) }
-        ensures answer { IsAnswer (A.meaning aggregator.now) (L.value_at below.now) self.old self.new
+        ensures answer { IsPushAnswer (A.meaning aggregator.now) (L.value_at below.now) self.old self.new
             instructions.now result }
         ensures answer_on { (groups : List (List Move)) (B : State) →
             IsStepOf (A.meaning aggregator.now).part (L.value_at below.now) self.old groups →
             IsProper B → Agrees B (L.value_at below.now) (all_moves groups ++ instructions.now ∷ []) →
-            IsAnswerOn (A.meaning aggregator.now).part B self.old self.new instructions.now result }
+            IsPushAnswerOn (A.meaning aggregator.now).part B self.old self.new instructions.now result }
         ensures err { OnErr result (self.new ≡ self.old) }
         ensures deep { IfErr result (λ e. ¬ (e ≡ StepError.Deep)) }
     {
@@ -171,18 +176,36 @@ impl Step {
         Ok(())
     }
 
-    /// Takes the move that was pushed last away, with those that extend it; false where there is none. It takes no
-    /// memory, and what was seen before that push is seen again.
-    pub fn pop(&mut self) -> bool
-        ensures less { OnTrue result ((y : Layer) × (self.old ≡ self.new ++ y ∷ [])) }
-        ensures none { OnFalse result ((self.old ≡ []) × (self.new ≡ [])) }
-        ensures step { OnTrue result ((part : Part) (old : Old) (groups : List (List Move)) (group : List Move) →
-            IsStepOf part old self.old (groups ++ group ∷ []) → IsStepOf part old self.new groups) }
+    /// The move that was pushed last, with those that extend it, as a pop would hand them back.
+    pub fn last(&self) -> Option<&Popped>
+        ensures moves { option_copied result ≡ option_map (λ y. y.moves) (top_of self.now) }
+        ensures step { (part : Part) (old : Old) (groups : List (List Move)) (group : List Move) →
+            IsStepOf part old self.now (groups ++ group ∷ []) → option_copied result ≡ Some group }
     {
-        let Some(_layer) = self.layers.pop() else {
-            return false;
+        match self.top() {
+            Some(top) => Some(&top.moves),
+            None => None,
+        }
+    }
+
+    /// Takes the move that was pushed last away, with those that extend it, and hands them back as they were given;
+    /// None where there is none. It takes no memory, and what was seen before that push is seen again.
+    pub fn pop(&mut self) -> Option<Popped>
+        ensures less { IfSome result (λ popped. (y : Layer) × (self.old ≡ self.new ++ y ∷ []) × (popped ≡ y.moves)) }
+        ensures none { IsNone result → (self.old ≡ []) × (self.new ≡ []) }
+        ensures step { (part : Part) (old : Old) (groups : List (List Move)) (group : List Move) →
+            IsStepOf part old self.old (groups ++ group ∷ []) →
+            (result ≡ Some group) × IsStepOf part old self.new groups }
+
+        // On a state that has what is below, they fire in turn where the others have fired.
+        ensures fires { (part : Part) (old : Old) (groups : List (List Move)) (group : List Move) (B : State) →
+            IsStepOf part old self.old (groups ++ group ∷ []) → Agrees B old (all_moves (groups ++ group ∷ [])) →
+            fire_all part (Ok (under B (frames_of self.new))) group ≡ Ok (under B (frames_of self.old)) }
+    {
+        let Some(layer) = self.layers.pop() else {
+            return None;
         };
-        true
+        Some(layer.moves)
     }
 
     // What the step's moves come to at the location: the topmost layer that has it tells.
@@ -256,7 +279,7 @@ impl Step {
         ensures { option_copied result ≡ alone_of self.now }
     {
         match self.top() {
-            Some(top) => top.alone.as_ref(),
+            Some(top) => top.alone(),
             None => None,
         }
     }

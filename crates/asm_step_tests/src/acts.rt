@@ -2,7 +2,7 @@
 use crate::plain_data::{Line, NAMES, is_same, move_of, opening, updates_on, write};
 use asm_aggregate::standard;
 use asm_element::{Location, Value};
-use asm_step::{Step, StepError};
+use asm_step::{Popped, Step, StepError};
 use asm_test_support::{location, number};
 use asm_update::{Cause, Instructions, PlainState};
 use std::alloc::{AllocError, Global};
@@ -23,6 +23,10 @@ pub(crate) enum Act {
     Push(&'static [Line], Answer),
     Extend(&'static [Line], Answer),
     Pop(bool),
+    /// A pop hands these moves back, each as it was given; where there are none, there was none to pop.
+    HandsBack(&'static [&'static [Line]]),
+    /// A pop, a push of this move, and a push of what the popped ones come to, of which the last is answered so.
+    Again(&'static [Line], Answer),
     /// The location has this number; undef is none.
     Gives(&'static str, Option<i64>),
     /// A scan of the name has it at the location, and at each other what is below.
@@ -175,6 +179,54 @@ fn leaves(
     )
 }
 
+/// Whether these moves are what is popped, in turn.
+pub(crate) fn are_popped(popped: Option<&Popped>, moves: &[Instructions]) -> bool {
+    let Some(popped) = popped else {
+        return moves.is_empty();
+    };
+    let (pushed, extending) = popped.moves();
+    match moves.split_first() {
+        Some((first, more)) => pushed == first && extending == more,
+        None => false,
+    }
+}
+
+fn moves_of(alloc: Global, moves: &[&[Line]]) -> Result<Vec<Instructions>, Fail> {
+    let mut list = Vec::new(alloc);
+    for lines in moves {
+        list.push(move_of(alloc, lines)?)?;
+    }
+    Ok(list)
+}
+
+/// Whether a look at the last group and a pop tell of these moves.
+fn hands_back(alloc: Global, step: &mut Step, moves: &[&[Line]]) -> Result<bool, Fail> {
+    let moves = moves_of(alloc, moves)?;
+    let is_told = are_popped(step.last(), moves.as_slice());
+    let popped = step.pop();
+    Ok(is_told && are_popped(popped.as_ref(), moves.as_slice()))
+}
+
+/// What is popped, as one move; it is dropped.
+fn popped_one(alloc: Global, popped: Option<Popped>) -> Result<Instructions, Fail> {
+    match popped {
+        Some(popped) => Ok(popped.as_move(alloc, &standard())?),
+        None => Ok(Instructions::new(alloc)),
+    }
+}
+
+fn again(
+    alloc: Global,
+    step: &mut Step,
+    below: &PlainState,
+    lines: &[Line],
+    want: Answer,
+) -> Result<bool, Fail> {
+    let one = popped_one(alloc, step.pop())?;
+    take(alloc, step, below, move_of(alloc, lines)?, true)?;
+    is_told(take(alloc, step, below, one, true), want)
+}
+
 fn comes_out(alloc: Global, step: &mut Step, below: &PlainState, act: Act) -> Result<bool, Fail> {
     match act {
         Act::Push(lines, want) => {
@@ -185,7 +237,9 @@ fn comes_out(alloc: Global, step: &mut Step, below: &PlainState, act: Act) -> Re
             let instructions = move_of(alloc, lines)?;
             is_told(take(alloc, step, below, instructions, false), want)
         }
-        Act::Pop(is_there) => Ok(step.pop() == is_there),
+        Act::Pop(is_there) => Ok(step.pop().is_some() == is_there),
+        Act::HandsBack(moves) => hands_back(alloc, step, moves),
+        Act::Again(lines, want) => again(alloc, step, below, lines, want),
         Act::Gives(name, n) => gives(alloc, step, below, name, n),
         Act::Scans(name, n) => scans(alloc, step, below, name, n),
         Act::Depth(depth) => Ok(step.depth() == depth),

@@ -8,6 +8,8 @@ mod errors;
 #[cfg(test)]
 mod plain_data;
 #[cfg(test)]
+mod pops;
+#[cfg(test)]
 mod pushes;
 #[cfg(test)]
 mod random_steps;

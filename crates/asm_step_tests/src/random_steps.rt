@@ -1,9 +1,10 @@
 //! Steps at random, against firing their moves in turn on a copy of what is below.
-use crate::acts::{fires, take};
+use crate::acts::{are_popped, fires, take};
 use crate::plain_data::Do::{Add, BagAdd, BagRemove, Inc, Put, Remove, Undef};
 use crate::plain_data::{Line, NAMES, append, is_same, opening, updates_on, write};
+use asm_aggregate::standard;
 use asm_element::{Element, Value};
-use asm_step::{Step, StepError};
+use asm_step::{Popped, Step, StepError};
 use asm_test_support::location;
 use asm_update::{AggError, Clash, Instructions, PlainState, UpdateSet};
 use std::alloc::Global;
@@ -217,6 +218,45 @@ fn forget(turns: &mut Vec<Turn>) {
     }
 }
 
+/// The move that was pushed last, with those that extend it.
+fn last_group(alloc: Global, turns: &[Turn]) -> Result<Vec<Instructions>, Fail> {
+    let mut group = Vec::new(alloc);
+    for turn in turns {
+        if turn.is_pushed {
+            group.clear();
+        }
+        group.push(random_move(alloc, turn.number)?)?;
+    }
+    Ok(group)
+}
+
+/// Whether what is popped, as one move, leads from what the moves before it leave to what all left.
+fn leads_to(
+    alloc: Global,
+    popped: Option<&Popped>,
+    mut state: PlainState,
+    all: PlainState,
+) -> Result<bool, Fail> {
+    if let Some(popped) = popped {
+        let updates = updates_on(alloc, &state, popped.as_move(alloc, &standard())?)?;
+        write(&mut state, updates)?;
+    }
+    is_same(alloc, &state, &all)
+}
+
+/// Whether a pop hands back what it takes away.
+fn pops(alloc: Global, step: &mut Step, turns: &mut Vec<Turn>) -> Result<bool, Fail> {
+    let group = last_group(alloc, turns.as_slice())?;
+    let all = left_by(alloc, turns.as_slice())?;
+    forget(turns);
+    let popped = step.pop();
+    let state = left_by(alloc, turns.as_slice())?;
+    Ok(
+        are_popped(popped.as_ref(), group.as_slice())
+            && leads_to(alloc, popped.as_ref(), state, all)?,
+    )
+}
+
 /// Whether a pop, a push or an extension, as the number tells, does what it does to the moves.
 fn comes_out(
     alloc: Global,
@@ -227,9 +267,7 @@ fn comes_out(
 ) -> Result<bool, Fail> {
     let choice = choice(number) % 8;
     if choice == 0 {
-        let is_there = !turns.is_empty();
-        forget(turns);
-        return Ok(step.pop() == is_there);
+        return pops(alloc, step, turns);
     }
     let want = wanted(alloc, turns.as_slice(), number)?;
     let is_pushed = choice > 4;

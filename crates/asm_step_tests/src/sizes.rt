@@ -103,9 +103,9 @@ fn has_room_after_one(
 /// Whether the size comes out both ways, on a step without moves, which has none after it.
 fn comes_out(alloc: Global, step: &mut Step, below: &PlainState, size: u32) -> Result<bool, Fail> {
     let is_first = has_room(alloc, step, below, size)?;
-    let is_popped = step.pop() && step.pop() == (size < 4096);
+    let is_popped = step.pop().is_some() && step.pop().is_some() == (size < 4096);
     let is_later = has_room_after_one(alloc, step, below, size)?;
-    let is_gone = step.pop() && !step.pop();
+    let is_gone = step.pop().is_some() && step.pop().is_none();
     Ok(is_first && is_popped && is_later && is_gone)
 }
 

@@ -1,4 +1,5 @@
-use Rattle.std.proofs.Common.{◌++◌, length, length-append, ap, sym, subst, arith}
+use Rattle.std.proofs.Common.{◌++◌, ◌∷◌, [], length, length-append, ap, sym, subst, ◌∙◌, arith}
+use Rattle.asm_update.specs.Move.{Move}
 use Rattle.asm_step.specs.Layers.{outcomes_of}
 use Rattle.asm_step.specs.Next.{AreNext}
 use Rattle.asm_step.specs.Outcomes.{Outcomes, listed}
@@ -19,7 +20,8 @@ returns c =
           (next_from os c.args.frame (C ++ O) M c.in_ok-own.own c.mark_each.new.outcomes c.fill-2.new.outcomes c.in_ok-own.ensures c.mark_each.ensures both),
       omega (arith, none, many, c.in_ok-added.ensures.count, c.in_ok-more.ensures.count),
       omega (arith, c.if-count-gt-INSTRUCTIONS_LIMIT.false),
-      c.in_ok-alone.ensures,
+      c.of-moves.ensures ∙ ap (λ (N : Move). N ∷ []) c.in_ok-copy.ensures,
+      c.is_first.ensures,
     )
 
 pub returns-then-count-gt-INSTRUCTIONS_LIMIT : goal.returns-then-count-gt-INSTRUCTIONS_LIMIT

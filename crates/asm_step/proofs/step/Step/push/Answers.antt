@@ -3,7 +3,7 @@ use Rattle.std.proofs.lemmas.Result.{err_from_is_err_and}
 use Rattle.std.specs.FinMap as finite
 use Rattle.std.specs.Option.{option_map}
 use Rattle.asm_aggregate.proofs.Exits.{handed_on}
-use Rattle.asm_step.specs.Answer.{IsAnswerOn}
+use Rattle.asm_step.specs.Answer.{IsPushAnswerOn}
 use Rattle.asm_step.specs.Layers.{Layer, IsSound, laid_on, layers_on, one_move, one_move_of, outcomes_of, IsStepOf}
 use Rattle.asm_step.proofs.Answered.{answered_ok, answered_on_err, answered_on_ok, step_push}
 use Rattle.asm_step.proofs.Layered.{top_of-push}
@@ -18,7 +18,7 @@ returns-in_err-layer-clause-answer_on g c groups B step proper has =
     let s = c.args.self.now in
     let M = c.args.instructions.now in
     let p = err_from_is_err_and c.from_residual.result c.from_residual.ensures.1 in
-    handed_on (λ r. IsAnswerOn a.part B s s M r) c.from_residual.result p.0 c.in_err-layer.field-0.0 p.1 p.2
+    handed_on (λ r. IsPushAnswerOn a.part B s s M r) c.from_residual.result p.0 c.in_err-layer.field-0.0 p.1 p.2
     (answered_on_err a old s groups M B step proper has c.in_err-layer.field-0.0 c.in_err-layer.ensures)
 
 pub invariant_of-self-2 : goal.invariant_of-self-2
@@ -69,6 +69,6 @@ returns-clause-answer_on g c groups B step proper has =
     let y = laid_on (outcomes_of s) c.in_ok-layer.layer in
     let next = c.in_ok-layer.ensures in
     let is = on_layers c.self.inside.layers.items c.push.new.self.items c.in_ok-layer.layer s c.in_ok-push.ensures.items c.self.view_is in
-    subst (λ (t : List Layer). IsAnswerOn a.part B s t M (Ok tt)) (sym is)
+    subst (λ (t : List Layer). IsPushAnswerOn a.part B s t M (Ok tt)) (sym is)
     (answered_on_ok a old s groups M B step proper has (s ++ y ∷ []) next.updates next.set
     (λ l. shown_on_top s y l ∙ next.written l))
