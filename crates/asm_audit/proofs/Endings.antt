@@ -124,7 +124,7 @@ pub record Begins (part : Part) (h : History) (text : List ℕ) (x : Ending) : T
   pub begun : IsBegun v count h text rest
   pub ends : Ends (machine_of part h) v h.agents count h.events rest x
 
-abbrev history : State → ℕ → ℕ → List Event → History
+abbrev pub history : State → ℕ → ℕ → List Event → History
 history A c a es = record { init = A; capacity = c; agents = a; events = es }
 
 -- two have the same header

@@ -69,7 +69,7 @@ begun_push v count agents capacity A es e text rest after d b line form = record
 
 -- ---- a line, and what stands behind it
 
-no_feed_inside : (a r : List ℕ) → NoFeed (a ++ 10 ∷ r) → ⊥
+pub no_feed_inside : (a r : List ℕ) → NoFeed (a ++ 10 ∷ r) → ⊥
 no_feed_inside [] r h = h.0 refl
 no_feed_inside (x ∷ a) r h = no_feed_inside a r h.1
 

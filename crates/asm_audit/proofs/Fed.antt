@@ -1,7 +1,9 @@
 -- What is told of bytes, piece by piece.
-use Rattle.std.proofs.Common.{◌≡◌, ◌≢◌, ◌≤◌, ◌<◌, ℕ, Bool, true, false, eqb, List, [], ◌∷◌, ◌++◌, length, Option, Some, None, Result, Ok, Err, refl, sym, ap, subst, ◌∙◌, inl, inr, append-nil, append_assoc, length-append, arith}
+use Rattle.std.proofs.Common.{◌≡◌, ◌≢◌, ◌≤◌, ◌<◌, ◌+◌, ℕ, suc, take, drop, get_or, Bool, true, false, eqb, List, [], ◌∷◌, ◌++◌, length, Option, Some, None, Result, Ok, Err, refl, sym, ap, subst, ◌∙◌, inl, inr, append-nil, append_assoc, length-append, arith}
 use Rattle.std.proofs.lemmas.Bool.{eqb-true, eqb-false}
+use Rattle.std.proofs.Math.Seq.{drop-cons}
 use Rattle.std.proofs.lemmas.Grind.{flat_map-append}
+use Rattle.std.proofs.lemmas.List.{take_all, take_more, take-append-drop, drop_all}
 use Rattle.std.proofs.lemmas.List.Elements.{All-append, All-nil, All-from_recursion}
 use Rattle.asm_update.specs.Fire.{Part}
 use Rattle.asm_update.specs.State.{State}
@@ -19,8 +21,8 @@ use Rattle.asm_audit.specs.Text.{IsLineBefore, HasLineFeed, IsShortLine, ended_l
 use Rattle.asm_audit.specs.Chain.{last_left}
 use Rattle.asm_audit.specs.Fault.{counted, HasLong, IsFaulty}
 use Rattle.asm_audit.specs.Opened.{history_of}
-use Rattle.asm_audit.specs.Audited.{IsRead, IsAudited, IsAnswer, IsEnd, IsFirstIllegal}
-use Rattle.asm_audit.specs.Fed.{IsFed, HasTaken, HasTakenSome, IsFedAnswer, IsFedEnd, LeavesLine}
+use Rattle.asm_audit.specs.Audited.{IsRead, IsAudited, IsLineAnswer, IsEnd, IsFirstIllegal}
+use Rattle.asm_audit.specs.Fed.{IsFed, HasTaken, HasTakenSome, IsFedAnswer, IsFedEnd, LeavesLine, IsToldNext, HasTakenFirst}
 use Rattle.asm_audit.specs.Kept.{IsKept}
 use Rattle.asm_audit.proofs.Extended.{begun_more, ended}
 use Rattle.asm_audit.proofs.Steps.{legal_more}
@@ -53,13 +55,13 @@ ends_line line none = (refl, none)
 
 -- the line feed
 pub fed_end : (part : Part) (p q : Progress) (line left : List ℕ) (b : ℕ) (r : Result Told AuditError) → b ≡ 10 →
-    IsAnswer part (line ++ 10 ∷ []) p q r → LeavesLine line left r → IsFedAnswer part (b ∷ []) p line q left r
+    IsLineAnswer part (line ++ 10 ∷ []) p q r → LeavesLine line left r → IsFedAnswer part (b ∷ []) p line q left r
 fed_end part p q line left b r feed answer leaves =
     subst (λ n. IsFedAnswer part (n ∷ []) p line q left r) (sym feed) (by_answer r answer leaves) where
       new : List ℕ
       new = line ++ 10 ∷ []
 
-      by_answer : (r : Result Told AuditError) → IsAnswer part new p q r → LeavesLine line left r →
+      by_answer : (r : Result Told AuditError) → IsLineAnswer part new p q r → LeavesLine line left r →
           IsFedAnswer part (10 ∷ []) p line q left r
       by_answer (Ok Legal) answer none = λ text fed. record {
         ended = fed.ended ++ new;
@@ -159,17 +161,92 @@ fed_fault part front behind bytes p q line left e all answer = λ text more fed.
     subst (λ (t : List ℕ). IsFaulty part t e) (cut_more text front behind more ∙ ap (λ l. text ++ (l ++ more)) all)
     (answer text (behind ++ more) fed)
 
--- what was taken of the bytes before one that tells something else, which wasn't taken
-pub taken_before : (part : Part) (bytes front behind : List ℕ) (p q s : Progress) (line left right : List ℕ) →
-    front ++ behind ≡ bytes → HasTaken part front p line q left → s ≡ q → right ≡ left →
-    HasTakenSome part bytes p line s right
-taken_before part bytes front behind p q s line left right all taken same kept = (
-  front,
-  behind,
-  all,
-  subst (λ x. HasTaken part front p line x right) (sym same)
-      (subst (λ l. HasTaken part front p line q l) (sym kept) taken),
-)
+-- ---- so many of the bytes
+
+-- the answer isn't that all is legal
+abbrev pub IsStop : Result Told AuditError → Type 0
+IsStop (Ok Legal) = ⊥
+IsStop (Ok (Illegal j c)) = Unit {0}
+IsStop (Err e) = Unit {0}
+
+module _ (part : Part) (bytes : List ℕ) (i b : ℕ) (p q s : Progress) (line left right : List ℕ) (within : i < length bytes)
+    (here : b ≡ get_or bytes i 0) (taken : HasTaken part (take i bytes) p line q left) where
+  behind_is : drop i bytes ≡ b ∷ drop (suc i) bytes
+  behind_is = drop-cons bytes i 0 within ∙ ap (λ x. x ∷ drop (suc i) bytes) (sym here)
+
+  whole : (take i bytes ++ b ∷ []) ++ drop (suc i) bytes ≡ bytes
+  whole =
+      append_assoc (take i bytes) (b ∷ []) (drop (suc i) bytes) ∙ ap (λ l. take i bytes ++ l) (sym behind_is)
+      ∙ take-append-drop i bytes
+
+  joined_to : (r : Result Told AuditError) → IsFedAnswer part (b ∷ []) q left s right r →
+      IsFedAnswer part (take i bytes ++ b ∷ []) p line s right r
+  joined_to r answer = fed_join part (take i bytes) (b ∷ []) p q s line left right r taken answer
+
+  -- one more was taken
+  pub one_taken : HasTaken part (b ∷ []) q left s right → HasTaken part (take (i + 1) bytes) p line s right
+  one_taken more =
+      subst (λ (xs : List ℕ). HasTaken part xs p line s right)
+      (ap (λ x. take i bytes ++ x ∷ []) here ∙ sym (take_more bytes i 0 within)) (joined_to (Ok Legal) more)
+
+  -- what is told at a byte is told of all, since it stands whatever comes behind
+  pub told_of_all : (r : Result Told AuditError) → IsStop r → IsFedAnswer part (b ∷ []) q left s right r →
+      IsFedAnswer part bytes p line s right r
+  told_of_all (Ok Legal) stop answer = absurd stop
+  told_of_all (Ok (Illegal j c)) stop answer =
+      fed_wrong part (take i bytes ++ b ∷ []) (drop (suc i) bytes) bytes p s line right j c whole
+      (joined_to (Ok (Illegal j c)) answer)
+  told_of_all (Err e) stop answer =
+      fed_fault part (take i bytes ++ b ∷ []) (drop (suc i) bytes) bytes p s line right e whole (joined_to (Err e) answer)
+
+  same_answer : (r : Result Told AuditError) → IsStop r → IsFedAnswer part (b ∷ []) q left s right r → s ≡ q → right ≡ left →
+      IsToldNext part (drop i bytes) s right r
+  same_answer (Ok Legal) stop answer same kept = absurd stop
+  same_answer (Ok (Illegal j c)) stop answer same kept = (
+    b,
+    drop (suc i) bytes,
+    behind_is,
+    subst (λ l. IsFedAnswer part (b ∷ []) s l s l (Ok (Illegal j c))) (sym kept)
+        (subst (λ x. IsFedAnswer part (b ∷ []) x left x left (Ok (Illegal j c))) (sym same) answer),
+  )
+  same_answer (Err e) stop answer same kept = (
+    b,
+    drop (suc i) bytes,
+    behind_is,
+    subst (λ l. IsFedAnswer part (b ∷ []) s l s l (Err e)) (sym kept)
+        (subst (λ x. IsFedAnswer part (b ∷ []) x left x left (Err e)) (sym same) answer),
+  )
+
+  -- and those before it were taken alone
+  pub taken_before : (r : Result Told AuditError) → IsStop r → IsFedAnswer part (b ∷ []) q left s right r → s ≡ q →
+      right ≡ left → HasTakenFirst part bytes p line s right i r
+  taken_before r stop answer same kept = record {
+    within = omega (arith, within);
+    taken = subst (λ x. HasTaken part (take i bytes) p line x right) (sym same)
+        (subst (λ l. HasTaken part (take i bytes) p line q l) (sym kept) taken);
+    next = same_answer r stop answer same kept;
+  }
+
+-- all were taken
+pub taken_all : (part : Part) (bytes : List ℕ) (n i : ℕ) (p q : Progress) (line left : List ℕ) → n ≡ length bytes →
+    length bytes ≤ i → HasTaken part (take i bytes) p line q left →
+    HasTaken part bytes p line q left × HasTakenFirst part bytes p line q left n (Ok Legal)
+taken_all part bytes n i p q line left long past taken =
+    let all : HasTaken part bytes p line q left =
+    subst (λ (xs : List ℕ). HasTaken part xs p line q left) (take_all i bytes past) taken in
+    let end : length bytes ≤ n = omega (arith, long) in (
+      all,
+      record {
+        within = omega (arith, long);
+        taken = subst (λ (xs : List ℕ). HasTaken part xs p line q left) (sym (take_all n bytes end)) all;
+        next = drop_all n bytes end;
+      },
+    )
+
+-- where so many were, some were
+pub some_taken : (part : Part) (bytes : List ℕ) (p q : Progress) (line left : List ℕ) (n : ℕ) (r : Result Told AuditError) →
+    HasTakenFirst part bytes p line q left n r → HasTakenSome part bytes p line q left
+some_taken part bytes p q line left n r first = (take n bytes, drop n bytes, take-append-drop n bytes, first.taken)
 
 -- ---- the end
 
@@ -205,7 +282,7 @@ last_line : (part : Part) (text : List ℕ) (p : Progress) (line : List ℕ) (fe
 last_line part text p line fed = ap (λ l. fed.ended ++ l) (append-nil line) ∙ fed.all
 
 pub open_fault : (part : Part) (text : List ℕ) (p q : Progress) (line : List ℕ) (e : AuditError) → line ≢ [] →
-    IsAnswer part line p q (Err e) → IsFed part text p line → IsFaulty part text e
+    IsLineAnswer part line p q (Err e) → IsFed part text p line → IsFaulty part text e
 open_fault part text p q line e some answer fed =
     subst (λ (t : List ℕ). IsFaulty part t e) (last_line part text p line fed)
     (answer fed.ended [] fed.audited (open_before line some fed.open_line.0))

@@ -9,3 +9,6 @@ pub mod OneJournal
 pub mod Endings
 pub mod OneVerdict
 pub mod OneRun
+pub mod SoFar
+pub mod Ended
+pub mod OneSoFar

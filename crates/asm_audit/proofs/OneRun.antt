@@ -37,7 +37,7 @@ states_in_turn : (part : Part) (A : State) (p q : List Move) → state_of part A
 states_in_turn part A [] q = refl
 states_in_turn part A (M ∷ p) q = states_in_turn part (state_or A (fire part A M)) p q
 
-chain_leaves : (part : Part) (A : State) (hs : List History) → AreLegalFrom part A hs →
+pub chain_leaves : (part : Part) (A : State) (hs : List History) → AreLegalFrom part A hs →
     state_of part A (fired_moves (all_events hs)) ≡ last_left part A hs
 chain_leaves part A [] chain = refl
 chain_leaves part A (h ∷ hs) chain =

@@ -24,7 +24,7 @@ use Rattle.asm_audit.proofs.Endings.{Begins, same_opening, same_end, same_journa
 
 -- ---- what stops an audit behind whole journals
 
-abbrev Stop : Part → State → List History → List ℕ → Result Verdict AuditError → Type 0
+abbrev pub Stop : Part → State → List History → List ℕ → Result Verdict AuditError → Type 0
 Stop part A hs text (Ok (Legal w)) = (text ≡ []) × (hs ≢ []) × AreCounts hs w
 Stop part A hs text (Ok (Illegal j c)) = (j ≡ counted (length hs)) × HasWrong part c A hs text
 Stop part A hs text (Err (Journal j f)) = (j ≡ counted (length hs)) × (f ≢ journal_error.Memory) × BreaksNext part A hs text f
@@ -32,11 +32,11 @@ Stop part A hs text (Err (Apart j)) = (j ≡ counted (length hs)) × OpensApart 
 Stop part A hs text (Err LongLine) = ⊥
 Stop part A hs text (Err Memory) = ⊥
 
-no_line : (body rest : List ℕ) → [] ≡ body ++ 10 ∷ rest → ⊥
+pub no_line : (body rest : List ℕ) → [] ≡ body ++ 10 ∷ rest → ⊥
 no_line [] rest e = cc
 no_line (x ∷ body) rest e = cc
 
-begun_some : (v count : ℕ) (h : History) (text rest : List ℕ) → IsBegun v count h text rest → text ≡ [] → ⊥
+pub begun_some : (v count : ℕ) (h : History) (text rest : List ℕ) → IsBegun v count h text rest → text ≡ [] → ⊥
 begun_some v count h text rest b none = no_line b.line.0 b.behind (sym none ∙ b.line.1.0)
 
 wrong_begins : (part : Part) (c : ℕ) (A : State) (hs : List History) (text : List ℕ) (w : HasWrong part c A hs text) →
@@ -180,12 +180,12 @@ stops_here part hs text A B r (Err Memory) p q = absurd q
 
 -- ---- the whole text
 
-record IsStopped (part : Part) (text : List ℕ) (r : Result Verdict AuditError) : Type 0 where
-  first : State
-  hs : List History
-  rest : List ℕ
-  has : HasLegal part first hs text rest
-  stop : Stop part first hs rest r
+pub record IsStopped (part : Part) (text : List ℕ) (r : Result Verdict AuditError) : Type 0 where
+  pub first : State
+  pub hs : List History
+  pub rest : List ℕ
+  pub has : HasLegal part first hs text rest
+  pub stop : Stop part first hs rest r
 
 stopped : (part : Part) (text : List ℕ) (r : Result Verdict AuditError) → IsOfText r → IsVerdict part text r → IsStopped part text r
 stopped part text (Ok (Legal w)) of h =
@@ -229,26 +229,30 @@ no_shorter part text r x B ks end has less =
         no_further part x.first x.hs x.rest r x.stop k js.0
         (js.1, (λ some. at.0 ∙ same_last part B x.first x.hs some), at.1)
 
-pub one_verdict : OneVerdict
-one_verdict part text r s p q h k = by_order (cases_lt (length x.hs) (length y.hs)) (cases_lt (length y.hs) (length x.hs)) where
-  x : IsStopped part text r
-  x = stopped part text r p h
-
-  y : IsStopped part text s
-  y = stopped part text s q k
-
+-- two audits of one text stop at one place
+pub same_place : (part : Part) (text : List ℕ) (r s : Result Verdict AuditError) (x : IsStopped part text r)
+    (y : IsStopped part text s) → (y.hs ≡ x.hs) × (x.rest ≡ y.rest)
+same_place part text r s x y = by_order (cases_lt (length x.hs) (length y.hs)) (cases_lt (length y.hs) (length x.hs)) where
   no_post : (xs ys zs : List History) → zs ≡ xs ++ ys → length zs ≤ length xs → ys ≡ []
   no_post xs [] zs e less = refl
   no_post xs (z ∷ ys) zs e less = absurd (omega (arith, ap length e, less, length-append xs (z ∷ ys)))
 
-  by_order : (length x.hs < length y.hs) ⊎ (length y.hs ≤ length x.hs) → (length y.hs < length x.hs) ⊎ (length x.hs ≤ length y.hs) → r ≡ s
+  by_order : (length x.hs < length y.hs) ⊎ (length y.hs ≤ length x.hs) →
+      (length y.hs < length x.hs) ⊎ (length x.hs ≤ length y.hs) → (y.hs ≡ x.hs) × (x.rest ≡ y.rest)
   by_order (inl less) _ = absurd (no_shorter part text r x y.first y.hs y.rest y.has less)
   by_order (inr a) (inl less) = absurd (no_shorter part text s y x.first x.hs x.rest x.has less)
   by_order (inr a) (inr b) =
       let more = journals_begin x.hs y.hs text x.rest y.rest x.has.journals y.has.journals b in
-      let none = no_post x.hs more.0 y.hs more.1 a in
-      let all : y.hs ≡ x.hs = more.1 ∙ ap (λ (l : List History). x.hs ++ l) none ∙ append-nil x.hs in
-      let here : x.rest ≡ y.rest = subst (λ (l : List History). HasJournals l x.rest y.rest) none more.2 in
-      let stop = subst (λ (l : List History). Stop part y.first l y.rest s) all y.stop in
-      let at = subst (λ (t : List ℕ). Stop part y.first x.hs t s) (sym here) stop in
-      stops_here part x.hs x.rest x.first y.first r s x.stop at
+      let none = no_post x.hs more.0 y.hs more.1 a in (
+        more.1 ∙ ap (λ (l : List History). x.hs ++ l) none ∙ append-nil x.hs,
+        subst (λ (l : List History). HasJournals l x.rest y.rest) none more.2,
+      )
+
+pub one_verdict : OneVerdict
+one_verdict part text r s p q h k =
+    let x = stopped part text r p h in
+    let y = stopped part text s q k in
+    let place = same_place part text r s x y in
+    let stop = subst (λ (l : List History). Stop part y.first l y.rest s) place.0 y.stop in
+    let at = subst (λ (t : List ℕ). Stop part y.first x.hs t s) (sym place.1) stop in
+    stops_here part x.hs x.rest x.first y.first r s x.stop at

@@ -27,7 +27,7 @@ use Rattle.asm_audit.specs.Chain.{last_left, AreLegalFrom, HasLegal, IsGoing}
 use Rattle.asm_audit.specs.Fault.{counted, told_fault, BreaksNext, IsBehind, IsFaulty}
 use Rattle.asm_audit.specs.Opened.{history_of, IsReading, IsTaken}
 use Rattle.asm_audit.specs.Audited.{calls_of, moves_of, AreCounts, IsAudited, IsWhole, IsFirstIllegal}
-use Rattle.asm_audit.specs.Step.{whole_with, all_with, is_between, IsOnTest}
+use Rattle.asm_audit.specs.Step.{whole_with, all_with, is_between, HasValues, IsOnTest}
 use Rattle.asm_audit.proofs.SameState.{IsHeld, proper_held, written_held, left_held, same_values}
 use Rattle.asm_audit.proofs.Extended.{begun_more, journals_more, journals_push, begun_push, some_before, line_before, header_fault}
 use Rattle.asm_audit.proofs.Chains.{legal_none, legal_push, moves_push, chain_push, last_push, calls_push, moves_of_push, some_push}
@@ -192,6 +192,13 @@ pub record IsLast (part : Part) (A : State) (o : Opened) : Type 0 where
   pub stands : Stands part opening o.state (fired_moves events)
   pub left : A ≡ state_of part opening (fired_moves events)
 
+-- what a program holds with these values is the state that is left
+pub left_is : (part : Part) (A : State) (o : Opened) → IsLast part A o → (left : State) → HasValues o.state left → left ≡ A
+left_is part A o last left has =
+    same_values left (state_of part last.opening (fired_moves last.events)) (proper_held left has.1)
+    (left_held part last.opening (fired_moves last.events) last.held) (λ l. has.0 l ∙ last.stands.values l)
+    ∙ sym last.left
+
 abbrev pub IsLeft : Part → State → List History → Option Opened → Type 0
 IsLeft part first all None = all ≡ []
 IsLeft part first all (Some o) = (all ≢ []) × IsLast part (last_left part first all) o
@@ -209,6 +216,37 @@ counted_more w n m k e f = omega (arith, e, f)
 same_count : (a b : ℕ) → a ≤ b → b ≤ a → a ≡ b
 same_count a b h k = omega arith
 
+-- the part that is read, behind those before it
+module _ (part : Part) (text : List ℕ) (w : Counts) (o : Opened)
+    (audited : IsAudited part text (record { before = w; opened = Some o })) where
+  abbrev pub read_of : History
+  read_of = history_of o.limits (last_left part audited.first audited.before) audited.next.events
+
+  abbrev pub with_read : List History
+  with_read = audited.before ++ read_of ∷ []
+
+  pub read_calls : counted (w.calls + o.taken) ≡ counted (calls_of with_read)
+  read_calls =
+      counted_more w.calls (calls_of audited.before) o.taken _ audited.counts.0
+      (calls_push audited.before read_of ∙ ap (λ n. calls_of audited.before + n) (sym audited.next.taken))
+
+  pub read_moves : counted (w.moves + o.state.number) ≡ counted (moves_of with_read)
+  read_moves =
+      counted_more w.moves (moves_of audited.before) o.state.number _ audited.counts.1
+      (moves_of_push audited.before read_of ∙ ap (λ n. moves_of audited.before + n) (sym audited.next.stands.number))
+
+  pub read_legal : AreLegalFrom part audited.first with_read
+  read_legal = chain_push part audited.first audited.before read_of audited.has.legal refl audited.next.going.legal
+
+  pub read_last : IsLast part (last_left part audited.first with_read) o
+  read_last = record {
+    opening = last_left part audited.first audited.before;
+    events = audited.next.events;
+    held = header_held _ _ _ _ _ _ audited.next.going.begun.header;
+    stands = audited.next.stands;
+    left = last_push part audited.first audited.before read_of;
+  }
+
 pub between : (part : Part) (text : List ℕ) (w : Counts) (o : Option Opened) → is_between o →
     IsAudited part text (record { before = w; opened = o }) → IsBetween part text (all_with w o) o
 between part text w None met audited = record {
@@ -223,36 +261,31 @@ between part text w None met audited = record {
   left = refl;
 }
 between part text w (Some o) met audited =
-    let A = last_left part audited.first audited.before in
-    let r : IsReading part A audited.rest o = audited.next in
-    let h = history_of o.limits A r.events in
+    let r : IsReading part (last_left part audited.first audited.before) audited.rest o = audited.next in
+    let h = read_of part text w o audited in
     let all_read : o.limits.events ≡ length r.events = same_count _ _ met r.within ∙ r.taken in
     let whole = subst (λ (n : ℕ). IsBegun o.limits.version n h audited.rest []) all_read r.going.begun in
     record {
       first = audited.first;
-      all = audited.before ++ h ∷ [];
+      all = with_read part text w o audited;
       has = record {
         journals = journals_push audited.before h text audited.rest [] audited.has.journals (o.limits.version, whole);
-        legal = chain_push part audited.first audited.before h audited.has.legal refl r.going.legal;
+        legal = read_legal part text w o audited;
       };
       counts = (
-        counted_more w.calls (calls_of audited.before) o.taken _ audited.counts.0
-            (calls_push audited.before h ∙ ap (λ n. calls_of audited.before + n) (sym r.taken)),
-        counted_more w.moves (moves_of audited.before) o.state.number _ audited.counts.1
-            (moves_of_push audited.before h ∙ ap (λ n. moves_of audited.before + n) (sym r.stands.number)),
+        read_calls part text w o audited,
+        read_moves part text w o audited,
         counted_more w.parts (length audited.before) 1 _ audited.counts.2 (length_push audited.before h),
       );
-      left = (
-        some_push audited.before h,
-        record {
-          opening = A;
-          events = r.events;
-          held = header_held _ _ _ _ A _ r.going.begun.header;
-          stands = r.stands;
-          left = last_push part audited.first audited.before h;
-        },
-      );
+      left = (some_push audited.before h, read_last part text w o audited);
     }
+
+-- all of its events were read
+pub read_whole : (part : Part) (text : List ℕ) (w : Counts) (o : Opened) → o.limits.events ≤ o.taken →
+    (audited : IsAudited part text (record { before = w; opened = Some o })) →
+    HasLegal part audited.first (with_read part text w o audited) text []
+unfolding between
+read_whole part text w o met audited = (between part text w (Some o) met audited).has
 
 -- all were read
 pub ended_whole : (part : Part) (text : List ℕ) (w : Counts) (o : Opened) → o.limits.events ≤ o.taken →
@@ -291,13 +324,6 @@ module _ (part : Part) (text : List ℕ) (w : Counts) (o : Option Opened) (met :
   OpensOn init = (first : State) × HasLegal part first b.all text [] × (init ≡ last_left part first b.all)
 
   module _ (init : State) (held : IsHeld init) (test : Bool) where
-    left_is : (A : State) (x : Opened) → IsLast part A x → (left : State) →
-        ((l : Place) → val left l ≡ value_at x.state l) → IsProper left → left ≡ A
-    left_is A x last left values proper =
-        same_values left (state_of part last.opening (fired_moves last.events)) (proper_held left proper)
-        (left_held part last.opening (fired_moves last.events) last.held) (λ l. values l ∙ last.stands.values l)
-        ∙ sym last.left
-
     -- the header goes on from what was read
     opens_on : (x : Option Opened) → IsLeft part b.first b.all x → IsOnTest x init test → test ≡ true → OpensOn init
     opens_on None none is true_is = (
@@ -309,7 +335,7 @@ module _ (part : Part) (text : List ℕ) (w : Counts) (o : Option Opened) (met :
       subst (λ (hs : List History). init ≡ last_left part init hs) (sym none) refl,
     )
     opens_on (Some x) last is true_is =
-        (b.first, b.has, sym (is.3.0 true_is) ∙ left_is (last_left part b.first b.all) x last.1 is.0 is.1 is.2)
+        (b.first, b.has, sym (is.2.0 true_is) ∙ left_is part (last_left part b.first b.all) x last.1 is.0 is.1)
 
     -- it opens with another state
     opens_apart : (x : Option Opened) → IsLeft part b.first b.all x → IsOnTest x init test → test ≡ false →
@@ -318,8 +344,8 @@ module _ (part : Part) (text : List ℕ) (w : Counts) (o : Option Opened) (met :
     opens_apart (Some x) last is false_is = (
       last.0,
       λ same.
-          let left = left_is (last_left part b.first b.all) x last.1 is.0 is.1 is.2 in
-          true≢false (sym (is.3.1 (left ∙ sym same)) ∙ false_is),
+          let left = left_is part (last_left part b.first b.all) x last.1 is.0 is.1 in
+          true≢false (sym (is.2.1 (left ∙ sym same)) ∙ false_is),
     )
 
   module _ (header : Header) (d : Data) (after : List ℕ) (line_has : HasLine line d after)

@@ -11,7 +11,7 @@ use Rattle.asm_audit.specs.declared.error.AuditError.{AuditError}
 use Rattle.asm_audit.specs.Text.{IsLineBefore}
 use Rattle.asm_audit.specs.Fault.{IsFaulty}
 use Rattle.asm_audit.specs.Opened.{IsEventAnswer}
-use Rattle.asm_audit.specs.Audited.{IsRead, IsAudited, IsFirstIllegal, IsAnswer}
+use Rattle.asm_audit.specs.Audited.{IsRead, IsAudited, IsFirstIllegal, IsLineAnswer}
 use Rattle.asm_audit.specs.Kept.{IsKept}
 use Rattle.asm_audit.proofs.Extended.{event_fault}
 use Rattle.asm_audit.proofs.Steps.{event_wrong, event_right, event_broken}
@@ -37,7 +37,7 @@ not_whole b taken count is none = by_order (cases_lt taken count) where
 pub event_answer : (part : Part) (line : List ℕ) (p : Progress) (old new : Opened) (r : Result Told AuditError) →
     p.opened ≡ Some old → IsLineBefore line [] → old.taken < old.limits.events →
     IsEventAnswer part p.before.parts line old new r →
-    IsAnswer part line p (record { before = p.before; opened = Some new }) r
+    IsLineAnswer part line p (record { before = p.before; opened = Some new }) r
 event_answer part line p old new (Ok Legal) same is less t =
     λ text audited. event_right part text p.before old (opened_is part text p (Some old) same audited) line new is less t
 event_answer part line p old new (Ok (Illegal j c)) same is less t =
@@ -53,7 +53,7 @@ event_answer part line p old new (Err e) same is less t =
 
 -- a line tells the same of what is read, written in parts
 pub answer_is : (part : Part) (line : List ℕ) (p new : Progress) (o : Option Opened) (r : Result Told AuditError) →
-    p.opened ≡ o → IsAnswer part line (record { before = p.before; opened = o }) new r → IsAnswer part line p new r
+    p.opened ≡ o → IsLineAnswer part line (record { before = p.before; opened = o }) new r → IsLineAnswer part line p new r
 answer_is part line p new o (Ok Legal) same is = λ text audited. is text (opened_is part text p o same audited)
 answer_is part line p new o (Ok (Illegal j c)) same is =
     λ text rest audited before. is text rest (opened_is part text p o same audited) before

@@ -72,11 +72,11 @@ IsFirstIllegal part text j c = IsBehind part text j (HasWrong part c)
 
 -- what a line tells that is taken behind any text that was read: with it too all is legal, and was read; or, whatever
 -- comes behind the line, the whole text has this first wrong answer, or this fault
-abbrev pub IsAnswer : Part → List ℕ → Progress → Progress → Result Told AuditError → Type 0
-IsAnswer part line old new (Ok Legal) = (text : List ℕ) → IsAudited part text old → IsAudited part (text ++ line) new
-IsAnswer part line old new (Ok (Illegal j c)) = (text rest : List ℕ) → IsAudited part text old →
+abbrev pub IsLineAnswer : Part → List ℕ → Progress → Progress → Result Told AuditError → Type 0
+IsLineAnswer part line old new (Ok Legal) = (text : List ℕ) → IsAudited part text old → IsAudited part (text ++ line) new
+IsLineAnswer part line old new (Ok (Illegal j c)) = (text rest : List ℕ) → IsAudited part text old →
     IsLineBefore line rest → IsFirstIllegal part (text ++ (line ++ rest)) j c
-IsAnswer part line old new (Err e) = (text rest : List ℕ) → IsAudited part text old →
+IsLineAnswer part line old new (Err e) = (text rest : List ℕ) → IsAudited part text old →
     IsLineBefore line rest → IsFaulty part (text ++ (line ++ rest)) e
 
 -- what the end tells of any text that was read

@@ -1,5 +1,5 @@
 -- Texts whose bytes come in pieces.
-use Rattle.std.specs.Prelude.{◌≡◌, ℕ, List, [], ◌++◌, Result, Ok, Err}
+use Rattle.std.specs.Prelude.{◌≡◌, ◌≤◌, ℕ, List, [], ◌∷◌, ◌++◌, length, take, drop, Result, Ok, Err}
 use Rattle.asm_update.specs.Fire.{Part}
 use Rattle.asm_audit.specs.declared.error.AuditError.{AuditError}
 use Rattle.asm_audit.specs.declared.progress.Progress.{Progress}
@@ -46,3 +46,18 @@ abbrev pub LeavesLine : List ℕ → List ℕ → Result Told AuditError → Typ
 LeavesLine old new (Ok Legal) = new ≡ []
 LeavesLine old new (Ok (Illegal j c)) = new ≡ old
 LeavesLine old new (Err e) = new ≡ old
+
+-- what is told at the first of the bytes that are left; where all is told legal, none is left
+abbrev pub IsToldNext : Part → List ℕ → Progress → List ℕ → Result Told AuditError → Type 0
+IsToldNext part behind q left (Ok Legal) = behind ≡ []
+IsToldNext part behind q left (Ok (Illegal j c)) = (b : ℕ) × (more : List ℕ) × (behind ≡ b ∷ more)
+    × IsFedAnswer part (b ∷ []) q left q left (Ok (Illegal j c))
+IsToldNext part behind q left (Err e) = (b : ℕ) × (more : List ℕ) × (behind ≡ b ∷ more)
+    × IsFedAnswer part (b ∷ []) q left q left (Err e)
+
+-- the first so many of the bytes were taken, and no others, since this is told at the next one
+pub record HasTakenFirst (part : Part) (bytes : List ℕ) (p : Progress) (line : List ℕ) (q : Progress) (left : List ℕ)
+    (n : ℕ) (r : Result Told AuditError) : Type 0 where
+  pub within : n ≤ length bytes
+  pub taken : HasTaken part (take n bytes) p line q left
+  pub next : IsToldNext part (drop n bytes) q left r

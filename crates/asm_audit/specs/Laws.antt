@@ -1,5 +1,5 @@
 -- The laws of audits.
-use Rattle.std.specs.Prelude.{◌≡◌, ◌↔◌, ℕ, List, Result, Ok, Err}
+use Rattle.std.specs.Prelude.{◌≡◌, ◌↔◌, ℕ, List, Option, Result, Ok, Err}
 use Rattle.asm_update.specs.Fire.{Part}
 use Rattle.asm_storage.specs.declared.history.History.{History}
 use Rattle.asm_journal.specs.Check.{machine_of, IsLegality}
@@ -14,6 +14,8 @@ use Rattle.asm_audit.specs.Fault.{IsFaulty}
 use Rattle.asm_update.specs.State.{State}
 use Rattle.asm_audit.specs.Chain.{HasLegal}
 use Rattle.asm_audit.specs.Run.{IsOneRun}
+use Rattle.asm_audit.specs.SoFar.{HasCounts, HasState}
+use Rattle.asm_audit.specs.declared.progress.Counts.{Counts}
 use Rattle.asm_audit.specs.Audited.{IsWhole, IsFirstIllegal, IsVerdict}
 
 -- A text is one legal part with these numbers exactly where it reads as a history that the check finds legal, with the
@@ -50,3 +52,11 @@ OneVerdict = (part : Part) (text : List ℕ) (r s : Result Verdict AuditError) �
 abbrev pub OneRun : Type 0
 OneRun = (part : Part) (A : State) (hs : List History) (text rest : List ℕ) → HasLegal part A hs text rest →
     IsOneRun part A hs
+
+-- Of what was read there is one number of calls, of moves and of whole parts.
+abbrev pub OneCount : Type 0
+OneCount = (part : Part) (text : List ℕ) (w x : Counts) → HasCounts part text w → HasCounts part text x → w ≡ x
+
+-- And one state that all its moves leave.
+abbrev pub OneState : Type 0
+OneState = (part : Part) (text : List ℕ) (s t : Option State) → HasState part text s → HasState part text t → s ≡ t

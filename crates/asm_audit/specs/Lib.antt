@@ -8,4 +8,5 @@ pub mod Kept
 pub mod Step
 pub mod Fed
 pub mod Run
+pub mod SoFar
 pub mod Laws

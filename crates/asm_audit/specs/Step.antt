@@ -25,10 +25,14 @@ abbrev pub is_between : Option Opened → Type 0
 is_between None = Unit {0}
 is_between (Some o) = o.limits.events ≤ o.taken
 
+-- a state that a program can hold, with these values
+abbrev pub HasValues : StateView → State → Type 0
+HasValues s left = ((l : Place) → val left l ≡ value_at s l) × IsProper left
+
 -- the test tells whether this is the state with these values
 abbrev pub IsNextTest : StateView → State → Bool → Type 0
 IsNextTest s init b =
-    (left : State) × ((l : Place) → val left l ≡ value_at s l) × IsProper left × (IsTrue b ↔ (left ≡ init))
+    (left : State) × HasValues s left × (IsTrue b ↔ (left ≡ init))
 
 -- the test tells so of the part that was read; where there is none, it is met
 abbrev pub IsOnTest : Option Opened → State → Bool → Type 0

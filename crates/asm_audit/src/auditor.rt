@@ -1,13 +1,14 @@
 //! The audit of a run, line by line.
-ghost use Rattle.std.specs.Prelude.{◌≡◌, [], OnOk};
+ghost use Rattle.std.specs.Prelude.{◌≡◌, [], OnOk, IfOk};
 ghost use Rattle.asm_audit.specs.Text.{IsLineBefore, HasLineFeed};
-ghost use Rattle.asm_audit.specs.Audited.{IsAudited, IsAnswer, IsEnd, IsCutEnd};
+ghost use Rattle.asm_audit.specs.Audited.{IsAudited, IsLineAnswer, IsEnd, IsCutEnd};
 ghost use Rattle.asm_audit.specs.Kept.{IsKept};
+ghost use Rattle.asm_audit.specs.SoFar.{AreSoFar, IsStateSoFar};
 
 use crate::error::AuditError;
 use crate::progress::{Counts, Progress, Told};
-use asm_update::Aggregator;
-use std::alloc::Global;
+use asm_update::{Aggregator, PlainState};
+use std::alloc::{AllocError, Global};
 
 /// Audits a run as its lines come: judges each answered call, and holds the state that the moves so far leave, but no
 /// call.
@@ -46,7 +47,7 @@ impl<A: Aggregator + Drop> Auditor<A> {
     pub fn line(&mut self, alloc: Global, line: &[u8]) -> Result<Told, AuditError>
         requires { IsLineBefore line.now [] }
         ensures aggregator { self.new.aggregator ≡ self.old.aggregator }
-        ensures told { IsAnswer (A.meaning self.old.aggregator).part line.now self.old.progress self.new.progress result }
+        ensures told { IsLineAnswer (A.meaning self.old.aggregator).part line.now self.old.progress self.new.progress result }
         ensures kept { IsKept self.old.progress self.new.progress result }
         ensures ended { OnOk result (HasLineFeed line.now) }
     {
@@ -62,5 +63,22 @@ impl<A: Aggregator + Drop> Auditor<A> {
         ensures cut { IsCutEnd result }
     {
         self.progress.finish()
+    }
+
+    /// How many calls were answered right so far, how many moves were fired, and how many parts are whole: a part is
+    /// once all its events were taken.
+    pub fn counts(&self) -> Counts
+        ensures { AreSoFar (A.meaning self.now.aggregator).part self.now.progress result }
+    {
+        self.progress.counts()
+    }
+
+    /// The state that all moves so far leave; `None` where no part has begun.
+    ///
+    /// It costs a copy of each value. `AllocError` comes only where memory was refused.
+    pub fn state(&self, alloc: Global) -> Result<Option<PlainState>, AllocError>
+        ensures { IfOk result (IsStateSoFar (A.meaning self.now.aggregator).part self.now.progress) }
+    {
+        self.progress.state(alloc)
     }
 }

@@ -1,13 +1,13 @@
 //! The audit of a run, as its bytes come.
-ghost use Rattle.std.specs.Prelude.{◌≡◌, ◌≤◌, length};
+ghost use Rattle.std.specs.Prelude.{◌≡◌, ◌≤◌, length, IfOk};
 ghost use Rattle.asm_journal.specs.Reading.{HasNoLineFeed};
 ghost use Rattle.asm_audit.specs.Limits.{line_limit};
 
 use crate::auditor::Auditor;
 use crate::error::AuditError;
 use crate::progress::{Counts, Told};
-use asm_update::Aggregator;
-use std::alloc::Global;
+use asm_update::{Aggregator, PlainState};
+use std::alloc::{AllocError, Global};
 
 /// The most bytes of a line that an audit of bytes keeps, the line feed apart.
 pub const LINE_LIMIT: usize = 16_777_216;
@@ -24,9 +24,10 @@ pub struct ByteAuditor<A: Aggregator + Drop> {
 
 impl<A: Aggregator + Drop> ByteAuditor<A> {
     ghost use Rattle.std.specs.Prelude.{◌++◌, ◌∷◌, []};
-    ghost use Rattle.asm_audit.specs.Audited.{IsAnswer};
+    ghost use Rattle.asm_audit.specs.Audited.{IsLineAnswer};
     ghost use Rattle.asm_audit.specs.Kept.{IsKept};
-    ghost use Rattle.asm_audit.specs.Fed.{IsFed, IsFedAnswer, HasTakenSome, IsFedEnd, LeavesLine};
+    ghost use Rattle.asm_audit.specs.Fed.{IsFed, IsFedAnswer, HasTakenSome, HasTakenFirst, IsFedEnd, LeavesLine};
+    ghost use Rattle.asm_audit.specs.SoFar.{AreFedSoFar, IsFedStateSoFar};
 
     /// An auditor that has read nothing.
     pub fn new(alloc: Global, aggregator: A) -> ByteAuditor<A>
@@ -42,7 +43,7 @@ impl<A: Aggregator + Drop> ByteAuditor<A> {
     // Takes the line feed that ends the line.
     fn end_line(&mut self, alloc: Global) -> Result<Told, AuditError>
         ensures aggregator { self.new.auditor.aggregator ≡ self.old.auditor.aggregator }
-        ensures told { IsAnswer (A.meaning self.old.auditor.aggregator).part (self.old.line.items ++ 10 ∷ [])
+        ensures told { IsLineAnswer (A.meaning self.old.auditor.aggregator).part (self.old.line.items ++ 10 ∷ [])
             self.old.auditor.progress self.new.auditor.progress result }
         ensures kept { IsKept self.old.auditor.progress self.new.auditor.progress result }
         ensures line { LeavesLine self.old.line.items self.new.line.items result }
@@ -83,11 +84,36 @@ impl<A: Aggregator + Drop> ByteAuditor<A> {
         Ok(Told::Legal)
     }
 
-    /// Takes the next bytes.
+    /// Takes the next bytes, and how many of them were taken.
     ///
     /// What is told is so whatever bytes come behind these, as `Auditor::line` tells it, at the line feed of the line;
-    /// `LongLine` comes at the byte that makes a line longer than 16,777,216 bytes. After any answer but `Legal` the
-    /// bytes before the one at which it came were taken, and no others. `Memory` comes only where memory was refused.
+    /// `LongLine` comes at the byte that makes a line longer than 16,777,216 bytes. With `Legal` all bytes were taken,
+    /// and after any other answer those before the byte at which it came, and no others: where memory was refused, which
+    /// alone tells `Memory`, the rest may be passed again.
+    pub fn feed_some(&mut self, alloc: Global, bytes: &[u8]) -> (usize, Result<Told, AuditError>)
+        ensures aggregator { self.new.auditor.aggregator ≡ self.old.auditor.aggregator }
+        ensures told { IsFedAnswer (A.meaning self.old.auditor.aggregator).part bytes.now
+            self.old.auditor.progress self.old.line.items self.new.auditor.progress self.new.line.items result.1 }
+        ensures taken { HasTakenFirst (A.meaning self.old.auditor.aggregator).part bytes.now
+            self.old.auditor.progress self.old.line.items self.new.auditor.progress self.new.line.items
+            result.0 result.1 }
+    {
+        for (taken, byte) in bytes.iter().enumerate() {
+            let told = match self.feed_byte(alloc, *byte) {
+                Ok(told) => told,
+                Err(error) => return (taken, Err(error)),
+            };
+            match told {
+                Told::Legal => {}
+                Told::Illegal { part, call } => {
+                    return (taken, Ok(Told::Illegal { part, call }));
+                }
+            }
+        }
+        (bytes.len(), Ok(Told::Legal))
+    }
+
+    /// Takes the next bytes, as `feed_some` does.
     pub fn feed(&mut self, alloc: Global, bytes: &[u8]) -> Result<Told, AuditError>
         ensures aggregator { self.new.auditor.aggregator ≡ self.old.auditor.aggregator }
         ensures told { IsFedAnswer (A.meaning self.old.auditor.aggregator).part bytes.now
@@ -95,13 +121,8 @@ impl<A: Aggregator + Drop> ByteAuditor<A> {
         ensures taken { HasTakenSome (A.meaning self.old.auditor.aggregator).part bytes.now
             self.old.auditor.progress self.old.line.items self.new.auditor.progress self.new.line.items }
     {
-        for byte in bytes {
-            match self.feed_byte(alloc, *byte)? {
-                Told::Legal => {}
-                Told::Illegal { part, call } => return Ok(Told::Illegal { part, call }),
-            }
-        }
-        Ok(Told::Legal)
+        let (_, told) = self.feed_some(alloc, bytes);
+        told
     }
 
     /// What is told of the run if no further byte comes: how many calls, moves and parts it has, where the bytes are
@@ -122,5 +143,24 @@ impl<A: Aggregator + Drop> ByteAuditor<A> {
             Err(error) => Err(error),
             Ok(_) => unreachable!(),
         }
+    }
+
+    /// How many calls were answered right in the lines that have ended, how many moves were fired, and how many parts
+    /// are whole: a part is once all its events were taken.
+    pub fn counts(&self) -> Counts
+        ensures { AreFedSoFar (A.meaning self.now.auditor.aggregator).part self.now.auditor.progress
+            self.now.line.items result }
+    {
+        self.auditor.counts()
+    }
+
+    /// The state that all moves of the lines that have ended leave; `None` where no part has begun.
+    ///
+    /// It costs a copy of each value. `AllocError` comes only where memory was refused.
+    pub fn state(&self, alloc: Global) -> Result<Option<PlainState>, AllocError>
+        ensures { IfOk result (IsFedStateSoFar (A.meaning self.now.auditor.aggregator).part
+            self.now.auditor.progress self.now.line.items) }
+    {
+        self.auditor.state(alloc)
     }
 }

@@ -1,5 +1,5 @@
 //! The laws of audits. Each function does nothing; its contract is the law.
-ghost use Rattle.asm_audit.specs.Laws.{OneLegal, OneIllegal, FirstFault, OneVerdict, OneRun};
+ghost use Rattle.asm_audit.specs.Laws.{OneLegal, OneIllegal, FirstFault, OneVerdict, OneRun, OneCount, OneState};
 
 /// Of a run of one part an audit tells what `from_text` and `check` tell of its journal.
 pub fn one_journal()
@@ -17,4 +17,11 @@ pub fn one_verdict()
 /// state that the last part leaves.
 pub fn one_run()
     ensures { OneRun }
+{}
+
+/// Of a text that was read, whole or up to any line, there is one number of calls, of moves and of whole parts, and one state
+/// that its moves leave.
+pub fn one_so_far()
+    ensures counts { OneCount }
+    ensures state { OneState }
 {}

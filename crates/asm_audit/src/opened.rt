@@ -5,10 +5,11 @@ ghost use Rattle.asm_state.specs.Stands.{Stands};
 ghost use Rattle.asm_journal.specs.Fault.{BreaksEvent};
 ghost use Rattle.asm_audit.specs.Kept.{StaysUnlessTrue};
 ghost use Rattle.asm_audit.specs.Opened.{IsTaken};
+ghost use Rattle.asm_audit.specs.Step.{HasValues};
 
 use asm_journal::{Header, JournalError, Limits, judge_event, read_event};
 use asm_state::State;
-use asm_update::Aggregator;
+use asm_update::{Aggregator, PlainState};
 use std::alloc::{AllocError, Global};
 
 /// A part whose header was read, and some of its events.
@@ -42,6 +43,15 @@ impl Opened {
         ensures { IsTrue result ↔ (self.now.limits.events ≤ self.now.taken) }
     {
         self.limits.events <= self.taken
+    }
+
+    /// The state that the moves of these events leave.
+    pub(crate) fn left(&self, alloc: Global) -> Result<PlainState, AllocError>
+        ensures { IfOk result (HasValues self.now.state) }
+    {
+        let left = self.state.to_plain(alloc)?;
+        left.proper();
+        Ok(left)
     }
 
     /// Reads the next event from its line. Whether its answer is right; if so, the state follows its move, and else all

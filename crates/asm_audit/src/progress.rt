@@ -5,12 +5,13 @@ ghost use Rattle.asm_audit.specs.Text.{IsLineBefore, HasLineFeed};
 ghost use Rattle.asm_audit.specs.Opened.{IsEventAnswer};
 ghost use Rattle.asm_audit.specs.Step.{whole_with, all_with, is_between, IsNextTest, IsOnTest};
 ghost use Rattle.asm_audit.specs.Kept.{IsKept};
-ghost use Rattle.asm_audit.specs.Audited.{IsAudited, IsAnswer, IsEnd, IsCutEnd};
+ghost use Rattle.asm_audit.specs.Audited.{IsAudited, IsLineAnswer, IsEnd, IsCutEnd};
+ghost use Rattle.asm_audit.specs.SoFar.{AreSoFar, IsStateSoFar};
 
 use crate::error::{AuditError, told_fault};
 use crate::opened::Opened;
 use asm_journal::{Header, JournalError, read_header};
-use asm_update::Aggregator;
+use asm_update::{Aggregator, PlainState};
 use std::alloc::{AllocError, Global};
 
 /// What is told as lines or bytes come.
@@ -23,7 +24,7 @@ pub enum Told {
     Illegal { part: u64, call: u64 },
 }
 
-/// How much whole legal parts have. A number stops at 18,446,744,073,709,551,615.
+/// How much legal parts have. A number stops at 18,446,744,073,709,551,615.
 #[derive(Clone, Copy, Debug, Drop, PartialEq, Eq)]
 pub struct Counts {
     /// The answered calls.
@@ -60,9 +61,7 @@ impl Counts {
 fn is_next(alloc: Global, opened: &Opened, header: &Header) -> Result<bool, AllocError>
     ensures { IfOk result (IsNextTest opened.now.state header.now.init) }
 {
-    let left = opened.state.to_plain(alloc)?;
-    left.proper();
-    Ok(left == header.init)
+    Ok(opened.left(alloc)? == header.init)
 }
 
 /// Takes the next event of the part with this number.
@@ -125,7 +124,7 @@ impl Progress {
     fn open(&mut self, alloc: Global, line: &[u8]) -> Result<Told, AuditError>
         requires line { IsLineBefore line.now [] }
         requires between { is_between self.old.opened }
-        ensures told { (part : Part) → IsAnswer part line.now self.old self.new result }
+        ensures told { (part : Part) → IsLineAnswer part line.now self.old self.new result }
         ensures kept { IsKept self.old self.new result }
         ensures ended { OnOk result (HasLineFeed line.now) }
     {
@@ -151,7 +150,7 @@ impl Progress {
         line: &[u8],
     ) -> Result<Told, AuditError>
         requires { IsLineBefore line.now [] }
-        ensures told { IsAnswer (A.meaning aggregator.now).part line.now self.old self.new result }
+        ensures told { IsLineAnswer (A.meaning aggregator.now).part line.now self.old self.new result }
         ensures kept { IsKept self.old self.new result }
         ensures ended { OnOk result (HasLineFeed line.now) }
     {
@@ -179,6 +178,36 @@ impl Progress {
                 Err(told_fault(self.before.parts, JournalError::Cut))
             }
             None => Err(told_fault(0, JournalError::Cut)),
+        }
+    }
+
+    /// What all that was read has.
+    pub(crate) fn counts(&self) -> Counts
+        ensures { (part : Part) → AreSoFar part self.now result }
+    {
+        match &self.opened {
+            Some(opened) => {
+                let all = self.before.with(opened);
+                if opened.is_whole() {
+                    return all;
+                }
+                Counts {
+                    calls: all.calls,
+                    moves: all.moves,
+                    parts: self.before.parts,
+                }
+            }
+            None => self.before,
+        }
+    }
+
+    /// The state that all moves of what was read leave; none before the first header.
+    pub(crate) fn state(&self, alloc: Global) -> Result<Option<PlainState>, AllocError>
+        ensures { IfOk result (λ s. (part : Part) → IsStateSoFar part self.now s) }
+    {
+        match &self.opened {
+            Some(opened) => Ok(Some(opened.left(alloc)?)),
+            None => Ok(None),
         }
     }
 }

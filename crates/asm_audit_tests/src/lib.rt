@@ -3,3 +3,5 @@
 
 #[cfg(test)]
 mod audits;
+#[cfg(test)]
+mod following;

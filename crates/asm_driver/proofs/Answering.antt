@@ -1,17 +1,17 @@
 -- What is answered to the program's words.
-use Rattle.std.proofs.Common.{◌≡◌, ◌∙◌, ◌<◌, ◌^◌, ℕ, Bool, true, false, ap, ap₂, List, [], ◌∷◌, ◌==◌, if◌then◌else◌}
+use Rattle.std.proofs.Common.{◌≡◌, ◌∙◌, ℕ, Bool, true, false, ap, ap₂, List, [], ◌∷◌, ◌==◌, if◌then◌else◌}
 use Rattle.std.proofs.Common.{get_or, Option, Some, None, Result, Ok, Err, refl, sym, subst, codes, inl, inr, arith, lit<}
 use Rattle.std.specs.Prelude.{IfOk, IfErr, IfSome, IfNone, ◌⊎◌}
 use Rattle.std.specs.Option.{ok_or}
-use Rattle.std.specs.Str.Parse.{IsNumeral, digits_value, without_leading_plus}
+use Rattle.std.specs.Str.Parse.{digits_value, without_leading_plus}
 use Rattle.clap.proofs.OnLiterals.{clap_on_literals}
 use Rattle.clap.specs.Words.{Row, Text, Kinds, IsAmong, first_of, one_of, subcommand_of}
 use Rattle.clap.specs.declared.error.kind.ErrorKind.{ErrorKind}
 use Rattle.clap.specs.declared.error.kind.ErrorKind.TheVariants as kind
-use Rattle.asm_driver.specs.Words.{Words, program, faults, kind_word, Asks, AsksFor, IsNoCommand, IsRefusal, IsMadeOf, IsTold}
-use Rattle.asm_driver.specs.Words.{Gives, RefusesWords, Helps, TellsVersion, Answers}
+use Rattle.asm_driver.specs.Words.{Words, program, faults, kind_word, AsksCapacity, Asks, AsksFor, IsNoCommand, IsRefusal, IsMadeOf, IsTold}
+use Rattle.asm_driver.specs.Words.{IsNumber, Gives, RefusesWords, Helps, TellsVersion, Answers}
 use Rattle.asm_driver.specs.declared.program.words.Request.{Request}
-use Rattle.asm_driver.specs.declared.program.words.Request.TheVariants.{Run, Check, Rewrite, Trace, Audit, Explain}
+use Rattle.asm_driver.specs.declared.program.words.Request.TheVariants.{Run, Terms, Check, Rewrite, Trace, Audit, Watch, Explain}
 use Rattle.asm_driver.specs.declared.program.words.TextKind.{TextKind}
 use Rattle.asm_driver.specs.declared.program.words.TextKind.TheVariants.{Script, Journal}
 use Rattle.asm_driver.specs.declared.program.words.WordsError.{WordsError}
@@ -38,10 +38,12 @@ pub record IsRight (words : Words) (r : Result Request WordsError) : Type 0 wher
 -- the word of a request's command
 abbrev word : Request → Text
 word (Run c j) = codes "run"
+word (Terms c) = codes "run"
 word Check = codes "check"
 word Rewrite = codes "rewrite"
 word Trace = codes "trace"
 word Audit = codes "audit"
+word (Watch n) = codes "audit"
 word (Explain t) = codes "explain"
 
 -- its third letter, which no two of the words share
@@ -51,16 +53,21 @@ letter r = get_or (word r) 2 0
 -- the request with this letter, where it has no options, and else this one
 abbrev with_letter : ℕ → Request → Request
 with_letter l r =
-    if l == 101 then Check else (if l == 119 then Rewrite else (if l == 97 then Trace else (if l == 100 then Audit else r)))
+    if l == 101 then Check else (if l == 119 then Rewrite else (if l == 97 then Trace else r))
 
 with_own_letter : (r : Request) → with_letter (letter r) r ≡ r
 with_own_letter (Run c j) = refl
+with_own_letter (Terms c) = refl
+with_own_letter (Watch n) = refl
 with_own_letter (Explain t) = refl
 with_own_letter r = refl
 
 -- what is asked for has the word of the command
 same_letter : (n m : Request) (rows : List Row) → Asks (Some (word n, rows)) m → letter n ≡ letter m
 same_letter n (Run c j) rows h = ap (λ (t : Text). get_or t 2 0) h.0
+same_letter n (Terms c) rows h = ap (λ (t : Text). get_or t 2 0) h.0
+same_letter n Audit rows h = ap (λ (t : Text). get_or t 2 0) h.0
+same_letter n (Watch k) rows h = ap (λ (t : Text). get_or t 2 0) h.0
 same_letter n (Explain k) rows h = ap (λ (t : Text). get_or t 2 0) h.0
 same_letter n m rows h = ap (λ (t : Text). get_or t 2 0) h
 
@@ -73,12 +80,23 @@ abbrev flag_text : Bool → Text
 flag_text true = codes "true"
 flag_text false = codes "false"
 
--- the options have texts that ask for this request: run's are a number of 32 bits and a flag
+-- the text of the capacity is this number
+abbrev HasCapacity : List Row → ℕ → Type 0
+HasCapacity rows c =
+    (t : Text) × IsNumber t × (digits_value 10 (without_leading_plus t) ≡ c) × (one_of (codes "capacity") rows ≡ Some t)
+
+-- the options have texts that ask for this request: run's are a number of 32 bits and flags, audit's a number or none
 abbrev HasOptions : List Row → Request → Type 0
-HasOptions rows (Run c j) =
-    (t : Text) × IsNumeral 10 (without_leading_plus t) × (digits_value 10 (without_leading_plus t) < 2 ^ 32)
-    × (digits_value 10 (without_leading_plus t) ≡ c) × (one_of (codes "capacity") rows ≡ Some t)
-    × (one_of (codes "journal") rows ≡ Some (flag_text j))
+HasOptions rows (Run c true) = HasCapacity rows c × (one_of (codes "journal") rows ≡ Some (flag_text true))
+HasOptions rows (Run c false) =
+    HasCapacity rows c × (one_of (codes "journal") rows ≡ Some (flag_text false))
+    × (one_of (codes "terms") rows ≡ Some (flag_text false))
+HasOptions rows (Terms c) =
+    HasCapacity rows c × (one_of (codes "journal") rows ≡ Some (flag_text false))
+    × (one_of (codes "terms") rows ≡ Some (flag_text true))
+HasOptions rows Audit = one_of (codes "every") rows ≡ None
+HasOptions rows (Watch n) =
+    (t : Text) × IsNumber t × (digits_value 10 (without_leading_plus t) ≡ n) × (one_of (codes "every") rows ≡ Some t)
 HasOptions rows (Explain t) = first_of (codes "kind") rows ≡ Some (kind_word t)
 HasOptions rows r = Unit {0}
 
@@ -95,17 +113,41 @@ abbrev there : Option Text → Text
 there (Some t) = t
 there None = []
 
+some_word : (t : Text) (o : Option Text) (u : Text) → o ≡ Some t → o ≡ Some u → t ≡ u
+some_word t o u is same = ap there (sym is ∙ same)
+
+no_text : (o : Option Text) (t : Text) → o ≡ None → o ≡ Some t → ⊥
+no_text o t none some = let both : None ≡ Some t = sym none ∙ some in cc (both)
+
 same_kind : (t u : TextKind) (o : Option Text) → o ≡ Some (kind_word t) → o ≡ Some (kind_word u) → u ≡ t
 same_kind t u o is same =
     sym (with_own_first u) ∙ ap (λ x. with_first (get_or (there x) 0 0)) (sym same ∙ is) ∙ with_own_first t
 
+same_capacity : (c d : ℕ) (rows : List Row) → HasCapacity rows c → AsksCapacity rows d → d ≡ c
+same_capacity c d rows (t, number, value, stands) asks = asks t stands number.0 number.1 ∙ value
+
+no_flag : false ≡ true → ⊥
+no_flag e = cc (e)
+
 -- a command with these options asks for nothing else
 asked_alone : (n m : Request) (rows : List Row) → HasOptions rows n → Asks (Some (word n, rows)) m → m ≡ n
-asked_alone (Run c true) (Run d k) rows (t, numeral, small, value, number, flag) h =
-    ap₂ Run (h.1.0 t number numeral small ∙ value) (h.1.1.0 flag)
-asked_alone (Run c false) (Run d k) rows (t, numeral, small, value, number, flag) h =
-    ap₂ Run (h.1.0 t number numeral small ∙ value) (h.1.1.1 flag)
-asked_alone (Run c j) m rows has h = absurd (omega (arith, same_letter (Run c j) m rows h))
+asked_alone (Run c true) (Run d k) rows (capacity, flag) h = ap₂ Run (same_capacity c d rows capacity h.1.0) (h.1.1.0 flag)
+asked_alone (Run c true) (Terms d) rows (capacity, flag) h = absurd (no_flag (h.1.1.0 flag))
+asked_alone (Run c true) m rows has h = absurd (omega (arith, same_letter (Run c true) m rows h))
+asked_alone (Run c false) (Run d k) rows (capacity, flag, terms) h =
+    ap₂ Run (same_capacity c d rows capacity h.1.0) (h.1.1.1 flag)
+asked_alone (Run c false) (Terms d) rows (capacity, flag, terms) h = absurd (no_flag (sym (h.1.2.1 terms)))
+asked_alone (Run c false) m rows has h = absurd (omega (arith, same_letter (Run c false) m rows h))
+asked_alone (Terms c) (Run d k) rows (capacity, flag, terms) h = absurd (no_flag ((h.1.2 (h.1.1.1 flag)).0 terms))
+asked_alone (Terms c) (Terms d) rows (capacity, flag, terms) h = ap Terms (same_capacity c d rows capacity h.1.0)
+asked_alone (Terms c) m rows has h = absurd (omega (arith, same_letter (Terms c) m rows h))
+asked_alone Audit Audit rows has h = refl
+asked_alone Audit (Watch k) rows has h = absurd (no_text _ h.1.0 has h.1.1)
+asked_alone Audit m rows has h = absurd (omega (arith, same_letter Audit m rows h))
+asked_alone (Watch n) Audit rows (t, number, value, stands) h = absurd (h.1 t stands number)
+asked_alone (Watch n) (Watch k) rows (t, number, value, stands) h =
+    ap Watch (h.1.3 ∙ ap (λ (u : Text). digits_value 10 (without_leading_plus u)) (some_word h.1.0 _ t h.1.1 stands) ∙ value)
+asked_alone (Watch n) m rows has h = absurd (omega (arith, same_letter (Watch n) m rows h))
 asked_alone (Explain t) (Explain u) rows has h = ap Explain (same_kind t u _ has h.1)
 asked_alone (Explain t) m rows has h = absurd (omega (arith, same_letter (Explain t) m rows h))
 asked_alone n m rows has h = by_letter n m rows h
@@ -113,10 +155,12 @@ asked_alone n m rows has h = by_letter n m rows h
 -- the word is a command's
 known : (n : Request) (rows : List Row) → HasOptions rows n → IsNoCommand (Some (word n, rows)) → ⊥
 known (Run c j) rows has none = none.0 refl
+known (Terms c) rows has none = none.0 refl
 known Check rows has none = none.1 refl
 known Rewrite rows has none = none.2 refl
 known Trace rows has none = none.3 refl
 known Audit rows has none = none.4 refl
+known (Watch n) rows has none = none.4 refl
 known (Explain t) rows has none = none.5 t (refl, has)
 
 none_among : (k : ErrorKind) (ks : Kinds) → ks ≡ [] → IsAmong k ks → ⊥
@@ -146,9 +190,6 @@ gives right taken command options e =
 -- the word of no kind
 abbrev IsOther : Text → Type 0
 IsOther t = (k : TextKind) → t ≡ kind_word k → ⊥
-
-some_word : (t : Text) (o : Option Text) (u : Text) → o ≡ Some t → o ≡ Some u → t ≡ u
-some_word t o u is same = ap there (sym is ∙ same)
 
 unasked : (t : Text) (rows : List Row) (m : Request) → first_of (codes "kind") rows ≡ Some t → IsOther t
     → Asks (Some (codes "explain", rows)) m → ⊥
@@ -254,19 +295,22 @@ tells right is e = found_version _ (found _ _ _ _ (ap faults e ∙ is) right)
 pub answers : (words : Words) (r : Result Request WordsError) → IsRight words r → Answers words r
 unfolding clap_on_literals faults
 answers words r right = record {
-  default = gives right refl refl
-      (codes "4096", (lit< tt, (lit< tt, (lit< tt, (lit< tt, (lit< tt, tt))))), lit< tt, refl, refl, refl);
-  journal = gives right refl refl
-      (codes "4096", (lit< tt, (lit< tt, (lit< tt, (lit< tt, (lit< tt, tt))))), lit< tt, refl, refl, refl);
-  both = gives right refl refl (codes "8", (lit< tt, (lit< tt, tt)), lit< tt, refl, refl, refl);
-  plus = gives right refl refl (codes "+8", (lit< tt, (lit< tt, tt)), lit< tt, refl, refl, refl);
-  leading_zero = gives right refl refl (codes "08", (lit< tt, (lit< tt, (lit< tt, tt))), lit< tt, refl, refl, refl);
-  joined = gives right refl refl (codes "8", (lit< tt, (lit< tt, tt)), lit< tt, refl, refl, refl);
+  default = gives right refl refl ((codes "4096", ((lit< tt, (lit< tt, (lit< tt, (lit< tt, (lit< tt, tt))))), lit< tt), refl, refl), refl, refl);
+  journal = gives right refl refl ((codes "4096", ((lit< tt, (lit< tt, (lit< tt, (lit< tt, (lit< tt, tt))))), lit< tt), refl, refl), refl);
+  both = gives right refl refl ((codes "8", ((lit< tt, (lit< tt, tt)), lit< tt), refl, refl), refl);
+  terms = gives right refl refl ((codes "4096", ((lit< tt, (lit< tt, (lit< tt, (lit< tt, (lit< tt, tt))))), lit< tt), refl, refl), refl, refl);
+  terms_both = gives right refl refl ((codes "8", ((lit< tt, (lit< tt, tt)), lit< tt), refl, refl), refl, refl);
+  journal_alone = gives right refl refl ((codes "4096", ((lit< tt, (lit< tt, (lit< tt, (lit< tt, (lit< tt, tt))))), lit< tt), refl, refl), refl);
+  plus = gives right refl refl ((codes "+8", ((lit< tt, (lit< tt, tt)), lit< tt), refl, refl), refl, refl);
+  leading_zero = gives right refl refl ((codes "08", ((lit< tt, (lit< tt, (lit< tt, tt))), lit< tt), refl, refl), refl, refl);
+  joined = gives right refl refl ((codes "8", ((lit< tt, (lit< tt, tt)), lit< tt), refl, refl), refl, refl);
   greatest = gives right refl refl (
-    codes "1048576",
-    (lit< tt, (lit< tt, (lit< tt, (lit< tt, (lit< tt, (lit< tt, (lit< tt, (lit< tt, tt)))))))),
-    lit< tt,
-    refl,
+    (
+      codes "1048576",
+      ((lit< tt, (lit< tt, (lit< tt, (lit< tt, (lit< tt, (lit< tt, (lit< tt, (lit< tt, tt)))))))), lit< tt),
+      refl,
+      refl,
+    ),
     refl,
     refl,
   );
@@ -281,7 +325,21 @@ answers words r right = record {
   rewrite_further = refuses right refl (tt, tt);
   trace = gives right refl refl tt;
   trace_further = refuses right refl (tt, tt);
-  audit = gives right refl refl tt;
+  audit = gives right refl refl refl;
+  audit_every = gives right refl refl (codes "8", ((lit< tt, (lit< tt, tt)), lit< tt), refl, refl);
+  audit_joined = gives right refl refl (codes "+08", ((lit< tt, (lit< tt, (lit< tt, tt))), lit< tt), refl, refl);
+  audit_greatest = gives right refl refl (
+    codes "4294967295",
+    (
+      (lit< tt, (lit< tt, (lit< tt, (lit< tt, (lit< tt, (lit< tt, (lit< tt, (lit< tt, (lit< tt, (lit< tt, (lit< tt, tt))))))))))),
+      lit< tt,
+    ),
+    refl,
+    refl,
+  );
+  audit_above = refuses right refl (tt, tt);
+  audit_zero = refuses right refl (tt, tt);
+  audit_nothing = refuses right refl (tt, tt);
   audit_further = refuses right refl (tt, tt);
   explain_script = gives right refl refl refl;
   explain_journal = gives right refl refl refl;

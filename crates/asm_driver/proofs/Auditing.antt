@@ -11,19 +11,19 @@ use Rattle.asm_audit.specs.declared.progress.Progress.{Progress}
 use Rattle.asm_audit.specs.declared.progress.Told.TheVariants as told
 use Rattle.asm_audit.specs.declared.reading.Verdict.{Verdict}
 use Rattle.asm_audit.specs.declared.reading.Verdict.TheVariants.{Legal, Illegal}
-use Rattle.asm_play.specs.Standard.{standard_part}
+use Rattle.asm_aggregate.specs.Standard.{standard_part}
 use Rattle.asm_driver.specs.Input.{Known}
 use Rattle.asm_driver.specs.Audit.{refusal_of_audit, IsBadRun, is_failed_read, IsAuditTold, IsNoAudit}
 use Rattle.asm_driver.specs.declared.program.refusal.Refusal.TheVariants as refusal
 
 -- an audit's error as the refusal that is made of it
-bad_run : (text : List ℕ) (e : AuditError) → IsVerdict standard_part text (Err e) → IsBadRun text (refusal_of_audit e)
+pub bad_run : (text : List ℕ) (e : AuditError) → IsVerdict standard_part text (Err e) → IsBadRun text (refusal_of_audit e)
 bad_run text (Journal part fault) is = is
 bad_run text (Apart part) is = is
 bad_run text LongLine is = is
 bad_run text Memory is = tt
 
-no_read : (e : AuditError) → is_failed_read (Err (refusal_of_audit e)) ≡ false
+pub no_read : (e : AuditError) → is_failed_read (Err (refusal_of_audit e)) ≡ false
 no_read (Journal part fault) = refl
 no_read (Apart part) = refl
 no_read LongLine = refl

@@ -1,5 +1,5 @@
 -- When a run has the status of a fault.
-use Rattle.std.proofs.Common.{◌≡◌, ◌↔◌, ℕ, List, true, false, Err, refl, sym, ◌∙◌, subst, inl, inr, arith}
+use Rattle.std.proofs.Common.{◌≡◌, ◌↔◌, ℕ, List, ◌++◌, true, false, Result, Ok, Err, refl, sym, ◌∙◌, ap, subst, inl, inr, arith}
 use Rattle.asm_journal.specs.declared.error.JournalError.{JournalError}
 use Rattle.asm_journal.specs.declared.error.JournalError.TheVariants as journal
 use Rattle.asm_journal.specs.declared.checking.Legality.{Legality}
@@ -7,11 +7,11 @@ use Rattle.asm_journal.specs.declared.checking.Legality.TheVariants.{Legal, Ille
 use Rattle.asm_driver.specs.Commands.{legality_status, IsDone, IsNotDone}
 use Rattle.asm_driver.specs.Refusal.{refusal_status, refusal_line, journal_status, has_number}
 use Rattle.asm_driver.specs.Words.{Words}
-use Rattle.asm_driver.specs.Run.{Input, Output, IsAnswer, IsNoAnswer, IsShown, Writes, Refuses, HasFailed}
+use Rattle.asm_driver.specs.Run.{Input, Output, IsAnswer, IsNoAnswer, IsShown, Writes, Refuses, HasFailed, EndsAs, Watches}
 use Rattle.asm_driver.specs.declared.program.refusal.Refusal.{Refusal}
 use Rattle.asm_driver.specs.declared.program.refusal.Refusal.TheVariants as refusal
 use Rattle.asm_driver.specs.declared.program.words.Request.{Request}
-use Rattle.asm_driver.specs.declared.program.words.Request.TheVariants.{Run, Check, Audit, Explain}
+use Rattle.asm_driver.specs.declared.program.words.Request.TheVariants.{Run, Terms, Check, Audit, Watch, Explain}
 use Rattle.asm_audit.specs.declared.reading.Verdict.{Verdict}
 use Rattle.asm_audit.specs.declared.reading.Verdict.TheVariants as verdict
 use Rattle.asm_driver.specs.Audit.{verdict_status, is_failed_read}
@@ -30,6 +30,7 @@ done_works : (bytes : List ℕ) (request : Request) (status : ℕ) (text : List 
     status ≡ 4 → ⊥
 done_works bytes Check status text (h, l, reads, is, same, written) e = legality_works l (sym same ∙ e)
 done_works bytes Audit status text done e = absurd done
+done_works bytes (Watch every) status text done e = absurd done
 done_works bytes (Explain t) status text (inl done) e = omega (arith, done.0, e)
 done_works bytes (Explain t) status text (inr done) e = omega (arith, done.0, e)
 done_works bytes request status text done e = omega (arith, done.0, e)
@@ -87,6 +88,7 @@ fault_shown r shown (inr (is, number)) e = let bad : true ≡ false = sym number
 
 done_reads : (bytes : List ℕ) (request : Request) → IsNotDone bytes request refusal.InputFault → ⊥
 done_reads bytes (Run capacity asked) is = is
+done_reads bytes (Terms capacity) is = is
 done_reads bytes (Explain t) is = cc (is)
 done_reads bytes request is = is
 
@@ -128,3 +130,29 @@ faults_refused given i o r result none (shown, is, writes) = (there writes, back
   back (inl (same, written)) (inl read) =
       let fault = fault_shown r shown is (failed_fault given i r none read) in
       subst (λ x. result ≡ refusal_status x) fault same
+
+-- a watched audit has the status of a fault where a read failed
+ends_four : (r : Result Verdict Refusal) (status : ℕ) (text : List ℕ) → EndsAs r status text → status ≡ 4 →
+    is_failed_read r ≡ true
+ends_four (Ok v) status text ends e = absurd (verdict_works v (sym ends.0 ∙ e))
+ends_four (Err r) status text (shown, is, same, written) e =
+    ap (λ (x : Refusal). is_failed_read (Err x)) (shown_fault r shown is (four shown (sym same ∙ e)))
+
+read_four : (r : Result Verdict Refusal) (status : ℕ) (text : List ℕ) → EndsAs r status text → is_failed_read r ≡ true →
+    status ≡ 4
+read_four (Ok v) status text ends e = absurd (both (sym e))
+read_four (Err r) status text (shown, is, same, written) e =
+    same ∙ ap refusal_status (fault_shown r shown is (fault_read r e))
+
+pub faults_watched : (every : ℕ) (i : Input) (o : Output) (result : ℕ) → Watches every i o result →
+    (result ≡ 4) ↔ HasFailed i o
+faults_watched every i o result (inl (r, told, text, status, is, ends, writes)) = (there writes, back writes) where
+  there : Writes o status (told ++ text) result → result ≡ 4 → HasFailed i o
+  there (inl (same, written)) e = inl (is.noted ∙ ends_four r status text ends (sym same ∙ e))
+  there (inr (same, cut)) e = inr cut.failed
+
+  back : Writes o status (told ++ text) result → HasFailed i o → result ≡ 4
+  back (inr (same, cut)) failed = same
+  back (inl (same, written)) (inr failed) = absurd (both (sym failed ∙ written.whole))
+  back (inl (same, written)) (inl read) = same ∙ read_four r status text ends (sym is.noted ∙ read)
+faults_watched every i o result (inr (told, cut, reads, same, some)) = (λ e. inr some.failed, λ failed. same)

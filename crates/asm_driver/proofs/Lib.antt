@@ -2,9 +2,13 @@ mod Lines
 mod OutcomeLines
 mod TextPieces
 mod NoJournals
+mod NoRuns
 mod Asking
 mod Answering
 mod Runs
 mod Faulting
 mod Taking
 mod Auditing
+mod Watching
+mod Ending
+mod ReadTerms

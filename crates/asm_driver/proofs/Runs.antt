@@ -9,12 +9,12 @@ use Rattle.asm_driver.specs.Run.{RunsOver, input_of, output_of}
 use Rattle.asm_driver.specs.declared.program.refusal.Refusal.{Refusal}
 use Rattle.asm_driver.specs.declared.program.refusal.Refusal.TheVariants as refusal
 use Rattle.asm_driver.specs.declared.program.words.Request.{Request}
-use Rattle.asm_driver.specs.declared.program.words.Request.TheVariants.{Run, Audit, Explain}
+use Rattle.asm_driver.specs.declared.program.words.Request.TheVariants.{Run, Terms, Audit, Watch, Explain}
 use Rattle.asm_driver.specs.Audit.{is_failed_read, IsNoAudit}
 
 pub answered : (given words : Words) (i : Input) (o : Output) (status : ℕ) (text bytes : List ℕ) (result : ℕ) →
     given ≡ words → bytes ≡ text → IsAnswer given i status text → Writes o status bytes result → Runs words i o result
-answered given words i o status text bytes result same written answer writes = (
+answered given words i o status text bytes result same written answer writes = inl (
   status,
   text,
   inl (subst (λ w. IsAnswer w i status text) same answer),
@@ -26,7 +26,9 @@ answered given words i o status text bytes result same written answer writes = (
 memory_done : (bytes : List ℕ) (request : Request) (r : Refusal) → IsNotDone bytes request r →
     IsNotDone bytes request refusal.Memory
 memory_done bytes (Run capacity asked) r is = tt
+memory_done bytes (Terms capacity) r is = tt
 memory_done bytes Audit r is = is
+memory_done bytes (Watch every) r is = is
 memory_done bytes (Explain t) r is = refl
 memory_done bytes request r is = tt
 
@@ -70,7 +72,7 @@ shown_told words i r shown none (inr (is, number)) = subst (IsNoAnswer words i) 
 
 pub refused : (given words : Words) (i : Input) (o : Output) (r : Refusal) (result : ℕ) → given ≡ words →
     IsNoAnswer given i r → Refuses o r result → Runs words i o result
-refused given words i o r result same none (shown, is, writes) = (
+refused given words i o r result same none (shown, is, writes) = inl (
   refusal_status shown,
   refusal_line shown,
   inr (shown, subst (λ w. IsNoAnswer w i shown) same (shown_told given i r shown none is), refl, refl),

@@ -1,11 +1,12 @@
 -- How many bytes of the input a run takes.
-use Rattle.std.proofs.Common.{◌≤◌, ℕ, List, [], length, sym, subst, inl, inr, arith}
+use Rattle.std.proofs.Common.{◌≤◌, ℕ, List, [], ◌++◌, length, sym, subst, inl, inr, arith}
 use Rattle.std.proofs.KnownBytes.{Consumes-nil}
 use Rattle.std.specs.Io.KnownBytes.{Consumes}
 use Rattle.asm_driver.specs.Input.{Known, TakesSome}
 use Rattle.asm_driver.specs.Limits.{input_limit}
-use Rattle.asm_driver.specs.Run.{Input, IsAnswer, IsNoAnswer, IsNoInput, IsUnread, IsWhole, Takes}
-use Rattle.asm_driver.specs.Words.{Words}
+use Rattle.asm_driver.specs.Run.{Input, Output, IsAnswer, IsNoAnswer, IsNoInput, IsUnread, IsWhole, Takes, Watches}
+use Rattle.asm_driver.specs.Words.{Words, AsksFor}
+use Rattle.asm_driver.specs.declared.program.words.Request.TheVariants.{Watch}
 use Rattle.asm_driver.specs.declared.program.refusal.Refusal.{Refusal}
 use Rattle.asm_driver.specs.declared.program.refusal.Refusal.TheVariants as refusal
 
@@ -22,7 +23,7 @@ all_taken i bytes whole =
 pub answered_taken : (words : Words) (i : Input) (status : ℕ) (text : List ℕ) → IsAnswer words i status text →
     Takes words i.had i.left
 answered_taken words i status text (inl (bytes, request, whole, asks, done)) = inl (all_taken i bytes whole)
-answered_taken words i status text (inr (inl (asks, (v, is, same, written)))) = inr (asks, (is.bytes, is.consumed))
+answered_taken words i status text (inr (inl (asks, (v, is, same, written)))) = inr (inl asks, (is.bytes, is.consumed))
 answered_taken words i status text (inr (inr (same, asks, unread))) = inl (none_taken i unread)
 
 -- where there is no input, at most one byte beyond the limit was taken
@@ -36,4 +37,11 @@ pub refused_taken : (words : Words) (i : Input) (r : Refusal) → IsNoAnswer wor
 refused_taken words i r (inl (bad, unread)) = inl (none_taken i unread)
 refused_taken words i r (inr (inl (taken, is))) = inl (input_taken i r is)
 refused_taken words i r (inr (inr (inl (bytes, request, whole, asks, is)))) = inl (all_taken i bytes whole)
-refused_taken words i r (inr (inr (inr (asks, told)))) = inr (asks, (told.bytes, told.consumed))
+refused_taken words i r (inr (inr (inr (asks, told)))) = inr (inl asks, (told.bytes, told.consumed))
+
+pub watched_taken : (words : Words) (i : Input) (o : Output) (every result : ℕ) → AsksFor words (Watch every) →
+    Watches every i o result → Takes words i.had i.left
+watched_taken words i o every result asks (inl (r, told, text, status, is, ends, writes)) =
+    inr (inr (every, asks), (is.taken ++ is.behind, is.consumed))
+watched_taken words i o every result asks (inr (told, cut, reads, four, some)) =
+    inr (inr (every, asks), (cut.taken ++ cut.behind, cut.consumed))

@@ -7,7 +7,7 @@ use Rattle.asm_audit.specs.declared.error.AuditError.{AuditError}
 use Rattle.asm_audit.specs.declared.error.AuditError.TheVariants.{Journal, Apart, LongLine, Memory}
 use Rattle.asm_audit.specs.declared.reading.Verdict.{Verdict}
 use Rattle.asm_audit.specs.declared.reading.Verdict.TheVariants.{Legal, Illegal}
-use Rattle.asm_play.specs.Standard.{standard_part}
+use Rattle.asm_aggregate.specs.Standard.{standard_part}
 use Rattle.asm_driver.specs.Input.{Known}
 use Rattle.asm_driver.specs.Report.{line}
 use Rattle.asm_driver.specs.declared.program.refusal.Refusal.{Refusal}

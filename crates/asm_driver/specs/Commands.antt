@@ -11,18 +11,19 @@ use Rattle.asm_journal.specs.declared.checking.Legality.{Legality}
 use Rattle.asm_journal.specs.declared.checking.Legality.TheVariants.{Legal, Illegal}
 use Rattle.asm_journal.specs.declared.error.JournalError.TheVariants as journal_error
 use Rattle.asm_script.specs.Plan.{Plan}
-use Rattle.asm_play.specs.Play.{IsNoCapacity, IsPlayOf}
+use Rattle.asm_row.specs.Limits.{IsNoCapacity}
+use Rattle.asm_play.specs.Play.{IsPlayOf}
 use Rattle.asm_driver.specs.Explained.{IsExplained}
 use Rattle.asm_driver.specs.Report.{line, report_of}
 use Rattle.asm_script.specs.Script.{IsScriptOf, IsRefusedScript}
-use Rattle.asm_play.specs.Standard.{standard_part}
+use Rattle.asm_aggregate.specs.Standard.{standard_part}
 use Rattle.asm_play.specs.declared.outcome.Played.{Played}
 use Rattle.asm_trace.specs.Text.{IsTrace}
 use Rattle.asm_driver.specs.declared.program.refusal.Refusal.{Refusal}
 use Rattle.asm_driver.specs.declared.program.refusal.Refusal.TheVariants as refusal
 use Rattle.asm_script.specs.declared.script.ScriptError.TheVariants.{BadScript}
 use Rattle.asm_driver.specs.declared.program.words.Request.{Request}
-use Rattle.asm_driver.specs.declared.program.words.Request.TheVariants.{Run, Check, Rewrite, Trace, Audit, Explain}
+use Rattle.asm_driver.specs.declared.program.words.Request.TheVariants.{Run, Terms, Check, Rewrite, Trace, Audit, Watch, Explain}
 
 -- ---- run
 
@@ -47,6 +48,11 @@ text_of_played false p = report_of standard_part p
 abbrev pub IsRunText : List ℕ → ℕ → Bool → List ℕ → Type 0
 IsRunText bytes capacity asked text =
     (p : Played) × IsPlayed bytes capacity p × (text ≡ text_of_played asked p)
+
+-- the report of the script of these bytes, played with this capacity, and what is told behind it of terms without a value
+abbrev pub IsTermsText : List ℕ → ℕ → List ℕ → Type 0
+IsTermsText bytes capacity text =
+    (p : Played) × (told : List ℕ) × IsPlayed bytes capacity p × (text ≡ report_of standard_part p ++ told)
 
 -- why nothing is written of a played script: the journal is asked for, and the history is beyond a journal's limits;
 -- an allocation failure tells nothing
@@ -110,17 +116,21 @@ IsNoJournal bytes r = ⊥
 -- input
 abbrev pub IsDone : List ℕ → Request → ℕ → List ℕ → Type 0
 IsDone bytes (Run capacity asked) status text = (status ≡ 0) × IsRunText bytes capacity asked text
+IsDone bytes (Terms capacity) status text = (status ≡ 0) × IsTermsText bytes capacity text
 IsDone bytes Check status text = IsCheck bytes status text
 IsDone bytes Rewrite status text = (status ≡ 0) × IsRewrite bytes text
 IsDone bytes Trace status text = (status ≡ 0) × IsTraceOf bytes text
 IsDone bytes Audit status text = ⊥
+IsDone bytes (Watch every) status text = ⊥
 IsDone bytes (Explain t) status text = IsExplained bytes t status text
 
 -- why it isn't done
 abbrev pub IsNotDone : List ℕ → Request → Refusal → Type 0
 IsNotDone bytes (Run capacity asked) r = IsNoRun bytes capacity asked r
+IsNotDone bytes (Terms capacity) r = IsNoRun bytes capacity false r
 IsNotDone bytes Check r = IsNoJournal bytes r
 IsNotDone bytes Rewrite r = IsNoJournal bytes r
 IsNotDone bytes Trace r = IsNoJournal bytes r
 IsNotDone bytes Audit r = ⊥
+IsNotDone bytes (Watch every) r = ⊥
 IsNotDone bytes (Explain t) r = r ≡ refusal.Memory

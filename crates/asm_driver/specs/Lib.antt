@@ -5,6 +5,8 @@ pub mod Output
 pub mod Words
 pub mod Refusal
 pub mod Audit
+pub mod Watch
 pub mod Explained
 pub mod Commands
+pub mod Terms
 pub mod Run

@@ -1,5 +1,5 @@
 -- How a run of the program ends: its status, and the text that it writes.
-use Rattle.std.specs.Prelude.{◌≡◌, ◌≢◌, ◌⊎◌, ℕ, Bool, true, false, List, Result, Ok, Err, codes, string_bytes}
+use Rattle.std.specs.Prelude.{◌≡◌, ◌≢◌, ◌⊎◌, ◌++◌, ℕ, Bool, true, false, List, Result, Ok, Err, codes, string_bytes}
 use Rattle.std.specs.Io.KnownBytes.{Appends}
 use Rattle.std.specs.declared.io.ErrorKind.{ErrorKind}
 use Rattle.std.specs.declared.io.ErrorKind.TheVariants.{InvalidData}
@@ -7,14 +7,16 @@ use Rattle.asm_driver.specs.Input.{Known, ReadsAll, TakesTooMany, TakesSome, Tak
 use Rattle.asm_driver.specs.Output.{AppendsSome}
 use Rattle.asm_driver.specs.Words.{Words, AsksFor, AsksForHelp, AsksForVersion, HasMistake}
 use Rattle.asm_driver.specs.Report.{line}
-use Rattle.asm_driver.specs.Audit.{IsAudit, IsNoAudit}
+use Rattle.asm_audit.specs.declared.reading.Verdict.{Verdict}
+use Rattle.asm_driver.specs.Audit.{IsAudit, IsNoAudit, verdict_line, verdict_status}
+use Rattle.asm_driver.specs.Watch.{IsWatchTold, IsWatchCut}
 use Rattle.asm_driver.specs.Commands.{IsDone, IsNotDone}
 use Rattle.asm_driver.specs.Refusal.{refusal_line, refusal_status, has_number}
 use Rattle.asm_driver.specs.declared.program.commands.Ending.{Ending}
 use Rattle.asm_driver.specs.declared.program.refusal.Refusal.{Refusal}
 use Rattle.asm_driver.specs.declared.program.refusal.Refusal.TheVariants as refusal
 use Rattle.asm_driver.specs.declared.program.words.Request.{Request}
-use Rattle.asm_driver.specs.declared.program.words.Request.TheVariants.{Audit}
+use Rattle.asm_driver.specs.declared.program.words.Request.TheVariants.{Audit, Watch}
 use Rattle.asm_driver.specs.declared.program.words.WordsError.{WordsError}
 use Rattle.asm_driver.specs.declared.program.words.WordsError.TheVariants as words
 
@@ -90,9 +92,13 @@ IsNoAnswer words i r =
     ⊎ ((bytes : List ℕ) × (request : Request) × IsWhole i bytes × AsksFor words request × IsNotDone bytes request r)
     ⊎ (AsksFor words Audit × IsNoAudit i.had i.left i.failed r)
 
+-- the words ask for an audit, which tells how far it is or doesn't
+abbrev pub AsksForAudit : Words → Type 0
+AsksForAudit words = AsksFor words Audit ⊎ ((every : ℕ) × AsksFor words (Watch every))
+
 -- bytes of the input were taken: as many as an audit wants, else at most one beyond the limit
 abbrev pub Takes : Words → Known → Known → Type 0
-Takes words had left = TakesSome had left ⊎ (AsksFor words Audit × TakesAny had left)
+Takes words had left = TakesSome had left ⊎ (AsksForAudit words × TakesAny had left)
 
 -- the line of the version is answered, for which there has to be memory
 abbrev pub IsVersion : Result Ending Refusal → Type 0
@@ -155,9 +161,35 @@ Ends words i status text =
     IsAnswer words i status text
     ⊎ ((r : Refusal) × IsNoAnswer words i r × (status ≡ refusal_status r) × (text ≡ refusal_line r))
 
--- a run of the program: how it ends, and what it wrote
+-- what an audit tells in the end, with its status: a verdict, or a refusal that is shown
+abbrev pub EndsAs : Result Verdict Refusal → ℕ → List ℕ → Type 0
+EndsAs (Ok v) status text = (status ≡ verdict_status v) × (text ≡ verdict_line v)
+EndsAs (Err r) status text =
+    (shown : Refusal) × IsShown r shown × (status ≡ refusal_status shown) × (text ≡ refusal_line shown)
+
+-- the line of a verdict goes out with its status, or that of an allocation failure
+abbrev pub TellsVerdict : Verdict → Output → ℕ → Type 0
+TellsVerdict v o result =
+    Writes o (verdict_status v) (verdict_line v) result
+    ⊎ Writes o (refusal_status refusal.Memory) (refusal_line refusal.Memory) result
+
+-- an audit that tells how far it is, and then how it ends
+abbrev pub TellsAll : ℕ → Input → Output → ℕ → Type 0
+TellsAll every i o result =
+    (r : Result Verdict Refusal) × (told text : List ℕ) × (status : ℕ) × IsWatchTold every i.had i.left i.failed r told
+    × EndsAs r status text × Writes o status (told ++ text) result
+
+-- such an audit, or one whose output failed before its end
+abbrev pub Watches : ℕ → Input → Output → ℕ → Type 0
+Watches every i o result =
+    TellsAll every i o result
+    ⊎ ((told : List ℕ) × IsWatchCut every i.had i.left told × (i.failed ≡ false) × (result ≡ 4) × IsCut o told)
+
+-- a run of the program: how it ends, and what it wrote; an audit may write before its end
 abbrev pub Runs : Words → Input → Output → ℕ → Type 0
-Runs words i o result = (status : ℕ) × (text : List ℕ) × Ends words i status text × Writes o status text result
+Runs words i o result =
+    ((status : ℕ) × (text : List ℕ) × Ends words i status text × Writes o status text result)
+    ⊎ ((every : ℕ) × AsksFor words (Watch every) × Watches every i o result)
 
 -- a read of the input failed, or a call of the output
 abbrev pub HasFailed : Input → Output → Type 0

@@ -13,7 +13,7 @@ use Rattle.clap.specs.declared.error.kind.ErrorKind.TheVariants as kind
 use Rattle.asm_row.specs.Limits.{capacity_limit}
 use Rattle.asm_driver.specs.Limits.{default_capacity}
 use Rattle.asm_driver.specs.declared.program.words.Request.{Request}
-use Rattle.asm_driver.specs.declared.program.words.Request.TheVariants.{Run, Check, Rewrite, Trace, Audit, Explain}
+use Rattle.asm_driver.specs.declared.program.words.Request.TheVariants.{Run, Terms, Check, Rewrite, Trace, Audit, Watch, Explain}
 use Rattle.asm_driver.specs.declared.program.words.TextKind.{TextKind}
 use Rattle.asm_driver.specs.declared.program.words.TextKind.TheVariants.{Script, Journal}
 use Rattle.asm_driver.specs.declared.program.words.WordsError.{WordsError}
@@ -33,9 +33,13 @@ capacity = record (new_rule (codes "capacity")) {
 abbrev pub journal : Rule
 journal = record (new_rule (codes "journal")) { long = Some (codes "journal"); action = Some SetTrue }
 
+-- --terms, which has no value
+abbrev pub terms : Rule
+terms = record (new_rule (codes "terms")) { long = Some (codes "terms"); action = Some SetTrue }
+
 -- the command run, with its options
 abbrev pub run : App
-run = with_rule (with_rule (new_app (codes "run")) capacity) journal
+run = with_rule (with_rule (with_rule (new_app (codes "run")) capacity) journal) terms
 
 -- the command check
 abbrev pub check : App
@@ -49,9 +53,18 @@ rewrite = new_app (codes "rewrite")
 abbrev pub trace : App
 trace = new_app (codes "trace")
 
--- the command audit
+-- --every N, with N from 1 to 4,294,967,295
+abbrev pub every : Rule
+every = record (new_rule (codes "every")) {
+  long = Some (codes "every");
+  action = Some Set;
+  parser = Some (Signed (pos 1) (pos 4294967295));
+  value_names = 1;
+}
+
+-- the command audit, with its option
 abbrev pub audit : App
-audit = new_app (codes "audit")
+audit = with_rule (new_app (codes "audit")) every
 
 -- the kind of text that is explained, which must be given
 abbrev pub kind_rule : Rule
@@ -96,16 +109,30 @@ AsksCapacity rows number = (t : Text) → one_of (codes "capacity") rows ≡ Som
     IsNumeral 10 (without_leading_plus t) → digits_value 10 (without_leading_plus t) < 2 ^ 32 →
     number ≡ digits_value 10 (without_leading_plus t)
 
--- true where the option stands there, and else false
-abbrev pub AsksJournal : List Row → Bool → Type 0
-AsksJournal rows asked =
-    (one_of (codes "journal") rows ≡ Some (codes "true") → asked ≡ true)
-    × (one_of (codes "journal") rows ≡ Some (codes "false") → asked ≡ false)
+-- true where the option with this name stands there, and else false
+abbrev pub AsksFlag : Text → List Row → Bool → Type 0
+AsksFlag name rows asked =
+    (one_of name rows ≡ Some (codes "true") → asked ≡ true) × (one_of name rows ≡ Some (codes "false") → asked ≡ false)
 
--- what the options of run ask for
+-- what the options of run ask for; where the journal is, --terms asks for nothing more
 abbrev pub AsksRun : List Row → Request → Type 0
-AsksRun rows (Run number asked) = AsksCapacity rows number × AsksJournal rows asked
+AsksRun rows (Run number asked) =
+    AsksCapacity rows number × AsksFlag (codes "journal") rows asked
+    × (asked ≡ false → AsksFlag (codes "terms") rows false)
+AsksRun rows (Terms number) =
+    AsksCapacity rows number × AsksFlag (codes "journal") rows false × AsksFlag (codes "terms") rows true
 AsksRun rows r = ⊥
+
+-- the text is a number of 32 bits
+abbrev pub IsNumber : Text → Type 0
+IsNumber t = IsNumeral 10 (without_leading_plus t) × (digits_value 10 (without_leading_plus t) < 2 ^ 32)
+
+-- what the option of audit asks for: where a number stands at --every, to tell how far the audit is, and else not
+abbrev pub AsksAudit : List Row → Request → Type 0
+AsksAudit rows Audit = (t : Text) → one_of (codes "every") rows ≡ Some t → ¬ IsNumber t
+AsksAudit rows (Watch n) =
+    (t : Text) × (one_of (codes "every") rows ≡ Some t) × IsNumber t × (n ≡ digits_value 10 (without_leading_plus t))
+AsksAudit rows r = ⊥
 
 -- the word of a kind of text
 abbrev pub kind_word : TextKind → Text
@@ -120,10 +147,12 @@ AsksKind rows t = first_of (codes "kind") rows ≡ Some (kind_word t)
 abbrev pub Asks : Option (Text × List Row) → Request → Type 0
 Asks None r = ⊥
 Asks (Some p) (Run number asked) = (p.0 ≡ codes "run") × AsksRun p.1 (Run number asked)
+Asks (Some p) (Terms number) = (p.0 ≡ codes "run") × AsksRun p.1 (Terms number)
 Asks (Some p) Check = p.0 ≡ codes "check"
 Asks (Some p) Rewrite = p.0 ≡ codes "rewrite"
 Asks (Some p) Trace = p.0 ≡ codes "trace"
-Asks (Some p) Audit = p.0 ≡ codes "audit"
+Asks (Some p) Audit = (p.0 ≡ codes "audit") × AsksAudit p.1 Audit
+Asks (Some p) (Watch n) = (p.0 ≡ codes "audit") × AsksAudit p.1 (Watch n)
 Asks (Some p) (Explain t) = (p.0 ≡ codes "explain") × AsksKind p.1 t
 
 -- the words are taken, and ask for this
@@ -181,6 +210,10 @@ program_with more = codes "asm_driver" ∷ more
 abbrev pub run_with : Words → Words
 run_with more = program_with (codes "run" ∷ more)
 
+-- the program's name, the word audit, and further ones
+abbrev pub audit_with : Words → Words
+audit_with more = program_with (codes "audit" ∷ more)
+
 -- the program's name, the word explain, and further ones
 abbrev pub explain_with : Words → Words
 explain_with more = program_with (codes "explain" ∷ more)
@@ -206,6 +239,9 @@ pub record Answers (words : Words) (r : Result Request WordsError) : Type 0 wher
   pub default : words ≡ run_with [] → Gives (Run default_capacity false) r
   pub journal : words ≡ run_with (codes "--journal" ∷ []) → Gives (Run default_capacity true) r
   pub both : words ≡ run_with (codes "--journal" ∷ codes "--capacity" ∷ codes "8" ∷ []) → Gives (Run 8 true) r
+  pub terms : words ≡ run_with (codes "--terms" ∷ []) → Gives (Terms default_capacity) r
+  pub terms_both : words ≡ run_with (codes "--capacity=8" ∷ codes "--terms" ∷ []) → Gives (Terms 8) r
+  pub journal_alone : words ≡ run_with (codes "--terms" ∷ codes "--journal" ∷ []) → Gives (Run default_capacity true) r
   pub plus : words ≡ run_with (codes "--capacity" ∷ codes "+8" ∷ []) → Gives (Run 8 false) r
   pub leading_zero : words ≡ run_with (codes "--capacity" ∷ codes "08" ∷ []) → Gives (Run 8 false) r
   pub joined : words ≡ run_with (codes "--capacity=8" ∷ []) → Gives (Run 8 false) r
@@ -221,8 +257,14 @@ pub record Answers (words : Words) (r : Result Request WordsError) : Type 0 wher
   pub rewrite_further : words ≡ program_with (codes "rewrite" ∷ codes "more" ∷ []) → RefusesWords r
   pub trace : words ≡ program_with (codes "trace" ∷ []) → Gives Trace r
   pub trace_further : words ≡ program_with (codes "trace" ∷ codes "more" ∷ []) → RefusesWords r
-  pub audit : words ≡ program_with (codes "audit" ∷ []) → Gives Audit r
-  pub audit_further : words ≡ program_with (codes "audit" ∷ codes "more" ∷ []) → RefusesWords r
+  pub audit : words ≡ audit_with [] → Gives Audit r
+  pub audit_every : words ≡ audit_with (codes "--every" ∷ codes "8" ∷ []) → Gives (Watch 8) r
+  pub audit_joined : words ≡ audit_with (codes "--every=+08" ∷ []) → Gives (Watch 8) r
+  pub audit_greatest : words ≡ audit_with (codes "--every" ∷ codes "4294967295" ∷ []) → Gives (Watch 4294967295) r
+  pub audit_above : words ≡ audit_with (codes "--every" ∷ codes "4294967296" ∷ []) → RefusesWords r
+  pub audit_zero : words ≡ audit_with (codes "--every" ∷ codes "0" ∷ []) → RefusesWords r
+  pub audit_nothing : words ≡ audit_with (codes "--every" ∷ []) → RefusesWords r
+  pub audit_further : words ≡ audit_with (codes "more" ∷ []) → RefusesWords r
   pub explain_script : words ≡ explain_with (codes "script" ∷ []) → Gives (Explain Script) r
   pub explain_journal : words ≡ explain_with (codes "journal" ∷ []) → Gives (Explain Journal) r
   pub explain_nothing : words ≡ explain_with [] → RefusesWords r
@@ -233,7 +275,7 @@ pub record Answers (words : Words) (r : Result Request WordsError) : Type 0 wher
   pub check_help : words ≡ program_with (codes "check" ∷ codes "--help" ∷ []) → Helps r
   pub rewrite_help : words ≡ program_with (codes "rewrite" ∷ codes "--help" ∷ []) → Helps r
   pub trace_help : words ≡ program_with (codes "trace" ∷ codes "--help" ∷ []) → Helps r
-  pub audit_help : words ≡ program_with (codes "audit" ∷ codes "--help" ∷ []) → Helps r
+  pub audit_help : words ≡ audit_with (codes "--help" ∷ []) → Helps r
   pub explain_help : words ≡ explain_with (codes "--help" ∷ []) → Helps r
   pub version : words ≡ program_with (codes "--version" ∷ []) → TellsVersion r
   pub short_version : words ≡ program_with (codes "-V" ∷ []) → TellsVersion r

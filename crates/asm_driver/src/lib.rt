@@ -5,6 +5,7 @@
 mod ports;
 mod program;
 mod reporting;
+mod terms;
 
 pub use asm_play::{Gate, Open, Outcome, Played, RunError, run_script};
 pub use asm_script::{Script, ScriptCause, ScriptError, parse_script};

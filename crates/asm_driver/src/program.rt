@@ -1,25 +1,30 @@
 //! The program over an input and an output.
-ghost use Rattle.std.specs.Prelude.{◌≡◌, ◌↔◌, false, [], map, IfOk, IfErr, string_bytes};
+ghost use Rattle.std.specs.Prelude.{◌≡◌, ◌≢◌, ◌↔◌, ℕ, false, [], map, IfOk, IfErr, string_bytes};
 ghost use Rattle.std.specs.IoError.{error_kind};
 ghost use Rattle.asm_driver.specs.Refusal.{has_number};
-ghost use Rattle.asm_driver.specs.Words.{faults};
+ghost use Rattle.asm_driver.specs.Words.{Words, faults, AsksFor};
+ghost use Rattle.asm_driver.specs.declared.program.words.Request.TheVariants as requests;
 ghost use Rattle.asm_driver.specs.Run.{IsAnswer, IsNoAnswer, IsAnswerTo, version_line, Takes, Writes, Refuses};
+ghost use Rattle.asm_driver.specs.Run.{TellsVerdict, Watches};
 ghost use Rattle.asm_driver.specs.Run.{input_of, output_of, Runs, RunsOver, HasFailed, RefusesKind, IsRefusalOfKind};
 
 mod auditing;
 mod commands;
 mod explained;
 mod refusal;
+mod watching;
 mod words;
 
 use crate::ports::input::read_input;
 use crate::ports::output::write_whole;
 use crate::ports::sink::{NotedWriter, Sink};
 use crate::ports::source::{NotedReader, Source};
-use crate::program::auditing::audit_input;
+use crate::program::auditing::{audit_input, verdict_ending};
 use crate::program::commands::{Ending, carry_out};
 use crate::program::refusal::Refusal;
+use crate::program::watching::{Stop, watched};
 use crate::program::words::{Request, WordsError, read_words};
+use asm_audit::Verdict;
 use std::alloc::{AllocError, Global};
 use std::io;
 use std::io::{ErrorKind, Read, Write};
@@ -48,31 +53,29 @@ fn answer_to(alloc: Global, error: WordsError) -> Result<Ending, Refusal>
     }
 }
 
-/// Does with the input what the words ask for. Nothing is read unless the words are taken.
+/// Does with the input what is asked for.
 fn answer<T: Threads + Wait + Sync, S: Source>(
     rt: &T,
     alloc: Global,
-    words: &[String],
+    request: Request,
     input: &mut S,
 ) -> Result<Ending, Refusal>
-    requires { S.failed input.old ≡ false }
+    requires unread { S.failed input.old ≡ false }
+    requires watch { (every : ℕ) → request ≢ requests.Watch every }
     ensures same_reference { S.lender input.new ≡ S.lender input.old }
-    ensures ok { IfOk result (λ e. IsAnswer (map string_bytes words.now)
+    ensures ok { IfOk result (λ e. (words : Words) → AsksFor words request → IsAnswer words
         (input_of (S.remaining input.old) (S.remaining input.new) (S.failed input.new))
         e.status (string_bytes e.text)) }
-    ensures err { IfErr result (IsNoAnswer (map string_bytes words.now)
-        (input_of (S.remaining input.old) (S.remaining input.new) (S.failed input.new))) }
-    ensures unread { ¬ (faults (map string_bytes words.now) ≡ []) → input.new ≡ input.old }
+    ensures err { IfErr result (λ r. (words : Words) → AsksFor words request → IsNoAnswer words
+        (input_of (S.remaining input.old) (S.remaining input.new) (S.failed input.new)) r) }
 {
-    let request = match read_words(alloc, words) {
-        Ok(request) => request,
-        Err(error) => return answer_to(alloc, error),
-    };
-    if request == Request::Audit {
-        return audit_input(rt, alloc, input);
+    match request {
+        Request::Audit => audit_input(rt, alloc, input),
+        _ => {
+            let bytes = read_input(alloc, input)?;
+            carry_out(rt, alloc, request, bytes.as_slice())
+        }
     }
-    let bytes = read_input(alloc, input)?;
-    carry_out(rt, alloc, request, bytes.as_slice())
 }
 
 // Writes the text. Gives the wanted status, or 4 where the output failed.
@@ -103,6 +106,61 @@ fn refuse<K: Sink>(alloc: Global, output: &mut K, refusal: Refusal) -> u8
     }
 }
 
+// Writes the answer with its status, or the refusal's line with its status.
+fn write_answer<K: Sink>(alloc: Global, output: &mut K, answer: Result<Ending, Refusal>) -> u8
+    requires { K.failed output.old ≡ false }
+    ensures same_reference { K.lender output.new ≡ K.lender output.old }
+    ensures ok { IfOk answer (λ e. Writes
+        (output_of (K.contents output.old) (K.contents output.new) (K.failed output.new) (K.flushed output.new))
+        e.status (string_bytes e.text) result) }
+    ensures err { IfErr answer (λ r. Refuses
+        (output_of (K.contents output.old) (K.contents output.new) (K.failed output.new) (K.flushed output.new))
+        r result) }
+{
+    match answer {
+        Ok(ending) => write_out(output, ending.text.as_bytes(), ending.status),
+        Err(refusal) => refuse(alloc, output, refusal),
+    }
+}
+
+// Writes the line of a verdict, or that for an allocation failure. Gives the status.
+fn write_verdict<K: Sink>(alloc: Global, output: &mut K, verdict: Verdict) -> u8
+    requires { K.failed output.old ≡ false }
+    ensures same_reference { K.lender output.new ≡ K.lender output.old }
+    ensures tells { TellsVerdict verdict
+        (output_of (K.contents output.old) (K.contents output.new) (K.failed output.new) (K.flushed output.new)) result }
+{
+    match verdict_ending(alloc, verdict) {
+        Ok(ending) => write_out(output, ending.text.as_bytes(), ending.status),
+        Err(_) => refuse(alloc, output, Refusal::Memory),
+    }
+}
+
+/// Audits the run that the input gives, and tells how far that is after each so many calls. Gives the status.
+fn watch<T: Wait, S: Source, K: Sink>(
+    rt: &T,
+    alloc: Global,
+    every: u32,
+    input: &mut S,
+    output: &mut K,
+) -> u8
+    requires input { S.failed input.old ≡ false }
+    requires output { K.failed output.old ≡ false }
+    ensures same_input { S.lender input.new ≡ S.lender input.old }
+    ensures same_output { K.lender output.new ≡ K.lender output.old }
+    ensures watches { Watches every
+        (input_of (S.remaining input.old) (S.remaining input.new) (S.failed input.new))
+        (output_of (K.contents output.old) (K.contents output.new) (K.failed output.new) (K.flushed output.new)) result }
+{
+    match watched(rt, alloc, every, input, output) {
+        Ok(verdict) => write_verdict(alloc, output, verdict),
+        Err(stop) => match stop {
+            Stop::Refused(refusal) => refuse(alloc, output, refusal),
+            Stop::Unwritten => 4,
+        },
+    }
+}
+
 /// Does what the words ask for, and gives the program's status.
 ///
 /// As `run_main`, over an input and an output that keep whether a call failed: status 4 comes exactly
@@ -128,9 +186,16 @@ pub fn run_noted<T: Threads + Wait + Sync, S: Source, K: Sink>(
     ensures taken { Takes (map string_bytes words.items) (S.remaining input.old) (S.remaining input.new) }
     ensures unread { ¬ (faults (map string_bytes words.items) ≡ []) → input.new ≡ input.old }
 {
-    match answer(rt, alloc, words.as_slice(), input) {
-        Ok(ending) => write_out(output, ending.text.as_bytes(), ending.status),
-        Err(refusal) => refuse(alloc, output, refusal),
+    let request = match read_words(alloc, words.as_slice()) {
+        Ok(request) => request,
+        Err(error) => return write_answer(alloc, output, answer_to(alloc, error)),
+    };
+    match request {
+        Request::Watch { every } => watch(rt, alloc, every, input, output),
+        _ => {
+            let answered = answer(rt, alloc, request, input);
+            write_answer(alloc, output, answered)
+        }
     }
 }
 
@@ -145,7 +210,8 @@ pub fn run_noted<T: Threads + Wait + Sync, S: Source, K: Sink>(
 /// or `check` would take the input, and else a line that says where and why not, with status 1. With `audit` it is a run
 /// of any length, whose parts are journals, of which no line may have more than 16,777,216 bytes; it is read to its end
 /// or to where something is told, and `legal CALLS MOVES PARTS` is written with status 0, or `illegal PART CALL` with
-/// status 1. Help that is asked for has status 0, and so has the line `asm_driver 0.2.0` where the words ask
+/// status 1; with `--every N` also `so far CALLS MOVES PARTS` after each N calls, before more is read. Help that is asked
+/// for has status 0, and so has the line `asm_driver 0.2.0` where the words ask
 /// for the version.
 ///
 /// Otherwise one line tells why: status 1 for a fired move without a receipt, 2 for words, a size, a script,

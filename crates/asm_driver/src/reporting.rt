@@ -3,7 +3,7 @@ ghost use Rattle.std.specs.Prelude.{◌≡◌, ◌++◌, false, IfOk, OnOk, stri
 ghost use Rattle.serde_json.specs.View.{view};
 ghost use Rattle.serde_json.specs.Written.{has_float, compact_text};
 ghost use Rattle.asm_journal.specs.Element.{location_json_of};
-ghost use Rattle.asm_play.specs.Standard.{standard_part};
+ghost use Rattle.asm_aggregate.specs.Standard.{standard_part};
 ghost use Rattle.asm_driver.specs.Report.{state_lines, outcome_line};
 ghost use Rattle.asm_driver.specs.Report.{agent_lines, moves_line, outcome_lines, reason, report_of};
 

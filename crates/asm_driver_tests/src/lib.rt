@@ -1,7 +1,21 @@
-//! Tests of `asm_driver`, which see its public items alone.
+//! Tests of `asm_driver`, which see its public items alone, of what no case of the program shows.
 #![tactic(auto)]
 
+#[cfg(test)]
+mod failing_outputs;
+#[cfg(test)]
+mod list_plays;
+#[cfg(test)]
+mod ports;
 #[cfg(test)]
 mod refusals;
 #[cfg(test)]
 mod reports;
+#[cfg(test)]
+mod running;
+#[cfg(test)]
+mod threads;
+#[cfg(test)]
+mod watches;
+#[cfg(test)]
+mod words;

@@ -1,6 +1,6 @@
 //! The audit of a run, as the input gives it.
 ghost use Rattle.std.specs.Prelude.{◌≡◌, false, [], IfOk, IfErr, string_bytes};
-ghost use Rattle.asm_play.specs.Standard.{standard_meaning, standard_part};
+ghost use Rattle.asm_aggregate.specs.Standard.{standard_meaning, standard_part};
 ghost use Rattle.asm_audit.specs.Fed.{IsFed};
 ghost use Rattle.asm_driver.specs.Audit.{verdict_line, verdict_status, IsAuditTold, IsAudit, IsNoAudit};
 
@@ -17,7 +17,7 @@ use std::sync::Wait;
 const CHUNK: usize = 4096;
 
 /// The line and the status of a verdict.
-fn verdict_ending(alloc: Global, verdict: Verdict) -> Result<Ending, AllocError>
+pub(crate) fn verdict_ending(alloc: Global, verdict: Verdict) -> Result<Ending, AllocError>
     ensures status { IfOk result (λ e. e.status ≡ verdict_status verdict) }
     ensures text { IfOk result (λ e. string_bytes e.text ≡ verdict_line verdict) }
 {

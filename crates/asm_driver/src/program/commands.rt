@@ -1,7 +1,7 @@
 //! What the commands do with the input.
-ghost use Rattle.std.specs.Prelude.{◌≡◌, ◌≢◌, IfOk, IfErr, string_bytes};
+ghost use Rattle.std.specs.Prelude.{◌≡◌, ◌≢◌, ℕ, false, IfOk, IfErr, string_bytes};
 ghost use Rattle.asm_driver.specs.declared.program.words.Request.TheVariants as requests;
-ghost use Rattle.asm_driver.specs.Commands.{text_of_played, IsNoText, IsRunText, IsNoRun, IsCheck};
+ghost use Rattle.asm_driver.specs.Commands.{text_of_played, IsNoText, IsRunText, IsTermsText, IsNoRun, IsCheck};
 ghost use Rattle.asm_driver.specs.Commands.{IsNoJournal, IsRewrite, IsTraceOf};
 ghost use Rattle.asm_driver.specs.Commands.{legality_line, legality_status, IsDone, IsNotDone};
 
@@ -9,6 +9,7 @@ use crate::program::explained::explained;
 use crate::program::refusal::Refusal;
 use crate::program::words::Request;
 use crate::reporting::report_of_owned;
+use crate::terms::terms_text;
 use asm_journal::{Legality, check, from_text, to_text};
 use asm_play::aggregator::chosen;
 use asm_play::{Open, Played, run_script};
@@ -53,6 +54,24 @@ fn run<T: Threads + Wait + Sync>(
     let script = parse_script(alloc, bytes)?;
     let played = run_script(rt, alloc, &script, capacity, &Open)?;
     played_text(alloc, played, journal)
+}
+
+/// Reads the bytes as a script, and plays it: the report, and behind it where terms had no value, and why.
+fn run_with_terms<T: Threads + Wait + Sync>(
+    rt: &T,
+    alloc: Global,
+    bytes: &[u8],
+    capacity: u32,
+) -> Result<String, Refusal>
+    ensures ok { IfOk result (λ text. IsTermsText bytes.now capacity (string_bytes text)) }
+    ensures err { IfErr result (IsNoRun bytes.now capacity false) }
+{
+    let script = parse_script(alloc, bytes)?;
+    let played = run_script(rt, alloc, &script, capacity, &Open)?;
+    let told = terms_text(alloc, bytes, &script, &played)?;
+    let mut text = report_of_owned(alloc, played)?;
+    text.push_str(told.as_str())?;
+    Ok(text)
 }
 
 /// The line and the status of a check.
@@ -107,7 +126,8 @@ pub(crate) fn carry_out<T: Threads + Wait + Sync>(
     request: Request,
     bytes: &[u8],
 ) -> Result<Ending, Refusal>
-    requires { request ≢ requests.Audit }
+    requires audit { request ≢ requests.Audit }
+    requires watch { (every : ℕ) → request ≢ requests.Watch every }
     ensures ok { IfOk result (λ e. IsDone bytes.now request e.status (string_bytes e.text)) }
     ensures err { IfErr result (IsNotDone bytes.now request) }
 {
@@ -115,6 +135,10 @@ pub(crate) fn carry_out<T: Threads + Wait + Sync>(
         Request::Run { capacity, journal } => Ok(Ending {
             status: 0,
             text: run(rt, alloc, bytes, capacity, journal)?,
+        }),
+        Request::Terms { capacity } => Ok(Ending {
+            status: 0,
+            text: run_with_terms(rt, alloc, bytes, capacity)?,
         }),
         Request::Check => check_journal(alloc, bytes),
         Request::Rewrite => Ok(Ending {
@@ -126,6 +150,7 @@ pub(crate) fn carry_out<T: Threads + Wait + Sync>(
             text: trace(alloc, bytes)?,
         }),
         Request::Audit => unreachable!(),
+        Request::Watch { every: _ } => unreachable!(),
         Request::Explain(kind) => Ok(explained(alloc, kind, bytes)?),
     }
 }

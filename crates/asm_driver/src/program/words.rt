@@ -2,8 +2,10 @@
 ghost use Rattle.std.specs.Prelude.{◌≡◌, false, map, IfOk, IfErr, IfSome, IfNone, string_bytes};
 ghost use Rattle.clap.specs.Words.{FailsBy, app_of, found_of, kind_of, rows_of, rule_of, subcommand_of};
 ghost use Rattle.clap.specs.Words.{subcommand_rows_of};
-ghost use Rattle.asm_driver.specs.Words.{capacity as capacity_rule, journal as journal_rule, kind_rule, with_audit, with_explain, with_journals};
-ghost use Rattle.asm_driver.specs.Words.{program, faults, Asks, AsksKind, AsksRun, AsksFor, IsNoCommand, IsMadeOf, IsRefusal, Answers};
+ghost use Rattle.asm_driver.specs.Words.{capacity as capacity_rule, journal as journal_rule, terms as terms_rule};
+ghost use Rattle.asm_driver.specs.Words.{every as every_rule, kind_rule};
+ghost use Rattle.asm_driver.specs.Words.{with_audit, with_explain, with_journals, program, faults, Asks, AsksKind, AsksRun};
+ghost use Rattle.asm_driver.specs.Words.{AsksAudit, AsksFor, IsNoCommand, IsMadeOf, IsRefusal, Answers};
 
 use asm_row::CAPACITY_LIMIT;
 use clap::error::ErrorKind;
@@ -18,6 +20,8 @@ const DEFAULT_CAPACITY: u32 = 4096;
 pub enum Request {
     /// To play a script with at most so many moves, and to write the report, or the journal.
     Run { capacity: u32, journal: bool },
+    /// To play a script in the same way, and to write the report and, behind it, which terms had no value.
+    Terms { capacity: u32 },
     /// To check a journal.
     Check,
     /// To write a journal again.
@@ -26,6 +30,8 @@ pub enum Request {
     Trace,
     /// To audit a run, whose parts are journals.
     Audit,
+    /// To audit a run, and to write how far that is after each so many calls.
+    Watch { every: u32 },
     /// To write where and why a text of this kind is refused.
     Explain(TextKind),
 }
@@ -75,18 +81,28 @@ fn journal_option<'a>(alloc: Global) -> Arg<'a>
         .help("Writes the journal of the calls in place of the report")
 }
 
+fn terms_option<'a>(alloc: Global) -> Arg<'a>
+    ensures rule { rule_of result ≡ terms_rule }
+    ensures local { result.global ≡ false }
+{
+    Arg::new(alloc, "terms")
+        .long("terms")
+        .action(ArgAction::SetTrue)
+        .help("Writes behind the report where terms had no value, and why")
+}
+
 /// Adds the commands that read a journal.
 fn with_journals<'a>(alloc: Global, command: Command<'a>) -> Result<Command<'a>, AllocError>
     ensures app { IfOk result (λ c. app_of c ≡ with_journals (app_of command.entry)) }
 {
     let check = Command::new(alloc, "check").about(
-        "Checks a journal of at most 16777216 bytes, which is read from standard input, and writes whether it is legal",
+        "Checks a journal of at most 16777216 bytes, which is read from standard input, and writes whether it is legal; audit has no such limit",
     );
     let rewrite = Command::new(alloc, "rewrite").about(
-        "Rewrites a journal of at most 16777216 bytes, which is read from standard input, in version 2, and doesn't check it",
+        "Rewrites a journal of at most 16777216 bytes, which is read from standard input, in version 2, and doesn't check it; audit has no such limit",
     );
     let trace = Command::new(alloc, "trace").about(
-        "Traces a journal of at most 16777216 bytes, which is read from standard input, and writes what each call did",
+        "Traces a journal of at most 16777216 bytes, which is read from standard input, and writes what each call did; audit has no such limit",
     );
     command
         .subcommand(check)?
@@ -94,13 +110,27 @@ fn with_journals<'a>(alloc: Global, command: Command<'a>) -> Result<Command<'a>,
         .subcommand(trace)
 }
 
+fn every_option<'a>(alloc: Global) -> Arg<'a>
+    ensures rule { rule_of result ≡ every_rule }
+    ensures local { result.global ≡ false }
+{
+    Arg::new(alloc, "every")
+        .long("every")
+        .action(ArgAction::Set)
+        .value_parser(value_parser!(u32).range(1..=4_294_967_295))
+        .value_name("N")
+        .help("Writes so far CALLS MOVES PARTS after each N calls, from 1 to 4294967295")
+}
+
 /// Adds the command that audits a run.
 fn with_audit<'a>(alloc: Global, command: Command<'a>) -> Result<Command<'a>, AllocError>
     ensures app { IfOk result (λ c. app_of c ≡ with_audit (app_of command.entry)) }
 {
-    let audit = Command::new(alloc, "audit").about(
-        "Audits a run of any length, whose parts are journals and are read from standard input, and writes whether it is legal",
-    );
+    let audit = Command::new(alloc, "audit")
+        .about(
+            "Audits a run of any length, whose parts are journals and are read from standard input, and writes whether it is legal",
+        )
+        .arg(every_option(alloc))?;
     command.subcommand(audit)
 }
 
@@ -133,7 +163,8 @@ fn program_command<'a>(alloc: Global) -> Result<Command<'a>, AllocError>
     let run = Command::new(alloc, "run")
         .about("Plays a script, which is read from standard input, and writes the report")
         .arg(capacity_option(alloc))?
-        .arg(journal_option(alloc))?;
+        .arg(journal_option(alloc))?
+        .arg(terms_option(alloc))?;
     let named = Command::new(alloc, "asm_driver")
         .about(
             "Plays the steps of an abstract state machine's agents on one storage, checks, rewrites and traces journals, audits runs, and explains why a text is refused",
@@ -158,11 +189,31 @@ fn parse<'a>(alloc: Global, words: &'a [String]) -> Result<ArgMatches<'a>, Error
 fn run_asked(options: &ArgMatches<'_>) -> Request
     ensures { AsksRun (rows_of (found_of options.now)) result }
 {
+    let capacity = options
+        .get_one::<u32>("capacity")
+        .unwrap_or(DEFAULT_CAPACITY);
+    if options.get_flag("journal") {
+        return Request::Run {
+            capacity,
+            journal: true,
+        };
+    }
+    if options.get_flag("terms") {
+        return Request::Terms { capacity };
+    }
     Request::Run {
-        capacity: options
-            .get_one::<u32>("capacity")
-            .unwrap_or(DEFAULT_CAPACITY),
-        journal: options.get_flag("journal"),
+        capacity,
+        journal: false,
+    }
+}
+
+/// What the options of `audit` ask for.
+fn audit_asked(options: &ArgMatches<'_>) -> Request
+    ensures { AsksAudit (rows_of (found_of options.now)) result }
+{
+    match options.get_one::<u32>("every") {
+        Some(every) => Request::Watch { every },
+        None => Request::Audit,
     }
 }
 
@@ -203,7 +254,7 @@ fn asked(matches: &ArgMatches<'_>) -> Option<Request>
         return Some(Request::Trace);
     }
     if name == "audit" {
-        return Some(Request::Audit);
+        return Some(audit_asked(options));
     }
     if name == "explain" {
         Some(Request::Explain(kind_asked(options)?))

@@ -1,19 +1,45 @@
-use Rattle.std.proofs.Common.{string_bytes, subst, inl}
-use Rattle.std.proofs.lemmas.Result.{IfOk-weaker}
-use Rattle.asm_driver.specs.Commands.{IsDone}
+use Rattle.std.proofs.Common.{string_bytes, subst, inl, inr}
+use Rattle.std.proofs.lemmas.Result.{IfOk-weaker, IfErr-weaker}
+use Rattle.asm_driver.specs.Commands.{IsDone, IsNotDone}
+use Rattle.asm_driver.specs.Words.{AsksFor}
 use Rattle.asm_driver.proofs.program.answer.Goals as goal
 
-pub returns-clause-ok : goal.returns-clause-ok
-returns-clause-ok g c =
-    let read = c.in_ok-bytes.ensures in
-    let bytes = c.in_ok-bytes.bytes.items in
-    let request = c.in-Ok.request in
-    IfOk-weaker c.carry_out.result _ _ (λ e is.
+pub returns-in-Audit-clause-ok : goal.returns-in-Audit-clause-ok
+returns-in-Audit-clause-ok g c =
+    IfOk-weaker c.audit_input.result _ _ (λ e is words asks. inr (inl (subst (AsksFor words) c.in-Audit.is asks, is)))
+    c.audit_input.ensures.ok
+
+pub returns-in-Audit-clause-err : goal.returns-in-Audit-clause-err
+returns-in-Audit-clause-err g c =
+    IfErr-weaker c.audit_input.result _ _
+    (λ r is words asks. inr (inr (inr (subst (AsksFor words) c.in-Audit.is asks, is)))) c.audit_input.ensures.err
+
+pub returns-in_ok-bytes-in_default-clause-ok : goal.returns-in_ok-bytes-in_default-clause-ok
+returns-in_ok-bytes-in_default-clause-ok g c =
+    let read = c.in_ok-bytes-in_default.ensures in
+    let bytes = c.in_ok-bytes-in_default.bytes.items in
+    let request = c.args.request in
+    IfOk-weaker c.carry_out.result _ _ (λ e is words asks.
     inl (
       bytes,
       request,
       record { all = read.all; whole = read.noted },
-      c.in-Ok.ensures.asked,
+      asks,
       subst (λ b. IsDone b request e.status (string_bytes e.text)) c.as_slice.ensures.value is,
     ))
     c.carry_out.ensures.ok
+
+pub returns-in_ok-bytes-in_default-clause-err : goal.returns-in_ok-bytes-in_default-clause-err
+returns-in_ok-bytes-in_default-clause-err g c =
+    let read = c.in_ok-bytes-in_default.ensures in
+    let bytes = c.in_ok-bytes-in_default.bytes.items in
+    let request = c.args.request in
+    IfErr-weaker c.carry_out.result _ _ (λ r is words asks.
+    inr (inr (inl (
+      bytes,
+      request,
+      record { all = read.all; whole = read.noted },
+      asks,
+      subst (λ b. IsNotDone b request r) c.as_slice.ensures.value is,
+    ))))
+    c.carry_out.ensures.err

@@ -1,32 +1,64 @@
-use Rattle.std.proofs.Common.{ap, map, string_bytes, subst}
-use Rattle.asm_driver.specs.Run.{Takes}
-use Rattle.asm_driver.proofs.Faulting.{faults_answered, faults_refused}
-use Rattle.asm_driver.proofs.Runs.{answered, refused}
-use Rattle.asm_driver.proofs.Taking.{answered_taken, refused_taken}
+use Rattle.std.proofs.Common.{ap, map, string_bytes, subst, refl}
+use Rattle.asm_driver.specs.Words.{AsksFor}
+use Rattle.asm_driver.proofs.Ending.{told_of_words, asked_answered, run_is, run_of, run_watched}
 use Rattle.asm_driver.proofs.program.run_noted.Goals as goal
 
-pub returns-in-Ok-clause-runs : goal.returns-in-Ok-clause-runs
-returns-in-Ok-clause-runs g c =
-    answered _ _ _ _ _ _ _ _ (ap (map string_bytes) c.as_slice.ensures.value) c.as_bytes.ensures.value
-    c.in-Ok.ensures.ok c.write_out.ensures.writes
+pub returns-in-Err-clause-runs : goal.returns-in-Err-clause-runs
+returns-in-Err-clause-runs g c =
+    (run_of _ _ _ _ _ (ap (map string_bytes) c.as_slice.ensures.value)
+    (run_is _ _ _ _ c.answer_to.result
+    (told_of_words _ _ c.in-Err.error c.answer_to.result c.in-Err.ensures.refused c.answer_to.ensures
+    (record { same = refl {a = g.S.Source.remaining c.args.input.now}; whole = c.requires.input }))
+    c.write_answer.ensures.ok c.write_answer.ensures.err)).runs
 
-pub returns-in-Ok-clause-faults : goal.returns-in-Ok-clause-faults
-returns-in-Ok-clause-faults g c = faults_answered _ _ _ _ _ _ _ c.in-Ok.ensures.ok c.write_out.ensures.writes
+pub returns-in-Err-clause-faults : goal.returns-in-Err-clause-faults
+returns-in-Err-clause-faults g c =
+    (run_of _ _ _ _ _ (ap (map string_bytes) c.as_slice.ensures.value)
+    (run_is _ _ _ _ c.answer_to.result
+    (told_of_words _ _ c.in-Err.error c.answer_to.result c.in-Err.ensures.refused c.answer_to.ensures
+    (record { same = refl {a = g.S.Source.remaining c.args.input.now}; whole = c.requires.input }))
+    c.write_answer.ensures.ok c.write_answer.ensures.err)).faults
 
-pub returns-in-Ok-clause-taken : goal.returns-in-Ok-clause-taken
-returns-in-Ok-clause-taken g c =
-    subst (λ w. Takes w (g.S.Source.remaining c.args.input.now) (g.S.Source.remaining c.answer.new.input))
-    (ap (map string_bytes) c.as_slice.ensures.value) (answered_taken _ _ _ _ c.in-Ok.ensures.ok)
+pub returns-in-Err-clause-taken : goal.returns-in-Err-clause-taken
+returns-in-Err-clause-taken g c =
+    (run_of _ _ _ _ _ (ap (map string_bytes) c.as_slice.ensures.value)
+    (run_is _ _ _ _ c.answer_to.result
+    (told_of_words _ _ c.in-Err.error c.answer_to.result c.in-Err.ensures.refused c.answer_to.ensures
+    (record { same = refl {a = g.S.Source.remaining c.args.input.now}; whole = c.requires.input }))
+    c.write_answer.ensures.ok c.write_answer.ensures.err)).taken
 
-pub returns-clause-taken : goal.returns-clause-taken
-returns-clause-taken g c =
-    subst (λ w. Takes w (g.S.Source.remaining c.args.input.now) (g.S.Source.remaining c.answer.new.input))
-    (ap (map string_bytes) c.as_slice.ensures.value) (refused_taken _ _ c.in-Err.refusal c.in-Err.ensures.err)
+pub returns-in-Watch-clause-runs : goal.returns-in-Watch-clause-runs
+returns-in-Watch-clause-runs g c =
+    (run_of _ _ _ _ _ (ap (map string_bytes) c.as_slice.ensures.value)
+    (run_watched _ _ _ c.in-Watch.every _ (subst (AsksFor _) c.in-Watch.is c.in-Ok.ensures.asked) c.watch.ensures.watches)).runs
+
+pub returns-in-Watch-clause-faults : goal.returns-in-Watch-clause-faults
+returns-in-Watch-clause-faults g c =
+    (run_of _ _ _ _ _ (ap (map string_bytes) c.as_slice.ensures.value)
+    (run_watched _ _ _ c.in-Watch.every _ (subst (AsksFor _) c.in-Watch.is c.in-Ok.ensures.asked) c.watch.ensures.watches)).faults
+
+pub returns-in-Watch-clause-taken : goal.returns-in-Watch-clause-taken
+returns-in-Watch-clause-taken g c =
+    (run_of _ _ _ _ _ (ap (map string_bytes) c.as_slice.ensures.value)
+    (run_watched _ _ _ c.in-Watch.every _ (subst (AsksFor _) c.in-Watch.is c.in-Ok.ensures.asked) c.watch.ensures.watches)).taken
 
 pub returns-clause-runs : goal.returns-clause-runs
 returns-clause-runs g c =
-    refused _ _ _ _ c.in-Err.refusal _ (ap (map string_bytes) c.as_slice.ensures.value) c.in-Err.ensures.err
-    c.refuse.ensures.refuses
+    (run_of _ _ _ _ _ (ap (map string_bytes) c.as_slice.ensures.value)
+    (run_is _ _ _ _ c.answer-answered.result
+    (asked_answered _ _ c.in-Ok.request c.answer-answered.result c.answer-answered.ensures.ok c.answer-answered.ensures.err c.in-Ok.ensures.asked)
+    c.write_answer-in_default.ensures.ok c.write_answer-in_default.ensures.err)).runs
 
 pub returns-clause-faults : goal.returns-clause-faults
-returns-clause-faults g c = faults_refused _ _ _ c.in-Err.refusal _ c.in-Err.ensures.err c.refuse.ensures.refuses
+returns-clause-faults g c =
+    (run_of _ _ _ _ _ (ap (map string_bytes) c.as_slice.ensures.value)
+    (run_is _ _ _ _ c.answer-answered.result
+    (asked_answered _ _ c.in-Ok.request c.answer-answered.result c.answer-answered.ensures.ok c.answer-answered.ensures.err c.in-Ok.ensures.asked)
+    c.write_answer-in_default.ensures.ok c.write_answer-in_default.ensures.err)).faults
+
+pub returns-clause-taken : goal.returns-clause-taken
+returns-clause-taken g c =
+    (run_of _ _ _ _ _ (ap (map string_bytes) c.as_slice.ensures.value)
+    (run_is _ _ _ _ c.answer-answered.result
+    (asked_answered _ _ c.in-Ok.request c.answer-answered.result c.answer-answered.ensures.ok c.answer-answered.ensures.err c.in-Ok.ensures.asked)
+    c.write_answer-in_default.ensures.ok c.write_answer-in_default.ensures.err)).taken

@@ -1,6 +1,6 @@
 use Rattle.std.proofs.Common.{Err, subst}
 use Rattle.asm_audit.specs.Text.{HasLineFeed}
-use Rattle.asm_audit.specs.Audited.{IsAnswer}
+use Rattle.asm_audit.specs.Audited.{IsLineAnswer}
 use Rattle.asm_audit.proofs.Fed.{none_left, some_left, end_told, no_end, open_fault}
 use Rattle.asm_audit.proofs.byte_auditor.ByteAuditor.finish.Goals as goal
 
@@ -9,7 +9,7 @@ returns-clause-told g c =
     let part = (g.A.Aggregator.meaning c.args.self.now.auditor.aggregator).part in
     let old = c.args.self.now in
     let e = c.in-Err.error in
-    let told = subst (λ line. IsAnswer part line old.auditor.progress c.line.new.self.progress (Err e)) c.as_slice.ensures.value c.in-Err.ensures.told in
+    let told = subst (λ line. IsLineAnswer part line old.auditor.progress c.line.new.self.progress (Err e)) c.as_slice.ensures.value c.in-Err.ensures.told in
     λ text fed. open_fault part text old.auditor.progress c.line.new.self.progress old.line.items e
     (some_left old.line.items old.line.len c.is_empty.result old.line.ok.0 c.is_empty.ensures c.if-is_empty.false) told fed
 

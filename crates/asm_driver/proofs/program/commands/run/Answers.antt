@@ -1,25 +1,11 @@
-use Rattle.std.proofs.Common.{◌≡◌, ◌≤◌, ℕ, Bool, List, length, refl}
+use Rattle.std.proofs.Common.{ℕ, Bool, List}
 use Rattle.std.proofs.lemmas.Result.{err_from_is_err_and, IfErr-weaker, IfOk-weaker}
 use Rattle.asm_driver.specs.Commands.{IsPlayed, IsNoText, IsNoRun}
-use Rattle.asm_script.specs.Plan.{Plan}
-use Rattle.asm_play.specs.Play.{IsNoCapacity}
-use Rattle.asm_driver.specs.Refusal.{refusal_of_run}
-use Rattle.asm_script.specs.Script.{IsScriptOf}
 use Rattle.asm_play.specs.declared.outcome.Played.{Played}
-use Rattle.asm_play.specs.declared.outcome.RunError.{RunError}
-use Rattle.asm_play.specs.declared.outcome.RunError.TheVariants.{BadCapacity, NoThread, Missing, Memory}
 use Rattle.asm_driver.specs.declared.program.refusal.Refusal.{Refusal}
 use Rattle.asm_driver.specs.declared.program.refusal.Refusal.TheVariants as refusal
+use Rattle.asm_driver.proofs.NoRuns.{unplayed}
 use Rattle.asm_driver.proofs.program.commands.run.Goals as goal
-
--- a script that isn't played, told as a refusal
-unplayed : (bytes : List ℕ) (capacity : ℕ) (asked : Bool) (e : RunError) (plan : Plan) → IsScriptOf bytes plan →
-    ((e ≡ BadCapacity) → IsNoCapacity capacity) → ((e ≡ NoThread) → 2 ≤ length plan.agents) →
-    IsNoRun bytes capacity asked (refusal_of_run e)
-unplayed bytes capacity asked BadCapacity plan is none several = ((plan, is), none refl)
-unplayed bytes capacity asked NoThread plan is none several = (plan, is, several refl)
-unplayed bytes capacity asked (Missing k) plan is none several = (plan, is)
-unplayed bytes capacity asked Memory plan is none several = tt
 
 -- a play without a text
 untold : (bytes : List ℕ) (capacity : ℕ) (asked : Bool) (p : Played) (r : Refusal) → IsPlayed bytes capacity p →

@@ -2,7 +2,7 @@ use Rattle.std.proofs.Common.{rules, ap, ap₂, codes, true, ◌≡◌, ◌∙�
 use Rattle.std.proofs.lemmas.Result.{IfOk-weaker}
 use Rattle.clap.specs.Simple.{app_of_fields}
 use Rattle.clap.specs.Words.{App, app_of, new_app, with_rule, with_subcommand}
-use Rattle.asm_driver.specs.Words.{capacity, run, with_audit, with_explain, with_journals}
+use Rattle.asm_driver.specs.Words.{capacity, journal, run, with_audit, with_explain, with_journals}
 use Rattle.asm_driver.proofs.program.words.program_command.Goals as goal
 
 abbrev versioned : App → App
@@ -20,8 +20,10 @@ returns c =
     let first_is : app_of c.in_ok-arg.field-0 ≡ with_rule (new_app (codes "run")) capacity =
     c.in_ok-arg.ensures.shape c.capacity_option.ensures.local
     ∙ ap₂ with_rule (ap app_of_fields c.about.ensures ∙ c.new.ensures.app) c.capacity_option.ensures.rule in
+    let second_is : app_of c.in_ok-arg-2.field-0 ≡ with_rule (with_rule (new_app (codes "run")) capacity) journal =
+    c.in_ok-arg-2.ensures.shape c.journal_option.ensures.local ∙ ap₂ with_rule first_is c.journal_option.ensures.rule in
     let run_is : app_of c.in_ok-run.run' ≡ run =
-    c.in_ok-run.ensures.shape c.journal_option.ensures.local ∙ ap₂ with_rule first_is c.journal_option.ensures.rule in
+    c.in_ok-run.ensures.shape c.terms_option.ensures.local ∙ ap₂ with_rule second_is c.terms_option.ensures.rule in
     let versioned_is : app_of c.version.result ≡ versioned (new_app (codes "asm_driver")) =
     ap app_of_fields c.version.ensures ∙ ap versioned (ap app_of_fields c.about-2.ensures ∙ c.new-2.ensures.app) in
     let named_is : app_of c.subcommand_required-named.result ≡ wanted =

@@ -1,14 +1,16 @@
-use Rattle.std.proofs.Common.{rules, ap, ◌≡◌, ◌∙◌}
+use Rattle.std.proofs.Common.{rules, ap, ap₂, codes, ◌≡◌, ◌∙◌}
 use Rattle.std.proofs.lemmas.Result.{IfOk-weaker}
 use Rattle.clap.specs.Simple.{app_of_fields}
-use Rattle.clap.specs.Words.{App, app_of, with_subcommand}
+use Rattle.clap.specs.Words.{App, app_of, new_app, with_rule, with_subcommand}
 use Rattle.asm_driver.specs.Words.{audit}
 use Rattle.asm_driver.proofs.program.words.with_audit.Goals as goal
 
 pub returns : goal.returns
 returns c =
     let before = app_of c.args.command in
-    let audit_is : app_of c.about-audit.result ≡ audit = ap app_of_fields c.about-audit.ensures ∙ c.new.ensures.app in
+    let named : app_of c.about.result ≡ new_app (codes "audit") = ap app_of_fields c.about.ensures ∙ c.new.ensures.app in
+    let audit_is : app_of c.in_ok-audit.audit ≡ audit =
+    c.in_ok-audit.ensures.shape c.every_option.ensures.local ∙ ap₂ with_rule named c.every_option.ensures.rule in
     record {
       app = IfOk-weaker c.subcommand.result _ _
           (λ m h. h.shape (search rules) ∙ ap (λ (a : App). with_subcommand before a.top) audit_is) c.subcommand.ensures;

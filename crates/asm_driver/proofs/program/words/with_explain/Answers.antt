@@ -2,7 +2,7 @@ use Rattle.std.proofs.Common.{rules, ap, ap₂, codes, ◌≡◌, ◌∙◌}
 use Rattle.std.proofs.lemmas.Result.{IfOk-weaker}
 use Rattle.clap.specs.Simple.{app_of_fields}
 use Rattle.clap.specs.Words.{App, app_of, new_app, with_rule, with_subcommand}
-use Rattle.asm_driver.specs.Words.{explain, kind_rule}
+use Rattle.asm_driver.specs.Words.{explain}
 use Rattle.asm_driver.proofs.program.words.with_explain.Goals as goal
 
 pub returns : goal.returns

@@ -1,0 +1,133 @@
+-- How a run ends: by an answer or a refusal, or by what is told of an audit meanwhile and in the end.
+use Rattle.std.proofs.Common.{◌≡◌, ◌↔◌, ℕ, Bool, true, List, ◌++◌, Result, Ok, Err, IfOk, IfErr, string_bytes, refl, sym, subst, inl, inr}
+use Rattle.std.proofs.KnownBytes.{Appends-trans}
+use Rattle.std.specs.Io.KnownBytes.{Appends}
+use Rattle.asm_audit.specs.declared.reading.Verdict.{Verdict}
+use Rattle.asm_driver.specs.Input.{Known}
+use Rattle.asm_driver.specs.Refusal.{refusal_line, refusal_status}
+use Rattle.asm_driver.specs.Run.{Input, Output, output_of, input_of, IsUnread, IsAnswer, IsNoAnswer, IsAnswerTo, Writes, Refuses, TellsVerdict, Watches, Runs, HasFailed, Takes}
+use Rattle.asm_driver.specs.Watch.{IsWatchEnd}
+use Rattle.asm_driver.specs.Words.{Words, AsksFor, IsRefusal}
+use Rattle.asm_driver.specs.declared.program.words.Request.{Request}
+use Rattle.asm_driver.specs.declared.program.commands.Ending.{Ending}
+use Rattle.asm_driver.specs.declared.program.refusal.Refusal.{Refusal}
+use Rattle.asm_driver.specs.declared.program.refusal.Refusal.TheVariants as refusal
+use Rattle.asm_driver.specs.declared.program.watching.Stop.TheVariants.{Refused, Unwritten}
+use Rattle.asm_driver.specs.declared.program.words.WordsError.{WordsError}
+use Rattle.asm_driver.specs.declared.program.words.WordsError.TheVariants.{Help, Version, Bad, Memory}
+use Rattle.asm_driver.specs.declared.program.words.Request.TheVariants.{Watch}
+use Rattle.asm_driver.proofs.Faulting.{faults_answered, faults_refused, faults_watched}
+use Rattle.asm_driver.proofs.Runs.{answered, refused}
+use Rattle.asm_driver.proofs.Taking.{answered_taken, refused_taken, watched_taken}
+use Rattle.asm_driver.proofs.Watching.{some_behind, memory_instead}
+
+-- ---- words that ask for nothing that is done
+
+abbrev pub IsAnswered : Words → Input → Result Ending Refusal → Type 0
+IsAnswered words i (Ok e) = IsAnswer words i e.status (string_bytes e.text)
+IsAnswered words i (Err r) = IsNoAnswer words i r
+
+version_told : (words : Words) (i : Input) (r : Result Ending Refusal) → IsRefusal words Version → IsAnswerTo Version r →
+    IsUnread i → IsAnswered words i r
+version_told words i (Ok e) asks is unread = inr (inr (is.0, inr (asks, is.1), unread))
+version_told words i (Err r) asks is unread = subst (IsNoAnswer words i) (sym is) (inl (tt, unread))
+
+pub told_of_words : (words : Words) (i : Input) (e : WordsError) (r : Result Ending Refusal) → IsRefusal words e →
+    IsAnswerTo e r → IsUnread i → IsAnswered words i r
+told_of_words words i (Help text) r asks is unread =
+    subst (IsAnswered words i) (sym is) (inr (inr (refl, inl asks, unread)))
+told_of_words words i Version r asks is unread = version_told words i r asks is unread
+told_of_words words i Bad r asks is unread = subst (IsAnswered words i) (sym is) (inl (asks, unread))
+told_of_words words i Memory r asks is unread = subst (IsAnswered words i) (sym is) (inl (tt, unread))
+
+pub asked_answered : (words : Words) (i : Input) (q : Request) (r : Result Ending Refusal) →
+    IfOk r (λ e. (w : Words) → AsksFor w q → IsAnswer w i e.status (string_bytes e.text)) →
+    IfErr r (λ x. (w : Words) → AsksFor w q → IsNoAnswer w i x) → AsksFor words q → IsAnswered words i r
+asked_answered words i q (Ok e) ok err asks = ok words asks
+asked_answered words i q (Err r) ok err asks = err words asks
+
+-- ---- what is written of an answer
+
+pub record IsRun (words : Words) (i : Input) (o : Output) (result : ℕ) : Type 0 where
+  pub runs : Runs words i o result
+  pub faults : (result ≡ 4) ↔ HasFailed i o
+  pub taken : Takes words i.had i.left
+
+-- the same words
+pub run_of : (given words : Words) (i : Input) (o : Output) (result : ℕ) → given ≡ words → IsRun given i o result →
+    IsRun words i o result
+run_of given words i o result same run = subst (λ (w : Words). IsRun w i o result) same run
+
+pub run_is : (words : Words) (i : Input) (o : Output) (result : ℕ) (r : Result Ending Refusal) → IsAnswered words i r →
+    IfOk r (λ e. Writes o e.status (string_bytes e.text) result) → IfErr r (λ x. Refuses o x result) →
+    IsRun words i o result
+run_is words i o result (Ok e) is writes refuses = record {
+  runs = answered words words i o e.status (string_bytes e.text) (string_bytes e.text) result refl refl is writes;
+  faults = faults_answered words i o e.status (string_bytes e.text) (string_bytes e.text) result is writes;
+  taken = answered_taken words i e.status (string_bytes e.text) is;
+}
+run_is words i o result (Err r) is writes refuses = record {
+  runs = refused words words i o r result refl is refuses;
+  faults = faults_refused words i o r result is refuses;
+  taken = refused_taken words i r is;
+}
+
+-- ---- what is written of an audit
+
+-- behind what was told meanwhile
+writes_behind : (held mid holds : Known) (failed flushed : Bool) (told text : List ℕ) (status result : ℕ) →
+    Appends held mid told → Writes (output_of mid holds failed flushed) status text result →
+    Writes (output_of held holds failed flushed) status (told ++ text) result
+writes_behind held mid holds failed flushed told text status result before (inl (same, out)) = inl (
+  same,
+  record { all = Appends-trans held mid holds told text before out.all; whole = out.whole; flushed = out.flushed },
+)
+writes_behind held mid holds failed flushed told text status result before (inr (same, cut)) =
+    inr (same, record { some = some_behind held mid holds told text before cut.some; failed = cut.failed })
+
+module _ (every : ℕ) (had left held mid holds : Known) (read failed flushed : Bool) (result : ℕ) where
+  abbrev i : Input
+  i = input_of had left read
+
+  abbrev o : Output
+  o = output_of held holds failed flushed
+
+  pub watched_verdict : (v : Verdict) → IsWatchEnd every had left read held mid (Ok v) →
+      TellsVerdict v (output_of mid holds failed flushed) result → Watches every i o result
+  watched_verdict v (told, before, is) (inl writes) =
+      inl (Ok v, told, _, _, is, (refl, refl), writes_behind held mid holds failed flushed told _ _ result before writes)
+  watched_verdict v (told, before, is) (inr writes) = inl (
+    Err refusal.Memory,
+    told,
+    _,
+    _,
+    memory_instead every had left read v told is,
+    (refusal.Memory, inl refl, refl, refl),
+    writes_behind held mid holds failed flushed told _ _ result before writes,
+  )
+
+  pub watched_refusal : (r : Refusal) → IsWatchEnd every had left read held mid (Err (Refused r)) →
+      Refuses (output_of mid holds failed flushed) r result → Watches every i o result
+  watched_refusal r (told, before, is) (shown, same, writes) = inl (
+    Err r,
+    told,
+    refusal_line shown,
+    refusal_status shown,
+    is,
+    (shown, same, refl, refl),
+    writes_behind held mid holds failed flushed told (refusal_line shown) (refusal_status shown) result before writes,
+  )
+
+pub watched_cut : (every : ℕ) (had left held holds : Known) (read failed flushed : Bool) (result : ℕ) →
+    IsWatchEnd every had left read held holds (Err Unwritten) → failed ≡ true → result ≡ 4 →
+    Watches every (input_of had left read) (output_of held holds failed flushed) result
+watched_cut every had left held holds read failed flushed result (told, some, cut, reads) noted four =
+    inr (told, cut, reads, four, record { some = some; failed = noted })
+
+pub run_watched : (words : Words) (i : Input) (o : Output) (every result : ℕ) → AsksFor words (Watch every) →
+    Watches every i o result → IsRun words i o result
+run_watched words i o every result asks is = record {
+  runs = inr (every, asks, is);
+  faults = faults_watched every i o result is;
+  taken = watched_taken words i o every result asks is;
+}

@@ -1,0 +1,18 @@
+-- Scripts that aren't played, told as refusals.
+use Rattle.std.proofs.Common.{◌≡◌, ◌≤◌, ℕ, Bool, List, length, refl}
+use Rattle.asm_driver.specs.Commands.{IsNoRun}
+use Rattle.asm_driver.specs.Refusal.{refusal_of_run}
+use Rattle.asm_script.specs.Plan.{Plan}
+use Rattle.asm_script.specs.Script.{IsScriptOf}
+use Rattle.asm_row.specs.Limits.{IsNoCapacity}
+use Rattle.asm_play.specs.declared.outcome.RunError.{RunError}
+use Rattle.asm_play.specs.declared.outcome.RunError.TheVariants.{BadCapacity, NoThread, Missing, Memory}
+
+-- a script that isn't played, told as a refusal
+pub unplayed : (bytes : List ℕ) (capacity : ℕ) (asked : Bool) (e : RunError) (plan : Plan) → IsScriptOf bytes plan →
+    ((e ≡ BadCapacity) → IsNoCapacity capacity) → ((e ≡ NoThread) → 2 ≤ length plan.agents) →
+    IsNoRun bytes capacity asked (refusal_of_run e)
+unplayed bytes capacity asked BadCapacity plan is none several = ((plan, is), none refl)
+unplayed bytes capacity asked NoThread plan is none several = (plan, is, several refl)
+unplayed bytes capacity asked (Missing k) plan is none several = (plan, is)
+unplayed bytes capacity asked Memory plan is none several = tt

@@ -1,0 +1,391 @@
+-- What is told while an audit goes on.
+use Rattle.std.proofs.Common.{◌≡◌, ◌≢◌, ◌+◌, ℕ, Bool, true, false, List, [], ◌∷◌, ◌++◌, All, take, length, Result, Ok, Err, refl, sym, ap, subst, ◌∙◌, inl, inr, append-nil, append_assoc}
+use Rattle.std.proofs.KnownBytes.{Consumes-trans, Consumes-nil, Consumes-kept, Appends-nil, Appends-trans}
+use Rattle.std.proofs.lemmas.Grind.{flat_map-append}
+use Rattle.std.proofs.lemmas.List.Elements.{All-nil, All-push}
+use Rattle.std.proofs.Math.Seq.{take-append-add}
+use Rattle.std.specs.Io.KnownBytes.{Keeps, Consumes, Appends, IsAtEnd}
+use Rattle.asm_journal.specs.Reading.{HasNoLineFeed}
+use Rattle.asm_audit.specs.Fed.{IsFed, HasTaken, IsFedAnswer, IsFedEnd}
+use Rattle.asm_audit.specs.SoFar.{HasCounts, HasEnded, AreFedSoFar}
+use Rattle.asm_audit.specs.Text.{ended_lines}
+use Rattle.asm_audit.specs.declared.error.AuditError.{AuditError}
+use Rattle.asm_audit.specs.declared.progress.Counts.{Counts}
+use Rattle.asm_audit.specs.declared.progress.Progress.{Progress}
+use Rattle.asm_audit.specs.declared.progress.Told.{Told}
+use Rattle.asm_audit.specs.declared.progress.Told.TheVariants as tells
+use Rattle.asm_audit.specs.declared.reading.Verdict.{Verdict}
+use Rattle.asm_audit.specs.declared.reading.Verdict.TheVariants.{Legal, Illegal}
+use Rattle.asm_audit.proofs.Ended.{one_ending, plain_lines}
+use Rattle.asm_audit.proofs.Fed.{no_feed_push}
+use Rattle.asm_aggregate.specs.Standard.{standard_part}
+use Rattle.asm_driver.specs.Audit.{IsAuditOf, is_failed_read, refusal_of_audit}
+use Rattle.asm_driver.specs.Input.{Known}
+use Rattle.asm_driver.specs.Output.{AppendsSome}
+use Rattle.asm_driver.specs.Watch.{IsDueText, IsToldOfLines, IsToldOf, IsToldBehind, IsWatchTold, IsWatched, IsStopped, IsWatchAnswer, AddsDue, IsWrittenAnswer, IsWatchEnd}
+use Rattle.asm_driver.specs.declared.program.refusal.Refusal.{Refusal}
+use Rattle.asm_driver.specs.declared.program.refusal.Refusal.TheVariants as refusal
+use Rattle.asm_driver.specs.declared.program.watching.Stop.{Stop}
+use Rattle.asm_driver.specs.declared.program.watching.Stop.TheVariants.{Refused, Unwritten}
+use Rattle.asm_driver.proofs.Auditing.{bad_run, no_read}
+
+-- ---- one more line
+
+-- what is told of lines, with what is told of one more
+told_push : (every : ℕ) (ls : List (List ℕ)) (l taken told first : List ℕ) (w x : Counts) →
+    IsToldOfLines every ls taken told → HasCounts standard_part (taken ++ ended_lines ls) w →
+    HasCounts standard_part ((taken ++ ended_lines ls) ++ (l ++ 10 ∷ [])) x → IsDueText every w x first →
+    IsToldOfLines every (ls ++ l ∷ []) taken (told ++ first)
+told_push every [] l taken told first w x is before after due = (
+  w,
+  x,
+  subst (λ (t : List ℕ). HasCounts standard_part t w) (append-nil taken) before,
+  subst (λ (t : List ℕ). HasCounts standard_part (t ++ (l ++ 10 ∷ [])) x) (append-nil taken) after,
+  (first, [], due, ap (λ t. t ++ first) is ∙ sym (append-nil first), refl),
+)
+told_push every (m ∷ ms) l taken told first w x (v, u, here, there, (one, rest, fits, all, further)) before after due =
+    let moved : taken ++ ended_lines (m ∷ ms) ≡ (taken ++ (m ++ 10 ∷ [])) ++ ended_lines ms =
+    sym (append_assoc taken (m ++ 10 ∷ []) (ended_lines ms)) in (
+      v,
+      u,
+      here,
+      there,
+      (
+        one,
+        rest ++ first,
+        fits,
+        ap (λ t. t ++ first) all ∙ append_assoc one rest first,
+        told_push every ms l (taken ++ (m ++ 10 ∷ [])) rest first w x further
+            (subst (λ (t : List ℕ). HasCounts standard_part t w) moved before)
+            (subst (λ (t : List ℕ). HasCounts standard_part (t ++ (l ++ 10 ∷ [])) x) moved after) due,
+      ),
+    )
+
+-- the ended lines of a text, by their lines
+ended_is : (text ended : List ℕ) (lines : List (List ℕ)) (line : List ℕ) → HasEnded text ended →
+    ended_lines lines ++ line ≡ text → All HasNoLineFeed lines → HasNoLineFeed line → ended ≡ ended_lines lines
+ended_is text ended lines line (other, all, short, open_line) is plain none =
+    let same = one_ending short.0 lines other line (plain_lines short.0 short.2) plain open_line none
+    (ap (λ (t : List ℕ). t ++ other) (sym short.1) ∙ all ∙ sym is) in
+    short.1 ∙ ap ended_lines same.0
+
+lines_and : (ls : List (List ℕ)) (l : List ℕ) → ended_lines (ls ++ l ∷ []) ≡ ended_lines ls ++ (l ++ 10 ∷ [])
+lines_and ls l =
+    flat_map-append (λ (x : List ℕ). x ++ 10 ∷ []) ls (l ∷ []) ∙ ap (λ t. ended_lines ls ++ t) (append-nil (l ++ 10 ∷ []))
+
+module _ (every : ℕ) (text told : List ℕ) (w : IsToldOf every text told) where
+  -- a byte that ends no line
+  pub told_byte : (b : ℕ) → b ≢ 10 → IsToldOf every (text ++ b ∷ []) told
+  told_byte b other = record {
+    lines = w.lines;
+    line = w.line ++ b ∷ [];
+    all = sym (append_assoc (ended_lines w.lines) w.line (b ∷ [])) ∙ ap (λ t. t ++ b ∷ []) w.all;
+    ended = w.ended;
+    open_line = no_feed_push w.line b w.open_line other;
+    of_lines = w.of_lines;
+  }
+
+  abbrev one_more : List (List ℕ)
+  one_more = w.lines ++ w.line ∷ []
+
+  line_ends : ended_lines one_more ++ [] ≡ text ++ 10 ∷ []
+  line_ends =
+      append-nil (ended_lines one_more) ∙ lines_and w.lines w.line
+      ∙ sym (append_assoc (ended_lines w.lines) w.line (10 ∷ [])) ∙ ap (λ t. t ++ 10 ∷ []) w.all
+
+  all_plain : All HasNoLineFeed one_more
+  all_plain = All-push HasNoLineFeed w.lines w.line w.ended w.open_line
+
+  none_open : HasNoLineFeed []
+  none_open = All-nil (λ b. b ≢ 10)
+
+  -- the byte that ends a line, with what is due behind it
+  pub told_line : (p q : Progress) (line left : List ℕ) (x y : Counts) (first : List ℕ) →
+      IsFed standard_part text p line → IsFed standard_part (text ++ 10 ∷ []) q left →
+      AreFedSoFar standard_part p line x → AreFedSoFar standard_part q left y → IsDueText every x y first →
+      IsToldOf every (text ++ 10 ∷ []) (told ++ first)
+  told_line p q line left x y first fed next before after due =
+      let here = before text fed in
+      let there = after (text ++ 10 ∷ []) next in
+      let here_is : here.0 ≡ ended_lines w.lines = ended_is text here.0 w.lines w.line here.1 w.all w.ended w.open_line in
+      let there_is : there.0 ≡ ended_lines w.lines ++ (w.line ++ 10 ∷ []) =
+      ended_is (text ++ 10 ∷ []) there.0 one_more [] there.1 line_ends all_plain none_open ∙ lines_and w.lines w.line in
+      record {
+        lines = one_more;
+        line = [];
+        all = line_ends;
+        ended = all_plain;
+        open_line = none_open;
+        of_lines = told_push every w.lines w.line [] told first x y w.of_lines
+            (subst (λ (t : List ℕ). HasCounts standard_part t x) here_is here.2)
+            (subst (λ (t : List ℕ). HasCounts standard_part t y) there_is there.2) due;
+      }
+
+-- ---- one byte
+
+-- it is told at this byte, which wasn't taken
+pub stopped_here : (every : ℕ) (text told : List ℕ) (b : ℕ) (r : Result Verdict Refusal) → IsToldOf every text told →
+    is_failed_read r ≡ false → ((more : List ℕ) → IsAuditOf (text ++ b ∷ more) r) → IsStopped every text (b ∷ []) told r
+stopped_here every text told b r watched noted ends = record {
+  front = [];
+  next = b;
+  behind = [];
+  all = refl;
+  watched = subst (λ (t : List ℕ). IsToldOf every t told) (sym (append-nil text)) watched;
+  noted = noted;
+  ends = λ more. subst (λ (t : List ℕ). IsAuditOf (t ++ b ∷ more) r) (sym (append-nil text)) (ends more);
+}
+
+module _ (every : ℕ) (text told : List ℕ) (p q : Progress) (line left : List ℕ) (b : ℕ) (w : IsWatched every text p line told)
+  where
+    pub stopped_wrong : (j c : ℕ) → IsFedAnswer standard_part (b ∷ []) p line q left (Ok (tells.Illegal j c)) →
+        IsStopped every text (b ∷ []) told (Ok (Illegal j c))
+    stopped_wrong j c answer =
+        stopped_here every text told b (Ok (Illegal j c)) w.watched refl (λ more. answer text more w.fed)
+
+    pub stopped_fault : (e : AuditError) → IsFedAnswer standard_part (b ∷ []) p line q left (Err e) →
+        IsStopped every text (b ∷ []) told (Err (refusal_of_audit e))
+    stopped_fault e answer =
+        stopped_here every text told b (Err (refusal_of_audit e)) w.watched (no_read e)
+        (λ more. bad_run (text ++ b ∷ more) e (answer text more w.fed))
+
+    -- for the line that is due there is no memory
+    pub stopped_memory : IsStopped every text (b ∷ []) told (Err refusal.Memory)
+    stopped_memory = stopped_here every text told b (Err refusal.Memory) w.watched refl (λ more. tt)
+
+    pub other_byte : (r : Result Told AuditError) → b ≢ 10 → IsFedAnswer standard_part (b ∷ []) p line q left r →
+        IsWatchAnswer every text (b ∷ []) q left told r
+    other_byte (Ok tells.Legal) other answer =
+        record { fed = answer text w.fed; watched = told_byte every text told w.watched b other }
+    other_byte (Ok (tells.Illegal j c)) other answer = stopped_wrong j c answer
+    other_byte (Err e) other answer = stopped_fault e answer
+
+-- a line has ended
+pub line_taken : (every : ℕ) (text before old new : List ℕ) (p q : Progress) (line left : List ℕ) (x y : Counts) →
+    IsWatched every text p line (before ++ old) → HasTaken standard_part (10 ∷ []) p line q left →
+    AreFedSoFar standard_part p line x → AreFedSoFar standard_part q left y → AddsDue every x y old new →
+    IsWatched every (text ++ 10 ∷ []) q left (before ++ new)
+line_taken every text before old new p q line left x y w taken here there (first, due, added) =
+    let fed = taken text w.fed in
+    record {
+      fed = fed;
+      watched = subst (λ (t : List ℕ). IsToldOf every (text ++ 10 ∷ []) t)
+          (append_assoc before old first ∙ ap (λ t. before ++ t) (sym added))
+          (told_line every text (before ++ old) w.watched p q line left x y first w.fed fed here there due);
+    }
+
+-- ---- bytes behind one another
+
+module _ (every : ℕ) (text done bytes rest whole told : List ℕ) (all : done ++ (bytes ++ rest) ≡ whole) where
+  -- where it ends within some bytes, it ends within all
+  pub stopped_more : (r : Result Verdict Refusal) → IsStopped every (text ++ done) bytes told r → IsStopped every text whole told r
+  stopped_more r s =
+      let here : (text ++ done) ++ s.front ≡ text ++ (done ++ s.front) = append_assoc text done s.front in
+      record {
+        front = done ++ s.front;
+        next = s.next;
+        behind = s.behind ++ rest;
+        all = append_assoc done s.front (s.next ∷ (s.behind ++ rest))
+            ∙ ap (λ t. done ++ t) (sym (append_assoc s.front (s.next ∷ s.behind) rest) ∙ ap (λ t. t ++ rest) s.all) ∙ all;
+        watched = subst (λ (t : List ℕ). IsToldOf every t told) here s.watched;
+        noted = s.noted;
+        ends = λ more. subst (λ (t : List ℕ). IsAuditOf (t ++ s.next ∷ more) r) here (s.ends more);
+      }
+
+-- ---- what is written of some bytes
+
+-- what was to be told, where the output failed
+cut_within : (every : ℕ) (text bytes : List ℕ) (q : Progress) (left told : List ℕ) (r : Result Told AuditError) →
+    IsWatchAnswer every text bytes q left told r →
+    (front behind : List ℕ) × (front ++ behind ≡ bytes) × IsToldOf every (text ++ front) told
+cut_within every text bytes q left told (Ok tells.Legal) w = (bytes, [], append-nil bytes, w.watched)
+cut_within every text bytes q left told (Ok (tells.Illegal j c)) s = (s.front, s.next ∷ s.behind, s.all, s.watched)
+cut_within every text bytes q left told (Err e) s = (s.front, s.next ∷ s.behind, s.all, s.watched)
+
+pub written_cut : (every : ℕ) (text bytes before lines : List ℕ) (q : Progress) (left : List ℕ) (held holds : Known)
+    (r : Result Told AuditError) → AppendsSome held holds lines → IsWatchAnswer every text bytes q left (before ++ lines) r →
+    IsWrittenAnswer every text bytes q left before held holds (Err Unwritten)
+written_cut every text bytes before lines q left held holds r some answer =
+    let parts = cut_within every text bytes q left (before ++ lines) r answer in
+    (lines, parts.0, parts.1, some, parts.2, parts.3)
+
+pub written_all : (every : ℕ) (text bytes before lines : List ℕ) (q : Progress) (left : List ℕ) (held holds : Known)
+    (t : Told) → Appends held holds lines → IsWatchAnswer every text bytes q left (before ++ lines) (Ok t) →
+    IsWrittenAnswer every text bytes q left before held holds (Ok t)
+written_all every text bytes before lines q left held holds tells.Legal all answer = (lines, all, answer)
+written_all every text bytes before lines q left held holds (tells.Illegal j c) all answer = (lines, all, answer)
+
+pub no_lines : (every : ℕ) (text before lines : List ℕ) (p : Progress) (line : List ℕ) → lines ≡ [] →
+    IsWatched every text p line before → IsWatched every text p line (before ++ lines)
+no_lines every text before lines p line none w =
+    subst (λ (t : List ℕ). IsWatched every text p line t)
+    (sym (append-nil before) ∙ ap (λ (t : List ℕ). before ++ t) (sym none)) w
+
+-- what goes out behind some text, and is cut off
+pub some_behind : (held mid holds : Known) (told more : List ℕ) → Appends held mid told → AppendsSome mid holds more →
+    AppendsSome held holds (told ++ more)
+some_behind held mid holds told more before (n, some) = (
+  length told + n,
+  subst (λ (t : List ℕ). Appends held holds t) (sym (take-append-add told more n))
+      (Appends-trans held mid holds told (take n more) before some),
+)
+
+-- ---- the whole input
+
+-- these bytes of the input were fed, and what is told of them went out
+pub record IsWatchedTo (every : ℕ) (had left held holds : Known) (p : Progress) (line : List ℕ) : Type 0 where
+  pub bytes : List ℕ
+  pub told : List ℕ
+  pub consumed : Consumes had left bytes
+  pub appended : Appends held holds told
+  pub watched : IsWatched every bytes p line told
+
+pub watched_none : (every : ℕ) (had held : Known) (p : Progress) (line : List ℕ) → IsFed standard_part [] p line →
+    IsWatchedTo every had had held held p line
+watched_none every had held p line fed = record {
+  bytes = [];
+  told = [];
+  consumed = Consumes-nil had;
+  appended = Appends-nil held;
+  watched = record {
+    fed = fed;
+    watched = record {
+      lines = [];
+      line = [];
+      all = refl;
+      ended = All-nil HasNoLineFeed;
+      open_line = All-nil (λ b. b ≢ 10);
+      of_lines = refl;
+    };
+  };
+}
+
+module _ (every : ℕ) (had mid held wrote : Known) (p : Progress) (line : List ℕ)
+    (w : IsWatchedTo every had mid held wrote p line) where
+  -- a read failed
+  pub end_unread : (left : Known) (failed : Bool) → Keeps mid left → failed ≡ true →
+      IsWatchEnd every had left failed held wrote (Err (Refused refusal.InputFault))
+  end_unread left failed kept noted = (
+    w.told,
+    w.appended,
+    record {
+      taken = w.bytes;
+      behind = [];
+      consumed = subst (λ (bs : List ℕ). Consumes had left bs) (sym (append-nil w.bytes))
+          (Consumes-kept had mid left w.bytes w.consumed kept);
+      watched = w.watched.watched;
+      ends = inr refl;
+      noted = noted;
+    },
+  )
+
+  module _ (left : Known) (buffer : List ℕ) (n : ℕ) (failed : Bool) (none : n ≡ 0) (taken : Consumes mid left (take n buffer))
+      (end : IsAtEnd left) (noted : failed ≡ false) where
+    consumed : Consumes had left (w.bytes ++ [])
+    consumed =
+        Consumes-trans had mid left w.bytes [] w.consumed
+        (subst (λ (k : ℕ). Consumes mid left (take k buffer)) none taken)
+
+    -- no byte was left
+    pub end_all : (c : Counts) → IsFedEnd standard_part p line (Ok c) →
+        IsWatchEnd every had left failed held wrote (Ok (Legal c))
+    end_all c is = (
+      w.told,
+      w.appended,
+      record {
+        taken = w.bytes;
+        behind = [];
+        consumed = consumed;
+        watched = w.watched.watched;
+        ends = inl (end, is w.bytes w.watched.fed);
+        noted = noted;
+      },
+    )
+
+    pub end_fault : (e : AuditError) → IsFedEnd standard_part p line (Err e) →
+        IsWatchEnd every had left failed held wrote (Err (Refused (refusal_of_audit e)))
+    end_fault e is = (
+      w.told,
+      w.appended,
+      record {
+        taken = w.bytes;
+        behind = [];
+        consumed = consumed;
+        watched = w.watched.watched;
+        ends = inl (end, bad_run w.bytes e (is w.bytes w.watched.fed));
+        noted = noted ∙ sym (no_read e);
+      },
+    )
+
+  -- a chunk was read
+  module _ (left holds : Known) (q : Progress) (next bytes : List ℕ) (failed : Bool) (taken : Consumes mid left bytes)
+      (noted : failed ≡ false) where
+    all_consumed : Consumes had left (w.bytes ++ bytes)
+    all_consumed = Consumes-trans had mid left w.bytes bytes w.consumed taken
+
+    stopped_to : (told : List ℕ) (r : Result Verdict Refusal) → IsStopped every w.bytes bytes told r →
+        IsWatchTold every had left failed r told
+    stopped_to told r s = record {
+      taken = w.bytes ++ s.front;
+      behind = s.next ∷ s.behind;
+      consumed = subst (λ (bs : List ℕ). Consumes had left bs)
+          (ap (λ t. w.bytes ++ t) (sym s.all) ∙ sym (append_assoc w.bytes s.front (s.next ∷ s.behind))) all_consumed;
+      watched = s.watched;
+      ends = (s.noted, s.ends);
+      noted = noted ∙ sym s.noted;
+    }
+
+    pub chunk_on : IsWrittenAnswer every w.bytes bytes q next w.told wrote holds (Ok tells.Legal) →
+        IsWatchedTo every had left held holds q next
+    chunk_on (more, appended, watched) = record {
+      bytes = w.bytes ++ bytes;
+      told = w.told ++ more;
+      consumed = all_consumed;
+      appended = Appends-trans held wrote holds w.told more w.appended appended;
+      watched = watched;
+    }
+
+    pub chunk_wrong : (j c : ℕ) → IsWrittenAnswer every w.bytes bytes q next w.told wrote holds (Ok (tells.Illegal j c)) →
+        IsWatchEnd every had left failed held holds (Ok (Illegal j c))
+    chunk_wrong j c (more, appended, s) = (
+      w.told ++ more,
+      Appends-trans held wrote holds w.told more w.appended appended,
+      stopped_to (w.told ++ more) (Ok (Illegal j c)) s,
+    )
+
+    pub chunk_stopped : (stop : Stop) → IsWrittenAnswer every w.bytes bytes q next w.told wrote holds (Err stop) →
+        IsWatchEnd every had left failed held holds (Err stop)
+    chunk_stopped (Refused r) (more, appended, s) = (
+      w.told ++ more,
+      Appends-trans held wrote holds w.told more w.appended appended,
+      stopped_to (w.told ++ more) (Err r) s,
+    )
+    chunk_stopped Unwritten (more, front, behind, some, all, watched) = (
+      w.told ++ more,
+      some_behind held wrote holds w.told more w.appended some,
+      record {
+        taken = w.bytes ++ front;
+        behind = behind;
+        consumed = subst (λ (bs : List ℕ). Consumes had left bs)
+            (ap (λ t. w.bytes ++ t) (sym all) ∙ sym (append_assoc w.bytes front behind)) all_consumed;
+        watched = watched;
+      },
+      noted,
+    )
+
+-- for the line of a verdict there is no memory
+pub memory_instead : (every : ℕ) (had left : Known) (failed : Bool) (v : Verdict) (told : List ℕ) →
+    IsWatchTold every had left failed (Ok v) told → IsWatchTold every had left failed (Err refusal.Memory) told
+memory_instead every had left failed v told w = record {
+  taken = w.taken;
+  behind = w.behind;
+  consumed = w.consumed;
+  watched = w.watched;
+  ends = by_behind w.behind w.ends;
+  noted = w.noted;
+} where
+  by_behind : (behind : List ℕ) → IsToldBehind left w.taken behind (Ok v) →
+      IsToldBehind left w.taken behind (Err refusal.Memory)
+  by_behind [] (inl is) = inl (is.0, tt)
+  by_behind [] (inr e) = absurd (cc (e))
+  by_behind (b ∷ bs) is = (refl, λ more. tt)

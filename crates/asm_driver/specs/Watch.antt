@@ -1,0 +1,131 @@
+-- What the program tells while it audits a run.
+use Rattle.std.specs.Prelude.{◌≡◌, ◌<◌, ◌%◌, ◌⊎◌, ℕ, Bool, true, false, List, [], ◌∷◌, ◌++◌, All, codes, Result, Ok, Err}
+use Rattle.std.specs.Fmt.{decimal}
+use Rattle.std.specs.Io.KnownBytes.{Consumes, IsAtEnd, Appends}
+use Rattle.asm_aggregate.specs.Standard.{standard_part}
+use Rattle.asm_audit.specs.Fed.{IsFed}
+use Rattle.asm_audit.specs.SoFar.{HasCounts}
+use Rattle.asm_audit.specs.Text.{ended_lines}
+use Rattle.asm_journal.specs.Reading.{HasNoLineFeed}
+use Rattle.asm_audit.specs.declared.error.AuditError.{AuditError}
+use Rattle.asm_audit.specs.declared.progress.Counts.{Counts}
+use Rattle.asm_audit.specs.declared.progress.Progress.{Progress}
+use Rattle.asm_audit.specs.declared.progress.Told.{Told}
+use Rattle.asm_audit.specs.declared.progress.Told.TheVariants as tells
+use Rattle.asm_audit.specs.declared.reading.Verdict.{Verdict}
+use Rattle.asm_audit.specs.declared.reading.Verdict.TheVariants.{Illegal}
+use Rattle.asm_driver.specs.Audit.{IsAuditOf, is_failed_read, refusal_of_audit}
+use Rattle.asm_driver.specs.Input.{Known}
+use Rattle.asm_driver.specs.Output.{AppendsSome}
+use Rattle.asm_driver.specs.Report.{line as with_feed}
+use Rattle.asm_driver.specs.declared.program.refusal.Refusal.{Refusal}
+use Rattle.asm_driver.specs.declared.program.refusal.Refusal.TheVariants as refusal
+use Rattle.asm_driver.specs.declared.program.watching.Stop.{Stop}
+use Rattle.asm_driver.specs.declared.program.watching.Stop.TheVariants.{Refused, Unwritten}
+
+-- so far CALLS MOVES PARTS
+abbrev pub so_far_line : Counts → List ℕ
+so_far_line w =
+    with_feed (codes "so far " ++ decimal w.calls ++ codes " " ++ decimal w.moves ++ codes " " ++ decimal w.parts)
+
+-- there is a call more than before, and the number divides how many there are
+abbrev pub IsDue : ℕ → ℕ → ℕ → Type 0
+IsDue every before calls = (0 < every) × (before < calls) × (calls % every ≡ 0)
+
+-- what is told behind a line of the run, which led from the first numbers to the second: these, where it is due
+abbrev pub IsDueText : ℕ → Counts → Counts → List ℕ → Type 0
+IsDueText every w x text =
+    (IsDue every w.calls x.calls × (text ≡ so_far_line x)) ⊎ (¬ IsDue every w.calls x.calls × (text ≡ []))
+
+-- what is told of these lines of the run in turn, behind those that were taken
+abbrev pub IsToldOfLines : ℕ → List (List ℕ) → List ℕ → List ℕ → Type 0
+IsToldOfLines every [] taken told = told ≡ []
+IsToldOfLines every (l ∷ ls) taken told =
+    (w x : Counts) × HasCounts standard_part taken w × HasCounts standard_part (taken ++ (l ++ 10 ∷ [])) x
+    × ((first rest : List ℕ) × IsDueText every w x first × (told ≡ first ++ rest)
+    × IsToldOfLines every ls (taken ++ (l ++ 10 ∷ [])) rest)
+
+-- what is told while these bytes of a run are taken: of each line that ends in them
+pub record IsToldOf (every : ℕ) (taken told : List ℕ) : Type 0 where
+  pub lines : List (List ℕ)
+  pub line : List ℕ
+  pub all : ended_lines lines ++ line ≡ taken
+  pub ended : All HasNoLineFeed lines
+  pub open_line : HasNoLineFeed line
+  pub of_lines : IsToldOfLines every lines [] told
+
+-- how the audit ends behind the bytes that were taken: there is no further one, or a read failed, or it tells so at the
+-- next one, whatever stands behind that
+abbrev pub IsToldBehind : Known → List ℕ → List ℕ → Result Verdict Refusal → Type 0
+IsToldBehind left taken [] r = (IsAtEnd left × IsAuditOf taken r) ⊎ (r ≡ Err refusal.InputFault)
+IsToldBehind left taken (b ∷ bs) r = (is_failed_read r ≡ false) × ((more : List ℕ) → IsAuditOf (taken ++ b ∷ more) r)
+
+-- an audit of the input, with what is told meanwhile: some bytes of it were read, and the first of these were taken
+pub record IsWatchTold (every : ℕ) (had left : Known) (failed : Bool) (r : Result Verdict Refusal) (told : List ℕ) : Type 0
+  where
+    pub taken : List ℕ
+    pub behind : List ℕ
+    pub consumed : Consumes had left (taken ++ behind)
+    pub watched : IsToldOf every taken told
+    pub ends : IsToldBehind left taken behind r
+    pub noted : failed ≡ is_failed_read r
+
+-- an audit that ends within, with what was to be told up to there
+pub record IsWatchCut (every : ℕ) (had left : Known) (told : List ℕ) : Type 0 where
+  pub taken : List ℕ
+  pub behind : List ℕ
+  pub consumed : Consumes had left (taken ++ behind)
+  pub watched : IsToldOf every taken told
+
+-- ---- on the way
+
+-- these bytes were fed, and this was told meanwhile
+pub record IsWatched (every : ℕ) (text : List ℕ) (p : Progress) (line told : List ℕ) : Type 0 where
+  pub fed : IsFed standard_part text p line
+  pub watched : IsToldOf every text told
+
+-- of the bytes behind a text the first were taken, this was told, and the audit ends so at the next one
+pub record IsStopped (every : ℕ) (text bytes told : List ℕ) (r : Result Verdict Refusal) : Type 0 where
+  pub front : List ℕ
+  pub next : ℕ
+  pub behind : List ℕ
+  pub all : front ++ next ∷ behind ≡ bytes
+  pub watched : IsToldOf every (text ++ front) told
+  pub noted : is_failed_read r ≡ false
+  pub ends : (more : List ℕ) → IsAuditOf ((text ++ front) ++ next ∷ more) r
+
+-- what an audit has come to behind further bytes
+abbrev pub IsWatchAnswer : ℕ → List ℕ → List ℕ → Progress → List ℕ → List ℕ → Result Told AuditError → Type 0
+IsWatchAnswer every text bytes q left told (Ok tells.Legal) = IsWatched every (text ++ bytes) q left told
+IsWatchAnswer every text bytes q left told (Ok (tells.Illegal j c)) = IsStopped every text bytes told (Ok (Illegal j c))
+IsWatchAnswer every text bytes q left told (Err e) = IsStopped every text bytes told (Err (refusal_of_audit e))
+
+-- the bytes are those before with the text that is due
+abbrev pub AddsDue : ℕ → Counts → Counts → List ℕ → List ℕ → Type 0
+AddsDue every w x old new = (text : List ℕ) × IsDueText every w x text × (new ≡ old ++ text)
+
+-- whether a call of the output failed
+abbrev pub is_unwritten : {T : Type 0} → Result T Stop → Bool
+is_unwritten (Err Unwritten) = true
+is_unwritten _ = false
+
+-- of what is told, this stands before; a part of it was cut off where the output failed
+abbrev pub IsWrittenAnswer : ℕ → List ℕ → List ℕ → Progress → List ℕ → List ℕ → Known → Known → Result Told Stop → Type 0
+IsWrittenAnswer every text bytes q left before held holds (Ok tells.Legal) =
+    (more : List ℕ) × Appends held holds more × IsWatched every (text ++ bytes) q left (before ++ more)
+IsWrittenAnswer every text bytes q left before held holds (Ok (tells.Illegal j c)) =
+    (more : List ℕ) × Appends held holds more × IsStopped every text bytes (before ++ more) (Ok (Illegal j c))
+IsWrittenAnswer every text bytes q left before held holds (Err (Refused r)) =
+    (more : List ℕ) × Appends held holds more × IsStopped every text bytes (before ++ more) (Err r)
+IsWrittenAnswer every text bytes q left before held holds (Err Unwritten) =
+    (more front behind : List ℕ) × AppendsSome held holds more × (front ++ behind ≡ bytes)
+    × IsToldOf every (text ++ front) (before ++ more)
+
+-- how a watched audit of the input ends, with what went out meanwhile
+abbrev pub IsWatchEnd : ℕ → Known → Known → Bool → Known → Known → Result Verdict Stop → Type 0
+IsWatchEnd every had left failed held holds (Ok v) =
+    (told : List ℕ) × Appends held holds told × IsWatchTold every had left failed (Ok v) told
+IsWatchEnd every had left failed held holds (Err (Refused r)) =
+    (told : List ℕ) × Appends held holds told × IsWatchTold every had left failed (Err r) told
+IsWatchEnd every had left failed held holds (Err Unwritten) =
+    (told : List ℕ) × AppendsSome held holds told × IsWatchCut every had left told × (failed ≡ false)

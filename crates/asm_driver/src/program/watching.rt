@@ -1,0 +1,251 @@
+//! The audit of a run that tells how far it is.
+ghost use Rattle.std.specs.Prelude.{◌≡◌, ◌↔◌, ◌∷◌, ◌++◌, false, [], List, ℕ, IfOk, IsTrue, OnOk, OnErr, is_err, string_bytes};
+ghost use Rattle.asm_aggregate.specs.Standard.{standard_meaning, standard_part};
+ghost use Rattle.asm_audit.specs.Fed.{IsFed};
+ghost use Rattle.std.specs.Io.KnownBytes.{Appends};
+ghost use Rattle.asm_driver.specs.Audit.{refusal_of_audit};
+ghost use Rattle.asm_driver.specs.Output.{AppendsSome};
+ghost use Rattle.asm_driver.specs.Watch.{so_far_line as line_of_counts, IsDue, AddsDue, IsWatched, IsWatchAnswer};
+ghost use Rattle.asm_driver.specs.Watch.{is_unwritten, IsWrittenAnswer, IsWatchEnd};
+ghost use Rattle.asm_driver.specs.declared.program.watching.Stop.TheVariants as stops;
+
+use crate::ports::PortFailed;
+use crate::ports::output::write_whole;
+use crate::ports::sink::Sink;
+use crate::ports::source::Source;
+use crate::program::refusal::Refusal;
+use asm_audit::{AuditError, ByteAuditor, Counts, Told, Verdict};
+use asm_play::aggregator::chosen;
+use asm_update::Aggregator;
+use std::alloc::{AllocError, Global};
+use std::sync::Wait;
+
+// How many bytes are asked for at once.
+const CHUNK: usize = 4096;
+
+/// Why a watched audit has no verdict.
+#[derive(Clone, Copy, Debug, PartialEq, Eq)]
+pub enum Stop {
+    /// What is refused.
+    Refused(Refusal),
+    /// A call of the output failed.
+    Unwritten,
+}
+
+impl From<PortFailed> for Stop {
+    ghost from_gives = { λ _ s. s ≡ stops.Unwritten };
+
+    fn from(_failed: PortFailed) -> Stop {
+        Stop::Unwritten
+    }
+}
+
+impl From<AuditError> for Stop {
+    ghost from_gives = { λ e s. s ≡ stops.Refused (refusal_of_audit e) };
+
+    fn from(error: AuditError) -> Stop {
+        Stop::Refused(Refusal::from(error))
+    }
+}
+
+/// The line that tells how far an audit is.
+fn so_far_line(alloc: Global, counts: Counts) -> Result<String, AllocError>
+    ensures { IfOk result (λ text. string_bytes text ≡ line_of_counts counts) }
+{
+    let Counts {
+        calls,
+        moves,
+        parts,
+    } = counts;
+    Ok(format!(in alloc; "so far {calls} {moves} {parts}\n")?)
+}
+
+/// Whether a line is to be told: there is a call more than before, and the number divides how many there are.
+fn is_due(every: u32, before: u64, calls: u64) -> bool
+    ensures { IsTrue result ↔ IsDue every before calls }
+{
+    0 < every && before < calls && calls % u64::from(every) == 0
+}
+
+/// Adds the line that is due, if one is.
+fn add_due(
+    alloc: Global,
+    every: u32,
+    before: Counts,
+    counts: Counts,
+    lines: &mut String,
+) -> Result<(), AllocError>
+    ensures ok { OnOk result (AddsDue every before counts (string_bytes lines.old) (string_bytes lines.new)) }
+    ensures err { OnErr result (string_bytes lines.new ≡ string_bytes lines.old) }
+{
+    if !is_due(every, before.calls, counts.calls) {
+        return Ok(());
+    }
+    let line = so_far_line(alloc, counts)?;
+    lines.push_str(line.as_str())
+}
+
+/// Takes the line feed that ends a line, and adds the line that is due behind it.
+fn take_line_feed<A: Aggregator + Drop>(
+    alloc: Global,
+    every: u32,
+    auditor: &mut ByteAuditor<A>,
+    lines: &mut String,
+) -> Result<Told, AuditError>
+    requires { A.meaning auditor.old.auditor.aggregator ≡ standard_meaning }
+    ensures aggregator { auditor.new.auditor.aggregator ≡ auditor.old.auditor.aggregator }
+    ensures told { (text before : List ℕ)
+        → IsWatched every text auditor.old.auditor.progress auditor.old.line.items (before ++ string_bytes lines.old)
+        → IsWatchAnswer every text (10 ∷ []) auditor.new.auditor.progress auditor.new.line.items
+        (before ++ string_bytes lines.new) result }
+{
+    let before = auditor.counts();
+    match auditor.feed(alloc, b"\n")? {
+        Told::Legal => {}
+        Told::Illegal { part, call } => return Ok(Told::Illegal { part, call }),
+    }
+    add_due(alloc, every, before, auditor.counts(), lines)?;
+    Ok(Told::Legal)
+}
+
+/// Takes one byte, and adds the line that is due behind it.
+fn take_byte<A: Aggregator + Drop>(
+    alloc: Global,
+    every: u32,
+    auditor: &mut ByteAuditor<A>,
+    byte: u8,
+    lines: &mut String,
+) -> Result<Told, AuditError>
+    requires { A.meaning auditor.old.auditor.aggregator ≡ standard_meaning }
+    ensures aggregator { auditor.new.auditor.aggregator ≡ auditor.old.auditor.aggregator }
+    ensures told { (text before : List ℕ)
+        → IsWatched every text auditor.old.auditor.progress auditor.old.line.items (before ++ string_bytes lines.old)
+        → IsWatchAnswer every text (byte ∷ []) auditor.new.auditor.progress auditor.new.line.items
+        (before ++ string_bytes lines.new) result }
+{
+    if byte == b'\n' {
+        return take_line_feed(alloc, every, auditor, lines);
+    }
+    auditor.feed(alloc, &[byte])
+}
+
+/// Takes the bytes, and adds the lines that are due meanwhile.
+fn take_bytes<A: Aggregator + Drop>(
+    alloc: Global,
+    every: u32,
+    auditor: &mut ByteAuditor<A>,
+    bytes: &[u8],
+    lines: &mut String,
+) -> Result<Told, AuditError>
+    requires { A.meaning auditor.old.auditor.aggregator ≡ standard_meaning }
+    ensures aggregator { auditor.new.auditor.aggregator ≡ auditor.old.auditor.aggregator }
+    ensures told { (text before : List ℕ)
+        → IsWatched every text auditor.old.auditor.progress auditor.old.line.items (before ++ string_bytes lines.old)
+        → IsWatchAnswer every text bytes.now auditor.new.auditor.progress auditor.new.line.items
+        (before ++ string_bytes lines.new) result }
+{
+    for byte in bytes {
+        match take_byte(alloc, every, auditor, *byte, lines)? {
+            Told::Legal => {}
+            Told::Illegal { part, call } => return Ok(Told::Illegal { part, call }),
+        }
+    }
+    Ok(Told::Legal)
+}
+
+/// Writes the lines and flushes them, if there are any.
+fn write_lines<K: Sink>(output: &mut K, lines: &str) -> Result<(), PortFailed>
+    requires { K.failed output.old ≡ false }
+    ensures same_reference { K.lender output.new ≡ K.lender output.old }
+    ensures ok { OnOk result (Appends (K.contents output.old) (K.contents output.new) lines.now) }
+    ensures err { OnErr result (AppendsSome (K.contents output.old) (K.contents output.new) lines.now) }
+    ensures noted { K.failed output.new ≡ is_err result }
+{
+    if lines.is_empty() {
+        return Ok(());
+    }
+    write_whole(output, lines.as_bytes())
+}
+
+/// Takes the bytes, and writes the lines that are due meanwhile.
+fn watch_bytes<A: Aggregator + Drop, K: Sink>(
+    alloc: Global,
+    every: u32,
+    auditor: &mut ByteAuditor<A>,
+    bytes: &[u8],
+    output: &mut K,
+) -> Result<Told, Stop>
+    requires meaning { A.meaning auditor.old.auditor.aggregator ≡ standard_meaning }
+    requires output { K.failed output.old ≡ false }
+    ensures aggregator { auditor.new.auditor.aggregator ≡ auditor.old.auditor.aggregator }
+    ensures same_reference { K.lender output.new ≡ K.lender output.old }
+    ensures told { (text before : List ℕ)
+        → IsWatched every text auditor.old.auditor.progress auditor.old.line.items before
+        → IsWrittenAnswer every text bytes.now auditor.new.auditor.progress auditor.new.line.items before
+        (K.contents output.old) (K.contents output.new) result }
+    ensures noted { K.failed output.new ≡ is_unwritten result }
+{
+    let mut lines = String::new(alloc);
+    let told = take_bytes(alloc, every, auditor, bytes, &mut lines);
+    write_lines(output, lines.as_str())?;
+    Ok(told?)
+}
+
+/// Feeds the input to the auditor, up to its end or to where something is told, and writes the lines that are due. No call
+/// is tried again.
+fn watch_all<T: Wait, A: Aggregator + Drop, S: Source, K: Sink>(
+    rt: &T,
+    alloc: Global,
+    every: u32,
+    auditor: &mut ByteAuditor<A>,
+    input: &mut S,
+    output: &mut K,
+) -> Result<Verdict, Stop>
+    requires unread { S.failed input.old ≡ false }
+    requires unwritten { K.failed output.old ≡ false }
+    requires meaning { A.meaning auditor.old.auditor.aggregator ≡ standard_meaning }
+    requires fed { IsFed standard_part [] auditor.old.auditor.progress auditor.old.line.items }
+    ensures same_input { S.lender input.new ≡ S.lender input.old }
+    ensures same_output { K.lender output.new ≡ K.lender output.old }
+    ensures told { IsWatchEnd every (S.remaining input.old) (S.remaining input.new) (S.failed input.new)
+        (K.contents output.old) (K.contents output.new) result }
+    ensures noted { K.failed output.new ≡ is_unwritten result }
+{
+    let mut buffer = [0u8; CHUNK];
+    'chunks: for _ in rt.forever() {
+        let count = match input.read(&mut buffer) {
+            Ok(count) => count,
+            Err(_) => return Err(Stop::Refused(Refusal::InputFault)),
+        };
+        if count == 0 {
+            return Ok(Verdict::Legal(auditor.finish(alloc)?));
+        }
+        match watch_bytes(alloc, every, auditor, &buffer[..count], output)? {
+            Told::Legal => {}
+            Told::Illegal { part, call } => return Ok(Verdict::Illegal { part, call }),
+        }
+    }
+    unreachable!()
+}
+
+/// Audits the run that the input gives, up to its end or to where something is told, and writes how far that is after each
+/// so many calls.
+pub(crate) fn watched<T: Wait, S: Source, K: Sink>(
+    rt: &T,
+    alloc: Global,
+    every: u32,
+    input: &mut S,
+    output: &mut K,
+) -> Result<Verdict, Stop>
+    requires unread { S.failed input.old ≡ false }
+    requires unwritten { K.failed output.old ≡ false }
+    ensures same_input { S.lender input.new ≡ S.lender input.old }
+    ensures same_output { K.lender output.new ≡ K.lender output.old }
+    ensures told { IsWatchEnd every (S.remaining input.old) (S.remaining input.new) (S.failed input.new)
+        (K.contents output.old) (K.contents output.new) result }
+    ensures noted { K.failed output.new ≡ is_unwritten result }
+{
+    let mut auditor = ByteAuditor::new(alloc, chosen());
+    let verdict = watch_all(rt, alloc, every, &mut auditor, input, output);
+    verdict
+}
