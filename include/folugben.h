@@ -53,7 +53,8 @@
  *    So does asm_commit. Any other code of these three means that no receipt was added; the agent
  *    may have seen more moves. No other call adds one.
  *  - After asm_follow, asm_stands and asm_begin the agent may have seen more moves, with ASM_MEMORY
- *    too. After any other call, each code but ASM_DONE means that the slots are as they were.
+ *    too. asm_audit takes bytes with each code but ASM_TAKEN. After any other call, each code but
+ *    ASM_DONE means that the slots are as they were.
  *  - A number that a call writes is 0 unless its code is said to set it. `*written` is set with
  *    ASM_DONE and with each code that is said to come with a text, to the length of the text, and
  *    with ASM_SMALL.
@@ -143,9 +144,10 @@ enum asm_code {
     ASM_SMALL = 7,     /* the buffer is too small, and `*written` is the room that is needed */
     ASM_BUSY = 8,      /* 64 offers were lost to other agents; nothing was fired */
     ASM_MANY = 9,      /* more than 256 locations; or a move of more than 4,096 instructions */
-    ASM_NONE = 10,     /* no call was answered yet; no journal since an agent was given back; or no
-                          move is pushed */
-    ASM_TAKEN = 11,    /* a slot that was to be filled is full */
+    ASM_NONE = 10,     /* no call was answered yet; no journal since an agent was given back; no move
+                          is pushed; no agent with the number was given back; no part has begun; or
+                          the storage isn't full */
+    ASM_TAKEN = 11,    /* a slot that was to be filled holds something else */
     ASM_NUMBER = 12,   /* an agent of the storage with this number was made before */
     ASM_MISSING = 13,  /* a move has no receipt among the agents that were given back */
     ASM_OTHER = 14,    /* the two slots are of two storages */
@@ -154,10 +156,11 @@ enum asm_code {
     ASM_SHAPE = 17,    /* they are JSON of another shape, or beyond a limit */
     ASM_VERSION = 18,  /* a journal of another version than 1 and 2 */
     ASM_CUT = 19,      /* the journal ends too early */
-    ASM_LARGE = 20,    /* more calls than the 4,294,967,295 that a journal holds; or too large an
-                          amount or sum */
+    ASM_LARGE = 20,    /* more calls than the 4,294,967,295 that a journal holds; too long a line; or
+                          too large an amount or sum */
     ASM_MOVED = 21,    /* the agent's own state doesn't stand at the number of the step */
-    ASM_DEEP = 22      /* 64 moves are pushed already */
+    ASM_DEEP = 22,     /* 64 moves are pushed already */
+    ASM_APART = 23     /* a part of a run opens with another state than the one before it leaves */
 };
 
 /* Writes what a code means, in a line of English. ASM_SMALL. */
@@ -166,8 +169,8 @@ FOLUGBEN_NODISCARD int32_t asm_error_text(int32_t code, uint8_t *out, size_t roo
 /* The version of the library. */
 uint32_t asm_version(void);
 
-/* Room for a storage, an agent, a step, a location or a move. Zeros hold nothing. `full` may be read
- * between calls; write neither. */
+/* Room for a storage, an agent, a step, a location, a move or an audit. Zeros hold nothing. `full` may
+ * be read between calls; write neither. */
 typedef struct asm_slot {
     bool full;
     void *at;
@@ -400,6 +403,13 @@ FOLUGBEN_NODISCARD int32_t asm_moves(asm_slot *storage, uint32_t *moves);
  * agents have the same number. */
 FOLUGBEN_NODISCARD int32_t asm_give(asm_slot *storage, asm_slot *agent);
 
+/* Takes an agent that was given back out of its storage again, in an empty slot: it goes on where it
+ * was, with its number and its receipts. So agents that leave and come again need no further numbers.
+ * The journal of an earlier asm_close is discarded. ASM_TAKEN (`agent` is full), ASM_EMPTY
+ * (`storage`), ASM_NONE (no agent with this number was given back), ASM_MEMORY; the first of these that
+ * holds is answered. */
+FOLUGBEN_NODISCARD int32_t asm_take(asm_slot *storage, uint32_t number, asm_slot *agent);
+
 /* Makes the journal of the agents that were given back, if they have a receipt of every move that
  * was fired before this call. ASM_MISSING: the move `*number`, the least such, has none among
  * them; give back the agent that fired it, and close again. The moves of an agent that was freed
@@ -419,6 +429,15 @@ FOLUGBEN_NODISCARD int32_t asm_journal(asm_slot *storage, uint8_t *out, size_t r
  * ASM_MEMORY. */
 FOLUGBEN_NODISCARD int32_t asm_next(asm_slot *storage, uint32_t capacity, asm_slot *next);
 
+/* Opens a storage for 1 to 1,048,576 moves, in an empty slot, with the agent's own state, where that
+ * stands at all moves that its storage has room for: that storage is full, and the agent has looked
+ * on to the end (asm_follow, asm_begin). No journal is needed, and no other agent waits: each may
+ * read on, be given back and be closed into the first storage's journal later. The journals of both,
+ * one after the other, tell one run. Numbers begin at 0, as after asm_next. ASM_TAKEN (`next`),
+ * ASM_EMPTY (`agent`), ASM_NONE (the agent's own state stands at fewer moves), ASM_RANGE (the
+ * capacity), ASM_MEMORY; the first of these that holds is answered. */
+FOLUGBEN_NODISCARD int32_t asm_go_on(asm_slot *agent, uint32_t capacity, asm_slot *next);
+
 /* Releases what the slot holds, if anything, and leaves it empty. The memory of a storage is
  * freed with the last slot that holds it or an agent of it. */
 void asm_free(asm_slot *slot);
@@ -429,6 +448,40 @@ void asm_free(asm_slot *slot);
  * `*calls` is the number of the line, from 1 up. ASM_VERSION, ASM_CUT, ASM_MEMORY. */
 FOLUGBEN_NODISCARD int32_t asm_check(const uint8_t *journal, size_t len, uint64_t *calls,
     uint32_t *moves);
+
+/* AN AUDIT checks a run of any length as its bytes come: parts, each a whole journal, one behind the
+ * other, each of which opens with the state that the one before it leaves. It holds that state and the
+ * line that hasn't ended. asm_free abandons it. */
+
+/* The numbers of an audit; what a code isn't said to set is 0. */
+typedef struct asm_audit_numbers {
+    uint64_t parts; /* how many parts are whole; of a part that is at fault its number, from 0 */
+    uint64_t calls; /* how many calls were judged, of all parts; with ASM_ILLEGAL the number of the
+                       call in its part, from 0; with ASM_NOT_JSON and ASM_SHAPE the number of the
+                       line in it, from 1 */
+    uint64_t moves; /* how many moves were fired, of all parts */
+} asm_audit_numbers;
+
+/* Takes the next bytes, any number of them, into a slot that holds an audit or is empty: then one
+ * begins. `*taken` is how many of them were taken. ASM_DONE: all were, and each answer in the lines
+ * that have ended is right, with the numbers so far. With any other code those before the one at which
+ * it comes were taken; what is told of a line comes at its line feed. ASM_ILLEGAL: the first wrong
+ * answer, with its part and its call. ASM_NOT_JSON and ASM_SHAPE, with part and line, ASM_VERSION,
+ * ASM_CUT and ASM_APART, with the part: the first fault. ASM_LARGE: a line of more than 16,777,216
+ * bytes. ASM_MEMORY: pass the bytes that weren't taken again. ASM_TAKEN: `audit` holds something
+ * else. */
+FOLUGBEN_NODISCARD int32_t asm_audit(asm_slot *audit, const uint8_t *bytes, size_t len,
+    size_t *taken, asm_audit_numbers *told);
+
+/* Tells what is so if no further byte comes; more may come. ASM_DONE: the run is whole parts, one at
+ * least, and legal, with its numbers. ASM_CUT, ASM_NOT_JSON: its last part or its last line isn't
+ * whole, with the numbers that asm_audit tells with them. ASM_EMPTY, ASM_MEMORY. */
+FOLUGBEN_NODISCARD int32_t asm_audited(asm_slot *audit, asm_audit_numbers *told);
+
+/* Writes the state [PAIR, ..] that the moves so far leave, in ascending order of locations. ASM_EMPTY,
+ * ASM_NONE (no part has begun), ASM_SMALL, ASM_MEMORY. */
+FOLUGBEN_NODISCARD int32_t asm_audit_state(asm_slot *audit, uint8_t *out, size_t room,
+    size_t *written);
 
 /* Writes the state [PAIR, ..] that the moves of a journal leave, with its locations in ascending
  * order; the journal isn't checked. ASM_NOT_JSON, ASM_SHAPE: `*line` is the number of the line,

@@ -73,7 +73,12 @@ void was_fired(account *agent, world after) {
     *latest(s) = after;
 }
 
+uint32_t any_capacity(void) { return below(4) ? 1 + below(MOVES) : below(2) * 1048577; }
+
+bool is_capacity(uint32_t capacity) { return 1 <= capacity && capacity <= 1048576; }
+
 void storage_is_made(unsigned at, unsigned capacity, world opening) {
+    opening.x_at = opening.y_at = opening.s_at = opening.v_at = 0;
     accounts[at] = (account){.kind = STORAGE, .storage = opened};
     stories[opened] = (story){.capacity = capacity, .worlds = {opening}};
     opened++;
@@ -95,11 +100,11 @@ world opening_world(const text *state) { return (world){.x = state->x, .y = -1, 
 
 static void opens(unsigned at) {
     const text *t = any_text();
-    uint32_t capacity = below(4) ? 1 + below(MOVES) : below(2) * 1048577;
-    int32_t wanted = accounts[at].kind                     ? ASM_TAKEN
-                     : t->state                            ? t->state
-                     : capacity == 0 || capacity > 1048576 ? ASM_RANGE
-                                                           : ASM_DONE;
+    uint32_t capacity = any_capacity();
+    int32_t wanted = accounts[at].kind        ? ASM_TAKEN
+                     : t->state               ? t->state
+                     : !is_capacity(capacity) ? ASM_RANGE
+                                              : ASM_DONE;
     if (wanted == ASM_DONE && opened == STORAGES)
         return;
     REQUIRE(asm_open(bytes(t), strlen(t->bytes), capacity, &slots[at]) == wanted);
@@ -222,17 +227,42 @@ static void gives(unsigned to, unsigned at) {
                                                              : ASM_DONE;
     REQUIRE(asm_give(&slots[to], &slots[at]) == wanted);
     if (wanted == ASM_DONE) {
-        stories[a->storage].told |= a->fired;
+        stories[a->storage].given[a->number] = (given){true, a->is_answered, a->fired, a->stood};
         stories[a->storage].is_closed = false;
         accounts[at] = (account){.kind = NOTHING};
+    }
+}
+
+static void takes(unsigned of, unsigned at) {
+    unsigned number = below(8) ? below(NUMBERS) : 256;
+    story *s = &stories[accounts[of].storage];
+    bool is_there = number < NUMBERS && s->given[number].is_there;
+    int32_t wanted = accounts[at].kind              ? ASM_TAKEN
+                     : accounts[of].kind != STORAGE ? ASM_EMPTY
+                     : is_there                     ? ASM_DONE
+                                                    : ASM_NONE;
+    REQUIRE(asm_take(&slots[of], number, &slots[at]) == wanted);
+    if (wanted == ASM_DONE) {
+        given was = s->given[number];
+        accounts[at] = (account){.kind = AGENT,
+                                 .storage = accounts[of].storage,
+                                 .number = number,
+                                 .fired = was.fired,
+                                 .stood = was.stood,
+                                 .is_answered = was.is_answered};
+        s->given[number].is_there = false;
+        s->is_closed = false;
     }
 }
 
 static void closes(unsigned at) {
     story *s = &stories[accounts[at].storage];
     uint32_t number = 9, missing = 0;
+    unsigned told = 0;
+    for (unsigned i = 0; i < NUMBERS; i++)
+        told |= s->given[i].is_there ? s->given[i].fired : 0;
     for (unsigned i = s->moves; i > 0; i--)
-        if (!(s->told >> (i - 1) & 1))
+        if (!(told >> (i - 1) & 1))
             missing = i;
     int32_t wanted = accounts[at].kind != STORAGE ? ASM_EMPTY : missing ? ASM_MISSING : ASM_DONE;
     REQUIRE(asm_close(&slots[at], &number) == wanted);
@@ -342,7 +372,7 @@ static void calls_any(void) {
         explains();
         break;
     case 10:
-        gives(other, at);
+        below(3) ? gives(other, at) : takes(other, at);
         break;
     case 11:
         closes(at);

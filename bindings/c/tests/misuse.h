@@ -41,24 +41,33 @@ typedef struct gathered {
 } gathered;
 
 /* What a slot has to hold: nothing, a storage, an agent with its number and a bit for each move
- * that it fired, a step, a location or a move; of which storage. `stood` is the number of moves at
+ * that it fired, a step, a location, a move or an audit, that was fed the first byte of a header or
+ * none; of which storage. `stood` is the number of moves at
  * which the agent's own state stands, or at which the step began. A location is got where no pushed
  * move had put what was seen. */
 typedef struct account {
-    enum { NOTHING, STORAGE, AGENT, STEP, LOCATION, MOVE } kind;
+    enum { NOTHING, STORAGE, AGENT, STEP, LOCATION, MOVE, AUDIT } kind;
     unsigned storage, number, fired, stood, depth;
     bool is_answered, has_got[PLACES];
     layer layers[DEEPEST];
     unsigned place;
     gathered move;
+    bool has_begun;
 } account;
 
-/* Of a storage: which agents were made, how many moves were fired, a bit for each of these of which
- * an agent that was given back has the receipt, whether there is a journal and how many moves were
- * closed into the last one, and what each move left. */
+/* An agent that was given back, if it was, with a bit for each move of which it has the receipt. */
+typedef struct given {
+    bool is_there, is_answered;
+    unsigned fired, stood;
+} given;
+
+/* Of a storage: which agents were made, and the accounts of those that were given back; how many
+ * moves were fired, whether there is a journal and how many moves were closed into the last one, and
+ * what each move left. */
 typedef struct story {
     bool made[NUMBERS], is_closed;
-    unsigned capacity, moves, told, closed;
+    given given[NUMBERS];
+    unsigned capacity, moves, closed;
     world worlds[MOVES + 1];
 } story;
 
@@ -108,8 +117,12 @@ bool goes_on(const text *move, world *w);
 /* Takes note of a fired move, after which the world is this one. */
 void was_fired(account *agent, world after);
 
-/* A storage with this opening world is in the slot now. */
+/* A storage with this opening world, of which nothing was written, is in the slot now. */
 void storage_is_made(unsigned at, unsigned capacity, world opening);
+
+/* Any capacity, of which some are refused. */
+uint32_t any_capacity(void);
+bool is_capacity(uint32_t capacity);
 
 /* Takes note of the number at which an agent's own state stands, this one at least: a fire may have
  * it move on, but needn't. */

@@ -254,22 +254,63 @@ void commits(unsigned at, unsigned of_step) {
 }
 
 static void goes_on_in(unsigned at, unsigned next) {
-    uint32_t capacity = below(4) ? 1 + below(MOVES) : below(2) * 1048577;
+    uint32_t capacity = any_capacity();
     const account *a = &accounts[at];
-    int32_t wanted = accounts[next].kind                   ? ASM_TAKEN
-                     : a->kind != STORAGE                  ? ASM_EMPTY
-                     : !stories[a->storage].is_closed      ? ASM_NONE
-                     : capacity == 0 || capacity > 1048576 ? ASM_RANGE
-                                                           : ASM_DONE;
+    const story *s = &stories[a->storage];
+    int32_t wanted = accounts[next].kind      ? ASM_TAKEN
+                     : a->kind != STORAGE     ? ASM_EMPTY
+                     : !s->is_closed          ? ASM_NONE
+                     : !is_capacity(capacity) ? ASM_RANGE
+                                              : ASM_DONE;
     if (wanted == ASM_DONE && opened == STORAGES)
         return;
     REQUIRE(asm_next(&slots[at], capacity, &slots[next]) == wanted);
-    if (wanted == ASM_DONE) {
-        const story *s = &stories[a->storage];
-        world opening = s->worlds[s->closed];
-        opening.x_at = opening.y_at = opening.s_at = opening.v_at = 0;
-        storage_is_made(next, capacity, opening);
-    }
+    if (wanted == ASM_DONE)
+        storage_is_made(next, capacity, s->worlds[s->closed]);
+}
+
+/* The same from an agent's own state. */
+static void goes_on_from(unsigned at, unsigned next) {
+    uint32_t capacity = any_capacity();
+    const account *a = &accounts[at];
+    int32_t wanted = accounts[next].kind                         ? ASM_TAKEN
+                     : a->kind != AGENT                          ? ASM_EMPTY
+                     : a->stood != stories[a->storage].capacity  ? ASM_NONE
+                     : !is_capacity(capacity)                    ? ASM_RANGE
+                                                                 : ASM_DONE;
+    if (wanted == ASM_DONE && opened == STORAGES)
+        return;
+    REQUIRE(asm_go_on(&slots[at], capacity, &slots[next]) == wanted);
+    if (wanted == ASM_DONE)
+        storage_is_made(next, capacity, own_world(a));
+}
+
+/* An audit takes the beginning of a line, and no line feed. */
+static void audits(unsigned at) {
+    account *a = &accounts[at];
+    asm_audit_numbers told = {9, 9, 9};
+    size_t len = below(3), taken = 9;
+    bool has_room = a->kind == NOTHING || a->kind == AUDIT;
+    REQUIRE(asm_audit(&slots[at], len ? (const uint8_t *)"{\"" : NULL, len, &taken, &told) ==
+            (has_room ? ASM_DONE : ASM_TAKEN));
+    REQUIRE(taken == (has_room ? len : 0));
+    REQUIRE(told.parts == 0 && told.calls == 0 && told.moves == 0);
+    if (a->kind == NOTHING)
+        *a = (account){.kind = AUDIT};
+    if (a->kind == AUDIT)
+        a->has_begun |= len > 0;
+}
+
+static void ends_audit(unsigned at) {
+    const account *a = &accounts[at];
+    asm_audit_numbers told = {9, 9, 9};
+    buffer b = any_buffer();
+    REQUIRE(asm_audited(&slots[at], &told) ==
+            (a->kind != AUDIT ? ASM_EMPTY : a->has_begun ? ASM_NOT_JSON : ASM_CUT));
+    REQUIRE(told.parts == 0 && told.moves == 0);
+    REQUIRE(told.calls == (a->kind == AUDIT && a->has_begun));
+    is_written(asm_audit_state(&slots[at], OUT(b)),
+               (struct told){a->kind == AUDIT ? ASM_NONE : ASM_EMPTY, NULL}, &b);
 }
 
 static void aggregates(void) {
@@ -354,6 +395,10 @@ void calls_any_step(unsigned at, unsigned other) {
         break;
     case 6:
         goes_on_in(at, other);
+        goes_on_from(at, other);
+        if (below(4) == 0)
+            audits(at);
+        ends_audit(at);
         break;
     case 7:
         aggregates();

@@ -221,6 +221,35 @@ static void compute(void) {
         has(out, written, "location 1: a location is an array of a name and at most 8 arguments"));
 }
 
+/* An agent that was given back is taken again, as often as there was no memory, and given back. */
+static void take_again(void) {
+    asm_slot agent = {0}, was = storage;
+    if (again(asm_take(&storage, 1, &agent))) {
+        REQUIRE(!agent.full && is_same(storage, was));
+        last_code = asm_take(&storage, 1, &agent);
+    }
+    REQUIRE(last_code == ASM_DONE && answers(&agent, "{'stale':['x']}"));
+    REQUIRE(AGAIN(asm_give(&storage, &agent)) == ASM_DONE);
+}
+
+/* The journal is audited; bytes that had no memory are passed again. */
+static void audit(const uint8_t *journal, size_t len, uint64_t calls, uint64_t moves,
+                  const char *left) {
+    uint8_t out[ROOM];
+    asm_slot slot = {0};
+    asm_audit_numbers told;
+    size_t written, taken = 0;
+    for (size_t at = 0; at < len; at += taken)
+        REQUIRE(!again(asm_audit(&slot, journal + at, len - at, &taken, &told)) ||
+                taken < len - at);
+    REQUIRE(last_code == ASM_DONE && told.parts == 1);
+    REQUIRE(AGAIN(asm_audited(&slot, &told)) == ASM_DONE);
+    REQUIRE(told.parts == 1 && told.calls == calls && told.moves == moves);
+    REQUIRE(AGAIN(asm_audit_state(&slot, out, sizeof out, &written)) == ASM_DONE);
+    REQUIRE(has(out, written, left));
+    asm_free(&slot);
+}
+
 /* Closes the storage of so many agents, checks its journal and prints it. */
 static void close_all(asm_slot *of, size_t count, uint64_t calls, uint32_t moves,
                       const char *wanted) {
@@ -230,6 +259,8 @@ static void close_all(asm_slot *of, size_t count, uint64_t calls, uint32_t moves
     uint32_t number;
     for (size_t i = count; i > 0; i--)
         REQUIRE(AGAIN(asm_give(of, &agents[i - 1])) == ASM_DONE);
+    if (of == &storage)
+        take_again();
     REQUIRE(AGAIN(asm_moves(of, &number)) == ASM_DONE && number == moves);
     REQUIRE(AGAIN(asm_close(of, &number)) == ASM_DONE && number == 0);
     REQUIRE(AGAIN(asm_journal(of, journal, sizeof journal, &len)) == ASM_DONE);
@@ -238,7 +269,32 @@ static void close_all(asm_slot *of, size_t count, uint64_t calls, uint32_t moves
     REQUIRE(AGAIN(asm_replay(journal, len, state, sizeof state, &written, &line)) == ASM_DONE);
     REQUIRE(has(state, written, wanted));
     REQUIRE(AGAIN(asm_trace(journal, len, state, 0, &written, &line)) == ASM_SMALL && written > len);
+    audit(journal, len, calls, moves, wanted);
     REQUIRE(fwrite(journal, 1, len, stdout) == len && !fflush(stdout));
+}
+
+/* A full storage goes on with its agent's own state. */
+static void go_on_full(void) {
+    asm_slot full = {0}, agent = {0}, next = {0};
+    asm_numbers numbers;
+    uint32_t number;
+    REQUIRE(AGAIN(asm_open(TEXT("[[['x'],1]]"), 1, &full)) == ASM_DONE);
+    REQUIRE(AGAIN(asm_agent(&full, 0, &agent)) == ASM_DONE);
+    REQUIRE(AGAIN(asm_try_fire(&agent, TEXT("{'fire':[['inc',['x'],1]],'reads':[]}"), &numbers)) ==
+            ASM_DONE);
+    REQUIRE(AGAIN(asm_follow(&agent, &number)) == ASM_DONE && number == 1);
+    if (again(asm_go_on(&agent, 1, &next))) {
+        REQUIRE(agent.full && !next.full);
+        last_code = asm_go_on(&agent, 1, &next);
+    }
+    REQUIRE(last_code == ASM_DONE);
+    asm_free(&agent);
+    asm_free(&full);
+    REQUIRE(AGAIN(asm_agent(&next, 0, &agent)) == ASM_DONE);
+    REQUIRE(AGAIN(asm_read(&agent, TEXT("[['x']]"))) == ASM_DONE);
+    REQUIRE(answers(&agent, "{'number':0,'values':[2]}"));
+    asm_free(&agent);
+    asm_free(&next);
 }
 
 /* The run goes on in a storage that opens with what the first left. */
@@ -267,6 +323,7 @@ int main(int argc, char **argv) {
     compute();
     close_all(&storage, 3, 5, 2, left);
     go_on(left);
+    go_on_full();
     if (argc > 1)
         printf("%s %u\n", argv[1], refused);
     return 0;

@@ -374,7 +374,7 @@ static void texts_of_codes(void) {
     size_t written;
     REQUIRE(asm_version() == FOLUGBEN_VERSION);
     for (int32_t code = -2; code < 26; code++) {
-        bool known = code >= ASM_DONE && code <= ASM_DEEP;
+        bool known = code >= ASM_DONE && code <= ASM_APART;
         REQUIRE(asm_error_text(code, out, sizeof out, &written) == ASM_DONE && written > 0);
         REQUIRE(known == !(written == 23 && !memcmp(out, "no code of this library", 23)));
     }

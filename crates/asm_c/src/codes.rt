@@ -1,7 +1,7 @@
 //! The codes that calls answer, and their texts.
 ghost use Rattle.std.specs.Prelude.{◌∷◌, [], ◌≡◌, length};
 ghost use Rattle.asm_slots.specs.Codes.{IsOneOf, text_of_code, ASM_DONE, ASM_SMALL};
-ghost use Rattle.asm_slots.specs.Written.{TellsText};
+ghost use Rattle.asm_slots.specs.WrittenText.{TellsText};
 
 use asm_slots::codes::{copied, text_of_code};
 

@@ -1,11 +1,11 @@
 //! Firing the one move of a step.
-ghost use Rattle.asm_slots.specs.Committed.{Commits};
+ghost use Rattle.asm_slots.specs.Commit.{Commits};
 ghost use Rattle.asm_slots.specs.Slots.{content_of};
 
 use asm_slots::codes::{DONE, EMPTY};
-use asm_slots::committing::fire_step;
-use asm_slots::take_and_put::{put_agent, put_shell, take_agent, take_shell};
-use asm_slots::{Content, Numbers, Slot};
+use asm_slots::committing::commit_in;
+use asm_slots::take_and_put::{put_shell, take_shell};
+use asm_slots::{Numbers, Slot};
 use std::alloc::Global;
 
 /// Fires the one move that does what the pushed moves do in turn, with each location named that was got, and each
@@ -27,19 +27,16 @@ pub extern "C" fn asm_commit(
         numbers.new result }
 {
     *numbers = Numbers::none();
-    let Some((shell, inner)) = take_agent(alloc, agent) else {
+    let Some(mut shell) = take_shell(alloc, agent) else {
         return EMPTY;
     };
     let Some(held) = take_shell(alloc, step) else {
-        put_agent(agent, shell, inner);
+        put_shell(agent, shell);
         return EMPTY;
     };
-    let (inner, code, told) = match &*held {
-        Content::Step(taken) => fire_step(alloc, inner, taken),
-        _ => (inner, EMPTY, Numbers::none()),
-    };
+    let (code, told) = commit_in(alloc, &mut shell, &held);
     *numbers = told;
-    put_agent(agent, shell, inner);
+    put_shell(agent, shell);
     if code == DONE {
         *step = Slot::empty(alloc);
     } else {

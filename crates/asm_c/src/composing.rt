@@ -1,5 +1,5 @@
 //! Moves without an agent: their updates on a state, and two of them composed.
-ghost use Rattle.asm_slots.specs.Moves.{Aggregates, Composes};
+ghost use Rattle.asm_slots.specs.Composing.{Aggregates, Composes};
 
 use asm_slots::codes::written_as;
 use asm_slots::composing::{aggregated, composed};

@@ -1,12 +1,12 @@
 //! What an agent has seen and counted, and what it learns from another.
 ghost use Rattle.std.specs.Prelude.{◌≡◌, ◌≢◌, ◌⊎◌, ◌∷◌, [], length};
-ghost use Rattle.asm_slots.specs.Calls.{Learns};
+ghost use Rattle.asm_slots.specs.AgentCalls.{Learns};
 ghost use Rattle.asm_slots.specs.Codes.{IsOneOf, ASM_DONE, ASM_EMPTY, ASM_OTHER};
 ghost use Rattle.asm_slots.specs.Slots.{AreOfOneStorage, HoldsNoAgent, IfHolds, content_of};
 
 use asm_slots::codes::{DONE, EMPTY, OTHER};
-use asm_slots::take_and_put::{put_agent, take_agent};
-use asm_slots::{Slot, are_one};
+use asm_slots::take_and_put::{put_agent, put_shell, take_agent, take_shell};
+use asm_slots::{Content, Slot, are_one};
 use std::alloc::Global;
 
 /// How many moves the agent has seen; 0 for a slot with no agent.
@@ -16,11 +16,14 @@ pub extern "C" fn asm_seen(alloc: Global, agent: &mut Slot) -> u32
     ensures value { IfHolds (content_of agent.old) (λ a. result ≡ length a.account.seen) }
     ensures none { HoldsNoAgent (content_of agent.old) → result ≡ 0 }
 {
-    let Some((shell, inner)) = take_agent(alloc, agent) else {
+    let Some(shell) = take_shell(alloc, agent) else {
         return 0;
     };
-    let (inner, seen) = inner.seen();
-    put_agent(agent, shell, inner);
+    let seen = match &*shell {
+        Content::Agent(inner) => inner.seen(),
+        _ => 0,
+    };
+    put_shell(agent, shell);
     seen
 }
 
@@ -31,11 +34,14 @@ pub extern "C" fn asm_won(alloc: Global, agent: &mut Slot) -> u32
     ensures value { IfHolds (content_of agent.old) (λ a. result ≡ a.account.won) }
     ensures none { HoldsNoAgent (content_of agent.old) → result ≡ 0 }
 {
-    let Some((shell, inner)) = take_agent(alloc, agent) else {
+    let Some(shell) = take_shell(alloc, agent) else {
         return 0;
     };
-    let (inner, won) = inner.won();
-    put_agent(agent, shell, inner);
+    let won = match &*shell {
+        Content::Agent(inner) => inner.won(),
+        _ => 0,
+    };
+    put_shell(agent, shell);
     won
 }
 
@@ -46,11 +52,14 @@ pub extern "C" fn asm_misses(alloc: Global, agent: &mut Slot) -> u64
     ensures value { IfHolds (content_of agent.old) (λ a. result ≡ a.misses) }
     ensures none { HoldsNoAgent (content_of agent.old) → result ≡ 0 }
 {
-    let Some((shell, inner)) = take_agent(alloc, agent) else {
+    let Some(shell) = take_shell(alloc, agent) else {
         return 0;
     };
-    let (inner, misses) = inner.misses();
-    put_agent(agent, shell, inner);
+    let misses = match &*shell {
+        Content::Agent(inner) => inner.misses(),
+        _ => 0,
+    };
+    put_shell(agent, shell);
     misses
 }
 

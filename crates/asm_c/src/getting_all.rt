@@ -1,6 +1,6 @@
 //! What is seen through a step at all locations with one function name.
 ghost use Rattle.std.specs.Prelude.{◌≡◌};
-ghost use Rattle.asm_slots.specs.Got.{GetsAll};
+ghost use Rattle.asm_slots.specs.GetByText.{GetsAll};
 ghost use Rattle.asm_slots.specs.Slots.{content_of};
 
 use asm_slots::getting_all::get_all_in;

@@ -1,11 +1,11 @@
 //! Counting a storage's moves, giving agents back, closing them into a journal, and its text.
 ghost use Rattle.std.specs.Prelude.{◌≡◌, ◌≢◌, ◌⊎◌, ◌≤◌, ◌∷◌, [], length, None, Some};
-ghost use Rattle.asm_slots.specs.Calls.{Closes, Gives, IsThere};
-ghost use Rattle.asm_slots.specs.Closed.{IsTooLarge, LacksReceipt};
+ghost use Rattle.asm_slots.specs.AgentCalls.{Closes, Gives, IsThere};
+ghost use Rattle.asm_slots.specs.ClosedStore.{IsTooLarge, LacksReceipt};
 ghost use Rattle.asm_slots.specs.Codes.{IsOneOf, ASM_DONE, ASM_MEMORY, ASM_EMPTY, ASM_SMALL, ASM_NONE};
 ghost use Rattle.asm_slots.specs.Codes.{ASM_NUMBER, ASM_MISSING, ASM_OTHER, ASM_LARGE};
 ghost use Rattle.asm_slots.specs.Slots.{HoldsNoAgent, HoldsNoStore, HoldsStore, IsOfStore, content_of};
-ghost use Rattle.asm_slots.specs.Written.{TellsText};
+ghost use Rattle.asm_slots.specs.WrittenText.{TellsText};
 
 use asm_slots::codes::{DONE, EMPTY, NONE, OTHER, copied};
 use asm_slots::give_and_close::{code_of_unclosed, give_at};

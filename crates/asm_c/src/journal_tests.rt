@@ -77,7 +77,7 @@ fn agents_are_given_and_their_storage_closes(rt: HostRuntime) {
     assert!(rt; moves(alloc, &mut Slot::empty(alloc)) == (5, 0));
 }
 
-const JOURNAL: &[u8] =
+pub(crate) const JOURNAL: &[u8] =
     b"{\"agents\":4,\"capacity\":2,\"events\":2,\"init\":[[[\"s\"],{\"set\":[1,\"two\"]}],[[\"x\"],7]],\"version\":2}\n\
         {\"agent\":1,\"call\":{\"fire\":[[\"inc\",[\"x\"],2]],\"reads\":[]},\"reply\":{\"fired\":1}}\n\
         {\"agent\":3,\"call\":{\"read\":[[\"x\"]]},\"reply\":{\"number\":1,\"values\":[9]}}\n";
@@ -239,7 +239,7 @@ struct CodeText {
     text: &'static [u8],
 }
 
-static CODE_TEXTS: [CodeText; 11] = [
+static CODE_TEXTS: [CodeText; 12] = [
     CodeText {
         code: 0,
         text: b"done",
@@ -262,7 +262,7 @@ static CODE_TEXTS: [CodeText; 11] = [
     },
     CodeText {
         code: 20,
-        text: b"more calls than a journal holds, or too large an amount or sum",
+        text: b"too many calls for a journal, too long a line, or too large an amount",
     },
     CodeText {
         code: 9,
@@ -270,7 +270,7 @@ static CODE_TEXTS: [CodeText; 11] = [
     },
     CodeText {
         code: 10,
-        text: b"there is no answer, no journal or no pushed move",
+        text: b"there is no answer, journal, pushed move, agent or part, or there is room still",
     },
     CodeText {
         code: 21,
@@ -279,6 +279,10 @@ static CODE_TEXTS: [CodeText; 11] = [
     CodeText {
         code: 22,
         text: b"64 moves are pushed already",
+    },
+    CodeText {
+        code: 23,
+        text: b"a part opens with another state than the one before it leaves",
     },
     CodeText {
         code: -1,

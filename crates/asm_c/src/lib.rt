@@ -1,6 +1,7 @@
 //! The library for C: its calls on the slots of `asm_slots`. A slot of zeros holds nothing.
 #![tactic(auto)]
 
+mod auditing;
 mod codes;
 mod committing;
 mod composing;
@@ -20,6 +21,8 @@ mod moves_tests;
 mod next_store;
 mod opening;
 mod own_state;
+#[cfg(test)]
+mod parts_tests;
 #[cfg(test)]
 mod plain_tests;
 mod prepared;

@@ -2,17 +2,17 @@
 ghost use Rattle.std.specs.Prelude.{◌≡◌, ◌≢◌, ◌∷◌, []};
 ghost use Rattle.asm_storage.specs.Storage.{IsSameAgent};
 ghost use Rattle.asm_explain.specs.Bytes.{AreLocations, IsNoJson, IsOtherJson};
-ghost use Rattle.asm_slots.specs.Calls.{SeesOn};
+ghost use Rattle.asm_slots.specs.AgentCalls.{SeesOn};
 ghost use Rattle.asm_slots.specs.Codes.{IsOneOf, ASM_DONE, ASM_MEMORY, ASM_EMPTY, ASM_SMALL, ASM_NOT_JSON, ASM_SHAPE};
-ghost use Rattle.asm_slots.specs.Looked.{Stands};
-ghost use Rattle.asm_slots.specs.Own.{HasFollowed, HasLookedOn, IsPeekOf};
+ghost use Rattle.asm_slots.specs.Looks.{Stands};
+ghost use Rattle.asm_slots.specs.OwnState.{HasFollowed, HasLookedOn, IsPeekOf};
 ghost use Rattle.asm_slots.specs.Slots.{Goes, Holds, HoldsNoAgent, content_of};
-ghost use Rattle.asm_slots.specs.Written.{TellsText};
+ghost use Rattle.asm_slots.specs.WrittenText.{TellsText};
 
 use asm_slots::codes::{DONE, EMPTY, MEMORY, copied};
 use asm_slots::looking::{peeked, stands_at};
-use asm_slots::take_and_put::{agent_in, put_agent, take_agent};
-use asm_slots::{Slot, in_box};
+use asm_slots::take_and_put::{agent_in, take_agent};
+use asm_slots::{Slot, in_agent, in_box};
 use std::alloc::{AllocError, Global};
 
 /// Has the agent look on until it finds nothing more, and its own state follow; `number` is then how many moves
@@ -33,12 +33,7 @@ pub extern "C" fn asm_follow(alloc: Global, agent: &mut Slot, number: &mut u32) 
     ensures kept { result ≡ ASM_EMPTY → content_of agent.new ≡ content_of agent.old }
 {
     *number = 0;
-    let Some((shell, inner)) = take_agent(alloc, agent) else {
-        return EMPTY;
-    };
-    let (inner, followed) = inner.follow(alloc);
-    put_agent(agent, shell, inner);
-    match followed {
+    match in_agent!(alloc, agent, inner => inner.follow(alloc)) {
         Ok(seen) => {
             *number = seen;
             DONE

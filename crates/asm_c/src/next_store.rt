@@ -1,12 +1,13 @@
-//! The storage that goes on where a closed one ended.
+//! The storages that go on where others ended.
 ghost use Rattle.std.specs.Prelude.{◌≡◌, ◌≢◌, ◌∷◌, [], None};
-ghost use Rattle.asm_slots.specs.Calls.{IsNoCapacity};
+ghost use Rattle.asm_slots.specs.AgentCalls.{IsNoCapacity};
 ghost use Rattle.asm_slots.specs.Codes.{IsOneOf, ASM_DONE, ASM_MEMORY, ASM_EMPTY, ASM_RANGE, ASM_NONE, ASM_TAKEN};
-ghost use Rattle.asm_slots.specs.Next.{IsNextOf, LacksJournal};
+ghost use Rattle.asm_slots.specs.NextStore.{GoesOnWith, IsNextOf, LacksJournal};
 ghost use Rattle.asm_slots.specs.Slots.{HoldsNoStore, HoldsStore, content_of};
 
 use asm_slots::codes::{DONE, TAKEN};
-use asm_slots::take_and_put::store_in;
+use asm_slots::next_store::gone_on;
+use asm_slots::take_and_put::{agent_in, store_in};
 use asm_slots::{Slot, in_box};
 use std::alloc::Global;
 
@@ -33,6 +34,31 @@ pub extern "C" fn asm_next(alloc: Global, store: &mut Slot, capacity: u32, next:
         return TAKEN;
     }
     match in_box!(alloc, store, store_in, kept => kept.next(alloc, capacity)) {
+        Ok(made) => {
+            *next = Slot::holding(made);
+            DONE
+        }
+        Err(code) => code,
+    }
+}
+
+/// Opens a storage, for at most `capacity` moves, in an empty slot, that goes on where the agent's ended: its opening state is
+/// the agent's own state, where that stands at all moves that the agent's storage has room for. So that storage is full, and
+/// the agent has looked on to its end (`asm_follow`, `asm_begin`).
+///
+/// No journal is needed, and no other agent waits. The journals of both storages, one after the other, tell one run, and the
+/// numbers of moves begin at 0 again. `ASM_TAKEN`: the second slot is full. `ASM_EMPTY`: the first has no agent. `ASM_NONE`:
+/// the agent's own state stands at fewer moves. `ASM_RANGE`: the capacity isn't 1 to 1,048,576. `ASM_MEMORY`. The first of
+/// these that holds is answered, and after each of them the second slot is as it was; the agent's always is.
+#[unsafe(no_mangle)]
+pub extern "C" fn asm_go_on(alloc: Global, agent: &mut Slot, capacity: u32, next: &mut Slot) -> i32
+    ensures goes_on { GoesOnWith capacity (content_of agent.old) (content_of next.old) (content_of next.new) result }
+    ensures kept { content_of agent.new ≡ content_of agent.old }
+{
+    if next.is_full() {
+        return TAKEN;
+    }
+    match in_box!(alloc, agent, agent_in, inner => gone_on(alloc, inner, capacity)) {
         Ok(made) => {
             *next = Slot::holding(made);
             DONE

@@ -1,10 +1,10 @@
-//! Opening storages, making agents, and letting go of what slots hold.
+//! Opening storages, making agents and taking them again, and letting go of what slots hold.
 ghost use Rattle.std.specs.Prelude.{◌≡◌, ◌≢◌, ◌↔◌, ◌∷◌, [], None};
-ghost use Rattle.asm_slots.specs.Calls.{IsNoCapacity, IsOpened};
+ghost use Rattle.asm_slots.specs.AgentCalls.{IsNoCapacity, IsOpened};
 ghost use Rattle.asm_journal.specs.Value.{IsStateForm};
 ghost use Rattle.asm_explain.specs.Bytes.{IsNoJson, IsOtherJson};
 ghost use Rattle.asm_slots.specs.Codes.{IsOneOf, ASM_DONE, ASM_MEMORY, ASM_RANGE, ASM_TAKEN, ASM_NOT_JSON, ASM_SHAPE};
-ghost use Rattle.asm_slots.specs.Made.{MakesAgent, MakesAgents};
+ghost use Rattle.asm_slots.specs.MadeAgents.{MakesAgent, MakesAgents, TakesAgent};
 ghost use Rattle.asm_slots.specs.Slots.{HoldsStore, content_of};
 
 use asm_slots::Slot;
@@ -97,6 +97,33 @@ pub extern "C" fn asm_agents(alloc: Global, store: &mut Slot, agents: &mut [Slot
         clear(alloc, agents);
     }
     code
+}
+
+/// Takes an agent that was given back out of its storage again, in an empty slot: it goes on where it was, with its number
+/// and its receipts.
+///
+/// The journal that the storage kept is discarded. `ASM_TAKEN`: the slot for the agent is full. `ASM_EMPTY`: the other one
+/// has no storage. `ASM_NONE`: no agent with this number was given back. `ASM_MEMORY`. The first of these that holds is
+/// answered, and after each of them both slots are as they were.
+#[unsafe(no_mangle)]
+pub extern "C" fn asm_take(alloc: Global, store: &mut Slot, number: u32, agent: &mut Slot) -> i32
+    ensures { TakesAgent number (content_of store.old) (content_of store.new) (content_of agent.old) (content_of agent.new) result }
+{
+    if agent.is_full() {
+        return TAKEN;
+    }
+    let Some((shell, kept)) = take_store(alloc, store) else {
+        return EMPTY;
+    };
+    let (kept, made) = kept.take_back(alloc, number);
+    put_store(store, shell, kept);
+    match made {
+        Ok(made) => {
+            *agent = Slot::holding(made);
+            DONE
+        }
+        Err(code) => code,
+    }
 }
 
 /// Releases what the slot holds, if anything. A storage ends with the last slot that has a share of it.

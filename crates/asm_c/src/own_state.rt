@@ -1,9 +1,9 @@
 //! The whole of an agent's own state, and the part of it with one function name.
 ghost use Rattle.std.specs.Prelude.{◌≡◌, ◌∷◌, [], IsUtf8};
 ghost use Rattle.asm_slots.specs.Codes.{IsOneOf, ASM_DONE, ASM_MEMORY, ASM_EMPTY, ASM_SMALL, ASM_SHAPE};
-ghost use Rattle.asm_slots.specs.Own.{IsOwnOfName, IsOwnState};
+ghost use Rattle.asm_slots.specs.OwnState.{IsOwnOfName, IsOwnState};
 ghost use Rattle.asm_slots.specs.Slots.{Holds, HoldsNoAgent, content_of};
-ghost use Rattle.asm_slots.specs.Written.{TellsText};
+ghost use Rattle.asm_slots.specs.WrittenText.{TellsText};
 
 use asm_slots::codes::{MEMORY, copied};
 use asm_slots::own_state::{own_state, scanned};

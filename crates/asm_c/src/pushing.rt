@@ -1,6 +1,6 @@
 //! Pushing moves onto a step, and extending the one that was pushed last.
 ghost use Rattle.std.specs.Prelude.{◌≡◌};
-ghost use Rattle.asm_slots.specs.Grown.{Extends, Pushes};
+ghost use Rattle.asm_slots.specs.StepPush.{Extends, Pushes};
 ghost use Rattle.asm_slots.specs.Slots.{content_of};
 
 use asm_slots::pushing::grow_of;

@@ -1,6 +1,6 @@
 //! Pushing the move in a slot, and extending by it the one that was pushed last.
 ghost use Rattle.std.specs.Prelude.{◌≡◌};
-ghost use Rattle.asm_slots.specs.Grown.{ExtendsByMove, PushesMove};
+ghost use Rattle.asm_slots.specs.StepPush.{ExtendsByMove, PushesMove};
 ghost use Rattle.asm_slots.specs.Slots.{content_of};
 
 use asm_slots::codes::EMPTY;

@@ -1,15 +1,15 @@
 //! Reading, firing, and the answers to both.
 ghost use Rattle.std.specs.Prelude.{◌≡◌, ◌∷◌, []};
-ghost use Rattle.asm_slots.specs.Answered.{Fires, Reads};
-ghost use Rattle.asm_slots.specs.Calls.{IsLastAnswer};
+ghost use Rattle.asm_slots.specs.ReadAndFire.{Fires, Reads};
+ghost use Rattle.asm_slots.specs.AgentCalls.{IsLastAnswer};
 ghost use Rattle.asm_slots.specs.Codes.{IsOneOf, ASM_DONE, ASM_MEMORY, ASM_EMPTY, ASM_SMALL, ASM_NONE};
 ghost use Rattle.asm_slots.specs.Slots.{Holds, HoldsNoAgent, content_of};
-ghost use Rattle.asm_slots.specs.Written.{TellsText};
+ghost use Rattle.asm_slots.specs.WrittenText.{TellsText};
 
 use asm_slots::codes::{EMPTY, MEMORY, NONE, copied};
-use asm_slots::read_and_fire::{fire_at, read_at};
+use asm_slots::read_and_fire::{fire_in, read_at};
 use asm_slots::take_and_put::{put_agent, take_agent};
-use asm_slots::{Numbers, Slot};
+use asm_slots::{Numbers, Slot, in_agent};
 use std::alloc::Global;
 
 /// Reads the locations `[LOC, ..]`, at most 256; `asm_answer` tells what was read.
@@ -43,11 +43,8 @@ pub extern "C" fn asm_try_fire(
 ) -> i32
     ensures { Fires call.now (content_of agent.old) (content_of agent.new) numbers.new result }
 {
-    let Some((shell, inner)) = take_agent(alloc, agent) else {
-        *numbers = Numbers::none();
-        return EMPTY;
-    };
-    let (code, told) = fire_at(alloc, agent, shell, inner, call);
+    *numbers = Numbers::none();
+    let (code, told) = in_agent!(alloc, agent, inner => fire_in(alloc, inner, call));
     *numbers = told;
     code
 }

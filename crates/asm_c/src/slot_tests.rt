@@ -142,7 +142,7 @@ fn what_was_freed_is_let_go(rt: HostRuntime) {
 
 fn shared(alloc: Global) -> Result<Arc<Shared>, Fail> {
     let storage = Storage::new(alloc, standard(), PlainState::new(alloc), 8)?;
-    Ok(Arc::new(alloc, Shared::new(storage))?)
+    Ok(Arc::new(alloc, Shared::new(storage, 8))?)
 }
 
 #[test]

@@ -1,15 +1,15 @@
 //! Beginning a step, what is seen through its pushed moves, and taking the last one away.
 ghost use Rattle.std.specs.Prelude.{◌≡◌, ◌≢◌, ◌∷◌, [], length};
 ghost use Rattle.asm_slots.specs.Codes.{IsOneOf, ASM_DONE, ASM_EMPTY, ASM_NONE};
-ghost use Rattle.asm_slots.specs.Got.{Gets};
-ghost use Rattle.asm_slots.specs.Looked.{Begins};
+ghost use Rattle.asm_slots.specs.GetByText.{Gets};
+ghost use Rattle.asm_slots.specs.Looks.{Begins};
 ghost use Rattle.asm_slots.specs.Slots.{GoesStep, HoldsNoStep, HoldsStep, IfHoldsStep, content_of};
-ghost use Rattle.asm_slots.specs.Steps.{HasPopped};
+ghost use Rattle.asm_slots.specs.StepCalls.{HasPopped};
 
 use asm_slots::codes::{DONE, EMPTY, MEMORY, NONE, TAKEN};
 use asm_slots::steps::{get_in, has_room, put_begun};
-use asm_slots::take_and_put::{put_agent, put_shell, take_agent, take_shell};
-use asm_slots::{Content, Slot, in_both};
+use asm_slots::take_and_put::{put_shell, take_shell};
+use asm_slots::{Content, Slot, in_agent, in_both};
 use std::alloc::{AllocError, Global};
 
 /// Begins a step of the agent in a slot that is empty or holds a step, which is then dropped: the agent looks on
@@ -32,12 +32,7 @@ pub extern "C" fn asm_begin(
     if !has_room(alloc, step) {
         return TAKEN;
     }
-    let Some((shell, inner)) = take_agent(alloc, agent) else {
-        return EMPTY;
-    };
-    let (inner, followed) = inner.follow(alloc);
-    put_agent(agent, shell, inner);
-    let Ok(seen) = followed else {
+    let Ok(seen) = in_agent!(alloc, agent, inner => inner.follow(alloc)) else {
         return MEMORY;
     };
     match put_begun(alloc, step, seen) {
@@ -109,7 +104,10 @@ pub extern "C" fn asm_pop(alloc: Global, step: &mut Slot) -> i32
         return EMPTY;
     };
     let code = match &mut *shell {
-        Content::Step(taken) => { if taken.pop() { DONE } else { NONE } }
+        Content::Step(taken) => match taken.pop() {
+            Some(_popped) => DONE,
+            None => NONE,
+        },
         _ => EMPTY,
     };
     put_shell(step, shell);

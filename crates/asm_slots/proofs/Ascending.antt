@@ -1,5 +1,5 @@
 -- Numbers that ascend, with one more among them.
-use Rattle.std.proofs.Common.{◌≡◌, ◌<◌, ◌≤◌, ℕ, zero, suc, List, [], ◌∷◌, ◌++◌, All, Some, length, map, take, drop, take-append-drop, get_or, add-one, sym, ap, ◌∙◌, subst, refl, arith}
+use Rattle.std.proofs.Common.{◌≡◌, ◌<◌, ◌≤◌, ◌+◌, ℕ, zero, suc, List, [], ◌∷◌, ◌++◌, All, Some, length, map, take, drop, take-append-drop, get_or, add-one, sym, ap, ◌∙◌, subst, refl, arith}
 use Rattle.std.proofs.lemmas.List.{map-append, length-drop}
 use Rattle.std.proofs.lemmas.List.Elements.{All-append, All-cons, All-drop, All-head, All-map, All-nil, All-tail, All-take, All-weaker}
 use Rattle.std.proofs.lemmas.Option.{same_Some, slice_get-get_or}
@@ -26,7 +26,7 @@ all_before : {X : Type 0} (P : X → Type 0) (xs ys : List X) → All P (xs ++ y
 all_before P [] ys each = All-nil P
 all_before P (x ∷ xs) ys each = All-cons P x xs (All-head P x (xs ++ ys) each) (all_before P xs ys (All-tail P x (xs ++ ys) each))
 
-all_after : {X : Type 0} (P : X → Type 0) (xs ys : List X) → All P (xs ++ ys) → All P ys
+pub all_after : {X : Type 0} (P : X → Type 0) (xs ys : List X) → All P (xs ++ ys) → All P ys
 all_after P [] ys each = each
 all_after P (x ∷ xs) ys each = all_after P xs ys (All-tail P x (xs ++ ys) each)
 
@@ -55,7 +55,7 @@ above_from (p ∷ parts) zero id rises first =
 above_from (p ∷ parts) (suc at) id rises first = above_from parts at id (rises_tail p.id (map (λ q. q.id) parts) rises) first
 
 -- an item that stands at a place
-got : {X : Type 0} (xs : List X) (k : ℕ) (x : X) → k < length xs → x ≡ get_or xs k x → slice_get xs k ≡ Some x
+pub got : {X : Type 0} (xs : List X) (k : ℕ) (x : X) → k < length xs → x ≡ get_or xs k x → slice_get xs k ≡ Some x
 got xs k x lt e = slice_get-get_or xs k x lt ∙ ap Some (sym e)
 
 -- the same, where the part at that place is known
@@ -88,3 +88,49 @@ rises_in parts p at rises point =
 pub all_in : {X : Type 0} (P : X → Type 0) (xs : List X) (x : X) (at : ℕ) → All P xs → P x → All P (take at xs ++ x ∷ drop at xs)
 all_in P xs x at each p =
     All-append P (take at xs) (x ∷ drop at xs) (All-take P at xs each) (All-cons P x (drop at xs) p (All-drop P at xs each))
+
+-- numbers that ascend, without one of them
+pub rises_without : (xs ys : List ℕ) (n : ℕ) → IsStrictlyIncreasing (xs ++ n ∷ ys) → IsStrictlyIncreasing (xs ++ ys)
+rises_without [] ys n rises = rises_tail n ys rises
+rises_without (x ∷ xs) ys n rises =
+    let over = rises_over x (xs ++ n ∷ ys) rises in
+    rises_from x (xs ++ ys)
+    (All-append (λ y. x < y) xs ys (all_before (λ y. x < y) xs (n ∷ ys) over)
+    (All-tail (λ y. x < y) n ys (all_after (λ y. x < y) xs (n ∷ ys) over)))
+    (rises_without xs ys n (rises_tail x (xs ++ n ∷ ys) rises))
+
+-- what is in front of an item, the item, and what is behind it
+pub placed : {X : Type 0} (xs : List X) (at : ℕ) (x : X) → at < length xs → x ≡ get_or xs at x →
+    xs ≡ take at xs ++ x ∷ drop (at + 1) xs
+placed xs at x lt is =
+    sym (take-append-drop at xs)
+    ∙ ap (λ l. take at xs ++ l)
+    (drop-cons xs at x lt ∙ ap (λ y. y ∷ drop (suc at) xs) (sym is) ∙ ap (λ k. x ∷ drop k xs) (sym (add-one at)))
+
+there_is : {X : Type 0} (xs : List X) (at : ℕ) → at < length xs → (x : X) × (slice_get xs at ≡ Some x)
+there_is [] at lt = absurd (omega (arith, lt))
+there_is (x ∷ xs) zero lt = (x, refl)
+there_is (x ∷ xs) (suc at) lt = there_is xs at (omega (arith, lt))
+
+-- the part at a place, which has this number
+pub part_at : (parts : List AgentPart) (at id : ℕ) → at < length parts →
+    ((p : AgentPart) → slice_get parts at ≡ Some p → p.id ≡ id) →
+    (p : AgentPart) × (parts ≡ take at parts ++ p ∷ drop (at + 1) parts) × (p.id ≡ id)
+part_at parts at id lt is =
+    let there = there_is parts at lt in
+    let p = there.0 in
+    let here : p ≡ get_or parts at p = same_Some p (get_or parts at p) (sym there.1 ∙ slice_get-get_or parts at p lt) in
+    (p, placed parts at p lt here, is p there.1)
+
+-- the parts without the one at this place
+pub rises_out : (parts : List AgentPart) (p : AgentPart) (at : ℕ) → parts ≡ take at parts ++ p ∷ drop (at + 1) parts →
+    IsStrictlyIncreasing (map (λ q. q.id) parts) → IsStrictlyIncreasing (map (λ q. q.id) (take at parts ++ drop (at + 1) parts))
+rises_out parts p at is rises =
+    let f : AgentPart → ℕ = λ q. q.id in
+    subst IsStrictlyIncreasing (sym (map-append f (take at parts) (drop (at + 1) parts)))
+    (rises_without (map f (take at parts)) (map f (drop (at + 1) parts)) p.id
+    (subst IsStrictlyIncreasing (ap (map f) is ∙ map-append f (take at parts) (p ∷ drop (at + 1) parts)) rises))
+
+-- what is so of all is so of all but one
+pub all_out : {X : Type 0} (P : X → Type 0) (xs : List X) (at : ℕ) → All P xs → All P (take at xs ++ drop (at + 1) xs)
+all_out P xs at each = All-append P (take at xs) (drop (at + 1) xs) (All-take P at xs each) (All-drop P (at + 1) xs each)

@@ -1,8 +1,8 @@
 -- Where the one move of a step fires, the pushed moves fire in turn there.
-use Rattle.std.proofs.Common.{Option, Some, None, Result, IfOk, OnErr, IfErr, IsErrOf, unwrap_or, inl, inr, ℤ, w32, to_z, of_z, ◌≡◌, ◌≤◌, ◌<◌, ◌↔◌, ◌-◌, ℕ, zero, suc, List, [], ◌∷◌, All, Ok, Err, Contains, length, map, take, get_or, arith, ap, refl, subst, sym, ◌∙◌}
+use Rattle.std.proofs.Common.{Option, Some, None, Result, IfOk, OnErr, IfErr, IsErrOf, unwrap_or, ℤ, ◌≡◌, ◌≤◌, ◌<◌, ◌↔◌, ◌-◌, ℕ, zero, suc, List, [], ◌∷◌, All, Ok, Err, Contains, length, map, take, get_or, arith, ap, refl, subst, sym, ◌∙◌}
 use Rattle.std.proofs.lemmas.List.{length-take}
 use Rattle.std.proofs.lemmas.List.Elements.{All-contains, All-map, Contains-append_left, Contains-append_right}
-use Rattle.asm_update.specs.Fire.{Part, Old, fire, state_of}
+use Rattle.asm_update.specs.Fire.{Old, fire, state_of}
 use Rattle.asm_update.specs.Move.{Move}
 use Rattle.asm_update.specs.State.{State, IsProper, val}
 use Rattle.asm_state.specs.declared.named.Named.{Named}
@@ -14,6 +14,7 @@ use Rattle.asm_step.specs.Layers.{Layer, all_moves, one_move, resting_of, IsStep
 use Rattle.asm_update.specs.Aggregator.{AggregatorLaws, Meaning}
 use Rattle.asm_update.specs.declared.clash.Clash.{Clash}
 use Rattle.asm_element.specs.Place.{Place}
+use Rattle.asm_aggregate.specs.Standard.{standard_meaning}
 use Rattle.asm_aggregate.specs.laws.BagLaws.{bag_laws}
 use Rattle.asm_aggregate.specs.laws.CountLaws.{count_laws}
 use Rattle.asm_aggregate.specs.laws.PairLaws.{pair_laws}
@@ -21,7 +22,7 @@ use Rattle.asm_aggregate.specs.laws.SetLaws.{set_laws}
 use Rattle.asm_storage.proofs.AgentKept.{take-moves_seen}
 use Rattle.asm_storage.proofs.Lists.{length-prefix}
 use Rattle.asm_storage.specs.Agents.{moves_seen}
-use Rattle.asm_storage.specs.Calls.{IsAnswered, IsBusy, IsCoherentReply, MadeOffers}
+use Rattle.asm_storage.specs.Calls.{IsReplied, IsBusy, IsCoherentReply, MadeOffers}
 use Rattle.asm_storage.specs.Machine.{fire_reply, firing_reply, machine_state, reply_to, Machine}
 use Rattle.asm_state.specs.Verdict.{least_stale}
 use Rattle.asm_storage.specs.Storage.{AgentAt, StorageView, machine_of}
@@ -33,13 +34,12 @@ use Rattle.asm_storage.specs.declared.error.FireError.{FireError}
 use Rattle.asm_storage.specs.declared.error.FireError.TheVariants.{ManyReads}
 use Rattle.asm_storage.specs.Limits.{reads_limit}
 use Rattle.asm_storage.specs.declared.entry.Entry.{Entry}
-use Rattle.asm_slots.specs.Codes.{IsOneOf, ASM_DONE, ASM_STALE, ASM_CLASH, ASM_MEMORY, ASM_FULL, ASM_BUSY, ASM_MANY}
-use Rattle.asm_slots.specs.Calls.{HasLooked}
-use Rattle.asm_slots.specs.Committed.{FiresAll, GotStands, HasFiredStep, NamesAll, TellsFire}
-use Rattle.asm_slots.specs.Own.{state_at}
+use Rattle.asm_slots.specs.AgentCalls.{HasLooked}
+use Rattle.asm_slots.specs.Commit.{FiresAll, GotStands, HasFiredStep, NamesAll, TellsFire}
+use Rattle.asm_slots.specs.OwnState.{state_at}
 use Rattle.asm_slots.specs.Standard.{Standard, meaning, part, standard}
-use Rattle.asm_slots.specs.Step.{StepView}
-use Rattle.asm_slots.specs.Steps.{IsStepOn, below}
+use Rattle.asm_slots.specs.StepView.{StepView}
+use Rattle.asm_slots.specs.StepCalls.{IsStepOn, below}
 
 -- each named location stands as at the number under which it is named, so as at the step's number
 named_stand : (state : ℕ → Old) (n before : ℕ) (reads : List Named) → n ≤ before → All (λ r. r.number ≡ n) reads →
@@ -87,10 +87,11 @@ StandsAs layers M =
     left_by (fire m.part B M) ≡ left_by (fire_all m.part (Ok B) (all_moves groups))
 
 standard_laws : AggregatorLaws standard
+unfolding standard_meaning
 standard_laws = pair_laws (pair_laws set_laws bag_laws) count_laws
 
 module _ (a new : AgentAt Standard) (s : StepView) (reads : List Named) (M : Move) (k : ℕ) (names : NamesAll s reads)
-    (answered : IsAnswered meaning a new reads M (Fired k)) (coherent : IsCoherentReply meaning new reads M (Fired k)) where
+    (answered : IsReplied meaning a new reads M (Fired k)) (coherent : IsCoherentReply meaning new reads M (Fired k)) where
   abbrev moves : List Move
   moves = moves_seen (take (k - 1) new.account.seen)
 
@@ -160,19 +161,19 @@ module _ (a new : AgentAt Standard) (s : StepView) (reads : List Named) (M : Mov
       ∙ ap (λ n. val (state_at a n) l) (sym same)) fired
 
 -- the answer to the fire of a step's one move
-pub has_fired : (s : StepView) (code : ℤ) (fired from to : ℕ) (a new : AgentAt Standard) (reads : List Named) (M : Move)
+pub step_fired : (s : StepView) (code : ℤ) (fired from to : ℕ) (a new : AgentAt Standard) (reads : List Named) (M : Move)
     (answer : Result Reply FireError) → NamesAll s reads → M ≡ unwrap_or (one_move s.layers) [] → StandsAs s.layers M →
     TellsFire answer code fired from to → (IsErrOf answer ManyReads ↔ (reads_limit < length reads)) →
-    IfOk answer (IsAnswered meaning a new reads M) →
+    IfOk answer (IsReplied meaning a new reads M) →
     IfOk answer (IsCoherentReply meaning new reads M) → OnErr answer (HasLooked a new) → IfErr answer (IsBusy a new) →
     ((n : ℕ) × MadeOffers a new answer n) → HasFiredStep s code fired from to a new
-has_fired s code fired from to a new reads M answer names one fires told many answered coherent refused busy offers = record {
+step_fired s code fired from to a new reads M answer names one fires told many answered coherent refused busy offers = record {
   reads = reads;
   answer = answer;
   names = names;
   told = told;
   many = many;
-  answered = subst (λ (x : Move). IfOk answer (IsAnswered meaning a new reads x)) one answered;
+  answered = subst (λ (x : Move). IfOk answer (IsReplied meaning a new reads x)) one answered;
   coherent = subst (λ (x : Move). IfOk answer (IsCoherentReply meaning new reads x)) one coherent;
   refused = refused;
   busy = busy;
@@ -180,24 +181,11 @@ has_fired s code fired from to a new reads M answer names one fires told many an
   fires = λ k is. subst (λ (x : Move). FiresAll a s x k new) one (by_answer k is);
   got = λ k le is.
       got_stands a new s reads M k names
-      (subst (λ (r : Result Reply FireError). IfOk r (IsAnswered meaning a new reads M)) is answered)
+      (subst (λ (r : Result Reply FireError). IfOk r (IsReplied meaning a new reads M)) is answered)
       (subst (λ (r : Result Reply FireError). IfOk r (IsCoherentReply meaning new reads M)) is coherent) le;
 } where
   by_answer : (k : ℕ) → answer ≡ Ok (Fired k) → FiresAll a s M k new
   by_answer k is =
       fires_all a new s reads M k names
-      (subst (λ (r : Result Reply FireError). IfOk r (IsAnswered meaning a new reads M)) is answered)
+      (subst (λ (r : Result Reply FireError). IfOk r (IsReplied meaning a new reads M)) is answered)
       (subst (λ (r : Result Reply FireError). IfOk r (IsCoherentReply meaning new reads M)) is coherent) fires
-
--- one of these codes as an i32
-pub coded : (code : ℤ) →
-    IsOneOf (ASM_DONE ∷ ASM_STALE ∷ ASM_CLASH ∷ ASM_MEMORY ∷ ASM_FULL ∷ ASM_BUSY ∷ ASM_MANY ∷ []) code →
-    to_z w32 (of_z w32 code) ≡ code
-coded code (inl e) = subst (λ (z : ℤ). to_z w32 (of_z w32 z) ≡ z) (sym e) refl
-coded code (inr (inl e)) = subst (λ (z : ℤ). to_z w32 (of_z w32 z) ≡ z) (sym e) refl
-coded code (inr (inr (inl e))) = subst (λ (z : ℤ). to_z w32 (of_z w32 z) ≡ z) (sym e) refl
-coded code (inr (inr (inr (inl e)))) = subst (λ (z : ℤ). to_z w32 (of_z w32 z) ≡ z) (sym e) refl
-coded code (inr (inr (inr (inr (inl e))))) = subst (λ (z : ℤ). to_z w32 (of_z w32 z) ≡ z) (sym e) refl
-coded code (inr (inr (inr (inr (inr (inl e)))))) = subst (λ (z : ℤ). to_z w32 (of_z w32 z) ≡ z) (sym e) refl
-coded code (inr (inr (inr (inr (inr (inr (inl e))))))) = subst (λ (z : ℤ). to_z w32 (of_z w32 z) ≡ z) (sym e) refl
-coded code (inr (inr (inr (inr (inr (inr (inr h))))))) = absurd h

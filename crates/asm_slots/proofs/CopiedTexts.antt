@@ -2,7 +2,7 @@
 use Rattle.std.proofs.Common.{◌≡◌, ◌∙◌, ℕ, ℤ, List, [], ◌∷◌, length, inl, inr, refl, sym, subst, w32, of_z, to_z}
 use Rattle.std.specs.Prelude.{slice_range}
 use Rattle.asm_slots.specs.Codes.{IsOneOf, ASM_DONE, ASM_SMALL}
-use Rattle.asm_slots.specs.Written.{IsTextTooLong, IsTextWritten, Tells, TellsOneOf, TellsText}
+use Rattle.asm_slots.specs.WrittenText.{IsTextTooLong, IsTextWritten, Tells, TellsOneOf, TellsText}
 
 -- the code as an i32
 pub coded : (code : ℤ) → IsOneOf (ASM_DONE ∷ ASM_SMALL ∷ []) code → to_z w32 (of_z w32 code) ≡ code

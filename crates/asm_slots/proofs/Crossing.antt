@@ -1,7 +1,8 @@
 -- What lies in a slot may go to another thread.
 use denote.Param.Send.{IsSend, IsSync, sendable}
-use denote.Param.SendFields.{as_row_send, declared_send, declared_sync}
-use denote.Struct.Field.{row_field}
+use denote.Hole.{as_row}
+use denote.Param.SendFields.{as_row_send, as_row_sync, declared_send, declared_sync}
+use denote.Struct.Field.{row_field, u32-field}
 use Rattle.core.proofs.atomic.Sent.{Atomic-sync}
 use Rattle.core.specs.contracts.atomic.AtomicU64 as Atomic
 use Rattle.std.proofs.Crossing.{Arc-send, Vec-send}
@@ -13,8 +14,15 @@ use Rattle.asm_storage.proofs.Standard.{standard, standard_ghosts, standard_stor
 use Rattle.asm_storage.specs.contracts.entry.Entry as Entry
 use Rattle.asm_storage.specs.contracts.storage.Storage as Storage
 use Rattle.asm_storage.specs.contracts.storage.Storage.TheInside as InsideStorage
+use Rattle.asm_audit.specs.contracts.auditor.Auditor as Auditor
+use Rattle.asm_audit.specs.contracts.byte_auditor.ByteAuditor as ByteAuditor
+use Rattle.asm_audit.specs.contracts.opened.Opened as Opened
+use Rattle.asm_audit.specs.contracts.progress.Progress as Progress
 use Rattle.asm_element.proofs.Crossing.{location_is_sent}
+use Rattle.asm_state.proofs.Crossing as states
 use Rattle.asm_step.proofs.Crossing.{step_is_sent}
+use Rattle.asm_slots.specs.contracts.audit.Audit as Audit
+use Rattle.asm_slots.specs.contracts.audit.Audit.TheInside as InsideAudit
 use Rattle.asm_slots.specs.contracts.content.Content as Content
 use Rattle.asm_slots.specs.contracts.kept_journal.KeptJournal as KeptJournal
 use Rattle.asm_slots.specs.contracts.kept_journal.KeptJournal.TheInside as InsideJournal
@@ -48,7 +56,8 @@ shared_is_sent = search (sendable, storage_is_sent) depth 20
 shared_is_shared : IsSync Shared.the_row
 shared_is_shared =
     let count : IsSync Atomic.the_row = search (sendable, Atomic-sync) depth 20 in
-    declared_sync Shared.the_type (standard_storage_is_shared, (count, tt))
+    let capacity : IsSync (as_row u32-field) = search sendable depth 20 in
+    declared_sync Shared.the_type (standard_storage_is_shared, (count, (as_row_sync (row_field (as_row u32-field)) capacity, tt)))
 
 inside_agent_is_sent : IsSend InsideAgent.the_row
 inside_agent_is_sent = declared_send InsideAgent.the_type (Arc-send Shared.the_row shared_is_sent shared_is_shared, (part_is_sent, tt))
@@ -74,5 +83,27 @@ inside_step_is_sent = search (sendable, Vec-send, step_is_sent, location_is_sent
 owned_step_is_sent : IsSend OwnedStep.the_row
 owned_step_is_sent = search (sendable, inside_step_is_sent) depth 20
 
+opened_is_sent : IsSend Opened.the_row
+opened_is_sent = search (sendable, states.state_is_sent) depth 20
+
+progress_is_sent : IsSend Progress.the_row
+progress_is_sent = search (sendable, opened_is_sent) depth 20
+
+auditor_is_sent : IsSend (Auditor.the_row standard)
+auditor_is_sent =
+    declared_send (Auditor.the_type standard)
+    (as_row_send (row_field standard) standard_is_sent, (progress_is_sent, tt))
+
+byte_auditor_is_sent : IsSend (ByteAuditor.the_row standard standard_ghosts)
+byte_auditor_is_sent =
+    declared_send (ByteAuditor.the_type standard standard_ghosts)
+    (auditor_is_sent, (search (sendable, Vec-send) depth 20, tt))
+
+inside_audit_is_sent : IsSend InsideAudit.the_row
+inside_audit_is_sent = declared_send InsideAudit.the_type (byte_auditor_is_sent, tt)
+
+audit_is_sent : IsSend Audit.the_row
+audit_is_sent = search (sendable, inside_audit_is_sent) depth 20
+
 pub content_is_sent : IsSend Content.the_row
-content_is_sent = search (sendable, agent_is_sent, store_is_sent, owned_step_is_sent, location_is_sent, instructions_is_sent) depth 20
+content_is_sent = search (sendable, agent_is_sent, store_is_sent, owned_step_is_sent, location_is_sent, instructions_is_sent, audit_is_sent) depth 20

@@ -1,23 +1,23 @@
 -- A step that grows or shrinks over the state at its number.
-use Rattle.std.proofs.Common.{Bool, true, false, ℕ, ℤ, ◌≡◌, ◌≤◌, length, List, [], ◌∷◌, ◌++◌, Result, Ok, Err, refl, ap, subst, sym}
-use Rattle.std.specs.Bool.{OnTrue}
+use Rattle.std.proofs.Common.{ℕ, ℤ, ◌≡◌, ◌≤◌, length, List, [], ◌∷◌, ◌++◌, Result, Ok, Err, Option, None, Some, unwrap_or, refl, ap, subst, sym}
+use Rattle.std.specs.Prelude.{IfSome}
 use Rattle.asm_update.specs.Fire.{Part, Old}
 use Rattle.asm_update.specs.Move.{Move}
 use Rattle.asm_update.specs.State.{State, IsProper}
 use Rattle.asm_state.specs.View.{StateView, value_at}
-use Rattle.asm_step.specs.Answer.{IsAnswer, IsAnswerOn}
+use Rattle.asm_step.specs.Answer.{IsPushAnswer, IsPushAnswerOn}
 use Rattle.asm_step.specs.InTurn.{Agrees}
 use Rattle.asm_step.specs.Layers.{Layer, all_moves, IsStepOf}
 use Rattle.asm_step.specs.declared.error.StepError.{StepError}
 use Rattle.asm_step.specs.declared.error.StepError.TheVariants.{Deep}
 use Rattle.asm_storage.specs.Storage.{AgentAt}
 use Rattle.asm_slots.specs.Bytes.{ReadAsMove}
-use Rattle.asm_slots.specs.Written.{TellsOneOf}
-use Rattle.asm_slots.specs.Grown.{refusals}
-use Rattle.asm_slots.specs.Own.{state_at}
+use Rattle.asm_slots.specs.WrittenText.{TellsOneOf}
+use Rattle.asm_slots.specs.StepPush.{refusals}
+use Rattle.asm_slots.specs.OwnState.{state_at}
 use Rattle.asm_slots.specs.Standard.{Standard, standard, part}
-use Rattle.asm_slots.specs.Step.{StepView}
-use Rattle.asm_slots.specs.Steps.{HasPopped, HasReached, IsAnsweredBelow, IsGrown, IsLayered, IsNotGrown, IsPushError, IsRefused, TellsRefusal, below, grown}
+use Rattle.asm_slots.specs.StepView.{StepView}
+use Rattle.asm_slots.specs.StepCalls.{AreLastOf, HasPopped, HasReached, IsPushAnswerBelow, IsGrown, IsLayered, IsNotGrown, IsPushError, IsRefused, TellsRefusal, below, grown}
 use Rattle.asm_slots.specs.declared.owned_step.Way.{Way}
 use Rattle.asm_slots.specs.declared.owned_step.Way.TheVariants as ways
 use Rattle.asm_slots.proofs.CopiedTexts.{tells_one_too}
@@ -27,12 +27,12 @@ use Rattle.asm_slots.proofs.OwnStates.{IsOwn, below_is}
 abbrev AnswersOn : Old → List Layer → List Layer → Move → Result (Unit {0}) StepError → Type 0
 AnswersOn o layers new M r =
     (groups : List (List Move)) (B : State) → IsStepOf part o layers groups → IsProper B →
-    Agrees B o (all_moves groups ++ M ∷ []) → IsAnswerOn part B layers new M r
+    Agrees B o (all_moves groups ++ M ∷ []) → IsPushAnswerOn part B layers new M r
 
 -- so to the state below the step
 below_answers : (a : AgentAt Standard) (s : StateView) (t : StepView) (new : List Layer) (M : Move)
     (r : Result (Unit {0}) StepError) → IsOwn a s → s.number ≡ t.number → AnswersOn (value_at s) t.layers new M r →
-    IsAnsweredBelow M a t new r
+    IsPushAnswerBelow M a t new r
 below_answers a s t new M r own same on groups is proper =
     let at = below_is a s t own same in
     on groups (state_at a t.number) (subst (λ (o : Old). IsStepOf part o t.layers groups) (sym at) is.1) proper
@@ -41,7 +41,7 @@ below_answers a s t new M r own same on groups is proper =
 -- what a push or an extension tells over a look-up is so over what is below the step
 pub is_grown : (way : Way) (a : AgentAt Standard) (s : StateView) (old : StepView) (ls : List Layer) (M : Move) →
     IsOwn a s → s.number ≡ old.number → IsLayered way old.layers ls →
-    IsAnswer standard (value_at s) old.layers ls M (Ok tt) → AnswersOn (value_at s) old.layers ls M (Ok tt) →
+    IsPushAnswer standard (value_at s) old.layers ls M (Ok tt) → AnswersOn (value_at s) old.layers ls M (Ok tt) →
     ((groups : List (List Move)) → IsStepOf part (value_at s) old.layers groups →
     IsStepOf part (value_at s) ls (grown way groups M)) →
     IsGrown way M a old (record old { layers = ls })
@@ -51,7 +51,7 @@ is_grown way a s old ls M own same layers answer on step =
       same = refl;
       reached = subst (λ (n : ℕ). n ≤ length a.account.seen) same own.within;
       layers = layers;
-      answer = subst (λ (o : Old). IsAnswer standard o old.layers ls M (Ok tt)) at
+      answer = subst (λ (o : Old). IsPushAnswer standard o old.layers ls M (Ok tt)) at
           answer;
       fires = below_answers a s old ls M (Ok tt) own same on;
       step = λ groups is. (is.0, moved groups is.1);
@@ -65,17 +65,17 @@ is_grown way a s old ls M own same layers answer on step =
 -- why a move isn't taken, over what is below the step
 pub is_push_error : (way : Way) (a : AgentAt Standard) (s : StateView) (t : StepView) (M : Move) (e : StepError) →
     IsOwn a s → s.number ≡ t.number → (way ≡ ways.Extend → ¬ (e ≡ Deep)) →
-    IsAnswer standard (value_at s) t.layers t.layers M (Err e) → AnswersOn (value_at s) t.layers t.layers M (Err e) →
+    IsPushAnswer standard (value_at s) t.layers t.layers M (Err e) → AnswersOn (value_at s) t.layers t.layers M (Err e) →
     IsPushError way M a t e
 is_push_error way a s t M e own same deep answer on =
     let at = below_is a s t own same in
     by_way way e deep (
       subst (λ (n : ℕ). n ≤ length a.account.seen) same own.within,
-      subst (λ (o : Old). IsAnswer standard o t.layers t.layers M (Err e)) at answer,
+      subst (λ (o : Old). IsPushAnswer standard o t.layers t.layers M (Err e)) at answer,
       below_answers a s t t.layers M (Err e) own same on,
     ) where
       by_way : (way : Way) (e : StepError) → (way ≡ ways.Extend → ¬ (e ≡ Deep)) →
-          HasReached a t × IsAnswer standard (below a t) t.layers t.layers M (Err e) × IsAnsweredBelow M a t t.layers (Err e) →
+          HasReached a t × IsPushAnswer standard (below a t) t.layers t.layers M (Err e) × IsPushAnswerBelow M a t t.layers (Err e) →
           IsPushError way M a t e
       by_way ways.Push e deep is = is
       by_way ways.Extend Deep deep is = absurd (deep refl refl)
@@ -84,7 +84,7 @@ is_push_error way a s t M e own same deep answer on =
 -- the same, of a step whose contents are these
 pub is_grown_of : (way : Way) (a : AgentAt Standard) (s : StateView) (t inside : StepView) (ls : List Layer) (M : Move) →
     inside ≡ t → IsOwn a s → s.number ≡ inside.number → IsLayered way inside.layers ls →
-    IsAnswer standard (value_at s) inside.layers ls M (Ok tt) → AnswersOn (value_at s) inside.layers ls M (Ok tt) →
+    IsPushAnswer standard (value_at s) inside.layers ls M (Ok tt) → AnswersOn (value_at s) inside.layers ls M (Ok tt) →
     ((groups : List (List Move)) → IsStepOf part (value_at s) inside.layers groups →
     IsStepOf part (value_at s) ls (grown way groups M)) →
     IsGrown way M a t (record inside { layers = ls })
@@ -96,17 +96,17 @@ is_grown_of way a s t inside ls M view own same layers answer on step =
 module _ (way : Way) (a : AgentAt Standard) (s : StateView) (t inside : StepView) (ls : List Layer) (M : Move) (e : StepError) where
   told_of : (code : ℤ) (text : List ℕ) → inside ≡ t → IsOwn a s → s.number ≡ inside.number →
       (way ≡ ways.Extend → ¬ (e ≡ Deep)) → ls ≡ inside.layers →
-      IsAnswer standard (value_at s) inside.layers ls M (Err e) → AnswersOn (value_at s) inside.layers ls M (Err e) →
+      IsPushAnswer standard (value_at s) inside.layers ls M (Err e) → AnswersOn (value_at s) inside.layers ls M (Err e) →
       TellsRefusal e code text → IsRefused way M a t code text
   told_of code text view own same deep kept answer on told =
       let error = is_push_error way a s inside M e own same deep
-      (subst (λ (x : List Layer). IsAnswer standard (value_at s) inside.layers x M (Err e)) kept answer)
+      (subst (λ (x : List Layer). IsPushAnswer standard (value_at s) inside.layers x M (Err e)) kept answer)
       (subst (λ (x : List Layer). AnswersOn (value_at s) inside.layers x M (Err e)) kept on) in
       (e, subst (λ (x : StepView). IsPushError way M a x e) view error, told)
 
   pub is_refused : (out after : List ℕ) (written : ℕ) (code : ℤ) → inside ≡ t → IsOwn a s → s.number ≡ inside.number →
       (way ≡ ways.Extend → ¬ (e ≡ Deep)) → ls ≡ inside.layers →
-      IsAnswer standard (value_at s) inside.layers ls M (Err e) → AnswersOn (value_at s) inside.layers ls M (Err e) →
+      IsPushAnswer standard (value_at s) inside.layers ls M (Err e) → AnswersOn (value_at s) inside.layers ls M (Err e) →
       TellsOneOf refusals (TellsRefusal e) out after written code →
       TellsOneOf refusals (IsRefused way M a t) out after written code
   is_refused out after written code view own same deep kept answer on =
@@ -127,13 +127,23 @@ pushes ways.Push other = refl
 pushes ways.Extend other = absurd (other refl)
 
 -- the topmost layer is gone, and the step is of the groups before the last one
-pub is_popped : (b : Bool) (old : StepView) (ls : List Layer) → OnTrue b ((y : Layer) × (old.layers ≡ ls ++ y ∷ [])) →
-    OnTrue b ((part : Part) (o : Old) (groups : List (List Move)) (group : List Move) →
-    IsStepOf part o old.layers (groups ++ group ∷ []) → IsStepOf part o ls groups) →
-    OnTrue b (HasPopped old (record old { layers = ls }))
-is_popped true old ls less step = record {
+pub is_popped : (popped : Option (List Move)) (old : StepView) (ls : List Layer) →
+    IfSome popped (λ Ms. (y : Layer) × (old.layers ≡ ls ++ y ∷ []) × (Ms ≡ y.moves)) →
+    ((part : Part) (o : Old) (groups : List (List Move)) (group : List Move) →
+    IsStepOf part o old.layers (groups ++ group ∷ []) → (popped ≡ Some group) × IsStepOf part o ls groups) →
+    IfSome popped (λ Ms. HasPopped old (record old { layers = ls }))
+is_popped (Some Ms) old ls less step = record {
   same = refl;
-  less = less;
-  step = λ a groups group is. (is.0, step part (below a old) groups group is.1);
+  less = (less.0, less.1);
+  step = λ a groups group is. (is.0, (step part (below a old) groups group is.1).1);
 }
-is_popped false old ls less step = tt
+is_popped None old ls less step = tt
+
+-- and what is handed back is that one
+pub are_last : (popped : Option (List Move)) (old : StepView) (ls : List Layer) →
+    ((part : Part) (o : Old) (groups : List (List Move)) (group : List Move) →
+    IsStepOf part o old.layers (groups ++ group ∷ []) → (popped ≡ Some group) × IsStepOf part o ls groups) →
+    IfSome popped (AreLastOf old)
+are_last (Some Ms) old ls step = λ a groups group is.
+    ap (λ o. unwrap_or o Ms) (step part (below a old) groups group is.1).0
+are_last None old ls step = tt

@@ -26,7 +26,7 @@ use Rattle.std.proofs.alloc.Global.TheLaws as heap_laws
 use Rattle.std.specs.contracts.impls.GlobalAllocator.TheImpl.{ghosts}
 use Rattle.std_alloc.specs.Box.Ownership.{box_owns}
 use Rattle.asm_slots.proofs.RawBoxValues.{both, both_tt}
-use Rattle.asm_slots.specs.Boxed.{option_box_owns}
+use Rattle.asm_slots.specs.BoxedContent.{option_box_owns}
 use Rattle.asm_slots.specs.contracts.content.Content as inner
 use Rattle.asm_slots.specs.contracts.handle.Handle as handle
 

@@ -1,17 +1,18 @@
--- What is so of the agent that a slot holds, and of the step that another does.
+-- What is so of the agent that a slot holds, of the step that another does, and of an audit.
 use Rattle.std.proofs.Common.{◌≡◌, ℕ, ℤ, List, [], ◌∷◌, Option, Some, subst, sym, w32, of_z, to_z}
 use Rattle.asm_update.specs.Move.{Move}
 use Rattle.asm_storage.specs.Storage.{AgentAt}
-use Rattle.asm_slots.specs.Written.{TellsOneOf, TellsText}
+use Rattle.asm_slots.specs.WrittenText.{TellsOneOf, TellsText}
 use Rattle.asm_slots.specs.Codes.{IsOneOf, ASM_DONE, ASM_SMALL}
-use Rattle.asm_slots.specs.Slots.{HoldBoth, Holds, HoldsMove, HoldsStep}
+use Rattle.asm_slots.specs.AuditView.{AuditView}
+use Rattle.asm_slots.specs.Slots.{HoldBoth, Holds, HoldsAudit, HoldsMove, HoldsStep}
 use Rattle.asm_slots.specs.Standard.{Standard}
-use Rattle.asm_slots.specs.Step.{StepView}
+use Rattle.asm_slots.specs.StepView.{StepView}
 use Rattle.asm_slots.specs.declared.content.Content.{Content}
 use Rattle.asm_slots.specs.declared.content.Content.TheVariants as content
 use Rattle.asm_slots.proofs.CopiedTexts.{retold, tells_one_too, tells_too}
 
-holds : (o : Option Content) (a : AgentAt Standard) (P : AgentAt Standard → Type 0) → o ≡ Some (content.Agent a) → P a →
+pub holds : (o : Option Content) (a : AgentAt Standard) (P : AgentAt Standard → Type 0) → o ≡ Some (content.Agent a) → P a →
     Holds o P
 holds o a P is p = subst (λ (x : Option Content). Holds x P) (sym is) p
 
@@ -22,6 +23,15 @@ pub holds_told : (o : Option Content) (a : AgentAt Standard) (P : AgentAt Standa
     TellsText (λ t. Holds o (λ b. P b t)) out after written (to_z w32 (of_z w32 code))
 holds_told o a P bytes text out after written code is same so =
     retold (λ t. Holds o (λ b. P b t)) bytes text out after written code same (holds o a (λ b. P b text) is so)
+
+-- where these bytes are told, a text is told that is so of the audit
+pub audit_told : (o : Option Content) (a : AuditView) (P : AuditView → List ℕ → Type 0)
+    (bytes text out after : List ℕ) (written : ℕ) (code : ℤ) → o ≡ Some (content.Audit a) → bytes ≡ text → P a text →
+    IsOneOf (ASM_DONE ∷ ASM_SMALL ∷ []) code → TellsText (λ t. t ≡ bytes) out after written code →
+    TellsText (λ t. HoldsAudit o (λ b. P b t)) out after written (to_z w32 (of_z w32 code))
+audit_told o a P bytes text out after written code is same so =
+    retold (λ t. HoldsAudit o (λ b. P b t)) bytes text out after written code same
+    (subst (λ (x : Option Content). HoldsAudit x (λ b. P b text)) (sym is) so)
 
 hold_both : (agent step : Option Content) (a : AgentAt Standard) (s : StepView) (P : AgentAt Standard → StepView → Type 0) →
     agent ≡ Some (content.Agent a) → step ≡ Some (content.Step s) → P a s → HoldBoth agent step P

@@ -7,8 +7,10 @@ pub mod CopiedTexts
 pub mod Noted
 pub mod Crossing
 pub mod Held
-pub mod GoingOn
+pub mod FedAudits
+pub mod OwnAgents
 pub mod OwnStates
+pub mod GoingOn
 pub mod Growing
 pub mod Commits
 pub mod Unwritten

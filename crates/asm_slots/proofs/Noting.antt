@@ -11,7 +11,7 @@ use Rattle.std.specs.Cmp.{eq_by_cmp_equiv}
 use Rattle.asm_step.proofs.Agreeing.{each_from}
 use Rattle.asm_step.specs.Places.{AreEach}
 use Rattle.asm_storage.specs.Limits.{reads_limit}
-use Rattle.asm_slots.specs.Steps.{IsCopyFor}
+use Rattle.asm_slots.specs.StepCalls.{IsCopyFor}
 
 either : (xs ys : List Place) (l : Place) → Contains (xs ++ ys) l → Contains (ys ++ xs) l
 either xs ys l has =

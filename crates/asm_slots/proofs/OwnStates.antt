@@ -14,10 +14,10 @@ use Rattle.asm_storage.specs.Part.{IsFollowing}
 use Rattle.asm_storage.specs.Storage.{AgentAt, machine_of}
 use Rattle.asm_journal.specs.Text.{state_json_of}
 use Rattle.asm_slots.specs.Bytes.{ReadAsLocations}
-use Rattle.asm_slots.specs.Own.{IsOwnOfName, IsOwnState, IsPeekOf, of_name, state_at, values_text}
+use Rattle.asm_slots.specs.OwnState.{IsOwnOfName, IsOwnState, IsPeekOf, of_name, state_at, values_text}
 use Rattle.asm_slots.specs.Standard.{Standard, meaning, part}
-use Rattle.asm_slots.specs.Step.{StepView}
-use Rattle.asm_slots.specs.Steps.{below, seen}
+use Rattle.asm_slots.specs.StepView.{StepView}
+use Rattle.asm_slots.specs.StepCalls.{below, seen}
 
 -- the state is the agent's own
 abbrev pub IsOwn : AgentAt Standard → StateView → Type 0

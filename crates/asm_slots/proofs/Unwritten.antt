@@ -2,9 +2,9 @@
 use Rattle.std.proofs.Common.{List, inr}
 use Rattle.asm_storage.specs.declared.history.History.{History}
 use Rattle.asm_storage.specs.Storage.{AgentAt, StorageView}
-use Rattle.asm_slots.specs.Closed.{IsClosing}
+use Rattle.asm_slots.specs.ClosedStore.{IsClosing}
 use Rattle.asm_slots.specs.Standard.{Standard}
-use Rattle.asm_slots.specs.Unclosed.{IsUnclosed, IsUnwritten}
+use Rattle.asm_slots.specs.CloseFaults.{IsUnclosed, IsUnwritten}
 use Rattle.asm_slots.specs.declared.store_close.Unclosed.{Unclosed}
 use Rattle.asm_slots.specs.declared.store_close.Unclosed.TheVariants as unclosed
 

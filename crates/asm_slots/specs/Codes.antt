@@ -1,5 +1,6 @@
 -- The codes that C gets.
-use Rattle.std.specs.Prelude.{◌≡◌, ◌⊎◌, ℤ, pos, negsuc, List, [], ◌∷◌, ℕ, codes, slice_index_or}
+use Rattle.std.specs.Prelude.{◌≡◌, ◌⊎◌, ℤ, pos, negsuc, List, [], ◌∷◌, ℕ, codes, slice_index_or, if◌then◌else◌}
+use Rattle.std.specs.Ordering.{int_eq}
 
 -- done; of a fire: fired; of a check: legal
 abbrev pub ASM_DONE : ℤ
@@ -41,11 +42,12 @@ ASM_BUSY = pos 8
 abbrev pub ASM_MANY : ℤ
 ASM_MANY = pos 9
 
--- no call was answered yet; no journal since an agent was given back; or no move is pushed
+-- no call was answered yet; no journal since an agent was given back; no move is pushed; no agent with the number was given
+-- back; no part has begun; or the storage has room for a further move
 abbrev pub ASM_NONE : ℤ
 ASM_NONE = pos 10
 
--- a slot that was to be filled is full
+-- a slot that was to be filled holds something else
 abbrev pub ASM_TAKEN : ℤ
 ASM_TAKEN = pos 11
 
@@ -81,7 +83,7 @@ ASM_VERSION = pos 18
 abbrev pub ASM_CUT : ℤ
 ASM_CUT = pos 19
 
--- more calls than a journal holds; or too large an amount or sum
+-- more calls than a journal holds; too long a line; or too large an amount or sum
 abbrev pub ASM_LARGE : ℤ
 ASM_LARGE = pos 20
 
@@ -93,12 +95,16 @@ ASM_MOVED = pos 21
 abbrev pub ASM_DEEP : ℤ
 ASM_DEEP = pos 22
 
+-- a part of a run opens with another state than the one before it leaves
+abbrev pub ASM_APART : ℤ
+ASM_APART = pos 23
+
 -- one of these codes
 abbrev pub IsOneOf : List ℤ → ℤ → Type 0
 IsOneOf [] code = ⊥
 IsOneOf (c ∷ cs) code = (code ≡ c) ⊎ IsOneOf cs code
 
--- the texts of the codes, from 0 up
+-- the texts of the codes but ASM_APART, from 0 up
 abbrev pub texts : List (List ℕ)
 texts =
     codes "done" ∷
@@ -111,8 +117,8 @@ texts =
     codes "the buffer is too small" ∷
     codes "64 offers were lost" ∷
     codes "more than 256 locations, or more than 4,096 instructions" ∷
-    codes "there is no answer, no journal or no pushed move" ∷
-    codes "the slot that was to be filled is full" ∷
+    codes "there is no answer, journal, pushed move, agent or part, or there is room still" ∷
+    codes "the slot that was to be filled holds something else" ∷
     codes "an agent with this number was made before" ∷
     codes "a move has no receipt among the agents that were given back" ∷
     codes "the two slots are of two storages" ∷
@@ -121,11 +127,17 @@ texts =
     codes "JSON of another shape" ∷
     codes "a journal of another version" ∷
     codes "the journal is cut off" ∷
-    codes "more calls than a journal holds, or too large an amount or sum" ∷
+    codes "too many calls for a journal, too long a line, or too large an amount" ∷
     codes "the state of the agent has moved on since the step began" ∷
     codes "64 moves are pushed already" ∷ []
 
+-- the text of a code but ASM_APART
+abbrev pub text_but_apart : ℤ → List ℕ
+text_but_apart (pos n) = slice_index_or texts n (codes "no code of this library")
+text_but_apart (negsuc n) = codes "no code of this library"
+
 -- the text of a code
 abbrev pub text_of_code : ℤ → List ℕ
-text_of_code (pos n) = slice_index_or texts n (codes "no code of this library")
-text_of_code (negsuc n) = codes "no code of this library"
+text_of_code code =
+    if int_eq code ASM_APART then codes "a part opens with another state than the one before it leaves"
+    else text_but_apart code

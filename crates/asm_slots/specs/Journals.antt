@@ -1,5 +1,5 @@
 -- What is told of the bytes of a journal.
-use Rattle.std.specs.Prelude.{◌≡◌, ◌≢◌, ℕ, ℤ, List, [], ◌∷◌, length}
+use Rattle.std.specs.Prelude.{◌≡◌, ◌≢◌, ℕ, ℤ, List, [], ◌∷◌}
 use Rattle.serde_json.specs.Written.{compact_text}
 use Rattle.asm_update.specs.Fire.{state_of}
 use Rattle.asm_storage.specs.declared.history.History.{History}
@@ -16,7 +16,7 @@ use Rattle.asm_trace.specs.Text.{IsTrace}
 use Rattle.asm_slots.specs.Codes.{IsOneOf, ASM_DONE, ASM_MEMORY, ASM_SMALL, ASM_ILLEGAL}
 use Rattle.asm_slots.specs.Codes.{ASM_NOT_JSON, ASM_SHAPE, ASM_VERSION, ASM_CUT}
 use Rattle.asm_slots.specs.Standard.{part}
-use Rattle.asm_slots.specs.Written.{TellsText}
+use Rattle.asm_slots.specs.WrittenText.{TellsText}
 
 -- the bytes are a journal, and this is what its check tells
 pub record IsChecked (bytes : List ℕ) (l : Legality) : Type 0 where

@@ -3,8 +3,9 @@ use Rattle.std.specs.Prelude.{◌≡◌, ◌<◌, ◌⊎◌, slice_index_or, ℕ
 use Rattle.asm_element.specs.Place.{Place}
 use Rattle.asm_update.specs.Move.{Move}
 use Rattle.asm_storage.specs.Storage.{AgentAt, StorageView, at_start}
+use Rattle.asm_slots.specs.AuditView.{AuditView, WasFed}
 use Rattle.asm_slots.specs.Standard.{Standard}
-use Rattle.asm_slots.specs.Step.{StepView}
+use Rattle.asm_slots.specs.StepView.{StepView}
 use Rattle.asm_slots.specs.Store.{StoreView}
 use Rattle.asm_slots.specs.declared.slot.Slot.{Slot}
 use Rattle.asm_slots.specs.declared.content.Content.{Content}
@@ -109,6 +110,28 @@ HasRoomForMove _ = ⊥
 abbrev pub move_of : Option Content → Move
 move_of (Some (content.Move M)) = M
 move_of _ = []
+
+-- the slot holds an audit, and it is so
+abbrev pub HoldsAudit : Option Content → (AuditView → Type 0) → Type 0
+HoldsAudit (Some (content.Audit a)) P = P a
+HoldsAudit _ P = ⊥
+
+-- the slot holds no audit
+abbrev pub HoldsNoAudit : Option Content → Type 0
+HoldsNoAudit (Some (content.Audit a)) = ⊥
+HoldsNoAudit _ = Unit {0}
+
+-- the slot is empty or holds an audit
+abbrev pub HasRoomForAudit : Option Content → Type 0
+HasRoomForAudit None = Unit {0}
+HasRoomForAudit (Some (content.Audit a)) = Unit {0}
+HasRoomForAudit _ = ⊥
+
+-- the slot holds an audit before, or one that has read nothing begins there, and one after, and these two are so
+abbrev pub GoesAudit : Option Content → Option Content → (AuditView → AuditView → Type 0) → Type 0
+GoesAudit None new P = (a : AuditView) × WasFed [] a × HoldsAudit new (P a)
+GoesAudit (Some (content.Audit a)) new P = HoldsAudit new (P a)
+GoesAudit _ new P = ⊥
 
 -- two agents are of one storage, where there are two
 abbrev pub AreOfOneStorage : Option Content → Option Content → Type 0

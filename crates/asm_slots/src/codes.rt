@@ -1,7 +1,7 @@
 //! The codes that calls answer, and their texts.
 ghost use Rattle.std.specs.Prelude.{◌∷◌, [], ◌≡◌, ◌≢◌, ◌<◌, length, string_bytes};
-ghost use Rattle.asm_slots.specs.Codes.{IsOneOf, text_of_code, ASM_DONE, ASM_SMALL};
-ghost use Rattle.asm_slots.specs.Written.{Tells, TellsText};
+ghost use Rattle.asm_slots.specs.Codes.{IsOneOf, text_of_code, text_but_apart, ASM_DONE, ASM_SMALL};
+ghost use Rattle.asm_slots.specs.WrittenText.{Tells, TellsText};
 
 pub const DONE: i32 = 0;
 
@@ -49,6 +49,8 @@ pub const MOVED: i32 = 21;
 
 pub const DEEP: i32 = 22;
 
+pub const APART: i32 = 23;
+
 /// A text that is to be written, with its code.
 #[derive(Drop)]
 pub struct Told {
@@ -87,6 +89,16 @@ pub fn written_as(told: &Told, out: &mut [u8], written: &mut usize) -> i32
 pub fn text_of_code(code: i32) -> &'static str
     ensures { result.now ≡ text_of_code code }
 {
+    if code == APART {
+        return "a part opens with another state than the one before it leaves";
+    }
+    text_but_apart(code)
+}
+
+// The text of any code but `APART`. All in one match are more than the prover looks through.
+fn text_but_apart(code: i32) -> &'static str
+    ensures { result.now ≡ text_but_apart code }
+{
     match code {
         DONE => "done",
         STALE => "a location that was named was written since it was read",
@@ -99,8 +111,8 @@ pub fn text_of_code(code: i32) -> &'static str
         SMALL => "the buffer is too small",
         BUSY => "64 offers were lost",
         MANY => "more than 256 locations, or more than 4,096 instructions",
-        NONE => "there is no answer, no journal or no pushed move",
-        TAKEN => "the slot that was to be filled is full",
+        NONE => "there is no answer, journal, pushed move, agent or part, or there is room still",
+        TAKEN => "the slot that was to be filled holds something else",
         NUMBER => "an agent with this number was made before",
         MISSING => "a move has no receipt among the agents that were given back",
         OTHER => "the two slots are of two storages",
@@ -109,7 +121,7 @@ pub fn text_of_code(code: i32) -> &'static str
         SHAPE => "JSON of another shape",
         VERSION => "a journal of another version",
         CUT => "the journal is cut off",
-        LARGE => "more calls than a journal holds, or too large an amount or sum",
+        LARGE => "too many calls for a journal, too long a line, or too large an amount",
         MOVED => "the state of the agent has moved on since the step began",
         DEEP => "64 moves are pushed already",
         _ => "no code of this library",

@@ -8,8 +8,8 @@ ghost use Rattle.asm_journal.specs.Value.{IsStateForm};
 ghost use Rattle.asm_slots.specs.Bytes.{AreMisread};
 ghost use Rattle.asm_slots.specs.Codes.{IsOneOf, ASM_DONE, ASM_CLASH, ASM_MEMORY, ASM_MANY};
 ghost use Rattle.asm_slots.specs.Codes.{ASM_LARGE, ASM_NOT_JSON, ASM_SHAPE};
-ghost use Rattle.asm_slots.specs.Moves.{IsAggregated, IsComposed};
-ghost use Rattle.asm_slots.specs.Moves.{TellsAggregate, TellsComposition, clash_text, large_text};
+ghost use Rattle.asm_slots.specs.Composing.{IsAggregated, IsComposed};
+ghost use Rattle.asm_slots.specs.Composing.{TellsAggregate, TellsComposition, clash_text, large_text};
 
 use crate::codes::{CLASH, DONE, LARGE, MANY, MEMORY, Told};
 use crate::parsing::{code_of_text_error, read_both};

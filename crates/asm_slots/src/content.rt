@@ -1,4 +1,5 @@
 //! What a slot contains, in the box behind its handle.
+use crate::audit::Audit;
 use crate::owned_agent::OwnedAgent;
 use crate::owned_step::OwnedStep;
 use crate::store::Store;
@@ -14,4 +15,5 @@ pub enum Content {
     Step(OwnedStep),
     Location(Location),
     Move(Instructions),
+    Audit(Audit),
 }

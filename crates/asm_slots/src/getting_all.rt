@@ -6,8 +6,8 @@ ghost use Rattle.asm_step.specs.Places.{AreEach};
 ghost use Rattle.asm_storage.specs.Limits.{reads_limit};
 ghost use Rattle.asm_slots.specs.Codes.{IsOneOf, ASM_DONE, ASM_MEMORY, ASM_SMALL, ASM_MANY};
 ghost use Rattle.asm_slots.specs.Codes.{ASM_SHAPE, ASM_MOVED};
-ghost use Rattle.asm_slots.specs.Steps.{HasGotAll, HasReached, IsFound, IsFoundText, WouldGetManyMore, from_below};
-ghost use Rattle.asm_slots.specs.Written.{TellsText};
+ghost use Rattle.asm_slots.specs.StepCalls.{HasGotAll, HasReached, IsFound, IsFoundText, WouldGetManyMore, from_below};
+ghost use Rattle.asm_slots.specs.WrittenText.{TellsText};
 
 use crate::codes::{DONE, MANY, MEMORY, MOVED, SHAPE, copied};
 use crate::owned_agent::OwnedAgent;

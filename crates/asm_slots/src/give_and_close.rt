@@ -1,9 +1,9 @@
 //! Counting a storage's moves, giving agents back, closing them into a journal, and its text.
 ghost use Rattle.std.specs.Prelude.{◌≡◌, ◌≢◌, ◌∷◌, [], None, Some};
-ghost use Rattle.asm_slots.specs.Calls.{HasNumber, HasTaken};
+ghost use Rattle.asm_slots.specs.AgentCalls.{HasNumber, HasTaken};
 ghost use Rattle.asm_slots.specs.Codes.{IsOneOf, ASM_DONE, ASM_MEMORY};
 ghost use Rattle.asm_slots.specs.Codes.{ASM_NUMBER, ASM_MISSING, ASM_LARGE};
-ghost use Rattle.asm_slots.specs.Unclosed.{TellsUnclosed};
+ghost use Rattle.asm_slots.specs.CloseFaults.{TellsUnclosed};
 ghost use Rattle.asm_slots.specs.Slots.{HoldsStore, content_of};
 ghost use Rattle.asm_slots.specs.declared.content.Content.TheVariants as content;
 ghost use Rattle.asm_slots.specs.declared.store_close.Unclosed.TheVariants as unclosed;

@@ -18,7 +18,7 @@ pub struct Handle {
 }
 
 impl Model for Handle {
-    ghost use Rattle.asm_slots.specs.Boxed.{option_box_owns};
+    ghost use Rattle.asm_slots.specs.BoxedContent.{option_box_owns};
     ghost use Rattle.std.specs.contracts.impls.GlobalAllocator.TheImpl.{ghosts};
 
     ghost also_owns = { λ h. option_box_owns (ghosts.dealloc_token h.alloc) h.at h.value };

@@ -1,4 +1,6 @@
 //! Checking a journal, the state that it leaves, and its trace.
+#![tactic(auto, unfolding(asm_aggregate::specs::Standard::standard_meaning))]
+
 ghost use Rattle.std.specs.Prelude.{◌≡◌, ◌∷◌, [], string_bytes, IfOk, IfErr};
 ghost use Rattle.asm_slots.specs.Codes.{IsOneOf, ASM_MEMORY, ASM_NOT_JSON, ASM_SHAPE, ASM_VERSION, ASM_CUT};
 ghost use Rattle.asm_slots.specs.Journals.{IsChecked, IsReplayed, IsTraceOf, TellsError};

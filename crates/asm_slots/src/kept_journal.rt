@@ -3,8 +3,8 @@ ghost use Rattle.std.specs.Prelude.{◌≡◌, ◌↔◌, IfOk, IsErrOf, string_
 ghost use Rattle.asm_storage.specs.History.{Fits};
 ghost use Rattle.asm_storage.specs.declared.error.StorageError.TheVariants.{BadCapacity};
 ghost use Rattle.asm_journal.specs.Text.{text_of};
-ghost use Rattle.asm_slots.specs.Calls.{IsNoCapacity};
-ghost use Rattle.asm_slots.specs.Next.{HasOpened};
+ghost use Rattle.asm_slots.specs.AgentCalls.{IsNoCapacity};
+ghost use Rattle.asm_slots.specs.NextStore.{HasOpened};
 
 use asm_aggregate::{Standard, standard};
 use asm_journal::laws::reads_back;

@@ -1,9 +1,12 @@
-//! Slots that hold a storage, an agent of one, a step, a location or a move, and what the calls of the library for C stand on.
+//! Slots that hold a storage, an agent of one, a step, a location, a move or an audit, and what the calls of the library for C
+//! stand on.
 //!
 //! A slot lies in the memory of whoever calls; one of zeros holds nothing. Each agent owns a share of its
 //! storage, so slots may be released in any order. Texts are those of journals. Each call answers a code.
 #![tactic(auto)]
 
+mod audit;
+pub mod auditing;
 pub mod codes;
 pub mod committing;
 pub mod composing;
@@ -17,7 +20,7 @@ pub mod instructing;
 pub mod journals;
 mod kept_journal;
 pub mod looking;
-mod next_store;
+pub mod next_store;
 pub mod opening;
 mod operands;
 pub mod own_state;
@@ -37,9 +40,11 @@ mod store;
 mod store_agents;
 mod store_close;
 mod store_give;
+mod store_take;
 pub mod take_and_put;
 mod value_head;
 
+pub use audit::{Audit, AuditNumbers};
 pub use content::Content;
 pub use explaining::explain;
 pub use owned_agent::OwnedAgent;

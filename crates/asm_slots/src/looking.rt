@@ -1,18 +1,18 @@
 //! Values in an agent's own state, and whether named reads still stand: looks that leave no receipt.
 ghost use Rattle.std.specs.Prelude.{◌≡◌, ◌∷◌, [], map, string_bytes, IfOk, IfErr, Some};
 ghost use Rattle.asm_storage.specs.Storage.{IsSameAgent};
-ghost use Rattle.asm_slots.specs.Ahead.{ReadsAhead, ReadsWithin};
+ghost use Rattle.asm_slots.specs.NumbersAhead.{ReadsAhead, ReadsWithin};
 ghost use Rattle.asm_explain.specs.Bytes.{AreLocations, IsNoJson, IsOtherJson};
 ghost use Rattle.asm_slots.specs.Bytes.{AreReads, ReadAsMoreReads};
-ghost use Rattle.asm_slots.specs.Calls.{HasLooked, MayHaveLooked, SeesOn};
+ghost use Rattle.asm_slots.specs.AgentCalls.{HasLooked, MayHaveLooked, SeesOn};
 ghost use Rattle.asm_slots.specs.Codes.{IsOneOf, ASM_DONE, ASM_STALE, ASM_MEMORY, ASM_SMALL};
 ghost use Rattle.asm_slots.specs.Codes.{ASM_RANGE, ASM_MANY, ASM_NOT_JSON, ASM_SHAPE};
-ghost use Rattle.asm_slots.specs.Own.{AllStand, HasLookedOn, IsPeekOf};
-ghost use Rattle.asm_slots.specs.Own.{IsStaleText, values_text};
+ghost use Rattle.asm_slots.specs.OwnState.{AllStand, HasLookedOn, IsPeekOf};
+ghost use Rattle.asm_slots.specs.OwnState.{IsStaleText, values_text};
 ghost use Rattle.asm_slots.specs.Slots.{Holds, content_of};
-ghost use Rattle.asm_slots.specs.Written.{Tells};
+ghost use Rattle.asm_slots.specs.WrittenText.{Tells};
 ghost use Rattle.asm_slots.specs.declared.content.Content.TheVariants as content;
-ghost use Rattle.asm_slots.specs.Looked.{IsStaleTold};
+ghost use Rattle.asm_slots.specs.Looks.{IsStaleTold};
 
 use crate::codes::{DONE, MANY, MEMORY, RANGE, STALE, Told, written_as};
 use crate::content::Content;
@@ -126,8 +126,7 @@ pub fn stands_at(
             return code_of_text_error(error);
         }
     };
-    let (agent, is_behind) = agent.is_behind(&reads);
-    if is_behind {
+    if agent.is_behind(&reads) {
         put_agent(slot, shell, agent);
         return RANGE;
     }

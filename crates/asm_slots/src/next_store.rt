@@ -1,44 +1,20 @@
-//! The storage that goes on where a closed one ended.
+//! The storages that go on where others ended.
 ghost use Rattle.std.specs.Prelude.{◌≡◌, ◌∷◌, [], Some, IfOk, IfErr};
-ghost use Rattle.asm_slots.specs.Calls.{IsNoCapacity};
+ghost use Rattle.std.specs.Bool.{OnTrue, OnFalse};
+ghost use Rattle.asm_slots.specs.AgentCalls.{IsNoCapacity};
 ghost use Rattle.asm_slots.specs.Codes.{IsOneOf, ASM_MEMORY, ASM_RANGE, ASM_NONE};
-ghost use Rattle.asm_slots.specs.Next.{GoesOn, IsOpenedAfter, LacksJournal};
+ghost use Rattle.asm_slots.specs.NextStore.{GoesOn, GoesOnFrom, IsAtEnd, LacksJournal};
 ghost use Rattle.asm_slots.specs.Slots.{HoldsStore};
 
 use crate::codes::{MEMORY, NONE, RANGE};
 use crate::content::Content;
-use crate::kept_journal::KeptJournal;
-use crate::shared::Shared;
+use crate::opening::{boxed_store, code_of_storage_error};
+use crate::owned_agent::OwnedAgent;
 use crate::store::Store;
-use asm_storage::StorageError;
+use asm_aggregate::standard;
+use asm_row::CAPACITY_LIMIT;
+use asm_storage::Storage;
 use std::alloc::Global;
-use std::sync::Arc;
-
-// A storage that goes on from the journal, in a slot's box, with no agents.
-fn opened_after(alloc: Global, journal: &KeptJournal, capacity: u32) -> Result<Box<Content>, i32>
-    ensures ok { IfOk result (λ b. HoldsStore (Some b.value) (IsOpenedAfter journal.now capacity)) }
-    ensures codes { IfErr result (IsOneOf (ASM_MEMORY ∷ ASM_RANGE ∷ [])) }
-    ensures range { IfErr result (λ code. code ≡ ASM_RANGE → IsNoCapacity capacity) }
-{
-    let storage = match journal.next(alloc, capacity) {
-        Ok(storage) => storage,
-        Err(StorageError::BadCapacity) => return Err(RANGE),
-        Err(StorageError::Memory) => return Err(MEMORY),
-    };
-    let Ok(shared) = Arc::new(alloc, Shared::new(storage)) else {
-        return Err(MEMORY);
-    };
-    let store = Store {
-        shared,
-        numbers: Vec::new(alloc),
-        parts: Vec::new(alloc),
-        journal: None,
-    };
-    let Ok(made) = Box::new(alloc, Content::Store(store)) else {
-        return Err(MEMORY);
-    };
-    Ok(made)
-}
 
 impl Store {
     /// The storage that goes on from the journal that is kept, in a slot's box.
@@ -48,9 +24,49 @@ impl Store {
         ensures range { IfErr result (λ code. code ≡ ASM_RANGE → IsNoCapacity capacity) }
         ensures none { IfErr result (λ code. code ≡ ASM_NONE → LacksJournal self.now) }
     {
-        match &self.journal {
-            Some(journal) => opened_after(alloc, journal, capacity),
-            None => Err(NONE),
+        let Some(journal) = &self.journal else {
+            return Err(NONE);
+        };
+        match journal.next(alloc, capacity) {
+            Ok(storage) => boxed_store(alloc, storage, capacity),
+            Err(error) => Err(code_of_storage_error(error)),
         }
+    }
+}
+
+// Whether a storage may have room for so many moves.
+fn is_capacity(capacity: u32) -> bool
+    ensures yes { OnTrue result (¬ IsNoCapacity capacity) }
+    ensures no { OnFalse result (IsNoCapacity capacity) }
+{
+    1 <= capacity && capacity <= CAPACITY_LIMIT
+}
+
+/// The storage that goes on with the agent's own state, in a slot's box, where that stands at all moves that the agent's
+/// storage has room for.
+pub fn gone_on(alloc: Global, agent: &OwnedAgent, capacity: u32) -> Result<Box<Content>, i32>
+    ensures ok { IfOk result (λ b. HoldsStore (Some b.value) (GoesOnFrom capacity agent.now)) }
+    ensures codes { IfErr result (IsOneOf (ASM_MEMORY ∷ ASM_RANGE ∷ ASM_NONE ∷ [])) }
+    ensures none { IfErr result (λ code. code ≡ ASM_NONE → ¬ IsAtEnd agent.now) }
+    ensures at_end { IfErr result (λ code. IsOneOf (ASM_MEMORY ∷ ASM_RANGE ∷ []) code → IsAtEnd agent.now) }
+    ensures range { IfErr result (λ code. code ≡ ASM_RANGE → IsNoCapacity capacity) }
+    ensures memory { IfErr result (λ code. code ≡ ASM_MEMORY → ¬ IsNoCapacity capacity) }
+    ensures sized { IfOk result (λ b. ¬ IsNoCapacity capacity) }
+{
+    let state = agent.state();
+    if state.number() != agent.capacity() {
+        return Err(NONE);
+    }
+    if !is_capacity(capacity) {
+        return Err(RANGE);
+    }
+    let Ok(left) = state.to_plain(alloc) else {
+        return Err(MEMORY);
+    };
+    // The clause speaks of a state without undef, and only this call tells the proof that it is one.
+    left.proper();
+    match Storage::new(alloc, standard(), left, capacity) {
+        Ok(storage) => boxed_store(alloc, storage, capacity),
+        Err(error) => Err(code_of_storage_error(error)),
     }
 }

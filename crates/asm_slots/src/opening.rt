@@ -1,11 +1,13 @@
 //! Opening storages, making agents, and letting go of what slots hold.
-ghost use Rattle.std.specs.Prelude.{◌≡◌, ◌∷◌, [], IfOk, IfErr, Some, None};
+ghost use Rattle.std.specs.Prelude.{◌≡◌, ◌∷◌, [], length, IfOk, IfErr, Some, None};
 ghost use Rattle.std.specs.Bool.{OnTrue, OnFalse};
-ghost use Rattle.asm_slots.specs.Calls.{IsNoCapacity, IsOpened};
+ghost use Rattle.asm_slots.specs.AgentCalls.{IsNoCapacity, IsOpened};
+ghost use Rattle.asm_storage.specs.declared.error.StorageError.TheVariants.{BadCapacity};
 ghost use Rattle.asm_journal.specs.Value.{IsStateForm};
 ghost use Rattle.asm_explain.specs.Bytes.{IsNoJson, IsOtherJson};
 ghost use Rattle.asm_slots.specs.Codes.{IsOneOf, ASM_MEMORY, ASM_RANGE, ASM_NOT_JSON, ASM_SHAPE};
 ghost use Rattle.asm_slots.specs.Slots.{AreEmpty, HoldsStore};
+ghost use Rattle.asm_slots.specs.Store.{IsNew};
 
 use crate::codes::{MEMORY, RANGE};
 use crate::content::Content;
@@ -13,10 +15,46 @@ use crate::parsing::{code_of_text_error, state_of};
 use crate::shared::Shared;
 use crate::slot::Slot;
 use crate::store::Store;
-use asm_aggregate::standard;
+use asm_aggregate::{Standard, standard};
 use asm_storage::{Storage, StorageError};
 use std::alloc::Global;
 use std::sync::Arc;
+
+/// The storage, in a slot's box, of which no agent was made.
+pub(crate) fn boxed_store(
+    alloc: Global,
+    storage: Storage<Standard>,
+    capacity: u32,
+) -> Result<Box<Content>, i32>
+    requires { length storage.row ≡ capacity }
+    ensures ok { IfOk result (λ b. HoldsStore (Some b.value) (IsNew storage)) }
+    ensures err { IfErr result (λ code. code ≡ ASM_MEMORY) }
+{
+    let Ok(shared) = Arc::new(alloc, Shared::new(storage, capacity)) else {
+        return Err(MEMORY);
+    };
+    let store = Store {
+        shared,
+        numbers: Vec::new(alloc),
+        parts: Vec::new(alloc),
+        journal: None,
+    };
+    let Ok(made) = Box::new(alloc, Content::Store(store)) else {
+        return Err(MEMORY);
+    };
+    Ok(made)
+}
+
+/// The code of the error.
+pub(crate) fn code_of_storage_error(error: StorageError) -> i32
+    ensures codes { IsOneOf (ASM_MEMORY ∷ ASM_RANGE ∷ []) result }
+    ensures range { result ≡ ASM_RANGE → error ≡ BadCapacity }
+{
+    match error {
+        StorageError::BadCapacity => RANGE,
+        StorageError::Memory => MEMORY,
+    }
+}
 
 /// A storage of which no move was fired.
 pub fn opened(alloc: Global, init: &[u8], capacity: u32) -> Result<Box<Content>, i32>
@@ -30,24 +68,10 @@ pub fn opened(alloc: Global, init: &[u8], capacity: u32) -> Result<Box<Content>,
         Ok(init) => init,
         Err(error) => return Err(code_of_text_error(error)),
     };
-    let storage = match Storage::new(alloc, standard(), init, capacity) {
-        Ok(storage) => storage,
-        Err(StorageError::BadCapacity) => return Err(RANGE),
-        Err(StorageError::Memory) => return Err(MEMORY),
-    };
-    let Ok(shared) = Arc::new(alloc, Shared::new(storage)) else {
-        return Err(MEMORY);
-    };
-    let store = Store {
-        shared,
-        numbers: Vec::new(alloc),
-        parts: Vec::new(alloc),
-        journal: None,
-    };
-    let Ok(made) = Box::new(alloc, Content::Store(store)) else {
-        return Err(MEMORY);
-    };
-    Ok(made)
+    match Storage::new(alloc, standard(), init, capacity) {
+        Ok(storage) => boxed_store(alloc, storage, capacity),
+        Err(error) => Err(code_of_storage_error(error)),
+    }
 }
 
 /// Whether one of the slots holds something.

@@ -1,7 +1,7 @@
 //! The whole of an agent's own state, and the part of it with one function name.
 ghost use Rattle.std.specs.Prelude.{◌≡◌, ◌∷◌, [], string_bytes, IsUtf8, IfOk, IfErr};
 ghost use Rattle.asm_slots.specs.Codes.{IsOneOf, ASM_MEMORY, ASM_SHAPE};
-ghost use Rattle.asm_slots.specs.Own.{IsOwnOfName, IsOwnState};
+ghost use Rattle.asm_slots.specs.OwnState.{IsOwnOfName, IsOwnState};
 
 use crate::codes::{MEMORY, SHAPE};
 use crate::owned_agent::OwnedAgent;

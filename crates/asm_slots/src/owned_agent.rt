@@ -1,4 +1,6 @@
 //! An agent that owns a share of its storage and borrows nothing, and its calls.
+#![tactic(auto, unfolding(asm_aggregate::specs::Standard::standard_meaning))]
+
 ghost use Rattle.std.specs.Prelude.{◌≡◌, ◌↔◌, ◌<◌, ◌≤◌, ◌+◌, ℕ, length, option_map, string_bytes};
 ghost use Rattle.std.specs.Prelude.{Ok, Err, IfOk, OnOk, OnErr, IfErr, IsErrOf};
 ghost use Rattle.std_alloc.specs.Arc.{arc_value};
@@ -8,16 +10,16 @@ ghost use Rattle.asm_storage.specs.declared.error.FireError.TheVariants.{Busy, M
 ghost use Rattle.asm_storage.specs.declared.error.ReadError.TheVariants.{ManyLocations};
 ghost use Rattle.asm_storage.specs.Part.{IsFollowing};
 ghost use Rattle.asm_storage.specs.Storage.{at_start, last_look, machine_of, IsSameAgent, Missed};
-ghost use Rattle.asm_storage.specs.Calls.{HasLookedFor, IsAnswered, IsBusy, IsCoherentReply, IsRead};
+ghost use Rattle.asm_storage.specs.Calls.{HasLookedFor, IsReplied, IsBusy, IsCoherentReply, IsRead};
 ghost use Rattle.asm_storage.specs.Calls.{IsStaleRead, MadeOffers};
 ghost use Rattle.asm_slots.specs.Standard.{meaning};
-ghost use Rattle.asm_slots.specs.Ahead.{is_any_above};
-ghost use Rattle.asm_slots.specs.Own.{HasLookedOn};
-ghost use Rattle.asm_slots.specs.Calls.{HasLearnt, HasLooked, MissedFew, MissedOne, SeesOn, TellsLast};
+ghost use Rattle.asm_slots.specs.NumbersAhead.{is_any_above};
+ghost use Rattle.asm_slots.specs.OwnState.{HasLookedOn};
+ghost use Rattle.asm_slots.specs.AgentCalls.{HasLearnt, HasLooked, MissedFew, MissedOne, SeesOn, TellsLast};
 
 use crate::shared::Shared;
 use asm_aggregate::Standard;
-use asm_element::Location;
+use asm_element::{Items, Location};
 use asm_journal::answer_text;
 use asm_state::{Named, State};
 use asm_storage::{Agent, AgentPart, FireError, Mark, ReadError, Reading, Reply};
@@ -81,6 +83,13 @@ impl OwnedAgent {
         &self.shared
     }
 
+    /// How many moves its storage has room for.
+    pub(crate) fn capacity(&self) -> u32
+        ensures { result ≡ length self.now.storage.row }
+    {
+        self.shared.capacity()
+    }
+
     /// Reads the locations.
     pub(crate) fn read(
         self,
@@ -104,29 +113,24 @@ impl OwnedAgent {
 
     /// Fires the move.
     pub(crate) fn fire(
-        self,
+        &mut self,
         alloc: Global,
-        reads: &[Named],
+        reads: &Items<Named>,
         instrs: &Instructions,
-    ) -> (OwnedAgent, Result<Reply, FireError>)
-        ensures same { IsSameAgent self result.0 }
-        ensures answered { IfOk result.1
-            (IsAnswered meaning self result.0 reads.now instrs.now) }
-        ensures coherent { IfOk result.1 (IsCoherentReply meaning result.0 reads.now instrs.now) }
-        ensures seen { SeesOn self result.0 }
-        ensures refused { OnErr result.1 (HasLooked self result.0) }
-        ensures busy { IfErr result.1 (IsBusy self result.0) }
-        ensures missed { (k : ℕ) → result.1 ≡ Ok (Fired k) → MissedOne self result.0 }
-        ensures few { MissedFew self result.0 }
-        ensures lost { (from to : ℕ) → result.1 ≡ Err (Busy from to) → from + offers_limit ≤ to }
-        ensures offers { (n : ℕ) × MadeOffers self result.0 result.1 n }
-        ensures many { IsErrOf result.1 ManyReads ↔ (reads_limit < length reads.now) }
+    ) -> Result<Reply, FireError>
+        ensures same { IsSameAgent self.old self.new }
+        ensures answered { IfOk result (IsReplied meaning self.old self.new reads.now instrs.now) }
+        ensures coherent { IfOk result (IsCoherentReply meaning self.new reads.now instrs.now) }
+        ensures seen { SeesOn self.old self.new }
+        ensures refused { OnErr result (HasLooked self.old self.new) }
+        ensures busy { IfErr result (IsBusy self.old self.new) }
+        ensures missed { (k : ℕ) → result ≡ Ok (Fired k) → MissedOne self.old self.new }
+        ensures few { MissedFew self.old self.new }
+        ensures lost { (from to : ℕ) → result ≡ Err (Busy from to) → from + offers_limit ≤ to }
+        ensures offers { (n : ℕ) × MadeOffers self.old self.new result n }
+        ensures many { IsErrOf result ManyReads ↔ (reads_limit < length reads.now) }
     {
-        let OwnedAgent { shared, part } = self;
-        let mut agent = Agent::of(&shared.storage, part);
-        let answer = agent.try_fire(alloc, reads, instrs);
-        let part = agent.into_part();
-        (OwnedAgent { shared, part }, answer)
+        self.part.try_fire_over(alloc, &self.shared.storage, reads, &[], instrs, &mut || {})
     }
 
     /// Its own state.
@@ -139,18 +143,14 @@ impl OwnedAgent {
     }
 
     /// Has its state follow the row to the end; how many moves it has then seen.
-    pub fn follow(self, alloc: Global) -> (OwnedAgent, Result<u32, AllocError>)
-        ensures same { IsSameAgent self result.0 }
-        ensures looked { HasLookedOn self result.0 }
-        ensures seen { SeesOn self result.0 }
-        ensures number { IfOk result.1 (λ n. n ≡ length result.0.account.seen) }
-        ensures stands { IfOk result.1 (λ n. n ≡ result.0.number) }
+    pub fn follow(&mut self, alloc: Global) -> Result<u32, AllocError>
+        ensures same { IsSameAgent self.old self.new }
+        ensures looked { HasLookedOn self.old self.new }
+        ensures seen { SeesOn self.old self.new }
+        ensures number { IfOk result (λ n. n ≡ length self.new.account.seen) }
+        ensures stands { IfOk result (λ n. n ≡ self.new.number) }
     {
-        let OwnedAgent { shared, part } = self;
-        let mut agent = Agent::of(&shared.storage, part);
-        let number = agent.follow(alloc);
-        let part = agent.into_part();
-        (OwnedAgent { shared, part }, number)
+        self.part.follow(alloc, &self.shared.storage)
     }
 
     /// The least location of the named reads that is stale by now, if one is.
@@ -175,61 +175,39 @@ impl OwnedAgent {
     }
 
     /// Its number.
-    pub(crate) fn id(self) -> (OwnedAgent, u32)
-        ensures same { result.0 ≡ self }
-        ensures id { result.1 ≡ self.account.id }
-        ensures few { result.1 < agents_limit }
+    pub(crate) fn id(&self) -> u32
+        ensures id { result ≡ self.now.account.id }
+        ensures few { result < agents_limit }
     {
-        let OwnedAgent { shared, part } = self;
-        let agent = Agent::of(&shared.storage, part);
-        let id = agent.id();
-        let part = agent.into_part();
-        (OwnedAgent { shared, part }, id)
+        self.part.id()
     }
 
     /// How many moves it has seen.
-    pub fn seen(self) -> (OwnedAgent, u32)
-        ensures same { result.0 ≡ self }
-        ensures seen { result.1 ≡ length self.account.seen }
+    pub fn seen(&self) -> u32
+        ensures { result ≡ length self.now.account.seen }
     {
-        let OwnedAgent { shared, part } = self;
-        let agent = Agent::of(&shared.storage, part);
-        let seen = agent.seen();
-        let part = agent.into_part();
-        (OwnedAgent { shared, part }, seen)
+        self.part.seen()
     }
 
     /// Whether one of the reads has a number above what it has seen.
-    pub(crate) fn is_behind(self, reads: &[Named]) -> (OwnedAgent, bool)
-        ensures same { result.0 ≡ self }
-        ensures behind { result.1 ≡ is_any_above reads.now (length self.account.seen) }
+    pub(crate) fn is_behind(&self, reads: &[Named]) -> bool
+        ensures { result ≡ is_any_above reads.now (length self.now.account.seen) }
     {
-        let (agent, seen) = self.seen();
-        (agent, has_above(reads, seen))
+        has_above(reads, self.seen())
     }
 
     /// How many of its offers won.
-    pub fn won(self) -> (OwnedAgent, u32)
-        ensures same { result.0 ≡ self }
-        ensures won { result.1 ≡ self.account.won }
+    pub fn won(&self) -> u32
+        ensures { result ≡ self.now.account.won }
     {
-        let OwnedAgent { shared, part } = self;
-        let agent = Agent::of(&shared.storage, part);
-        let won = agent.won();
-        let part = agent.into_part();
-        (OwnedAgent { shared, part }, won)
+        self.part.won()
     }
 
     /// How many of its looks found an empty cell.
-    pub fn misses(self) -> (OwnedAgent, u64)
-        ensures same { result.0 ≡ self }
-        ensures misses { result.1 ≡ self.misses }
+    pub fn misses(&self) -> u64
+        ensures { result ≡ self.now.misses }
     {
-        let OwnedAgent { shared, part } = self;
-        let agent = Agent::of(&shared.storage, part);
-        let misses = agent.misses();
-        let part = agent.into_part();
-        (OwnedAgent { shared, part }, misses)
+        self.part.misses()
     }
 
     /// A mark of what it has seen.

@@ -1,23 +1,24 @@
 //! A step of an engine: moves pushed over the state at one number of moves, and the locations that were got.
-ghost use Rattle.std.specs.Prelude.{◌≡◌, ◌++◌, ◌∷◌, [], All, List, filter, length, map, IfOk, OnOk, OnErr, IfErr};
-ghost use Rattle.std.specs.Bool.{OnTrue, OnFalse};
+#![tactic(auto, unfolding(asm_aggregate::specs::Standard::standard_meaning))]
+
+ghost use Rattle.std.specs.Prelude.{◌≡◌, ◌++◌, ◌∷◌, [], All, List, filter, length, map, IfOk, IfSome, IsNone, OnOk, OnErr, IfErr};
 ghost use Rattle.asm_update.specs.Move.{Move};
 ghost use Rattle.asm_update.specs.State as plain;
 ghost use Rattle.asm_step.specs.InTurn.{Agrees};
 ghost use Rattle.asm_step.specs.Layers.{all_moves, shows_below, IsStepOf};
 ghost use Rattle.asm_step.specs.Places.{AreEach};
-ghost use Rattle.asm_slots.specs.Committed.{NamesAll};
-ghost use Rattle.asm_slots.specs.Step.{begun};
+ghost use Rattle.asm_slots.specs.Commit.{NamesAll};
+ghost use Rattle.asm_slots.specs.StepView.{begun};
 ghost use Rattle.asm_slots.specs.Standard.{part, standard};
-ghost use Rattle.asm_slots.specs.Steps.{HasPopped, IsLayered, grown};
+ghost use Rattle.asm_slots.specs.StepCalls.{AreLastOf, HasPopped, IsLayered, grown};
 ghost use Rattle.asm_slots.specs.declared.owned_step.Way.TheVariants as ways;
 ghost use Rattle.asm_state.specs.View.{value_at};
-ghost use Rattle.asm_step.specs.Answer.{IsAnswer, IsAnswerOn};
+ghost use Rattle.asm_step.specs.Answer.{IsPushAnswer, IsPushAnswerOn};
 
 use asm_aggregate::standard;
-use asm_element::Location;
+use asm_element::{Items, Location};
 use asm_state::{Named, State};
-use asm_step::{Step, StepError};
+use asm_step::{Popped, Step, StepError};
 use asm_update::Instructions;
 use std::alloc::{AllocError, Global};
 use std::marker::Model;
@@ -35,7 +36,7 @@ impl Model for OwnedStep {
     ghost use Rattle.std.specs.Coded.{coded_list};
     ghost use Rattle.asm_element.specs.contracts.location.Location.{the_row as location_row};
     ghost use Rattle.asm_step.specs.contracts.step.Step.{the_row as step_row};
-    ghost use Rattle.asm_slots.specs.Step.{StepView, step_code};
+    ghost use Rattle.asm_slots.specs.StepView.{StepView, step_code};
 
     ghost Value = { StepView };
 
@@ -113,14 +114,14 @@ pub(crate) fn grow(
     instrs: &Instructions,
 ) -> Result<(), StepError>
     ensures layers { OnOk result (IsLayered way step.old step.new) }
-    ensures answer { IsAnswer standard (value_at state.now) step.old step.new instrs.now result }
+    ensures answer { IsPushAnswer standard (value_at state.now) step.old step.new instrs.now result }
     ensures step { OnOk result ((groups : List (List Move)) →
         IsStepOf part (value_at state.now) step.old groups →
         IsStepOf part (value_at state.now) step.new (grown way groups instrs.now)) }
     ensures answer_on { (groups : List (List Move)) (B : plain.State) →
         IsStepOf part (value_at state.now) step.old groups →
         plain.IsProper B → Agrees B (value_at state.now) (all_moves groups ++ instrs.now ∷ []) →
-        IsAnswerOn part B step.old step.new instrs.now result }
+        IsPushAnswerOn part B step.old step.new instrs.now result }
     ensures err { OnErr result (step.new ≡ step.old) }
     ensures deep { IfErr result (λ e. way ≡ ways.Extend → ¬ (e ≡ StepError.Deep)) }
 {
@@ -142,6 +143,16 @@ fn named_at(alloc: Global, locations: Vec<Location>, number: u32) -> Result<Vec<
     Ok(reads)
 }
 
+// The reads as a list that a receipt shares. An empty one takes no memory.
+fn shared_list(alloc: Global, reads: Vec<Named>) -> Result<Items<Named>, AllocError>
+    ensures { IfOk result (λ list. list ≡ reads.items) }
+{
+    if reads.is_empty() {
+        return Ok(Items::new(reads));
+    }
+    Items::shared(alloc, reads)
+}
+
 impl OwnedStep {
     /// A step at this number of moves, of no moves; it takes no memory.
     pub(crate) fn at(alloc: Global, number: u32) -> OwnedStep
@@ -161,21 +172,22 @@ impl OwnedStep {
         self.step.depth() as u32
     }
 
-    /// Takes the move that was pushed last away, with those that extend it; false where there is none.
-    pub fn pop(&mut self) -> bool
-        ensures popped { OnTrue result (HasPopped self.old self.new) }
-        ensures none { OnFalse result (self.old.layers ≡ []) }
-        ensures same { OnFalse result (self.new ≡ self.old) }
+    /// Takes the move that was pushed last away, with those that extend it, and hands them back; None where there is none.
+    pub fn pop(&mut self) -> Option<Popped>
+        ensures popped { IfSome result (λ popped. HasPopped self.old self.new) }
+        ensures moves { IfSome result (AreLastOf self.old) }
+        ensures none { IsNone result → self.old.layers ≡ [] }
+        ensures same { IsNone result → self.new ≡ self.old }
     {
         self.step.pop()
     }
 
     /// All that the step rests on, at its number.
-    pub(crate) fn reads(&self, alloc: Global) -> Result<Vec<Named>, AllocError>
-        ensures { IfOk result (λ reads. NamesAll self.now reads.items) }
+    pub(crate) fn reads(&self, alloc: Global) -> Result<Items<Named>, AllocError>
+        ensures { IfOk result (NamesAll self.now) }
     {
         let resting = self.step.resting_locations(alloc)?;
         let locations = each_of(alloc, &self.got, resting)?;
-        named_at(alloc, locations, self.number)
+        shared_list(alloc, named_at(alloc, locations, self.number)?)
     }
 }

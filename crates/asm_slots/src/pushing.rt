@@ -4,10 +4,10 @@ ghost use Rattle.asm_journal.specs.Event.{IsMoveForm};
 ghost use Rattle.asm_explain.specs.Bytes.{IsNoJson, IsOtherJson};
 ghost use Rattle.asm_slots.specs.Codes.{IsOneOf, ASM_DONE, ASM_CLASH, ASM_MEMORY, ASM_SMALL};
 ghost use Rattle.asm_slots.specs.Codes.{ASM_MANY, ASM_NOT_JSON, ASM_SHAPE, ASM_LARGE, ASM_MOVED, ASM_DEEP};
-ghost use Rattle.asm_slots.specs.Grown.{Grows, refusals};
+ghost use Rattle.asm_slots.specs.StepPush.{Grows, refusals};
 ghost use Rattle.asm_slots.specs.Slots.{content_of};
-ghost use Rattle.asm_slots.specs.Steps.{HasGrown, IsGrown, IsNotGrown, IsRefused, TellsRefusal};
-ghost use Rattle.asm_slots.specs.Written.{TellsOneOf};
+ghost use Rattle.asm_slots.specs.StepCalls.{HasGrown, IsGrown, IsNotGrown, IsRefused, TellsRefusal};
+ghost use Rattle.asm_slots.specs.WrittenText.{TellsOneOf};
 ghost use Rattle.asm_slots.specs.declared.owned_step.Way.TheVariants as ways;
 
 use crate::codes::{CLASH, DEEP, DONE, LARGE, MANY, MEMORY, MOVED, Told, written_as};

@@ -3,12 +3,12 @@ ghost use Rattle.std.specs.Prelude.{◌≡◌, ◌≢◌, ◌≤◌, ◌+◌, �
 ghost use Rattle.asm_storage.specs.Limits.{offers_limit};
 ghost use Rattle.asm_storage.specs.declared.call.Reply.TheVariants.{Fired};
 ghost use Rattle.asm_storage.specs.Storage.{IsSameAgent};
-ghost use Rattle.asm_slots.specs.Ahead.{FiresAhead, FiresWithin};
+ghost use Rattle.asm_slots.specs.NumbersAhead.{FiresAhead, FiresWithin};
 ghost use Rattle.asm_explain.specs.Bytes.{AreLocations, IsFireForm, IsNoJson, IsOtherJson};
 ghost use Rattle.asm_slots.specs.Bytes.{ReadAsManyLocations, ReadAsManyReads};
-ghost use Rattle.asm_slots.specs.Calls.{HasFired, HasLooked, HasRead, IsReplyCode, WasBusy};
-ghost use Rattle.asm_slots.specs.Calls.{MayHaveLooked, MayHaveOffered, MissedFew, MissedOne, SeesOn};
-ghost use Rattle.asm_slots.specs.Calls.{code_of, number_of};
+ghost use Rattle.asm_slots.specs.AgentCalls.{HasTriedFire, HasLooked, HasRead, IsReplyCode, WasBusy};
+ghost use Rattle.asm_slots.specs.AgentCalls.{MayHaveLooked, MayHaveOffered, MissedFew, MissedOne, SeesOn};
+ghost use Rattle.asm_slots.specs.AgentCalls.{code_of, number_of};
 ghost use Rattle.asm_slots.specs.Codes.{IsOneOf, ASM_DONE, ASM_STALE, ASM_CLASH, ASM_MEMORY, ASM_FULL};
 ghost use Rattle.asm_slots.specs.Codes.{ASM_RANGE, ASM_BUSY, ASM_MANY, ASM_NOT_JSON, ASM_SHAPE};
 ghost use Rattle.asm_slots.specs.Slots.{Holds, content_of};
@@ -102,54 +102,38 @@ pub(crate) fn code_of_reply(reply: Reply) -> (i32, u32)
     }
 }
 
-/// Fires the move of these bytes, and puts the agent into the slot.
-pub fn fire_at(
-    alloc: Global,
-    slot: &mut Slot,
-    shell: Box<Content>,
-    agent: OwnedAgent,
-    call: &[u8],
-) -> (i32, Numbers)
+/// Fires the move of these bytes.
+pub fn fire_in(alloc: Global, agent: &mut OwnedAgent, call: &[u8]) -> (i32, Numbers)
     ensures codes { IsOneOf (ASM_DONE ∷ ASM_STALE ∷ ASM_CLASH ∷ ASM_MEMORY ∷ ASM_FULL ∷ ASM_RANGE ∷ ASM_BUSY ∷ ASM_MANY
         ∷ ASM_NOT_JSON ∷ ASM_SHAPE ∷ []) result.0 }
-    ensures answered { IsReplyCode result.0 →
-        Holds (content_of slot.new) (HasFired call.now result.0 result.1.fired agent) }
+    ensures answered { IsReplyCode result.0 → HasTriedFire call.now result.0 result.1.fired agent.old agent.new }
     ensures unfired { result.0 ≢ ASM_DONE → result.1.fired ≡ 0 }
     ensures not_busy { result.0 ≢ ASM_BUSY → (result.1.from ≡ 0) × (result.1.to ≡ 0) }
     ensures refused { IsOneOf (ASM_MEMORY ∷ ASM_BUSY ∷ ASM_MANY ∷ ASM_NOT_JSON ∷ ASM_SHAPE ∷ []) result.0 →
-        Holds (content_of slot.new) (HasLooked agent) }
-    ensures busy { result.0 ≡ ASM_BUSY →
-        Holds (content_of slot.new) (WasBusy result.1.from result.1.to agent) }
+        HasLooked agent.old agent.new }
+    ensures busy { result.0 ≡ ASM_BUSY → WasBusy result.1.from result.1.to agent.old agent.new }
     ensures lost { result.0 ≡ ASM_BUSY → result.1.from + offers_limit ≤ result.1.to }
-    ensures same { Holds (content_of slot.new) (IsSameAgent agent) }
-    ensures seen { Holds (content_of slot.new) (SeesOn agent) }
-    ensures few { Holds (content_of slot.new) (MissedFew agent) }
-    ensures missed { result.0 ≡ ASM_DONE → Holds (content_of slot.new) (MissedOne agent) }
-    ensures memory { result.0 ≡ ASM_MEMORY → Holds (content_of slot.new) (MayHaveOffered agent) }
-    ensures range { result.0 ≡ ASM_RANGE → FiresAhead call.now agent }
+    ensures same { IsSameAgent agent.old agent.new }
+    ensures seen { SeesOn agent.old agent.new }
+    ensures few { MissedFew agent.old agent.new }
+    ensures missed { result.0 ≡ ASM_DONE → MissedOne agent.old agent.new }
+    ensures memory { result.0 ≡ ASM_MEMORY → MayHaveOffered agent.old agent.new }
+    ensures range { result.0 ≡ ASM_RANGE → FiresAhead call.now agent.old }
     ensures within { IsOneOf (ASM_DONE ∷ ASM_STALE ∷ ASM_CLASH ∷ ASM_FULL ∷ ASM_BUSY ∷ ASM_MANY ∷ []) result.0 →
-        FiresWithin call.now agent }
+        FiresWithin call.now agent.old }
     ensures many { result.0 ≡ ASM_MANY → ReadAsManyReads call.now }
     ensures not_json { result.0 ≡ ASM_NOT_JSON → IsNoJson call.now }
     ensures shape { result.0 ≡ ASM_SHAPE → IsOtherJson IsFireForm call.now }
-    ensures kept { IsOneOf (ASM_RANGE ∷ ASM_MANY ∷ ASM_NOT_JSON ∷ ASM_SHAPE ∷ []) result.0 →
-        content_of slot.new ≡ Some (content.Agent agent) }
+    ensures kept { IsOneOf (ASM_RANGE ∷ ASM_MANY ∷ ASM_NOT_JSON ∷ ASM_SHAPE ∷ []) result.0 → agent.new ≡ agent.old }
 {
     let fire = match fire_of(alloc, call) {
         Ok(fire) => fire,
-        Err(error) => {
-            put_agent(slot, shell, agent);
-            return (code_of_text_error(error), Numbers::none());
-        }
+        Err(error) => return (code_of_text_error(error), Numbers::none()),
     };
-    let (agent, is_behind) = agent.is_behind(fire.reads.as_slice());
-    if is_behind {
-        put_agent(slot, shell, agent);
+    if agent.is_behind(fire.reads.as_slice()) {
         return (RANGE, Numbers::none());
     }
-    let (agent, answer) = agent.fire(alloc, fire.reads.as_slice(), &fire.instrs);
-    put_agent(slot, shell, agent);
-    match answer {
+    match agent.fire(alloc, &fire.reads, &fire.instrs) {
         Ok(reply) => {
             let (code, fired) = code_of_reply(reply);
             (

@@ -1,26 +1,37 @@
 //! What the slots of one storage share.
-ghost use Rattle.std.specs.Prelude.{◌≡◌};
+ghost use Rattle.std.specs.Prelude.{◌≡◌, length};
 
 use asm_aggregate::Standard;
 use asm_storage::Storage;
 use std::sync::Arc;
 use std::sync::atomic::{AtomicU64, Ordering};
 
-/// A storage, and a count that tells it from others.
+/// A storage with its capacity, and a count that tells it from others.
 #[derive(Drop)]
 pub struct Shared {
     pub(crate) storage: Storage<Standard>,
     pub(crate) count: AtomicU64,
+    capacity: u32,
+    ghost room: { capacity ≡ length storage.row },
 }
 
 impl Shared {
-    pub fn new(storage: Storage<Standard>) -> Shared
+    pub fn new(storage: Storage<Standard>, capacity: u32) -> Shared
+        requires { length storage.row ≡ capacity }
         ensures { result.storage ≡ storage }
     {
         Shared {
             storage,
             count: AtomicU64::new(0),
+            capacity,
         }
+    }
+
+    /// How many moves the storage has room for.
+    pub(crate) fn capacity(&self) -> u32
+        ensures { result ≡ length self.now.storage.row }
+    {
+        self.capacity
     }
 }
 

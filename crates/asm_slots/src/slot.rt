@@ -1,6 +1,6 @@
 //! What C holds.
 ghost use Rattle.std.specs.Prelude.{◌≡◌, MatchOption};
-ghost use Rattle.asm_slots.specs.Boxed.{is_some};
+ghost use Rattle.asm_slots.specs.BoxedContent.{is_some};
 
 use crate::content::Content;
 use crate::handle::Handle;

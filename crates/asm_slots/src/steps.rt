@@ -7,11 +7,11 @@ ghost use Rattle.asm_step.specs.Places.{AreEach};
 ghost use Rattle.asm_explain.specs.Bytes.{AreLocations, IsNoJson, IsOtherJson};
 ghost use Rattle.asm_slots.specs.Codes.{IsOneOf, ASM_DONE, ASM_MEMORY, ASM_SMALL, ASM_MANY};
 ghost use Rattle.asm_slots.specs.Codes.{ASM_NOT_JSON, ASM_SHAPE, ASM_MOVED};
-ghost use Rattle.asm_slots.specs.Own.{values_text};
+ghost use Rattle.asm_slots.specs.OwnState.{values_text};
 ghost use Rattle.asm_slots.specs.Slots.{HasRoomForStep, HoldsStep, content_of};
-ghost use Rattle.asm_slots.specs.Steps.{HasGot, HasReached, IsGotText, WouldGetMany, from_below, seen};
-ghost use Rattle.asm_slots.specs.Step.{begun};
-ghost use Rattle.asm_slots.specs.Written.{TellsText};
+ghost use Rattle.asm_slots.specs.StepCalls.{HasGot, HasReached, IsGotText, WouldGetMany, from_below, seen};
+ghost use Rattle.asm_slots.specs.StepView.{begun};
+ghost use Rattle.asm_slots.specs.WrittenText.{TellsText};
 
 use crate::codes::{DONE, MANY, MEMORY, MOVED, SHAPE, copied};
 use crate::content::Content;

@@ -6,9 +6,9 @@ ghost use Rattle.std.specs.List.{range_with_len};
 ghost use Rattle.std_alloc.specs.Arc.{arc_value};
 ghost use Rattle.asm_storage.specs.Limits.{agents_limit};
 ghost use Rattle.asm_storage.specs.Storage.{at_start};
-ghost use Rattle.asm_slots.specs.Calls.{HasMade};
+ghost use Rattle.asm_slots.specs.AgentCalls.{HasMade};
 ghost use Rattle.asm_slots.specs.Codes.{IsOneOf, ASM_DONE, ASM_MEMORY, ASM_NUMBER};
-ghost use Rattle.asm_slots.specs.Numbers.{is_among, is_any_below, was_any_made, was_made};
+ghost use Rattle.asm_slots.specs.AgentNumbers.{is_among, is_any_below, was_any_made, was_made};
 ghost use Rattle.asm_slots.specs.Slots.{AreNew, Holds};
 
 use crate::codes::{DONE, MEMORY, NUMBER};

@@ -1,4 +1,6 @@
 //! Closing the agents that were given back into one journal.
+#![tactic(auto, unfolding(asm_aggregate::specs::Standard::standard_meaning))]
+
 ghost use Rattle.std.specs.Prelude.{◌≡◌, ◌≤◌, [], All, length, map, vec_capacity};
 ghost use Rattle.std.specs.Prelude.{IfErr, IfOk, IfSome, OnOk, OnErr};
 ghost use Rattle.std.specs.List.Sorted.{IsStrictlyIncreasing};
@@ -7,10 +9,10 @@ ghost use Rattle.asm_storage.specs.History.{Fits};
 ghost use Rattle.asm_storage.specs.Part.{agent_of, IsPartOf};
 ghost use Rattle.asm_storage.specs.Storage.{IsOf, accounts};
 ghost use Rattle.asm_journal.specs.Text.{text_of};
-ghost use Rattle.asm_slots.specs.Calls.{HasClosed};
-ghost use Rattle.asm_slots.specs.Closed.{IsJournalOf, IsUnseen};
+ghost use Rattle.asm_slots.specs.AgentCalls.{HasClosed};
+ghost use Rattle.asm_slots.specs.ClosedStore.{IsJournalOf, IsUnseen};
 ghost use Rattle.asm_slots.specs.Standard.{meaning};
-ghost use Rattle.asm_slots.specs.Unclosed.{IsUnclosed, IsUnwritten};
+ghost use Rattle.asm_slots.specs.CloseFaults.{IsUnclosed, IsUnwritten};
 
 use crate::kept_journal::KeptJournal;
 use crate::store::Store;

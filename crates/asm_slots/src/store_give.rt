@@ -4,7 +4,7 @@ ghost use Rattle.std.specs.Prelude.{length, map, slice_get, take};
 ghost use Rattle.std.specs.List.Sorted.{IsStrictlyIncreasing};
 ghost use Rattle.asm_storage.specs.Part.{agent_of, IsPartOf};
 ghost use Rattle.asm_storage.specs.declared.part.AgentPart.{AgentPart};
-ghost use Rattle.asm_slots.specs.Calls.{HasNumber, HasTaken};
+ghost use Rattle.asm_slots.specs.AgentCalls.{HasNumber, HasTaken};
 ghost use Rattle.asm_slots.specs.Codes.{IsOneOf, ASM_MEMORY, ASM_NUMBER};
 ghost use Rattle.asm_slots.specs.InsertPoint.{IsInsertPoint, IsAmong};
 ghost use Rattle.asm_slots.specs.Standard.{meaning};
@@ -59,7 +59,7 @@ impl Store {
         ensures refused { IfErr result.1 (λ p. (result.0 ≡ self) × (p.1 ≡ agent)) }
         ensures there { IfErr result.1 (λ p. p.0 ≡ ASM_NUMBER → HasNumber self agent.account.id) }
     {
-        let (agent, id) = agent.id();
+        let id = agent.id();
         let Some(at) = insert_point(&self.parts, id) else {
             return (self, Err((NUMBER, agent)));
         };

@@ -1,10 +1,11 @@
 //! Taking what slots hold out of them, in its box or out of it, and putting it back.
 ghost use Rattle.std.specs.Prelude.{◌≡◌, IfNone, IfSome, None, Some};
 ghost use denote.Param.Send.{IsSend};
-ghost use Rattle.asm_slots.specs.Slots.{HoldsNoAgent, HoldsNoStore, LacksOne, content_of};
+ghost use Rattle.asm_slots.specs.Slots.{HoldsNoAgent, HoldsNoAudit, HoldsNoStore, LacksOne, content_of};
 ghost use Rattle.asm_slots.specs.contracts.content.Content.{the_row as content_row};
 ghost use Rattle.asm_slots.specs.declared.content.Content.TheVariants as content;
 
+use crate::audit::Audit;
 use crate::content::Content;
 use crate::owned_agent::OwnedAgent;
 use crate::slot::Slot;
@@ -45,6 +46,17 @@ pub fn store_in(held: &Content) -> Option<&Store>
 {
     match held {
         Content::Store(store) => Some(store),
+        _ => None,
+    }
+}
+
+/// The audit in the box, if one is there.
+pub fn audit_in(held: &Content) -> Option<&Audit>
+    ensures some { IfSome result (λ audit. held.now ≡ content.Audit audit.now) }
+    ensures none { IfNone result (HoldsNoAudit (Some held.now)) }
+{
+    match held {
+        Content::Audit(audit) => Some(audit),
         _ => None,
     }
 }
@@ -141,6 +153,23 @@ macro_rules! in_box {
             return $crate::codes::EMPTY;
         };
         let Some($inner) = $look(&shell) else {
+            $crate::take_and_put::put_shell($slot, shell);
+            return $crate::codes::EMPTY;
+        };
+        let answer = $call;
+        $crate::take_and_put::put_shell($slot, shell);
+        answer
+    }};
+}
+
+/// What the call answers that changes the agent in the slot's box; without one the code is `ASM_EMPTY`.
+#[macro_export]
+macro_rules! in_agent {
+    ($alloc:expr, $slot:ident, $inner:ident => $call:expr) => {{
+        let Some(mut shell) = $crate::take_and_put::take_shell($alloc, $slot) else {
+            return $crate::codes::EMPTY;
+        };
+        let $crate::Content::Agent($inner) = &mut *shell else {
             $crate::take_and_put::put_shell($slot, shell);
             return $crate::codes::EMPTY;
         };

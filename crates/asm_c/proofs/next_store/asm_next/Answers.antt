@@ -1,5 +1,5 @@
 use Rattle.std.proofs.Common.{◌≡◌, Some, rules, sym, ◌∙◌}
-use Rattle.asm_slots.specs.Next.{LacksJournal}
+use Rattle.asm_slots.specs.NextStore.{LacksJournal}
 use Rattle.asm_slots.specs.Slots.{content_of}
 use Rattle.asm_slots.specs.declared.content.Content.TheVariants as content
 use Rattle.asm_slots.proofs.GoingOn.{coded, holds_store}

@@ -1,5 +1,5 @@
 use Rattle.std.proofs.Common.{◌≡◌, Some, rules}
-use Rattle.asm_slots.specs.Own.{IsOwnOfName}
+use Rattle.asm_slots.specs.OwnState.{IsOwnOfName}
 use Rattle.asm_slots.specs.Slots.{content_of}
 use Rattle.asm_slots.specs.declared.content.Content.TheVariants as content
 use Rattle.asm_slots.proofs.Held.{holds_told}

@@ -1,8 +1,8 @@
 use Rattle.std.proofs.Common.{◌≡◌, Some, rules, sym, subst, w32}
 use Rattle.std.proofs.Math.Facts.{to_z-of_z}
 use Rattle.asm_slots.specs.Slots.{HoldBoth, content_of}
-use Rattle.asm_slots.specs.Steps.{IsGotText}
-use Rattle.asm_slots.specs.Written.{TellsText}
+use Rattle.asm_slots.specs.StepCalls.{IsGotText}
+use Rattle.asm_slots.specs.WrittenText.{TellsText}
 use Rattle.asm_slots.specs.declared.content.Content.TheVariants as content
 use Rattle.asm_slots.proofs.Held.{both_text_told}
 use Rattle.asm_c.proofs.steps.asm_get.Goals as goal

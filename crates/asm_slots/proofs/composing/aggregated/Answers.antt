@@ -1,6 +1,8 @@
+use Rattle.asm_aggregate.specs.Standard.{standard_meaning}
 use Rattle.asm_slots.proofs.composing.aggregated.Goals as goal
 
 pub returns-in-Ok-told_updates-clause-ok : goal.returns-in-Ok-told_updates-clause-ok
+unfolding standard_meaning
 returns-in-Ok-told_updates-clause-ok c = record {
   old = c.in-Ok.both.0;
   move = c.in-Ok.both.1;

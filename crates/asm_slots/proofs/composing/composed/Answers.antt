@@ -1,6 +1,8 @@
+use Rattle.asm_aggregate.specs.Standard.{standard_meaning}
 use Rattle.asm_slots.proofs.composing.composed.Goals as goal
 
 pub returns-in-Ok-told_move-clause-ok : goal.returns-in-Ok-told_move-clause-ok
+unfolding standard_meaning
 returns-in-Ok-told_move-clause-ok c = record {
   one = c.in-Ok.both.0;
   two = c.in-Ok.both.1;

@@ -1,6 +1,6 @@
 use Rattle.std.proofs.Common.{◌≡◌, refl, subst}
-use Rattle.asm_slots.specs.Step.{StepView}
-use Rattle.asm_slots.specs.Steps.{IsFoundText}
+use Rattle.asm_slots.specs.StepView.{StepView}
+use Rattle.asm_slots.specs.StepCalls.{IsFoundText}
 use Rattle.asm_slots.proofs.CopiedTexts.{retold}
 use Rattle.asm_slots.proofs.getting_all.get_all_in.Goals as goal
 

@@ -4,8 +4,8 @@ use Rattle.asm_storage.specs.Limits.{reads_limit}
 use Rattle.asm_step.specs.Places.{AreEach}
 use Rattle.std.specs.FinMap as finite
 use Rattle.asm_step.specs.Layers.{shows_below}
-use Rattle.asm_slots.specs.Step.{StepView}
-use Rattle.asm_slots.specs.Steps.{from_below}
+use Rattle.asm_slots.specs.StepView.{StepView}
+use Rattle.asm_slots.specs.StepCalls.{from_below}
 use Rattle.asm_slots.proofs.getting_all.got_all_at.Goals as goal
 
 -- each of two lists that are these

@@ -1,6 +1,6 @@
 use Rattle.std.proofs.Common.{◌≡◌, ◌++◌, ◌∷◌, [], true, refl, subst, rules}
 use Rattle.asm_step.specs.Places.{AreEach}
-use Rattle.asm_slots.specs.Step.{StepView}
+use Rattle.asm_slots.specs.StepView.{StepView}
 use Rattle.asm_step.specs.Layers.{shows_below}
 use Rattle.asm_slots.proofs.Noting.{kept_one, noted_in}
 use Rattle.asm_slots.proofs.getting_at.get_one.Goals as goal

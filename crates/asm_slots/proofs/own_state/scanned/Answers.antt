@@ -1,5 +1,5 @@
 use Rattle.std.proofs.Common.{ℕ, List, string_bytes, subst}
-use Rattle.asm_slots.specs.Own.{IsOwnOfName}
+use Rattle.asm_slots.specs.OwnState.{IsOwnOfName}
 use Rattle.asm_slots.proofs.own_state.scanned.Goals as goal
 
 pub returns-in-Ok-own_of_name-clause-ok : goal.returns-in-Ok-own_of_name-clause-ok

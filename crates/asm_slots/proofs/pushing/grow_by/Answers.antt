@@ -1,9 +1,9 @@
 use Rattle.std.proofs.Common.{sym, subst, w32, ◌∙◌}
 use Rattle.std.proofs.Math.Facts.{to_z-of_z}
-use Rattle.asm_slots.specs.Step.{StepView}
-use Rattle.asm_slots.specs.Steps.{IsRefused}
-use Rattle.asm_slots.specs.Written.{TellsOneOf}
-use Rattle.asm_slots.specs.Grown.{refusals}
+use Rattle.asm_slots.specs.StepView.{StepView}
+use Rattle.asm_slots.specs.StepCalls.{IsRefused}
+use Rattle.asm_slots.specs.WrittenText.{TellsOneOf}
+use Rattle.asm_slots.specs.StepPush.{refusals}
 use Rattle.asm_slots.proofs.Growing.{is_grown_of, is_refused, pushes}
 use Rattle.asm_slots.proofs.pushing.grow_by.Goals as goal
 

@@ -1,8 +1,8 @@
 use Rattle.std.proofs.Common.{sym, subst, w32}
 use Rattle.std.proofs.Math.Facts.{to_z-of_z}
-use Rattle.asm_slots.specs.Written.{TellsOneOf}
-use Rattle.asm_slots.specs.Grown.{refusals}
-use Rattle.asm_slots.specs.Steps.{IsNotGrown}
+use Rattle.asm_slots.specs.WrittenText.{TellsOneOf}
+use Rattle.asm_slots.specs.StepPush.{refusals}
+use Rattle.asm_slots.specs.StepCalls.{IsNotGrown}
 use Rattle.asm_slots.proofs.Growing.{not_grown}
 use Rattle.asm_slots.proofs.pushing.grow_in.Goals as goal
 

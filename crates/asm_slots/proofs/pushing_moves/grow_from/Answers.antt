@@ -1,9 +1,9 @@
 use Rattle.std.proofs.Common.{◌≡◌, Some, rules, sym, subst, w32}
 use Rattle.std.proofs.Math.Facts.{to_z-of_z}
-use Rattle.asm_slots.specs.Grown.{refusals}
+use Rattle.asm_slots.specs.StepPush.{refusals}
 use Rattle.asm_slots.specs.Slots.{HoldBoth, HoldsMove, content_of}
-use Rattle.asm_slots.specs.Steps.{IsRefused}
-use Rattle.asm_slots.specs.Written.{TellsOneOf}
+use Rattle.asm_slots.specs.StepCalls.{IsRefused}
+use Rattle.asm_slots.specs.WrittenText.{TellsOneOf}
 use Rattle.asm_slots.specs.declared.content.Content.TheVariants as content
 use Rattle.asm_slots.proofs.Held.{move_told}
 use Rattle.asm_slots.proofs.pushing_moves.grow_from.Goals as goal

@@ -1,8 +1,8 @@
 use Rattle.std.proofs.Common.{◌≡◌, List, string_bytes, subst}
 use Rattle.asm_element.specs.Place.{Place}
-use Rattle.asm_slots.specs.Own.{values_text}
-use Rattle.asm_slots.specs.Step.{StepView}
-use Rattle.asm_slots.specs.Steps.{seen}
+use Rattle.asm_slots.specs.OwnState.{values_text}
+use Rattle.asm_slots.specs.StepView.{StepView}
+use Rattle.asm_slots.specs.StepCalls.{seen}
 use Rattle.asm_slots.proofs.OwnStates.{own_got}
 use Rattle.asm_slots.proofs.steps.got_at.Goals as goal
 

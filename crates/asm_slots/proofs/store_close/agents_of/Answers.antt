@@ -1,6 +1,7 @@
 use Rattle.std.proofs.Common.{◌≡◌, ◌++◌, ◌∷◌, [], All, length, subst, ap, arith}
 use Rattle.std.proofs.lemmas.List.Elements.{All-head, All-rest}
 use Rattle.asm_storage.specs.Part.{agent_of, IsPartOf}
+use Rattle.asm_aggregate.specs.Standard.{standard_meaning}
 use Rattle.asm_slots.specs.Standard.{meaning}
 use Rattle.asm_slots.proofs.PartsAndAgents.{more_made}
 use Rattle.asm_slots.proofs.store_close.agents_of.Goals as goal
@@ -21,6 +22,7 @@ loop-part-preserved c =
     }
 
 pub of-requires-after_bounds : goal.of-requires-after_bounds
+unfolding standard_meaning
 of-requires-after_bounds c κs =
     let s = c.args.storage.now in
     let part = c.in-Some.part in

@@ -2,11 +2,13 @@ use Rattle.std.proofs.Common.{◌≡◌, ◌++◌, ◌∷◌, [], All, length, s
 use Rattle.std.proofs.lemmas.List.Elements.{All-push, All-same, All-tail}
 use Rattle.asm_storage.specs.Part.{agent_of, IsPartOf}
 use Rattle.asm_storage.specs.Storage.{IsOf, StorageView}
+use Rattle.asm_aggregate.specs.Standard.{standard_meaning}
 use Rattle.asm_slots.specs.Standard.{Standard, meaning}
 use Rattle.asm_slots.proofs.PartsAndAgents.{more_apart}
 use Rattle.asm_slots.proofs.store_close.parts_of.Goals as goal
 
 pub loop-agent-preserved : goal.loop-agent-preserved
+unfolding standard_meaning
 loop-agent-preserved c =
     let l = c.loop-agent.invariant in
     let s = c.args.storage.now in

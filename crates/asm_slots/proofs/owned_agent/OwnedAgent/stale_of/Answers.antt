@@ -3,11 +3,14 @@ use Rattle.std_alloc.specs.Arc.{arc_value}
 use Rattle.asm_storage.specs.Calls.{IsStaleRead}
 use Rattle.asm_storage.specs.Part.{agent_of}
 use Rattle.asm_storage.specs.Storage.{AgentAt, StorageView}
+use Rattle.asm_aggregate.specs.Standard.{standard_meaning}
 use Rattle.asm_slots.specs.Standard.{Standard, meaning}
 use Rattle.asm_slots.specs.declared.shared.Shared.{Shared}
+use Rattle.asm_slots.proofs.OwnAgents.{lent}
 use Rattle.asm_slots.proofs.owned_agent.OwnedAgent.stale_of.Goals as goal
 
 pub returns-clause-stale : goal.returns-clause-stale
+unfolding standard_meaning
 returns-clause-stale c =
     let told = c.stands-stale in
     let part = c.into_part-part.result in
@@ -18,3 +21,7 @@ returns-clause-stale c =
     c.into_part-part.ensures.agent ∙ ap (λ (s : StorageView Standard). agent_of s part) (told.ensures.same.storage ∙ here) in
     subst (λ (a : AgentAt Standard). IfOk told.result (IsStaleRead {A = Standard} meaning a c.args.reads.now)) new_is
     told.ensures.stale
+
+pub of-agent-requires-after_bounds : goal.of-agent-requires-after_bounds
+unfolding standard_meaning
+of-agent-requires-after_bounds c κs = lent _ _ c.self.inside.part c.deref.ensures c.self.invariant

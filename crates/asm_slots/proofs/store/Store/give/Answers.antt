@@ -15,8 +15,8 @@ pub returns-in_default-clause-there : goal.returns-in_default-clause-there
 returns-in_default-clause-there c _ =
     let s = (arc_value c.self.inside.shared).storage in
     let parts = c.self.inside.parts.items in
-    let among : IsAmong parts c.id-agent.result.1 = subst (λ (l : List AgentPart). IsAmong l c.id-agent.result.1) c.deref.ensures.value c.in_default.ensures.none in
-    number_among s parts c.id-agent.result.1 c.args.agent.account.id c.args.self (ap (λ (v : StoreView). v.agents) (sym c.self.view_is)) c.id-agent.ensures.id among
+    let among : IsAmong parts c.id-id.result = subst (λ (l : List AgentPart). IsAmong l c.id-id.result) c.deref.ensures.value c.in_default.ensures.none in
+    number_among s parts c.id-id.result c.args.agent.account.id c.args.self (ap (λ (v : StoreView). v.agents) (sym c.self.view_is)) c.id-id.ensures.id among
 
 pub invariant_of-self-2 : goal.invariant_of-self-2
 invariant_of-self-2 c =
@@ -28,11 +28,10 @@ invariant_of-self-2 c =
     let at = c.in-Some.at in
     let added : new ≡ take at mid ++ part ∷ drop at mid = rw c.unwrap.ensures at c.insert.ensures.items in
     let whole : new ≡ take at old ++ part ∷ drop at old = added ∙ ap (λ (l : List AgentPart). take at l ++ part ∷ drop at l) c.reserve.ensures.items in
-    let here : c.id-agent.result.0.storage ≡ s =
-    ap (λ (a : AgentAt Standard). a.storage) c.id-agent.ensures.same ∙ c.requires ∙ sym (ap (λ (v : StoreView). v.storage) c.self.view_is) in
-    let id_is : part.id ≡ c.id-agent.result.1 =
-    ap (λ (a : AgentAt Standard). a.account.id) (c.part_of.ensures.agent ∙ c.id-agent.ensures.same) ∙ sym c.id-agent.ensures.id in
-    let placed : IsInsertPoint old c.id-agent.result.1 at = subst (λ (l : List AgentPart). IsInsertPoint l c.id-agent.result.1 at) c.deref.ensures.value c.in-Some.ensures.some in
+    let here : c.args.agent.storage ≡ s = c.requires ∙ sym (ap (λ (v : StoreView). v.storage) c.self.view_is) in
+    let id_is : part.id ≡ c.id-id.result =
+    ap (λ (a : AgentAt Standard). a.account.id) c.part_of.ensures.agent ∙ sym c.id-id.ensures.id in
+    let placed : IsInsertPoint old c.id-id.result at = subst (λ (l : List AgentPart). IsInsertPoint l c.id-id.result at) c.deref.ensures.value c.in-Some.ensures.some in
     let point : IsInsertPoint old part.id at = subst (λ (n : ℕ). IsInsertPoint old n at) (sym id_is) placed in
     let is_part : IsPartOf meaning s part = subst (λ (x : StorageView Standard). IsPartOf meaning x part) here c.part_of.ensures.part in (
       subst (All (IsPartOf meaning s)) (sym whole) (all_in (IsPartOf meaning s) old part at c.self.invariant.0 is_part),
@@ -49,10 +48,9 @@ returns-clause-given c =
     let at = c.in-Some.at in
     let added : new ≡ take at mid ++ part ∷ drop at mid = rw c.unwrap.ensures at c.insert.ensures.items in
     let whole : new ≡ take at old ++ part ∷ drop at old = added ∙ ap (λ (l : List AgentPart). take at l ++ part ∷ drop at l) c.reserve.ensures.items in
-    let here : c.id-agent.result.0.storage ≡ s =
-    ap (λ (a : AgentAt Standard). a.storage) c.id-agent.ensures.same ∙ c.requires ∙ sym (ap (λ (v : StoreView). v.storage) c.self.view_is) in
+    let here : c.args.agent.storage ≡ s = c.requires ∙ sym (ap (λ (v : StoreView). v.storage) c.self.view_is) in
     let is : agent_of s part ≡ c.args.agent =
-    ap (λ (x : StorageView Standard). agent_of x part) (sym here) ∙ c.part_of.ensures.agent ∙ c.id-agent.ensures.same in (
+    ap (λ (x : StorageView Standard). agent_of x part) (sym here) ∙ c.part_of.ensures.agent in (
       ap (λ (v : StoreView). the_store v.storage v.numbers (map (agent_of s) new)) c.self.view_is,
       put_in s old new part at c.args.agent c.args.self.agents whole is (ap (λ (v : StoreView). v.agents) (sym c.self.view_is)),
     )

@@ -3,7 +3,7 @@ use Rattle.std.specs.Prelude.{◌≡◌, ℕ, ℤ, List}
 use Rattle.asm_storage.specs.declared.history.History.{History}
 use Rattle.asm_storage.specs.History.{Fits}
 use Rattle.asm_storage.specs.Storage.{AgentAt, StorageView}
-use Rattle.asm_slots.specs.Closed.{IsTooLarge, IsUnseen, LacksReceipt}
+use Rattle.asm_slots.specs.ClosedStore.{IsTooLarge, IsUnseen, LacksReceipt}
 use Rattle.asm_slots.specs.Codes.{ASM_MEMORY, ASM_MISSING, ASM_LARGE}
 use Rattle.asm_slots.specs.Standard.{Standard}
 use Rattle.asm_slots.specs.declared.store_close.Unclosed.{Unclosed}

@@ -1,11 +1,11 @@
 -- What is told through the step of a slot by a text, and is got.
-use Rattle.std.specs.Prelude.{◌≡◌, ◌≢◌, ℕ, ℤ, List, [], ◌∷◌, length, Option, IsUtf8}
+use Rattle.std.specs.Prelude.{◌≡◌, ◌≢◌, ℕ, ℤ, List, [], ◌∷◌, Option, IsUtf8}
 use Rattle.asm_explain.specs.Bytes.{AreLocations, IsNoJson, IsOtherJson}
 use Rattle.asm_slots.specs.Codes.{IsOneOf, ASM_DONE, ASM_MEMORY, ASM_EMPTY, ASM_SMALL, ASM_MANY}
 use Rattle.asm_slots.specs.Codes.{ASM_NOT_JSON, ASM_SHAPE, ASM_MOVED}
 use Rattle.asm_slots.specs.Slots.{GoesStep, HoldBoth, HoldsStep, LacksOne}
-use Rattle.asm_slots.specs.Steps.{HasGot, HasGotAll, HasReached, IsFoundText, IsGotText, WouldGetMany, WouldGetManyMore}
-use Rattle.asm_slots.specs.Written.{TellsText}
+use Rattle.asm_slots.specs.StepCalls.{HasGot, HasGotAll, HasReached, IsFoundText, IsGotText, WouldGetMany, WouldGetManyMore}
+use Rattle.asm_slots.specs.WrittenText.{TellsText}
 use Rattle.asm_slots.specs.declared.content.Content.{Content}
 
 -- what is seen at the locations of these bytes is told, and they are got; or the code tells why not

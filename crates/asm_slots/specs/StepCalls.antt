@@ -9,7 +9,7 @@ use Rattle.asm_overlay.specs.Limits.{frames_limit}
 use Rattle.asm_overlay.specs.Frames.{seen_through}
 use Rattle.asm_storage.specs.Limits.{reads_limit}
 use Rattle.asm_storage.specs.Storage.{AgentAt}
-use Rattle.asm_step.specs.Answer.{IsAnswer, IsAnswerOn}
+use Rattle.asm_step.specs.Answer.{IsPushAnswer, IsPushAnswerOn}
 use Rattle.asm_step.specs.InTurn.{all_but_last}
 use Rattle.asm_step.specs.Layers.{Layer, extended, frames_of, shows_below, IsStepOf}
 use Rattle.asm_step.specs.Places.{AreEach}
@@ -17,10 +17,10 @@ use Rattle.asm_step.specs.declared.error.StepError.{StepError}
 use Rattle.asm_step.specs.declared.error.StepError.TheVariants.{Clash, Large, Many, Deep, Memory}
 use Rattle.asm_slots.specs.Bytes.{ReadAsLocations, ReadAsMove}
 use Rattle.asm_slots.specs.Codes.{ASM_CLASH, ASM_MANY, ASM_LARGE, ASM_DEEP}
-use Rattle.asm_slots.specs.Moves.{clash_text, large_text}
-use Rattle.asm_slots.specs.Own.{IsTextOfState, of_name, state_at, values_text}
+use Rattle.asm_slots.specs.Composing.{clash_text, large_text}
+use Rattle.asm_slots.specs.OwnState.{IsTextOfState, of_name, state_at, values_text}
 use Rattle.asm_slots.specs.Standard.{Standard, standard, part}
-use Rattle.asm_slots.specs.Step.{StepView}
+use Rattle.asm_slots.specs.StepView.{StepView}
 use Rattle.asm_slots.specs.declared.owned_step.Way.{Way}
 use Rattle.asm_slots.specs.declared.owned_step.Way.TheVariants as ways
 
@@ -113,18 +113,18 @@ IsLayered ways.Extend old new = (y : Layer) × (new ≡ all_but_last old ++ y �
 
 -- so the move is answered on the state below the step, if that is proper: after the step's moves it fires there, or has the
 -- clash that is told, and nothing is too large
-abbrev pub IsAnsweredBelow : Move → AgentAt Standard → StepView → List Layer → Result (Unit {0}) StepError → Type 0
-IsAnsweredBelow M a s new r =
+abbrev pub IsPushAnswerBelow : Move → AgentAt Standard → StepView → List Layer → Result (Unit {0}) StepError → Type 0
+IsPushAnswerBelow M a s new r =
     (groups : List (List Move)) → IsStepOn a s groups → IsProper (state_at a s.number) →
-    IsAnswerOn part (state_at a s.number) s.layers new M r
+    IsPushAnswerOn part (state_at a s.number) s.layers new M r
 
 -- the move is pushed, or extends the one that was pushed last
 pub record IsGrown (way : Way) (M : Move) (a : AgentAt Standard) (old new : StepView) : Type 0 where
   pub same : new ≡ record old { layers = new.layers }
   pub reached : HasReached a old
   pub layers : IsLayered way old.layers new.layers
-  pub answer : IsAnswer standard (below a old) old.layers new.layers M (Ok tt)
-  pub fires : IsAnsweredBelow M a old new.layers (Ok tt)
+  pub answer : IsPushAnswer standard (below a old) old.layers new.layers M (Ok tt)
+  pub fires : IsPushAnswerBelow M a old new.layers (Ok tt)
   pub step : (groups : List (List Move)) → IsStepOn a old groups → IsStepOn a new (grown way groups M)
 
 -- why it isn't, never that something is too large where the step is one of the agent over a proper state; 64 moves don't keep
@@ -132,7 +132,7 @@ pub record IsGrown (way : Way) (M : Move) (a : AgentAt Standard) (old new : Step
 abbrev pub IsPushError : Way → Move → AgentAt Standard → StepView → StepError → Type 0
 IsPushError ways.Extend M a s Deep = ⊥
 IsPushError way M a s e =
-    HasReached a s × IsAnswer standard (below a s) s.layers s.layers M (Err e) × IsAnsweredBelow M a s s.layers (Err e)
+    HasReached a s × IsPushAnswer standard (below a s) s.layers s.layers M (Err e) × IsPushAnswerBelow M a s s.layers (Err e)
 
 -- the bytes are JSON of a move, which is pushed or extends the one that was pushed last
 abbrev pub HasGrown : Way → List ℕ → AgentAt Standard → StepView → StepView → Type 0
@@ -163,3 +163,8 @@ pub record HasPopped (old new : StepView) : Type 0 where
   pub less : (y : Layer) × (old.layers ≡ new.layers ++ y ∷ [])
   pub step : (a : AgentAt Standard) (groups : List (List Move)) (group : List Move) →
       IsStepOn a old (groups ++ group ∷ []) → IsStepOn a new groups
+
+-- these are the moves of the step's last group
+abbrev pub AreLastOf : StepView → List Move → Type 0
+AreLastOf s Ms = (a : AgentAt Standard) (groups : List (List Move)) (group : List Move) →
+    IsStepOn a s (groups ++ group ∷ []) → Ms ≡ group

@@ -2,11 +2,11 @@
 use Rattle.std.specs.Prelude.{◌≡◌, ◌≢◌, ◌≤◌, ◌+◌, ℤ, List, [], ◌∷◌, ℕ, Option}
 use Rattle.asm_storage.specs.Limits.{offers_limit}
 use Rattle.asm_storage.specs.Storage.{IsSameAgent}
-use Rattle.asm_slots.specs.Ahead.{FiresAhead, FiresWithin}
+use Rattle.asm_slots.specs.NumbersAhead.{FiresAhead, FiresWithin}
 use Rattle.asm_explain.specs.Bytes.{AreLocations, IsFireForm, IsNoJson, IsOtherJson}
 use Rattle.asm_slots.specs.Bytes.{ReadAsManyLocations, ReadAsManyReads}
-use Rattle.asm_slots.specs.Calls.{HasFired, HasLooked, HasRead, IsReplyCode, MayHaveLooked, MayHaveOffered}
-use Rattle.asm_slots.specs.Calls.{MissedFew, MissedOne, SeesOn, WasBusy}
+use Rattle.asm_slots.specs.AgentCalls.{HasTriedFire, HasLooked, HasRead, IsReplyCode, MayHaveLooked, MayHaveOffered}
+use Rattle.asm_slots.specs.AgentCalls.{MissedFew, MissedOne, SeesOn, WasBusy}
 use Rattle.asm_slots.specs.Codes.{IsOneOf, ASM_DONE, ASM_STALE, ASM_CLASH, ASM_MEMORY, ASM_FULL}
 use Rattle.asm_slots.specs.Codes.{ASM_EMPTY, ASM_RANGE, ASM_BUSY, ASM_MANY, ASM_NOT_JSON, ASM_SHAPE}
 use Rattle.asm_slots.specs.Slots.{Goes, Holds, HoldsNoAgent}
@@ -32,7 +32,7 @@ pub record Reads (locations : List ℕ) (agent after : Option Content) (code : �
 pub record Fires (call : List ℕ) (agent after : Option Content) (numbers : Numbers) (code : ℤ) : Type 0 where
   pub codes : IsOneOf (ASM_DONE ∷ ASM_STALE ∷ ASM_CLASH ∷ ASM_MEMORY ∷ ASM_FULL ∷ ASM_EMPTY
       ∷ ASM_RANGE ∷ ASM_BUSY ∷ ASM_MANY ∷ ASM_NOT_JSON ∷ ASM_SHAPE ∷ []) code
-  pub answered : IsReplyCode code → Goes agent after (HasFired call code numbers.fired)
+  pub answered : IsReplyCode code → Goes agent after (HasTriedFire call code numbers.fired)
   pub unfired : code ≢ ASM_DONE → numbers.fired ≡ 0
   pub not_busy : code ≢ ASM_BUSY → (numbers.from ≡ 0) × (numbers.to ≡ 0)
   pub few : code ≢ ASM_EMPTY → Goes agent after MissedFew

@@ -6,7 +6,7 @@ use Rattle.asm_update.specs.Move.{Move}
 use Rattle.asm_update.specs.State.{State, IsProper, val}
 use Rattle.asm_element.specs.Place.{Place}
 use Rattle.asm_state.specs.declared.named.Named.{Named}
-use Rattle.asm_storage.specs.Calls.{IsAnswered, IsBusy, IsCoherentReply, MadeOffers}
+use Rattle.asm_storage.specs.Calls.{IsReplied, IsBusy, IsCoherentReply, MadeOffers}
 use Rattle.asm_storage.specs.Limits.{offers_limit, reads_limit}
 use Rattle.asm_storage.specs.Storage.{AgentAt, IsSameAgent}
 use Rattle.asm_storage.specs.declared.call.Reply.{Reply}
@@ -16,13 +16,13 @@ use Rattle.asm_storage.specs.declared.error.FireError.TheVariants.{Busy, ManyRea
 use Rattle.asm_step.specs.InTurn.{DoesAll, fire_all}
 use Rattle.asm_step.specs.Layers.{all_moves, one_move, resting_of, shows_below}
 use Rattle.asm_step.specs.Places.{AreEach}
-use Rattle.asm_slots.specs.Calls.{HasLooked, MissedFew, MissedOne, SeesOn, code_of, number_of}
+use Rattle.asm_slots.specs.AgentCalls.{HasLooked, MissedFew, MissedOne, SeesOn, code_of, number_of}
 use Rattle.asm_slots.specs.Codes.{IsOneOf, ASM_DONE, ASM_STALE, ASM_CLASH, ASM_MEMORY, ASM_FULL, ASM_EMPTY, ASM_BUSY, ASM_MANY}
-use Rattle.asm_slots.specs.Own.{state_at}
+use Rattle.asm_slots.specs.OwnState.{state_at}
 use Rattle.asm_slots.specs.Slots.{Goes, HoldBoth, Holds, LacksOne}
 use Rattle.asm_slots.specs.Standard.{Standard, meaning, part}
-use Rattle.asm_slots.specs.Step.{StepView}
-use Rattle.asm_slots.specs.Steps.{IsStepOn, seen}
+use Rattle.asm_slots.specs.StepView.{StepView}
+use Rattle.asm_slots.specs.StepCalls.{IsStepOn, seen}
 use Rattle.asm_slots.specs.declared.content.Content.{Content}
 use Rattle.asm_slots.specs.declared.read_and_fire.Numbers.{Numbers}
 
@@ -63,7 +63,7 @@ pub record HasFiredStep (s : StepView) (code : ℤ) (fired from to : ℕ) (old n
   pub names : NamesAll s reads
   pub told : TellsFire answer code fired from to
   pub many : IsErrOf answer ManyReads ↔ (reads_limit < length reads)
-  pub answered : IfOk answer (IsAnswered meaning old new reads (unwrap_or (one_move s.layers) []))
+  pub answered : IfOk answer (IsReplied meaning old new reads (unwrap_or (one_move s.layers) []))
   pub coherent : IfOk answer (IsCoherentReply meaning new reads (unwrap_or (one_move s.layers) []))
   pub refused : OnErr answer (HasLooked old new)
   pub busy : IfErr answer (IsBusy old new)
@@ -82,14 +82,12 @@ abbrev pub OneDoesAll : AgentAt Standard → StepView → Type 0
 OneDoesAll a s =
     (groups : List (List Move)) → IsStepOn a s groups → DoesAll part (all_moves groups) (unwrap_or (one_move s.layers) [])
 
--- the step's one move is fired, and the step is over; or the code tells why not, and the step stays
-pub record Commits (agent after step step_after : Option Content) (numbers : Numbers) (code : ℤ) : Type 0 where
+-- the step's one move is fired, or the code tells why not
+pub record FiresStep (agent after step : Option Content) (numbers : Numbers) (code : ℤ) : Type 0 where
   pub codes : IsOneOf (ASM_DONE ∷ ASM_STALE ∷ ASM_CLASH ∷ ASM_MEMORY ∷ ASM_FULL ∷ ASM_EMPTY ∷ ASM_BUSY ∷ ASM_MANY ∷ []) code
   pub committed : code ≢ ASM_EMPTY → HoldBoth agent step
       (λ a s. Holds after (HasCommitted s code numbers.fired numbers.from numbers.to a))
   pub does : code ≢ ASM_EMPTY → HoldBoth agent step OneDoesAll
-  pub over : code ≡ ASM_DONE → step_after ≡ None
-  pub stays : code ≢ ASM_DONE → step_after ≡ step
   pub same : code ≢ ASM_EMPTY → Goes agent after IsSameAgent
   pub seen : code ≢ ASM_EMPTY → Goes agent after SeesOn
   pub few : code ≢ ASM_EMPTY → Goes agent after MissedFew
@@ -98,3 +96,9 @@ pub record Commits (agent after step step_after : Option Content) (numbers : Num
   pub empty : code ≡ ASM_EMPTY → LacksOne agent step
   pub kept : code ≡ ASM_EMPTY → after ≡ agent
   pub no_numbers : code ≡ ASM_EMPTY → (numbers.fired ≡ 0) × (numbers.from ≡ 0) × (numbers.to ≡ 0)
+
+-- the same, and the step is over where it fired, and stays else
+pub record Commits (agent after step step_after : Option Content) (numbers : Numbers) (code : ℤ) : Type 0 where
+  pub fires : FiresStep agent after step numbers code
+  pub over : code ≡ ASM_DONE → step_after ≡ None
+  pub stays : code ≢ ASM_DONE → step_after ≡ step

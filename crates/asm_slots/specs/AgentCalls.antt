@@ -1,5 +1,5 @@
 -- What the calls do with the agents and the storages in slots.
-use Rattle.std.specs.Prelude.{◌≡◌, ◌⊎◌, ◌<◌, ◌≤◌, ◌+◌, ◌-◌, ◌^◌, min, max, ℕ, ℤ, List, [], ◌∷◌, ◌++◌, length, Option, None, Some}
+use Rattle.std.specs.Prelude.{◌≡◌, ◌⊎◌, ◌≤◌, ◌+◌, ◌-◌, ◌^◌, min, max, ℕ, ℤ, List, [], ◌∷◌, ◌++◌, length, Option, None, Some}
 use Rattle.std.specs.Prelude.{Ok, Err}
 use Rattle.serde_json.specs.Written.{compact_text}
 use mathlib.Core.List.{IsPrefix}
@@ -13,28 +13,22 @@ use Rattle.asm_storage.specs.declared.error.FireError.TheVariants.{Busy, Memory}
 use Rattle.asm_storage.specs.declared.receipt.Receipt.{Receipt}
 use Rattle.asm_storage.specs.declared.entry.Entry.{Entry}
 use Rattle.asm_storage.specs.Storage.{AgentAt, has_looked, has_seen, last_look, Missed}
-use Rattle.asm_storage.specs.Calls.{ReadingView, IsRead, IsAnswered, IsBusy, IsCoherentReply, MadeOffers}
+use Rattle.asm_storage.specs.Calls.{ReadingView, IsRead, IsReplied, IsBusy, IsCoherentReply, MadeOffers}
 use Rattle.asm_journal.specs.Event.{answer_json_of}
-use Rattle.asm_row.specs.Limits.{capacity_limit}
+pub use Rattle.asm_row.specs.Limits.{IsNoCapacity}
 use Rattle.asm_slots.specs.Standard.{Standard, meaning}
 use Rattle.asm_explain.specs.Bytes.{ReadAsFire}
 use Rattle.asm_slots.specs.Bytes.{ReadAsLocations, ReadAsState}
-use Rattle.asm_slots.specs.Closed.{IsJournalOf}
+use Rattle.asm_slots.specs.ClosedStore.{IsJournalOf}
 use Rattle.asm_slots.specs.Codes.{ASM_DONE, ASM_STALE, ASM_CLASH, ASM_FULL}
 use Rattle.asm_slots.specs.Slots.{HoldsStore, Goes}
-use Rattle.asm_slots.specs.Store.{StoreView, IsPutIn}
+use Rattle.asm_slots.specs.Store.{StoreView, IsPutIn, IsUnused}
 use Rattle.asm_slots.specs.declared.content.Content.{Content}
 use Rattle.asm_slots.specs.declared.content.Content.TheVariants as content
 
--- no storage has room for so many moves
-abbrev pub IsNoCapacity : ℕ → Type 0
-IsNoCapacity capacity = (capacity ≡ 0) ⊎ (capacity_limit < capacity)
-
 -- a storage with this opening state and this capacity, of which no agent was made
 abbrev pub IsOpened : List ℕ → ℕ → StoreView → Type 0
-IsOpened bytes capacity s =
-    ReadAsState bytes s.storage.init × (length s.storage.row ≡ capacity) × (s.numbers ≡ []) × (s.agents ≡ [])
-    × (s.journal ≡ None)
+IsOpened bytes capacity s = ReadAsState bytes s.storage.init × (length s.storage.row ≡ capacity) × IsUnused s
 
 -- the storage with these numbers of agents that were made besides
 abbrev pub HasMade : List ℕ → StoreView → StoreView → Type 0
@@ -69,10 +63,10 @@ IsReplyCode code = (code ≡ ASM_DONE) ⊎ (code ≡ ASM_STALE) ⊎ (code ≡ AS
 
 -- the bytes are JSON of a fire, and it was answered with a reply of this code and this number, after so many offers and
 -- looks as this reply comes after
-abbrev pub HasFired : List ℕ → ℤ → ℕ → AgentAt Standard → AgentAt Standard → Type 0
-HasFired bytes code number old new =
+abbrev pub HasTriedFire : List ℕ → ℤ → ℕ → AgentAt Standard → AgentAt Standard → Type 0
+HasTriedFire bytes code number old new =
     (reads : List Named) × (M : Move) × (r : Reply) × ReadAsFire bytes reads M × (code_of r ≡ code)
-    × (number_of r ≡ number) × IsAnswered meaning old new reads M r × IsCoherentReply meaning new reads M r
+    × (number_of r ≡ number) × IsReplied meaning old new reads M r × IsCoherentReply meaning new reads M r
     × ((n : ℕ) × MadeOffers old new (Ok r) n)
 
 -- so many moves had been seen at the start of a call that lost 64 offers, and so many at its end
@@ -133,6 +127,10 @@ HasTaken a old new = (new ≡ record old { agents = new.agents; journal = None }
 abbrev pub Gives : Option Content → Option Content → Option Content → Type 0
 Gives (Some (content.Store s)) (Some (content.Agent a)) new = HoldsStore new (HasTaken a s)
 Gives _ _ new = ⊥
+
+-- the storage without this agent, which was among those that were given back, and with no journal
+abbrev pub HasLost : AgentAt Standard → StoreView → StoreView → Type 0
+HasLost a old new = (new ≡ record old { agents = new.agents; journal = None }) × IsPutIn a new.agents old.agents
 
 -- an agent with this number was given to the storage
 abbrev pub HasNumber : StoreView → ℕ → Type 0

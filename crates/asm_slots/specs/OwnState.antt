@@ -15,7 +15,7 @@ use Rattle.asm_storage.specs.declared.call.Reply.TheVariants as reply
 use Rattle.asm_journal.specs.Event.{answer_json_of, reply_json_of}
 use Rattle.asm_journal.specs.Text.{state_json_of}
 use Rattle.asm_slots.specs.Bytes.{ReadAsLocations, ReadAsReads}
-use Rattle.asm_slots.specs.Calls.{HasLooked}
+use Rattle.asm_slots.specs.AgentCalls.{HasLooked}
 use Rattle.asm_slots.specs.Kinds.{IsTold, bytes_of}
 use Rattle.asm_slots.specs.Standard.{Standard, meaning, part}
 

@@ -1,11 +1,11 @@
--- What making agents of a storage does.
+-- What making agents of a storage does, and taking one again that was given back.
 use Rattle.std.specs.Prelude.{◌≡◌, ◌≢◌, ◌≤◌, ◌<◌, ◌↔◌, ℕ, ℤ, List, [], ◌∷◌, length, true, false, Option, None}
 use Rattle.std.specs.List.{range_with_len}
 use Rattle.asm_storage.specs.Limits.{agents_limit}
-use Rattle.asm_slots.specs.Calls.{Makes}
-use Rattle.asm_slots.specs.Codes.{IsOneOf, ASM_DONE, ASM_MEMORY, ASM_EMPTY, ASM_RANGE, ASM_TAKEN, ASM_NUMBER}
-use Rattle.asm_slots.specs.Numbers.{was_any_made, was_made}
-use Rattle.asm_slots.specs.Slots.{AreEmpty, AreNew, HoldsNew, HoldsNoStore, HoldsStore}
+use Rattle.asm_slots.specs.AgentCalls.{HasLost, HasNumber, Makes}
+use Rattle.asm_slots.specs.Codes.{IsOneOf, ASM_DONE, ASM_MEMORY, ASM_EMPTY, ASM_RANGE, ASM_NONE, ASM_TAKEN, ASM_NUMBER}
+use Rattle.asm_slots.specs.AgentNumbers.{was_any_made, was_made}
+use Rattle.asm_slots.specs.Slots.{AreEmpty, AreNew, Holds, HoldsNew, HoldsNoStore, HoldsStore}
 use Rattle.asm_slots.specs.declared.content.Content.{Content}
 use Rattle.asm_slots.specs.declared.slot.Slot.{Slot}
 
@@ -37,3 +37,15 @@ pub record MakesAgents (store after : Option Content) (agents agents_after : Lis
   pub empty : code ≡ ASM_EMPTY → HoldsNoStore store
   pub number : code ≡ ASM_NUMBER → HoldsStore store (λ s. was_any_made s (length agents) ≡ true)
   pub fresh : IsOneOf (ASM_DONE ∷ ASM_MEMORY ∷ []) code → HoldsStore store (λ s. was_any_made s (length agents) ≡ false)
+
+-- the agent with this number is taken out of those that were given back; or the code tells why not
+pub record TakesAgent (number : ℕ) (store after agent agent_after : Option Content) (code : ℤ) : Type 0 where
+  pub codes : IsOneOf (ASM_DONE ∷ ASM_MEMORY ∷ ASM_EMPTY ∷ ASM_NONE ∷ ASM_TAKEN ∷ []) code
+  pub lost : code ≡ ASM_DONE → HoldsStore store (λ s. Holds agent_after (λ a. HoldsStore after (HasLost a s)))
+  pub numbered : code ≡ ASM_DONE → Holds agent_after (λ a. a.account.id ≡ number)
+  pub kept : code ≢ ASM_DONE → after ≡ store
+  pub refused : code ≢ ASM_DONE → agent_after ≡ agent
+  pub taken : (code ≡ ASM_TAKEN) ↔ (agent ≢ None)
+  pub empty : code ≡ ASM_EMPTY → HoldsNoStore store
+  pub none : code ≡ ASM_NONE → HoldsStore store (λ s. ¬ HasNumber s number)
+  pub there : code ≡ ASM_MEMORY → HoldsStore store (λ s. HasNumber s number)

@@ -1,16 +1,16 @@
 -- What looks that leave no receipt tell, and what they leave.
-use Rattle.std.specs.Prelude.{◌≡◌, ◌≢◌, ◌↔◌, ℕ, ℤ, List, [], ◌∷◌, length, Option}
+use Rattle.std.specs.Prelude.{◌≡◌, ◌≢◌, ◌↔◌, ℕ, ℤ, List, [], ◌∷◌, Option}
 use Rattle.asm_storage.specs.Storage.{IsSameAgent}
-use Rattle.asm_slots.specs.Ahead.{ReadsAhead, ReadsWithin}
+use Rattle.asm_slots.specs.NumbersAhead.{ReadsAhead, ReadsWithin}
 use Rattle.asm_explain.specs.Bytes.{IsNoJson, IsOtherJson}
 use Rattle.asm_slots.specs.Bytes.{AreReads, ReadAsMoreReads}
-use Rattle.asm_slots.specs.Calls.{HasLooked, MayHaveLooked, SeesOn}
+use Rattle.asm_slots.specs.AgentCalls.{HasLooked, MayHaveLooked, SeesOn}
 use Rattle.asm_slots.specs.Codes.{IsOneOf, ASM_DONE, ASM_STALE, ASM_MEMORY, ASM_EMPTY, ASM_SMALL, ASM_MANY}
 use Rattle.asm_slots.specs.Codes.{ASM_RANGE, ASM_TAKEN, ASM_NOT_JSON, ASM_SHAPE}
-use Rattle.asm_slots.specs.Own.{AllStand, HasFollowed, HasLookedOn, IsStaleOf}
+use Rattle.asm_slots.specs.OwnState.{AllStand, HasFollowed, HasLookedOn, IsStaleOf}
 use Rattle.asm_slots.specs.Slots.{Goes, HasRoomForStep, Holds, HoldsNoAgent, HoldsStep}
-use Rattle.asm_slots.specs.Step.{begun}
-use Rattle.asm_slots.specs.Written.{Tells}
+use Rattle.asm_slots.specs.StepView.{begun}
+use Rattle.asm_slots.specs.WrittenText.{Tells}
 use Rattle.asm_slots.specs.declared.content.Content.{Content}
 
 -- the text tells the least location of the named reads of these bytes that is stale after what the slot's agent has seen

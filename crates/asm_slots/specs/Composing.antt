@@ -1,5 +1,5 @@
 -- What is told of a move on a state, and of two moves, that are given as texts.
-use Rattle.std.specs.Prelude.{◌≡◌, ℕ, ℤ, List, [], ◌∷◌, codes, length, Result, Ok, Err}
+use Rattle.std.specs.Prelude.{◌≡◌, ℕ, ℤ, List, [], ◌∷◌, codes, Result, Ok, Err}
 use Rattle.serde_json.specs.Written.{compact_text}
 use Rattle.asm_element.specs.Place.{Place}
 use Rattle.asm_update.specs.Move.{Move}
@@ -21,7 +21,7 @@ use Rattle.asm_slots.specs.Bytes.{AreMisread, ReadAsMove, ReadAsState}
 use Rattle.asm_slots.specs.Codes.{IsOneOf, ASM_DONE, ASM_CLASH, ASM_MEMORY, ASM_SMALL, ASM_MANY}
 use Rattle.asm_slots.specs.Codes.{ASM_NOT_JSON, ASM_SHAPE, ASM_LARGE}
 use Rattle.asm_slots.specs.Standard.{standard, part}
-use Rattle.asm_slots.specs.Written.{TellsOneOf}
+use Rattle.asm_slots.specs.WrittenText.{TellsOneOf}
 
 -- {"clash":[LOC,CAUSE]}
 abbrev pub clash_text : Clash → List ℕ

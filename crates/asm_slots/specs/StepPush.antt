@@ -1,12 +1,12 @@
 -- What pushing a move onto the step of a slot leaves, or extending by it the one that was pushed last.
-use Rattle.std.specs.Prelude.{◌≡◌, ◌≢◌, ◌⊎◌, ℕ, ℤ, List, [], ◌∷◌, length, Option}
+use Rattle.std.specs.Prelude.{◌≡◌, ◌≢◌, ◌⊎◌, ℕ, ℤ, List, [], ◌∷◌, Option}
 use Rattle.asm_journal.specs.Event.{IsMoveForm}
 use Rattle.asm_explain.specs.Bytes.{IsNoJson, IsOtherJson}
 use Rattle.asm_slots.specs.Codes.{IsOneOf, ASM_DONE, ASM_CLASH, ASM_MEMORY, ASM_EMPTY, ASM_SMALL}
 use Rattle.asm_slots.specs.Codes.{ASM_MANY, ASM_NOT_JSON, ASM_SHAPE, ASM_LARGE, ASM_MOVED, ASM_DEEP}
 use Rattle.asm_slots.specs.Slots.{HoldBoth, HoldsMove, HoldsNoMove, HoldsStep, LacksOne}
-use Rattle.asm_slots.specs.Steps.{HasGrown, IsGrown, IsNotGrown, IsRefused}
-use Rattle.asm_slots.specs.Written.{TellsOneOf}
+use Rattle.asm_slots.specs.StepCalls.{HasGrown, IsGrown, IsNotGrown, IsRefused}
+use Rattle.asm_slots.specs.WrittenText.{TellsOneOf}
 use Rattle.asm_slots.specs.declared.content.Content.{Content}
 use Rattle.asm_slots.specs.declared.owned_step.Way.{Way}
 use Rattle.asm_slots.specs.declared.owned_step.Way.TheVariants as ways

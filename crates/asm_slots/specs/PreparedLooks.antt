@@ -1,12 +1,12 @@
 -- What looking at a prepared location tells.
-use Rattle.std.specs.Prelude.{◌≡◌, ◌≢◌, ◌⊎◌, ℕ, ℤ, pos, List, [], ◌∷◌, length, Option}
+use Rattle.std.specs.Prelude.{◌≡◌, ◌≢◌, ◌⊎◌, ℕ, ℤ, pos, List, [], ◌∷◌, Option}
 use Rattle.asm_slots.specs.Codes.{IsOneOf, ASM_DONE, ASM_MEMORY, ASM_EMPTY, ASM_SMALL, ASM_MANY, ASM_MOVED}
 use Rattle.asm_slots.specs.Kinds.{IsTold, bytes_of}
-use Rattle.asm_slots.specs.Own.{HasBytesAt, IsToldAt}
+use Rattle.asm_slots.specs.OwnState.{HasBytesAt, IsToldAt}
 use Rattle.asm_slots.specs.Slots.{GoesStep, HoldBoth, Holds, HoldsLocation, HoldsNoAgent, HoldsNoLocation, HoldsStep, LacksOne}
-use Rattle.asm_slots.specs.Steps.{HasGotOne, HasReached, WouldGetOneMore, seen}
+use Rattle.asm_slots.specs.StepCalls.{HasGotOne, HasReached, WouldGetOneMore, seen}
 use Rattle.asm_element.specs.declared.value.Value.{Value}
-use Rattle.asm_slots.specs.Written.{Tells}
+use Rattle.asm_slots.specs.WrittenText.{Tells}
 use Rattle.asm_slots.specs.declared.content.Content.{Content}
 use Rattle.asm_slots.specs.declared.value_head.ValueHead.{ValueHead}
 

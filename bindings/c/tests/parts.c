@@ -1,0 +1,358 @@
+/* Runs in parts: storages that go on from an agent's own state, agents that are given back and taken
+ * again, and audits of the parts' journals, whose bytes come in pieces. */
+#include "tests.h"
+
+static asm_slot storage, agents[3];
+
+static void end_all(void) {
+    asm_free(&storage);
+    for (size_t i = 0; i < 3; i++)
+        asm_free(&agents[i]);
+}
+
+static void follows_to(asm_slot *agent, uint32_t wanted) {
+    uint32_t number = 9;
+    REQUIRE(asm_follow(agent, &number) == ASM_DONE && number == wanted);
+}
+
+static void refused_going_on(asm_slot *agent, uint32_t capacity, asm_slot *next, int32_t wanted) {
+    asm_slot was[2] = {*agent, *next};
+    REQUIRE(asm_go_on(agent, capacity, next) == wanted);
+    REQUIRE(is_same(*agent, was[0]) && is_same(*next, was[1]));
+}
+
+/* A storage goes on once it is full, from an agent that has looked on to the end; the other agents
+ * need not, and are closed later. */
+static void going_on(void) {
+    asm_slot next = {0}, agent = {0}, step = {0};
+    uint32_t number;
+    open_with("[[['x'],7],[['y'],'why']]", 2, &storage);
+    refused_going_on(&agent, 4, &next, ASM_EMPTY);
+    REQUIRE(asm_agents(&storage, agents, 3) == ASM_DONE);
+    refused_going_on(&agents[0], 4, &next, ASM_NONE);
+    fire(&agents[0], "[['inc',['x'],1],['put',['y'],null]]");
+    follows_to(&agents[0], 1);
+    refused_going_on(&agents[0], 4, &next, ASM_NONE);
+    fire(&agents[1], "[['put',['z',1],{'set':[2]}]]");
+    /* Each has seen one move, and none the end. */
+    refused_going_on(&agents[0], 4, &next, ASM_NONE);
+    refused_going_on(&agents[1], 0, &next, ASM_NONE);
+    follows_to(&agents[0], 2);
+    REQUIRE(asm_learn(&agents[2], &agents[0]) == ASM_DONE && asm_seen(&agents[2]) == 2);
+    refused_going_on(&agents[2], 4, &next, ASM_NONE);
+    refused_going_on(&agents[0], 0, &next, ASM_RANGE);
+    refused_going_on(&agents[0], 1048577, &next, ASM_RANGE);
+    refused_going_on(&agents[0], 0, &storage, ASM_TAKEN);
+    refused_going_on(&storage, 4, &agents[0], ASM_TAKEN);
+    refused_going_on(&agents[0], 4, &agents[0], ASM_TAKEN);
+    refused_going_on(&storage, 4, &next, ASM_EMPTY);
+    REQUIRE(asm_begin(&agents[1], &step, &number) == ASM_DONE && number == 2);
+    refused_going_on(&step, 4, &next, ASM_EMPTY);
+    REQUIRE(asm_go_on(&agents[1], 1048576, &next) == ASM_DONE && next.full);
+    asm_free(&next);
+    REQUIRE(asm_go_on(&agents[0], 3, &next) == ASM_DONE && next.full);
+    refused_going_on(&agents[0], 3, &next, ASM_TAKEN);
+    /* It has no agent, no move and no journal, and as much room as was wanted. */
+    REQUIRE(asm_moves(&next, &number) == ASM_DONE && number == 0);
+    ANSWERS(ASM_NONE, asm_journal(&next, OUT));
+    REQUIRE(asm_agent(&next, 0, &agent) == ASM_DONE);
+    TELLS(ASM_DONE, "[[['x'],8],[['z',1],{'set':[2]}]]", asm_state(&agent, &number, OUT));
+    REQUIRE(number == 0);
+    for (int i = 0; i < 3; i++)
+        fire(&agent, "[['inc',['x'],1]]");
+    asm_numbers numbers;
+    REQUIRE(asm_try_fire(&agent, TEXT("{'fire':[],'reads':[]}"), &numbers) == ASM_FULL);
+    /* The first one is as it was. */
+    follows_to(&agents[2], 2);
+    TELLS(ASM_DONE, "{'number':2,'values':[8,null]}",
+          asm_peek(&agents[2], TEXT("[['x'],['y']]"), OUT));
+    for (size_t i = 0; i < 3; i++)
+        REQUIRE(asm_give(&storage, &agents[i]) == ASM_DONE);
+    char *journal = journal_of(&storage);
+    is_legal(journal, 2, 2);
+    free(journal);
+    asm_free(&step);
+    asm_free(&agent);
+    asm_free(&next);
+    end_all();
+}
+
+static void refused_taking(uint32_t number, asm_slot *agent, int32_t wanted) {
+    asm_slot was[2] = {storage, *agent};
+    REQUIRE(asm_take(&storage, number, agent) == wanted);
+    REQUIRE(is_same(storage, was[0]) && is_same(*agent, was[1]));
+}
+
+/* An agent that was given back goes on where it was, with its receipts, as often as it is taken. */
+static void taken_again(void) {
+    asm_slot agent = {0};
+    asm_numbers numbers;
+    uint32_t missing;
+    open_with("[[['x'],0]]", 8, &storage);
+    REQUIRE(asm_agents(&storage, agents, 3) == ASM_DONE);
+    refused_taking(0, &agent, ASM_NONE);
+    fire(&agents[1], "[['inc',['x'],1]]");
+    follows_to(&agents[1], 1);
+    REQUIRE(asm_give(&storage, &agents[1]) == ASM_DONE);
+    REQUIRE(asm_give(&storage, &agents[2]) == ASM_DONE);
+    refused_taking(0, &agent, ASM_NONE);
+    refused_taking(256, &agent, ASM_NONE);
+    refused_taking(1, &agents[0], ASM_TAKEN);
+    refused_taking(1, &storage, ASM_TAKEN);
+    REQUIRE(asm_take(&agents[0], 1, &agent) == ASM_EMPTY && !agent.full);
+    REQUIRE(asm_take(&agent, 1, &agent) == ASM_EMPTY && !agent.full);
+    REQUIRE(asm_close(&storage, &missing) == ASM_DONE);
+    REQUIRE(asm_take(&storage, 1, &agent) == ASM_DONE && agent.full);
+    refused_taking(1, &agents[1], ASM_NONE);
+    /* The journal is gone, and without the agent a move has no receipt. */
+    ANSWERS(ASM_NONE, asm_journal(&storage, OUT));
+    REQUIRE(asm_close(&storage, &missing) == ASM_MISSING && missing == 1);
+    REQUIRE(asm_seen(&agent) == 1 && asm_won(&agent) == 1 && asm_misses(&agent) == 2);
+    TELLS(ASM_DONE, "{'fired':1}", asm_answer(&agent, OUT));
+    TELLS(ASM_DONE, "{'number':1,'values':[1]}", asm_peek(&agent, TEXT("[['x']]"), OUT));
+    /* Its number stays its own, and it is of the storage. */
+    REQUIRE(asm_agent(&storage, 1, &agents[1]) == ASM_NUMBER);
+    REQUIRE(asm_learn(&agents[0], &agent) == ASM_DONE && asm_seen(&agents[0]) == 1);
+    fire(&agents[0], "[['inc',['x'],1]]");
+    REQUIRE(asm_try_fire(&agent, TEXT("{'fire':[],'reads':[[['x'],1]]}"), &numbers) == ASM_STALE);
+    for (int i = 0; i < 300; i++) {
+        REQUIRE(asm_give(&storage, &agent) == ASM_DONE && !agent.full);
+        REQUIRE(asm_take(&storage, 1, &agent) == ASM_DONE && agent.full);
+    }
+    REQUIRE(asm_take(&storage, 2, &agents[2]) == ASM_DONE);
+    REQUIRE(asm_give(&storage, &agents[2]) == ASM_DONE);
+    REQUIRE(asm_give(&storage, &agent) == ASM_DONE);
+    REQUIRE(asm_give(&storage, &agents[0]) == ASM_DONE);
+    char *journal = journal_of(&storage);
+    is_legal(journal, 3, 2);
+    free(journal);
+    end_all();
+}
+
+/* What an audit tells. */
+typedef struct sentence {
+    int32_t code;
+    uint64_t parts, calls, moves;
+} sentence;
+
+static void is_said(int32_t code, asm_audit_numbers told, sentence wanted, int line) {
+    if (code == wanted.code && told.parts == wanted.parts && told.calls == wanted.calls &&
+        told.moves == wanted.moves)
+        return;
+    fprintf(stderr, "%s: line %d: code %" PRId32 ", %" PRIu64 " %" PRIu64 " %" PRIu64 "\n",
+            __FILE__, line, code, told.parts, told.calls, told.moves);
+    exit(1);
+}
+
+#define SAYS(call, ...) is_said((call), told, (sentence){__VA_ARGS__}, __LINE__)
+
+/* Three parts of one run, each with a stale fire, in which x is raised once or twice. */
+static char *parts[3];
+
+static void make_parts(void) {
+    static const uint32_t capacities[] = {2, 1, 2};
+    asm_slot next = {0};
+    open_with("[[['x'],0]]", capacities[0], &storage);
+    for (size_t i = 0; i < 3; i++) {
+        asm_numbers numbers;
+        REQUIRE(asm_agents(&storage, agents, 2) == ASM_DONE);
+        for (uint32_t k = 0; k < capacities[i]; k++)
+            fire(&agents[k % 2], "[['inc',['x'],1]]");
+        REQUIRE(asm_try_fire(&agents[0], TEXT("{'fire':[],'reads':[[['x'],0]]}"), &numbers) ==
+                ASM_STALE);
+        REQUIRE(asm_go_on(&agents[0], i < 2 ? capacities[i + 1] : 1, &next) == ASM_DONE);
+        for (size_t k = 0; k < 2; k++)
+            REQUIRE(asm_give(&storage, &agents[k]) == ASM_DONE);
+        parts[i] = journal_of(&storage);
+        is_legal(parts[i], capacities[i] + 1, capacities[i]);
+        asm_free(&storage);
+        storage = next;
+        next = (asm_slot){0};
+    }
+    end_all();
+}
+
+/* The parts in this order, of which each number is one. */
+static char *joined(const char *order) {
+    static char text[3 * LONGEST];
+    char *at = text;
+    *at = 0;
+    for (; *order; order++)
+        at += sprintf(at, "%s", parts[*order - '0']);
+    return text;
+}
+
+/* All bytes of the text are taken, in pieces of this length. */
+static void takes(asm_slot *audit, const char *text, size_t piece) {
+    asm_audit_numbers told;
+    size_t taken = 9, length = strlen(text);
+    for (size_t at = 0; at < length; at += piece) {
+        size_t len = piece < length - at ? piece : length - at;
+        REQUIRE(asm_audit(audit, bytes(text) + at, len, &taken, &told) == ASM_DONE);
+        REQUIRE(taken == len);
+    }
+}
+
+/* However the bytes come, the numbers are those of the lines that have ended. */
+static void in_pieces(void) {
+    asm_slot audit = {0};
+    asm_audit_numbers told;
+    size_t taken = 9, length = strlen(joined("012"));
+    for (size_t piece = 1; piece <= length; piece += piece < 20 ? 1 : 97) {
+        takes(&audit, joined("012"), piece);
+        SAYS(asm_audit(&audit, NULL, 0, &taken, &told), ASM_DONE, 3, 8, 5);
+        REQUIRE(taken == 0);
+        SAYS(asm_audited(&audit, &told), ASM_DONE, 3, 8, 5);
+        TELLS(ASM_DONE, "[[['x'],5]]", asm_audit_state(&audit, OUT));
+        asm_free(&audit);
+    }
+    takes(&audit, joined("0"), 1000);
+    SAYS(asm_audited(&audit, &told), ASM_DONE, 1, 3, 2);
+    /* The header and one event of the next part. */
+    const char *second = strchr(strchr(parts[1], '\n') + 1, '\n') + 1;
+    size_t so_far = (size_t)(second - parts[1]);
+    SAYS(asm_audit(&audit, bytes(parts[1]), so_far, &taken, &told), ASM_DONE, 1, 4, 3);
+    REQUIRE(taken == so_far);
+    SAYS(asm_audited(&audit, &told), ASM_CUT, 1, 0, 0);
+    TELLS(ASM_DONE, "[[['x'],3]]", asm_audit_state(&audit, OUT));
+    SAYS(asm_audit(&audit, bytes(second), 7, &taken, &told), ASM_DONE, 1, 4, 3);
+    SAYS(asm_audited(&audit, &told), ASM_NOT_JSON, 1, 3, 0);
+    /* Both tell what would be so if nothing more came, and more comes. */
+    SAYS(asm_audit(&audit, bytes(second) + 7, strlen(second) - 7, &taken, &told), ASM_DONE, 2, 5, 3);
+    SAYS(asm_audited(&audit, &told), ASM_DONE, 2, 5, 3);
+    asm_free(&audit);
+}
+
+/* The audit of the text, byte by byte and at once, tells this once so many bytes were taken; and
+ * tells it again, however often the next byte is passed. */
+static void tells_at(const char *text, size_t at, sentence wanted, int line) {
+    for (int once = 0; once < 2; once++) {
+        asm_slot audit = {0};
+        asm_audit_numbers told = {9, 9, 9};
+        size_t taken = 9, length = strlen(text);
+        int32_t code = ASM_DONE;
+        if (once) {
+            code = asm_audit(&audit, bytes(text), length, &taken, &told);
+        } else {
+            for (taken = 0; taken < length && code == ASM_DONE;) {
+                size_t more = 9;
+                code = asm_audit(&audit, bytes(text) + taken, 1, &more, &told);
+                REQUIRE(more == (code == ASM_DONE));
+                taken += more;
+            }
+        }
+        is_said(code, told, wanted, line);
+        REQUIRE(taken == at && audit.full);
+        for (int again = 0; again < 2; again++) {
+            size_t more = 9;
+            is_said(asm_audit(&audit, bytes(text) + taken, length - taken, &more, &told), told,
+                    wanted, line);
+            REQUIRE(more == 0);
+        }
+        asm_free(&audit);
+    }
+}
+
+#define TELLS_AT(text, at, ...) tells_at((text), (at), (sentence){__VA_ARGS__}, __LINE__)
+
+/* The first wrong answer, or the first fault, is told at the line feed of its line. */
+static void first_faults(void) {
+    size_t first = strlen(parts[0]), both = first + strlen(parts[1]);
+    char *text = joined("02");
+    size_t header = (size_t)(strchr(parts[2], '\n') - parts[2]);
+    TELLS_AT(text, first + header, ASM_APART, 1, 0, 0);
+    text = joined("012");
+    char *fired = strstr(text + both, "\"fired\":2");
+    REQUIRE(fired != NULL);
+    size_t end = (size_t)(strchr(fired, '\n') - text);
+    fired[8] = '1';
+    TELLS_AT(text, end, ASM_ILLEGAL, 2, 1, 0);
+    /* A second wrong answer isn't told. */
+    char *stale = strstr(text + end, "{\"stale\":[\"x\"]}");
+    REQUIRE(stale != NULL);
+    memcpy(stale, "\"full\"         ", 15);
+    TELLS_AT(text, end, ASM_ILLEGAL, 2, 1, 0);
+    fired[0] = ' ';
+    TELLS_AT(text, end, ASM_NOT_JSON, 2, 3, 0);
+    text = joined("01");
+    char *init = strstr(text + first, "\"init\"");
+    REQUIRE(init != NULL);
+    end = (size_t)(strchr(init, '\n') - text);
+    init[1] = 'o';
+    TELLS_AT(text, end, ASM_SHAPE, 1, 1, 0);
+    text = joined("01");
+    char *version = strstr(text + first, "\"version\":2");
+    REQUIRE(version != NULL);
+    version[10] = '3';
+    TELLS_AT(text, end, ASM_VERSION, 1, 0, 0);
+    TELLS_AT("\n", 0, ASM_NOT_JSON, 0, 1, 0);
+}
+
+/* A line may have 16,777,216 bytes, and no more. */
+static void long_lines(void) {
+    enum { MOST = 16777216 };
+    asm_slot audit = {0};
+    asm_audit_numbers told;
+    size_t taken = 9;
+    char *line = malloc(MOST + 1);
+    REQUIRE(line != NULL);
+    memset(line, ' ', MOST + 1);
+    SAYS(asm_audit(&audit, bytes(line), MOST + 1, &taken, &told), ASM_LARGE, 0, 0, 0);
+    REQUIRE(taken == MOST);
+    line[MOST] = '\n';
+    SAYS(asm_audit(&audit, bytes(line) + MOST, 1, &taken, &told), ASM_NOT_JSON, 0, 1, 0);
+    REQUIRE(taken == 0);
+    asm_free(&audit);
+    free(line);
+}
+
+/* Slots without an audit, and audits that have read nothing. */
+static void refused_audits(void) {
+    asm_slot audit = {0};
+    asm_audit_numbers told = {9, 9, 9};
+    size_t taken = 9;
+    open_with("[]", 8, &storage);
+    REQUIRE(asm_agents(&storage, agents, 1) == ASM_DONE);
+    for (size_t i = 0; i < 2; i++) {
+        asm_slot *slot = i ? &agents[0] : &storage, was = *slot;
+        taken = 9;
+        SAYS(asm_audit(slot, bytes("{"), 1, &taken, &told), ASM_TAKEN, 0, 0, 0);
+        REQUIRE(taken == 0);
+        SAYS(asm_audited(slot, &told), ASM_EMPTY, 0, 0, 0);
+        ANSWERS(ASM_EMPTY, asm_audit_state(slot, OUT));
+        REQUIRE(is_same(*slot, was));
+    }
+    told = (asm_audit_numbers){9, 9, 9};
+    SAYS(asm_audited(&audit, &told), ASM_EMPTY, 0, 0, 0);
+    ANSWERS(ASM_EMPTY, asm_audit_state(&audit, OUT));
+    REQUIRE(!audit.full);
+    SAYS(asm_audit(&audit, NULL, 0, &taken, &told), ASM_DONE, 0, 0, 0);
+    REQUIRE(audit.full && taken == 0);
+    SAYS(asm_audited(&audit, &told), ASM_CUT, 0, 0, 0);
+    ANSWERS(ASM_NONE, asm_audit_state(&audit, OUT));
+    /* It is no agent, storage, step, location or move. */
+    uint32_t number = 9;
+    REQUIRE(asm_follow(&audit, &number) == ASM_EMPTY && number == 0 && asm_seen(&audit) == 0);
+    REQUIRE(asm_moves(&audit, &number) == ASM_EMPTY && asm_depth(&audit) == 0);
+    REQUIRE(asm_begin(&agents[0], &audit, &number) == ASM_TAKEN);
+    REQUIRE(asm_location(TEXT("['x']"), &audit) == ASM_TAKEN);
+    REQUIRE(asm_open(TEXT("[]"), 1, &audit) == ASM_TAKEN);
+    TELLS(ASM_DONE, "a part opens with another state than the one before it leaves",
+          asm_error_text(ASM_APART, OUT));
+    asm_free(&audit);
+    end_all();
+}
+
+int main(void) {
+    going_on();
+    taken_again();
+    make_parts();
+    in_pieces();
+    first_faults();
+    long_lines();
+    refused_audits();
+    for (size_t i = 0; i < 3; i++)
+        free(parts[i]);
+    puts("passed");
+    return 0;
+}

@@ -1,0 +1,88 @@
+-- What audits in slots do.
+use Rattle.std.specs.Prelude.{◌≡◌, ◌↔◌, ◌⊎◌, ℕ, ℤ, List, [], ◌∷◌, Option, None, Some, Result, Ok, Err}
+use Rattle.serde_json.specs.Written.{compact_text}
+use Rattle.asm_update.specs.State.{State}
+use Rattle.asm_journal.specs.Text.{state_json_of}
+use Rattle.asm_audit.specs.declared.error.AuditError.{AuditError}
+use Rattle.asm_audit.specs.declared.error.AuditError.TheVariants.{Journal, Apart, LongLine, Memory}
+use Rattle.asm_audit.specs.declared.progress.Counts.{Counts}
+use Rattle.asm_audit.specs.declared.progress.Told.{Told}
+use Rattle.asm_audit.specs.declared.progress.Told.TheVariants.{Legal, Illegal}
+use Rattle.asm_audit.specs.Fed.{HasTakenFirst, IsFedAnswer, IsFedEnd}
+use Rattle.asm_audit.specs.SoFar.{AreFedSoFar, IsFedStateSoFar}
+use Rattle.asm_slots.specs.AuditView.{AuditView}
+use Rattle.asm_slots.specs.Codes.{IsOneOf, ASM_DONE, ASM_MEMORY, ASM_EMPTY, ASM_TAKEN, ASM_ILLEGAL}
+use Rattle.asm_slots.specs.Codes.{ASM_NOT_JSON, ASM_SHAPE, ASM_VERSION, ASM_CUT, ASM_LARGE, ASM_APART}
+use Rattle.asm_slots.specs.Journals.{TellsError}
+use Rattle.asm_slots.specs.Slots.{GoesAudit, HoldsAudit, HoldsNoAudit, HasRoomForAudit}
+use Rattle.asm_slots.specs.Standard.{part}
+use Rattle.asm_slots.specs.declared.audit.AuditNumbers.{AuditNumbers}
+use Rattle.asm_slots.specs.declared.content.Content.{Content}
+
+-- the numbers of parts, calls and moves, as an audit has them
+abbrev pub counts_of : AuditNumbers → Counts
+counts_of n = record { calls = n.calls; moves = n.moves; parts = n.parts }
+
+-- nothing is told by numbers
+abbrev pub AreNoNumbers : AuditNumbers → Type 0
+AreNoNumbers n = (n.parts ≡ 0) × (n.calls ≡ 0) × (n.moves ≡ 0)
+
+-- the code of an audit's error, with the number of the part, and of the line at fault, or 0
+abbrev pub TellsAuditError : AuditError → ℤ → AuditNumbers → Type 0
+TellsAuditError (Journal j fault) code n = TellsError fault code n.calls × (n.parts ≡ j) × (n.moves ≡ 0)
+TellsAuditError (Apart j) code n = (code ≡ ASM_APART) × (n.parts ≡ j) × (n.calls ≡ 0) × (n.moves ≡ 0)
+TellsAuditError LongLine code n = (code ≡ ASM_LARGE) × AreNoNumbers n
+TellsAuditError Memory code n = (code ≡ ASM_MEMORY) × AreNoNumbers n
+
+-- the code of what is told of bytes, with the number of the part and of the call whose answer is wrong
+abbrev pub TellsAnswer : Result Told AuditError → ℤ → AuditNumbers → Type 0
+TellsAnswer (Ok Legal) code n = code ≡ ASM_DONE
+TellsAnswer (Ok (Illegal j c)) code n = (code ≡ ASM_ILLEGAL) × (n.parts ≡ j) × (n.calls ≡ c) × (n.moves ≡ 0)
+TellsAnswer (Err e) code n = TellsAuditError e code n
+
+-- the code of what is told of the end, with the numbers of the whole run
+abbrev pub TellsEnd : Result Counts AuditError → ℤ → AuditNumbers → Type 0
+TellsEnd (Ok w) code n = (code ≡ ASM_DONE) × (counts_of n ≡ w)
+TellsEnd (Err e) code n = TellsAuditError e code n
+
+-- the first so many of the bytes were taken, and no others; this was told of them all, whatever comes behind; and where all
+-- is right, these are the numbers so far
+pub record HasAudited (bytes : List ℕ) (taken : ℕ) (n : AuditNumbers) (code : ℤ) (old new : AuditView) : Type 0 where
+  pub answer : Result Told AuditError
+  pub tells : TellsAnswer answer code n
+  pub told : IsFedAnswer part bytes old.progress old.line new.progress new.line answer
+  pub first : HasTakenFirst part bytes old.progress old.line new.progress new.line taken answer
+  pub counts : code ≡ ASM_DONE → AreFedSoFar part new.progress new.line (counts_of n)
+
+-- the bytes are fed to the audit of the slot, or to one that begins there, unless there was no memory to begin one; or the slot
+-- holds something else
+pub record Audits (bytes : List ℕ) (audit after : Option Content) (taken : ℕ) (n : AuditNumbers) (code : ℤ) : Type 0 where
+  pub codes : IsOneOf (ASM_DONE ∷ ASM_MEMORY ∷ ASM_TAKEN ∷ ASM_ILLEGAL ∷ ASM_NOT_JSON ∷ ASM_SHAPE ∷ ASM_VERSION
+      ∷ ASM_CUT ∷ ASM_LARGE ∷ ASM_APART ∷ []) code
+  pub audited : HasRoomForAudit audit → GoesAudit audit after (HasAudited bytes taken n code)
+      ⊎ ((code ≡ ASM_MEMORY) × (after ≡ audit) × (taken ≡ 0) × AreNoNumbers n)
+  pub other : (code ≡ ASM_TAKEN) ↔ ¬ HasRoomForAudit audit
+  pub kept : code ≡ ASM_TAKEN → (after ≡ audit) × (taken ≡ 0) × AreNoNumbers n
+
+-- what is told where no byte comes behind: the run is whole and legal, or this is its fault
+pub record HasEnd (n : AuditNumbers) (code : ℤ) (a : AuditView) : Type 0 where
+  pub answer : Result Counts AuditError
+  pub tells : TellsEnd answer code n
+  pub told : IsFedEnd part a.progress a.line answer
+
+-- the end is told of the audit of a slot
+pub record EndsAudit (audit : Option Content) (n : AuditNumbers) (code : ℤ) : Type 0 where
+  pub codes : IsOneOf (ASM_DONE ∷ ASM_MEMORY ∷ ASM_EMPTY ∷ ASM_NOT_JSON ∷ ASM_SHAPE ∷ ASM_VERSION ∷ ASM_CUT
+      ∷ ASM_LARGE ∷ ASM_APART ∷ []) code
+  pub ends : ¬ HoldsNoAudit audit → HoldsAudit audit (HasEnd n code)
+  pub empty : (code ≡ ASM_EMPTY) ↔ HoldsNoAudit audit
+  pub none : code ≡ ASM_EMPTY → AreNoNumbers n
+
+-- the text is the JSON of the state that the moves of the lines that have ended leave
+abbrev pub IsAuditState : AuditView → List ℕ → Type 0
+IsAuditState a text =
+    (S : State) × IsFedStateSoFar part a.progress a.line (Some S) × (text ≡ compact_text (state_json_of S))
+
+-- no part has begun
+abbrev pub HasNoState : AuditView → Type 0
+HasNoState a = IsFedStateSoFar part a.progress a.line None
