@@ -1,11 +1,18 @@
 //! Journals on outputs that take all, a part, or nothing.
-use crate::journals::BLOCKS;
 use asm_journal::{JournalError, WriteError, from_text, write_text};
+use asm_port_support::ERROR_KINDS;
 use asm_storage::History;
 use std::alloc::{AllocError, Global};
 use std::io;
 use std::io::{ErrorKind, Write};
 use std::test::Fail;
+
+/// A move of two blocks, where the second saw what the first had added.
+const BLOCKS: &str =
+    r#"{"agents":1,"capacity":4096,"events":2,"init":[[["s"],{"set":[]}]],"version":2}
+{"agent":0,"call":{"read":[["s"]]},"reply":{"number":0,"values":[{"set":[]}]}}
+{"agent":0,"call":{"fire":[["add",["s"],1],["put",["y"],{"set":[1]}]],"reads":[[["s"],0]]},"reply":{"fired":1}}
+"#;
 
 /// An output that takes some bytes, a few at a time. Then one write takes none or fails, and the next ones take all. It
 /// counts its calls, and knows whether each was a write of all that is left of `BLOCKS`, which was something.
@@ -105,54 +112,9 @@ fn what_went_out_is_told_and_nothing_follows_a_failed_write(rt: HostRuntime) -> 
     Ok(())
 }
 
-static KINDS: [ErrorKind; 42] = [
-    ErrorKind::NotFound,
-    ErrorKind::PermissionDenied,
-    ErrorKind::ConnectionRefused,
-    ErrorKind::ConnectionReset,
-    ErrorKind::HostUnreachable,
-    ErrorKind::NetworkUnreachable,
-    ErrorKind::ConnectionAborted,
-    ErrorKind::NotConnected,
-    ErrorKind::AddrInUse,
-    ErrorKind::AddrNotAvailable,
-    ErrorKind::NetworkDown,
-    ErrorKind::BrokenPipe,
-    ErrorKind::AlreadyExists,
-    ErrorKind::WouldBlock,
-    ErrorKind::NotADirectory,
-    ErrorKind::IsADirectory,
-    ErrorKind::DirectoryNotEmpty,
-    ErrorKind::ReadOnlyFilesystem,
-    ErrorKind::FilesystemLoop,
-    ErrorKind::StaleNetworkFileHandle,
-    ErrorKind::InvalidInput,
-    ErrorKind::InvalidData,
-    ErrorKind::TimedOut,
-    ErrorKind::WriteZero,
-    ErrorKind::StorageFull,
-    ErrorKind::NotSeekable,
-    ErrorKind::QuotaExceeded,
-    ErrorKind::FileTooLarge,
-    ErrorKind::ResourceBusy,
-    ErrorKind::ExecutableFileBusy,
-    ErrorKind::Deadlock,
-    ErrorKind::CrossesDevices,
-    ErrorKind::TooManyLinks,
-    ErrorKind::InvalidFilename,
-    ErrorKind::ArgumentListTooLong,
-    ErrorKind::Interrupted,
-    ErrorKind::Unsupported,
-    ErrorKind::UnexpectedEof,
-    ErrorKind::OutOfMemory,
-    ErrorKind::InProgress,
-    ErrorKind::Other,
-    ErrorKind::Uncategorized,
-];
-
 #[test]
 fn a_write_that_fails_is_not_tried_again_whatever_its_kind(rt: HostRuntime) -> Result<(), Fail> {
-    for (index, kind) in KINDS.iter().enumerate() {
+    for (index, kind) in ERROR_KINDS.iter().enumerate() {
         let row = (5, 5, Some(*kind), 2);
         assert!(rt; blocks_go_out(rt.alloc(), row)?, "{index}");
     }

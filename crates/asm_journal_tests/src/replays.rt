@@ -14,7 +14,7 @@ struct Row {
     left: &'static str,
 }
 
-static ROWS: [Row; 12] = [
+static ROWS: [Row; 13] = [
     Row {
         init: r#"[["s"],{"set":[1]}]"#,
         moves: &[r#"["add",["s"],2]"#, r#"["remove",["s"],1]"#],
@@ -42,6 +42,11 @@ static ROWS: [Row; 12] = [
             r#"["add",["s"],4]"#,
         ],
         left: r#"[[["s"],{"set":[1,4]}]]"#,
+    },
+    Row {
+        init: r#"[["x"],7]"#,
+        moves: &[r#"["put",["x"],1],["put",["x"],2]"#],
+        left: r#"[[["x"],7]]"#,
     },
     // A location that is undef.
     Row {
@@ -154,7 +159,7 @@ fn goes_on(alloc: Global, history: &History, left: &PlainState) -> Result<bool, 
 }
 
 /// Whether a replay of the journal leaves this state, with which a storage that goes on opens.
-pub(crate) fn leaves(alloc: Global, journal: &str, state: &str) -> Result<bool, JournalError> {
+fn leaves(alloc: Global, journal: &str, state: &str) -> Result<bool, JournalError> {
     let history = from_text(alloc, journal.as_bytes())?;
     let left = replay(alloc, &standard(), &history)?;
     Ok(state_text(alloc, &left)?.as_str() == state && goes_on(alloc, &history, &left)?)

@@ -1,5 +1,6 @@
 //! A step whose offers are lost.
-use asm_play::aggregator::{Standard, chosen};
+use asm_aggregate::Standard;
+use asm_play::aggregator::chosen;
 use asm_play::{Outcome, Passage, Player};
 use asm_script::{Script, parse_script};
 use asm_storage::Storage;

@@ -1,5 +1,6 @@
 //! The errors of runs.
 use asm_play::RunError;
+use asm_test_support::are_told_apart;
 use std::test::Fail;
 
 #[test]
@@ -18,20 +19,15 @@ fn errors_have_their_texts(rt: HostRuntime) -> Result<(), Fail> {
     Ok(())
 }
 
-static ERRORS: [RunError; 5] = [
-    RunError::BadCapacity,
-    RunError::NoThread,
-    RunError::Missing(1),
-    RunError::Missing(2),
-    RunError::Memory,
-];
-
-/// Each is equal to itself alone.
 #[test]
-fn errors_are_equal_to_themselves_alone(rt: HostRuntime) {
-    for (i, a) in ERRORS.iter().enumerate() {
-        for (j, b) in ERRORS.iter().enumerate() {
-            assert!(rt; (a == b) == (i == j));
-        }
-    }
+fn errors_are_told_apart(rt: HostRuntime) {
+    assert!(rt;
+        are_told_apart(&[
+            RunError::BadCapacity,
+            RunError::NoThread,
+            RunError::Missing(1),
+            RunError::Missing(2),
+            RunError::Memory,
+        ])
+    );
 }

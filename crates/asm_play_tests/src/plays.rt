@@ -2,7 +2,7 @@
 use asm_aggregate::standard;
 use asm_element::{Element, Value};
 use asm_journal::{Legality, check, from_text, replay, to_text};
-use asm_play::{Gate, Open, Outcome, Played, RunError, run_script};
+use asm_play::{Gate, Open, Outcome, Played, run_script};
 use asm_script::{Script, parse_script};
 use asm_test_support::location;
 use std::alloc::Global;
@@ -10,8 +10,6 @@ use std::sync::Wait;
 use std::sync::atomic::{AtomicU64, Ordering};
 use std::test::Fail;
 use std::thread::{Threads, yield_now};
-
-const ADDITION: &str = r#"[[["bagadd",["b"],1,1]]]"#;
 
 const SUM: &str = r#"[[["put",["n"],{"sum":[{"val":["n"]},1]}]]]"#;
 
@@ -51,7 +49,7 @@ pub(crate) fn script_of(
 }
 
 /// What a run of this script behind the gate leaves.
-pub(crate) fn play_behind<R: Threads + Wait + Sync, G: Gate>(
+fn play_behind<R: Threads + Wait + Sync, G: Gate>(
     rt: &R,
     alloc: Global,
     init: &str,
@@ -62,23 +60,8 @@ pub(crate) fn play_behind<R: Threads + Wait + Sync, G: Gate>(
     Ok(run_script(rt, alloc, &script, 4096, gate)?)
 }
 
-/// How often 1 stands in the bag of this name after all moves.
-fn number_of_ones(alloc: Global, played: &Played, name: &str) -> Result<u32, Fail> {
-    let at = location(alloc, name)?;
-    let state = replay(alloc, &standard(), &played.history)?;
-    Ok(match state.get(&at) {
-        Some(Value::Bag(bag)) => bag.count(&Element::Num(1)),
-        _ => 0,
-    })
-}
-
 /// Whether the location of this name has the number after all moves.
-pub(crate) fn has_number(
-    alloc: Global,
-    played: &Played,
-    name: &str,
-    number: i64,
-) -> Result<bool, Fail> {
+fn has_number(alloc: Global, played: &Played, name: &str, number: i64) -> Result<bool, Fail> {
     let at = location(alloc, name)?;
     let state = replay(alloc, &standard(), &played.history)?;
     Ok(match state.get(&at) {
@@ -87,62 +70,21 @@ pub(crate) fn has_number(
     })
 }
 
-#[test]
-fn a_capacity_of_0_is_refused(rt: HostRuntime) -> Result<(), Fail> {
-    let alloc = rt.alloc();
-    let script = script_of(alloc, "", &[])?;
-    match run_script(&rt, alloc, &script, 0, &Open) {
-        Err(error) => assert!(rt; error == RunError::BadCapacity),
-        Ok(_) => assert!(rt; false),
-    }
-    Ok(())
-}
-
-#[test]
-fn a_script_may_have_no_agents(rt: HostRuntime) -> Result<(), Fail> {
-    let played = play_behind(&rt, rt.alloc(), "", &[], &Open)?;
-    assert_eq!(rt; played.history.agents, 0);
-    assert_eq!(rt; played.history.moves(), 0);
-    Ok(())
-}
-
-#[test]
-fn four_agents_add_to_one_bag(rt: HostRuntime) -> Result<(), Fail> {
-    let alloc = rt.alloc();
-    let agents = [
-        (ADDITION, 50usize),
-        (ADDITION, 50),
-        (ADDITION, 50),
-        (ADDITION, 50),
-    ];
-    let played = play_behind(&rt, alloc, r#"[["b"],{"bag":[]}]"#, &agents, &Open)?;
-    assert_eq!(rt; number_of_ones(alloc, &played, "b")?, 200);
-    Ok(())
-}
-
-#[test]
-fn four_agents_count_to_100(rt: HostRuntime) -> Result<(), Fail> {
-    let alloc = rt.alloc();
-    let agents = [(SUM, 25usize), (SUM, 25), (SUM, 25), (SUM, 25)];
-    let played = play_behind(&rt, alloc, r#"[["n"],0]"#, &agents, &Open)?;
-    assert!(rt; has_number(alloc, &played, "n", 100)?);
-    Ok(())
-}
-
 /// How often an agent looks for another, at most. Between two looks it lets other threads run, so that it finds the
 /// other on a busy machine too.
 const LOOKS: u64 = 50_000_000;
 
-/// At its first call each of 64 agents looks for the others, all of them together so often at most.
+/// At its first call each of so many agents looks for the others, all of them together so often at most.
 #[derive(Drop)]
 struct Meeting {
+    agents: u64,
     arrived: AtomicU64,
     looks: AtomicU64,
 }
 
 impl Meeting {
     fn looks_on(&self) -> bool {
-        self.arrived.load(Ordering::SeqCst) < 64
+        self.arrived.load(Ordering::SeqCst) < self.agents
             && self.looks.fetch_add(1, Ordering::SeqCst) < LOOKS
     }
 }
@@ -164,16 +106,32 @@ impl Gate for Meeting {
     fn after<R: Wait>(&self, _rt: &R, _agent: u32, _call: u64) {}
 }
 
-#[test]
-fn agents_play_at_once(rt: HostRuntime) -> Result<(), Fail> {
+/// Whether agents of this text that fire one move each all see each other before.
+fn meet<R: Threads + Wait + Sync>(
+    rt: &R,
+    alloc: Global,
+    agents: &[(&str, usize)],
+) -> Result<bool, Fail> {
+    let count = agents.len();
     let gate = Meeting {
+        agents: count as u64,
         arrived: AtomicU64::new(0),
         looks: AtomicU64::new(0),
     };
+    let played = play_behind(rt, alloc, r#"[["n"],0]"#, agents, &gate)?;
+    let moves = played.history.moves();
+    Ok(gate.looks.load(Ordering::SeqCst) < LOOKS && moves as usize == count)
+}
+
+#[test]
+fn agents_play_at_once(rt: HostRuntime) -> Result<(), Fail> {
     let agents = [(RESET, 1usize); 64];
-    let played = play_behind(&rt, rt.alloc(), r#"[["n"],0]"#, &agents, &gate)?;
-    assert!(rt; gate.looks.load(Ordering::SeqCst) < LOOKS);
-    assert_eq!(rt; played.history.moves(), 64);
+    for count in [2usize, 4, 16, 64] {
+        assert!(rt;
+            meet(&rt, rt.alloc(), agents.get(..count).unwrap_or(&[]))?,
+            "{count}"
+        );
+    }
     Ok(())
 }
 
@@ -293,7 +251,7 @@ fn mixed_script(alloc: Global) -> Result<Script, Fail> {
 }
 
 /// The journal of a run of the script.
-pub(crate) fn journal_of<R: Threads + Wait + Sync>(
+fn journal_of<R: Threads + Wait + Sync>(
     rt: &R,
     alloc: Global,
     script: &Script,

@@ -18,18 +18,3 @@ fn main(rt: HostRuntime) -> ExitCode {
 fn words_given<R: std::rt::Env + AllocGlobal>(rt: &R, alloc: Global) -> io::Result<Vec<String>> {
     Ok(env::args(rt)?.collect(alloc)?)
 }
-
-#[cfg(test)]
-mod journal_tests;
-#[cfg(test)]
-mod list_play_tests;
-#[cfg(test)]
-mod meeting_tests;
-#[cfg(test)]
-mod port_tests;
-#[cfg(test)]
-mod running;
-#[cfg(test)]
-mod thread_tests;
-#[cfg(test)]
-mod words_tests;

@@ -1,9 +1,5 @@
-//! Tests of `asm_script`, which see its public items alone.
+//! Tests of `asm_script`, which see its public items alone, of what no case of the program shows.
 #![tactic(auto)]
 
 #[cfg(test)]
-mod ready_blocks;
-#[cfg(test)]
-mod scripts;
-#[cfg(test)]
-mod steps;
+mod errors;
