@@ -1,5 +1,6 @@
 """The agents of a storage."""
 import ctypes
+import os
 import time
 from collections.abc import Callable, Iterable, Sequence
 from types import TracebackType
@@ -7,7 +8,7 @@ from typing import TYPE_CHECKING, Any, TypeVar, overload
 
 from ._errors import READS, Busy, Error, ahead, expect, expect_part, expect_read, refusal
 from ._held import Held, expect_over, here, is_in_call, marked, one_call, own_call
-from ._library import BUSY, CLASH, DONE, EMPTY, LOCATIONS, MOVE, NUMBER, OTHER, RANGE, SMALL, STALE
+from ._library import BUSY, CLASH, DONE, EMPTY, LOCATIONS, MOVE, NONE, NUMBER, OTHER, RANGE, SMALL, STALE
 from ._library import Buffer, Numbers, Slot, lib, quick
 from ._location import Location
 from ._step import Step
@@ -30,6 +31,27 @@ def back_off(tries: int) -> None:
     time.sleep(0 if more < 0 else min(_LONGEST_SLEEP, 1e-6 * 2 ** min(more, 10)))
 
 
+def own_number(number: int) -> int:
+    """The number of an agent."""
+    own = unsigned(number)
+    if own >= AGENTS:
+        raise Error(RANGE, said=f"agent {number}: numbers are below {AGENTS}")
+    return own
+
+
+def played(begin: Callable[[], Step], rule: Callable[[Step], _R]) -> tuple[int, _R]:
+    """Plays a rule on steps that begin so, until one fires: the number of the move, and what the rule returned."""
+    tries = 0
+    while True:
+        with begin() as step:
+            told = rule(step)
+            number = step.try_fire()
+        if number:
+            return number, told
+        back_off(tries)
+        tries += 1
+
+
 class Agent(Held):
     """An agent of a storage, which it is given back to at the end of a `with`, also where an exception ends it.
 
@@ -42,23 +64,27 @@ class Agent(Held):
     """
 
     def __init__(self, storage: "Storage", number: int) -> None:
-        super().__init__()
-        # What its calls and those of its steps tell.
-        self._storage, self._buffer, self._number, self._numbers = storage, Buffer(), ctypes.c_uint32(), Numbers()
-        self._number_at, self._numbers_at = ctypes.byref(self._number), ctypes.byref(self._numbers)
-        self._own = unsigned(number)
-        if self._own >= AGENTS:
-            raise Error(RANGE, said=f"agent {number}: numbers are below {AGENTS}")
+        self._prepare(storage, own_number(number))
         self._begin()
 
+    def _prepare(self, storage: "Storage", own: int) -> None:
+        """Has an empty slot, and what its calls and those of its steps tell."""
+        super().__init__()
+        self._storage, self._buffer, self._number, self._numbers = storage, Buffer(), ctypes.c_uint32(), Numbers()
+        self._number_at, self._numbers_at = ctypes.byref(self._number), ctypes.byref(self._numbers)
+        self._own = own
+
     @one_call
-    def _begin(self) -> None:
+    def _begin(self, is_taken: bool = False) -> None:
         storage = self._storage
         with storage._lock:
             storage._give_left()
-            code = lib.asm_agent(storage._slot, self._own, self._slot)
+            call = lib.asm_take if is_taken else lib.asm_agent
+            code = call(storage._slot, self._own, self._slot)
             if code == NUMBER:
                 raise Error(code, said=f"agent {self._own}")
+            if code == NONE:
+                raise Error(code, said=f"agent {self._own} was not given back")
             storage._expect_on(code)
             storage._agents[self._own] = self
 
@@ -96,15 +122,7 @@ class Agent(Held):
         What the rule raises ends it, and nothing is fired; so does `Full`. Between tries in vain other threads run. What a
         signal handler raises may end it behind the fire: `won` counts that.
         """
-        tries = 0
-        while True:
-            with self.step() as step:
-                told = rule(step)
-                number = step.try_fire()
-            if number:
-                return number, told
-            back_off(tries)
-            tries += 1
+        return played(self.step, rule)
 
     def read(self, places: Sequence[Form]) -> tuple[int, list[Any]]:
         """The number of moves, and the values of the locations after them; at most 256 locations, else `Many`."""
@@ -298,6 +316,30 @@ class Agent(Held):
     def give(self) -> None:
         """Gives it back to its storage."""
         self._storage.give(self)
+
+    def go_on(self, capacity: int = 4096, journal: str | os.PathLike[str] | None = None) -> "Storage":
+        """A storage that opens with its own state, where that stands at all moves that its storage has room for: no journal is
+        needed, and no other agent has to come back.
+
+        The journals of both, one after the other, tell one run. `Error` with the code NONE where its own state stands at fewer
+        moves. It stays an agent of its storage; `Run` does all this.
+        """
+        from ._storage import capacity_of
+
+        return self._go_on(capacity_of(capacity), journal)
+
+    @one_call
+    def _go_on(self, capacity: int, journal: str | os.PathLike[str] | None) -> "Storage":
+        from ._storage import unopened
+
+        storage = unopened(journal)
+        with self._lock:
+            code = lib.asm_go_on(self._slot, capacity, storage._slot)
+            if code == NONE:
+                said = f"the agent's own state stands at {lib.asm_seen(self._slot)} moves, and its storage has room for more"
+                raise Error(code, said=said)
+            self._expect_on(code)
+        return storage
 
     def abandon(self) -> None:
         """Releases it without giving it back: what it fired stands, and is `Missing` in each journal of its storage."""

@@ -100,6 +100,25 @@ class Moved(Error):
     """The agent's own state doesn't stand at the number of the step, as it has moved on since: begin another step."""
 
 
+class Past(Retry):
+    """The part of the run has ended in which the step was begun, or a location was read that a fire names: begin anew."""
+
+
+class Broken(RuntimeError):
+    """A run has ended, as its part with the number `part` couldn't be written; what stands before that in its file is whole.
+
+    The cause is `Missing` where an agent was abandoned that had fired, an `OSError` where a write failed.
+    """
+
+    def __init__(self, part: int, cause: BaseException) -> None:
+        super().__init__(part, cause)
+        self.part, self.__cause__ = part, cause
+
+    def __str__(self) -> str:
+        told = str(self.__cause__) or type(self.__cause__).__name__
+        return f"the run has ended, as its part {self.part} couldn't be written: {told}"
+
+
 class Over(Error):
     """The step is over: it was fired, or freed as at the end of its `with`."""
 
@@ -112,7 +131,25 @@ class Missing(Error):
 
 
 class BadJournal(Error):
-    """The journal is illegal, or is none; `numbers` has the number of the call or of the line, if there is one."""
+    """The journal is illegal, or is none; `numbers` has the number of the call or of the line, if there is one.
+
+    An audit tells the number of the part besides, from 0 up.
+    """
+
+    part: int | None = None
+
+    @property
+    def call(self) -> int | None:
+        """The number of the first call whose answer is wrong, from 0 up in its part, where the journal is illegal."""
+        return self.numbers[0] if self.code == ILLEGAL else None
+
+    @property
+    def line(self) -> int | None:
+        """The number of the line that is at fault, from 1 up in its part, where it is one line's."""
+        return self.numbers[0] if self.code in (NOT_JSON, SHAPE) else None
+
+    def __str__(self) -> str:
+        return super().__str__() if self.part is None else f"part {self.part}: {super().__str__()}"
 
 
 # The exceptions of codes that have one of their own.

@@ -38,14 +38,27 @@ class _ForkedLock:
         pass
 
 
-# What has a lock of its own, by which its calls are stopped in the child of a fork.
-_locked: "weakref.WeakSet[Held]" = weakref.WeakSet()
+class Locked:
+    """What has a lock of its own, by which its calls are stopped in the child of a fork."""
+
+    _lock: AbstractContextManager[Any]
+
+    def _locked_by(self, lock: AbstractContextManager[Any]) -> None:
+        self._lock = lock
+        _locked.add(self)
+
+    def _is_copied(self) -> None:
+        """Is called in the child."""
+        self._lock = _ForkedLock()
+
+
+_locked: "weakref.WeakSet[Locked]" = weakref.WeakSet()
 
 
 def _stop_after_fork() -> None:
     here.mark = None
-    for held in list(_locked):
-        held._lock = _ForkedLock()
+    for locked in list(_locked):
+        locked._is_copied()
     _locked.clear()
 
 
@@ -135,20 +148,17 @@ def one_call(method: Callable[_P, _R]) -> Callable[_P, _R]:
     return call
 
 
-class Held:
+class Held(Locked):
     """Something in a slot, which is released at the end of a `with`.
 
     The lock is held during each call on the slot. Who needs several takes a storage's before an agent's, and those of two
     agents in the order of their id, so that no two threads wait for each other.
     """
 
-    _lock: AbstractContextManager[Any]
-
     def __init__(self) -> None:
         # An agent that is to learn of itself takes its lock twice.
         self._hold()
-        self._lock = threading.RLock()
-        _locked.add(self)
+        self._locked_by(threading.RLock())
 
     def _hold(self) -> None:
         """Has an empty slot."""

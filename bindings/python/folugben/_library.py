@@ -12,7 +12,7 @@ INSIDE = pathlib.Path(__file__).resolve().with_name("libfolugben.so")
 BUILT = pathlib.Path(__file__).resolve().parents[2] / "out" / "libfolugben.so"
 
 DONE, STALE, CLASH, MEMORY, FULL, EMPTY, RANGE, SMALL, BUSY, MANY, NONE = range(11)
-TAKEN, NUMBER, MISSING, OTHER, ILLEGAL, NOT_JSON, SHAPE, VERSION, CUT, LARGE, MOVED, DEEP = range(11, 23)
+TAKEN, NUMBER, MISSING, OTHER, ILLEGAL, NOT_JSON, SHAPE, VERSION, CUT, LARGE, MOVED, DEEP, APART = range(11, 24)
 
 # The calls of steps are made so often that what they are passed is made once, and passed on as it is: they have no argtypes.
 STEPS = ["asm_peek", "asm_begin", "asm_get", "asm_push", "asm_extend"]
@@ -28,7 +28,7 @@ PUT, ADD, REMOVE, BAGADD, BAGREMOVE, INC = range(6)
 
 
 class Slot(ctypes.Structure):
-    """Room for a storage, an agent, a step, a location or a move."""
+    """Room for a storage, an agent, a step, a location, a move or an audit."""
 
     _fields_ = [("full", ctypes.c_bool), ("at", ctypes.c_void_p)]
 
@@ -40,6 +40,15 @@ class Numbers(ctypes.Structure):
     from_: int
     to: int
     _fields_ = [("fired", ctypes.c_uint32), ("from_", ctypes.c_uint32), ("to", ctypes.c_uint32)]
+
+
+class AuditNumbers(ctypes.Structure):
+    """The numbers of an audit."""
+
+    parts: int
+    calls: int
+    moves: int
+    _fields_ = [("parts", ctypes.c_uint64), ("calls", ctypes.c_uint64), ("moves", ctypes.c_uint64)]
 
 
 class Value(ctypes.Structure):
@@ -63,7 +72,7 @@ def load() -> ctypes.CDLL:
         raise ImportError(f"{path()} has version {library.asm_version()}, and this package was written for {WRITTEN_FOR}")
     text, size, slot = ctypes.c_char_p, ctypes.c_size_t, ctypes.POINTER(Slot)
     code, u32, u64, written = ctypes.c_int32, ctypes.c_uint32, ctypes.c_uint64, ctypes.POINTER(ctypes.c_size_t)
-    number = ctypes.POINTER(u32)
+    number, audited = ctypes.POINTER(u32), ctypes.POINTER(AuditNumbers)
     calls: dict[str, tuple[Any, list[Any]]] = {
         "asm_error_text": (code, [code, text, size, written]),
         "asm_open": (code, [text, size, u32, slot]),
@@ -87,6 +96,11 @@ def load() -> ctypes.CDLL:
         "asm_close": (code, [slot, number]),
         "asm_journal": (code, [slot, text, size, written]),
         "asm_next": (code, [slot, u32, slot]),
+        "asm_go_on": (code, [slot, u32, slot]),
+        "asm_take": (code, [slot, u32, slot]),
+        "asm_audit": (code, [slot, text, size, written, audited]),
+        "asm_audited": (code, [slot, audited]),
+        "asm_audit_state": (code, [slot, text, size, written]),
         "asm_location": (code, [text, size, slot]),
         "asm_free": (None, [slot]),
         "asm_check": (code, [text, size, ctypes.POINTER(u64), number]),
@@ -145,6 +159,14 @@ class Buffer:
             code = call(*before, self.out, len(self.out), self._written, *after)
             if code != SMALL:
                 return code, self.written()
+            self.grow()
+
+    def view(self, call: Callable[..., int], *before: Any) -> tuple[int, memoryview]:
+        """The same, but what it wrote is seen in the buffer itself, until the next call."""
+        while True:
+            code = call(*before, self.out, len(self.out), self._written)
+            if code != SMALL:
+                return code, memoryview(self.out)[: self._written.value]
             self.grow()
 
     def told(self, text: bytes, call: Callable[..., int], *slots: Any) -> tuple[int, bytes]:

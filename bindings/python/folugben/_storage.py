@@ -6,7 +6,7 @@ import weakref
 from collections.abc import Iterable
 from types import TracebackType
 
-from ._agent import Agent
+from ._agent import Agent, own_number
 from ._errors import Error, Missing, expect, expect_read
 from ._held import Held, is_in_call, one_call
 from ._library import DONE, EMPTY, MISSING, NONE, OTHER, RANGE, STATE, Buffer, lib
@@ -43,6 +43,16 @@ class Storage(Held):
     def agent(self, number: int) -> Agent:
         """An agent with this number, below 256, of which none was made before."""
         return Agent(self, number)
+
+    def take(self, number: int) -> Agent:
+        """The agent with this number that was given back, as it was: it goes on with what it has seen and with its receipts.
+
+        A journal that was closed before is dropped. `Error` with the code NONE where no such agent was given back.
+        """
+        agent = Agent.__new__(Agent)
+        agent._prepare(self, own_number(number))
+        agent._begin(is_taken=True)
+        return agent
 
     @one_call
     def moves(self) -> int:
@@ -113,8 +123,7 @@ class Storage(Held):
 
     @one_call
     def _next(self, capacity: int, journal: str | os.PathLike[str] | None) -> "Storage":
-        storage = Storage.__new__(Storage)
-        storage._begin(journal)
+        storage = unopened(journal)
         with self._lock:
             if self._left:
                 raise Error(NONE)
@@ -153,6 +162,13 @@ class Storage(Held):
         for agent in getattr(self, "_left", ()):
             lib.asm_free(agent._slot)
         super().__del__()
+
+
+def unopened(journal: str | os.PathLike[str] | None = None) -> Storage:
+    """A storage whose slot is empty, for a call that opens it."""
+    storage = Storage.__new__(Storage)
+    storage._begin(journal)
+    return storage
 
 
 def capacity_of(capacity: int) -> int:

@@ -1,10 +1,36 @@
-from folugben import check
+"""An engine of abstract state machines, and four machines.
 
-from . import bank, crossing, philosophers
-from .agents import run, states
+    python3 -m folugben_engine                   runs them, and says what was checked
+    python3 -m folugben_engine FILE [SECONDS]    runs the bank for so many seconds (10), or goes on with the run in the file
+"""
+import sys
 
-for machine in (philosophers, bank, crossing):
-    journal = run(machine.INIT, machine.PROGRAMS)
-    calls, moves = check(journal)
-    assert all(map(machine.holds, states(journal)))
-    print(f"{machine.__name__}: {calls} calls and {moves} moves are legal, and {machine.holds.__doc__}")
+from folugben import Auditor, Storage, check
+
+from . import bank, colony, crossing, philosophers
+from .agents import run, run_on, states
+
+
+def live_on(path: str, seconds: float) -> None:
+    """The bank, without an end."""
+    run_on(path, bank.INIT, bank.PROGRAMS, seconds)
+    with Auditor() as auditor, open(path, "rb") as file:
+        while chunk := file.read(1 << 20):
+            auditor.feed(chunk)
+        calls, moves, parts = auditor.end()
+        with Storage(auditor.state()) as storage, storage.agent(0) as agent:
+            assert bank.holds(agent)
+    print(f"{bank.__name__}: {calls} calls and {moves} moves in {parts} parts are legal, and {bank.holds.__doc__}")
+
+
+def main(words: list[str]) -> None:
+    if words:
+        return live_on(words[0], float(words[1]) if len(words) > 1 else 10.0)
+    for machine in (philosophers, bank, crossing, colony):
+        journal = run(machine.INIT, machine.PROGRAMS)
+        calls, moves = check(journal)
+        assert all(map(machine.holds, states(journal)))
+        print(f"{machine.__name__}: {calls} calls and {moves} moves are legal, and {machine.holds.__doc__}")
+
+
+main(sys.argv[1:])

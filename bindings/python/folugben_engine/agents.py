@@ -2,16 +2,16 @@
 import json
 import time
 from collections.abc import Iterator
-from concurrent.futures import ThreadPoolExecutor, as_completed
+from concurrent.futures import FIRST_EXCEPTION, ThreadPoolExecutor, wait
 from threading import Event
 from typing import Any
 
-from folugben import Agent, Storage
+from folugben import Agent, Run, Storage
 
 from .rules import Program
 
 
-def live(storage: Storage, number: int, program: Program, stop: Event) -> None:
+def live(storage: Storage | Run, number: int, program: Program, stop: Event) -> None:
     rule, is_over = program
     with storage.agent(number) as agent:
         while not (stop.is_set() or is_over(agent)):
@@ -22,17 +22,35 @@ def live(storage: Storage, number: int, program: Program, stop: Event) -> None:
                     time.sleep(0.001)  # nothing to do until others have fired
 
 
-def run(init: list[Any], programs: list[Program]) -> bytes:
-    """The journal of a run of all programs. A clash of a rule, or any other error of one, ends all and is raised."""
+def live_all(storage: Storage | Run, programs: list[Program], seconds: float | None = None) -> None:
+    """Plays all programs until they are over, or for so many seconds. An error of one, as a clash, ends all and is raised."""
     stop = Event()
-    with Storage(init, 10_000) as storage, ThreadPoolExecutor(len(programs)) as pool:
+    with ThreadPoolExecutor(len(programs)) as pool:
         try:
             lives = [pool.submit(live, storage, number, program, stop) for number, program in enumerate(programs)]
-            for life in as_completed(lives):
-                life.result()
+            wait(lives, seconds, FIRST_EXCEPTION)
         finally:
             stop.set()
+    for life in lives:
+        life.result()
+
+
+def run(init: list[Any], programs: list[Program]) -> bytes:
+    """The journal of a run of all programs."""
+    with Storage(init, 10_000) as storage:
+        live_all(storage, programs)
         return storage.close_journal()
+
+
+def run_on(path: str, init: list[Any], programs: list[Program], seconds: float, moves: int = 100_000) -> None:
+    """Plays the rules for so many seconds, in parts of so many moves; where the file has a run, that goes on."""
+    endless: list[Program] = [(rule, lambda agent: False) for rule, _ in programs]
+    try:
+        there = Run.resume(path, moves)
+    except FileNotFoundError:
+        there = Run(init, path, moves)
+    with there as run:
+        live_all(run, endless, seconds)
 
 
 def states(journal: bytes) -> Iterator[Agent]:

@@ -8,7 +8,7 @@ from dataclasses import dataclass
 from functools import partial, reduce
 from typing import Any
 
-from folugben import Agent, Step, compose
+from folugben import Agent, RunAgent, Step, compose
 
 Location = list[Any]
 Move = list[list[Any]]
@@ -88,6 +88,10 @@ def If(condition: Any, then: Rule, otherwise: Rule = Par()) -> Rule:
     return Derived(lambda step: then if value_of(condition, step) else otherwise)
 
 
+def While(condition: Any, body: Rule) -> Rule:
+    return Iterate(If(condition, body))
+
+
 def Let(term: Any, body: Callable[[Any], Rule]) -> Rule:
     return Derived(lambda step: body(value_of(term, step)))
 
@@ -101,4 +105,4 @@ def Forall(name: str, where: Callable[..., bool], body: Callable[..., Rule]) -> 
 
 
 # A rule that is played in step after step, and what tells when its agent is done with it.
-Program = tuple[Rule, Callable[[Agent], bool]]
+Program = tuple[Rule, Callable[[Agent | RunAgent], bool]]

@@ -199,7 +199,7 @@ class Agents(unittest.TestCase):
             self.assertEqual(self.code_of(self.storage.agent, number), folugben.RANGE)
             self.assertEqual(self.code_of(Storage, (), number), folugben.RANGE)
         self.assertRaises(TypeError, self.storage.agent, 0.5)
-        self.assertEqual(folugben.error_text(2**32), folugben.error_text(23))
+        self.assertEqual(folugben.error_text(2**32), folugben.error_text(24))
 
     def test_codes(self):
         agent, other = self.storage.agent(0), Storage()
@@ -277,9 +277,9 @@ class Agents(unittest.TestCase):
             self.assertEqual(self.code_of(folugben.explain, form, b"[]"), folugben.RANGE)
 
     def test_texts_of_codes(self):
-        texts = [folugben.error_text(code) for code in range(24)]
-        self.assertEqual(len(set(texts)), 24)
-        self.assertEqual(folugben.error_text(-1), texts[23])
+        texts = [folugben.error_text(code) for code in range(25)]
+        self.assertEqual(len(set(texts)), 25)
+        self.assertEqual(folugben.error_text(-1), texts[24])
         self.assertEqual(folugben.version(), 2000)
         major, minor, patch = map(int, folugben.__version__.split("."))
         self.assertEqual(folugben.version(), 1_000_000 * major + 1_000 * minor + patch)

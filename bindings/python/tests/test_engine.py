@@ -2,15 +2,18 @@
 import json
 import pathlib
 import re
+import subprocess
+import sys
 import unittest
 from threading import Event
 
 import folugben_engine
 from checkout import ROOT
-from folugben import Clash, Stale, Storage, check
-from folugben_engine import bank, crossing, philosophers
-from folugben_engine.agents import live, run, states
-from folugben_engine.rules import Add, Choose, Forall, If, Instruction, Iterate, Let, Par, Remove, Rule, Seq, Update
+from folugben import Clash, Run, Stale, Storage, audit, check
+from folugben_engine import bank, colony, crossing, philosophers
+from folugben_engine.agents import live, live_all, run, run_on, states
+from folugben_engine.rules import Add, Choose, Forall, If, Instruction, Iterate, Let, Par, Remove, Rule, Seq, Update, While
+from rooms import Rooms, environment
 from threads import in_threads
 
 COUNT = ["count"]
@@ -61,6 +64,19 @@ class Rules(unittest.TestCase):
             raised(-1), Update(["sum"], lambda see: see(["sum"]) + rest),
         )))))
         self.assertEqual(self.played(rule, COUNT, ["sum"]), [0, 6])
+
+    def test_a_while_of_thousands_of_rounds(self):
+        rule = Seq(Update(["sum"], 0), While(lambda see: see(COUNT) < 4_003, Par(
+            raised(), Update(["sum"], lambda see: see(["sum"]) + see(COUNT)),
+        )))
+        self.assertEqual(self.played(rule, COUNT, ["sum"]), [4_003, sum(range(3, 4_003))])
+        self.assertEqual(self.played(While(False, raised()), COUNT), [4_003])
+
+    def test_a_universe_grows_under_forall(self):
+        grow = Forall("f", lambda *_: True, lambda at, value: Update(["f", at[1] + 10], value + value))
+        self.played(Seq(grow, Forall("f", lambda at, _: at[1] > 10, lambda at, _: Update(["f", at[1] + 10], "new"))))
+        self.assertEqual([at[1] for at, _ in self.agent.scan("f")[1]], [1, 2, 3, 11, 12, 13, 21, 22, 23])
+        self.assertEqual(self.agent.peek([["f", 11], ["f", 21]])[1], ["aa", "new"])
 
     def test_choose_and_forall(self):
         def is_a(_, value):
@@ -129,7 +145,7 @@ class Rules(unittest.TestCase):
 
 class Machines(unittest.TestCase):
     def test_machines(self):
-        moves = {philosophers: 200, bank: 80, crossing: None}
+        moves = {philosophers: 200, bank: 80, crossing: None, colony: colony.ROUNDS}
         for machine, fired in moves.items():
             with self.subTest(machine.__name__):
                 journal = run(machine.INIT, machine.PROGRAMS)
@@ -143,6 +159,8 @@ class Machines(unittest.TestCase):
             (philosophers, [[["eating"], {"set": [0, 4]}]]),
             (bank, [*bank.INIT[1:], [["account", 0], 101]]),
             (crossing, [[["gate"], "open"], [["train", 2], "crossing"], [["train", 0], "away"]]),
+            (colony, [[["cell", 0], 7], [["cell", 64], 6], [["age"], 1]]),
+            (colony, [[["cell", 0], 6], [["cell", 64], 6], [["age"], 2]]),
         ]:
             with Storage(state) as storage, storage.agent(0) as agent:
                 self.assertFalse(machine.holds(agent), state)
@@ -158,6 +176,40 @@ class Machines(unittest.TestCase):
                 run([], [waits, (Par(Update(COUNT, 1), Update(COUNT, 2)), lambda agent: False), waits])
 
         self.assertEqual(in_threads(work, 1), ([], True))
+
+
+class Endless(Rooms):
+    def test_a_machine_goes_on_for_as_long_as_it_is_told(self):
+        for times in (1, 2):
+            run_on(self.path, bank.INIT, bank.PROGRAMS, 0.3, moves=20)
+            counts = audit(self.path)
+            self.assertGreater(counts.moves, 40 * times)
+            with Storage(self.last_state()) as storage, storage.agent(0) as agent:
+                self.assertTrue(bank.holds(agent))
+        for journal in self.journals():
+            self.assertTrue(all(map(bank.holds, states(journal))))
+
+    def test_machines_that_end_are_played_on_a_run(self):
+        for machine in (philosophers, crossing, colony):
+            path = self.room / machine.__name__
+            with Run(machine.INIT, path, 10) as there:
+                live_all(there, machine.PROGRAMS)
+            self.path = path
+            self.assertTrue(all(machine.holds(agent) for journal in self.journals() for agent in states(journal)))
+
+    def test_an_error_of_one_program_ends_the_run(self):
+        wrong = Par(Update(COUNT, 1), Update(COUNT, 2)), None
+        with self.assertRaises(Clash):
+            run_on(self.path, INIT, [(raised(), None), wrong, (raised(), None)], 60)
+        self.assertEqual(self.last_state()[0], [COUNT, 3 + audit(self.path).moves])
+
+    def test_the_command_line(self):
+        for times in (1, 2):
+            told = subprocess.run([sys.executable, "-m", "folugben_engine", self.path, "0.2"], capture_output=True, text=True,
+                                  env=environment())
+            counts = audit(self.path)
+            said = "folugben_engine.bank: {} calls and {} moves in {} parts are legal, and the sum of the accounts stays\n"
+            self.assertEqual((told.stdout, told.stderr), (said.format(*counts), ""))
 
 
 class Page(unittest.TestCase):

@@ -9,7 +9,7 @@ from types import FrameType
 from unittest import mock
 
 import folugben
-from folugben import Agent, Error, Location, Move, Nested, Storage, _move, _step, check, explain, replay, states, trace
+from folugben import Error, Location, Move, Nested, Storage, _move, _step, check, explain, replay, states, trace
 
 
 class Short(bytes):

@@ -169,6 +169,47 @@ class Scopes(unittest.TestCase):
         self.assertEqual(told, ["forked"] * 9 + ["1"])
         self.assertEqual(put(agent, 2), 1)
 
+    def test_an_agent_that_was_given_back_is_taken_again(self):
+        first = self.storage.agent(3)
+        put(first, 1)
+        first.give()
+        self.storage.close_journal()
+        again = self.storage.take(3)
+        self.assertEqual((again.number, again.seen, again.won, put(again, 2)), (3, 1, 1, 2))
+        for number, said in [(3, "agent 3 was not given back"), (4, "agent 4 was not given back"), (256, "numbers are below 256")]:
+            with self.assertRaisesRegex(Error, said):
+                self.storage.take(number)
+        with self.assertRaises(Error) as caught:
+            self.storage.next()  # which needs another journal
+        self.assertEqual(caught.exception.code, folugben.NONE)
+        again.give()
+        with self.storage.take(3) as third:
+            put(third, 3)
+        self.assertEqual(check(self.storage.close_journal()), (3, 3))
+
+    def test_a_storage_goes_on_from_the_state_of_an_agent(self):
+        with Storage([[COUNT, 0]], 3) as storage:
+            first, second = storage.agent(0), storage.agent(1)
+            for value in (1, 2, 3):
+                put(first, value)
+            with self.assertRaisesRegex(Error, "stands at 0 moves") as caught:
+                second.go_on(5)
+            self.assertEqual(caught.exception.code, folugben.NONE)
+            second.follow()
+            with second.go_on(5) as further, further.agent(0) as agent:
+                self.assertEqual(agent.read([COUNT]), (0, [3]))
+                put(agent, 4)
+                agent.give()
+                self.assertEqual(second.read([COUNT]), (3, [3]))
+                first.give()
+                second.give()
+                run = storage.close_journal() + further.close_journal()
+            auditor = folugben.Auditor()
+            auditor.feed(run)
+            self.assertEqual(auditor.end(), (6, 4, 2))
+            for call in (second.go_on, lambda: storage.take(0).go_on(0)):
+                self.assertRaises(Error, call)
+
     def test_next_refuses_moves_that_are_in_no_journal(self):
         with self.storage.agent(0) as agent:
             put(agent, 1)

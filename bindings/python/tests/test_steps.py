@@ -7,7 +7,7 @@ import unittest
 from unittest import mock
 
 import folugben
-from folugben import Clash, Deep, Error, Full, Many, Moved, Over, Stale, Storage, _library, _step, check, replay
+from folugben import Clash, Deep, Error, Full, Many, Moved, Over, Stale, Storage, _library, _step, check
 
 COUNT = [["count"]]
 

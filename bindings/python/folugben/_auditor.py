@@ -1,0 +1,193 @@
+"""Audits: runs of any length, which are checked as their bytes come."""
+import ctypes
+import os
+from collections.abc import Callable
+from typing import Any, BinaryIO, NamedTuple, Protocol
+
+from ._errors import BadJournal, Error, Text, exact, expect
+from ._held import Held, one_call
+from ._library import DONE, EMPTY, LARGE, MEMORY, NONE, AuditNumbers, Buffer, lib
+from ._texts import decoded
+
+# How many bytes of a file are read at once.
+CHUNK = 1 << 20
+# How the header of a part begins, which no line of an event does.
+HEADER = b'{"agents":'
+
+
+class Counts(NamedTuple):
+    """What an audit has counted: the calls that were judged, the moves that were fired, and the parts that are whole."""
+
+    calls: int
+    moves: int
+    parts: int
+
+
+class Readable(Protocol):
+    """A file."""
+
+    def read(self, size: int, /) -> bytes | str | None: ...
+
+
+class Auditor(Held):
+    """Checks a run of any length as it comes: its parts are journals, one behind the other, each of which opens with the state
+    that the one before it leaves. It holds that state and one line.
+
+        auditor = Auditor()
+        for chunk in chunks:
+            auditor.feed(chunk)             # raises the first wrong answer at once
+        calls, moves, parts = auditor.end() # raises where the last part isn't whole
+
+    What is wrong is a `BadJournal` with the part, and the call or the line. Each further call raises it again.
+    """
+
+    def __init__(self) -> None:
+        super().__init__()
+        self._numbers, self._taken = AuditNumbers(), ctypes.c_size_t()
+        self._counts = Counts(0, 0, 0)
+        self._fault: BadJournal | None = None
+        # What refused memory has left of the bytes that were fed, and whether a feed was ended in its midst.
+        self._rest, self._is_torn = b"", False
+        self._is_begun = False
+        self._feed(b"")
+        self._is_begun = True
+
+    def feed(self, chunk: Text) -> Counts:
+        """Takes the next bytes, or characters, any number of them. What the audit has counted so far.
+
+        `BadJournal` at the first wrong answer, the first fault, or the first part that opens with another state; a line of more
+        than 16,777,216 bytes is such a fault too. After a `MemoryError` what wasn't taken is kept, and the next call begins with
+        it: `feed(b"")` tries again. A feed that a signal handler ends with an exception ends the audit.
+        """
+        return self._feed(exact(chunk, "what an audit takes"))
+
+    @one_call
+    def _feed(self, chunk: bytes) -> Counts:
+        with self._lock:
+            if self._is_begun:
+                self._expect_sound()
+            self._rest, self._is_torn = self._rest + chunk if self._rest else chunk, True
+            code = lib.asm_audit(self._slot, self._rest, len(self._rest), self._taken, self._numbers)
+            self._rest, self._is_torn = self._rest[self._taken.value :], False
+            return self._told(code)
+
+    @property
+    def counts(self) -> Counts:
+        """What it has counted so far, with the calls and the moves of a part that isn't whole yet."""
+        self._expect_sound()
+        return self._counts
+
+    @one_call
+    def end(self) -> Counts:
+        """What it has counted, where no further byte comes. `BadJournal` where the last part isn't whole.
+
+        The audit is as it was, and may be fed on.
+        """
+        with self._lock:
+            self._expect_sound()
+            code = lib.asm_audited(self._slot, self._numbers)
+            if code == MEMORY:
+                raise MemoryError
+            if code != DONE:
+                raise self._bad(code)
+            return self._counted()
+
+    def state(self) -> list[Any]:
+        """The state that the moves so far leave, as a list of pairs. `Error` with the code NONE where no part has begun."""
+        pairs: list[Any] = decoded(self._state())
+        return pairs
+
+    @one_call
+    def _state(self) -> bytes:
+        with self._lock:
+            self._expect_sound()
+            code, state = Buffer().text(lib.asm_audit_state, self._slot)
+        expect(code, said="no part has begun" if code == NONE else "")
+        return state
+
+    def _counted(self) -> Counts:
+        return Counts(self._numbers.calls, self._numbers.moves, self._numbers.parts)
+
+    def _told(self, code: int) -> Counts:
+        """What the code of a feed says."""
+        if code == DONE:
+            self._counts = self._counted()
+            return self._counts
+        if code == MEMORY:
+            raise MemoryError
+        self._fault = self._bad(code)
+        raise self._fault
+
+    def _bad(self, code: int) -> BadJournal:
+        said = ""
+        if code == LARGE:
+            said = "a line has more than 16,777,216 bytes"
+            # What would be told if no further byte came is of the part that the line stands in.
+            lib.asm_audited(self._slot, self._numbers)
+        bad = BadJournal(code, (self._numbers.calls,), said)
+        bad.part = self._numbers.parts
+        return bad
+
+    def _expect_sound(self) -> None:
+        if not self._slot.full:
+            raise Error(EMPTY, said="the audit was freed")
+        if self._is_torn:
+            raise Error(EMPTY, said="a feed of the audit was ended in its midst: begin another one")
+        if self._fault is not None:
+            raise self._bad_again(self._fault)
+
+    @staticmethod
+    def _bad_again(fault: BadJournal) -> BadJournal:
+        bad = BadJournal(fault.code, fault.numbers, fault.said)
+        bad.part = fault.part
+        return bad
+
+    def __repr__(self) -> str:
+        if self._fault is not None:
+            return f"<Auditor, {self._fault}>"
+        return f"<Auditor, {', '.join(f'{count} {name}' for name, count in self._counts._asdict().items())}>"
+
+
+def audit(run: str | os.PathLike[str] | Readable, progress: Callable[[int], None] | None = None) -> Counts:
+    """Checks the run in a file of any length, which is opened or told by its path: the numbers of its calls, moves and parts.
+
+    `BadJournal` where it isn't legal, or isn't whole, as soon as that is read. With `progress`, that is called with the number
+    of bytes now and then.
+    """
+    if isinstance(run, (str, os.PathLike)):
+        with open(run, "rb", buffering=0) as file:
+            return _audited(file, progress)
+    if not hasattr(run, "read"):
+        raise TypeError(f"audit takes a path or a file, and not {type(run).__name__!r}: feed bytes to an Auditor")
+    return _audited(run, progress)
+
+
+def _audited(file: Readable, progress: Callable[[int], None] | None) -> Counts:
+    # Of a pipe what is there is taken, so that a wrong answer is told when it comes.
+    read, fed = getattr(file, "read1", file.read), 0
+    with Auditor() as auditor:
+        while chunk := read(CHUNK):
+            auditor.feed(chunk)
+            fed += len(chunk)
+            if progress is not None:
+                progress(fed)
+        return auditor.end()
+
+
+def part(run: str | os.PathLike[str] | BinaryIO, number: int) -> bytes:
+    """The journal of one part of a run, counted from 0, of a file or its path. `IndexError` where there are fewer."""
+    if isinstance(run, (str, os.PathLike)):
+        with open(run, "rb") as file:
+            return part(file, number)
+    lines: list[bytes] = []
+    at = -1
+    for line in run:
+        if line.startswith(HEADER):
+            at += 1
+        if at > number:
+            break
+        if at == number:
+            lines.append(line)
+    if at < number or number < 0:
+        raise IndexError(f"there is no part {number}, as the run has {at + 1}")
+    return b"".join(lines)

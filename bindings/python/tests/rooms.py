@@ -1,0 +1,92 @@
+"""What the tests of runs share: a file for each test, rules, and processes of their own."""
+import os
+import pathlib
+import random
+import subprocess
+import sys
+import tempfile
+import time
+import unittest
+import warnings
+
+import folugben
+from folugben import Auditor, Location, Run, audit, part
+from threads import in_threads
+
+COUNT, AT = ["count"], Location(["count"])
+INIT = [[COUNT, 0]]
+ACCOUNTS, MONEY = 6, 100
+BANK = [[["account", own], MONEY] for own in range(ACCOUNTS)]
+
+
+def raised(step):
+    step.push([["put", COUNT, step.get(AT) + 1]])
+
+
+def transfer(agent, rng):
+    from_, to = rng.sample(range(ACCOUNTS), 2)
+
+    def rule(step):
+        there, here = step.get([["account", from_], ["account", to]])
+        step.push([["put", ["account", from_], there - 1], ["put", ["account", to], here + 1]])
+
+    return agent.play(rule)
+
+
+def until(is_so, seconds=20):
+    end = time.monotonic() + seconds
+    while not is_so():
+        if time.monotonic() > end:
+            raise AssertionError("it took too long")
+        time.sleep(0.002)
+
+
+def environment():
+    """That of a process which has the package that is tested, these tests, and the engine beside them."""
+    folders = [pathlib.Path(folugben.__file__).resolve().parents[1], *pathlib.Path(__file__).resolve().parents[:2]]
+    return os.environ | {"PYTHONPATH": os.pathsep.join(map(str, folders))}
+
+
+def called(code, *words):
+    """What a program of Python does in a process of its own."""
+    command = [sys.executable, "-c", code, *map(str, words)]
+    return subprocess.run(command, capture_output=True, text=True, env=environment(), timeout=60)
+
+
+class Rooms(unittest.TestCase):
+    def setUp(self):
+        room = tempfile.TemporaryDirectory()
+        self.addCleanup(room.cleanup)
+        self.room = pathlib.Path(room.name)
+        self.path = self.room / "run"
+
+    def journals(self):
+        return [part(self.path, number) for number in range(audit(self.path).parts)]
+
+    def last_state(self):
+        with Auditor() as auditor, self.path.open("rb") as file:
+            auditor.feed(file.read())
+            auditor.end()
+            return auditor.state()
+
+
+def live_in_bank(path):
+    """What is killed: agents in threads that go on with a run of small parts, or begin it."""
+    warnings.simplefilter("ignore")
+    # A part is written in many pieces, so that some of them are cut.
+    write = os.pwrite
+    os.pwrite = lambda fd, data, at: write(fd, data[:20], at)
+    try:
+        run = Run.resume(path, 20)
+    except FileNotFoundError:
+        run = Run(BANK, path, 20)
+    sys.stdout.write("x")
+    sys.stdout.flush()
+
+    def work(own):
+        rng = random.Random(own)
+        with run.agent(own) as agent:
+            while True:
+                transfer(agent, rng)
+
+    in_threads(work, 3)

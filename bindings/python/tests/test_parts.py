@@ -1,0 +1,352 @@
+"""Runs without an end: agents that go on from part to part, by numbers of the run, and parts that keep too much."""
+import contextlib
+import gc
+import itertools
+import random
+import time
+import unittest
+from unittest import mock
+
+from folugben import Broken, Clash, Error, Move, Past, Retry, Run, Stale
+from folugben import _parts, _run_file, audit, check, interleave, states
+from rooms import AT, BANK, COUNT, INIT, Rooms, raised, transfer, until
+from threads import in_threads
+
+
+class Parts(Rooms):
+    def test_agents_in_threads_go_on_from_part_to_part(self):
+        agents, times, told = 4, 300, [[] for _ in range(4)]
+
+        def work(own):
+            with run.agent(own) as agent:
+                for _ in range(times):
+                    told[own].append(agent.play(raised)[0])
+                self.assertEqual((agent.won, agent.number), (times, own))
+                self.assertGreaterEqual(agent.seen, told[own][-1])
+
+        with Run(INIT, self.path, 50) as run:
+            self.assertEqual(in_threads(work, agents), ([], True))
+        self.assertEqual(sorted(itertools.chain(*told)), list(range(1, agents * times + 1)))
+        self.assertTrue(all(it == sorted(it) for it in told))
+        calls, moves, parts = audit(self.path)
+        self.assertEqual((moves, parts, run.saved, run.parts), (1200, 25, 1200, 25))
+        self.assertGreaterEqual(calls, moves)
+        self.assertEqual(self.last_state(), [[COUNT, 1200]])
+        journals = self.journals()
+        self.assertEqual(check(journals[0]), (0, 0))
+        self.assertEqual([check(journal)[1] for journal in journals[1:]], [50] * 24)
+        self.assertEqual([next(states(journal))[1] for journal in journals],
+                         [{'["count"]': 0}, *({'["count"]': 50 * number} for number in range(24))])
+
+    def test_a_part_of_one_move(self):
+        with Run(INIT, self.path, 1) as run, run.agent(7) as agent:
+            for number in range(1, 20):
+                self.assertEqual(agent.play(raised), (number, None))
+                self.assertEqual((agent.seen, agent.won), (number, number))
+        self.assertEqual(audit(self.path), (19, 19, 20))
+
+    def test_a_step_that_has_begun_sees_its_state_and_fires_no_more(self):
+        with Run(INIT, self.path, 5) as run, run.agent(0) as slow, run.agent(1) as quick:
+            with slow.step() as step:
+                for _ in range(12):
+                    quick.play(raised)
+                self.assertEqual((step.number, step.get([COUNT]), step.get(AT)), (0, [0], 0))
+                step.push([["inc", COUNT, 1]])
+                # It is stale too.
+                self.assertEqual((step.get(AT), step.try_fire(), step.fired), (1, 0, 0))
+                self.assertRaises(Stale, step.fire)
+            self.assertEqual(slow.play(raised), (13, None))
+            with slow.step() as step:
+                step.push([["inc", COUNT, 1]])
+                for _ in range(12):
+                    quick.play(raised)
+                self.assertEqual((step.get([["x"]]), step.try_fire(), step.fired), ([None], 0, 0))
+                with self.assertRaisesRegex(Past, "begin another step") as caught:
+                    step.fire()
+                self.assertIsInstance(caught.exception, Retry)
+            with slow.step() as step:
+                self.assertEqual((step.number, step.get(AT)), (25, 25))
+        self.assertEqual(audit(self.path)[1:], (25, 6))
+
+    def test_a_step_whose_agent_has_gone_on_says_so(self):
+        with Run(INIT, self.path, 5) as run, run.agent(0) as slow, run.agent(1) as quick:
+            with slow.step() as step:
+                for _ in range(7):
+                    quick.play(raised)
+                self.assertEqual(slow.follow(), 7)
+                for call in (step.fire, step.try_fire, lambda: step.get(AT), lambda: step.push([]), lambda: step.scan("count")):
+                    with self.assertRaisesRegex(Past, "begin another step"):
+                        call()
+            with slow.step() as step:
+                slow.give()
+                with self.assertRaisesRegex(Error, "the agent was given back"):
+                    step.get(AT)
+
+    def test_a_part_waits_for_no_agent_that_is_idle(self):
+        with Run(INIT, self.path, 10) as run, run.agent(0) as idle, run.agent(1) as busy:
+            idle.play(raised)
+            while run.parts < 5:
+                busy.play(raised)
+            number = busy.play(raised)[0]
+            self.assertEqual((idle.won, idle.seen), (1, 1))
+            self.assertEqual(idle.play(raised)[0], number + 1)
+            self.assertEqual((idle.won, idle.seen), (2, number + 1))
+        self.assertEqual(audit(self.path).moves, number + 1)
+
+    def test_reads_and_fires_by_numbers_of_the_run(self):
+        with Run(INIT, self.path, 4) as run, run.agent(0) as agent, run.agent(1) as other:
+            old = agent.read([COUNT])
+            self.assertEqual(old, (0, [0]))
+            for number in range(1, 8):
+                seen, (count,) = agent.read([COUNT])
+                self.assertEqual((seen, count), (number - 1, number - 1))
+                self.assertIsNone(agent.stands([[COUNT, seen]]))
+                self.assertEqual(agent.fire([["put", COUNT, count + 1]], [[COUNT, seen]]), number)
+            for call in (lambda: agent.fire([], [[COUNT, old[0]]]), lambda: agent.stands([[COUNT, 3]])):
+                with self.assertRaisesRegex(Past, "read again"):
+                    call()
+            with self.assertRaisesRegex(Error, r'\["count"\] is named at 8, and the agent has seen 7'):
+                agent.follow()
+                agent.fire([], [[COUNT, 8]])
+            self.assertEqual(agent.follow(), 7)
+            with self.assertRaises(Stale):
+                agent.fire([["put", COUNT, 0]], [[COUNT, 5]])
+            self.assertEqual(agent.stands([[COUNT, 4]]), COUNT)
+            with self.assertRaises(Clash):
+                agent.fire([["put", COUNT, 0], ["put", COUNT, 1]])
+            with self.assertRaisesRegex(Error, "read"):
+                agent.fire([], [[COUNT]])
+            self.assertEqual((agent.peek([COUNT]), agent.peek(AT)), ((7, [7]), (7, 7)))
+            self.assertEqual((agent.state(), agent.scan("count")), ((7, [[COUNT, 7]]), (7, [[COUNT, 7]])))
+            # The eighth move is the part's last: the next part opens with what that leaves, at the same number.
+            seen, _ = agent.read([COUNT])
+            other.fire([["put", ["else"], 1]])
+            self.assertEqual((seen, agent.follow()), (7, 8))
+            self.assertEqual(agent.read([COUNT]), (8, [7]))
+            self.assertEqual(agent.fire([["put", COUNT, 9]], [[COUNT, 8]]), 9)
+            # A fire that names nothing goes on by itself.
+            self.assertEqual([agent.fire([["inc", COUNT, 1]]) for _ in range(10)], list(range(10, 20)))
+        self.assertEqual(audit(self.path).moves, 19)
+
+    def test_who_waits_for_a_value_comes_into_the_newest_part(self):
+        def work(own):
+            with run.agent(own) as agent:
+                if own == 0:
+                    for _ in range(30):
+                        agent.play(raised)
+                else:
+                    until(lambda: agent.follow() == 30)
+                    self.assertEqual(agent.peek(AT), (30, 30))
+
+        with Run(INIT, self.path, 7) as run:
+            self.assertEqual(in_threads(work, 3), ([], True))
+
+    def test_numbers_are_free_again(self):
+        with Run(INIT, self.path, 4) as run:
+            first = run.agent(0)
+            first.play(raised)
+            with self.assertRaisesRegex(Error, "agent 0"):
+                run.agent(0)
+            first.give()
+            first.give()
+            others = lambda: first.play(raised), lambda: first.read([COUNT]), lambda: first.fire([])
+            for call in (first.step, first.follow, *others):
+                with self.assertRaisesRegex(Error, "the agent was given back"):
+                    call()
+            self.assertEqual((first.won, first.seen, repr(first)), (1, 1, "<RunAgent 0, given back>"))
+            # In the same part it is taken again, with what it has seen and its receipts.
+            for number in range(2, 12):
+                with run.agent(0) as again:
+                    self.assertEqual((again.won, again.play(raised)[0], again.won), (0, number, 1))
+                    self.assertRaises(Error, first.step)
+            run.agent(0).play(raised)  # nobody holds it any more
+            gc.collect()
+            self.assertEqual(run.agent(0).play(raised), (13, None))
+            for number, said in [(256, "numbers are below 256"), (-1, "a number is 0 to")]:
+                with self.assertRaisesRegex(Error, said):
+                    run.agent(number)
+            self.assertEqual(repr(run.agent(3)), "<RunAgent 3, 0 moves seen>")
+        self.assertEqual(audit(self.path).moves, 13)
+
+    def test_what_a_rule_raises_fires_nothing(self):
+        with Run(INIT, self.path, 4) as run, run.agent(0) as agent:
+            for _ in range(10):
+                with self.assertRaises(ZeroDivisionError):
+                    agent.play(lambda step: (raised(step), 1 // 0))
+                agent.play(raised)
+            with self.assertWarns(ResourceWarning), agent.step() as step:
+                raised(step)
+        self.assertEqual(audit(self.path), (10, 10, 4))
+
+    def test_steps_without_text_and_extensions(self):
+        move = Move()
+        with Run(INIT, self.path, 3) as run, run.agent(0) as agent:
+            for number in range(1, 11):
+                with agent.step() as step:
+                    step.push(move.clear().inc(AT, 1))
+                    step.extend(move.clear().inc(AT, 1))
+                    self.assertEqual((step.fire(), step.fired), (number, number))
+        self.assertEqual(self.last_state(), [[COUNT, 20]])
+
+    def test_the_writer_limits_how_many_parts_are_in_memory(self):
+        chain = None
+        most = [0]
+        real = _run_file.RunFile.append
+
+        def slow(file, journal):
+            part, count = chain._oldest, 0
+            while part is not None:
+                part, count = part.next, count + part.is_open()
+            most[0] = max(most[0], count)
+            time.sleep(0.02)
+            real(file, journal)
+
+        def work(own):
+            with run.agent(own) as agent:
+                for _ in range(100):
+                    agent.play(raised)
+
+        with Run(INIT, self.path, 10) as run:
+            chain = run._chain
+            with mock.patch.object(_run_file.RunFile, "append", slow):
+                self.assertEqual(in_threads(work, 4), ([], True))
+                run.close()
+        self.assertEqual(audit(self.path)[1:], (400, 41))
+        self.assertIn(most[0], (2, 3, 4))
+
+    def test_one_schedule_gives_one_file(self):
+        def played(seed, name):
+            path = self.room / name
+            with Run(BANK, path, 7) as run:
+                agents = [run.agent(own) for own in range(3)]
+
+                def work(agent):
+                    rng = random.Random(agent.number)
+                    return [transfer(agent, rng)[0] for _ in range(12)]
+
+                told = interleave(agents, [work] * 3, seed)
+            return told, path.read_bytes()
+
+        for seed in range(6):
+            self.assertEqual(played(seed, f"{seed} a"), played(seed, f"{seed} b"))
+            self.assertEqual(audit(self.room / f"{seed} a")[1:], (36, 7))
+
+
+class Random(Rooms):
+    """Agents that do whatever agents do, in small parts, each of which may end in any way."""
+
+    def live(self, run, own, rng, told):
+        """Takes an agent, does something with it, and lets it go, again and again. The numbers of the moves that it fired."""
+        for _ in range(rng.randrange(5, 15)):
+            with run.agent(own) as agent:
+                for _ in range(rng.randrange(8)):
+                    rng.choice([self.plays, self.fires, self.holds, self.looks])(agent, rng, told)
+                    time.sleep(rng.choice([0, 0, 0, 0.002]))
+
+    def plays(self, agent, rng, told):
+        told.append(agent.play(raised)[0])
+
+    def fires(self, agent, rng, told):
+        number, (count,) = agent.read([COUNT])
+        with contextlib.suppress(Retry):
+            told.append(agent.fire([["put", COUNT, count + 1]], [[COUNT, number]]))
+
+    def holds(self, agent, rng, told):
+        with agent.step() as step:
+            step.push([["put", COUNT, step.get(AT) + 1]])
+            time.sleep(rng.choice([0, 0.001, 0.005]))
+            self.assertEqual(step.get(AT), step.number + 1)
+            if number := step.try_fire():
+                told.append(number)
+
+    def looks(self, agent, rng, told):
+        number = agent.follow()
+        self.assertEqual(agent.peek(AT)[0], agent.peek(AT)[1])
+        self.assertGreaterEqual(agent.peek(AT)[0], number)
+        self.assertGreaterEqual(agent.seen, number)
+
+    def test_nothing_is_lost_and_nothing_done_twice(self):
+        for seed in range(6):
+            rng, self.path = random.Random(seed), self.room / str(seed)
+            told = [[] for _ in range(5)]
+
+            def work(own):
+                self.live(run, own, random.Random(f"{seed} {own}"), told[own])
+
+            with mock.patch.object(_parts, "_PATIENCE", 0.05):
+                with Run(INIT, self.path, rng.choice([1, 2, 7, 500]), receipts=rng.choice([None, 64])) as run:
+                    self.assertEqual(in_threads(work, 5), ([], True))
+            numbers = sorted(itertools.chain(*told))
+            self.assertEqual(numbers, list(range(1, len(numbers) + 1)))
+            self.assertEqual((audit(self.path).moves, self.last_state()), (len(numbers), [[COUNT, len(numbers)]]))
+            self.assertTrue(all(it == sorted(it) for it in told))
+
+
+class Receipts(Rooms):
+    """A part that keeps too much ends before it is full, when all its agents are between two steps."""
+
+    def stale(self, agent, other, times):
+        for _ in range(times):
+            with agent.step() as step:
+                step.get([COUNT])
+                other.fire([["put", COUNT, 0]])
+                step.push([["inc", COUNT, 1]])
+                self.assertEqual(step.try_fire(), 0)
+
+    def test_a_part_that_keeps_too_much_ends_at_rest(self):
+        with Run(INIT, self.path, 10_000, receipts=100) as run, run.agent(0) as agent, run.agent(1) as other:
+            number = 0
+            for _ in range(30):
+                for _ in range(20):
+                    agent.read([["x"]])
+                number += 1
+                self.assertEqual(other.fire([["inc", COUNT, 1]]), number)
+                self.assertEqual(agent.follow(), number)
+            until(lambda: run.parts >= 4)
+        calls, moves, parts = audit(self.path)
+        # A read that looked on to a part that was to end is read again.
+        self.assertEqual((calls >= 630, moves), (True, 30))
+        self.assertLessEqual(max(check(journal)[0] for journal in self.journals()), 200)
+        self.assertEqual(self.last_state(), [[COUNT, 30]])
+
+    def test_stale_fires_in_threads_end_parts(self):
+        def work(own):
+            with run.agent(own) as agent:
+                for _ in range(200):
+                    agent.play(lambda step: (raised(step), time.sleep(0)))
+
+        with Run(INIT, self.path, 10_000, receipts=150) as run:
+            self.assertEqual(in_threads(work, 4), ([], True))
+        calls, moves, parts = audit(self.path)
+        self.assertEqual((moves, self.last_state()), (800, [[COUNT, 800]]))
+        self.assertGreaterEqual(parts, 4)
+
+    def test_a_step_that_lasts_holds_the_part_open(self):
+        def work(own):
+            with run.agent(own) as agent:
+                for _ in range(300):
+                    agent.play(raised)
+
+        with mock.patch.object(_parts, "_PATIENCE", 0.1), Run(INIT, self.path, 10_000, receipts=100) as run:
+            with run.agent(9) as slow, slow.step() as step:
+                self.assertEqual(in_threads(work, 2), ([], True))
+                self.assertEqual((step.get(AT), run.parts), (0, 1))
+            self.assertEqual(slow.won, 0)
+            with run.agent(8) as last:
+                while run.parts < 3:
+                    last.play(raised)
+        self.assertGreaterEqual(audit(self.path).parts, 3)
+
+    def test_an_agent_that_was_abandoned_is_told_at_rest_too(self):
+        with contextlib.suppress(Broken), Run(INIT, self.path, 10_000, receipts=64) as run, run.agent(0) as agent:
+            with run.agent(1) as lost:
+                lost.play(raised)
+                lost.abandon()
+            with self.assertRaises(Broken) as caught:
+                for _ in range(1_000):
+                    agent.read([COUNT])
+            self.assertRegex(str(caught.exception), "part 1 couldn't be written: .*: agent 1 was abandoned .move 1.")
+        self.assertEqual(audit(self.path), (0, 0, 1))
+
+if __name__ == "__main__":
+    unittest.main()
