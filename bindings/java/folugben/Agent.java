@@ -24,6 +24,9 @@ public final class Agent implements AutoCloseable {
     private final Room room = slot.room;
     private final Storage storage;
     private final int number;
+    /** The part of a run that it is of; else null. */
+    private volatile Part part;
+    private int vain;
 
     Agent(Storage storage, int number) {
         this.storage = storage;
@@ -37,9 +40,17 @@ public final class Agent implements AutoCloseable {
 
     /** Tells that it was given back, if this code was answered for that; to be called with its lock. */
     int held(int code) {
-        if (code == FolugbenException.EMPTY && !slot.isFull())
-            throw FolugbenException.closed("the agent was given back");
-        return code;
+        if (code != FolugbenException.EMPTY || slot.isFull())
+            return code;
+        if (isOver())
+            throw PartException.full();
+        throw FolugbenException.closed("the agent was given back");
+    }
+
+    /** Whether it is of a part of a run that is over. */
+    private boolean isOver() {
+        Part own = part;
+        return own != null && own.isOver();
     }
 
     /** What is expected of the code of a call on it. */
@@ -50,13 +61,20 @@ public final class Agent implements AutoCloseable {
     /**
      * What became of a fire, or of reads that were looked at again. `answer` is the text
      * {"stale":LOC} or {"clash":[LOC,CAUSE]} of what was answered so, and else null; `isOfStep`
-     * tells whether it was a step that was fired.
+     * tells whether it was a step that was fired, and `isOfRun` whether it was an agent of a {@link
+     * Run}.
      */
-    public record Reply(
-            int code, int move, int from, int to, String answer, boolean isOfStep) {
+    public record Reply(int code, int move, int from, int to, String answer, boolean isOfStep,
+            boolean isOfRun) {
         /** What became of a fire that was none of a step, or of reads. */
         public Reply(int code, int move, int from, int to, String answer) {
-            this(code, move, from, to, answer, false);
+            this(code, move, from, to, answer, false, false);
+        }
+
+        /** What became of a fire, or of reads, on an agent that is none of a run. */
+        public Reply(
+                int code, int move, int from, int to, String answer, boolean isOfStep) {
+            this(code, move, from, to, answer, isOfStep, false);
         }
 
         /** Its code, for a switch. */
@@ -81,10 +99,12 @@ public final class Agent implements AutoCloseable {
 
         /**
          * Whether a named location was written since it was read, or 64 offers were lost; of a step
-         * also whether its updates clash, as they do only with what was written since it began.
+         * also whether its updates clash, as they do only with what was written since it began; and
+         * of a run whether its part is full, as another step goes on in the next one.
          */
         public boolean shouldRetry() {
-            return isStale() || code == FolugbenException.BUSY || (isOfStep && isClash());
+            return isStale() || code == FolugbenException.BUSY || (isOfStep && isClash())
+                    || (isOfRun && code == FolugbenException.FULL);
         }
 
         /** The least location that is stale or clashes; else null. */
@@ -101,7 +121,8 @@ public final class Agent implements AutoCloseable {
          * The number of the move that was fired, from 1 up; 0 of reads that stand.
          *
          * @throws FolugbenException as a {@link StaleException}, {@link ClashException}, {@link
-         *         FullException} or {@link BusyException} where it is another reply
+         *         FullException} or {@link BusyException} where it is another reply; of a run as a
+         *         {@link PartException} for a {@link FullException}
          */
         public int orThrow() {
             if (code != FolugbenException.DONE)
@@ -128,6 +149,7 @@ public final class Agent implements AutoCloseable {
             int code = room.make(call,
                     (text, out, length, written) -> Calls.asm_read(slot.at, text, call.length));
             FolugbenException.expectRead(held(code), Storage.Form.LOCATIONS, call);
+            vain++;
             return answer();
         }
     }
@@ -194,18 +216,72 @@ public final class Agent implements AutoCloseable {
         }
     }
 
+    /** The code of a fire, FULL where it came too late for the part of a run. */
+    private int inTime(int code) {
+        boolean isTooLate = code == FolugbenException.EMPTY && !slot.isFull() && isOver();
+        return isTooLate ? FolugbenException.FULL : code;
+    }
+
     /** What became of a fire with this code, on which the agent's lock is still held. */
-    Reply reply(int code, boolean isOfStep) {
+    Reply reply(int told, boolean isOfStep) {
+        int code = inTime(told);
         int move = room.number(0);
         int from = room.number(1);
         int to = room.number(2);
         String answer = null;
         switch (code) {
-            case FolugbenException.STALE, FolugbenException.CLASH -> answer = answer();
-            case FolugbenException.FULL, FolugbenException.BUSY -> {}
+            case FolugbenException.STALE, FolugbenException.CLASH -> {
+                vain++;
+                answer = answer();
+            }
+            case FolugbenException.FULL -> vain++;
+            case FolugbenException.BUSY -> {}
             default -> expect(code);
         }
-        return new Reply(code, move, from, to, answer, isOfStep);
+        return new Reply(code, move, from, to, answer, isOfStep, part != null);
+    }
+
+    /** Has the agent be one of this part of a run. */
+    void joins(Part part) {
+        this.part = part;
+    }
+
+    /** Its part of a run; else null. */
+    Part part() {
+        return part;
+    }
+
+    /** How many of its calls were answered and fired nothing, since it was made or taken. */
+    int vain() {
+        synchronized (slot) {
+            return vain;
+        }
+    }
+
+    /** Whether it is there: neither given back nor abandoned. */
+    boolean isHeld() {
+        synchronized (slot) {
+            return slot.isFull();
+        }
+    }
+
+    /** Whether a step is under way on it. */
+    boolean isInStep() {
+        synchronized (slot) {
+            return slot.hasStep();
+        }
+    }
+
+    /** Tells the run, if it is of one that may wait for that, that a step is over; with its lock. */
+    void endStep() {
+        if (part != null)
+            part.endStep();
+    }
+
+    /** Throws what has ended the run, if it is of one. */
+    void expectGoing() {
+        if (part != null)
+            part.expectGoing();
     }
 
     /** What is played on a step; it tells what the play is to answer. */
@@ -240,7 +316,8 @@ public final class Agent implements AutoCloseable {
         }
     }
 
-    private static void backOff(int tries) {
+    /** Waits between tries in vain, of which there were so many before. */
+    static void backOff(int tries) {
         if (tries < TRIES_WITHOUT_WAIT)
             Thread.yield();
         else
@@ -252,6 +329,12 @@ public final class Agent implements AutoCloseable {
      * steps may be under way, as long as the state doesn't move on.
      */
     public Step step() {
+        Interleave.turn();
+        return begin();
+    }
+
+    /** The same, which is no turn. */
+    Step begin() {
         synchronized (slot) {
             return new Step(this);
         }
@@ -394,6 +477,18 @@ public final class Agent implements AutoCloseable {
             expect(told.code());
             return told.text();
         }
+    }
+
+    /**
+     * A storage for 1 to 1,048,576 moves that opens with the agent's own state, where that stands at
+     * all moves that its storage has room for: that is full, and the agent has looked on. No journal
+     * is closed and no other agent waits; the journals of both, one after the other, tell one run.
+     * Its agents start anew, as numbers do.
+     *
+     * @throws FolugbenException NONE if the own state stands at fewer moves
+     */
+    public Storage goOn(int capacity) {
+        return Storage.behind(this, capacity);
     }
 
     /** Takes in what the other agent of the storage has seen. */

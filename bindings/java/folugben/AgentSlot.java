@@ -38,6 +38,14 @@ final class AgentSlot extends Slot {
         idle = slot;
     }
 
+    /** Whether a step has begun and isn't over. */
+    boolean hasStep() {
+        for (StepSlot slot = made; slot != null; slot = slot.before)
+            if (slot.owner != null)
+                return true;
+        return false;
+    }
+
     /** The slot of a step, and its place among those of the agent. */
     static final class StepSlot extends Slot {
         /** The step that it is of; null where it is idle. */

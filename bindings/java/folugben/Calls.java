@@ -122,7 +122,19 @@ final class Calls {
 
     static native int asm_journal(long storage, byte[] out, long room, long[] written);
 
+    static native int asm_journal(long storage, long out, long room, long written);
+
     static native int asm_next(long storage, int capacity, long next);
+
+    static native int asm_go_on(long agent, int capacity, long next);
+
+    static native int asm_take(long storage, int number, long agent);
+
+    static native int asm_audit(long audit, long bytes, long len, long taken, long told);
+
+    static native int asm_audited(long audit, long told);
+
+    static native int asm_audit_state(long audit, long out, long room, long written);
 
     static native void asm_free(long slot);
 

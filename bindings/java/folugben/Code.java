@@ -22,7 +22,10 @@ public enum Code {
     BUSY,
     /** There are more than 256 locations, or more than 4,096 instructions. */
     MANY,
-    /** There is no answer, no pushed move or no closed journal yet. */
+    /**
+     * There is no answer, no pushed move, no closed journal or no part yet; an agent's own state
+     * stands at fewer moves than the capacity; or no agent of a number was given back.
+     */
     NONE,
     /** A slot is in use already, which no call here tells. */
     TAKEN,
@@ -40,14 +43,16 @@ public enum Code {
     SHAPE,
     /** A journal has a version that is not known. */
     VERSION,
-    /** The last line of a journal has no end. */
+    /** A journal, or the last part of a run, ends too early. */
     CUT,
     /** An amount, a sum or a number of calls is too large. */
     LARGE,
     /** The agent moved on since the step began. */
     MOVED,
     /** 64 moves are pushed. */
-    DEEP;
+    DEEP,
+    /** A part of a run opens with another state than the one before it leaves. */
+    APART;
 
     private static final Code[] ALL = values();
 

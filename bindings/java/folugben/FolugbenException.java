@@ -5,8 +5,8 @@ package folugben;
  * its numbers. Some codes have a class of their own, which tells more.
  */
 public sealed class FolugbenException extends RuntimeException
-        permits ClashException, DeepException, FullException, LargeException, ManyException,
-                MovedException, RetryException {
+        permits AuditException, ClashException, DeepException, FullException, LargeException,
+                ManyException, MovedException, RetryException {
     private static final long serialVersionUID = 1;
 
     /** The number of {@link Code#DONE}. */
@@ -55,6 +55,8 @@ public sealed class FolugbenException extends RuntimeException
     public static final int MOVED = 21;
     /** The number of {@link Code#DEEP}. */
     public static final int DEEP = 22;
+    /** The number of {@link Code#APART}. */
+    public static final int APART = 23;
 
     /** The number of its code. */
     private final int code;
@@ -86,7 +88,7 @@ public sealed class FolugbenException extends RuntimeException
         return switch (reply.code()) {
             case STALE -> new StaleException(reply.answer());
             case CLASH -> new ClashException(reply.answer());
-            case FULL -> new FullException();
+            case FULL -> reply.isOfRun() ? PartException.full() : new FullException();
             case BUSY -> new BusyException(reply.from(), reply.to());
             default -> of(reply.code(), 0, "", "");
         };
@@ -140,7 +142,7 @@ public sealed class FolugbenException extends RuntimeException
     }
 
     /** What the number of a code counts; null where a code has none. */
-    private static String numberName(int code) {
+    static String numberName(int code) {
         switch (code) {
             case MISSING:
                 return "move";

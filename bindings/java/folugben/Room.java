@@ -16,10 +16,10 @@ final class Room {
     /** Where calls write the length of a text, numbers, and a value's kind and number. */
     private static final int WRITTEN = 0;
     private static final int NUMBERS = 8;
-    private static final int KIND = 24;
-    private static final int NUMBER = 32;
+    private static final int KIND = 32;
+    private static final int NUMBER = 40;
     /** Where the text begins that a call is passed; behind it is the room for what it writes. */
-    private static final int TEXT = 40;
+    private static final int TEXT = 48;
 
     /** The kinds of values that calls without text tell. */
     static final int UNDEF = 0;
@@ -61,10 +61,15 @@ final class Room {
 
     /** The code of the call, which is made again where the room for its text was too small. */
     int make(byte[] text, Call call) {
-        begin = TEXT + text.length;
-        for (long size = (long) begin + Calls.ROOM;; size = begin + bytes.getLong(WRITTEN)) {
+        return make(text, 0, text.length, call);
+    }
+
+    /** The same of a text that is a part of an array. */
+    int make(byte[] text, int offset, int length, Call call) {
+        begin = TEXT + length;
+        for (long size = (long) begin + Calls.ROOM;; size = begin + written()) {
             reserve(size);
-            bytes.put(TEXT, text);
+            bytes.put(TEXT, text, offset, length);
             int code = call.make(at + TEXT, at + begin, bytes.capacity() - begin, at + WRITTEN);
             if (code != FolugbenException.SMALL)
                 return code;
@@ -89,7 +94,7 @@ final class Room {
 
     /** The text that the last call wrote, which is said to write one. */
     String text() {
-        int length = (int) bytes.getLong(WRITTEN);
+        int length = (int) written();
         if (length == 0)
             return "";
         byte[] text = new byte[length];
@@ -97,7 +102,17 @@ final class Room {
         return new String(text, StandardCharsets.UTF_8);
     }
 
-    /** The address of three numbers of 32 bits. */
+    /** The same as bytes, which stay until the next call. */
+    ByteBuffer textBytes() {
+        return bytes.slice(begin, (int) written());
+    }
+
+    /** The length of the text that the last call wrote, or what else it has written there. */
+    long written() {
+        return bytes.getLong(WRITTEN);
+    }
+
+    /** The address of three numbers, of 32 or of 64 bits. */
     long numbers() {
         return at + NUMBERS;
     }
@@ -105,6 +120,11 @@ final class Room {
     /** The number that the last call wrote there, as the first, the second or the third one. */
     int number(int index) {
         return bytes.getInt(NUMBERS + Integer.BYTES * index);
+    }
+
+    /** The same of 64 bits. */
+    long wide(int index) {
+        return bytes.getLong(NUMBERS + Long.BYTES * index);
     }
 
     /** The address of a value. */

@@ -54,6 +54,7 @@ public final class Step implements AutoCloseable {
 
     private void end() {
         agent.slot.giveStep(slot, this);
+        agent.endStep();
     }
 
     private boolean isOver() {
@@ -62,6 +63,7 @@ public final class Step implements AutoCloseable {
 
     /** The slot of a step that isn't over. */
     private Slot slot() {
+        agent.expectGoing();
         if (isOver())
             throw FolugbenException.closed("the step is over: it was fired or closed");
         return slot;
@@ -72,6 +74,11 @@ public final class Step implements AutoCloseable {
         return number;
     }
 
+    /** The agent that began it. */
+    Agent agent() {
+        return agent;
+    }
+
     /** A call on an agent and a step that is passed a text and tells one. */
     private interface Call {
         int call(long agent, long step, long text, long len, long out, long room,
@@ -79,6 +86,11 @@ public final class Step implements AutoCloseable {
     }
 
     private Calls.Told told(Call call, byte[] text) {
+        Interleave.turn();
+        return toldAtTurn(call, text);
+    }
+
+    private Calls.Told toldAtTurn(Call call, byte[] text) {
         synchronized (agent.slot) {
             long step = slot().at;
             Calls.Told told = room.told(text,
@@ -129,6 +141,7 @@ public final class Step implements AutoCloseable {
      *         others
      */
     public Value get(PreparedLocation location) {
+        Interleave.turn();
         synchronized (agent.slot) {
             take(location);
             return room.told();
@@ -142,6 +155,7 @@ public final class Step implements AutoCloseable {
      * @throws IllegalStateException if the value is no number
      */
     public long getNumber(PreparedLocation location) {
+        Interleave.turn();
         synchronized (agent.slot) {
             take(location);
             return room.kind() == Room.NUM ? room.number() : room.told().asLong();
@@ -154,6 +168,7 @@ public final class Step implements AutoCloseable {
      * @throws IllegalStateException if the value is no boolean
      */
     public boolean getBoolean(PreparedLocation location) {
+        Interleave.turn();
         synchronized (agent.slot) {
             take(location);
             return room.kind() == Room.BOOL ? room.number() != 0 : room.told().asBoolean();
@@ -166,6 +181,7 @@ public final class Step implements AutoCloseable {
      * @throws IllegalStateException if the value is no text
      */
     public String getText(PreparedLocation location) {
+        Interleave.turn();
         synchronized (agent.slot) {
             take(location);
             return room.kind() == Room.STRING ? room.text() : room.told().asText();
@@ -286,12 +302,13 @@ public final class Step implements AutoCloseable {
     private void grow(MoveCall call, Call textCall, Move move) {
         Objects.requireNonNull(move, "move");
         Calls.Told told;
+        Interleave.turn();
         synchronized (agent.slot) {
             long step = slot().at;
             synchronized (move.slot) {
                 move.expectOpen();
                 told = move.size() == 0
-                        ? told(textCall, NO_INSTRUCTIONS)
+                        ? toldAtTurn(textCall, NO_INSTRUCTIONS)
                         : room.told((text, out, length, written)
                                             -> call.call(agent.slot.at, step, move.slot.at, out,
                                                     length, written));
@@ -332,6 +349,7 @@ public final class Step implements AutoCloseable {
      * @throws FolugbenException MANY if more than 256 locations would be named
      */
     public Agent.Reply tryFire() {
+        Interleave.turn();
         synchronized (agent.slot) {
             return agent.reply(commit(), true);
         }

@@ -2,6 +2,7 @@ package folugben;
 
 import java.io.IOException;
 import java.io.UncheckedIOException;
+import java.nio.ByteBuffer;
 import java.nio.file.Files;
 import java.nio.file.Path;
 import java.util.ArrayList;
@@ -18,7 +19,7 @@ import java.util.SortedMap;
  * each number.
  */
 public final class Storage implements AutoCloseable {
-    private static final int AGENTS = 256;
+    static final int AGENTS = 256;
     private static final int CAPACITY = 1_048_576;
 
     /** The storage's slot, and the lock of the calls on it. */
@@ -73,7 +74,7 @@ public final class Storage implements AutoCloseable {
         return new Storage(JsonWriter.state(init, "init"), capacity, journal);
     }
 
-    private static void expectCapacity(int capacity) {
+    static void expectCapacity(int capacity) {
         if (capacity < 1 || capacity > CAPACITY)
             throw FolugbenException.outOfRange("a capacity is 1 to 1,048,576, not " + capacity);
     }
@@ -87,10 +88,14 @@ public final class Storage implements AutoCloseable {
         return new Storage(JsonWriter.state(init, "init"), capacity);
     }
 
-    /** An agent with this number, 0 to 255, of which none was made before. */
-    public Agent agent(int number) {
+    static void expectNumber(int number) {
         if (number < 0 || number >= AGENTS)
             throw FolugbenException.outOfRange("agent " + number + ": numbers are 0 to 255");
+    }
+
+    /** An agent with this number, 0 to 255, of which none was made before. */
+    public Agent agent(int number) {
+        expectNumber(number);
         Agent agent = new Agent(this, number);
         synchronized (slot) {
             synchronized (agent.slot) {
@@ -98,6 +103,24 @@ public final class Storage implements AutoCloseable {
                 if (code == FolugbenException.NUMBER)
                     throw FolugbenException.numberTaken(number);
                 expect(code);
+            }
+            agents[number] = agent;
+        }
+        return agent;
+    }
+
+    /**
+     * An agent that was given back, taken out again: it goes on where it was, with its number and
+     * what it did. A journal that was closed before is discarded.
+     *
+     * @throws FolugbenException NONE if no agent with this number was given back
+     */
+    public Agent take(int number) {
+        expectNumber(number);
+        Agent agent = new Agent(this, number);
+        synchronized (slot) {
+            synchronized (agent.slot) {
+                expect(Calls.asm_take(slot.at, number, agent.slot.at));
             }
             agents[number] = agent;
         }
@@ -127,12 +150,12 @@ public final class Storage implements AutoCloseable {
             FolugbenException.expect(FolugbenException.OTHER);
         synchronized (slot) {
             synchronized (agent.slot) {
-                take(agent);
+                takeBack(agent);
             }
         }
     }
 
-    private void take(Agent agent) {
+    private void takeBack(Agent agent) {
         int code = Calls.asm_give(slot.at, agent.slot.at);
         if (slot.isFull())
             agent.expect(code);
@@ -146,7 +169,7 @@ public final class Storage implements AutoCloseable {
         synchronized (slot) {
             synchronized (agent.slot) {
                 if (slot.isFull() && agent.slot.isFull())
-                    take(agent);
+                    takeBack(agent);
                 return slot.isFull();
             }
         }
@@ -157,16 +180,30 @@ public final class Storage implements AutoCloseable {
      * every move: where an agent that fired was abandoned, MISSING is thrown for good.
      */
     public String closeJournal() {
-        int[] missing = new int[1];
         synchronized (slot) {
-            int code = Calls.asm_close(slot.at, missing);
-            if (code == FolugbenException.MISSING)
-                throw FolugbenException.missing(missing[0], whoIsOut(missing[0]));
-            expect(code);
+            closeAll();
             return Calls.text((out, room, written)
                                       -> Calls.asm_journal(slot.at, out, room, written),
                     Calls.ROOM);
         }
+    }
+
+    /** The same as bytes in the room, which stay there until its next call. */
+    ByteBuffer closeJournal(Room room) {
+        synchronized (slot) {
+            closeAll();
+            expect(room.make((text, out, length, written)
+                                     -> Calls.asm_journal(slot.at, out, length, written)));
+            return room.textBytes();
+        }
+    }
+
+    private void closeAll() {
+        int[] missing = new int[1];
+        int code = Calls.asm_close(slot.at, missing);
+        if (code == FolugbenException.MISSING)
+            throw FolugbenException.missing(missing[0], whoIsOut(missing[0]));
+        expect(code);
     }
 
     /** Which agents that fired have to be given back, with the lock of the slot. */
@@ -209,6 +246,19 @@ public final class Storage implements AutoCloseable {
         synchronized (slot) {
             synchronized (next.slot) {
                 expect(Calls.asm_next(slot.at, capacity, next.slot.at));
+            }
+        }
+        return next;
+    }
+
+    /** The storage that goes on from the agent's own state. */
+    static Storage behind(Agent agent, int capacity) {
+        expectCapacity(capacity);
+        Storage next = new Storage((Path) null);
+        synchronized (agent.slot) {
+            synchronized (next.slot) {
+                int code = Calls.asm_go_on(agent.slot.at, capacity, next.slot.at);
+                agent.expect(code);
             }
         }
         return next;

@@ -98,7 +98,7 @@ final class KindTests {
                 throw new IllegalStateException(error);
             }
         }
-        equal(Code.values().length, FolugbenException.DEEP + 1);
+        equal(Code.values().length, FolugbenException.APART + 1);
         try (Storage storage = Storage.open(INIT, 8); Agent agent = storage.agent(0)) {
             equal(agent.tryFire("[]", "[]").kind(), Code.DONE);
             equal(agent.tryFire(List.of(Instruction.add(X, 2)), List.of()).kind(), Code.CLASH);

@@ -224,5 +224,10 @@ public final class Test {
         PlainTests.all();
         ScopeTests.all();
         OddTests.all();
+        AuditTests.all();
+        TurnTests.all();
+        RunTests.all();
+        RunEndTests.all();
+        ResumeTests.all();
     }
 }

@@ -1,0 +1,39 @@
+package folugben;
+
+/**
+ * What an audit tells of a run that isn't legal, or isn't whole: the first wrong answer as ILLEGAL,
+ * the first fault as NOT_JSON, SHAPE, VERSION, CUT or APART, and as LARGE a line of more than
+ * 16,777,216 bytes.
+ */
+public final class AuditException extends FolugbenException {
+    private static final long serialVersionUID = 1;
+
+    /** The number of the part. */
+    private final long part;
+
+    AuditException(int code, long part, long number) {
+        super(code, number, code == LARGE ? "a line of more than 16,777,216 bytes" : "",
+                "part " + part + place(code, number), null);
+        this.part = part;
+    }
+
+    private static String place(int code, long number) {
+        String name = numberName(code);
+        return name == null ? "" : ", " + name + " " + number;
+    }
+
+    /** The number of the part that is at fault, from 0. */
+    public long part() {
+        return part;
+    }
+
+    /** Of ILLEGAL the number of the call in its part, from 0; else -1. */
+    public long call() {
+        return code() == ILLEGAL ? number() : -1;
+    }
+
+    /** Of NOT_JSON and SHAPE the number of the line in its part, from 1; else 0. */
+    public long line() {
+        return code() == NOT_JSON || code() == SHAPE ? number() : 0;
+    }
+}

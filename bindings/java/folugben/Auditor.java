@@ -1,0 +1,201 @@
+package folugben;
+
+import java.io.IOException;
+import java.io.InputStream;
+import java.io.UncheckedIOException;
+import java.nio.file.Files;
+import java.nio.file.Path;
+import java.util.Objects;
+import java.util.SortedMap;
+
+/**
+ * An audit of a run of any length, as its bytes come: parts, each a whole journal, one behind the
+ * other, each of which opens with the state that the one before it leaves. It holds that state and
+ * one line, and tells the first wrong answer at once.
+ *
+ * <p>Any thread may call it, in one call at a time. Nothing is released by the garbage collector;
+ * call close().
+ *
+ * <pre>{@code
+ * try (Auditor auditor = new Auditor()) {
+ *     Auditor.Counts told = auditor.feed(Path.of("run.journal"));
+ *     auditor.end(); // throws an AuditException where the last part isn't whole
+ * }
+ * }</pre>
+ */
+public final class Auditor implements AutoCloseable {
+    private static final int PIECE = 1 << 16;
+    private static final byte[] NOTHING = {};
+
+    private final Slot slot = new Slot();
+    private final Room room = new Room();
+    private Counts counts = new Counts(0, 0, 0);
+    private long taken;
+
+    /** An audit to which nothing was fed. */
+    public Auditor() {
+        synchronized (slot) {
+            take(NOTHING, 0, 0);
+        }
+    }
+
+    /**
+     * The numbers of an audit: how many parts are whole, and how many calls were judged and moves
+     * fired in all parts.
+     */
+    public record Counts(long parts, long calls, long moves) {}
+
+    /**
+     * The numbers of the run in a file, which is whole and legal.
+     *
+     * @throws AuditException if it isn't
+     * @throws UncheckedIOException if the file can't be read
+     */
+    public static Counts audit(Path run) {
+        try (Auditor auditor = new Auditor()) {
+            auditor.feed(run);
+            return auditor.end();
+        }
+    }
+
+    /**
+     * Takes the next bytes, any number of them, and tells the numbers so far.
+     *
+     * @throws AuditException for the first wrong answer, and for the first fault; the bytes before
+     *         the one at which it is seen, the line feed of its line, were taken
+     * @throws OutOfMemoryError if memory is short; feed those that weren't {@link #taken} again
+     */
+    public Counts feed(byte[] bytes) {
+        return feed(Objects.requireNonNull(bytes, "bytes"), 0, bytes.length);
+    }
+
+    /** The same of so many bytes of the array, from an offset on. */
+    public Counts feed(byte[] bytes, int offset, int length) {
+        Objects.checkFromIndexSize(offset, length, Objects.requireNonNull(bytes, "bytes").length);
+        synchronized (slot) {
+            expectOpen();
+            for (int at = offset; at < offset + length; at += PIECE)
+                take(bytes, at, Math.min(PIECE, offset + length - at));
+            return counts;
+        }
+    }
+
+    /** To be called with its lock, as those below. */
+    private void take(byte[] bytes, int at, int length) {
+        int code = asked(bytes, at, length);
+        taken += room.written();
+        Counts told = told();
+        if (code != FolugbenException.DONE && asked(NOTHING, 0, 0) == FolugbenException.DONE)
+            counts = told();
+        expect(code, told);
+        counts = told;
+    }
+
+    private int asked(byte[] bytes, int at, int length) {
+        return room.make(bytes, at, length,
+                (text, out, size, written)
+                        -> Calls.asm_audit(slot.at, text, length, written, room.numbers()));
+    }
+
+    private Counts told() {
+        return new Counts(room.wide(0), room.wide(1), room.wide(2));
+    }
+
+    private void expect(int code, Counts told) {
+        switch (code) {
+            case FolugbenException.DONE, FolugbenException.MEMORY -> FolugbenException.expect(code);
+            // Of such a line no number is told; those of the audit are these.
+            case FolugbenException.LARGE -> throw new AuditException(code, counts.parts(), 0);
+            default -> throw new AuditException(code, told.parts(), told.calls());
+        }
+    }
+
+    private void expectOpen() {
+        if (!slot.isFull())
+            throw FolugbenException.closed("the auditor was closed");
+    }
+
+    /**
+     * Takes what comes from a stream until that ends, as feed of bytes does; the stream isn't
+     * closed.
+     *
+     * @throws UncheckedIOException if it can't be read
+     */
+    public Counts feed(InputStream stream) {
+        Objects.requireNonNull(stream, "stream");
+        byte[] piece = new byte[PIECE];
+        try {
+            for (int length; (length = stream.read(piece)) >= 0;) feed(piece, 0, length);
+        } catch (IOException fault) {
+            throw new UncheckedIOException(fault);
+        }
+        return counts();
+    }
+
+    /** Takes the bytes of a file, as feed of a stream does. */
+    public Counts feed(Path file) {
+        try (InputStream stream = Files.newInputStream(file)) {
+            return feed(stream);
+        } catch (IOException fault) {
+            throw new UncheckedIOException(fault);
+        }
+    }
+
+    /** How many bytes were taken of all that were fed. */
+    public long taken() {
+        synchronized (slot) {
+            return taken;
+        }
+    }
+
+    /** The numbers so far, of the bytes that were taken. */
+    public Counts counts() {
+        synchronized (slot) {
+            return counts;
+        }
+    }
+
+    /**
+     * The numbers of the run, if no further byte comes: it is whole and legal. Further bytes may
+     * come nevertheless.
+     *
+     * @throws AuditException CUT or NOT_JSON if its last part or line isn't whole
+     */
+    public Counts end() {
+        synchronized (slot) {
+            expectOpen();
+            int code = Calls.asm_audited(slot.at, room.numbers());
+            expect(code, told());
+            return told();
+        }
+    }
+
+    /**
+     * The state [PAIR, ..] that the moves so far leave.
+     *
+     * @throws FolugbenException NONE if no part has begun
+     */
+    public String state() {
+        synchronized (slot) {
+            expectOpen();
+            Calls.Told told = room.told(
+                    (text, out, length, written)
+                            -> Calls.asm_audit_state(slot.at, out, length, written));
+            FolugbenException.expect(told.code());
+            return told.text();
+        }
+    }
+
+    /** The same as objects: the locations that aren't empty with their values, in order. */
+    public SortedMap<Location, Value> values() {
+        return JsonReader.state(state());
+    }
+
+    /** Releases it. */
+    @Override
+    public void close() {
+        synchronized (slot) {
+            Calls.asm_free(slot.at);
+        }
+    }
+}

@@ -1,0 +1,119 @@
+package folugben;
+
+/**
+ * A part of a run: a storage, and which agents are out in it. It is over once the next part is
+ * there, once it is to end at rest, or once the run ends; no agent is taken in it from then on. It
+ * is whole once it is over and all agents came back.
+ *
+ * <p>Its lock is taken after that of an agent of the run, and before those of slots.
+ */
+final class Part {
+    /** Its number in the file, from 0. */
+    final long number;
+    /** How many moves the parts before it have. */
+    final long before;
+    final Storage storage;
+    final int capacity;
+
+    private final Run run;
+    private final boolean[] isOut = new boolean[Storage.AGENTS];
+    private final boolean[] wasMade = new boolean[Storage.AGENTS];
+    private int out;
+    private volatile long vain;
+    private volatile boolean isOver;
+    private volatile Part next;
+
+    Part(Run run, Storage storage, int capacity, long number, long before) {
+        this.run = run;
+        this.storage = storage;
+        this.capacity = capacity;
+        this.number = number;
+        this.before = before;
+    }
+
+    /** An agent with this number, which is out from then on; null where the part is over. */
+    synchronized Agent take(int own) {
+        if (isOver)
+            return null;
+        Agent taken = wasMade[own] ? storage.take(own) : storage.agent(own);
+        taken.joins(this);
+        wasMade[own] = true;
+        isOut[own] = true;
+        out++;
+        return taken;
+    }
+
+    /** Tells that the agent with this number came back, or was abandoned. */
+    void back(int own) {
+        synchronized (this) {
+            if (!isOut[own])
+                return;
+            isOut[own] = false;
+            out--;
+        }
+        endStep();
+    }
+
+    /** Opens the next part with the state of the agent, which stands at all moves of this one. */
+    synchronized void passOn(Agent agent) {
+        if (!isOver)
+            open(agent.goOn(capacity), before + capacity);
+    }
+
+    /** Opens the next part behind this one, which is at rest, and whose journal was closed. */
+    synchronized void goOnAtRest() {
+        int moves = storage.moves();
+        open(storage.next(capacity), before + moves);
+    }
+
+    private void open(Storage storage, long moves) {
+        next = new Part(run, storage, capacity, number + 1, moves);
+        isOver = true;
+        run.goOn(next);
+    }
+
+    /** Counts so many calls that fired nothing. */
+    synchronized void count(int calls) {
+        vain += calls;
+    }
+
+    /** Whether it is over; with too many receipts, as so many moves have one, it is from now on. */
+    boolean isOverWith(int moves) {
+        if (!isOver && moves + vain > run.receipts()) {
+            end();
+            run.wake();
+        }
+        return isOver;
+    }
+
+    /** Has no agent be taken in it any more; the part behind it, if there is one. */
+    synchronized Part end() {
+        isOver = true;
+        return next;
+    }
+
+    /** Whether no agent is taken in it any more. */
+    boolean isOver() {
+        return isOver;
+    }
+
+    /** The part behind it; null where there is none yet. */
+    Part next() {
+        return next;
+    }
+
+    /** Whether it is over and all agents came back. */
+    synchronized boolean isWhole() {
+        return isOver && out == 0;
+    }
+
+    /** Has whoever waits for the agents of a part that is over look again. */
+    void endStep() {
+        if (isOver)
+            run.wake();
+    }
+
+    void expectGoing() {
+        run.expectGoing();
+    }
+}

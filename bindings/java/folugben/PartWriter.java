@@ -1,0 +1,196 @@
+package folugben;
+
+import java.io.IOException;
+import java.io.UncheckedIOException;
+import java.nio.ByteBuffer;
+
+/**
+ * A thread that closes the parts of a run, one after the other, writes their journals to its file,
+ * and releases them. Its lock is taken last of all, and it holds none while it asks for another.
+ */
+final class PartWriter {
+    /** How many parts are over and not written before agents wait, but the one that is next. */
+    private static final int BEHIND = 1;
+    /** How long an agent may stay, in ms, in a step of a part that is full, or ends at rest. */
+    private static final long FULL = 100;
+    private static final long AT_REST = 1000;
+
+    private final Run run;
+    private final RunFile file;
+    private final Room room = new Room();
+    private final FreeMemory free = new FreeMemory();
+    private final Thread thread = new Thread(this::work, "folugben run");
+
+    /** The oldest part that isn't written, which this thread alone changes. */
+    private volatile Part head;
+    private volatile long parts;
+    private volatile long moves;
+    /** All below with the lock of this. How often something has changed that may be waited for. */
+    private long changes;
+    private boolean isClosing;
+    private boolean isDone;
+
+    PartWriter(Run run, RunFile file, Part first) {
+        this.run = run;
+        this.file = file;
+        head = first;
+        parts = first.number;
+        moves = first.before;
+        thread.setDaemon(true);
+    }
+
+    void start() {
+        thread.start();
+    }
+
+    /** How many parts the file has. */
+    long parts() {
+        return parts;
+    }
+
+    /** How many moves these have. */
+    long moves() {
+        return moves;
+    }
+
+    /** Has this thread, and all who wait for it, look again. */
+    synchronized void wake() {
+        changes++;
+        notifyAll();
+    }
+
+    /**
+     * Waits until the newest part isn't over and, if so wanted, enough was written, or until the
+     * run has ended.
+     */
+    synchronized void awaitPart(boolean waitsForRoom) {
+        boolean isInterrupted = false;
+        while (run.isGoing() && (run.newest().isOver() || waitsForRoom && isBehind()))
+            isInterrupted |= !awaitChange(0);
+        if (isInterrupted)
+            Thread.currentThread().interrupt();
+    }
+
+    private boolean isBehind() {
+        return run.newest().number - head.number > BEHIND;
+    }
+
+    /** Waits, with the lock, for a change or some ms; whether it wasn't interrupted meanwhile. */
+    private boolean awaitChange(long most) {
+        try {
+            wait(most);
+            return true;
+        } catch (InterruptedException error) {
+            return false;
+        }
+    }
+
+    /** Has all that was fired be written, and waits for that. */
+    synchronized void close() {
+        isClosing = true;
+        wake();
+        boolean isInterrupted = false;
+        while (!isDone) isInterrupted |= !awaitChange(0);
+        if (isInterrupted)
+            Thread.currentThread().interrupt();
+    }
+
+    private synchronized boolean isClosing() {
+        return isClosing;
+    }
+
+    private void work() {
+        try {
+            do awaitWhole();
+            while (write());
+        } catch (Throwable fault) {
+            run.fail(head.number, fault);
+        }
+        try {
+            release();
+        } catch (Throwable fault) {
+            run.fail(head.number, fault);
+        } finally {
+            end();
+        }
+    }
+
+    private synchronized void end() {
+        isDone = true;
+        wake();
+    }
+
+    /** Waits until the part that is next is whole, and takes back who is in no step, or too long. */
+    private void awaitWhole() {
+        long begin = 0;
+        while (true) {
+            long seen = seen();
+            if (isClosing())
+                head.end();
+            if (head.isOver() && begin == 0)
+                begin = System.nanoTime();
+            long patience = head.next() != null ? FULL : AT_REST;
+            long left = patience - (System.nanoTime() - begin) / 1_000_000;
+            if (head.isOver())
+                run.takeBack(head, isClosing(), left <= 0);
+            if (head.isWhole())
+                return;
+            awaitChange(seen, head.isOver() && left > 0 ? left : 0);
+        }
+    }
+
+    private synchronized long seen() {
+        return changes;
+    }
+
+    private synchronized void awaitChange(long seen, long most) {
+        if (changes == seen)
+            awaitChange(most);
+    }
+
+    /** Writes the next part, which is whole; whether a further one comes. */
+    private boolean write() {
+        Part whole = head;
+        ByteBuffer journal = whole.storage.closeJournal(room);
+        boolean isLast = whole.next() == null && isClosing();
+        if (whole.next() == null && !isLast)
+            whole.goOnAtRest();
+        try {
+            if (!isLast || hasEvents(journal))
+                add(whole, journal);
+        } catch (IOException fault) {
+            throw new UncheckedIOException(fault);
+        }
+        if (isLast)
+            return false;
+        whole.storage.close();
+        free.count(journal.limit());
+        head = whole.next();
+        wake();
+        return true;
+    }
+
+    private void add(Part whole, ByteBuffer journal) throws IOException {
+        file.add(journal);
+        Part next = whole.next();
+        moves = next == null ? whole.before + whole.storage.moves() : next.before;
+        parts++;
+    }
+
+    private static boolean hasEvents(ByteBuffer journal) {
+        for (int at = 0; at < journal.limit() - 1; at++)
+            if (journal.get(at) == '\n')
+                return true;
+        return false;
+    }
+
+    /** Releases all that is left, of which nothing is written any more. */
+    private void release() throws IOException {
+        for (Part left = head; left != null; left = left.end()) {
+            left.end();
+            run.drop(left);
+            left.storage.close();
+        }
+        file.close();
+    }
+}

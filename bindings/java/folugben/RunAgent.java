@@ -1,0 +1,302 @@
+package folugben;
+
+import java.util.ArrayList;
+import java.util.List;
+import java.util.Objects;
+import java.util.function.Function;
+
+/**
+ * An agent of a {@link Run}, which goes on by itself from part to part. Any thread may call it;
+ * have no two steps of one agent under way at once, as the first ends where the second goes on in
+ * the next part. Within a step, wait for no other agent.
+ */
+public final class RunAgent implements AutoCloseable {
+    private final Run run;
+    private final int number;
+
+    /** The lock of all below, which is taken before that of a part. No thread that has it waits. */
+    private final Object lock = new Object();
+    /** The agent that is out in a part; null where none is. */
+    private Agent own;
+    private Part part;
+    /** How many of its vain calls the part was told. */
+    private int vain;
+    private long won;
+    /** Whether its last step is by turns, in which time has no part. */
+    private boolean isByTurns;
+    private boolean isClosed;
+
+    RunAgent(Run run, int number) {
+        this.run = run;
+        this.number = number;
+    }
+
+    /** Its number among the agents of the run. */
+    public int number() {
+        return number;
+    }
+
+    /**
+     * The part and the number of the move in it that was fired, from 1 up, and what the rule told.
+     */
+    public record Played<T>(long part, int move, T told) {}
+
+    /** What was looked at: the values of locations after so many moves of a part. */
+    public record Look(long part, Reading reading) {
+        /** Both. */
+        public Look {
+            Objects.requireNonNull(reading, "reading");
+        }
+
+        /** The value of the location, which was looked at. */
+        public Value value(Location location) {
+            return reading.value(location);
+        }
+    }
+
+    /**
+     * Plays the rule on a step and fires it, and begins anew where other agents were quicker or the
+     * part is full, as {@link Agent#play} does.
+     *
+     * @throws RunException if a part of the run couldn't be written
+     */
+    public <T> Played<T> play(Agent.Rule<T> rule) {
+        Objects.requireNonNull(rule, "rule");
+        for (int tries = 0;; tries++) {
+            try (Step step = step()) {
+                Part in = step.agent().part();
+                try {
+                    T told = rule.play(step);
+                    Agent.Reply reply = step.tryFire();
+                    if (!reply.shouldRetry())
+                        return new Played<>(in.number, reply.orThrow(), told);
+                } catch (PartException over) {
+                    if (!in.isOver())
+                        throw over;
+                }
+            }
+            Agent.backOff(tries);
+        }
+    }
+
+    /**
+     * Begins a step on all moves that are found, in the part that isn't over. A fire that finds the
+     * part full by then replies FULL, which asks to begin another step ({@link
+     * Agent.Reply#shouldRetry}), and which fire throws as a {@link PartException}. So do the
+     * step's other calls, once the part has been full for a tenth of a second, or has had too many
+     * receipts for a second.
+     *
+     * @throws RunException if a part of the run couldn't be written
+     */
+    public Step step() {
+        Interleave.turn();
+        return whereOpen(agent -> {
+            isByTurns = Interleave.isPlayed();
+            Step step = agent.begin();
+            if (step.number() < part.capacity && !part.isOverWith(step.number()))
+                return step;
+            step.close();
+            if (step.number() == part.capacity)
+                part.passOn(agent);
+            return null;
+        });
+    }
+
+    /**
+     * The values of the locations, at most 256, as they are after all moves that are found. No
+     * receipt is made: a look isn't in the journal.
+     */
+    public Look look(List<Location> locations) {
+        List<Location> copy = Copies.of(locations, "locations");
+        return whereOpen(agent -> {
+            agent.follow();
+            return new Look(part.number, agent.peek(copy));
+        });
+    }
+
+    /**
+     * All locations that aren't empty with their values, as look tells some; its number is of the
+     * moves of the part.
+     */
+    public Agent.State state() {
+        return whereOpen(agent -> {
+            agent.follow();
+            return agent.state();
+        });
+    }
+
+    /** The same of the locations of one function name alone. */
+    public Agent.State scan(String name) {
+        return whereOpen(agent -> {
+            agent.follow();
+            return agent.scan(name);
+        });
+    }
+
+    /**
+     * Fires the instructions, at most 4,096, which rest on what was looked at, of at most 256
+     * locations; the part and the number of the move.
+     *
+     * @throws FolugbenException as a {@link PartException} where something was looked at in a part
+     *         that is over: look again; as a {@link StaleException}, {@link BusyException} or {@link
+     *         ClashException}; as a {@link ManyException}
+     * @throws RunException if a part of the run couldn't be written
+     */
+    public Played<List<Look>> fire(List<? extends Instruction> instructions, List<Look> looks) {
+        List<Look> rests = Copies.of(looks, "looks");
+        List<Instruction> move = Copies.of(instructions, "instructions");
+        return whereOpen(agent -> {
+            if (part.isOverWith(agent.seen()))
+                return null;
+            Agent.Reply reply = agent.tryFire(move, named(rests));
+            if (reply.code() != FolugbenException.FULL)
+                return new Played<>(part.number, reply.orThrow(), rests);
+            agent.follow();
+            part.passOn(agent);
+            return null;
+        });
+    }
+
+    /** What a fire names in the part that it is in, with the lock. */
+    private List<Named> named(List<Look> looks) {
+        List<Named> named = new ArrayList<>();
+        for (Look look : looks) {
+            if (look.part() != part.number)
+                throw PartException.apart(look.part(), part.number);
+            named.addAll(look.reading().named());
+        }
+        return named;
+    }
+
+    /**
+     * What is done with an agent that is out in a part which isn't over. Where it answers null, the
+     * part is over by then, and it is done in the next one.
+     */
+    private <T> T whereOpen(Function<Agent, T> work) {
+        while (true) {
+            synchronized (lock) {
+                if (isOut()) {
+                    T told = work.apply(own);
+                    if (told != null)
+                        return told;
+                    putBack();
+                }
+            }
+            run.awaitPart();
+        }
+    }
+
+    /** Whether an agent is out in a part that isn't over; one of a part that is over comes back. */
+    private boolean isOut() {
+        run.expectGoing();
+        if (isClosed)
+            throw FolugbenException.closed("the agent was closed");
+        if (own != null) {
+            countVain();
+            if (!part.isOver())
+                return true;
+            putBack();
+        }
+        Part newest = run.newest();
+        Agent taken = newest.take(number);
+        if (taken == null)
+            return false;
+        vain = 0;
+        won -= taken.won();
+        part = newest;
+        own = taken;
+        return true;
+    }
+
+    private void countVain() {
+        int all = own.vain();
+        if (all > vain)
+            part.count(all - vain);
+        vain = all;
+    }
+
+    /** Gives the agent back that is out, if one is. */
+    private void putBack() {
+        if (own == null)
+            return;
+        long fired = own.won();
+        if (own.isHeld())
+            own.give();
+        won += fired;
+        own = null;
+        part.back(number);
+    }
+
+    /**
+     * Gives the agent back that is out in the part, if it isn't in a step, or is too long in one, or
+     * in any case.
+     */
+    void takeBack(Part over, boolean isForced, boolean isLate) {
+        synchronized (lock) {
+            if (own != null && part == over
+                    && (isForced || isLate && !isByTurns || !own.isInStep()))
+                putBack();
+        }
+    }
+
+    /** Releases the agent that is out in the part, of which nothing is written any more. */
+    void drop(Part over) {
+        synchronized (lock) {
+            if (own == null || part != over)
+                return;
+            won += own.won();
+            own.abandon();
+            own = null;
+        }
+    }
+
+    /** Whether it is in a step. */
+    boolean isInStep() {
+        synchronized (lock) {
+            return own != null && own.isInStep();
+        }
+    }
+
+    /** How many moves it fired, in all parts since it was made. */
+    public long won() {
+        synchronized (lock) {
+            return own == null ? won : won + own.won();
+        }
+    }
+
+    /** Looks on; how many moves of all parts it has then seen, of this run and those it resumes. */
+    public long follow() {
+        return whereOpen(agent -> part.before + agent.follow());
+    }
+
+    boolean isClosed() {
+        synchronized (lock) {
+            return isClosed;
+        }
+    }
+
+    /**
+     * Releases the agent <b>without</b> giving it back. Where it fired a move in the part that it is
+     * in, that part can't be written, which ends the run.
+     */
+    public void abandon() {
+        synchronized (lock) {
+            isClosed = true;
+            if (own == null)
+                return;
+            won += own.won();
+            own.abandon();
+            own = null;
+            part.back(number);
+        }
+    }
+
+    /** Gives it back to the run; it may be called again. A step that is under way ends. */
+    @Override
+    public void close() {
+        synchronized (lock) {
+            putBack();
+            isClosed = true;
+        }
+    }
+}

@@ -1,0 +1,21 @@
+package folugben_engine;
+
+import folugben.Location;
+import folugben.Value;
+import java.util.List;
+import java.util.Map;
+
+/** An opening state, the programs of agents, and what holds in each state. */
+public interface Machine {
+    /** The opening state. */
+    Map<Location, ?> init();
+
+    /** A program for each agent. */
+    List<Program> programs();
+
+    /** Whether what is to hold does so in a state. */
+    boolean holds(Map<Location, Value> state);
+
+    /** What that is, in words. */
+    String claim();
+}

@@ -1,0 +1,209 @@
+package folugben;
+
+import static folugben.Checks.equal;
+import static folugben.Checks.refused;
+import static folugben.Checks.thrown;
+
+import java.io.ByteArrayInputStream;
+import java.io.IOException;
+import java.io.UncheckedIOException;
+import java.nio.charset.StandardCharsets;
+import java.nio.file.Files;
+import java.nio.file.Path;
+import java.util.ArrayList;
+import java.util.List;
+import java.util.Map;
+import java.util.Random;
+
+/** Tests of audits of runs, as their bytes come. */
+final class AuditTests {
+    private static final Location COUNT = Location.of("count");
+
+    private AuditTests() {}
+
+    /** A run of so many parts, each with a read and so many moves. */
+    private static List<String> parts(int parts, int moves) {
+        List<String> journals = new ArrayList<>();
+        Storage storage = Storage.open(Map.of(COUNT, 0), moves);
+        for (int part = 0; part < parts; part++) {
+            try (Agent agent = storage.agent(0)) {
+                agent.read(List.of(COUNT));
+                for (int i = 0; i < moves; i++)
+                    agent.fire(List.of(Instruction.inc(COUNT, 1)), List.of());
+            }
+            journals.add(storage.closeJournal());
+            try (Storage closed = storage) {
+                storage = closed.next(moves);
+            }
+        }
+        storage.close();
+        return journals;
+    }
+
+    private static byte[] bytes(String text) {
+        return text.getBytes(StandardCharsets.UTF_8);
+    }
+
+    static void runsAreToldHoweverTheyCome() {
+        byte[] run = bytes(String.join("", parts(3, 4)));
+        Auditor.Counts all = new Auditor.Counts(3, 15, 12);
+        Random random = new Random(5);
+        for (int most : new int[] {1, 7, 1000}) {
+            try (Auditor auditor = new Auditor()) {
+                equal(auditor.counts(), new Auditor.Counts(0, 0, 0));
+                refused(FolugbenException.NONE, auditor::state);
+                for (int at = 0; at < run.length;) {
+                    int length = Math.min(1 + random.nextInt(most), run.length - at);
+                    auditor.feed(run, at, length);
+                    at += length;
+                    equal(auditor.taken(), (long) at);
+                }
+                equal(auditor.counts(), all);
+                equal(auditor.end(), all);
+                equal(auditor.state(), "[[[\"count\"],12]]");
+                equal(auditor.values(), Map.of(COUNT, Element.of(12)));
+            }
+        }
+    }
+
+    static void filesAndStreamsAreRead() throws IOException {
+        String run = String.join("", parts(2, 3000));
+        Auditor.Counts all = new Auditor.Counts(2, 6002, 6000);
+        Path path = Files.createTempFile("run", ".journal");
+        try (Auditor auditor = new Auditor(); Auditor other = new Auditor()) {
+            Files.writeString(path, run);
+            equal(Auditor.audit(path), all);
+            equal(auditor.feed(path), all);
+            equal(other.feed(new ByteArrayInputStream(bytes(run))), all);
+            equal(other.feed(bytes(run), 0, 0), all);
+        } finally {
+            Files.delete(path);
+        }
+        try {
+            Auditor.audit(path);
+        } catch (UncheckedIOException fault) {
+            return;
+        }
+        throw new IllegalStateException("a file that isn't there is audited");
+    }
+
+    private static AuditException fault(String run) {
+        try (Auditor auditor = new Auditor()) {
+            auditor.feed(bytes(run));
+            auditor.end();
+        } catch (AuditException fault) {
+            return fault;
+        }
+        throw new IllegalStateException("not told as at fault");
+    }
+
+    private static void faultIs(String run, int code, long part, long call, long line, String told) {
+        AuditException fault = fault(run);
+        equal(fault.code(), code);
+        equal(fault.part(), part);
+        equal(fault.call(), call);
+        equal(fault.line(), line);
+        equal(fault.getMessage(), FolugbenException.errorText(code) + told);
+    }
+
+    static void faultsAreToldWithTheirPlace() {
+        List<String> parts = parts(3, 2);
+        String first = parts.get(0);
+        String second = parts.get(1);
+        faultIs("", FolugbenException.CUT, 0, -1, 0, " (part 0)");
+        faultIs(first + second.substring(0, second.length() - 1), FolugbenException.CUT, 1, -1, 0,
+                " (part 1)");
+        faultIs(first + second.replace("\"fired\":2", "\"fired\":1") + parts.get(2),
+                FolugbenException.ILLEGAL, 1, 2, 0, " (part 1, call 2)");
+        faultIs(first + second.replace("\"reply\":{\"fired\":1}", "\"reply\":{"),
+                FolugbenException.NOT_JSON, 1, -1, 3, " (part 1, line 3)");
+        faultIs(first + "7\n", FolugbenException.SHAPE, 1, -1, 1, " (part 1, line 1)");
+        faultIs(first + second.replace("\"version\":2", "\"version\":3"),
+                FolugbenException.VERSION, 1, -1, 0, " (part 1)");
+        faultIs(first + parts.get(2), FolugbenException.APART, 1, -1, 0, " (part 1)");
+        equal(fault(first + parts.get(2)).kind(), Code.APART);
+        faultIs(first + "x".repeat(16_777_217), FolugbenException.LARGE, 1, -1, 0,
+                ": a line of more than 16,777,216 bytes (part 1)");
+    }
+
+    /** What comes before a fault is taken, and is told again for what isn't. */
+    static void faultsStay() {
+        List<String> parts = parts(2, 2);
+        String wrong = parts.get(0) + parts.get(1).replace("\"fired\":2", "\"fired\":1");
+        try (Auditor auditor = new Auditor()) {
+            refused(FolugbenException.ILLEGAL, () -> auditor.feed(bytes(wrong)));
+            equal(auditor.counts(), new Auditor.Counts(1, 5, 3));
+            equal(auditor.taken(), (long) wrong.length() - 1);
+            equal(auditor.values(), Map.of(COUNT, Element.of(3)));
+            refused(FolugbenException.ILLEGAL, () -> auditor.feed(bytes("\n")));
+            refused(FolugbenException.CUT, auditor::end);
+        }
+    }
+
+    static void closedOnesSaySo() {
+        Auditor auditor = new Auditor();
+        auditor.close();
+        auditor.close();
+        String told = FolugbenException.errorText(FolugbenException.EMPTY)
+                + ": the auditor was closed";
+        for (Runnable call : List.<Runnable>of(auditor::end, auditor::state,
+                     () -> auditor.feed(new byte[0]), () -> auditor.feed(new byte[1])))
+            equal(refused(FolugbenException.EMPTY, call).getMessage(), told);
+        Class<? extends RuntimeException> kind = NullPointerException.class;
+        thrown(kind, "bytes", () -> new Auditor().feed((byte[]) null));
+        thrown(IndexOutOfBoundsException.class, "Range [1, 1 + 2) out of bounds for length 2",
+                () -> new Auditor().feed(new byte[2], 1, 2));
+    }
+
+    /** A storage that goes on from an agent's own state, and an agent that is taken out again. */
+    static void agentsGoOnAndAreTaken() {
+        try (Storage storage = Storage.open(Map.of(COUNT, 0), 2); Agent other = storage.agent(1)) {
+            Agent agent = storage.agent(0);
+            List<Instruction> up = List.of(Instruction.inc(COUNT, 1));
+            agent.fire(up, List.of());
+            refused(FolugbenException.NONE, () -> agent.goOn(5));
+            agent.give();
+            refused(FolugbenException.NONE, () -> storage.take(7));
+            refused(FolugbenException.NONE, () -> storage.take(1));
+            refused(FolugbenException.RANGE, () -> storage.take(256));
+            Agent taken = storage.take(0);
+            equal(taken.number(), 0);
+            equal(taken.won(), 1);
+            equal(taken.answer(), "{\"fired\":1}");
+            refused(FolugbenException.NONE, () -> storage.take(0));
+            taken.fire(up, List.of());
+            refused(FolugbenException.NONE, () -> other.goOn(5));
+            other.follow();
+            refused(FolugbenException.RANGE, () -> other.goOn(0));
+            taken.give();
+            equal(refused(FolugbenException.EMPTY, () -> taken.goOn(3)).getMessage(),
+                    FolugbenException.errorText(FolugbenException.EMPTY)
+                            + ": the agent was given back");
+            try (Storage next = other.goOn(3); Agent behind = next.agent(0)) {
+                equal(behind.read(List.of(COUNT)).value(COUNT), Element.of(2));
+                behind.fire(up, List.of());
+                behind.give();
+                other.give();
+                String run = storage.closeJournal() + next.closeJournal();
+                try (Auditor auditor = new Auditor()) {
+                    auditor.feed(bytes(run));
+                    equal(auditor.end(), new Auditor.Counts(2, 4, 3));
+                }
+            }
+        }
+    }
+
+    static void all() {
+        try {
+            runsAreToldHoweverTheyCome();
+            filesAndStreamsAreRead();
+            faultsAreToldWithTheirPlace();
+            faultsStay();
+            closedOnesSaySo();
+            agentsGoOnAndAreTaken();
+        } catch (IOException fault) {
+            throw new UncheckedIOException(fault);
+        }
+        System.out.println("audits");
+    }
+}

@@ -1,0 +1,45 @@
+package folugben;
+
+import java.io.IOException;
+import java.nio.file.Path;
+import java.util.ArrayList;
+import java.util.List;
+
+/** What another process does with a run. */
+final class OtherProcess {
+    private OtherProcess() {}
+
+    /** Starts it with the words of a shell before its own. */
+    static Process start(String before, String what, Path path) throws IOException {
+        List<String> words = new ArrayList<>();
+        words.add(Path.of(System.getProperty("java.home"), "bin", "java").toString());
+        words.add("-XX:-UsePerfData");
+        for (String it : List.of("jna.library.path", "jna.boot.library.path", "folugben.library"))
+            if (System.getProperty(it) != null)
+                words.add("-D" + it + "=" + System.getProperty(it));
+        words.addAll(List.of("-cp", System.getProperty("java.class.path"), "folugben.OtherProcess",
+                what, path.toString()));
+        List<String> shell = new ArrayList<>(List.of("sh", "-c", before + "\"$@\"", "sh"));
+        shell.addAll(words);
+        return new ProcessBuilder(shell).inheritIO().start();
+    }
+
+    private static void play(Path path) throws Exception {
+        try (Run run = Run.open(ResumeTests.opening(), path, 20)) {
+            RunTests.inThreads(run, 4, agent -> ResumeTests.work(agent, 10_000_000));
+        }
+    }
+
+    /** Its first word says what is done, the second is the file. */
+    public static void main(String[] words) throws Exception {
+        Path path = Path.of(words[1]);
+        switch (words[0]) {
+            case "resume" -> {
+                Throwable told = ResumeTests.faultOf(() -> Run.resume(path));
+                System.exit(told.getMessage().endsWith("another run has this file") ? 3 : 4);
+            }
+            case "fill" -> RunEndTests.fill(path);
+            default -> play(path);
+        }
+    }
+}

@@ -1,0 +1,156 @@
+package folugben;
+
+import static folugben.Checks.equal;
+import static folugben.Checks.refused;
+
+import java.io.IOException;
+import java.io.UncheckedIOException;
+import java.nio.charset.StandardCharsets;
+import java.nio.file.Files;
+import java.nio.file.Path;
+import java.nio.file.StandardOpenOption;
+import java.util.List;
+
+/** Tests of how runs end: as they are closed, and where a part can't be written. */
+final class RunEndTests {
+    private static final Location COUNT = Location.of("count");
+
+    private RunEndTests() {}
+
+    /** The end of a run ends what is under way, and loses nothing that was fired. */
+    private static void closedRunsSaySo(Path path) {
+        Run run = RunTests.open(path, 3);
+        RunAgent agent = run.agent(0);
+        RunTests.count(agent);
+        Step step = agent.step();
+        step.push(RunTests.up());
+        run.close();
+        run.close();
+        String told = FolugbenException.errorText(FolugbenException.EMPTY) + ": the run was closed";
+        for (Runnable call : List.<Runnable>of(agent::step, agent::follow, agent::state,
+                     () -> run.agent(1), step::fire, () -> step.get(COUNT), () -> RunTests.count(agent)))
+            equal(refused(FolugbenException.EMPTY, call).getMessage(), told);
+        step.close();
+        agent.close();
+        equal(agent.won(), 1L);
+        equal(RunTests.counted(path, 1), new Auditor.Counts(2, 1, 1));
+    }
+
+    private static RunException fails(Runnable call) {
+        try {
+            call.run();
+        } catch (RunException fault) {
+            return fault;
+        }
+        throw new IllegalStateException("the run hasn't ended");
+    }
+
+    /** Plays until the run has ended. */
+    private static RunException failsInTime(RunAgent agent) {
+        return fails(() -> {
+            while (true) RunTests.count(agent);
+        });
+    }
+
+    private static void toldByAll(Run run, RunException first, List<RunAgent> agents) {
+        for (RunAgent agent : agents)
+            for (Runnable call : List.<Runnable>of(
+                         () -> RunTests.count(agent), agent::step, agent::follow, agent::state)) {
+                RunException told = fails(call);
+                equal(told.part(), first.part());
+                equal(told.getCause(), first.getCause());
+            }
+        equal(fails(() -> run.agent(9)).part(), first.part());
+        equal(fails(run::close).part(), first.part());
+        run.close();
+        agents.forEach(RunAgent::close);
+    }
+
+    /** A part that lacks a move ends the run; what was whole stays. */
+    private static void lostAgentsEndTheRun(Path path) {
+        Run run = RunTests.open(path, 2);
+        RunAgent agent = run.agent(0);
+        RunAgent lost = run.agent(1);
+        for (int i = 0; i < 4; i++) RunTests.count(agent);
+        RunTests.count(lost);
+        lost.abandon();
+        RunException told = failsInTime(agent);
+        equal(told.part(), 3L);
+        equal(((FolugbenException) told.getCause()).kind(), Code.MISSING);
+        equal(told.getMessage(), "part 3 of the run can't be written: "
+                + FolugbenException.errorText(FolugbenException.MISSING)
+                + ": an agent was abandoned (move 1)");
+        toldByAll(run, told, List.of(agent));
+        equal(RunTests.counted(path, 4), new Auditor.Counts(3, 4, 4));
+        try (Run again = Run.resume(path, 2); RunAgent other = again.agent(0)) {
+            equal(RunTests.count(other), new RunAgent.Played<>(3, 1, 4L));
+        }
+        equal(RunTests.counted(path, 5), new Auditor.Counts(4, 5, 5));
+    }
+
+    /** An agent that fired nothing may be abandoned. */
+    private static void lostAgentsThatFiredNothingAreMissedByNone(Path path) {
+        try (Run run = RunTests.open(path, 2); RunAgent agent = run.agent(0)) {
+            RunAgent lost = run.agent(1);
+            lost.follow();
+            lost.abandon();
+            for (int i = 0; i < 4; i++) RunTests.count(agent);
+        }
+        equal(RunTests.counted(path, 4), new Auditor.Counts(3, 4, 4));
+    }
+
+    /** The run of a process whose files can't grow beyond 64 blocks, as on a full disk. */
+    private static void fullDisksEndTheRun(Path path) throws Exception {
+        equal(OtherProcess.start("ulimit -f 64 && exec ", "fill", path).waitFor(), 0);
+        long length = Files.size(path);
+        equal(length > 30_000 && length <= 65_536, true); // a block has 512 bytes, or 1,024
+        Auditor.Counts told = Auditor.audit(path);
+        equal(told.moves(), 10 * (told.parts() - 1));
+    }
+
+    /** What that process does. */
+    static void fill(Path path) {
+        Run run = RunTests.open(path, 10);
+        List<RunAgent> agents = List.of(run.agent(0), run.agent(1));
+        RunTests.count(agents.get(1));
+        RunException told = failsInTime(agents.get(0));
+        equal(told.part(), run.parts());
+        equal(told.getCause() instanceof IOException, true);
+        toldByAll(run, told, agents);
+    }
+
+    /** A step that is under way as the run ends tells it too. */
+    private static void writesThatFailEndTheRun(Path path) throws Exception {
+        Run run = RunTests.open(path, 2);
+        RunAgent agent = run.agent(0);
+        RunAgent other = run.agent(1);
+        for (int i = 0; i < 3; i++) RunTests.count(agent);
+        while (run.parts() < 2) Thread.sleep(1);
+        byte[] whole = Files.readAllBytes(path);
+        Files.writeString(path, "{", StandardOpenOption.APPEND);
+        Step step = other.step();
+        RunException told = failsInTime(agent);
+        equal(told.part(), 2L);
+        equal(told.getCause().getMessage(), path + ": the file was changed by someone else");
+        equal(fails(() -> step.get(COUNT)).part(), 2L);
+        equal(fails(step::fire).part(), 2L);
+        step.close();
+        toldByAll(run, told, List.of(agent, other));
+        equal(Files.readString(path), new String(whole, StandardCharsets.UTF_8) + "{");
+    }
+
+    static void all() {
+        try {
+            for (RunTests.OnFile test : List.<RunTests.OnFile>of(RunEndTests::closedRunsSaySo,
+                         RunEndTests::lostAgentsEndTheRun,
+                         RunEndTests::lostAgentsThatFiredNothingAreMissedByNone,
+                         RunEndTests::fullDisksEndTheRun, RunEndTests::writesThatFailEndTheRun))
+                RunTests.withFile(test);
+        } catch (IOException fault) {
+            throw new UncheckedIOException(fault);
+        } catch (Exception fault) {
+            throw fault instanceof RuntimeException told ? told : new IllegalStateException(fault);
+        }
+        System.out.println("ends of runs");
+    }
+}

@@ -1,0 +1,377 @@
+package folugben;
+
+import static folugben.Checks.equal;
+import static folugben.Checks.refused;
+import static folugben.Checks.refusedAt;
+import static folugben.Checks.thrown;
+
+import java.io.IOException;
+import java.io.UncheckedIOException;
+import java.nio.charset.StandardCharsets;
+import java.nio.file.Files;
+import java.nio.file.Path;
+import java.util.ArrayList;
+import java.util.Collections;
+import java.util.HashSet;
+import java.util.List;
+import java.util.Map;
+import java.util.Set;
+import java.util.concurrent.CountDownLatch;
+import java.util.concurrent.atomic.AtomicReference;
+import java.util.stream.Stream;
+
+/** Tests of runs without end: agents that go on from part to part. */
+final class RunTests {
+    private static final Location COUNT = Location.of("count");
+
+    private RunTests() {}
+
+    /** What is done with the path of a run, whose file isn't there yet. */
+    interface OnFile {
+        void use(Path path) throws Exception;
+    }
+
+    static void withFile(OnFile test) throws Exception {
+        Path folder = Files.createTempDirectory("run");
+        Path path = folder.resolve("run.journal");
+        try {
+            test.use(path);
+        } finally {
+            try (Stream<Path> all = Files.list(folder)) {
+                for (Path left : all.toList()) Files.delete(left);
+            }
+            Files.delete(folder);
+        }
+    }
+
+    static Run open(Path path, int moves) {
+        return Run.open(Map.of(COUNT, 0), path, moves);
+    }
+
+    static Instruction up() {
+        return Instruction.inc(COUNT, 1);
+    }
+
+    static RunAgent.Played<Long> count(RunAgent agent) {
+        return agent.play(step -> {
+            long there = step.get(COUNT).asLong();
+            step.push(Instruction.put(COUNT, there + 1));
+            return there;
+        });
+    }
+
+    /** The numbers of the run in the file, which leaves the state. */
+    static Auditor.Counts audited(Path path, Map<Location, Value> state) {
+        try (Auditor auditor = new Auditor()) {
+            auditor.feed(path);
+            equal(auditor.values(), state);
+            return auditor.end();
+        }
+    }
+
+    static Auditor.Counts counted(Path path, long count) {
+        return audited(path, Map.of(COUNT, Element.of(count)));
+    }
+
+    private static void agentsGoOn(Path path) throws Exception {
+        try (Run run = open(path, 3); RunAgent agent = run.agent(0)) {
+            for (int i = 0; i < 10; i++) {
+                equal(count(agent), new RunAgent.Played<>(1 + i / 3, i % 3 + 1, (long) i));
+                equal(agent.won(), i + 1L);
+            }
+            equal(agent.follow(), 10L);
+            equal(agent.look(List.of(COUNT)).value(COUNT), Element.of(10));
+            equal(agent.state().values(), Map.of(COUNT, Element.of(10)));
+            equal(agent.scan("count").values(), Map.of(COUNT, Element.of(10)));
+            equal(agent.scan("other").values(), Map.of());
+            equal(run.cutOff(), 0L);
+            while (run.parts() < 4) Thread.sleep(1);
+            equal(run.moves(), 9L);
+        }
+        equal(counted(path, 10), new Auditor.Counts(5, 10, 10));
+    }
+
+    /** A run that ends with a full part, and one of nothing at all. */
+    private static void lastPartsAreNotEmpty(Path path) throws IOException {
+        try (Run run = open(path, 3); RunAgent agent = run.agent(0)) {
+            for (int i = 0; i < 6; i++) count(agent);
+            agent.step().close();
+        }
+        equal(counted(path, 6), new Auditor.Counts(3, 6, 6));
+        Files.delete(path);
+        open(path, 3).close();
+        equal(counted(path, 0), new Auditor.Counts(1, 0, 0));
+    }
+
+    interface Work {
+        void play(RunAgent agent);
+    }
+
+    static void inThreads(Run run, int agents, Work work) throws Exception {
+        AtomicReference<Throwable> fault = new AtomicReference<>();
+        List<Thread> threads = new ArrayList<>();
+        for (int i = 0; i < agents; i++) {
+            int number = i;
+            threads.add(new Thread(() -> {
+                try (RunAgent agent = run.agent(number)) {
+                    work.play(agent);
+                } catch (Throwable thrown) {
+                    fault.set(thrown);
+                }
+            }));
+        }
+        threads.forEach(Thread::start);
+        for (Thread thread : threads) thread.join();
+        if (fault.get() != null)
+            throw new IllegalStateException(fault.get());
+    }
+
+    private static void threadsGoOn(Path path) throws Exception {
+        try (Run run = Run.open(Map.of(COUNT, 0), path, 64, 1_000_000)) {
+            inThreads(run, 8, agent -> {
+                for (int i = 0; i < 500; i++) count(agent);
+            });
+        }
+        Auditor.Counts told = counted(path, 4000);
+        equal(told.moves(), 4000L);
+        equal(told.parts(), 64L);
+    }
+
+    /** An agent that does nothing holds up no part, and then finds all that was done. */
+    private static void idleAgentsAreTaken(Path path) throws Exception {
+        try (Run run = open(path, 2); RunAgent idle = run.agent(0); RunAgent agent = run.agent(1)) {
+            count(idle);
+            try (Step step = idle.step()) {
+                equal(step.get(COUNT), Element.of(1));
+            }
+            for (int i = 0; i < 40; i++) count(agent);
+            while (run.parts() < 21) Thread.sleep(1);
+            equal(count(idle).told(), 41L);
+            equal(idle.won(), 2L);
+        }
+        equal(counted(path, 42), new Auditor.Counts(22, 42, 42));
+    }
+
+    private static void isFull(Agent.Reply reply) {
+        equal(reply.kind(), Code.FULL);
+        equal(reply.isOfRun() && reply.shouldRetry(), true);
+        equal(refused(FolugbenException.FULL, reply::orThrow) instanceof PartException, true);
+    }
+
+    /** A step in a part that is full finds that out as it is fired, and in a while in any case. */
+    private static void stepsInFullPartsEnd(Path path) throws Exception {
+        try (Run run = open(path, 3); RunAgent slow = run.agent(0); RunAgent agent = run.agent(1)) {
+            count(slow);
+            try (Step step = slow.step()) {
+                for (int i = 0; i < 3; i++) count(agent);
+                equal(run.parts(), 1L);
+                step.push(up());
+                isFull(step.tryFire());
+            }
+            equal(count(slow), new RunAgent.Played<>(2, 2, 4L));
+            try (Step step = slow.step()) {
+                step.push(up());
+                for (int i = 0; i < 12; i++) count(agent);
+                while (run.parts() < 5) Thread.sleep(1);
+                for (Runnable call : List.<Runnable>of(() -> step.get(COUNT),
+                             () -> step.push(up()), () -> step.scan("count"), step::fire))
+                    equal(refused(FolugbenException.FULL, call) instanceof PartException, true);
+                isFull(step.tryFire());
+            }
+            int[] tries = new int[1];
+            equal(slow.play(step -> {
+                if (tries[0]++ < 2)
+                    for (long parts = run.parts(); run.parts() < parts + 2;) count(agent);
+                step.push(up());
+                return step.get(COUNT).asLong();
+            }).told() > 20, true);
+            equal(tries[0], 3);
+            PartException own = PartException.full();
+            equal(refused(FolugbenException.FULL, () -> slow.play(step -> {
+                throw own;
+            })) == own, true);
+        }
+        Auditor.Counts told = Auditor.audit(path);
+        equal(told.calls(), told.moves() + 1);
+    }
+
+    /** No step and no number goes on in another part than its own. */
+    private static void partsAreApart(Path path) {
+        try (Run run = open(path, 2); RunAgent slow = run.agent(0); RunAgent agent = run.agent(1)) {
+            RunAgent.Look look = slow.look(List.of(COUNT));
+            equal(slow.fire(List.of(Instruction.put(COUNT, 1)), List.of(look)).move(), 1);
+            refused(FolugbenException.STALE,
+                    () -> slow.fire(List.of(Instruction.put(COUNT, 9)), List.of(look)));
+            RunAgent.Look old = slow.look(List.of(COUNT));
+            try (Step step = slow.step()) {
+                step.push(up());
+                count(agent);
+                count(agent);
+                FolugbenException told = refused(FolugbenException.FULL, step::fire);
+                equal(told instanceof PartException && told instanceof RetryException, true);
+                try (Step next = slow.step()) {
+                    equal(next.number(), 1);
+                    equal(next.get(COUNT), Element.of(3));
+                    refused(FolugbenException.FULL, () -> step.get(COUNT));
+                    refused(FolugbenException.FULL, step::fire);
+                }
+            }
+            equal(look.part(), 1L);
+            FolugbenException told = refused(FolugbenException.MOVED,
+                    () -> slow.fire(List.of(Instruction.put(COUNT, 9)), List.of(old)));
+            equal(told instanceof PartException, true);
+            equal(told.getMessage().contains(
+                          "looked at is of part 1 of the run, and the agent is in part 2"),
+                    true);
+            equal(slow.fire(List.of(up()), List.of()), new RunAgent.Played<>(2, 2, List.of()));
+            equal(slow.fire(List.of(up()), List.of()), new RunAgent.Played<>(3, 1, List.of()));
+        }
+    }
+
+    /** Stale tries end a part before it is full, once no agent is in a step. */
+    private static void partsEndAtRest(Path path) throws Exception {
+        try (Run run = Run.open(Map.of(COUNT, 0), path, 1000, 6); RunAgent agent = run.agent(0);
+                RunAgent rival = run.agent(1); RunAgent idle = run.agent(2)) {
+            count(idle);
+            for (int i = 0; i < 3; i++)
+                try (Step step = agent.step()) {
+                    step.get(COUNT);
+                    count(rival);
+                    step.push(Instruction.put(COUNT, 0));
+                    equal(step.tryFire().kind(), Code.STALE);
+                }
+            Step open = rival.step();
+            CountDownLatch isDone = new CountDownLatch(1);
+            Thread thread = new Thread(() -> {
+                equal(count(agent), new RunAgent.Played<>(2, 1, 4L));
+                isDone.countDown();
+            });
+            thread.start();
+            Thread.sleep(30);
+            equal(isDone.getCount(), 1L);
+            equal(open.get(COUNT), Element.of(4));
+            open.push(Instruction.put(COUNT, 4));
+            open.fire();
+            isDone.await();
+            equal(run.parts() <= 2, true);
+            equal(count(idle).part(), 2L);
+        }
+        equal(counted(path, 6), new Auditor.Counts(3, 10, 7));
+    }
+
+    /** One who stays in a step is waited for a second, and then begins anew. */
+    private static void stepsThatLastAreEnded(Path path) throws Exception {
+        try (Run run = Run.open(Map.of(COUNT, 0), path, 1000, 3); RunAgent agent = run.agent(0);
+                RunAgent lasting = run.agent(1)) {
+            Step step = lasting.step();
+            step.push(up());
+            for (int i = 0; i < 3; i++) count(agent);
+            equal(agent.fire(List.of(up()), List.of()).part(), 1L);
+            equal(count(agent), new RunAgent.Played<>(2, 1, 4L));
+            equal(refused(FolugbenException.FULL, () -> step.get(COUNT)) instanceof PartException,
+                    true);
+            isFull(step.tryFire());
+            step.close();
+            equal(count(lasting).told(), 5L);
+        }
+        equal(counted(path, 6).moves(), 6L);
+    }
+
+    private static void contendersEndPartsAtRest(Path path) throws Exception {
+        try (Run run = Run.open(Map.of(COUNT, 0), path, 500, 300)) {
+            inThreads(run, 8, agent -> {
+                for (int i = 0; i < 250; i++) count(agent);
+            });
+        }
+        Auditor.Counts told = counted(path, 2000);
+        equal(told.moves(), 2000L);
+        equal(told.parts() >= 7, true);
+    }
+
+    private static void numbersAreFreedAtTheEnd(Path path) {
+        try (Run run = open(path, 3)) {
+            RunAgent agent = run.agent(7);
+            count(agent);
+            refusedAt(FolugbenException.NUMBER, 0, ": agent 7", () -> run.agent(7));
+            refused(FolugbenException.RANGE, () -> run.agent(256));
+            agent.close();
+            agent.close();
+            equal(refused(FolugbenException.EMPTY, agent::step).getMessage(),
+                    FolugbenException.errorText(FolugbenException.EMPTY)
+                            + ": the agent was closed");
+            try (RunAgent again = run.agent(7)) {
+                equal(again.won(), 0L);
+                for (int i = 1; i < 5; i++)
+                    equal(count(again), new RunAgent.Played<>(1 + i / 3, i % 3 + 1, (long) i));
+                equal(again.won(), 4L);
+            }
+        }
+        equal(counted(path, 5), new Auditor.Counts(3, 5, 5));
+    }
+
+    private static byte[] byTurns(Path path, long seed) throws IOException {
+        Files.deleteIfExists(path);
+        try (Run run = Run.open(Map.of(COUNT, 0), path, 7, 9)) {
+            List<RunAgent> agents = List.of(run.agent(0), run.agent(1), run.agent(2));
+            Interleave.Work<RunAgent, Object> work = agent -> {
+                for (int i = 0; i < 10; i++) count(agent);
+                return null;
+            };
+            Interleave.play(agents, Collections.nCopies(3, work), seed);
+        }
+        return Files.readAllBytes(path);
+    }
+
+    private static void runsGoByTurns(Path path) throws IOException {
+        Set<String> files = new HashSet<>();
+        for (int seed = 0; seed < 10; seed++) {
+            String file = new String(byTurns(path, seed), StandardCharsets.UTF_8);
+            equal(counted(path, 30).moves(), 30L);
+            equal(new String(byTurns(path, seed), StandardCharsets.UTF_8), file);
+            files.add(file);
+        }
+        equal(files.size() > 7, true);
+    }
+
+    private static void argumentsAreLookedAt(Path path) {
+        Class<? extends RuntimeException> kind = NullPointerException.class;
+        thrown(kind, "path", () -> Run.open(Map.of(), null));
+        thrown(kind, "init", () -> Run.open((Map<Location, ?>) null, path));
+        thrown(kind, "path", () -> Run.resume(null));
+        refused(FolugbenException.RANGE, () -> open(path, 0));
+        refused(FolugbenException.RANGE, () -> Run.resume(path, 1_048_577));
+        refused(FolugbenException.NOT_JSON, () -> Run.open("[", path, 5, 9));
+        equal(Files.exists(path), false);
+        try (Run run = open(path, 5); RunAgent agent = run.agent(0)) {
+            thrown(kind, "rule", () -> agent.play(null));
+            thrown(kind, "looks[0] is null",
+                    () -> agent.fire(List.of(), Collections.singletonList(null)));
+            thrown(kind, "locations", () -> agent.look(null));
+            thrown(IllegalStateException.class, "no", () -> agent.play(step -> {
+                step.push(up());
+                throw new IllegalStateException("no");
+            }));
+            refused(FolugbenException.CLASH, () -> agent.play(step -> {
+                step.push(Instruction.put(COUNT, 1), Instruction.put(COUNT, 2));
+                return null;
+            }));
+        }
+    }
+
+    static void all() {
+        try {
+            for (OnFile test : List.<OnFile>of(RunTests::agentsGoOn, RunTests::lastPartsAreNotEmpty,
+                         RunTests::threadsGoOn, RunTests::idleAgentsAreTaken,
+                         RunTests::stepsInFullPartsEnd, RunTests::partsAreApart,
+                         RunTests::partsEndAtRest, RunTests::contendersEndPartsAtRest,
+                         RunTests::stepsThatLastAreEnded, RunTests::numbersAreFreedAtTheEnd, RunTests::runsGoByTurns,
+                         RunTests::argumentsAreLookedAt))
+                withFile(test);
+        } catch (IOException fault) {
+            throw new UncheckedIOException(fault);
+        } catch (Exception fault) {
+            throw fault instanceof RuntimeException told ? told : new IllegalStateException(fault);
+        }
+        System.out.println("runs");
+    }
+}

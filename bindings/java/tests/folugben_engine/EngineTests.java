@@ -1,0 +1,280 @@
+package folugben_engine;
+
+import static folugben_engine.Rules.add;
+import static folugben_engine.Rules.choose;
+import static folugben_engine.Rules.forall;
+import static folugben_engine.Rules.iterate;
+import static folugben_engine.Rules.let;
+import static folugben_engine.Rules.par;
+import static folugben_engine.Rules.raise;
+import static folugben_engine.Rules.remove;
+import static folugben_engine.Rules.seq;
+import static folugben_engine.Rules.skip;
+import static folugben_engine.Rules.update;
+import static folugben_engine.Rules.when;
+
+import folugben.Agent;
+import folugben.Auditor;
+import folugben.Cause;
+import folugben.ClashException;
+import folugben.Code;
+import folugben.Instruction;
+import folugben.Location;
+import folugben.Run;
+import folugben.Step;
+import folugben.Storage;
+import folugben.Value;
+import java.io.BufferedReader;
+import java.io.IOException;
+import java.io.StringReader;
+import java.nio.file.Files;
+import java.nio.file.Path;
+import java.util.ArrayList;
+import java.util.Collections;
+import java.util.List;
+import java.util.Map;
+import java.util.Random;
+import java.util.function.BiFunction;
+import java.util.function.BiPredicate;
+
+/** Tests of the engine: each prints its name, and the first that fails ends the program. */
+public final class EngineTests {
+    private static final Location COUNT = Location.of("count");
+    private static final Location SET = Location.of("s");
+    private static final Map<Location, Object> INIT = Map.of(COUNT, 3, SET, java.util.Set.of(1),
+            f(1), "a", f(2), "b", f(3), "a");
+
+    private EngineTests() {}
+
+    private static Location f(int number) {
+        return Location.of("f", number);
+    }
+
+    private static void equal(Object told, Object wanted) {
+        if (!told.equals(wanted))
+            throw new IllegalStateException("told " + told + ", wanted " + wanted);
+    }
+
+    private static long count(See see) {
+        return see.number(COUNT);
+    }
+
+    private static Rule raised(long by) {
+        return update(COUNT, see -> count(see) + by);
+    }
+
+    /** The values at the locations once the rule has fired on the opening state. */
+    private static List<Object> played(Rule rule, Location... places) {
+        try (Storage storage = Storage.open(INIT, 10); Agent agent = storage.agent(0)) {
+            try (Step step = agent.step()) {
+                rule.play(step);
+                step.fire();
+            }
+            agent.follow();
+            return new ArrayList<>(agent.peek(List.of(places)).values());
+        }
+    }
+
+    private static List<Object> values(Object... values) {
+        List<Object> all = new ArrayList<>();
+        for (Object value : values) all.add(Value.of(value));
+        return all;
+    }
+
+    private static void partsSeeOneState() {
+        Rule swap = par(update(f(1), see -> see.at(f(2))), update(f(2), see -> see.at(f(1))));
+        equal(played(par(swap, add(SET, EngineTests::count), remove(SET, Term.value(1))), f(1),
+                      f(2), SET),
+                values("b", "a", java.util.Set.of(3)));
+        Location g = Location.of("g");
+        equal(played(seq(raised(1), raised(1), update(g, EngineTests::count)), COUNT, g),
+                values(5, 5));
+        equal(played(par(skip(), raise(COUNT, 2), raise(COUNT, 3)), COUNT), values(8));
+    }
+
+    private static void conditionsAndNames() {
+        Location yes = Location.of("yes");
+        Location no = Location.of("no");
+        Location let = Location.of("let");
+        Rule rule = par(
+                when(see -> count(see) == 3, update(yes, Term.value(1)), update(no, Term.value(1))),
+                when(Term.value(false), update(no, Term.value(1))),
+                let(EngineTests::count, three -> update(let, Term.value(three.asLong() + 1))));
+        equal(played(rule, yes, no, let), values(1, null, 4));
+    }
+
+    private static void iterationsEndWithoutUpdates() {
+        Location sum = Location.of("sum");
+        Rule rule = seq(update(sum, Term.value(0)),
+                iterate(let(EngineTests::count,
+                        rest -> when(Term.value(rest.asLong() > 0),
+                                par(raised(-1), update(sum, see -> see.number(sum) + rest.asLong()))))));
+        equal(played(rule, COUNT, sum), values(0, 6));
+        Rule long_ = iterate(when(see -> count(see) < 1000, raised(1)));
+        equal(played(long_, COUNT), values(1000));
+    }
+
+    private static void chosenAndAll() {
+        BiPredicate<Location, Value> isA = (at, value) -> value.asText().equals("a");
+        BiPredicate<Location, Value> isNone = (at, value) -> false;
+        BiFunction<Location, Value, Rule> all =
+                (at, value) -> update(Location.of("all", at.arguments().get(0)), Term.value(true));
+        Location chosen = Location.of("chosen");
+        Location other = Location.of("other");
+        Random random = new Random(4);
+        BiFunction<Location, Value, Rule> mark =
+                (at, value) -> update(chosen, Term.value(at.arguments().get(0)));
+        List<Object> told = new ArrayList<>();
+        for (int times = 0; times < 40; times++)
+            told.add(played(choose(random, "f", isA, mark, skip()), chosen).get(0));
+        equal(told.contains(Value.of(1)) && told.contains(Value.of(3)), true);
+        equal(told.contains(Value.of(2)), false);
+        Rule rule = par(forall("f", isA, all),
+                choose(random, "f", isNone, mark, update(other, Term.value(1))));
+        equal(played(rule, Location.of("all", 1), Location.of("all", 2), Location.of("all", 3),
+                      chosen, other),
+                values(true, null, true, null, 1));
+    }
+
+    private static ClashException clash(Rule rule) {
+        try {
+            played(rule);
+        } catch (ClashException told) {
+            return told;
+        }
+        throw new IllegalStateException("no clash");
+    }
+
+    private static void sequencesBesideOthersAreDryRuns() {
+        Location inner = Location.of("inner");
+        Location beside = Location.of("beside");
+        Rule dry = seq(raised(1), iterate(when(see -> count(see) < 9, raised(2))),
+                update(inner, EngineTests::count));
+        equal(played(par(dry, update(beside, EngineTests::count)), COUNT, inner, beside),
+                values(10, 10, 3));
+        ClashException told = clash(par(dry, seq(raised(0), update(beside, EngineTests::count))));
+        equal(told.at(), COUNT);
+        equal(told.cause(), Cause.TWO);
+        clash(seq(par(raised(1), update(COUNT, Term.value(9))), raised(1)));
+    }
+
+    /** In sequence these come to nothing, but on a number alone. */
+    private static void dryRunsAreRestedOn() {
+        Rule rule = par(seq(raise(COUNT, 1), raise(COUNT, -1)),
+                update(Location.of("g"), Term.value(1)));
+        try (Storage storage = Storage.open(INIT, 10); Agent agent = storage.agent(0);
+                Agent rival = storage.agent(1); Step step = agent.step()) {
+            rule.play(step);
+            equal(step.depth(), 1);
+            rival.fire(List.of(Instruction.put(COUNT, "no number")), List.of());
+            Agent.Reply reply = step.tryFire();
+            equal(reply.kind(), Code.STALE);
+            equal(reply.at(), COUNT);
+        }
+    }
+
+    private static void holdsInEachState(Machine machine, BufferedReader journals, int states) {
+        int[] visited = new int[1];
+        States.each(journals, state -> {
+            visited[0]++;
+            equal(machine.holds(state), true);
+        });
+        equal(visited[0], states);
+    }
+
+    private static void machinesRunOnStorages() {
+        for (Machine machine : List.of(new Bank(8, 10, 1), new Universe(5, 16, 2))) {
+            String journal = Engine.onStorage(machine, 10_000);
+            equal(Storage.check(journal).moves(), 80);
+            holdsInEachState(machine, new BufferedReader(new StringReader(journal)), 81);
+        }
+    }
+
+    private static void machinesRunOnRuns() throws IOException {
+        Path folder = Files.createTempDirectory("engine");
+        for (Machine machine : List.of(new Bank(8, 40, 1), new Universe(8, 40, 2))) {
+            Path path = folder.resolve("run");
+            try (Run run = Run.open(machine.init(), path, 50)) {
+                Engine.onRun(run, machine);
+            }
+            Auditor.Counts told = Auditor.audit(path);
+            equal(told.moves(), 320L);
+            equal(told.parts() >= 8, true);
+            try (BufferedReader journals = Files.newBufferedReader(path)) {
+                holdsInEachState(machine, journals, 320 + (int) told.parts());
+            }
+            Files.delete(path);
+        }
+        Files.delete(folder);
+    }
+
+    private static void conditionsCanFail() {
+        Machine bank = new Bank(2, 1, 1);
+        equal(bank.holds(Map.of(Location.of("account", 0), Value.of(100))), false);
+        equal(bank.holds(Map.of(Location.of("account", 0), Value.of(100), Location.of("account", 1),
+                      Value.of(101))),
+                false);
+        Machine universe = new Universe(1, 1, 1);
+        Map<Location, Value> apart = Map.of(Location.of("made", 0), Value.of(1),
+                Location.of("parent", 0), Value.of("root"), Location.of("parent", 1), Value.of(7));
+        equal(universe.holds(apart), false);
+        equal(universe.holds(Map.of(Location.of("made", 0), Value.of(2), Location.of("parent", 0),
+                      Value.of("root"))),
+                false);
+    }
+
+    private static void seedsAreRepeated() {
+        List<String> journals = new ArrayList<>();
+        for (int seed : new int[] {1, 1, 2}) {
+            Bank bank = new Bank(3, 10, seed);
+            journals.add(Engine.byTurns(bank.init(), bank.programs(), seed));
+            Storage.check(journals.get(journals.size() - 1));
+        }
+        equal(journals.get(0), journals.get(1));
+        equal(journals.get(0).equals(journals.get(2)), false);
+    }
+
+    private static void anErrorOfOneProgramEndsAll() {
+        Program waits = new Program(when(Term.value(false), raised(1)), actor -> false);
+        Program clashes = new Program(
+                par(update(COUNT, Term.value(1)), update(COUNT, Term.value(2))), actor -> false);
+        try (Storage storage = Storage.open(INIT, 10)) {
+            Engine.play(number -> Actor.of(storage.agent(number)), List.of(waits, clashes, waits));
+        } catch (ClashException told) {
+            equal(told.at(), COUNT);
+            return;
+        }
+        throw new IllegalStateException("no clash");
+    }
+
+    /** Each state is visited: the count goes up by one. */
+    private static void statesAreVisited() {
+        Machine counts = new Bank(4, 20, 1);
+        List<Program> programs =
+                Collections.nCopies(4, new Program(raised(1), actor -> actor.won() == 20));
+        List<Long> told = new ArrayList<>();
+        States.each(new BufferedReader(new StringReader(Engine.byTurns(INIT, programs, 5))),
+                state -> told.add(state.get(COUNT).asLong()));
+        equal(told.size(), 81);
+        for (int i = 0; i <= 80; i++) equal(told.get(i), 3L + i);
+        equal(counts.claim().isEmpty(), false);
+    }
+
+    /** Runs all tests. */
+    public static void main(String[] words) throws IOException {
+        partsSeeOneState();
+        conditionsAndNames();
+        iterationsEndWithoutUpdates();
+        chosenAndAll();
+        sequencesBesideOthersAreDryRuns();
+        dryRunsAreRestedOn();
+        System.out.println("rules");
+        machinesRunOnStorages();
+        machinesRunOnRuns();
+        conditionsCanFail();
+        seedsAreRepeated();
+        anErrorOfOneProgramEndsAll();
+        statesAreVisited();
+        System.out.println("machines");
+    }
+}
