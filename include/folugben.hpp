@@ -88,6 +88,23 @@ class missing : public error {
   private:
     std::uint32_t number_;
 };
+// The first thing that is wrong with a run: in which part, and at which call of it (ASM_ILLEGAL, both from 0 up), or at which
+// line of it (ASM_NOT_JSON and ASM_SHAPE, from 1 up; else 0).
+class audit_error : public error {
+  public:
+    audit_error(std::int32_t code, const asm_audit_numbers &told) : error(code, place(code, told)), told_(told) {}
+    std::uint64_t part() const noexcept { return told_.parts; }
+    std::uint64_t call() const noexcept { return code() == ASM_ILLEGAL ? told_.calls : 0; }
+    std::uint64_t line() const noexcept { return code() == ASM_ILLEGAL ? 0 : told_.calls; }
+
+  private:
+    static std::string place(std::int32_t code, const asm_audit_numbers &told) {
+        std::string text = "part " + std::to_string(told.parts);
+        if (code == ASM_ILLEGAL) return text + " call " + std::to_string(told.calls);
+        return told.calls == 0 ? text : text + " line " + std::to_string(told.calls);
+    }
+    asm_audit_numbers told_;
+};
 
 namespace detail {
 
@@ -243,6 +260,7 @@ class instructions {
 };
 
 class agent;
+class storage;
 
 // All that a step gets is of one state; what it pushes is seen by what comes after, and is fired as one move.
 class step {
@@ -414,6 +432,11 @@ class agent {
     // Takes in what the other agent of the same storage has seen.
     void learn(agent &other) { detail::done(of_ == other.of_ ? asm_learn(get(), other.get()) : ASM_OTHER); }
 
+    // A storage for 1 to 1,048,576 moves that goes on where the agent's own is full and the agent has looked on to its end, as
+    // `follow` does: it opens with what all moves leave, and its agents and numbers begin anew. No other agent waits. Else it is
+    // ASM_NONE.
+    storage go_on(std::uint32_t capacity);
+
     // Lets the agent go without giving it back: what it fired is missing in each journal.
     void abandon() noexcept {
         if (slot_) asm_free(get());
@@ -560,6 +583,16 @@ class storage {
         return agent(std::move(slot), shared_);
     }
 
+    // The agent with this number that was given back, to go on where it was; ASM_NONE where none was, or it was taken since. The
+    // journal of an earlier `close` is discarded.
+    agent take(std::uint32_t number) {
+        detail::held slot;
+        std::lock_guard<std::mutex> guard(shared_->lock);
+        detail::done(shared_->give_waiting());
+        detail::done(asm_take(shared_->storage.get(), number, slot.get()));
+        return agent(std::move(slot), shared_);
+    }
+
     std::uint32_t moves() const {
         std::uint32_t moves = 0;
         std::lock_guard<std::mutex> guard(shared_->lock);
@@ -590,8 +623,81 @@ class storage {
     }
 
   private:
+    friend class agent;
     storage() : shared_(std::make_shared<detail::shared>()) {}
     std::shared_ptr<detail::shared> shared_;
+};
+
+inline storage agent::go_on(std::uint32_t capacity) {
+    storage it;
+    detail::done(asm_go_on(get(), capacity, it.shared_->storage.get()));
+    return it;
+}
+
+// Checks a run of any length as its bytes come, in pieces of any size: journals one behind the other, the parts of the run, each
+// of which opens with the state that the one before it leaves. It holds that state and one line. The first fault is told at the
+// line feed of its line, and again by each further call.
+class auditor {
+  public:
+    // Takes the bytes, all of them with ASM_DONE; with any other code `taken` of them. `told` has the numbers so far, or those of
+    // the fault. After ASM_MEMORY the bytes that weren't taken may be passed again.
+    [[nodiscard]] std::int32_t try_feed(std::span<const std::uint8_t> bytes, std::size_t &taken, asm_audit_numbers &told) noexcept {
+        taken = 0;
+        if (fault_ == ASM_DONE) {
+            std::int32_t code = asm_audit(slot_.get(), bytes.data(), bytes.size(), &taken, &told);
+            if (code == ASM_DONE || code == ASM_MEMORY) return code;
+            fault_ = code;
+            at_ = told;
+            if (code == ASM_LARGE) at_.parts = whole_parts(); // which comes without numbers
+        }
+        told = at_;
+        return fault_;
+    }
+    // Throws `audit_error` at the first fault; and std::bad_alloc, after which it isn't known how many bytes were taken.
+    void feed(std::span<const std::uint8_t> bytes) {
+        std::size_t taken = 0;
+        asm_audit_numbers told{};
+        judge(try_feed(bytes, taken, told), told);
+    }
+    void feed(std::string_view bytes) { feed(std::span(detail::bytes(bytes), bytes.size())); }
+
+    // How many parts are whole, how many calls were judged right, and how many moves they fired, in front of a fault too.
+    asm_audit_numbers counts() {
+        std::size_t taken = 0;
+        asm_audit_numbers told{};
+        detail::done(asm_audit(slot_.get(), nullptr, 0, &taken, &told));
+        return told;
+    }
+    // The same of a run that ends here; throws `audit_error` where its last part or line isn't whole. More may be fed.
+    asm_audit_numbers end() {
+        asm_audit_numbers told{};
+        if (fault_ != ASM_DONE) judge(fault_, at_);
+        std::int32_t code = asm_audited(slot_.get(), &told);
+        judge(code == ASM_EMPTY ? std::int32_t(ASM_CUT) : code, told);
+        return told;
+    }
+    // The state [PAIR, ..] that the moves so far leave; ASM_NONE before a part has begun.
+    std::string state_json() {
+        std::string text;
+        auto call = [&](auto *out, auto room, auto *written) { return asm_audit_state(slot_.get(), out, room, written); };
+        std::int32_t code = detail::told(call, text);
+        detail::done(code == ASM_EMPTY ? std::int32_t(ASM_NONE) : code);
+        return text;
+    }
+
+  private:
+    std::uint64_t whole_parts() noexcept {
+        std::size_t taken = 0;
+        asm_audit_numbers told{};
+        return asm_audit(slot_.get(), nullptr, 0, &taken, &told) == ASM_DONE ? told.parts : 0;
+    }
+    static void judge(std::int32_t code, const asm_audit_numbers &told) {
+        if (code == ASM_MEMORY) throw std::bad_alloc();
+        if (code != ASM_DONE) throw audit_error(code, told);
+    }
+    detail::held slot_;
+    std::int32_t fault_ = ASM_DONE;
+    asm_audit_numbers at_{};
 };
 
 } // namespace folugben

@@ -4,9 +4,11 @@
 #include <cstdio>
 #include <cstdlib>
 #include <new>
+#include <span>
 #include <string>
 #include <thread>
 #include <type_traits>
+#include <vector>
 
 namespace {
 
@@ -33,6 +35,7 @@ const char *const COUNT = R"([[["count"],7]])";
 
 static_assert(!std::is_copy_constructible_v<folugben::agent> && std::is_nothrow_move_constructible_v<folugben::agent>);
 static_assert(!std::is_copy_constructible_v<folugben::step> && std::is_move_constructible_v<folugben::step>);
+static_assert(!std::is_copy_constructible_v<folugben::auditor> && std::is_move_constructible_v<folugben::auditor>);
 static_assert(!std::is_convertible_v<std::uint64_t, folugben::operand> && !std::is_convertible_v<double, folugben::operand>);
 
 void steps_fire_as_one_move() {
@@ -136,6 +139,110 @@ void agents_come_back_when_they_are_destroyed() {
     WANTED(REFUSED(folugben::missing, storage.close()).number() == 4);
 }
 
+void storages_go_on_from_agents() {
+    folugben::storage storage(COUNT, 2);
+    folugben::agent agent = storage.make_agent(0);
+    folugben::location count(R"(["count"])");
+    auto raise = [&](folugben::agent &by) {
+        by.play([&](folugben::step &step) { step.push(folugben::instructions().inc(count, 1)); });
+    };
+    raise(agent);
+    WANTED(REFUSED(folugben::error, agent.go_on(5)).code() == ASM_NONE);
+    raise(agent);
+    WANTED(agent.follow() == 2 && REFUSED(folugben::error, agent.go_on(0)).code() == ASM_RANGE);
+    folugben::storage next = agent.go_on(5);
+    folugben::agent later = next.make_agent(0);
+    WANTED(later.peek(count).number() == 9 && next.moves() == 0);
+    raise(later);
+    later.follow();
+    WANTED(later.peek(count).number() == 10 && storage.moves() == 2);
+}
+
+void agents_that_came_back_are_taken() {
+    folugben::storage storage(COUNT, 10);
+    WANTED(REFUSED(folugben::error, storage.take(4)).code() == ASM_NONE);
+    storage.make_agent(4).play([](folugben::step &) {});
+    WANTED(folugben::check(storage.close()).calls == 1);
+    {
+        folugben::agent agent = storage.take(4);
+        WANTED(agent.won() == 1 && REFUSED(folugben::error, storage.take(4)).code() == ASM_NONE);
+        WANTED(REFUSED(folugben::missing, storage.close()).number() == 1);
+        agent.play([](folugben::step &) {});
+    }
+    auto told = folugben::check(storage.close());
+    WANTED(told.is_legal && told.calls == 2 && told.moves == 2);
+}
+
+// Two parts: 2 calls and 2 moves, and 1 call without a move.
+std::string two_parts() {
+    folugben::storage storage(COUNT, 2);
+    auto fill = [&] {
+        folugben::agent agent = storage.make_agent(0);
+        for (int i = 0; i < 2; ++i) agent.play([](folugben::step &step) { step.push_json(R"([["inc",["count"],1]])"); });
+        agent.follow();
+        return agent.go_on(5);
+    };
+    folugben::storage next = fill();
+    next.make_agent(0).read_json(R"([["count"]])");
+    return storage.close() + next.close();
+}
+
+void runs_are_audited_as_their_bytes_come() {
+    const std::string run = two_parts();
+    folugben::auditor auditor;
+    WANTED(REFUSED(folugben::audit_error, auditor.end()).code() == ASM_CUT);
+    WANTED(REFUSED(folugben::error, auditor.state_json()).code() == ASM_NONE && auditor.counts().calls == 0);
+    std::uint64_t lines = 0;
+    for (char byte : run) {
+        auditor.feed(std::string_view(&byte, 1));
+        lines += byte == '\n';
+        WANTED(auditor.counts().parts == (lines < 3 ? 0u : lines < 5 ? 1u : 2u));
+    }
+    asm_audit_numbers told = auditor.end();
+    WANTED(told.parts == 2 && told.calls == 3 && told.moves == 2 && auditor.state_json() == R"([[["count"],9]])");
+    auditor.feed("\"");
+    WANTED(REFUSED(folugben::audit_error, auditor.end()).code() == ASM_NOT_JSON);
+
+    std::vector<std::uint8_t> bytes(run.begin(), run.end());
+    folugben::auditor at_once;
+    at_once.feed(bytes);
+    WANTED(at_once.end().parts == 2);
+    folugben::auditor moved = std::move(at_once);
+    WANTED(moved.end().calls == 3);
+}
+
+void the_first_fault_of_a_run_is_told_with_its_place() {
+    const std::string run = two_parts();
+    auto with = [&](const std::string &from, const char *to) {
+        return std::string(run).replace(run.find(from), from.size(), to);
+    };
+    auto fault = [](const std::string &of) {
+        folugben::auditor auditor;
+        auto told = REFUSED(folugben::audit_error, { auditor.feed(of); auditor.end(); });
+        WANTED(REFUSED(folugben::audit_error, auditor.feed("\n")).code() == told.code());
+        WANTED(REFUSED(folugben::audit_error, auditor.end()).part() == told.part());
+        return told;
+    };
+    auto illegal = fault(with("\"fired\":2", "\"fired\":3"));
+    WANTED(illegal.code() == ASM_ILLEGAL && illegal.part() == 0 && illegal.call() == 1 && illegal.line() == 0);
+    WANTED(std::string(illegal.text()) == "part 0 call 1");
+    auto shape = fault(with("\"read\"", "\"reed\""));
+    WANTED(shape.code() == ASM_SHAPE && shape.part() == 1 && shape.line() == 2 && shape.text() == "part 1 line 2");
+    auto apart = fault(run + run);
+    WANTED(apart.code() == ASM_APART && apart.part() == 2 && apart.text() == "part 2");
+    auto large = fault(run + std::string((1 << 24) + 1, ' '));
+    WANTED(large.code() == ASM_LARGE && large.part() == 2 && large.text() == "part 2");
+    WANTED(!folugben::meaning(ASM_APART).empty() && folugben::meaning(ASM_APART) != folugben::meaning(99));
+
+    folugben::auditor auditor;
+    std::vector<std::uint8_t> bytes(run.begin(), run.end());
+    bytes.insert(bytes.end(), {'[', ']', '\n', '\n'});
+    std::size_t taken = 0;
+    asm_audit_numbers told{};
+    WANTED(auditor.try_feed(bytes, taken, told) == ASM_SHAPE && taken == run.size() + 2 && told.parts == 2 && told.calls == 1);
+    WANTED(auditor.try_feed({}, taken, told) == ASM_SHAPE && taken == 0 && auditor.counts().calls == 3);
+}
+
 void threads_take_agents() {
     folugben::storage storage(R"([[["count"],0]])", 10000);
     std::vector<std::thread> threads;
@@ -162,6 +269,10 @@ int main() {
     stale_and_short_steps_are_played_again();
     refusals_say_what_is_wrong();
     agents_come_back_when_they_are_destroyed();
+    storages_go_on_from_agents();
+    agents_that_came_back_are_taken();
+    runs_are_audited_as_their_bytes_come();
+    the_first_fault_of_a_run_is_told_with_its_place();
     threads_take_agents();
     std::puts("passed");
 }

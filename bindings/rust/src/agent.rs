@@ -4,8 +4,8 @@ use crate::held::{Held, told};
 use crate::instruction::Move;
 use crate::json::{Json, ToJson};
 use crate::prepared::{Prepared, value_of};
-use crate::step::Step;
-use crate::storage::Shared;
+use crate::step::{Holder, Step};
+use crate::storage::{Shared, Storage};
 use crate::sys;
 use crate::value::{Location, Value};
 use std::fmt;
@@ -72,9 +72,15 @@ impl Agent {
 
     /// Looks on, and begins a step on the state that it then sees. [`Error::Memory`] alone comes.
     pub fn step(&mut self) -> Result<Step<'_>, Error> {
+        let number = self.begin()?;
+        Ok(Step { agent: Holder::Own(self), number })
+    }
+
+    /// Looks on, and has its step's slot hold a step at the number that is answered.
+    pub(crate) fn begin(&mut self) -> Result<u32, Error> {
         let mut number = 0;
         done(unsafe { sys::asm_begin(self.slot.at(), self.step.at(), &mut number) })?;
-        Ok(Step { agent: self, number })
+        Ok(number)
     }
 
     /// Begins a step, plays the rule on it and fires it, and begins anew where it was stale, busy, or clashed with what was
@@ -92,7 +98,7 @@ impl Agent {
             let told = rule(&mut step)?;
             match step.fire() {
                 Ok(number) => return Ok((number, told)),
-                Err(Error::Stale(_) | Error::Busy | Error::Clash { .. }) => back_off(tries),
+                Err(error) if error.begins_anew() => back_off(tries),
                 Err(error) => return Err(error.into()),
             }
             tries += 1;
@@ -203,6 +209,22 @@ impl Agent {
         }
     }
 
+    /// Opens a storage for `capacity` moves that goes on where the agent's own is full: its opening state is what all moves
+    /// leave, its agents and numbers begin anew. No journal is needed, and no other agent waits.
+    ///
+    /// [`Error::NotFull`]: the agent's own state stands at fewer moves than its storage has room for. Where it is full,
+    /// [`Agent::follow`] brings the state there. [`Error::Range`]: the capacity is outside 1 to 1,048,576.
+    pub fn go_on(&self, capacity: u32) -> Result<Storage, Error> {
+        let next = Held::empty();
+        match unsafe { sys::asm_go_on(self.slot.at(), capacity, next.at()) } {
+            sys::NONE => Err(Error::NotFull),
+            code => {
+                done(code)?;
+                Storage::of(next)
+            }
+        }
+    }
+
     /// Lets the agent go without giving it back: its moves stand, but its storage can't be closed if it fired any.
     pub fn abandon(self) {
         self.slot.free();
@@ -226,7 +248,8 @@ impl fmt::Debug for Agent {
     }
 }
 
-fn back_off(tries: u32) {
+/// Lets other threads run, the longer the more tries were in vain.
+pub(crate) fn back_off(tries: u32) {
     match tries.checked_sub(TRIES_WITHOUT_SLEEP) {
         None => thread::yield_now(),
         Some(more) => thread::sleep(Duration::from_micros(1 << more.min(LONGEST_SLEEP))),

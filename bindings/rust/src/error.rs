@@ -1,9 +1,10 @@
 //! What calls are refused for.
+use crate::audit::AuditError;
 use crate::held::told;
 use crate::json::{Json, read};
 use crate::sys;
 use crate::value::Location;
-use std::fmt;
+use std::{fmt, io};
 
 /// Why the updates of a location clash.
 #[derive(Clone, Copy, Debug, PartialEq, Eq, Hash)]
@@ -54,7 +55,48 @@ impl fmt::Display for Cause {
     }
 }
 
-/// Why a call wasn't done. Nothing was fired or lost, whichever it is.
+/// Where and why a [`Run`](crate::Run) ended before it was closed. What the parts before this one have stands in the file.
+#[derive(Clone, Debug, PartialEq, Eq)]
+#[non_exhaustive]
+pub struct Ended {
+    /// The number of the part that couldn't be written, as an audit of the file counts parts.
+    pub part: u64,
+    /// Why it couldn't.
+    pub cause: EndCause,
+}
+
+/// Why a part of a [`Run`](crate::Run) couldn't be written.
+#[derive(Clone, Debug, PartialEq, Eq)]
+#[non_exhaustive]
+pub enum EndCause {
+    /// The part's move with this number was fired by an agent that is lost.
+    Missing(u32),
+    /// The file couldn't be written to or flushed to the disk.
+    Write {
+        /// What kind of failure it was.
+        kind: io::ErrorKind,
+        /// What the system said.
+        why: String,
+    },
+    /// No memory for the part's journal.
+    Memory,
+    /// The run was let go while a step was open in the same thread.
+    Dropped,
+}
+
+impl fmt::Display for Ended {
+    fn fmt(&self, f: &mut fmt::Formatter<'_>) -> fmt::Result {
+        write!(f, "the run ended at part {}: ", self.part)?;
+        match &self.cause {
+            EndCause::Missing(number) => write!(f, "the agent that fired its move {number} is lost"),
+            EndCause::Write { why, .. } => f.write_str(why),
+            EndCause::Memory => f.write_str("out of memory"),
+            EndCause::Dropped => f.write_str("it was let go while a step was open"),
+        }
+    }
+}
+
+/// Why a call wasn't done. Nothing was fired or lost, but for [`Error::Ended`].
 #[derive(Clone, Debug, PartialEq, Eq)]
 #[non_exhaustive]
 pub enum Error {
@@ -72,6 +114,10 @@ pub enum Error {
     Busy,
     /// As many moves were fired as the storage's capacity.
     Full,
+    /// The part of a run in which the step began is full: begin again, in the next one.
+    PartFull,
+    /// The agent hasn't looked on to the end of a full storage.
+    NotFull,
     /// Out of memory; the call may be made again.
     Memory,
     /// More than 256 different locations, or more than 4,096 instructions in one move.
@@ -89,11 +135,30 @@ pub enum Error {
     Range,
     /// An agent with this number was made before.
     NumberTaken(u32),
+    /// No agent with this number was given back, or another one has it.
+    NotGiven(u32),
     /// The move with this number has no receipt among the agents that were given back; the agent that fired it was
     /// abandoned, or isn't given back yet.
     Missing(u32),
     /// The agent, or the mark of what it has seen, is of another storage.
     OtherStorage,
+    /// The run can't be closed, as a step of this agent is open in the same thread.
+    InStep(u32),
+    /// The run was closed.
+    Closed,
+    /// The run ended at a part that couldn't be written, and what this part and later ones have is lost.
+    Ended(Ended),
+    /// Another run, of this process or another one, has the file.
+    InUse,
+    /// The file couldn't be opened, read or written to.
+    File {
+        /// What kind of failure it was.
+        kind: io::ErrorKind,
+        /// What the system said.
+        why: String,
+    },
+    /// The file isn't one legal run.
+    Audit(AuditError),
     /// What was passed is beyond the rules of names, sets, bags, lists or moves; the text says where and why.
     Refused(String),
     /// A code of the library that this version doesn't know.
@@ -103,7 +168,12 @@ pub enum Error {
 impl Error {
     /// Whether what was tried is to be begun again, on what other agents have written since.
     pub fn is_retry(&self) -> bool {
-        matches!(self, Error::Stale(_) | Error::Busy)
+        matches!(self, Error::Stale(_) | Error::Busy | Error::PartFull)
+    }
+
+    /// Whether a step that was refused so at its fire is to be begun anew, as a play does.
+    pub(crate) fn begins_anew(&self) -> bool {
+        self.is_retry() || matches!(self, Error::Clash { .. })
     }
 }
 
@@ -114,6 +184,8 @@ impl fmt::Display for Error {
             Error::Clash { at, cause } => write!(f, "the updates clash at {at}: {cause}"),
             Error::Busy => f.write_str("64 offers in a row were lost to other agents"),
             Error::Full => f.write_str("as many moves were fired as the storage has room for"),
+            Error::PartFull => f.write_str("the part of the run is full"),
+            Error::NotFull => f.write_str("the agent hasn't looked on to the end of a full storage"),
             Error::Memory => f.write_str("out of memory"),
             Error::Many => f.write_str("more than 256 locations, or more than 4,096 instructions"),
             Error::Deep => f.write_str("64 moves are pushed already"),
@@ -122,8 +194,15 @@ impl fmt::Display for Error {
             Error::NoJournal => f.write_str("no journal was made since an agent was given back"),
             Error::Range => f.write_str("a number is out of its range"),
             Error::NumberTaken(number) => write!(f, "an agent {number} was made before"),
+            Error::NotGiven(number) => write!(f, "agent {number} wasn't given back, or is in use"),
             Error::Missing(number) => write!(f, "move {number} was fired by an agent that wasn't given back"),
             Error::OtherStorage => f.write_str("the agent is of another storage"),
+            Error::InStep(number) => write!(f, "agent {number} is in a step of this thread"),
+            Error::Closed => f.write_str("the run was closed"),
+            Error::Ended(ended) => ended.fmt(f),
+            Error::InUse => f.write_str("another run has the file"),
+            Error::File { why, .. } => f.write_str(why),
+            Error::Audit(error) => error.fmt(f),
             Error::Refused(why) => f.write_str(why),
             Error::Unknown(code) => f.write_str(&code_text(*code)),
         }
@@ -131,6 +210,25 @@ impl fmt::Display for Error {
 }
 
 impl std::error::Error for Error {}
+
+/// What an audit told through a reader or a writer is [`Error::Audit`] again; else it is [`Error::File`].
+impl From<io::Error> for Error {
+    fn from(error: io::Error) -> Error {
+        match error.downcast::<AuditError>() {
+            Ok(error) => error.into(),
+            Err(error) => Error::File { kind: error.kind(), why: error.to_string() },
+        }
+    }
+}
+
+impl From<AuditError> for Error {
+    fn from(error: AuditError) -> Error {
+        match error {
+            AuditError::Memory => Error::Memory,
+            error => Error::Audit(error),
+        }
+    }
+}
 
 fn code_text(code: i32) -> String {
     let (_, text) = told(|out, room, written| unsafe { sys::asm_error_text(code, out, room, written) });

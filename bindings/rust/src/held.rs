@@ -3,8 +3,10 @@ use crate::sys;
 use std::cell::{Cell, UnsafeCell};
 use std::ptr;
 
-/// What a call writes at most on the stack before it asks how much room it needs.
+/// The room that a thread's first call has for its text.
 const FIRST_ROOM: usize = 1024;
+/// The most room that a thread keeps for its next call.
+const KEPT_ROOM: usize = 64 * FIRST_ROOM;
 
 /// A slot that never moves, and is freed when it is let go.
 pub(crate) struct Held(Box<UnsafeCell<sys::Slot>>);
@@ -51,10 +53,12 @@ pub(crate) fn told(mut call: impl FnMut(*mut u8, usize, *mut usize) -> i32) -> (
         let mut written = 0;
         let code = call(text.as_mut_ptr(), text.len(), &mut written);
         if code != sys::SMALL {
-            let answer = text[..written].to_vec();
-            if text.len() <= 64 * FIRST_ROOM {
-                KEPT.set(text);
+            if text.len() > KEPT_ROOM {
+                text.truncate(written);
+                return (code, text);
             }
+            let answer = text[..written].to_vec();
+            KEPT.set(text);
             return (code, answer);
         }
         text.resize(written, 0);

@@ -33,6 +33,9 @@
 //! }
 //! ```
 //!
+//! A storage has room for so many moves, and its history is in memory. [`Run`] goes on from one to the next by itself, and
+//! writes the history to a file, of which [`audit`](fn@audit) and [`Auditor`] tell whether it is legal, however long it is.
+//!
 //! A step that is moved, an empty slot and a foreign agent's step can't be written: a [`Step`] borrows its [`Agent`].
 //!
 //! ```compile_fail
@@ -47,27 +50,31 @@
 //! # }
 //! ```
 //!
-//! Threads begin and end with the program, and a storage with its last agent: nothing is kept elsewhere. Don't use any of this
-//! in the child of a fork of a process with threads.
+//! But for the thread that writes the parts of a run, no thread is begun; a storage ends with its last agent, and nothing is
+//! kept elsewhere. Don't use any of this in the child of a fork of a process with threads.
 #![warn(clippy::all)]
 
 mod agent;
+mod audit;
 mod error;
 mod held;
 mod instruction;
 mod journal;
 mod json;
 mod prepared;
+mod run;
 mod step;
 mod storage;
 mod sys;
 mod value;
 
 pub use agent::{Agent, Reading};
-pub use error::{Cause, Error};
+pub use audit::{AuditError, Auditor, Counts, audit};
+pub use error::{Cause, EndCause, Ended, Error};
 pub use instruction::{Instruction, Move};
 pub use journal::{Journal, JournalError, Legality, aggregate, compose, version};
 pub use prepared::{Prepared, PreparedMove};
+pub use run::{Run, RunAgent, RunStep};
 pub use step::Step;
 pub use storage::Storage;
 pub use value::{Element, Location, Value};

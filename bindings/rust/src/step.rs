@@ -5,10 +5,29 @@ use crate::held::told;
 use crate::instruction::{Instruction, Move};
 use crate::json::{Json, ToJson};
 use crate::prepared::{Prepared, PreparedMove, value_of};
+use crate::run::Lent;
 use crate::sys;
 use crate::value::{Element, Location, Value};
 use std::fmt;
+use std::ops::Deref;
 use std::slice;
+
+/// The agent that a step works with: one that it borrows, or one that a run has lent it.
+pub(crate) enum Holder<'a> {
+    Own(&'a mut Agent),
+    Lent(Lent<'a>),
+}
+
+impl Deref for Holder<'_> {
+    type Target = Agent;
+
+    fn deref(&self) -> &Agent {
+        match self {
+            Holder::Own(agent) => agent,
+            Holder::Lent(lent) => lent.agent(),
+        }
+    }
+}
 
 /// What an engine does between a look and a fire: it gets values and pushes moves in any order, all of which see one state
 /// and the moves pushed before; and it fires one move that does what these do in turn.
@@ -16,7 +35,7 @@ use std::slice;
 /// It borrows its agent. A step that is let go without [`Step::fire`] has done nothing.
 #[must_use = "a step does nothing until it is fired"]
 pub struct Step<'a> {
-    pub(crate) agent: &'a mut Agent,
+    pub(crate) agent: Holder<'a>,
     pub(crate) number: u32,
 }
 

@@ -91,7 +91,14 @@ impl Storage {
         Storage::of(storage)
     }
 
-    fn of(storage: Held) -> Result<Storage, Error> {
+    /// Opens a storage with the state that the text `[PAIR, ..]` of the library tells.
+    pub(crate) fn open_text(state: &[u8], capacity: u32) -> Result<Storage, Error> {
+        let storage = Held::empty();
+        done(unsafe { sys::asm_open(state.as_ptr(), state.len(), capacity, storage.at()) })?;
+        Storage::of(storage)
+    }
+
+    pub(crate) fn of(storage: Held) -> Result<Storage, Error> {
         let mut waiting = Vec::new();
         // Letting an agent go can't be refused memory.
         waiting.try_reserve_exact(AGENTS).map_err(|_| Error::Memory)?;
@@ -104,13 +111,28 @@ impl Storage {
         let agent = Held::empty();
         let slots = self.shared.slots();
         match unsafe { sys::asm_agent(slots.storage.at(), number, agent.at()) } {
-            sys::DONE => Ok(Agent {
-                slot: ManuallyDrop::new(agent),
-                step: Held::empty(),
-                shared: Arc::clone(&self.shared),
-                number,
-            }),
+            sys::DONE => Ok(self.holder(agent, number)),
             sys::NUMBER => Err(Error::NumberTaken(number)),
+            code => Err(plain(code)),
+        }
+    }
+
+    fn holder(&self, agent: Held, number: u32) -> Agent {
+        let slot = ManuallyDrop::new(agent);
+        Agent { slot, step: Held::empty(), shared: Arc::clone(&self.shared), number }
+    }
+
+    /// Takes the agent with this number out again, which was given back: it goes on where it was, with what it was
+    /// answered. [`Error::NotGiven`]: no agent with this number was given back, or it was taken since.
+    ///
+    /// A journal that was made before is discarded, so [`Storage::next`] needs a further [`Storage::close`].
+    pub fn take(&self, number: u32) -> Result<Agent, Error> {
+        let agent = Held::empty();
+        let mut slots = self.shared.slots();
+        slots.give_waiting()?;
+        match unsafe { sys::asm_take(slots.storage.at(), number, agent.at()) } {
+            sys::DONE => Ok(self.holder(agent, number)),
+            sys::NONE => Err(Error::NotGiven(number)),
             code => Err(plain(code)),
         }
     }

@@ -22,6 +22,14 @@ pub(crate) struct Value {
     pub(crate) number: i64,
 }
 
+#[repr(C)]
+#[derive(Clone, Copy, Default)]
+pub(crate) struct AuditNumbers {
+    pub(crate) parts: u64,
+    pub(crate) calls: u64,
+    pub(crate) moves: u64,
+}
+
 unsafe extern "C" {
     pub(crate) fn asm_error_text(code: i32, out: *mut u8, room: usize, written: *mut usize) -> i32;
     pub(crate) fn asm_version() -> u32;
@@ -151,6 +159,8 @@ unsafe extern "C" {
     pub(crate) fn asm_close(storage: *mut Slot, number: *mut u32) -> i32;
     pub(crate) fn asm_journal(storage: *mut Slot, out: *mut u8, room: usize, written: *mut usize) -> i32;
     pub(crate) fn asm_next(storage: *mut Slot, capacity: u32, next: *mut Slot) -> i32;
+    pub(crate) fn asm_go_on(agent: *mut Slot, capacity: u32, next: *mut Slot) -> i32;
+    pub(crate) fn asm_take(storage: *mut Slot, number: u32, agent: *mut Slot) -> i32;
     pub(crate) fn asm_free(slot: *mut Slot);
     pub(crate) fn asm_check(journal: *const u8, len: usize, calls: *mut u64, moves: *mut u32) -> i32;
     pub(crate) fn asm_replay(
@@ -169,6 +179,15 @@ unsafe extern "C" {
         written: *mut usize,
         line: *mut u64,
     ) -> i32;
+    pub(crate) fn asm_audit(
+        audit: *mut Slot,
+        bytes: *const u8,
+        len: usize,
+        taken: *mut usize,
+        told: *mut AuditNumbers,
+    ) -> i32;
+    pub(crate) fn asm_audited(audit: *mut Slot, told: *mut AuditNumbers) -> i32;
+    pub(crate) fn asm_audit_state(audit: *mut Slot, out: *mut u8, room: usize, written: *mut usize) -> i32;
     pub(crate) fn asm_aggregate(
         state: *const u8,
         state_len: usize,
@@ -202,6 +221,7 @@ pub(crate) const STALE: i32 = 1;
 pub(crate) const CLASH: i32 = 2;
 pub(crate) const MEMORY: i32 = 3;
 pub(crate) const FULL: i32 = 4;
+pub(crate) const EMPTY: i32 = 5;
 pub(crate) const RANGE: i32 = 6;
 pub(crate) const SMALL: i32 = 7;
 pub(crate) const BUSY: i32 = 8;
@@ -217,6 +237,7 @@ pub(crate) const VERSION: i32 = 18;
 pub(crate) const CUT: i32 = 19;
 pub(crate) const LARGE: i32 = 20;
 pub(crate) const DEEP: i32 = 22;
+pub(crate) const APART: i32 = 23;
 
 pub(crate) const KIND_UNDEF: i32 = 0;
 pub(crate) const KIND_BOOL: i32 = 1;

@@ -115,3 +115,45 @@ fn moves_are_composed_and_aggregated_without_a_storage() {
     assert!(matches!(compose(&one, &Move::new().add(count(), 1)), Err(Error::Clash { .. })));
     assert!(matches!(compose(&Move::new().put("no name", 1), &other), Err(Error::Refused(_))));
 }
+
+#[test]
+fn a_storage_goes_on_from_an_agent_that_has_seen_its_full_end() {
+    let storage = Storage::open([(count(), 1.into())], 2).unwrap();
+    let (mut one, other) = (storage.agent(0).unwrap(), storage.agent(1).unwrap());
+    for number in 1..=2 {
+        assert_eq!(one.go_on(5).err(), Some(Error::NotFull));
+        assert_eq!(one.play(|step| step.inc(count(), 1)), Ok((number, ())));
+    }
+    assert_eq!(one.go_on(5).err(), Some(Error::NotFull));
+    assert_eq!(one.follow(), Ok(2));
+    assert_eq!(other.go_on(5).err(), Some(Error::NotFull));
+    assert_eq!(one.go_on(0).err(), Some(Error::Range));
+    let next = one.go_on(5).unwrap();
+    let mut agent = next.agent(0).unwrap();
+    assert_eq!(agent.read(&[count()]).unwrap().values, [Value::from(3)]);
+    assert_eq!(agent.play(|step| step.inc(count(), 1)), Ok((1, ())));
+    assert_eq!((one.seen(), storage.moves(), next.moves()), (2, 2, 1));
+}
+
+#[test]
+fn an_agent_that_was_given_back_is_taken_and_goes_on() {
+    let storage = Storage::open([], 10).unwrap();
+    assert_eq!(storage.take(3).err(), Some(Error::NotGiven(3)));
+    let mut agent = storage.agent(3).unwrap();
+    assert_eq!(storage.take(3).err(), Some(Error::NotGiven(3)));
+    agent.play(|step| step.put(count(), 1)).unwrap();
+    drop(agent);
+    storage.close().unwrap();
+    let mut agent = storage.take(3).unwrap();
+    assert_eq!((agent.number(), agent.won()), (3, 1));
+    assert_eq!(storage.next(5).err(), Some(Error::NoJournal));
+    assert_eq!(storage.close().err(), Some(Error::Missing(1)));
+    agent.play(|step| step.inc(count(), 1)).unwrap();
+    assert_eq!(storage.agent(3).err(), Some(Error::NumberTaken(3)));
+    drop(agent);
+    let journal = storage.close().unwrap();
+    assert_eq!(journal.check(), Ok(Legality::Legal { calls: 2, moves: 2 }));
+    let taken = storage.take(3).unwrap();
+    assert!(storage.give(taken).is_ok());
+    assert_eq!(storage.close().unwrap(), journal);
+}

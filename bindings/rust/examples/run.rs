@@ -1,0 +1,52 @@
+//! A bank for as long as it is told, whose journal goes to a file; it goes on where an earlier run of the file has ended,
+//! also where that was killed: `cargo run --example run -- FILE [SECONDS]`
+use folugben::{Error, Location, Run, RunAgent};
+use std::path::PathBuf;
+use std::thread;
+use std::time::{Duration, Instant};
+use std::{env, fs};
+
+const ACCOUNTS: i64 = 10;
+const AGENTS: u32 = 4;
+const MOVES: u32 = 10_000;
+
+fn account(number: i64) -> Location {
+    Location::new("account").arg(number)
+}
+
+/// Moves money until then.
+fn work(agent: &mut RunAgent, end: Instant) -> Result<(), Error> {
+    let all: Vec<Location> = (0..ACCOUNTS).map(account).collect();
+    for i in (agent.number() as usize..).take_while(|_| Instant::now() < end) {
+        let (from, to) = (&all[i % all.len()], &all[(i + 1 + i % 4) % all.len()]);
+        agent.play(|step| {
+            let moved = step.get(from)?.as_num().unwrap_or(0).min(7);
+            step.inc(from, -moved)?;
+            step.inc(to, moved)
+        })?;
+    }
+    Ok(())
+}
+
+fn main() -> Result<(), Error> {
+    let mut words = env::args().skip(1);
+    let path = PathBuf::from(words.next().unwrap_or_else(|| "bank.run".to_owned()));
+    let seconds = words.next().and_then(|it| it.parse().ok()).unwrap_or(1);
+    let run = match path.exists() {
+        true => Run::resume(&path)?,
+        false => Run::open((0..ACCOUNTS).map(|i| (account(i), 100.into())), &path, MOVES)?,
+    };
+    if run.cut_off() > 0 {
+        println!("{} bytes of a part that wasn't whole are cut off", run.cut_off());
+    }
+    let end = Instant::now() + Duration::from_secs(seconds);
+    thread::scope(|threads| {
+        let works = run.agents(AGENTS)?.into_iter().map(|mut agent| threads.spawn(move || work(&mut agent, end)));
+        let works: Vec<_> = works.collect();
+        works.into_iter().try_for_each(|it| it.join().expect("no thread panics"))
+    })?;
+    let counts = run.close()?;
+    assert_eq!(folugben::audit(fs::File::open(&path)?)?, counts);
+    println!("{}: {counts}, legal", path.display());
+    Ok(())
+}

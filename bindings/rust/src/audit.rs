@@ -1,0 +1,268 @@
+//! The audit of a run of any length.
+use crate::error::{Error, answer, plain};
+use crate::held::{Held, told};
+use crate::journal::JournalError;
+use crate::json::Json;
+use crate::sys;
+use crate::value::{Location, Value};
+use std::{fmt, io};
+
+/// How much of a run there is.
+#[derive(Clone, Copy, Debug, Default, PartialEq, Eq)]
+#[non_exhaustive]
+pub struct Counts {
+    /// How many parts are whole.
+    pub parts: u64,
+    /// How many calls were answered, in all parts.
+    pub calls: u64,
+    /// How many of them fired a move.
+    pub moves: u64,
+}
+
+impl Counts {
+    fn of(told: sys::AuditNumbers) -> Counts {
+        Counts { parts: told.parts, calls: told.calls, moves: told.moves }
+    }
+
+    pub(crate) fn add(&mut self, more: Counts) {
+        self.parts += more.parts;
+        self.calls += more.calls;
+        self.moves += more.moves;
+    }
+}
+
+impl fmt::Display for Counts {
+    fn fmt(&self, f: &mut fmt::Formatter<'_>) -> fmt::Result {
+        write!(f, "{} calls, {} moves, {} parts", self.calls, self.moves, self.parts)
+    }
+}
+
+/// What is wrong with a run, first of all. Parts and calls count from 0, lines from 1 in their part.
+#[derive(Clone, Copy, Debug, PartialEq, Eq)]
+#[non_exhaustive]
+pub enum AuditError {
+    /// The answer of the call isn't the one that a storage of one thread gives there.
+    Illegal {
+        /// The part's number.
+        part: u64,
+        /// The call's number in its part.
+        call: u64,
+    },
+    /// The part is no journal.
+    Journal {
+        /// The part's number.
+        part: u64,
+        /// Why it is none.
+        fault: JournalError,
+    },
+    /// The part opens with another state than the one before it leaves.
+    Apart {
+        /// The part's number.
+        part: u64,
+    },
+    /// A line of the part has more than 16,777,216 bytes.
+    LongLine {
+        /// The part's number.
+        part: u64,
+    },
+    /// Out of memory; nothing was taken, and the same bytes may be written again.
+    Memory,
+}
+
+impl AuditError {
+    /// What a code of the audit tells, but `DONE`, and `LARGE`, which comes without numbers.
+    fn of(code: i32, numbers: sys::AuditNumbers) -> AuditError {
+        let sys::AuditNumbers { parts: part, calls, .. } = numbers;
+        let journal = |fault| AuditError::Journal { part, fault };
+        match code {
+            sys::ILLEGAL => AuditError::Illegal { part, call: calls },
+            sys::NOT_JSON => journal(JournalError::NotJson(calls)),
+            sys::SHAPE => journal(JournalError::Shape(calls)),
+            sys::VERSION => journal(JournalError::Version),
+            sys::CUT => journal(JournalError::Cut),
+            sys::APART => AuditError::Apart { part },
+            _ => AuditError::Memory,
+        }
+    }
+}
+
+impl fmt::Display for AuditError {
+    fn fmt(&self, f: &mut fmt::Formatter<'_>) -> fmt::Result {
+        match self {
+            AuditError::Illegal { part, call } => write!(f, "part {part}: the answer of call {call} is wrong"),
+            AuditError::Journal { part, fault } => write!(f, "part {part}: {fault}"),
+            AuditError::Apart { part } => {
+                write!(f, "part {part} opens with another state than the one before it leaves")
+            }
+            AuditError::LongLine { part } => write!(f, "part {part}: a line of more than 16,777,216 bytes"),
+            AuditError::Memory => f.write_str("out of memory"),
+        }
+    }
+}
+
+impl std::error::Error for AuditError {}
+
+/// The kind is `InvalidData`, or `OutOfMemory`; [`io::Error::downcast`] gives the error back.
+impl From<AuditError> for io::Error {
+    fn from(error: AuditError) -> io::Error {
+        match error {
+            AuditError::Memory => io::Error::new(io::ErrorKind::OutOfMemory, error),
+            error => io::Error::new(io::ErrorKind::InvalidData, error),
+        }
+    }
+}
+
+/// Checks a run of any length as its bytes are written to it, in pieces of any size: journals one behind the other, the
+/// parts of the run, each of which opens with the state that the one before it leaves. It holds that state and one line.
+///
+/// The first fault is told at the line feed of its line, by the writing that would take it (`write_all`, [`io::copy`]), as an
+/// [`io::Error`] that holds an [`AuditError`]; and then by all further writes and by [`Auditor::finish`].
+///
+/// ```
+/// use folugben::{Auditor, Storage};
+/// use std::io::Write;
+/// # fn main() -> Result<(), Box<dyn std::error::Error>> {
+/// let storage = Storage::open([("n".into(), 1.into())], 1)?;
+/// let mut agent = storage.agent(0)?;
+/// agent.play(|step| step.inc("n", 1))?;
+/// agent.follow()?;
+/// let next = agent.go_on(10)?;
+/// drop(agent);
+///
+/// let mut auditor = Auditor::new();
+/// storage.close()?.write_to(&mut auditor)?;
+/// next.close()?.write_to(&mut auditor)?;
+/// let counts = auditor.finish()?;
+/// assert_eq!((counts.parts, counts.calls, counts.moves), (2, 1, 1));
+/// assert_eq!(auditor.state()?, Some(vec![("n".into(), 2.into())]));
+///
+/// let error = auditor.write_all(b"what is this?\n").unwrap_err();
+/// assert_eq!(error.to_string(), "part 2: line 1 isn't JSON");
+/// # Ok(())
+/// # }
+/// ```
+pub struct Auditor {
+    slot: Held,
+    counts: Counts,
+    fault: Option<AuditError>,
+}
+
+impl Auditor {
+    /// An auditor that has read nothing.
+    pub fn new() -> Auditor {
+        Auditor { slot: Held::empty(), counts: Counts::default(), fault: None }
+    }
+
+    /// How much was found right so far.
+    pub fn counts(&self) -> Counts {
+        self.counts
+    }
+
+    /// What is told if nothing more is written: how much of the run there is, where it is whole and legal.
+    ///
+    /// [`AuditError::Journal`] with `Cut` or `NotJson` where the last part or line isn't whole, and else the fault that was
+    /// told before. The audit is as it was, and more may be written.
+    pub fn finish(&self) -> Result<Counts, AuditError> {
+        if let Some(fault) = self.fault {
+            return Err(fault);
+        }
+        if !self.slot.is_full() {
+            return Err(AuditError::Journal { part: 0, fault: JournalError::Cut });
+        }
+        let mut numbers = sys::AuditNumbers::default();
+        match unsafe { sys::asm_audited(self.slot.at(), &mut numbers) } {
+            sys::DONE => Ok(Counts::of(numbers)),
+            code => Err(AuditError::of(code, numbers)),
+        }
+    }
+
+    /// The state that the moves so far leave, in ascending order of locations; none before a part has begun.
+    pub fn state(&self) -> Result<Option<Vec<(Location, Value)>>, Error> {
+        self.state_text()?.map(|text| answer(&text, Json::pairs)).transpose()
+    }
+
+    pub(crate) fn state_text(&self) -> Result<Option<Vec<u8>>, Error> {
+        let (code, text) =
+            told(|out, room, written| unsafe { sys::asm_audit_state(self.slot.at(), out, room, written) });
+        match code {
+            sys::DONE => Ok(Some(text)),
+            sys::NONE | sys::EMPTY => Ok(None),
+            code => Err(plain(code)),
+        }
+    }
+
+    /// Passes the bytes on: the code, and how many were taken.
+    fn feed(&mut self, bytes: &[u8]) -> (i32, usize, sys::AuditNumbers) {
+        let (mut taken, mut numbers) = (0, sys::AuditNumbers::default());
+        let code = unsafe { sys::asm_audit(self.slot.at(), bytes.as_ptr(), bytes.len(), &mut taken, &mut numbers) };
+        (code, taken, numbers)
+    }
+}
+
+impl io::Write for Auditor {
+    fn write(&mut self, bytes: &[u8]) -> io::Result<usize> {
+        if let Some(fault) = self.fault {
+            return Err(fault.into());
+        }
+        let (code, taken, numbers) = self.feed(bytes);
+        match code {
+            sys::DONE => self.counts = Counts::of(numbers),
+            sys::MEMORY if taken == 0 => return Err(AuditError::Memory.into()),
+            sys::MEMORY => {}
+            code => {
+                // What stands before the fault is counted.
+                if let (sys::DONE, _, numbers) = self.feed(&[]) {
+                    self.counts = Counts::of(numbers);
+                }
+                let fault = match code {
+                    sys::LARGE => AuditError::LongLine { part: self.counts.parts },
+                    code => AuditError::of(code, numbers),
+                };
+                self.fault = Some(fault);
+                // A write that took bytes says so; the next one, of those behind, tells the fault.
+                if taken == 0 {
+                    return Err(fault.into());
+                }
+            }
+        }
+        Ok(taken)
+    }
+
+    fn flush(&mut self) -> io::Result<()> {
+        Ok(())
+    }
+}
+
+impl Default for Auditor {
+    fn default() -> Auditor {
+        Auditor::new()
+    }
+}
+
+impl fmt::Debug for Auditor {
+    fn fmt(&self, f: &mut fmt::Formatter<'_>) -> fmt::Result {
+        f.debug_struct("Auditor").field("counts", &self.counts).field("fault", &self.fault).finish_non_exhaustive()
+    }
+}
+
+/// Audits what the reader has, up to its end or the first fault, as an [`Auditor`] does. The error holds an [`AuditError`]
+/// where it isn't one of the reader.
+///
+/// ```no_run
+/// use folugben::AuditError;
+/// use std::{fs::File, io};
+/// # fn main() -> io::Result<()> {
+/// match folugben::audit(File::open("run.journal")?).map_err(io::Error::downcast) {
+///     Ok(counts) => println!("legal: {counts}"),
+///     Err(Ok(AuditError::Illegal { part, call })) => println!("call {call} of part {part} is wrong"),
+///     Err(Ok(error)) => println!("no run: {error}"),
+///     Err(Err(error)) => return Err(error),
+/// }
+/// # Ok(())
+/// # }
+/// ```
+pub fn audit(mut input: impl io::Read) -> io::Result<Counts> {
+    let mut auditor = Auditor::new();
+    io::copy(&mut input, &mut auditor)?;
+    Ok(auditor.finish()?)
+}
