@@ -140,6 +140,12 @@ def reads(n: int) -> Iterator[Case]:
     yield from cases if n < 257 else (refused(it.name, it.given, b"bad script: reads\n") for it in cases)
 
 
+def terms(n: int) -> Iterator[Case]:
+    """A block of n terms that read one location."""
+    step = [["put", it, {"val": N}] for it in places(n)]
+    yield played(f"a_block_of_{n}_terms", [[N, 0]], [step], [[it, 0] for it in places(n)] + [[N, 0]])
+
+
 def blocks_of(n: int) -> Iterator[Case]:
     """A step of n blocks, each of which sees the one before it, or is empty."""
     block = [["put", N, {"sum": [{"val": N}, 1]}], ["inc", ["m"], 2]]
@@ -201,7 +207,7 @@ def nested() -> Iterator[Case]:
 def every() -> list[Case]:
     from sized_journals import journals
 
-    found = [it for n in SIZES for make in (groups, moves_of, values) for it in make(n)]
+    found = [it for n in SIZES for make in (groups, moves_of, values, terms) for it in make(n)]
     found += [it for n in (0, 1, 2, 3, 64, 65, 255, 256, 257) for make in (reads, agents) for it in make(n)]
     found += [it for n in (0, 1, 2, 3, 64, 65, 66) for it in blocks_of(n)]
     found += [it for n in (*SIZES, 65535, 65536) for it in texts(n)]

@@ -7,6 +7,7 @@ from casing import Case
 from sized import B, N, S, X, report, script, text
 
 CAPACITY = ("--capacity", "1048576")
+SHAPE = b"journal line 2: shape\n"
 
 
 def header(events: int, agents: int = 1, init: list | None = None, capacity: int = 1048576, version: int = 2) -> str:
@@ -61,6 +62,35 @@ def long(pairs: int) -> Iterator[Case]:
         fire = fires[k].replace(',"reply"', f',"event":{2 * k + 1},"reply"')
         traced.append(f'{fire[:-2]},"updates":[[["n"],{k},{k + 1}]]}}\n')
     yield Case(f"trace_{name}", ("trace",), journal.encode(), "".join(traced).encode())
+
+
+def growing(n: int) -> Iterator[Case]:
+    """A set or a bag that grows n times by one element: the trace tells no more of a move than what it adds."""
+    for name, at, init, call, changed in (
+        ("set", S, {"set": []}, '["add",["s"],%d]', '{"added":[%d],"removed":[]}'),
+        ("bag", B, {"bag": []}, '["bagadd",["b"],%d,3]', '{"counts":[[%d,0,3]]}'),
+    ):
+        fire = '{"agent":0,"call":{"fire":[%s],"reads":[]}%%s,"reply":{"fired":%d}%%s}\n'
+        fires = [fire % (call % k, k + 1) for k in range(n)]
+        journal = header(n, init=[[at, init]]) + "".join(it % ("", "") for it in fires)
+        traced = [it % (f',"event":{k}', f',"updates":[[{text(at)},{changed % k}]]') for k, it in enumerate(fires)]
+        head = text({"agents": 1, "capacity": 1048576, "events": n, "init": [[at, init]], "trace": 1}) + "\n"
+        yield Case(f"trace_of_{n}_additions_to_a_{name}", ("trace",), journal.encode(), (head + "".join(traced)).encode())
+
+
+def calls_of(n: int) -> Iterator[Case]:
+    """A read of n locations, and fires of n named reads and of n instructions: they are written as they are read, or too
+    long."""
+    places, undef = ",".join(['["x"]'] * n), ",".join(["null"] * n)
+    named, raised = ",".join(['[["n"],0]'] * n), ",".join(['["inc",["n"],1]'] * n)
+    for name, most, call, told in (
+        ("locations", 256, f'{{"read":[{places}]}}', f'{{"number":0,"values":[{undef}]}}'),
+        ("named_reads", 256, f'{{"fire":[],"reads":[{named}]}}', '"full"'),
+        ("instructions", 4096, f'{{"fire":[{raised}],"reads":[]}}', '"full"'),
+    ):
+        journal = (header(1) + event(call, told)).encode()
+        ends = (journal, 0) if n <= most else (SHAPE, 2)
+        yield Case(f"rewrite_a_call_of_{n}_{name}", ("rewrite",), journal, *ends)
 
 
 def parts(n: int) -> Iterator[Case]:
@@ -156,4 +186,5 @@ def judged(name: str, journal: str, line: str, at: int) -> Iterator[Case]:
 
 def journals() -> list[Case]:
     found = [it for n in (4097, 16385, 65537) for make in (raises, plain) for it in make(n)]
-    return [*found, *default(), *long(35000), *parts(120000), *lines(), *cut(), *placed()]
+    found += [it for n in (255, 256, 257, 4095, 4096, 4097) for it in calls_of(n)]
+    return [*found, *default(), *long(35000), *growing(400), *parts(120000), *lines(), *cut(), *placed()]

@@ -41,6 +41,7 @@ KINDS = {
     "cut": 10,
     "journal": 8,
     "history": 12,
+    "run": 12,
     "contending": 1,
     "words": 3,
     "large": 1,
@@ -56,6 +57,10 @@ BAD_WORDS = [
     *[["run", "--capacity"], ["run", "--capacity", "0"], ["run", "--capacity", "1048577"], ["run", "--capacity="]],
     *[["run", "--capacity", it] for it in ["-1", "1.0", "1e2", "0x8", " 8", "8 ", "++8", "+", "٣", 30 * "9"]],
     *[["run", "--capacity", "1", "--capacity", "1"], ["run", "--journal", "--journal"], ["run", "--journal=1"]],
+    *[["run", "--terms", "--terms"], ["run", "--terms=1"], ["check", "--terms"], ["run", "--term"]],
+    *[["audit", "x"], ["audit", "--every"], ["audit", "--every", "0"], ["audit", "--every", "4294967296"]],
+    *[["audit", "--every", "1", "--every", "1"], ["audit", "--every="], ["audit", "--every", "-1"], ["audit", "-e", "1"]],
+    *[["audit", "--capacity", "8"], ["check", "--every", "1"], ["--every", "1", "audit"], ["audits"], ["audit", "--eve", "8"]],
     *[["run", "--cap", "8"], ["run", "-j"], ["--journal", "run"], ["--capacity", "8", "run"], ["run", "--Journal"]],
 ]
 
@@ -108,15 +113,17 @@ class Fuzz:
         random, maker = self.random, self.maker
         words = ["run", *self.capacity()]
         # A report doesn't show what a move names and in which order its instructions stand; a journal does.
-        either = random.choice([words, words, [*words, "--journal"]])
+        either = random.choice([words, [*words, "--terms"], [*words, "--journal"]])
         if self.kind == "history":
             yield from self.journals(write_journal(maker.history()))
+        elif self.kind == "run":
+            yield from self.audits()
         elif self.kind == "words":
             yield Trial(random.choice(BAD_WORDS), b'{"init":[],"agents":[]}')
         elif self.kind == "long":
-            yield Trial(random.choice([words, *READING]), self.long_text())
+            yield Trial(random.choice([words, *READING, ["audit"]]), self.long_text())
         elif self.kind == "apart":
-            yield Trial(["run"], self.text(maker.apart()))
+            yield Trial(random.choice([["run"], ["run", "--terms"]]), self.text(maker.apart()))
         elif self.kind == "sequence":
             yield Trial(either, self.text(maker.sequence()))
         elif self.kind == "large":
@@ -138,6 +145,21 @@ class Fuzz:
             yield from (Trial(words, version) for version in versions)
         for version in [*versions, self.random.choice(versions)]:
             yield Trial(self.random.choice(READING), changed_journal(version, self.random))
+
+    def audits(self) -> Iterator[Trial]:
+        """Answers a run of some parts, of either version, as it is and altered, in a part or with its parts mixed."""
+        parts = [write_journal(it) for it in self.maker.run()]
+        parts = [in_version_1(it) if self.random.random() < 0.3 else it for it in parts]
+        mixed = self.random.choices(parts, k=len(parts))
+        at = self.random.randrange(len(parts))
+        altered = [*parts[:at], changed_journal(parts[at], self.random), *parts[at + 1 :]]
+        for chosen in (parts, mixed, altered):
+            yield Trial(["audit", *self.every()], b"".join(chosen))
+        yield Trial(["audit", *self.every()], cut(b"".join(parts), self.random))
+
+    def every(self) -> list[str]:
+        given = self.random.choice(["1", "1", "2", "3", "+5", "007", "4294967295"])
+        return self.random.choice([[], ["--every", given], [f"--every={given}"]])
 
     def capacity(self) -> list[str]:
         pick = self.random.random()
@@ -219,18 +241,20 @@ def in_version_1(text: bytes) -> bytes:
 
 def sorts_of(ran: model.Answer) -> set[str]:
     """Answers which sorts of line the output has, without its numbers and locations."""
-    if ran.status or ran.output[:1] not in (b"[", b"{", b"m", b"l"):
-        line = ran.output.decode(errors="replace").strip()
+    if ran.status or ran.output[:1] not in (b"[", b"{", b"m", b"l", b"s"):
+        line = ran.output.decode(errors="replace").strip().rpartition("\n")[2]
         return {f"status {ran.status} {re.sub('[0-9]+', 'N', line)}"}
     if ran.output[:1] == b"l":
         return {"status 0 legal"}
+    if ran.output[:1] == b"s":
+        return {"status 0 legal, told meanwhile"}
     if ran.output[:1] == b"{":
         header, *lines = ran.output.split(b"\n")
         if not header.endswith(b'"trace":1}'):
             return {"status 0 journal"}
         is_legal = not any(b',"right":' in it for it in lines)
         return {f"status 0 trace of a {'legal' if is_legal else 'wrong'} history"}
-    steps = re.findall(r"^agent \d+ step \d+ (\w+)(?: .* (\w+)$)?", ran.output.decode(), re.M)
+    steps = re.findall(r"^agent \d+ step \d+ (?!block)(\w+)(?: .* (\w+)$)?", ran.output.decode(), re.M)
     return {f"status 0 step {' '.join(it).strip()}" for it in steps} or {"status 0 all steps fired"}
 
 

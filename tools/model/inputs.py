@@ -5,7 +5,7 @@ from random import Random
 from journal import Clashed, Event, Fire, Fired, Full, History, Read, Stale, Storage, Values
 from jsontext import Json, write
 from moves import Move, read_instruction
-from values import MAX_ITEMS, MAX_LIST_DEPTH, Location, read_location, read_state, read_value
+from values import MAX_ITEMS, MAX_LIST_DEPTH, Location, State, read_location, read_state, read_value
 
 NUMBERS = [0, 1, 1, 2, 3, 7, 10, -1, -2, 2**63 - 1, -(2**63), 2**63 - 2, 2**31, 2**32]
 TEXTS = ["", "a", "b", "B", "e", "é", "ÿ", "\U0001f600", "\ue000", '"\\/', "\n\t\x00\x1f\x7f", "x" * 70]
@@ -195,22 +195,33 @@ class Maker:
             agents.append([step if self.chance(0.3) else self.step() for _ in range(count)])
         return {"init": [[["s"], {"set": []}], [["b"], {"bag": []}], [["n"], 0]], "agents": agents}
 
-    def history(self) -> History:
-        """Makes a history of several agents with old reads, of calls that no script makes."""
+    def history(self, init: State | None = None, wrong: float = 0.3) -> History:
+        """Makes a history of several agents with old reads, of calls that no script makes; one answer may be wrong."""
         if self.chance(0.02):
             self.elements.append(self.list_at_limit())
         agents = self.random.choice([1, 2, 3, 256])
-        history = History(read_state(self.init()), self.random.choice([1, 3, 4096]), agents)
+        opening = read_state(self.init()) if init is None else init
+        history = History(opening, self.random.choice([1, 3, 4096]), agents)
         storage = Storage(history.init, history.capacity)
         for _ in range(self.random.choice([0, 1, 2, 5, 12])):
             call = self.call(storage.number)
             event = Event(self.random.randrange(agents), call, storage.reply(call))
             history.events.append(event)
-        if history.events and self.chance(0.3):
+        if history.events and self.chance(wrong):
             at = self.random.randrange(len(history.events))
             event = history.events[at]
             history.events[at] = event._replace(reply=self.other_reply(event))
         return history
+
+    def run(self) -> list[History]:
+        """Makes the parts of a run, each of which mostly opens with the state that the one before it leaves."""
+        parts = [self.history(wrong=0.1)]
+        for _ in range(self.random.choice([0, 1, 1, 2, 4])):
+            left = Storage(parts[-1].init, parts[-1].capacity)
+            for event in parts[-1].events:
+                left.reply(event.call)
+            parts.append(self.history(None if self.chance(0.05) else left.state, wrong=0.1))
+        return parts
 
     def call(self, number: int) -> Read | Fire:
         if self.chance(0.3):

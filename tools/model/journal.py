@@ -186,26 +186,45 @@ def reply_json(reply: Reply) -> Json:
     return "full"
 
 
+class Header(NamedTuple):
+    """What the first line of a journal says."""
+
+    version: Json
+    init: State
+    capacity: int
+    agents: int
+    events: int
+
+
 def read_journal(text: bytes) -> History:
     """Reads a journal, or raises its first fault."""
     lines = _Lines(text)
-    value = lines.next()
+    header = read_header(lines.next())
+    history = History(header.init, header.capacity, header.agents)
+    for number in range(2, header.events + 2):
+        history.events.append(read_event(lines.next(), header, number))
+    if lines.is_left():
+        raise _no_shape(header.events + 2)
+    return history
+
+
+def read_header(value: Json) -> Header:
+    """Reads the first line of a journal, or raises its fault."""
     version = value.get("version") if isinstance(value, dict) else None
     if (is_whole(version, I64) or is_whole(version, U64)) and version not in VERSIONS:
         raise BadJournal("journal version")
     try:
-        history, events = _read_header(_allowed(value, version))
+        return _header(_allowed(value, version))
     except WrongShape as error:
         raise _no_shape(1) from error
-    for number in range(2, events + 2):
-        value = lines.next()
-        try:
-            history.events.append(_read_event(_allowed(value, version), history.agents))
-        except WrongShape as error:
-            raise _no_shape(number) from error
-    if lines.is_left():
-        raise _no_shape(events + 2)
-    return history
+
+
+def read_event(value: Json, header: Header, number: int) -> Event:
+    """Reads the line with this number of a journal with this header, or raises its fault."""
+    try:
+        return _event(_allowed(value, header.version), header.agents)
+    except WrongShape as error:
+        raise _no_shape(number) from error
 
 
 def _allowed(value: Json, version: Json) -> Json:
@@ -251,19 +270,17 @@ class _Lines:
         return value
 
 
-def _read_header(value: Json) -> tuple[History, int]:
-    """Answers the history without its events, and how many these are."""
-    agents, capacity, events, init, _ = entries(
+def _header(value: Json) -> Header:
+    agents, capacity, events, init, version = entries(
         value, "agents", "capacity", "events", "init", "version"
     )
-    if not any(is_whole(value["version"], range(it, it + 1)) for it in VERSIONS):
+    if not any(is_whole(version, range(it, it + 1)) for it in VERSIONS):
         raise WrongShape
-    most = range(MAX_AGENTS + 1)
-    history = History(read_state(init), whole(capacity, CAPACITIES), whole(agents, most))
-    return history, whole(events, U32)
+    state, most = read_state(init), range(MAX_AGENTS + 1)
+    return Header(version, state, whole(capacity, CAPACITIES), whole(agents, most), whole(events, U32))
 
 
-def _read_event(value: Json, agents: int) -> Event:
+def _event(value: Json, agents: int) -> Event:
     agent, call, reply = entries(value, "agent", "call", "reply")
     number = whole(agent, range(agents))
     if has_key(call, "read"):

@@ -1,8 +1,8 @@
 #!/usr/bin/env python3
 """A second implementation of the program, for comparison: slow, plain, and written from the page on formats in docs/.
 
-It takes the program's words, reads its standard input, and ends with its status: `run [--capacity N] [--journal]`,
-`check`, `rewrite` and `trace`. It plays one agent after the other, and so refuses, with status 70, a script of several agents
+It takes the program's words, reads its standard input, and ends with its status: `run [--capacity N] [--journal] [--terms]`,
+`check`, `rewrite`, `trace` and `audit [--every N]`. It plays one agent after the other, and so refuses, with status 70, a script of several agents
 whose output may depend on the order of their moves. It tells neither help nor a version.
 """
 
@@ -10,12 +10,14 @@ import re
 import sys
 from typing import NamedTuple
 
+from audit import audit
 from journal import CAPACITIES, BadJournal, first_illegal, read_journal, write_journal
 from play import SeveralAgents, play, report
 from script import BadScript, read_script
 from tracing import write_trace
 
 MAX_INPUT = 2**24
+EVERY = range(1, 2**32)
 DEFAULT_CAPACITY = 4096
 REFUSED = 70
 
@@ -28,6 +30,11 @@ class Answer(NamedTuple):
 class RunWords(NamedTuple):
     capacity: int
     is_journal: bool
+    is_told: bool
+
+
+class AuditWords(NamedTuple):
+    every: int | None
 
 
 def answer(words: list[str], text: bytes) -> Answer:
@@ -35,6 +42,9 @@ def answer(words: list[str], text: bytes) -> Answer:
     given = read_words(words)
     if given is None:
         return line(2, "bad words")
+    if isinstance(given, AuditWords):
+        status, told = audit(text, given.every)
+        return Answer(status, told.encode())
     if len(text) > MAX_INPUT:
         return line(2, "input too large")
     try:
@@ -53,7 +63,7 @@ def line(status: int, text: str) -> Answer:
 
 def run(given: RunWords, text: bytes) -> Answer:
     played = play(read_script(text), given.capacity, given.is_journal)
-    return Answer(0, write_journal(played.history) if given.is_journal else report(played))
+    return Answer(0, write_journal(played.history) if given.is_journal else report(played, given.is_told))
 
 
 def check(text: bytes) -> Answer:
@@ -76,36 +86,53 @@ def trace(text: bytes) -> Answer:
 READING = {"check": check, "rewrite": rewrite, "trace": trace}
 
 
-def read_words(words: list[str]) -> RunWords | str | None:
+def read_words(words: list[str]) -> RunWords | AuditWords | str | None:
     """Answers what the words ask for, or None where they are refused; an option may be given once."""
     if len(words) == 1 and words[0] in READING:
         return words[0]
+    if words[:1] == ["audit"]:
+        return read_audit_words(words[1:])
     if words[:1] != ["run"]:
         return None
-    capacity, is_journal = None, False
+    capacity, is_journal, is_told = None, False, False
     rest = iter(words[1:])
     for word in rest:
         name, equals, text = word.partition("=")
         if name == "--capacity" and capacity is None:
-            capacity = read_capacity(text if equals else next(rest, ""))
+            capacity = read_number(text if equals else next(rest, ""), CAPACITIES)
             if capacity is None:
                 return None
         elif word == "--journal" and not is_journal:
             is_journal = True
+        elif word == "--terms" and not is_told:
+            is_told = True
         else:
             return None
-    return RunWords(DEFAULT_CAPACITY if capacity is None else capacity, is_journal)
+    return RunWords(DEFAULT_CAPACITY if capacity is None else capacity, is_journal, is_told)
 
 
-def read_capacity(text: str) -> int | None:
+def read_audit_words(words: list[str]) -> AuditWords | None:
+    if not words:
+        return AuditWords(None)
+    name, equals, text = words[0].partition("=")
+    given = [text, *words[1:]] if equals else words[1:]
+    if name != "--every" or len(given) != 1:
+        return None
+    every = read_number(given[0], EVERY)
+    return None if every is None else AuditWords(every)
+
+
+def read_number(text: str, within: range) -> int | None:
     if not re.fullmatch(r"\+?[0-9]{1,4000}", text, re.ASCII):
         return None
-    return int(text) if int(text) in CAPACITIES else None
+    return int(text) if int(text) in within else None
 
 
 def main() -> int:
     try:
-        given = answer(sys.argv[1:], sys.stdin.buffer.read(MAX_INPUT + 1))
+        # But for an audit a byte more than the most is as good as all.
+        most = -1 if sys.argv[1:2] == ["audit"] else MAX_INPUT + 1
+        given = answer(sys.argv[1:], sys.stdin.buffer.read(most))
     except SeveralAgents:
         print("model: the output may depend on the order of the agents' moves", file=sys.stderr)
         return REFUSED

@@ -16,8 +16,9 @@ class SeveralAgents(Exception):
 class Played(NamedTuple):
     history: History
     final: State
-    # The lines of the steps that didn't fire.
+    # The lines of the steps that didn't fire, and where and why a term of one had no value.
     lines: list[str]
+    told: list[str]
 
 
 def play(script: Script, capacity: int, is_journal: bool) -> Played:
@@ -28,17 +29,22 @@ def play(script: Script, capacity: int, is_journal: bool) -> Played:
     storage = Storage(script.init, capacity)
     history = History(script.init, capacity, len(script.agents))
     lines: list[str] = []
+    told: list[str] = []
     for agent, steps in enumerate(script.agents):
         for number, step in enumerate(steps):
-            outcome = _play_step(storage, history, agent, step)
+            name = f"agent {agent} step {number}"
+            outcome, why = _play_step(storage, history, agent, step)
             if outcome:
-                lines.append(f"agent {agent} step {number} {outcome}")
-    return Played(history, storage.state, lines)
+                lines.append(f"{name} {outcome}")
+            if why:
+                told.append(f"{name} {why}")
+    return Played(history, storage.state, lines, told)
 
 
-def report(played: Played) -> bytes:
+def report(played: Played, is_told: bool) -> bytes:
+    """Answers the report, and behind it what is told of terms, if that is asked for."""
     pairs = [jsontext.write(pair) for pair in pairs_json(played.final)]
-    lines = [*pairs, f"moves {played.history.moves()}", *played.lines]
+    lines = [*pairs, f"moves {played.history.moves()}", *played.lines, *(played.told if is_told else [])]
     return "".join(line + "\n" for line in lines).encode()
 
 
@@ -60,8 +66,13 @@ def clash_line(at: Location, cause: str) -> str:
     return f"clash {jsontext.write(location_json(at))} {cause}"
 
 
-def _play_step(storage: Storage, history: History, agent: int, step: Step) -> str | None:
-    """Answers the outcome of a step that didn't fire. No other agent moves meanwhile, so nothing is stale."""
+def _play_step(
+    storage: Storage, history: History, agent: int, step: Step
+) -> tuple[str | None, str | None]:
+    """Answers the outcome of a step that didn't fire, and where and why a term has no value.
+
+    No other agent moves meanwhile, so nothing is stale.
+    """
     places = reads(step)
     reading: State = {}
     if places:
@@ -71,14 +82,22 @@ def _play_step(storage: Storage, history: History, agent: int, step: Step) -> st
         reading = dict(zip(places, answer.values))
     fire = step_fault(step, reading)
     if isinstance(fire, str):
-        return fire
+        return fire, _why(step, reading) if fire == "term" else None
     call = Fire(fire.move, [(at, storage.number) for at in places])
     reply = storage.reply(call)
     history.events.append(Event(agent, call, reply))
     assert not isinstance(reply, Stale)
     if isinstance(reply, Clashed):
-        return clash_line(reply.at, reply.cause)
-    return "full" if isinstance(reply, Full) else None
+        return clash_line(reply.at, reply.cause), None
+    return "full" if isinstance(reply, Full) else None, None
+
+
+def _why(step: Step, reading: State) -> str:
+    try:
+        step_move(step, reading)
+    except NoTerm as error:
+        return str(error)
+    raise AssertionError
 
 
 def _is_apart(playing: list[list[Step]], capacity: int) -> bool:

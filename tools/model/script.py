@@ -19,11 +19,13 @@ from values import (
     has_key,
     is_element,
     items,
+    location_json,
     members,
     read_all,
     read_location,
     read_state,
     read_value,
+    value_json,
 )
 
 MAX_AGENTS = 256
@@ -60,7 +62,7 @@ class BadScript(Exception):
 
 
 class NoTerm(Exception):
-    """A term of the step has no value."""
+    """A term of the step has no value; it tells where and why."""
 
 
 @dataclass
@@ -139,11 +141,21 @@ def step_move(step: Step, reading: State) -> Move:
     seen = dict(reading)
     whole: Move = []
     for number, block in enumerate(step):
-        move = [_evaluated(line, seen) for line in block]
+        move = _block_move(number, block, seen)
         if number + 1 < len(step):
             seen.update(updates(lambda at: seen.get(at, UNDEF), move))
         whole = composed(whole, move) if number else move
     return whole
+
+
+def _block_move(number: int, block: Block, seen: State) -> Move:
+    move: Move = []
+    for at, line in enumerate(block):
+        try:
+            move.append(_evaluated(line, seen))
+        except NoTerm as error:
+            raise NoTerm(f"block {number} instruction {at}: {error}") from error
+    return move
 
 
 def _evaluated(
@@ -156,7 +168,7 @@ def _evaluated(
         return at, action
     element = _value(action.element, seen)
     if not is_element(element):
-        raise NoTerm
+        raise NoTerm(f"{_named(action.element, element)} is no element")
     return at, action._replace(element=element)
 
 
@@ -165,10 +177,19 @@ def _value(term: Term, seen: State) -> Value:
         return term.value
     if isinstance(term, Val):
         return seen.get(term.at, UNDEF)
-    both = [_value(term.left, seen), _value(term.right, seen)]
-    if not all(is_element(it) and it[0] == NUMBER for it in both):
-        raise NoTerm
-    total = both[0][1] + both[1][1]
-    if total not in I64:
-        raise NoTerm
-    return (NUMBER, total)
+    left, right = _number(term.left, seen), _number(term.right, seen)
+    if left + right not in I64:
+        raise NoTerm(f"the sum of {left} and {right} is out of range")
+    return (NUMBER, left + right)
+
+
+def _number(term: Term, seen: State) -> int:
+    value = _value(term, seen)
+    if not is_element(value) or value[0] != NUMBER:
+        raise NoTerm(f"{_named(term, value)} is no number")
+    return value[1]
+
+
+def _named(term: Term, value: Value) -> str:
+    text = jsontext.write(value_json(value))
+    return f"{jsontext.write(location_json(term.at))} holds {text}, which" if isinstance(term, Val) else text

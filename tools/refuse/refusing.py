@@ -61,11 +61,11 @@ class Refuser:
         mark.unlink(missing_ok=True)
         return ended, is_refused
 
-    def asked(self, words: list[str]) -> tuple[Ended, Asked | None]:
+    def asked(self, words: list[str], text: bytes = b"") -> tuple[Ended, Asked | None]:
         """Runs the program with no call refused, and tells what it asked for; nothing where it was stopped."""
         told = Path(f"{self.folder.name}/asked")
         told.unlink(missing_ok=True)
-        ended = self.ended(words, b"", {"ASKED_FOR": str(told)})
+        ended = self.ended(words, text, {"ASKED_FOR": str(told)})
         return ended, Asked(*map(int, told.read_text().split())) if told.exists() else None
 
     def ended(self, words: list[str], text: bytes, given: dict[str, str]) -> Ended:

@@ -1,0 +1,78 @@
+"""A run without an end beside the same moves without journals: time and memory.
+
+usage: endless.py run MOVES FILE | plain MOVES | audit FILE
+
+Eight agents in threads each raise a number of their own, in steps without text. `run` writes the parts of a Run, of 100,000 moves
+each, into the file, and tells the peak of memory once three parts are on the disk beside that at the end. `plain` has storages of
+as many moves, which are released without being closed. `audit` tells how many calls a second it judges, in how much memory.
+"""
+import resource
+import sys
+import threading
+import time
+from pathlib import Path
+
+sys.path.insert(0, str(Path(__file__).resolve().parents[3] / "bindings" / "python"))
+from folugben import Location, Move, Run, Storage, audit  # noqa: E402
+
+AGENTS, PART = 8, 100_000
+INIT = [[["own", own], 0] for own in range(AGENTS)]
+
+
+def peak():
+    """The most memory so far, in MB."""
+    return resource.getrusage(resource.RUSAGE_SELF).ru_maxrss / 1024
+
+
+def raises(storage, times):
+    """What each thread does."""
+
+    def work(own):
+        at, move = Location(["own", own]), Move()
+
+        def rule(step):
+            step.push(move.clear().put(at, step.get(at) + 1))
+
+        with storage.agent(own) as agent:
+            for _ in range(times):
+                agent.play(rule)
+
+    threads = [threading.Thread(target=work, args=(own,)) for own in range(AGENTS)]
+    for thread in threads:
+        thread.start()
+    return threads
+
+
+def run(moves, path):
+    early = 0.0
+    with Run(INIT, path, PART) as it:
+        threads = raises(it, moves // AGENTS)
+        while any(thread.is_alive() for thread in threads):
+            threads[-1].join(0.05)
+            if not early and it.parts >= 4:
+                early = peak()
+    return f"{early:.0f} MB after three parts, {peak():.0f} MB at the end"
+
+
+def plain(moves):
+    while moves > 0:
+        with Storage(INIT, PART) as storage:
+            for thread in raises(storage, min(moves, PART) // AGENTS):
+                thread.join()
+        moves -= PART
+    return f"{peak():.0f} MB"
+
+
+def main(what, *words):
+    start, processor = time.perf_counter(), time.process_time()
+    if what == "audit":
+        told = audit(words[0])
+        moves = told.calls
+    else:
+        moves = int(words[0])
+        told = run(moves, words[1]) if what == "run" else plain(moves)
+    taken, used = time.perf_counter() - start, time.process_time() - processor
+    print(f"{what}: {taken:.1f} s, {used:.1f} s of processors, {moves / taken:,.0f} a second; {peak():.0f} MB; {told}", flush=True)
+
+
+main(*sys.argv[1:])
