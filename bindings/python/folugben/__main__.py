@@ -1,6 +1,5 @@
 """Journals on the command line: python -m folugben audit|check|part|replay|trace|csv|itf|perfetto|view FILE.."""
 import argparse
-import contextlib
 import json
 import sys
 import time
@@ -87,9 +86,13 @@ def _whole(work: Callable[[bytes, TextIO], bool]) -> _Work:
     """The work on a journal, which is read as a whole."""
 
     def on_file(file: Path, number: int | None, out: TextIO) -> bool:
-        with contextlib.ExitStack() as stack:
-            opened: BinaryIO = sys.stdin.buffer if str(file) == "-" else stack.enter_context(file.open("rb"))
+        def on(opened: BinaryIO) -> bool:
             return work(opened.read() if number is None else part(opened, number), out)
+
+        if str(file) == "-":
+            return on(sys.stdin.buffer)
+        with file.open("rb") as opened:
+            return on(opened)
 
     return on_file
 

@@ -92,6 +92,8 @@ def _no_step() -> PartStep | None:
 class PartAgent(Agent):
     """An agent of a run while it is in one part."""
 
+    part: "Part"
+
     def __init__(self, part: "Part", own: int) -> None:
         self._prepare(part.storage, own)
         self.part, self.is_abandoned = part, False
@@ -421,8 +423,8 @@ def _close_all() -> None:
             chain.close()
         except Broken as broken:
             told.append(broken)
-    for broken in told:
-        raise broken
+    if told:
+        raise told[0]
 
 
 atexit.register(_close_all)
