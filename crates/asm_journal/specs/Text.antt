@@ -2,7 +2,7 @@
 use Rattle.std.specs.Prelude.{ℕ, List, [], ◌∷◌, ◌++◌, length, map, codes}
 use Rattle.std.specs.List.{flat_map}
 use Rattle.std.specs.FinMap as finite
-use Rattle.serde_json.specs.Data.{Data, object, member, no_members}
+use Rattle.serde_json.specs.Data.{Data, Members, object, member, no_members}
 use Rattle.serde_json.specs.Written.{compact_text}
 use Rattle.asm_update.specs.State.{State}
 use Rattle.asm_storage.specs.declared.history.Event.{Event}
@@ -29,6 +29,12 @@ header_of agents capacity events init =
 -- the header of a history
 abbrev pub header_json_of : History → Data
 header_json_of h = header_of h.agents h.capacity (length h.events) (state_json_of h.init)
+
+-- "agents":N,"capacity":N,"events":N,"init":[PAIR, ..], which a history's journal and its trace tell alike, and what follows
+abbrev pub header_members_of : History → Members → Members
+header_members_of h rest =
+    member (codes "agents") (number_json_of h.agents) (member (codes "capacity") (number_json_of h.capacity)
+    (member (codes "events") (number_json_of (length h.events)) (member (codes "init") (state_json_of h.init) rest)))
 
 -- the compact text of a value, and a line feed
 abbrev pub line : Data → List ℕ

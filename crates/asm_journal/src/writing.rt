@@ -1,27 +1,45 @@
 //! The text of a history.
 ghost use Rattle.std.specs.Prelude.{◌≡◌, ◌≤◌, ◌++◌, false, length, IfOk, OnOk, string_bytes};
-ghost use Rattle.serde_json.specs.View.{view};
+ghost use Rattle.serde_json.specs.Data.{no_members};
+ghost use Rattle.serde_json.specs.View.{members_view, view};
 ghost use Rattle.serde_json.specs.Written.{has_float};
 ghost use Rattle.asm_storage.specs.History.{Fits};
 ghost use Rattle.asm_storage.specs.Limits.{events_limit};
-ghost use Rattle.asm_journal.specs.Text.{header_json_of, line, text_of};
+ghost use Rattle.asm_journal.specs.Text.{header_json_of, header_members_of, line, text_of};
 
 use crate::form::ToJson;
 use asm_storage::History;
 use serde_json::{Map, Value as Json};
 use std::alloc::{AllocError, Global};
 
+/// What the headers of a history's journal and of its trace have in common: its numbers and its opening state, without a
+/// version.
+///
+/// There are at most as many events as a journal has. `AllocError` comes only where memory was refused.
+pub fn header_members(alloc: Global, history: &History) -> Result<Map<String, Json>, AllocError>
+    requires { length history.now.events ≤ events_limit }
+    ensures { IfOk result (λ members. members_view members.entries ≡ header_members_of history.now no_members) }
+{
+    let events = history.events.as_slice().len() as u32;
+    let mut members = Map::new(alloc);
+    serde_json::put(&mut members, alloc, "agents", Json::from(history.agents))?;
+    serde_json::put(
+        &mut members,
+        alloc,
+        "capacity",
+        Json::from(history.capacity),
+    )?;
+    serde_json::put(&mut members, alloc, "events", Json::from(events))?;
+    serde_json::put(&mut members, alloc, "init", history.init.to_json(alloc)?)?;
+    Ok(members)
+}
+
 /// The JSON of a history's header.
 fn header_json(alloc: Global, history: &History) -> Result<Json, AllocError>
     requires { length history.now.events ≤ events_limit }
     ensures { IfOk result (λ json. view json ≡ header_json_of history.now) }
 {
-    let events = history.events.as_slice().len() as u32;
-    let mut header = Map::new(alloc);
-    serde_json::put(&mut header, alloc, "agents", Json::from(history.agents))?;
-    serde_json::put(&mut header, alloc, "capacity", Json::from(history.capacity))?;
-    serde_json::put(&mut header, alloc, "events", Json::from(events))?;
-    serde_json::put(&mut header, alloc, "init", history.init.to_json(alloc)?)?;
+    let mut header = header_members(alloc, history)?;
     serde_json::put(&mut header, alloc, "version", Json::from(2u32))?;
     Ok(Json::Object(header))
 }

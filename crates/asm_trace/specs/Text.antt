@@ -15,7 +15,7 @@ use Rattle.asm_journal.specs.Check.{machine, machine_of, moves_with}
 use Rattle.asm_journal.specs.Element.{element_json_of, location_json_of}
 use Rattle.asm_journal.specs.Event.{call_json_of, answer_json_of}
 use Rattle.asm_journal.specs.Shape.{list_of, pair_of, one_of, two_of, number_json_of}
-use Rattle.asm_journal.specs.Text.{line, state_json_of}
+use Rattle.asm_journal.specs.Text.{header_members_of, line}
 use Rattle.asm_journal.specs.Value.{value_json_of}
 use Rattle.asm_trace.specs.Change.{Change, OfSet, OfBag, OfValue, Recount}
 use Rattle.asm_trace.specs.Note.{Note, IsNoteOf, AreNotesOf}
@@ -69,10 +69,7 @@ note_json_of x = event_with x.number x.event (option_map answer_json_of x.right)
 
 -- {"agents":N,"capacity":N,"events":N,"init":[PAIR, ..],"trace":1}
 abbrev pub header_of : History → Data
-header_of h =
-    object (member (codes "agents") (number_json_of h.agents) (member (codes "capacity") (number_json_of h.capacity)
-    (member (codes "events") (number_json_of (length h.events)) (member (codes "init") (state_json_of h.init)
-    (member (codes "trace") (number_json_of 1) no_members)))))
+header_of h = object (header_members_of h (member (codes "trace") (number_json_of 1) no_members))
 
 -- a line for each note
 abbrev pub notes_text : List Note → List ℕ

@@ -10,4 +10,4 @@ mod notes;
 mod sets;
 mod tracing;
 
-pub use tracing::{standard_trace_text, trace_text};
+pub use tracing::{push_standard_note, standard_trace_text, trace_text};

@@ -1,19 +1,19 @@
 //! The text of a trace.
-ghost use Rattle.std.specs.Prelude.{◌≡◌, ◌≤◌, true, IfOk, length, string_bytes};
+ghost use Rattle.std.specs.Prelude.{◌≡◌, ◌≤◌, ◌<◌, true, IfOk, OnOk, length, string_bytes};
 ghost use Rattle.serde_json.specs.View.{view};
 ghost use Rattle.asm_storage.specs.History.{Fits};
 ghost use Rattle.asm_storage.specs.Limits.{events_limit};
 ghost use Rattle.asm_aggregate.specs.Standard.{standard_part};
 ghost use Rattle.asm_trace.specs.Local.{IsLocal};
-ghost use Rattle.asm_trace.specs.Text.{header_of, IsTrace};
+ghost use Rattle.asm_trace.specs.Text.{header_of, IsNoted, IsTrace};
 
 use crate::notes::push_note;
 use asm_aggregate::standard;
-use asm_journal::{ToJson, push_line};
+use asm_journal::{header_members, push_line};
 use asm_state::State;
-use asm_storage::History;
+use asm_storage::{Event, History};
 use asm_update::Aggregator;
-use serde_json::{Map, Value as Json};
+use serde_json::Value as Json;
 use std::alloc::{AllocError, Global};
 
 /// The JSON of a trace's header.
@@ -21,12 +21,7 @@ fn header_json(alloc: Global, history: &History) -> Result<Json, AllocError>
     requires { length history.now.events ≤ events_limit }
     ensures { IfOk result (λ json. view json ≡ header_of history.now) }
 {
-    let events = history.events.as_slice().len() as u32;
-    let mut header = Map::new(alloc);
-    serde_json::put(&mut header, alloc, "agents", Json::from(history.agents))?;
-    serde_json::put(&mut header, alloc, "capacity", Json::from(history.capacity))?;
-    serde_json::put(&mut header, alloc, "events", Json::from(events))?;
-    serde_json::put(&mut header, alloc, "init", history.init.to_json(alloc)?)?;
+    let mut header = header_members(alloc, history)?;
     serde_json::put(&mut header, alloc, "trace", Json::from(1u32))?;
     Ok(Json::Object(header))
 }
@@ -91,4 +86,33 @@ pub fn standard_trace_text(alloc: Global, history: &History) -> Result<String, A
     ensures { IfOk result (λ s. IsTrace standard_part history.now (string_bytes s)) }
 {
     traced(alloc, &standard(), true, history)
+}
+
+/// Appends the line that `standard_trace_text` has for the event with this number, which comes after the moves that the
+/// state has followed, in a history of this capacity. The state follows the event's move.
+///
+/// The state must have followed fewer than 4,294,967,295 moves. `AllocError` comes only where memory was refused; the
+/// text and the state are then of no further use.
+pub fn push_standard_note(
+    alloc: Global,
+    text: &mut String,
+    state: &mut State,
+    capacity: u32,
+    number: u64,
+    event: &Event,
+) -> Result<(), AllocError>
+    requires { state.old.number < events_limit }
+    ensures { OnOk result (IsNoted standard_part capacity number event.now state.old state.new
+        (string_bytes text.old) (string_bytes text.new)) }
+{
+    push_note(
+        alloc,
+        &standard(),
+        true,
+        text,
+        state,
+        capacity,
+        number,
+        event,
+    )
 }
