@@ -42,6 +42,8 @@ mod reads_again;
 #[cfg(test)]
 mod reads_on_threads;
 #[cfg(test)]
+mod scanned_turns;
+#[cfg(test)]
 mod telling;
 #[cfg(test)]
 mod two_agents;

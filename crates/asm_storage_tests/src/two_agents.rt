@@ -10,7 +10,7 @@ use crate::limits::{names_many, reads_many};
 use crate::named_readings::{Round, rests};
 use crate::performing::{asks, counts, learns, learns_from_before, performs_in_the_end};
 use crate::plain_moves::puts_often;
-use crate::whole_functions::{Turn, is_many, is_over};
+use crate::scanned_turns::{Turn, is_many, is_over};
 use crate::wide_moves::{Wide, sees};
 use asm_aggregate::{Standard, standard};
 use asm_element::{ElemSet, Value};
