@@ -143,7 +143,8 @@ enum asm_code {
                           range */
     ASM_SMALL = 7,     /* the buffer is too small, and `*written` is the room that is needed */
     ASM_BUSY = 8,      /* 64 offers were lost to other agents; nothing was fired */
-    ASM_MANY = 9,      /* more than 256 locations; or a move of more than 4,096 instructions */
+    ASM_MANY = 9,      /* more than 256 locations, or locations and scanned functions; or a move of
+                          more than 4,096 instructions */
     ASM_NONE = 10,     /* no call was answered yet; no journal since an agent was given back; no move
                           is pushed; no agent with the number was given back; no part has begun; or
                           the storage isn't full */
@@ -247,8 +248,8 @@ FOLUGBEN_NODISCARD int32_t asm_state(asm_slot *agent, uint32_t *number, uint8_t 
     size_t *written);
 
 /* The same with the locations of one function name alone, which is passed in UTF-8 without quotes.
- * A fire that names each that was found doesn't notice that a further one is written later.
- * ASM_EMPTY, ASM_SHAPE (the name isn't UTF-8), ASM_SMALL, ASM_MEMORY. */
+ * A fire that names each that was found doesn't notice that a further one is written later; the
+ * commit of a step that tells them by asm_get_all does. ASM_EMPTY, ASM_SHAPE (the name isn't UTF-8), ASM_SMALL, ASM_MEMORY. */
 FOLUGBEN_NODISCARD int32_t asm_scan(asm_slot *agent, const uint8_t *name, size_t len,
     uint32_t *number, uint8_t *out, size_t room, size_t *written);
 
@@ -260,7 +261,8 @@ FOLUGBEN_NODISCARD int32_t asm_stands(asm_slot *agent, const uint8_t *reads, siz
     uint8_t *out, size_t room, size_t *written);
 
 /* A STEP is what an engine does between a look and a fire. Its slot keeps the number of moves at
- * which it began, the moves that were pushed, and the locations that were got. asm_free abandons it.
+ * which it began, the moves that were pushed, the locations that were got and the functions that were
+ * scanned. asm_free abandons it.
  *
  * A location is got where what is told of it is made from the state at the step's number: where no
  * pushed move writes it, or the first that does has partial updates alone there (it adds, removes or
@@ -269,6 +271,11 @@ FOLUGBEN_NODISCARD int32_t asm_stands(asm_slot *agent, const uint8_t *reads, siz
  * another one writes too; asm_commit names these, and no others. So steps that each add to one set
  * don't make each other stale; what one move alone adds, removes or increments is judged when it is
  * fired.
+ *
+ * A function is scanned by asm_get_all. The step then rests on all its locations, those that have a
+ * value and those that have none, so that a value which comes to a further one makes the commit
+ * stale. What was got and scanned takes at most 256 places: one for each location, and one for each
+ * function, however many locations it has. A location that is told by a scan alone isn't got.
  *
  * ASM_MOVED: the agent's own state has moved on since the step began, which is to be begun again; or
  * it is that of a second agent, which hasn't come so far and has to follow. */
@@ -279,14 +286,21 @@ FOLUGBEN_NODISCARD int32_t asm_begin(asm_slot *agent, asm_slot *step, uint32_t *
 
 /* Writes {"number":N,"values":[VALUE, ..]}: what is seen through the pushed moves at the locations
  * [LOC, ..], any number of them. Those are got where that is made from the state. ASM_MANY: more than
- * 256 different ones would be got. ASM_MOVED, ASM_EMPTY (one of the slots), ASM_SMALL, ASM_NOT_JSON,
+ * 256 places would be taken. ASM_MOVED, ASM_EMPTY (one of the slots), ASM_SMALL, ASM_NOT_JSON,
  * ASM_SHAPE, ASM_MEMORY. */
 FOLUGBEN_NODISCARD int32_t asm_get(asm_slot *agent, asm_slot *step, const uint8_t *locations,
     size_t len, uint8_t *out, size_t room, size_t *written);
 
+/* Writes what asm_get writes, and notes nothing: no location is got, so a commit fires though another
+ * agent has written there since. It is for what is told or shown, and for what the step doesn't go by.
+ * The codes are those of asm_get but ASM_MANY. */
+FOLUGBEN_NODISCARD int32_t asm_see(asm_slot *agent, asm_slot *step, const uint8_t *locations,
+    size_t len, uint8_t *out, size_t room, size_t *written);
+
 /* Writes [PAIR, ..]: what is seen through the pushed moves at all locations with a function name,
- * which is passed in UTF-8 without quotes. The locations that are found are got as by asm_get; that a
- * further one is written later isn't noticed. ASM_SHAPE: the name isn't UTF-8. Else as asm_get. */
+ * which is passed in UTF-8 without quotes, any number of them. The function is scanned, also where
+ * none is found. ASM_MANY: it isn't scanned yet, and 256 places are taken. ASM_SHAPE: the name isn't
+ * UTF-8. Else as asm_get. */
 FOLUGBEN_NODISCARD int32_t asm_get_all(asm_slot *agent, asm_slot *step, const uint8_t *name,
     size_t len, uint8_t *out, size_t room, size_t *written);
 
@@ -305,20 +319,34 @@ FOLUGBEN_NODISCARD int32_t asm_push(asm_slot *agent, asm_slot *step, const uint8
 FOLUGBEN_NODISCARD int32_t asm_extend(asm_slot *agent, asm_slot *step, const uint8_t *move,
     size_t len, uint8_t *out, size_t room, size_t *written);
 
-/* Takes away the move that was pushed last, with those that joined it. What was got stays got; the
- * step no longer rests on what these changed. ASM_NONE, ASM_EMPTY. */
+/* Takes away the move that was pushed last, with those that joined it. What was got and scanned stays
+ * so; the step no longer rests on what these changed. ASM_NONE, ASM_EMPTY. */
 FOLUGBEN_NODISCARD int32_t asm_pop(asm_slot *step);
+
+/* The same, and puts the one move that does what the popped ones do in turn into a slot that is empty
+ * or holds a move, which is then dropped: asm_push_move and asm_extend_move take it, on this step or
+ * on another. A move that none joined is put as it was pushed. ASM_TAKEN (`move` holds something
+ * else), before all others; ASM_EMPTY (`step`), ASM_NONE; ASM_MANY: the one move would have more than
+ * 4,096 instructions; ASM_CLASH, ASM_LARGE: never for a step of the agent's storage; ASM_MEMORY. */
+FOLUGBEN_NODISCARD int32_t asm_pop_move(asm_slot *step, asm_slot *move);
 
 /* How many moves are pushed; 0 for a slot without a step. */
 uint32_t asm_depth(asm_slot *step);
+
+/* Writes {"fire":[INSTR, ..],"reads":[NAMED, ..]}, which asm_try_fire takes: the one move that
+ * asm_commit would offer, and the locations that it would name, as the step stands. The functions
+ * that were scanned aren't in it; a commit rests on them too. ASM_EMPTY, ASM_SMALL, ASM_MEMORY. */
+FOLUGBEN_NODISCARD int32_t asm_offer(asm_slot *step, uint8_t *out, size_t room, size_t *written);
 
 /* Fires one move that does what the pushed moves do in turn, with each location named, at the step's
  * number, on which the step rests: codes, numbers and receipt as of asm_try_fire, and asm_answer tells
  * the reply whole. With ASM_DONE the step is over, and its slot is empty; with any other code it
  * stays, until asm_begin or asm_free. ASM_CLASH: each push was taken on what was seen, and something
  * was written since that one of the moves doesn't fit, such as a bag out of which another agent took
- * what it removes; begin again, as after ASM_STALE. ASM_MANY: more than 256 different locations would
- * be named. It looks on, so it answers neither ASM_MOVED nor ASM_RANGE. */
+ * what it removes; begin again, as after ASM_STALE. ASM_STALE comes too where a location of a function
+ * that was scanned was written since: the receipt names the least of these besides. ASM_MANY: the
+ * locations that would be named and the functions that were scanned are more than 256. It looks on, so
+ * it answers neither ASM_MOVED nor ASM_RANGE. */
 FOLUGBEN_NODISCARD int32_t asm_commit(asm_slot *agent, asm_slot *step, asm_numbers *numbers);
 
 /* WITHOUT TEXT: calls that do what asm_peek, asm_get, asm_push and asm_extend do, with a location
@@ -331,9 +359,9 @@ enum asm_kind {
     ASM_KIND_BOOL = 1, /* the number is 0 or 1 */
     ASM_KIND_NUM = 2,
     ASM_KIND_TEXT = 3, /* the bytes are its UTF-8, without quotes */
-    ASM_KIND_LIST = 4, /* the bytes are the VALUE */
-    ASM_KIND_SET = 5,  /* the bytes are the VALUE */
-    ASM_KIND_BAG = 6   /* the bytes are the VALUE */
+    ASM_KIND_LIST = 4, /* the bytes are the VALUE, as of those below; of an operand any JSON of it */
+    ASM_KIND_SET = 5,
+    ASM_KIND_BAG = 6
 };
 
 /* What an instruction does, as INSTR has it. */
@@ -365,18 +393,20 @@ FOLUGBEN_NODISCARD int32_t asm_peek_at(asm_slot *agent, asm_slot *at, uint32_t *
 
 /* Tells what is seen through the pushed moves at a prepared location, as asm_peek_at does. The
  * location is got as by asm_get. `*value` is 0 with each code but ASM_DONE. ASM_MANY: more than 256
- * would be got. ASM_MOVED, ASM_EMPTY (one of the slots), ASM_SMALL, ASM_MEMORY. */
+ * places would be taken. ASM_MOVED, ASM_EMPTY (one of the slots), ASM_SMALL, ASM_MEMORY. */
 FOLUGBEN_NODISCARD int32_t asm_get_at(asm_slot *agent, asm_slot *step, asm_slot *at,
     asm_value *value, uint8_t *out, size_t room, size_t *written);
 
 /* Puts an instruction at a prepared location behind those of the move in a slot; an empty slot holds
- * the move of this instruction then. The operand is of ASM_KIND_UNDEF, ASM_KIND_BOOL, ASM_KIND_NUM or
- * ASM_KIND_TEXT: its kind, its number (as in asm_value) and its bytes, of which only a text has any.
- * `amount` is 1 or above for ASM_BAGADD and ASM_BAGREMOVE, and 0 for any other verb. ASM_INC takes a
- * number alone. ASM_TAKEN (`move` holds something else than a move), ASM_EMPTY (`at`), ASM_RANGE (the
- * verb, the kind, the number or the bytes of this kind, the amount), ASM_SHAPE (the bytes of a text
- * aren't UTF-8), ASM_MANY (the move has 4,096 instructions), ASM_MEMORY. ASM_TAKEN comes before
- * all others; where several of these hold, one of them is answered. */
+ * the move of this instruction then. The operand is told by its kind, its number (as in asm_value)
+ * and its bytes, of which a text, a list, a set and a bag alone have any; a set and a bag can be put,
+ * and no more. `amount` is 1 or above for ASM_BAGADD and ASM_BAGREMOVE, and 0 for any other verb.
+ * ASM_INC takes a number alone. ASM_TAKEN (`move` holds something else than a move), ASM_EMPTY
+ * (`at`), ASM_RANGE (the verb, the kind, the number or the bytes of this kind, the amount, or a set or
+ * a bag that isn't put), ASM_NOT_JSON (the bytes of a list, a set or a bag), ASM_SHAPE (these are JSON
+ * of no value of this kind, or the bytes of a text aren't UTF-8), ASM_MANY (the move has 4,096
+ * instructions), ASM_MEMORY. ASM_TAKEN comes before all others; where several of these hold, one of
+ * them is answered. */
 FOLUGBEN_NODISCARD int32_t asm_instruct(asm_slot *move, asm_slot *at, int32_t verb, int32_t kind,
     int64_t number, const uint8_t *bytes, size_t len, uint32_t amount);
 

@@ -1,9 +1,10 @@
 //! Moves that are gathered in slots.
-ghost use Rattle.std.specs.Prelude.{◌≡◌, ◌≢◌, ◌↔◌, ◌∷◌, [], IsUtf8, length};
+ghost use Rattle.std.specs.Prelude.{◌≡◌, ◌≢◌, ◌↔◌, ◌∷◌, [], length};
 ghost use Rattle.asm_update.specs.Limits.{instructions_limit};
+ghost use Rattle.asm_explain.specs.Bytes.{IsNoJson};
 ghost use Rattle.asm_slots.specs.Codes.{IsOneOf, ASM_DONE, ASM_MEMORY, ASM_EMPTY, ASM_RANGE, ASM_MANY};
-ghost use Rattle.asm_slots.specs.Codes.{ASM_TAKEN, ASM_SHAPE};
-ghost use Rattle.asm_slots.specs.Kinds.{IsInstructed, IsNoAction, ASM_KIND_TEXT};
+ghost use Rattle.asm_slots.specs.Codes.{ASM_NOT_JSON, ASM_TAKEN, ASM_SHAPE};
+ghost use Rattle.asm_slots.specs.Kinds.{IsByJson, IsInstructed, IsMisshapen, IsNoAction};
 ghost use Rattle.asm_slots.specs.Slots.{HasRoomForMove, HoldsLocation, HoldsMove, HoldsNoLocation};
 ghost use Rattle.asm_slots.specs.Slots.{content_of, move_of};
 
@@ -16,10 +17,12 @@ use std::alloc::Global;
 /// Puts an instruction at the prepared location behind those of the move in a slot; an empty slot holds the move of
 /// this instruction then.
 ///
-/// The operand is an element but a list, which kind, number and bytes tell. `ASM_TAKEN`: the first slot holds
-/// something else than a move. `ASM_EMPTY`: the second has no location, or the two are one. `ASM_RANGE`: there is no
-/// such verb, no such operand of it, or no such amount. `ASM_SHAPE`: the bytes of a text aren't UTF-8. `ASM_MANY`:
-/// the move has 4,096 instructions. `ASM_MEMORY`. After each of these both slots are as they were.
+/// The operand is a value, which kind, number and bytes mean; the bytes of a list, a set or a bag are any JSON of it, and
+/// sets and bags can be put alone. `ASM_TAKEN`: the first slot holds something else than a move. `ASM_EMPTY`: the second
+/// has no location, or the two are one. `ASM_RANGE`: there is no such verb, no such operand of it, or no such amount.
+/// `ASM_NOT_JSON`: the bytes of a list, a set or a bag aren't JSON. `ASM_SHAPE`: they are JSON of no such value, or the
+/// bytes of a text aren't UTF-8. `ASM_MANY`: the move has 4,096 instructions. `ASM_MEMORY`. After each of these both slots
+/// are as they were.
 #[unsafe(no_mangle)]
 pub extern "C" fn asm_instruct(
     alloc: Global,
@@ -31,13 +34,15 @@ pub extern "C" fn asm_instruct(
     bytes: &[u8],
     amount: u32,
 ) -> i32
-    ensures codes { IsOneOf (ASM_DONE ∷ ASM_MEMORY ∷ ASM_EMPTY ∷ ASM_RANGE ∷ ASM_MANY ∷ ASM_TAKEN ∷ ASM_SHAPE ∷ []) result }
+    ensures codes { IsOneOf (ASM_DONE ∷ ASM_MEMORY ∷ ASM_EMPTY ∷ ASM_RANGE ∷ ASM_MANY ∷ ASM_TAKEN
+        ∷ ASM_NOT_JSON ∷ ASM_SHAPE ∷ []) result }
     ensures done { result ≡ ASM_DONE → HoldsLocation (content_of at.old) (λ l. HoldsMove (content_of instrs.new)
         (IsInstructed l verb kind number bytes.now amount (move_of (content_of instrs.old)))) }
     ensures taken { (result ≡ ASM_TAKEN) ↔ ¬ HasRoomForMove (content_of instrs.old) }
     ensures empty { result ≡ ASM_EMPTY → HoldsNoLocation (content_of at.old) }
     ensures range { result ≡ ASM_RANGE → IsNoAction verb kind number bytes.now amount }
-    ensures shape { result ≡ ASM_SHAPE → (kind ≡ ASM_KIND_TEXT) × ¬ IsUtf8 bytes.now }
+    ensures not_json { result ≡ ASM_NOT_JSON → IsByJson kind × IsNoJson bytes.now }
+    ensures shape { result ≡ ASM_SHAPE → IsMisshapen kind bytes.now }
     ensures many { result ≡ ASM_MANY → length (move_of (content_of instrs.old)) ≡ instructions_limit }
     ensures kept { result ≢ ASM_DONE → content_of instrs.new ≡ content_of instrs.old }
     ensures held { content_of at.new ≡ content_of at.old }

@@ -35,7 +35,7 @@ static STEP: [Row; 26] = [
     (Call::Get, 0, NO, 0, 2, 7, b""),
     (Call::Get, 1, NO, 0, 5, 0, b"{\"set\":[1,\"two\"]}"),
     (Call::Push, 0, NO, 5, 0, 0, b""),
-    (Call::Instruct, 0, (0, 4, 0, b"", 0), 6, 0, 0, b""),
+    (Call::Instruct, 0, (0, 4, 0, b"", 0), 16, 0, 0, b""),
     (Call::Instruct, 0, (5, 2, 1, b"", 0), 0, 0, 0, b""),
     (Call::Instruct, 1, (1, 3, 0, b"z", 0), 0, 0, 0, b""),
     (Call::Instruct, 1, (2, 2, 1, b"", 0), 0, 0, 0, b""),

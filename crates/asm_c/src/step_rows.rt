@@ -229,6 +229,28 @@ pub(crate) static RIVAL: [Row; 26] = [
     (Call::Depth, 0, b"", 0, 1, b""),
 ];
 
+// Another agent gives a value to a location of a function that was scanned, where it had none.
+pub(crate) static SCANNED: [Row; 11] = [
+    (Call::Begin, 0, b"", 0, 0, b""),
+    (Call::GetAll, 0, b"t", 0, 0, b"[]"),
+    (Call::GetAll, 0, b"t", 0, 0, b"[]"),
+    (Call::Push, 0, b"[[\"put\",[\"y\"],1]]", 0, 0, b""),
+    (
+        Call::Fire,
+        1,
+        b"{\"fire\":[[\"put\",[\"t\",1],5]],\"reads\":[]}",
+        0,
+        1,
+        b"",
+    ),
+    (Call::Commit, 0, b"", 1, 0, b""),
+    (Call::Answer, 0, b"", 0, 0, b"{\"stale\":[\"t\",1]}"),
+    (Call::Depth, 0, b"", 0, 1, b""),
+    (Call::Begin, 0, b"", 0, 1, b""),
+    (Call::GetAll, 0, b"t", 0, 0, b"[[[\"t\",1],5]]"),
+    (Call::Commit, 0, b"", 0, 2, b""),
+];
+
 // Texts that aren't read, and moves that clash, change nothing.
 pub(crate) static REFUSED: [Row; 17] = [
     (Call::Begin, 0, b"", 0, 0, b""),

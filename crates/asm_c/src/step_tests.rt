@@ -6,7 +6,7 @@ use crate::next_store::asm_next;
 use crate::own_state::{asm_scan, asm_state};
 use crate::pushing::{asm_extend, asm_push};
 use crate::read_and_fire::{asm_answer, asm_try_fire};
-use crate::step_rows::{Call, DEEP, NEXT, PUSH, REFUSED, RIVAL, Row, STEP};
+use crate::step_rows::{Call, DEEP, NEXT, PUSH, REFUSED, RIVAL, Row, SCANNED, STEP};
 use crate::steps::{asm_begin, asm_depth, asm_get, asm_pop};
 use crate::test_slots::{agent, close, store, two};
 use asm_slots::{Numbers, Slot};
@@ -110,6 +110,11 @@ fn a_step_is_one_move(rt: HostRuntime) {
 #[test]
 fn a_step_is_stale_or_finds_no_room(rt: HostRuntime) {
     assert!(rt; first_wrong(rt.alloc(), &RIVAL) == None);
+}
+
+#[test]
+fn a_step_rests_on_the_whole_of_what_it_scanned(rt: HostRuntime) {
+    assert!(rt; first_wrong(rt.alloc(), &SCANNED) == None);
 }
 
 #[test]

@@ -46,10 +46,10 @@ pub extern "C" fn asm_peek_at(
 /// seen there.
 ///
 /// It makes no look and no receipt, and the slots of the agent and the location stay as they were. `ASM_MOVED`: the
-/// agent's own state doesn't stand at the step's number. `ASM_MANY`: 256 other locations are got. `ASM_SMALL`:
-/// `written` is the room that the bytes need. `ASM_EMPTY`: the first slot has no agent, the second no step, the
-/// third no location, or two of them are one. `ASM_MEMORY`. After each of these the step's slot is as it was, and
-/// `value` is 0. The step has to be one of the agent's storage.
+/// agent's own state doesn't stand at the step's number. `ASM_MANY`: 256 places are taken, by other locations that are
+/// got and by functions that were scanned. `ASM_SMALL`: `written` is the room that the bytes need. `ASM_EMPTY`: the
+/// first slot has no agent, the second no step, the third no location, or two of them are one. `ASM_MEMORY`. After each
+/// of these the step's slot is as it was, and `value` is 0. The step has to be one of the agent's storage.
 #[unsafe(no_mangle)]
 pub extern "C" fn asm_get_at(
     alloc: Global,

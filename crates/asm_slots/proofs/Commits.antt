@@ -1,11 +1,13 @@
 -- Where the one move of a step fires, the pushed moves fire in turn there.
-use Rattle.std.proofs.Common.{Option, Some, None, Result, IfOk, OnErr, IfErr, IsErrOf, unwrap_or, ℤ, ◌≡◌, ◌≤◌, ◌<◌, ◌↔◌, ◌-◌, ℕ, zero, suc, List, [], ◌∷◌, All, Ok, Err, Contains, length, map, take, get_or, arith, ap, refl, subst, sym, ◌∙◌}
-use Rattle.std.proofs.lemmas.List.{length-take}
+use Rattle.std.proofs.Common.{IsTrue, string_bytes, Option, Some, None, Result, IfOk, OnErr, IfErr, IsErrOf, unwrap_or, ℤ, ◌≡◌, ◌≤◌, ◌<◌, ◌↔◌, ◌+◌, ◌-◌, ◌⊎◌, ⊎_elim, ℕ, zero, suc, List, [], ◌∷◌, All, Ok, Err, Contains, length, map, take, get_or, arith, ap, refl, subst, sym, ◌∙◌}
+use Rattle.std.proofs.lemmas.List.{length-map, length-take}
 use Rattle.std.proofs.lemmas.List.Elements.{All-contains, All-map, Contains-append_left, Contains-append_right}
 use Rattle.asm_update.specs.Fire.{Old, fire, state_of}
 use Rattle.asm_update.specs.Move.{Move}
 use Rattle.asm_update.specs.State.{State, IsProper, val}
+use Rattle.asm_state.specs.Scans.{has_name}
 use Rattle.asm_state.specs.declared.named.Named.{Named}
+use Rattle.asm_state.specs.declared.scanned.Scanned.{Scanned}
 use Rattle.asm_step.specs.InTurn.{fire_all}
 use Rattle.asm_step.specs.Resting.{left_by, AgreesAtRests}
 use Rattle.asm_step.proofs.Built.{resting_those, sees_there}
@@ -34,12 +36,13 @@ use Rattle.asm_storage.specs.declared.error.FireError.{FireError}
 use Rattle.asm_storage.specs.declared.error.FireError.TheVariants.{ManyReads}
 use Rattle.asm_storage.specs.Limits.{reads_limit}
 use Rattle.asm_storage.specs.declared.entry.Entry.{Entry}
-use Rattle.asm_slots.specs.AgentCalls.{HasLooked}
-use Rattle.asm_slots.specs.Commit.{FiresAll, GotStands, HasFiredStep, NamesAll, TellsFire}
+use Rattle.asm_storage.specs.Scans.{with_found, IsKept}
+use Rattle.asm_slots.specs.AgentCalls.{HasLooked, IsRepliedOver}
+use Rattle.asm_slots.specs.Commit.{AreWhole, FiresAll, GotStands, HasFiredStep, NamesAll, ScansAll, TellsFire}
 use Rattle.asm_slots.specs.OwnState.{state_at}
 use Rattle.asm_slots.specs.Standard.{Standard, meaning, part, standard}
-use Rattle.asm_slots.specs.StepView.{StepView}
-use Rattle.asm_slots.specs.StepCalls.{IsStepOn, below}
+use Rattle.asm_slots.specs.StepView.{StepView, names_of}
+use Rattle.asm_slots.specs.StepCalls.{IsOfScanned, IsStepOn, below}
 
 -- each named location stands as at the number under which it is named, so as at the step's number
 named_stand : (state : ℕ → Old) (n before : ℕ) (reads : List Named) → n ≤ before → All (λ r. r.number ≡ n) reads →
@@ -51,6 +54,19 @@ named_stand state n before reads le numbers stand =
     let is = numbers k d lt in
     subst (λ (x : ℕ). state x (get_or reads k d).at ≡ state before (get_or reads k d).at) is
     (stand k d lt (subst (λ (x : ℕ). x ≤ before) (sym is) le)))
+
+-- each location of a scanned function has what it had at the number at which it was scanned, so at the step's number
+scanned_stand : (m : Machine) (q : List Move) (n : ℕ) (scans : List Scanned) → n ≤ length q →
+    All (λ x. x.number ≡ n) scans → All (IsKept m q) scans →
+    All (λ name. (l : Place) → IsTrue (has_name name l) → val (machine_state m (take n q)) l ≡ val (machine_state m q) l)
+    (names_of scans)
+scanned_stand m q n scans le numbers kept =
+    All-map (λ name. (l : Place) → IsTrue (has_name name l) → val (machine_state m (take n q)) l ≡ val (machine_state m q) l)
+    (λ x. string_bytes x.name) scans
+    (λ k d lt l named.
+    let is = numbers k d lt in
+    subst (λ (x : ℕ). val (machine_state m (take x q)) l ≡ val (machine_state m q) l) is
+    ((kept k d lt).value (subst (λ (x : ℕ). x ≤ length q) (sym is) le) l named))
 
 take_twice : (n : ℕ) (xs : List Entry) → take n (moves_seen (take n xs)) ≡ take n (moves_seen xs)
 take_twice zero xs = refl
@@ -90,8 +106,10 @@ standard_laws : AggregatorLaws standard
 unfolding standard_meaning
 standard_laws = pair_laws (pair_laws set_laws bag_laws) count_laws
 
-module _ (a new : AgentAt Standard) (s : StepView) (reads : List Named) (M : Move) (k : ℕ) (names : NamesAll s reads)
-    (answered : IsReplied meaning a new reads M (Fired k)) (coherent : IsCoherentReply meaning new reads M (Fired k)) where
+module _ (a new : AgentAt Standard) (s : StepView) (reads : List Named) (scans : List Scanned) (M : Move) (k : ℕ)
+    (names : NamesAll s reads) (scanned : ScansAll s scans) (answered : IsReplied meaning a new reads M (Fired k))
+    (coherent : IsCoherentReply meaning new reads M (Fired k))
+    (kept : All (IsKept (machine_of meaning new.storage) (moves_seen (take (k - 1) new.account.seen))) scans) where
   abbrev moves : List Move
   moves = moves_seen (take (k - 1) new.account.seen)
 
@@ -126,6 +144,29 @@ module _ (a new : AgentAt Standard) (s : StepView) (reads : List Named) (M : Mov
       All-contains (λ l. after s.number l ≡ after (k - 1) l) (map (λ r. r.at) reads) l stand named in
       sym (ap (λ (o : Old). o l) before_is) ∙ sym here ∙ ap (λ (o : Old). o l) (below_is le)
 
+  -- and so does each function that was scanned
+  pub whole : s.number ≤ length a.account.seen → AreWhole a s k new
+  whole le l (name, has, named) =
+      let longer = length-prefix a.account.seen (take (k - 1) new.account.seen) answered.begins in
+      let many : s.number ≤ length moves =
+      omega (arith, le, longer, length-map (take (k - 1) new.account.seen) (λ (x : Entry). x.instrs)) in
+      let stand = scanned_stand (machine_of meaning new.storage) moves s.number scans many scanned.numbers kept in
+      let here : after s.number l ≡ val (machine_state (machine_of meaning new.storage) moves) l =
+      All-contains (λ name. (l : Place) → IsTrue (has_name name l) →
+      val (machine_state (machine_of meaning new.storage) (take s.number moves)) l ≡ val (machine_state (machine_of meaning new.storage) moves) l)
+      s.scanned name
+      (subst (λ ns. All (λ name. (l : Place) → IsTrue (has_name name l) → after s.number l ≡ val (machine_state (machine_of meaning new.storage) moves) l) ns)
+      scanned.names stand) has l named in
+      ap (λ (q : List Move). val (state_of part new.storage.init q) l) (sym (take_all_seen (k - 1) new.account.seen))
+      ∙ sym here ∙ ap (λ (o : Old). o l) (below_is le)
+
+  -- what was got or scanned stands there
+  rested_stands : s.number ≤ length a.account.seen → (l : Place) → Contains s.got l ⊎ IsOfScanned l s →
+      val (state_at new (k - 1)) l ≡ below a s l
+  rested_stands le l rested =
+      ⊎_elim (λ has. stands_at le l ((names.locations.same l).1 (Contains-append_left s.got (resting_of s.layers) l has)))
+      (λ has. whole le l has) rested
+
   agrees : (groups : List (List Move)) → IsStepOn a s groups →
       AgreesAtRests (state_at new (k - 1)) (below a s) (all_moves groups)
   agrees groups is l rested =
@@ -156,36 +197,56 @@ module _ (a new : AgentAt Standard) (s : StepView) (reads : List Named) (M : Mov
   pub got_stands : s.number ≤ length a.account.seen → GotStands a s k new
   got_stands le then groups l D is same fired named =
       told_stands standard_laws (below a then) then.layers groups is.1 (state_at new (k - 1)) D l
-      (λ sees. stands_at le l ((names.locations.same l).1 (Contains-append_left s.got (resting_of s.layers) l
-      (named (sees_there part (below a then) then.layers groups is.1 l ∙ sees))))
+      (λ sees. rested_stands le l (named (sees_there part (below a then) then.layers groups is.1 l ∙ sees))
       ∙ ap (λ n. val (state_at a n) l) (sym same)) fired
 
+-- the scans of a step's box, which are lent as a slice
+pub scans_all : (s : StepView) (lent own : List Scanned) → lent ≡ own → names_of own ≡ s.scanned → All (λ x. x.number ≡ s.number) own →
+    ScansAll s lent
+scans_all s lent own same names numbers =
+    subst (ScansAll s) (sym same) (record { names = names; numbers = numbers })
+
+-- where it fired over the scans, nothing was found, so it fired as it does that names the reads alone
+module _ (a new : AgentAt Standard) (s : StepView) (reads : List Named) (scans : List Scanned) (M : Move) (k : ℕ)
+    (names : NamesAll s reads) (scanned : ScansAll s scans) (over : IsRepliedOver a new reads scans M (Fired k)) where
+  replied : IsReplied meaning a new reads M (Fired k)
+  replied = subst (λ o. IsReplied meaning a new (with_found reads o) M (Fired k)) over.rests.0 over.replied
+
+  coherent : IsCoherentReply meaning new reads M (Fired k)
+  coherent = subst (λ o. IsCoherentReply meaning new (with_found reads o) M (Fired k)) over.rests.0 over.coherent
+
+  pub over_fires_all : StandsAs s.layers M → FiresAll a s M k new
+  over_fires_all = fires_all a new s reads scans M k names scanned replied coherent over.rests.1
+
+  pub over_got_stands : s.number ≤ length a.account.seen → GotStands a s k new
+  over_got_stands = got_stands a new s reads scans M k names scanned replied coherent over.rests.1
+
+  pub over_whole : s.number ≤ length a.account.seen → AreWhole a s k new
+  over_whole = whole a new s reads scans M k names scanned replied coherent over.rests.1
+
 -- the answer to the fire of a step's one move
-pub step_fired : (s : StepView) (code : ℤ) (fired from to : ℕ) (a new : AgentAt Standard) (reads : List Named) (M : Move)
-    (answer : Result Reply FireError) → NamesAll s reads → M ≡ unwrap_or (one_move s.layers) [] → StandsAs s.layers M →
-    TellsFire answer code fired from to → (IsErrOf answer ManyReads ↔ (reads_limit < length reads)) →
-    IfOk answer (IsReplied meaning a new reads M) →
-    IfOk answer (IsCoherentReply meaning new reads M) → OnErr answer (HasLooked a new) → IfErr answer (IsBusy a new) →
+pub step_fired : (s : StepView) (code : ℤ) (fired from to : ℕ) (a new : AgentAt Standard) (reads : List Named)
+    (scans : List Scanned) (M : Move) (answer : Result Reply FireError) → NamesAll s reads → ScansAll s scans →
+    M ≡ unwrap_or (one_move s.layers) [] → StandsAs s.layers M → TellsFire answer code fired from to →
+    (IsErrOf answer ManyReads ↔ (reads_limit < length reads + length scans)) →
+    IfOk answer (IsRepliedOver a new reads scans M) → OnErr answer (HasLooked a new) → IfErr answer (IsBusy a new) →
     ((n : ℕ) × MadeOffers a new answer n) → HasFiredStep s code fired from to a new
-step_fired s code fired from to a new reads M answer names one fires told many answered coherent refused busy offers = record {
+step_fired s code fired from to a new reads scans M answer names scanned one fires told many answered refused busy offers = record {
   reads = reads;
+  scans = scans;
   answer = answer;
   names = names;
+  scanned = scanned;
   told = told;
   many = many;
-  answered = subst (λ (x : Move). IfOk answer (IsReplied meaning a new reads x)) one answered;
-  coherent = subst (λ (x : Move). IfOk answer (IsCoherentReply meaning new reads x)) one coherent;
+  answered = subst (λ (x : Move). IfOk answer (IsRepliedOver a new reads scans x)) one answered;
   refused = refused;
   busy = busy;
   offers = offers;
-  fires = λ k is. subst (λ (x : Move). FiresAll a s x k new) one (by_answer k is);
-  got = λ k le is.
-      got_stands a new s reads M k names
-      (subst (λ (r : Result Reply FireError). IfOk r (IsReplied meaning a new reads M)) is answered)
-      (subst (λ (r : Result Reply FireError). IfOk r (IsCoherentReply meaning new reads M)) is coherent) le;
+  fires = λ k is. subst (λ (x : Move). FiresAll a s x k new) one
+      (over_fires_all a new s reads scans M k names scanned (over k is) fires);
+  got = λ k le is. over_got_stands a new s reads scans M k names scanned (over k is) le;
+  whole = λ k le is. over_whole a new s reads scans M k names scanned (over k is) le;
 } where
-  by_answer : (k : ℕ) → answer ≡ Ok (Fired k) → FiresAll a s M k new
-  by_answer k is =
-      fires_all a new s reads M k names
-      (subst (λ (r : Result Reply FireError). IfOk r (IsReplied meaning a new reads M)) is answered)
-      (subst (λ (r : Result Reply FireError). IfOk r (IsCoherentReply meaning new reads M)) is coherent) fires
+  over : (k : ℕ) → answer ≡ Ok (Fired k) → IsRepliedOver a new reads scans M (Fired k)
+  over k is = subst (λ (r : Result Reply FireError). IfOk r (IsRepliedOver a new reads scans M)) is answered

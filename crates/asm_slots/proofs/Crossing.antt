@@ -20,6 +20,7 @@ use Rattle.asm_audit.specs.contracts.opened.Opened as Opened
 use Rattle.asm_audit.specs.contracts.progress.Progress as Progress
 use Rattle.asm_element.proofs.Crossing.{location_is_sent}
 use Rattle.asm_state.proofs.Crossing as states
+use Rattle.asm_state.specs.contracts.scanned.Scanned as Scanned
 use Rattle.asm_step.proofs.Crossing.{step_is_sent}
 use Rattle.asm_slots.specs.contracts.audit.Audit as Audit
 use Rattle.asm_slots.specs.contracts.audit.Audit.TheInside as InsideAudit
@@ -77,8 +78,11 @@ inside_store_is_sent = search (sendable, Arc-send, Vec-send, shared_is_sent, sha
 store_is_sent : IsSend Store.the_row
 store_is_sent = search (sendable, inside_store_is_sent) depth 20
 
+scanned_is_sent : IsSend Scanned.the_row
+scanned_is_sent = search (sendable, Vec-send) depth 20
+
 inside_step_is_sent : IsSend InsideStep.the_row
-inside_step_is_sent = search (sendable, Vec-send, step_is_sent, location_is_sent) depth 20
+inside_step_is_sent = search (sendable, Vec-send, step_is_sent, location_is_sent, scanned_is_sent) depth 20
 
 owned_step_is_sent : IsSend OwnedStep.the_row
 owned_step_is_sent = search (sendable, inside_step_is_sent) depth 20

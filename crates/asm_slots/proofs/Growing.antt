@@ -7,7 +7,8 @@ use Rattle.asm_update.specs.State.{State, IsProper}
 use Rattle.asm_state.specs.View.{StateView, value_at}
 use Rattle.asm_step.specs.Answer.{IsPushAnswer, IsPushAnswerOn}
 use Rattle.asm_step.specs.InTurn.{Agrees}
-use Rattle.asm_step.specs.Layers.{Layer, all_moves, IsStepOf}
+use Rattle.core.specs.Option.{option_map}
+use Rattle.asm_step.specs.Layers.{Layer, all_moves, top_of, IsStepOf}
 use Rattle.asm_step.specs.declared.error.StepError.{StepError}
 use Rattle.asm_step.specs.declared.error.StepError.TheVariants.{Deep}
 use Rattle.asm_storage.specs.Storage.{AgentAt}
@@ -147,3 +148,9 @@ pub are_last : (popped : Option (List Move)) (old : StepView) (ls : List Layer) 
 are_last (Some Ms) old ls step = λ a groups group is.
     ap (λ o. unwrap_or o Ms) (step part (below a old) groups group is.1).0
 are_last None old ls step = tt
+
+-- no layer is on top where there is none alone
+pub no_top : (layers : List Layer) → None ≡ option_map (λ (y : Layer). y.moves) (top_of layers) → layers ≡ []
+no_top [] is = refl
+no_top (y ∷ []) is = cc
+no_top (y ∷ z ∷ layers) is = let none : z ∷ layers ≡ [] = no_top (z ∷ layers) is in cc

@@ -15,3 +15,5 @@ pub mod Growing
 pub mod Commits
 pub mod Unwritten
 pub mod Noting
+pub mod Meanings
+pub mod Scans

@@ -10,7 +10,6 @@ use Rattle.asm_element.specs.Place.{Place, location_cmp, location_cmp_total, sam
 use Rattle.std.specs.Cmp.{eq_by_cmp_equiv}
 use Rattle.asm_step.proofs.Agreeing.{each_from}
 use Rattle.asm_step.specs.Places.{AreEach}
-use Rattle.asm_storage.specs.Limits.{reads_limit}
 use Rattle.asm_slots.specs.StepCalls.{IsCopyFor}
 
 either : (xs ys : List Place) (l : Place) → Contains (xs ++ ys) l → Contains (ys ++ xs) l
@@ -53,12 +52,14 @@ noted old put ordered new l copy same items moved sorted kept =
     (each_from put ordered new moved sorted kept)
 
 -- what is noted in a list, to which room was added meanwhile
-pub noted_in : (old mid new : List Place) (l : Place) (copy : Option Place) → mid ≡ old → IsCopyFor old l copy →
-    ((k : Place) → IsCopyFor mid k copy → AreEach (mid ++ k ∷ []) new) → ((k : Place) → IsCopyFor mid k copy → length new ≤ reads_limit) →
-    AreEach (old ++ l ∷ []) new × (length new ≤ reads_limit)
-noted_in old mid new l copy same is each few =
-    let here : IsCopyFor mid l copy = subst (λ (ls : List Place). IsCopyFor ls l copy) (sym same) is in
-    (subst (λ (ls : List Place). AreEach (ls ++ l ∷ []) new) same (each l here), few l here)
+pub noted_in : (limit : ℕ) (old mid new : List Place) (l : Place) (copy : Option Place) → length old ≤ limit → mid ≡ old →
+    IsCopyFor limit old l copy → ((n : ℕ) (k : Place) → IsCopyFor n mid k copy → AreEach (mid ++ k ∷ []) new) →
+    ((n : ℕ) (k : Place) → length mid ≤ n → IsCopyFor n mid k copy → length new ≤ n) →
+    AreEach (old ++ l ∷ []) new × (length new ≤ limit)
+noted_in limit old mid new l copy less same is each few =
+    let here : IsCopyFor limit mid l copy = subst (λ (ls : List Place). IsCopyFor limit ls l copy) (sym same) is in
+    let fits : length mid ≤ limit = subst (λ (ls : List Place). length ls ≤ limit) (sym same) less in
+    (subst (λ (ls : List Place). AreEach (ls ++ l ∷ []) new) same (each limit l here), few limit l fits here)
 
 -- a location that passes the test is got, and another isn't
 pub kept_one : (t : Place → Bool) (old new : List Place) (l : Place) → t l ≡ true → AreEach (old ++ l ∷ []) new →

@@ -1,7 +1,8 @@
 -- What the calls of an agent's part do is done by the agent of its owner.
-use Rattle.std.proofs.Common.{◌≡◌, [], List, Result, subst, sym}
+use Rattle.std.proofs.Common.{◌≡◌, [], List, Result, Ok, Err, IfOk, subst, sym}
 use Rattle.asm_update.specs.Move.{Move}
 use Rattle.asm_state.specs.declared.named.Named.{Named}
+use Rattle.asm_state.specs.declared.scanned.Scanned.{Scanned}
 use Rattle.asm_storage.proofs.Scanning.{no_scans}
 use Rattle.asm_storage.specs.Calls.{IsFire, IsFireOver}
 use Rattle.asm_storage.specs.Part.{agent_of, IsPartOf}
@@ -9,6 +10,7 @@ use Rattle.asm_storage.specs.Storage.{AgentAt, StorageView}
 use Rattle.asm_storage.specs.declared.call.Reply.{Reply}
 use Rattle.asm_storage.specs.declared.error.FireError.{FireError}
 use Rattle.asm_storage.specs.declared.part.AgentPart.{AgentPart}
+use Rattle.asm_slots.specs.AgentCalls.{IsRepliedOver}
 use Rattle.asm_slots.specs.Standard.{Standard, meaning}
 use Rattle.asm_slots.specs.declared.shared.Shared.{Shared}
 
@@ -17,10 +19,27 @@ pub lent : (x y : Shared) (p : AgentPart) → y ≡ x → IsPartOf meaning x.sto
 lent x y p same is = subst (λ (z : Shared). IsPartOf meaning z.storage p) (sym same) is
 
 -- a fire of the part, on the storage of which its owner has a share
+pub part_fires_over : (s t : StorageView Standard) (old new : AgentPart) (a : AgentAt Standard) (reads : List Named)
+    (scans : List Scanned) (M : Move) (r : Result Reply FireError) → t ≡ s → agent_of s old ≡ a →
+    IsFireOver meaning (agent_of t old) (agent_of t new) reads scans M r → IsFireOver meaning a (agent_of s new) reads scans M r
+part_fires_over s t old new a reads scans M r same is over =
+    subst (λ (x : AgentAt Standard). IsFireOver meaning x (agent_of s new) reads scans M r) is
+    (subst (λ (x : StorageView Standard). IsFireOver meaning (agent_of x old) (agent_of x new) reads scans M r) same over)
+
+-- and one that rests on no scan
 pub part_fires : (s t : StorageView Standard) (old new : AgentPart) (a : AgentAt Standard) (reads : List Named) (M : Move)
     (r : Result Reply FireError) → t ≡ s → agent_of s old ≡ a →
     IsFireOver meaning (agent_of t old) (agent_of t new) reads [] M r → IsFire meaning a (agent_of s new) reads M r
 part_fires s t old new a reads M r same is over =
-    no_scans meaning a (agent_of s new) reads M r
-    (subst (λ (x : AgentAt Standard). IsFireOver meaning x (agent_of s new) reads [] M r) is
-    (subst (λ (x : StorageView Standard). IsFireOver meaning (agent_of x old) (agent_of x new) reads [] M r) same over))
+    no_scans meaning a (agent_of s new) reads M r (part_fires_over s t old new a reads [] M r same is over)
+
+-- what it was answered
+pub replied_over : (a new : AgentAt Standard) (reads : List Named) (scans : List Scanned) (M : Move)
+    (r : Result Reply FireError) → IsFireOver meaning a new reads scans M r → IfOk r (IsRepliedOver a new reads scans M)
+replied_over a new reads scans M (Ok t) is = record {
+  found = is.found;
+  replied = is.answered;
+  coherent = is.coherent;
+  rests = is.rests;
+}
+replied_over a new reads scans M (Err e) is = tt

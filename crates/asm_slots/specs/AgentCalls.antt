@@ -6,14 +6,17 @@ use mathlib.Core.List.{IsPrefix}
 use Rattle.asm_element.specs.Place as element
 use Rattle.asm_update.specs.Move.{Move}
 use Rattle.asm_state.specs.declared.named.Named.{Named}
+use Rattle.asm_state.specs.declared.scanned.Scanned.{Scanned}
+use Rattle.asm_storage.specs.Agents.{moves_seen}
 use Rattle.asm_storage.specs.Limits.{offers_limit}
 use Rattle.asm_storage.specs.declared.call.Reply.{Reply}
 use Rattle.asm_storage.specs.declared.call.Reply.TheVariants as reply
 use Rattle.asm_storage.specs.declared.error.FireError.TheVariants.{Busy, Memory}
 use Rattle.asm_storage.specs.declared.receipt.Receipt.{Receipt}
 use Rattle.asm_storage.specs.declared.entry.Entry.{Entry}
-use Rattle.asm_storage.specs.Storage.{AgentAt, has_looked, has_seen, last_look, Missed}
-use Rattle.asm_storage.specs.Calls.{ReadingView, IsRead, IsReplied, IsBusy, IsCoherentReply, MadeOffers}
+use Rattle.asm_storage.specs.Storage.{AgentAt, has_looked, has_seen, last_look, machine_of, Missed}
+use Rattle.asm_storage.specs.Calls.{ReadingView, IsRead, IsReplied, IsBusy, IsCoherentReply, MadeOffers, judged_on}
+use Rattle.asm_storage.specs.Scans.{with_found, RestsOn}
 use Rattle.asm_journal.specs.Event.{answer_json_of}
 pub use Rattle.asm_row.specs.Limits.{IsNoCapacity}
 use Rattle.asm_slots.specs.Standard.{Standard, meaning}
@@ -68,6 +71,13 @@ HasTriedFire bytes code number old new =
     (reads : List Named) × (M : Move) × (r : Reply) × ReadAsFire bytes reads M × (code_of r ≡ code)
     × (number_of r ≡ number) × IsReplied meaning old new reads M r × IsCoherentReply meaning new reads M r
     × ((n : ℕ) × MadeOffers old new (Ok r) n)
+
+-- a fire that rests on scans too was answered by this reply: as one is that names, behind the reads, what was found of them
+pub record IsRepliedOver (old new : AgentAt Standard) (reads : List Named) (scans : List Scanned) (M : Move) (r : Reply) : Type 0 where
+  pub found : Option Named
+  pub replied : IsReplied meaning old new (with_found reads found) M r
+  pub coherent : IsCoherentReply meaning new (with_found reads found) M r
+  pub rests : RestsOn (machine_of meaning new.storage) (moves_seen (judged_on r new.account.seen)) scans found r
 
 -- so many moves had been seen at the start of a call that lost 64 offers, and so many at its end
 abbrev pub WasBusy : ℕ → ℕ → AgentAt Standard → AgentAt Standard → Type 0

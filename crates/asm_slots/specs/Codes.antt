@@ -38,7 +38,7 @@ ASM_SMALL = pos 7
 abbrev pub ASM_BUSY : ℤ
 ASM_BUSY = pos 8
 
--- more than 256 locations; or a move with more than 4,096 instructions
+-- more than 256 locations, or locations and scanned functions; or a move with more than 4,096 instructions
 abbrev pub ASM_MANY : ℤ
 ASM_MANY = pos 9
 

@@ -6,7 +6,8 @@ use Rattle.asm_update.specs.Move.{Move}
 use Rattle.asm_update.specs.State.{State, IsProper, val}
 use Rattle.asm_element.specs.Place.{Place}
 use Rattle.asm_state.specs.declared.named.Named.{Named}
-use Rattle.asm_storage.specs.Calls.{IsReplied, IsBusy, IsCoherentReply, MadeOffers}
+use Rattle.asm_state.specs.declared.scanned.Scanned.{Scanned}
+use Rattle.asm_storage.specs.Calls.{IsBusy, MadeOffers}
 use Rattle.asm_storage.specs.Limits.{offers_limit, reads_limit}
 use Rattle.asm_storage.specs.Storage.{AgentAt, IsSameAgent}
 use Rattle.asm_storage.specs.declared.call.Reply.{Reply}
@@ -16,13 +17,13 @@ use Rattle.asm_storage.specs.declared.error.FireError.TheVariants.{Busy, ManyRea
 use Rattle.asm_step.specs.InTurn.{DoesAll, fire_all}
 use Rattle.asm_step.specs.Layers.{all_moves, one_move, resting_of, shows_below}
 use Rattle.asm_step.specs.Places.{AreEach}
-use Rattle.asm_slots.specs.AgentCalls.{HasLooked, MissedFew, MissedOne, SeesOn, code_of, number_of}
+use Rattle.asm_slots.specs.AgentCalls.{HasLooked, IsRepliedOver, MissedFew, MissedOne, SeesOn, code_of, number_of}
 use Rattle.asm_slots.specs.Codes.{IsOneOf, ASM_DONE, ASM_STALE, ASM_CLASH, ASM_MEMORY, ASM_FULL, ASM_EMPTY, ASM_BUSY, ASM_MANY}
 use Rattle.asm_slots.specs.OwnState.{state_at}
 use Rattle.asm_slots.specs.Slots.{Goes, HoldBoth, Holds, LacksOne}
-use Rattle.asm_slots.specs.Standard.{Standard, meaning, part}
-use Rattle.asm_slots.specs.StepView.{StepView}
-use Rattle.asm_slots.specs.StepCalls.{IsStepOn, seen}
+use Rattle.asm_slots.specs.Standard.{Standard, part}
+use Rattle.asm_slots.specs.StepView.{StepView, names_of}
+use Rattle.asm_slots.specs.StepCalls.{IsOfScanned, IsStepOn, below, seen}
 use Rattle.asm_slots.specs.declared.content.Content.{Content}
 use Rattle.asm_slots.specs.declared.read_and_fire.Numbers.{Numbers}
 
@@ -40,6 +41,11 @@ pub record NamesAll (s : StepView) (reads : List Named) : Type 0 where
   pub locations : AreEach (s.got ++ resting_of s.layers) (map (λ r. r.at) reads)
   pub numbers : All (λ r. r.number ≡ s.number) reads
 
+-- the scans are of the functions that the step scanned, each at its number
+pub record ScansAll (s : StepView) (scans : List Scanned) : Type 0 where
+  pub names : names_of scans ≡ s.scanned
+  pub numbers : All (λ x. x.number ≡ s.number) scans
+
 -- where the move M fired with this number: on the state before it, which is proper, the pushed moves fire in turn, and leave
 -- what M leaves
 abbrev pub FiresAll : AgentAt Standard → StepView → Move → ℕ → AgentAt Standard → Type 0
@@ -47,29 +53,36 @@ FiresAll a s M k new = (groups : List (List Move)) → IsStepOn a s groups → I
     (D : State) × (fire part (state_at new (k - 1)) M ≡ Ok D)
     × (fire_all part (Ok (state_at new (k - 1))) (all_moves groups) ≡ Ok D)
 
--- and what was got through some of them, which the others follow, is what these leave there: at a location that is named,
--- or where what is seen isn't made from the state below
+-- and what was got through some of them, which the others follow, is what these leave there: at a location that is named or
+-- of a function that was scanned, or where what is seen isn't made from the state below
 abbrev pub GotStands : AgentAt Standard → StepView → ℕ → AgentAt Standard → Type 0
 GotStands a s k new = (then : StepView) (groups : List (List Move)) (l : Place) (D : State) →
     IsStepOn a then groups → then.number ≡ s.number →
     fire_all part (Ok (state_at new (k - 1))) (all_moves groups) ≡ Ok D →
-    (shows_below then.layers l ≡ true → Contains s.got l) → seen a then l ≡ val D l
+    (shows_below then.layers l ≡ true → Contains s.got l ⊎ IsOfScanned l s) → seen a then l ≡ val D l
 
--- the step's one move was fired with all named that it rests on, and was answered so; that these are too many, where they
--- are more than 256, each location counted once
+-- each function that was scanned is whole there: each of its locations, whether it has a value or none, has what it had below
+-- the step
+abbrev pub AreWhole : AgentAt Standard → StepView → ℕ → AgentAt Standard → Type 0
+AreWhole a s k new = (l : Place) → IsOfScanned l s → val (state_at new (k - 1)) l ≡ below a s l
+
+-- the step's one move was fired with all named that it rests on, and over all that it scanned, and was answered so; that these
+-- are too many, where they are more than 256, each location and each function counted once
 pub record HasFiredStep (s : StepView) (code : ℤ) (fired from to : ℕ) (old new : AgentAt Standard) : Type 0 where
   pub reads : List Named
+  pub scans : List Scanned
   pub answer : Result Reply FireError
   pub names : NamesAll s reads
+  pub scanned : ScansAll s scans
   pub told : TellsFire answer code fired from to
-  pub many : IsErrOf answer ManyReads ↔ (reads_limit < length reads)
-  pub answered : IfOk answer (IsReplied meaning old new reads (unwrap_or (one_move s.layers) []))
-  pub coherent : IfOk answer (IsCoherentReply meaning new reads (unwrap_or (one_move s.layers) []))
+  pub many : IsErrOf answer ManyReads ↔ (reads_limit < length reads + length scans)
+  pub answered : IfOk answer (IsRepliedOver old new reads scans (unwrap_or (one_move s.layers) []))
   pub refused : OnErr answer (HasLooked old new)
   pub busy : IfErr answer (IsBusy old new)
   pub offers : (n : ℕ) × MadeOffers old new answer n
   pub fires : (k : ℕ) → answer ≡ Ok (Fired k) → FiresAll old s (unwrap_or (one_move s.layers) []) k new
   pub got : (k : ℕ) → s.number ≤ length old.account.seen → answer ≡ Ok (Fired k) → GotStands old s k new
+  pub whole : (k : ℕ) → s.number ≤ length old.account.seen → answer ≡ Ok (Fired k) → AreWhole old s k new
 
 -- the step's move was fired; or nothing was done, for want of memory
 abbrev pub HasCommitted : StepView → ℤ → ℕ → ℕ → ℕ → AgentAt Standard → AgentAt Standard → Type 0

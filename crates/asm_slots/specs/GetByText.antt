@@ -20,13 +20,22 @@ pub record Gets (bytes : List ℕ) (agent step after : Option Content) (out out_
   pub empty : code ≡ ASM_EMPTY → LacksOne agent step
   pub stays : code ≢ ASM_DONE → after ≡ step
 
--- the same of all locations with this function name
+-- what is seen at the locations of these bytes is told; or the code tells why not
+pub record Sees (bytes : List ℕ) (agent step : Option Content) (out out_after : List ℕ) (written : ℕ) (code : ℤ) : Type 0 where
+  pub codes : IsOneOf (ASM_DONE ∷ ASM_MEMORY ∷ ASM_EMPTY ∷ ASM_SMALL ∷ ASM_NOT_JSON ∷ ASM_SHAPE ∷ ASM_MOVED ∷ []) code
+  pub text : TellsText (λ text. HoldBoth agent step (λ a s. IsGotText bytes a s text)) out out_after written code
+  pub reached : IsOneOf (ASM_DONE ∷ ASM_SMALL ∷ []) code → HoldBoth agent step HasReached
+  pub not_json : code ≡ ASM_NOT_JSON → IsNoJson bytes
+  pub shape : code ≡ ASM_SHAPE → IsOtherJson AreLocations bytes
+  pub empty : code ≡ ASM_EMPTY → LacksOne agent step
+
+-- what is seen at all locations with this function name is told, and the function is scanned; or the code tells why not
 pub record GetsAll (name : List ℕ) (agent step after : Option Content) (out out_after : List ℕ) (written : ℕ) (code : ℤ) : Type 0 where
   pub codes : IsOneOf (ASM_DONE ∷ ASM_MEMORY ∷ ASM_EMPTY ∷ ASM_SMALL ∷ ASM_MANY ∷ ASM_SHAPE ∷ ASM_MOVED ∷ []) code
   pub text : TellsText (λ text. HoldBoth agent step (λ a s. IsFoundText name a s text)) out out_after written code
-  pub got : code ≡ ASM_DONE → HoldBoth agent step (λ a s. HoldsStep after (HasGotAll name a s))
+  pub got : code ≡ ASM_DONE → GoesStep step after (HasGotAll name)
   pub reached : IsOneOf (ASM_DONE ∷ ASM_SMALL ∷ ASM_MANY ∷ []) code → HoldBoth agent step HasReached
-  pub many : code ≡ ASM_MANY → HoldBoth agent step (WouldGetManyMore name)
+  pub many : code ≡ ASM_MANY → HoldsStep step (WouldGetManyMore name)
   pub shape : code ≡ ASM_SHAPE → ¬ IsUtf8 name
   pub empty : code ≡ ASM_EMPTY → LacksOne agent step
   pub stays : code ≢ ASM_DONE → after ≡ step

@@ -1,5 +1,6 @@
 -- Values by kind, number and bytes, and instructions by numbers.
-use Rattle.std.specs.Prelude.{◌≡◌, ◌≢◌, ◌≤◌, ℕ, ℤ, pos, true, List, [], ◌∷◌, ◌++◌}
+use Rattle.std.specs.Prelude.{◌≡◌, ◌≢◌, ◌≤◌, ◌⊎◌, ℕ, ℤ, pos, true, List, [], ◌∷◌, ◌++◌, IsUtf8}
+use Rattle.serde_json.specs.Data.{Data}
 use Rattle.serde_json.specs.Written.{compact_text}
 use Rattle.asm_element.specs.Place.{Place}
 use Rattle.asm_element.specs.declared.element.Element.{Element}
@@ -10,7 +11,8 @@ use Rattle.asm_update.specs.Action as action
 use Rattle.asm_update.specs.declared.action.Action.{Action}
 use Rattle.asm_update.specs.declared.action.Action.TheVariants.{Regular, SetAdd, SetRemove, BagAdd, BagRemove, Increment}
 use Rattle.asm_update.specs.Move.{Move}
-use Rattle.asm_journal.specs.Value.{value_json_of}
+use Rattle.asm_journal.specs.Value.{value_json_of, IsValueForm}
+use Rattle.asm_explain.specs.Bytes.{IsOtherJson, ReadAs}
 
 -- undef
 abbrev pub ASM_KIND_UNDEF : ℤ
@@ -69,8 +71,28 @@ abbrev pub IsTold : Value → ℤ → ℤ → List ℕ → Type 0
 IsTold v kind number bytes = (kind ≡ kind_of v) × (number ≡ number_of v) × (bytes ≡ bytes_of v)
 
 -- kind, number and bytes tell the element, which is no list
-abbrev pub IsOperand : ℤ → ℤ → List ℕ → Element → Type 0
-IsOperand kind number bytes e = IsTold (Plain e) kind number bytes × (kind ≢ ASM_KIND_LIST)
+abbrev pub IsTextOrPlain : ℤ → ℤ → List ℕ → Element → Type 0
+IsTextOrPlain kind number bytes e = IsTold (Plain e) kind number bytes × (kind ≢ ASM_KIND_LIST)
+
+-- the kind is one of those that bytes tell as JSON
+abbrev pub IsByJson : ℤ → Type 0
+IsByJson kind = (kind ≡ ASM_KIND_LIST) ⊎ ((kind ≡ ASM_KIND_SET) ⊎ (kind ≡ ASM_KIND_BAG))
+
+-- the JSON of a value of this kind
+abbrev pub IsKindForm : ℤ → Value → Data → Type 0
+IsKindForm kind v d = (kind ≡ kind_of v) × IsValueForm v d
+
+-- kind, number and bytes mean the value: a list, a set or a bag by any JSON of it, and any other as they tell it
+abbrev pub IsOperand : ℤ → ℤ → List ℕ → Value → Type 0
+IsOperand kind number bytes (Plain (Inner ds)) = (number ≡ pos 0) × ReadAs (IsKindForm kind) bytes (Plain (Inner ds))
+IsOperand kind number bytes (Set s) = (number ≡ pos 0) × ReadAs (IsKindForm kind) bytes (Set s)
+IsOperand kind number bytes (Bag b) = (number ≡ pos 0) × ReadAs (IsKindForm kind) bytes (Bag b)
+IsOperand kind number bytes v = IsTold v kind number bytes
+
+-- the bytes are no text, or are JSON of no value of the kind
+abbrev pub IsMisshapen : ℤ → List ℕ → Type 0
+IsMisshapen kind bytes =
+    ((kind ≡ ASM_KIND_TEXT) × ¬ IsUtf8 bytes) ⊎ (IsByJson kind × IsOtherJson (IsKindForm kind) bytes)
 
 -- a value is put
 abbrev pub ASM_PUT : ℤ
@@ -111,11 +133,10 @@ IsAmount (BagAdd e n) amount = (amount ≡ n) × (1 ≤ n)
 IsAmount (BagRemove e n) amount = (amount ≡ n) × (1 ≤ n)
 IsAmount _ amount = amount ≡ 0
 
--- the action has this verb and this amount, and is of one element, which kind, number and bytes tell
+-- the action has this verb and this amount, and is of the value that kind, number and bytes mean
 abbrev pub IsAction : ℤ → ℤ → ℤ → List ℕ → ℕ → Action → Type 0
 IsAction verb kind number bytes amount a =
-    (verb ≡ verb_of a) × IsAmount a amount
-    × ((e : Element) × (action.content_of a ≡ Plain e) × IsOperand kind number bytes e)
+    (verb ≡ verb_of a) × IsAmount a amount × IsOperand kind number bytes (action.content_of a)
 
 -- no action is meant
 abbrev pub IsNoAction : ℤ → ℤ → ℤ → List ℕ → ℕ → Type 0

@@ -30,3 +30,5 @@ pub mod GetByText
 pub mod Commit
 pub mod Kinds
 pub mod Verbs
+pub mod Popping
+pub mod Offering

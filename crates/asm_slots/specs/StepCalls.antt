@@ -1,7 +1,10 @@
 -- What the calls do with the step in a slot.
-use Rattle.std.specs.Prelude.{◌≡◌, ◌≢◌, ◌≤◌, ◌<◌, ℕ, ℤ, List, [], ◌∷◌, ◌++◌, length, Contains, Option, None, Some, Result, Ok, Err, filter, true}
-use Rattle.std.specs.FinMap as finite
+use Rattle.std.specs.Prelude.{◌≡◌, ◌≢◌, ◌≤◌, ◌<◌, ◌+◌, ◌⊎◌, ℕ, ℤ, List, [], ◌∷◌, ◌++◌, length, Contains, Option, None, Some, Result, Ok, Err, filter, nat_eq, string_bytes, Bool, true, IsTrue}
+use Rattle.std.specs.Cmp.Lexicographic.{pointwise}
+use Rattle.std.specs.List.{list_any}
 use Rattle.asm_element.specs.Place.{Place}
+use Rattle.asm_state.specs.Scans.{has_name}
+use Rattle.asm_state.specs.declared.scanned.Scanned.{Scanned}
 use Rattle.asm_update.specs.Fire.{Old}
 use Rattle.asm_update.specs.Move.{Move}
 use Rattle.asm_update.specs.State.{State, IsProper, val}
@@ -20,7 +23,7 @@ use Rattle.asm_slots.specs.Codes.{ASM_CLASH, ASM_MANY, ASM_LARGE, ASM_DEEP}
 use Rattle.asm_slots.specs.Composing.{clash_text, large_text}
 use Rattle.asm_slots.specs.OwnState.{IsTextOfState, of_name, state_at, values_text}
 use Rattle.asm_slots.specs.Standard.{Standard, standard, part}
-use Rattle.asm_slots.specs.StepView.{StepView}
+use Rattle.asm_slots.specs.StepView.{StepView, names_of}
 use Rattle.asm_slots.specs.declared.owned_step.Way.{Way}
 use Rattle.asm_slots.specs.declared.owned_step.Way.TheVariants as ways
 
@@ -53,10 +56,14 @@ IsGotText bytes a s text =
 abbrev pub from_below : StepView → List Place → List Place
 from_below s locations = filter (shows_below s.layers) locations
 
+-- how many of the 256 places are taken: one by each location that was got, and one by each function that was scanned
+abbrev pub places_of : StepView → ℕ
+places_of s = length s.got + length s.scanned
+
 -- the locations are got too, where what is seen rests on the state below
 abbrev pub HasGotEach : List Place → StepView → StepView → Type 0
 HasGotEach locations old new =
-    (new ≡ record old { got = new.got }) × AreEach (old.got ++ from_below old locations) new.got × (length new.got ≤ reads_limit)
+    (new ≡ record old { got = new.got }) × AreEach (old.got ++ from_below old locations) new.got × (places_of new ≤ reads_limit)
 
 -- the locations of these bytes are got too
 abbrev pub HasGot : List ℕ → StepView → StepView → Type 0
@@ -66,19 +73,20 @@ HasGot bytes old new = (locations : List Place) × ReadAsLocations bytes locatio
 abbrev pub HasGotOne : Place → StepView → StepView → Type 0
 HasGotOne l = HasGotEach (l ∷ [])
 
--- 256 locations are got, and this one isn't among them, and what is seen there rests on the state below
+-- 256 places are taken, and this location isn't got, and what is seen there rests on the state below
 abbrev pub WouldGetOneMore : Place → StepView → Type 0
-WouldGetOneMore l s = (reads_limit ≤ length s.got) × ¬ Contains s.got l × (shows_below s.layers l ≡ true)
+WouldGetOneMore l s = (reads_limit ≤ places_of s) × ¬ Contains s.got l × (shows_below s.layers l ≡ true)
 
--- the location is among the others; or it isn't, and this is a copy of it, for which there is room among 256
-abbrev pub IsCopyFor : List Place → Place → Option Place → Type 0
-IsCopyFor got l None = Contains got l
-IsCopyFor got l (Some copy) = (copy ≡ l) × (length got < reads_limit)
+-- the location is among the others; or it isn't, and this is a copy of it, for which there is room among so many
+abbrev pub IsCopyFor : ℕ → List Place → Place → Option Place → Type 0
+IsCopyFor limit got l None = Contains got l
+IsCopyFor limit got l (Some copy) = (copy ≡ l) × (length got < limit)
 
--- more than 256 would be got, with the locations of these bytes
+-- more than 256 places would be taken, with the locations of these bytes
 abbrev pub WouldGetMany : List ℕ → StepView → Type 0
 WouldGetMany bytes s =
-    (locations ls : List Place) × ReadAsLocations bytes locations × AreEach (s.got ++ from_below s locations) ls × (reads_limit < length ls)
+    (locations ls : List Place) × ReadAsLocations bytes locations × AreEach (s.got ++ from_below s locations) ls
+    × (reads_limit < length ls + length s.scanned)
 
 -- the text tells what is seen at the locations with this function name
 abbrev pub IsFoundText : List ℕ → AgentAt Standard → StepView → List ℕ → Type 0
@@ -88,16 +96,34 @@ IsFoundText name a s text = IsTextOfState (of_name name (seen a s)) text
 abbrev pub IsFound : List ℕ → AgentAt Standard → StepView → State → Type 0
 IsFound name a s S = IsProper S × ((l : Place) → val S l ≡ of_name name (seen a s) l)
 
--- the locations that are found with this function name are got too
-abbrev pub HasGotAll : List ℕ → AgentAt Standard → StepView → StepView → Type 0
-HasGotAll name a old new =
-    (S : State) × IsFound name a old S × (new ≡ record old { got = new.got })
-    × AreEach (old.got ++ from_below old (finite.keys S)) new.got × (length new.got ≤ reads_limit)
+-- the function with this name was scanned
+abbrev pub IsScanned : List ℕ → StepView → Type 0
+IsScanned name s = Contains s.scanned name
 
--- more than 256 would be got, with those that are found
-abbrev pub WouldGetManyMore : List ℕ → AgentAt Standard → StepView → Type 0
-WouldGetManyMore name a s =
-    (S : State) × (ls : List Place) × IsFound name a s S × AreEach (s.got ++ from_below s (finite.keys S)) ls × (reads_limit < length ls)
+-- the location is one of a function that was scanned
+abbrev pub IsOfScanned : Place → StepView → Type 0
+IsOfScanned l s = (name : List ℕ) × IsScanned name s × IsTrue (has_name name l)
+
+-- the function with this name is scanned: it was already, and all stays; or its name is put behind the others
+abbrev pub HasGotAll : List ℕ → StepView → StepView → Type 0
+HasGotAll name old new =
+    (IsScanned name old × (new ≡ old))
+    ⊎ (¬ IsScanned name old × (new ≡ record old { scanned = old.scanned ++ name ∷ [] }) × (places_of new ≤ reads_limit))
+
+-- 256 places are taken, and the function with this name isn't scanned
+abbrev pub WouldGetManyMore : List ℕ → StepView → Type 0
+WouldGetManyMore name s = (reads_limit ≤ places_of s) × ¬ IsScanned name s
+
+-- whether one of the scans is of the function with this name
+abbrev pub has_scan : List ℕ → List Scanned → Bool
+has_scan name scans = list_any (λ scan. pointwise nat_eq name (string_bytes scan.name)) scans
+
+-- the name is that of one of the scans; or it isn't, and this is a scan of it at the number, for which there is room among so
+-- many
+abbrev pub IsScanFor : ℕ → List Scanned → List ℕ → ℕ → Option Scanned → Type 0
+IsScanFor limit scans name number None = Contains (names_of scans) name
+IsScanFor limit scans name number (Some scan) =
+    (string_bytes scan.name ≡ name) × (scan.number ≡ number) × ¬ Contains (names_of scans) name × (length scans < limit)
 
 -- ---- pushing
 

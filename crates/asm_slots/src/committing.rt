@@ -38,7 +38,7 @@ fn told_fire(answer: Result<Reply, FireError>) -> (i32, Numbers)
     }
 }
 
-// Fires the step's one move with all named that it rests on.
+// Fires the step's one move with all named that it rests on, and over all that it scanned.
 fn fire_step(alloc: Global, agent: &mut OwnedAgent, step: &OwnedStep) -> (i32, Numbers)
     ensures committed { HasCommitted step.now result.0 result.1.fired result.1.from result.1.to agent.old agent.new }
     ensures codes { IsOneOf (ASM_DONE ∷ ASM_STALE ∷ ASM_CLASH ∷ ASM_MEMORY ∷ ASM_FULL ∷ ASM_BUSY ∷ ASM_MANY ∷ []) result.0 }
@@ -55,7 +55,7 @@ fn fire_step(alloc: Global, agent: &mut OwnedAgent, step: &OwnedStep) -> (i32, N
     let Ok(reads) = step.reads(alloc) else {
         return (MEMORY, Numbers::none());
     };
-    told_fire(agent.fire(alloc, &reads, &instrs))
+    told_fire(agent.fire_over(alloc, &reads, &step.scanned, &instrs))
 }
 
 /// Fires the one move of the step in a box with the agent in another.

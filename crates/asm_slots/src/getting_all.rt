@@ -1,23 +1,23 @@
-//! What is seen through a step at all locations with one function name.
-ghost use Rattle.std.specs.Prelude.{◌≡◌, ◌≢◌, ◌≤◌, ◌∷◌, ◌++◌, [], length, string_bytes, IsUtf8, IfOk, IfErr, OnOk};
-ghost use Rattle.std.specs.FinMap as finite;
-ghost use Rattle.asm_update.specs.State.{State};
-ghost use Rattle.asm_step.specs.Places.{AreEach};
-ghost use Rattle.asm_storage.specs.Limits.{reads_limit};
+//! What is seen through a step at all locations with one function name, and the scan of the function.
+ghost use Rattle.std.specs.Prelude.{◌≡◌, ◌≢◌, ◌≤◌, ◌<◌, ◌∷◌, ◌++◌, [], length, vec_len, string_bytes, Contains, IsUtf8};
+ghost use Rattle.std.specs.Prelude.{IfErr, IfOk, IfNone, IfSome, IsSome, OnOk};
+ghost use Rattle.std.specs.Vec.{vec_capacity};
 ghost use Rattle.asm_slots.specs.Codes.{IsOneOf, ASM_DONE, ASM_MEMORY, ASM_SMALL, ASM_MANY};
 ghost use Rattle.asm_slots.specs.Codes.{ASM_SHAPE, ASM_MOVED};
-ghost use Rattle.asm_slots.specs.StepCalls.{HasGotAll, HasReached, IsFound, IsFoundText, WouldGetManyMore, from_below};
+ghost use Rattle.asm_slots.specs.StepCalls.{HasGotAll, HasReached, IsFound, IsFoundText, IsScanFor};
+ghost use Rattle.asm_slots.specs.StepCalls.{WouldGetManyMore, has_scan};
+ghost use Rattle.asm_slots.specs.StepView.{names_of};
 ghost use Rattle.asm_slots.specs.WrittenText.{TellsText};
 
 use crate::codes::{DONE, MANY, MEMORY, MOVED, SHAPE, copied};
 use crate::owned_agent::OwnedAgent;
-use crate::owned_step::{OwnedStep, each_of, from_below};
-use crate::steps::{GetError, Got};
-use asm_element::Location;
+use crate::owned_step::OwnedStep;
+use crate::steps::GetError;
 use asm_journal::state_text;
+use asm_state::Scanned;
 use asm_storage::READS_LIMIT;
 use asm_update::PlainState;
-use std::alloc::{AllocError, Global};
+use std::alloc::Global;
 use std::str;
 
 // What is seen at the locations with this name.
@@ -29,8 +29,6 @@ fn found_in(
 ) -> Result<PlainState, GetError>
     ensures found { IfOk result (IsFound name.now agent.now step.now) }
     ensures reached { OnOk result (HasReached agent.now step.now) }
-    ensures many { IfErr result (λ e. ¬ (e ≡ GetError.Many)) }
-    ensures shape { IfErr result (λ e. ¬ (e ≡ GetError.Shape)) }
 {
     let state = agent.state();
     if state.number() != step.number {
@@ -43,62 +41,101 @@ fn found_in(
     Ok(found)
 }
 
-// The same, with the bytes of the name.
-fn found_of(
+// Its text.
+fn found_text(
     alloc: Global,
     agent: &OwnedAgent,
     step: &OwnedStep,
-    name: &[u8],
-) -> Result<PlainState, GetError>
-    ensures found { IfOk result (IsFound name.now agent.now step.now) }
+    name: &str,
+) -> Result<String, GetError>
+    ensures text { IfOk result (λ text. IsFoundText name.now agent.now step.now (string_bytes text)) }
     ensures reached { OnOk result (HasReached agent.now step.now) }
-    ensures many { IfErr result (λ e. ¬ (e ≡ GetError.Many)) }
-    ensures shape { IfErr result (λ e. e ≡ GetError.Shape → ¬ IsUtf8 name.now) }
 {
-    let Ok(name) = str::from_utf8(name) else {
-        return Err(GetError::Shape);
-    };
-    found_in(alloc, agent, step, name)
+    let found = found_in(alloc, agent, step, name)?;
+    Ok(state_text(alloc, &found)?)
 }
 
-// Copies of the locations of a state, in ascending order.
-fn locations_of_state(alloc: Global, state: &PlainState) -> Result<Vec<Location>, AllocError>
-    ensures { IfOk result (λ locations. locations.items ≡ finite.keys state.now) }
+// Whether one of the scans is of the function with this name.
+fn is_scanned(scans: &[Scanned], name: &str) -> bool
+    ensures { result ≡ has_scan name.now scans.now }
 {
-    let mut locations = Vec::new(alloc);
-    for (at, _value) in state.iter() {
-        locations.push(at.copy(alloc)?)?;
+    scans.iter().any(|scan| name == scan.name.as_str())
+}
+
+// A scan of the function, unless there is one among the others, and room for it behind them.
+fn scan_for(
+    alloc: Global,
+    limit: usize,
+    scans: &mut Vec<Scanned>,
+    name: &str,
+    number: u32,
+) -> Result<Option<Scanned>, GetError>
+    ensures kept { scans.new.items ≡ scans.old.items }
+    ensures scan { IfOk result (IsScanFor limit scans.old.items name.now number) }
+    ensures room { IfOk result (λ scan. IsSome scan → vec_len scans.new < vec_capacity scans.new) }
+    ensures many { IfErr result (λ e. e ≡ GetError.Many →
+        (limit ≤ length scans.old.items) × ¬ Contains (names_of scans.old.items) name.now) }
+{
+    if is_scanned(scans, name) {
+        return Ok(None);
     }
-    Ok(locations)
-}
-
-fn got_all_at(
-    alloc: Global,
-    agent: &OwnedAgent,
-    step: &OwnedStep,
-    name: &[u8],
-) -> Result<Got, GetError>
-    ensures text { IfOk result (λ g. IsFoundText name.now agent.now step.now (string_bytes g.text)) }
-    ensures all { IfOk result (λ g. (S : State) × IsFound name.now agent.now step.now S
-        × AreEach (step.now.got ++ from_below step.now (finite.keys S)) g.all.items) }
-    ensures few { IfOk result (λ g. length g.all.items ≤ reads_limit) }
-    ensures many { IfErr result (λ e. e ≡ GetError.Many → WouldGetManyMore name.now agent.now step.now) }
-    ensures reached { OnOk result (HasReached agent.now step.now) }
-    ensures many_reached { IfErr result (λ e. e ≡ GetError.Many → HasReached agent.now step.now) }
-    ensures shape { IfErr result (λ e. e ≡ GetError.Shape → ¬ IsUtf8 name.now) }
-{
-    let found = found_of(alloc, agent, step, name)?;
-    let locations = locations_of_state(alloc, &found)?;
-    let below = from_below(alloc, &step.step, locations)?;
-    let all = each_of(alloc, &step.got, below)?;
-    if all.len() > READS_LIMIT {
+    if scans.len() >= limit {
         return Err(GetError::Many);
     }
-    let text = state_text(alloc, &found)?;
-    Ok(Got { text, all })
+    let name = String::from_str(alloc, name)?;
+    scans.reserve_exact(scans.len().max(1))?;
+    Ok(Some(Scanned { name, number }))
 }
 
-/// Tells what is seen at the locations with this name through the step, which are got.
+// Puts the scan, if there is one, behind the others.
+fn note_scan(scans: &mut Vec<Scanned>, scan: Option<Scanned>)
+    requires { IsSome scan → vec_len scans.old < vec_capacity scans.old }
+    ensures some { IfSome scan (λ one. scans.new.items ≡ scans.old.items ++ one ∷ []) }
+    ensures none { IfNone scan (scans.new.items ≡ scans.old.items) }
+{
+    let Some(scan) = scan else {
+        return;
+    };
+    scans.push(scan).unwrap();
+}
+
+// The same as below, with the name as a text.
+fn get_all_of_name(
+    alloc: Global,
+    agent: &OwnedAgent,
+    step: &mut OwnedStep,
+    name: &str,
+    out: &mut [u8],
+    written: &mut usize,
+) -> i32
+    requires { written.old ≡ 0 }
+    ensures codes { IsOneOf (ASM_DONE ∷ ASM_MEMORY ∷ ASM_SMALL ∷ ASM_MANY ∷ ASM_MOVED ∷ []) result }
+    ensures text { TellsText (IsFoundText name.now agent.now step.old) out.old out.new written.new result }
+    ensures got { result ≡ ASM_DONE → HasGotAll name.now step.old step.new }
+    ensures reached { IsOneOf (ASM_DONE ∷ ASM_SMALL ∷ ASM_MANY ∷ []) result → HasReached agent.now step.old }
+    ensures many { result ≡ ASM_MANY → WouldGetManyMore name.now step.old }
+    ensures stays { result ≢ ASM_DONE → step.new ≡ step.old }
+{
+    let text = match found_text(alloc, agent, step, name) {
+        Ok(text) => text,
+        Err(GetError::Moved) => return MOVED,
+        Err(_) => return MEMORY,
+    };
+    let limit = READS_LIMIT - step.got.len();
+    let scan = match scan_for(alloc, limit, &mut step.scanned, name, step.number) {
+        Ok(scan) => scan,
+        Err(GetError::Many) => return MANY,
+        Err(_) => return MEMORY,
+    };
+    let code = copied(text.as_bytes(), out, written);
+    drop(text);
+    if code == DONE {
+        note_scan(&mut step.scanned, scan);
+    }
+    code
+}
+
+/// Tells what is seen at the locations with this name through the step, which scans the function.
 pub fn get_all_in(
     alloc: Global,
     agent: &OwnedAgent,
@@ -110,23 +147,14 @@ pub fn get_all_in(
     requires { written.old ≡ 0 }
     ensures codes { IsOneOf (ASM_DONE ∷ ASM_MEMORY ∷ ASM_SMALL ∷ ASM_MANY ∷ ASM_SHAPE ∷ ASM_MOVED ∷ []) result }
     ensures text { TellsText (IsFoundText name.now agent.now step.old) out.old out.new written.new result }
-    ensures got { result ≡ ASM_DONE → HasGotAll name.now agent.now step.old step.new }
+    ensures got { result ≡ ASM_DONE → HasGotAll name.now step.old step.new }
     ensures reached { IsOneOf (ASM_DONE ∷ ASM_SMALL ∷ ASM_MANY ∷ []) result → HasReached agent.now step.old }
-    ensures many { result ≡ ASM_MANY → WouldGetManyMore name.now agent.now step.old }
+    ensures many { result ≡ ASM_MANY → WouldGetManyMore name.now step.old }
     ensures shape { result ≡ ASM_SHAPE → ¬ IsUtf8 name.now }
     ensures stays { result ≢ ASM_DONE → step.new ≡ step.old }
 {
-    match got_all_at(alloc, agent, step, name) {
-        Ok(got) => {
-            let code = copied(got.text.as_bytes(), out, written);
-            if code == DONE {
-                step.got = got.all;
-            }
-            code
-        }
-        Err(GetError::Moved) => MOVED,
-        Err(GetError::Many) => MANY,
-        Err(GetError::Shape) => SHAPE,
-        Err(GetError::Memory) => MEMORY,
-    }
+    let Ok(name) = str::from_utf8(name) else {
+        return SHAPE;
+    };
+    get_all_of_name(alloc, agent, step, name, out, written)
 }

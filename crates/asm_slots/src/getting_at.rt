@@ -1,5 +1,5 @@
 //! What is seen through the pushed moves of a step at a prepared location, which is got.
-ghost use Rattle.std.specs.Prelude.{◌≡◌, ◌≢◌, ◌≤◌, ◌<◌, ◌∷◌, ◌++◌, [], length, Contains};
+ghost use Rattle.std.specs.Prelude.{◌≡◌, ◌≢◌, ◌≤◌, ◌<◌, ◌∷◌, ◌++◌, ℕ, [], length, Contains};
 ghost use Rattle.std.specs.Prelude.{IfErr, IfOk, IsSome, Some, vec_len};
 ghost use Rattle.std.specs.Vec.{vec_capacity};
 ghost use Rattle.std.specs.List.Sorted.{IsStrictlySortedBy};
@@ -27,19 +27,20 @@ use std::alloc::Global;
 // A copy of the location, unless it is among the others, and room for it among them.
 fn copy_for(
     alloc: Global,
+    limit: usize,
     got: &mut Vec<Location>,
     at: &Location,
 ) -> Result<Option<Location>, GetError>
     ensures kept { got.new.items ≡ got.old.items }
-    ensures copy { IfOk result (IsCopyFor got.old.items at.now) }
+    ensures copy { IfOk result (IsCopyFor limit got.old.items at.now) }
     ensures room { IfOk result (λ copy. IsSome copy → vec_len got.new < vec_capacity got.new) }
     ensures many { IfErr result (λ e. e ≡ GetError.Many →
-        (reads_limit ≤ length got.old.items) × ¬ Contains got.old.items at.now) }
+        (limit ≤ length got.old.items) × ¬ Contains got.old.items at.now) }
 {
     if got.contains(at) {
         return Ok(None);
     }
-    if got.len() >= READS_LIMIT {
+    if got.len() >= limit {
         return Err(GetError::Many);
     }
     let copy = at.copy(alloc)?;
@@ -51,10 +52,11 @@ fn copy_for(
 // Puts the copy, if there is one, in its place among the others.
 fn note(got: &mut Vec<Location>, copy: Option<Location>)
     requires ascending { IsStrictlySortedBy location_cmp got.old.items }
-    requires few { length got.old.items ≤ reads_limit }
     requires room { IsSome copy → vec_len got.old < vec_capacity got.old }
-    ensures noted { (l : Place) → IsCopyFor got.old.items l copy → AreEach (got.old.items ++ l ∷ []) got.new.items }
-    ensures few { (l : Place) → IsCopyFor got.old.items l copy → length got.new.items ≤ reads_limit }
+    ensures noted { (limit : ℕ) (l : Place) → IsCopyFor limit got.old.items l copy →
+        AreEach (got.old.items ++ l ∷ []) got.new.items }
+    ensures few { (limit : ℕ) (l : Place) → length got.old.items ≤ limit → IsCopyFor limit got.old.items l copy →
+        length got.new.items ≤ limit }
 {
     let Some(copy) = copy else {
         return;
@@ -89,7 +91,8 @@ fn get_one(
     if !step.step.sees_below(at) {
         return tell_at(alloc, &step.step.over(state), at, value, out, written);
     }
-    let copy = match copy_for(alloc, &mut step.got, at) {
+    let limit = READS_LIMIT - step.scanned.len();
+    let copy = match copy_for(alloc, limit, &mut step.got, at) {
         Ok(copy) => copy,
         Err(GetError::Many) => return MANY,
         Err(_) => return MEMORY,

@@ -1,11 +1,13 @@
 //! Moves that are gathered in slots, instruction by instruction.
-ghost use Rattle.std.specs.Prelude.{◌≡◌, ◌≢◌, ◌∷◌, ◌++◌, [], IsUtf8, OnErr, OnOk, length};
+ghost use Rattle.std.specs.Prelude.{◌≡◌, ◌≢◌, ◌∷◌, ◌++◌, [], OnErr, OnOk, Some, length};
 ghost use Rattle.asm_update.specs.Limits.{instructions_limit};
 ghost use Rattle.asm_slots.specs.Codes.{IsOneOf, ASM_DONE, ASM_MEMORY, ASM_EMPTY, ASM_RANGE, ASM_MANY};
-ghost use Rattle.asm_slots.specs.Codes.{ASM_SHAPE};
-ghost use Rattle.asm_slots.specs.Kinds.{IsInstructed, IsNoAction, ASM_KIND_TEXT};
+ghost use Rattle.asm_explain.specs.Bytes.{IsNoJson};
+ghost use Rattle.asm_slots.specs.Codes.{ASM_NOT_JSON, ASM_SHAPE};
+ghost use Rattle.asm_slots.specs.Kinds.{IsByJson, IsInstructed, IsMisshapen, IsNoAction};
 ghost use Rattle.asm_slots.specs.Slots.{HoldsLocation, HoldsMove, HoldsNoLocation};
 ghost use Rattle.asm_slots.specs.Slots.{content_of};
+ghost use Rattle.asm_slots.specs.declared.content.Content.TheVariants as content;
 
 use crate::codes::{DONE, EMPTY, MANY, MEMORY};
 use crate::content::Content;
@@ -45,11 +47,12 @@ fn instruct_at(
     bytes: &[u8],
     amount: u32,
 ) -> i32
-    ensures codes { IsOneOf (ASM_DONE ∷ ASM_MEMORY ∷ ASM_RANGE ∷ ASM_MANY ∷ ASM_SHAPE ∷ []) result }
+    ensures codes { IsOneOf (ASM_DONE ∷ ASM_MEMORY ∷ ASM_RANGE ∷ ASM_MANY ∷ ASM_NOT_JSON ∷ ASM_SHAPE ∷ []) result }
     ensures done { result ≡ ASM_DONE →
         IsInstructed at.now verb kind number bytes.now amount gathered.old gathered.new }
     ensures range { result ≡ ASM_RANGE → IsNoAction verb kind number bytes.now amount }
-    ensures shape { result ≡ ASM_SHAPE → (kind ≡ ASM_KIND_TEXT) × ¬ IsUtf8 bytes.now }
+    ensures not_json { result ≡ ASM_NOT_JSON → IsByJson kind × IsNoJson bytes.now }
+    ensures shape { result ≡ ASM_SHAPE → IsMisshapen kind bytes.now }
     ensures many { result ≡ ASM_MANY → length gathered.old ≡ instructions_limit }
     ensures kept { result ≢ ASM_DONE → gathered.new ≡ gathered.old }
 {
@@ -70,12 +73,13 @@ pub fn instruct_in(
     bytes: &[u8],
     amount: u32,
 ) -> i32
-    ensures codes { IsOneOf (ASM_DONE ∷ ASM_MEMORY ∷ ASM_EMPTY ∷ ASM_RANGE ∷ ASM_MANY ∷ ASM_SHAPE ∷ []) result }
+    ensures codes { IsOneOf (ASM_DONE ∷ ASM_MEMORY ∷ ASM_EMPTY ∷ ASM_RANGE ∷ ASM_MANY ∷ ASM_NOT_JSON ∷ ASM_SHAPE ∷ []) result }
     ensures done { result ≡ ASM_DONE → HoldsLocation (content_of at.old)
         (λ l. IsInstructed l verb kind number bytes.now amount gathered.old gathered.new) }
     ensures empty { result ≡ ASM_EMPTY → HoldsNoLocation (content_of at.old) }
     ensures range { result ≡ ASM_RANGE → IsNoAction verb kind number bytes.now amount }
-    ensures shape { result ≡ ASM_SHAPE → (kind ≡ ASM_KIND_TEXT) × ¬ IsUtf8 bytes.now }
+    ensures not_json { result ≡ ASM_NOT_JSON → IsByJson kind × IsNoJson bytes.now }
+    ensures shape { result ≡ ASM_SHAPE → IsMisshapen kind bytes.now }
     ensures many { result ≡ ASM_MANY → length gathered.old ≡ instructions_limit }
     ensures kept { result ≢ ASM_DONE → gathered.new ≡ gathered.old }
     ensures held { content_of at.new ≡ content_of at.old }
@@ -91,9 +95,9 @@ pub fn instruct_in(
     code
 }
 
-// Puts the move into an empty slot.
-fn hold(alloc: Global, slot: &mut Slot, gathered: Instructions) -> Result<(), AllocError>
-    ensures held { OnOk result (HoldsMove (content_of slot.new) (λ M. M ≡ gathered)) }
+/// Puts the move in the place of what the slot holds.
+pub(crate) fn hold(alloc: Global, slot: &mut Slot, gathered: Instructions) -> Result<(), AllocError>
+    ensures held { OnOk result (content_of slot.new ≡ Some (content.Move gathered)) }
     ensures kept { OnErr result (content_of slot.new ≡ content_of slot.old) }
 {
     let made = Box::new(alloc, Content::Move(gathered))?;
@@ -112,12 +116,13 @@ pub fn instruct_first(
     bytes: &[u8],
     amount: u32,
 ) -> i32
-    ensures codes { IsOneOf (ASM_DONE ∷ ASM_MEMORY ∷ ASM_EMPTY ∷ ASM_RANGE ∷ ASM_SHAPE ∷ []) result }
+    ensures codes { IsOneOf (ASM_DONE ∷ ASM_MEMORY ∷ ASM_EMPTY ∷ ASM_RANGE ∷ ASM_NOT_JSON ∷ ASM_SHAPE ∷ []) result }
     ensures done { result ≡ ASM_DONE → HoldsLocation (content_of at.old) (λ l. HoldsMove (content_of instrs.new)
         (IsInstructed l verb kind number bytes.now amount [])) }
     ensures empty { result ≡ ASM_EMPTY → HoldsNoLocation (content_of at.old) }
     ensures range { result ≡ ASM_RANGE → IsNoAction verb kind number bytes.now amount }
-    ensures shape { result ≡ ASM_SHAPE → (kind ≡ ASM_KIND_TEXT) × ¬ IsUtf8 bytes.now }
+    ensures not_json { result ≡ ASM_NOT_JSON → IsByJson kind × IsNoJson bytes.now }
+    ensures shape { result ≡ ASM_SHAPE → IsMisshapen kind bytes.now }
     ensures kept { result ≢ ASM_DONE → content_of instrs.new ≡ content_of instrs.old }
     ensures held { content_of at.new ≡ content_of at.old }
 {

@@ -2,14 +2,18 @@
 ghost use Rattle.std.specs.Prelude.{◌≡◌, ◌≢◌, ◌∷◌, [], IsUtf8, IfErr, IfNone, IfOk, IfSome};
 ghost use Rattle.asm_element.specs.declared.element.Element.{Element};
 ghost use Rattle.asm_element.specs.declared.value.Value.TheVariants as values;
-ghost use Rattle.asm_slots.specs.Codes.{IsOneOf, ASM_MEMORY, ASM_RANGE, ASM_SHAPE};
-ghost use Rattle.asm_slots.specs.Kinds.{IsAction, IsNoAction, IsOperand, IsTold};
-ghost use Rattle.asm_slots.specs.Kinds.{ASM_INC, ASM_KIND_BOOL, ASM_KIND_TEXT};
-ghost use Rattle.asm_slots.specs.Verbs.{IsNoVerb, IsVerb, action_with};
+ghost use Rattle.asm_explain.specs.Bytes.{IsNoJson, IsOtherJson};
+ghost use Rattle.asm_slots.specs.Codes.{IsOneOf, ASM_MEMORY, ASM_NOT_JSON, ASM_RANGE, ASM_SHAPE};
+ghost use Rattle.asm_slots.specs.Kinds.{IsAction, IsByJson, IsKindForm, IsMisshapen, IsNoAction, IsOperand, IsTextOrPlain, IsTold};
+ghost use Rattle.asm_slots.specs.Kinds.{ASM_INC, ASM_KIND_BOOL, ASM_KIND_TEXT, kind_of};
+ghost use Rattle.asm_slots.specs.Verbs.{CannotTake, IsActionOn, IsNoVerb, IsVerb, action_with};
+ghost use Rattle.asm_element.specs.declared.value.Value.{Value};
 
 use crate::codes::{MEMORY, RANGE, SHAPE};
-use crate::value_head::{BOOL, NUM, TEXT, UNDEF};
+use crate::parsing::code_of_text_error;
+use crate::value_head::{BAG, BOOL, LIST, NUM, SET, TEXT, UNDEF, ValueHead};
 use asm_element::{ElemText, Element, Value};
+use asm_explain::read_as;
 use asm_update::{Action, Amount};
 use std::alloc::Global;
 
@@ -48,8 +52,8 @@ fn truth_of(number: i64) -> Option<Element>
 
 // The element without bytes.
 fn plain_of(kind: i32, number: i64) -> Option<Element>
-    ensures some { IfSome result (IsOperand kind number []) }
-    ensures none { IfNone result (kind ≢ ASM_KIND_TEXT → (e : Element) → ¬ IsOperand kind number [] e) }
+    ensures some { IfSome result (IsTextOrPlain kind number []) }
+    ensures none { IfNone result (kind ≢ ASM_KIND_TEXT → (e : Element) → ¬ IsTextOrPlain kind number [] e) }
 {
     match kind {
         UNDEF if number == 0 => Some(Element::Undef),
@@ -60,10 +64,10 @@ fn plain_of(kind: i32, number: i64) -> Option<Element>
 }
 
 fn text_of(alloc: Global, number: i64, bytes: &[u8]) -> Result<Element, i32>
-    ensures ok { IfOk result (IsOperand ASM_KIND_TEXT number bytes.now) }
+    ensures ok { IfOk result (IsTextOrPlain ASM_KIND_TEXT number bytes.now) }
     ensures codes { IfErr result (IsOneOf (ASM_MEMORY ∷ ASM_RANGE ∷ ASM_SHAPE ∷ [])) }
     ensures range { IfErr result (λ code. code ≡ ASM_RANGE →
-        (e : Element) → ¬ IsOperand ASM_KIND_TEXT number bytes.now e) }
+        (e : Element) → ¬ IsTextOrPlain ASM_KIND_TEXT number bytes.now e) }
     ensures shape { IfErr result (λ code. code ≡ ASM_SHAPE → ¬ IsUtf8 bytes.now) }
 {
     if number != 0 {
@@ -78,11 +82,11 @@ fn text_of(alloc: Global, number: i64, bytes: &[u8]) -> Result<Element, i32>
     }
 }
 
-// The element of this kind, with this number and these bytes.
+// The element of this kind but a list, with this number and these bytes.
 fn element_of(alloc: Global, kind: i32, number: i64, bytes: &[u8]) -> Result<Element, i32>
-    ensures ok { IfOk result (IsOperand kind number bytes.now) }
+    ensures ok { IfOk result (IsTextOrPlain kind number bytes.now) }
     ensures codes { IfErr result (IsOneOf (ASM_MEMORY ∷ ASM_RANGE ∷ ASM_SHAPE ∷ [])) }
-    ensures range { IfErr result (λ code. code ≡ ASM_RANGE → (e : Element) → ¬ IsOperand kind number bytes.now e) }
+    ensures range { IfErr result (λ code. code ≡ ASM_RANGE → (e : Element) → ¬ IsTextOrPlain kind number bytes.now e) }
     ensures shape { IfErr result (λ code. code ≡ ASM_SHAPE → (kind ≡ ASM_KIND_TEXT) × ¬ IsUtf8 bytes.now) }
 {
     if kind == TEXT {
@@ -94,6 +98,47 @@ fn element_of(alloc: Global, kind: i32, number: i64, bytes: &[u8]) -> Result<Ele
     match plain_of(kind, number) {
         Some(element) => Ok(element),
         None => Err(RANGE),
+    }
+}
+
+// The list, the set or the bag of these bytes, as the kind says.
+fn read_value(alloc: Global, kind: i32, number: i64, bytes: &[u8]) -> Result<Value, i32>
+    requires { IsByJson kind }
+    ensures ok { IfOk result (IsOperand kind number bytes.now) }
+    ensures kind { IfOk result (λ v. kind ≡ kind_of v) }
+    ensures codes { IfErr result (IsOneOf (ASM_MEMORY ∷ ASM_RANGE ∷ ASM_NOT_JSON ∷ ASM_SHAPE ∷ [])) }
+    ensures range { IfErr result (λ code. code ≡ ASM_RANGE → (v : Value) → ¬ IsOperand kind number bytes.now v) }
+    ensures not_json { IfErr result (λ code. code ≡ ASM_NOT_JSON → IsNoJson bytes.now) }
+    ensures shape { IfErr result (λ code. code ≡ ASM_SHAPE → IsOtherJson (IsKindForm kind) bytes.now) }
+{
+    if number != 0 {
+        return Err(RANGE);
+    }
+    let value = match read_as::<Value>(alloc, bytes) {
+        Ok(value) => value,
+        Err(error) => return Err(code_of_text_error(error)),
+    };
+    if ValueHead::of(&value).kind == kind {
+        Ok(value)
+    } else {
+        Err(SHAPE)
+    }
+}
+
+// The value of this kind, with this number and these bytes.
+fn value_of(alloc: Global, kind: i32, number: i64, bytes: &[u8]) -> Result<Value, i32>
+    ensures ok { IfOk result (IsOperand kind number bytes.now) }
+    ensures codes { IfErr result (IsOneOf (ASM_MEMORY ∷ ASM_RANGE ∷ ASM_NOT_JSON ∷ ASM_SHAPE ∷ [])) }
+    ensures range { IfErr result (λ code. code ≡ ASM_RANGE → (v : Value) → ¬ IsOperand kind number bytes.now v) }
+    ensures not_json { IfErr result (λ code. code ≡ ASM_NOT_JSON → IsByJson kind × IsNoJson bytes.now) }
+    ensures shape { IfErr result (λ code. code ≡ ASM_SHAPE → IsMisshapen kind bytes.now) }
+{
+    if kind == LIST || kind == SET || kind == BAG {
+        return read_value(alloc, kind, number, bytes);
+    }
+    match element_of(alloc, kind, number, bytes) {
+        Ok(element) => Ok(Value::Plain(element)),
+        Err(code) => Err(code),
     }
 }
 
@@ -142,6 +187,18 @@ fn action_with(verb: Verb, element: Element) -> Action
     }
 }
 
+// The action with this value; a set or a bag can be put alone.
+fn action_on(verb: Verb, value: Value) -> Option<Action>
+    ensures some { IfSome result (IsActionOn verb value) }
+    ensures none { IfNone result (CannotTake verb value) }
+{
+    match (verb, value) {
+        (Verb::Put, value) => Some(Action::Regular(value)),
+        (verb, Value::Plain(element)) => Some(action_with(verb, element)),
+        _ => None,
+    }
+}
+
 fn increment_of(kind: i32, number: i64, bytes: &[u8], amount: u32) -> Result<Action, i32>
     ensures ok { IfOk result (IsAction ASM_INC kind number bytes.now amount) }
     ensures err { IfErr result (λ code. (code ≡ ASM_RANGE) × IsNoAction ASM_INC kind number bytes.now amount) }
@@ -152,7 +209,7 @@ fn increment_of(kind: i32, number: i64, bytes: &[u8], amount: u32) -> Result<Act
     Ok(Action::Increment(number))
 }
 
-/// The action of this verb, with the element of this kind, number and bytes, and with this amount.
+/// The action of this verb, with the value of this kind, number and bytes, and with this amount.
 pub(crate) fn action_of(
     alloc: Global,
     verb: i32,
@@ -162,9 +219,10 @@ pub(crate) fn action_of(
     amount: u32,
 ) -> Result<Action, i32>
     ensures ok { IfOk result (IsAction verb kind number bytes.now amount) }
-    ensures codes { IfErr result (IsOneOf (ASM_MEMORY ∷ ASM_RANGE ∷ ASM_SHAPE ∷ [])) }
+    ensures codes { IfErr result (IsOneOf (ASM_MEMORY ∷ ASM_RANGE ∷ ASM_NOT_JSON ∷ ASM_SHAPE ∷ [])) }
     ensures range { IfErr result (λ code. code ≡ ASM_RANGE → IsNoAction verb kind number bytes.now amount) }
-    ensures shape { IfErr result (λ code. code ≡ ASM_SHAPE → (kind ≡ ASM_KIND_TEXT) × ¬ IsUtf8 bytes.now) }
+    ensures not_json { IfErr result (λ code. code ≡ ASM_NOT_JSON → IsByJson kind × IsNoJson bytes.now) }
+    ensures shape { IfErr result (λ code. code ≡ ASM_SHAPE → IsMisshapen kind bytes.now) }
 {
     if verb == INC {
         return increment_of(kind, number, bytes, amount);
@@ -172,8 +230,12 @@ pub(crate) fn action_of(
     let Some(verb) = verb_of(verb, amount) else {
         return Err(RANGE);
     };
-    match element_of(alloc, kind, number, bytes) {
-        Ok(element) => Ok(action_with(verb, element)),
-        Err(code) => Err(code),
+    let value = match value_of(alloc, kind, number, bytes) {
+        Ok(value) => value,
+        Err(code) => return Err(code),
+    };
+    match action_on(verb, value) {
+        Some(action) => Ok(action),
+        None => Err(RANGE),
     }
 }

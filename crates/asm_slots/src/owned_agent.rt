@@ -15,13 +15,13 @@ ghost use Rattle.asm_storage.specs.Calls.{IsStaleRead, MadeOffers};
 ghost use Rattle.asm_slots.specs.Standard.{meaning};
 ghost use Rattle.asm_slots.specs.NumbersAhead.{is_any_above};
 ghost use Rattle.asm_slots.specs.OwnState.{HasLookedOn};
-ghost use Rattle.asm_slots.specs.AgentCalls.{HasLearnt, HasLooked, MissedFew, MissedOne, SeesOn, TellsLast};
+ghost use Rattle.asm_slots.specs.AgentCalls.{HasLearnt, HasLooked, IsRepliedOver, MissedFew, MissedOne, SeesOn, TellsLast};
 
 use crate::shared::Shared;
 use asm_aggregate::Standard;
 use asm_element::{Items, Location};
 use asm_journal::answer_text;
-use asm_state::{Named, State};
+use asm_state::{Named, Scanned, State};
 use asm_storage::{Agent, AgentPart, FireError, Mark, ReadError, Reading, Reply};
 use asm_update::Instructions;
 use std::alloc::{AllocError, Global};
@@ -131,6 +131,35 @@ impl OwnedAgent {
         ensures many { IsErrOf result ManyReads ↔ (reads_limit < length reads.now) }
     {
         self.part.try_fire_over(alloc, &self.shared.storage, reads, &[], instrs, &mut || {})
+    }
+
+    /// Fires the move, so that it rests on the whole functions of the scans too.
+    pub(crate) fn fire_over(
+        &mut self,
+        alloc: Global,
+        reads: &Items<Named>,
+        scans: &[Scanned],
+        instrs: &Instructions,
+    ) -> Result<Reply, FireError>
+        ensures same { IsSameAgent self.old self.new }
+        ensures answered { IfOk result (IsRepliedOver self.old self.new reads.now scans.now instrs.now) }
+        ensures seen { SeesOn self.old self.new }
+        ensures refused { OnErr result (HasLooked self.old self.new) }
+        ensures busy { IfErr result (IsBusy self.old self.new) }
+        ensures missed { (k : ℕ) → result ≡ Ok (Fired k) → MissedOne self.old self.new }
+        ensures few { MissedFew self.old self.new }
+        ensures lost { (from to : ℕ) → result ≡ Err (Busy from to) → from + offers_limit ≤ to }
+        ensures offers { (n : ℕ) × MadeOffers self.old self.new result n }
+        ensures many { IsErrOf result ManyReads ↔ (reads_limit < length reads.now + length scans.now) }
+    {
+        self.part.try_fire_over(
+            alloc,
+            &self.shared.storage,
+            reads,
+            scans,
+            instrs,
+            &mut || {},
+        )
     }
 
     /// Its own state.

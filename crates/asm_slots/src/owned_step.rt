@@ -1,4 +1,4 @@
-//! A step of an engine: moves pushed over the state at one number of moves, and the locations that were got.
+//! A step of an engine: moves pushed over the state at one number of moves, and what was got and scanned.
 #![tactic(auto, unfolding(asm_aggregate::specs::Standard::standard_meaning))]
 
 ghost use Rattle.std.specs.Prelude.{◌≡◌, ◌++◌, ◌∷◌, [], All, List, filter, length, map, IfOk, IfSome, IsNone, OnOk, OnErr, IfErr};
@@ -17,7 +17,7 @@ ghost use Rattle.asm_step.specs.Answer.{IsPushAnswer, IsPushAnswerOn};
 
 use asm_aggregate::standard;
 use asm_element::{Items, Location};
-use asm_state::{Named, State};
+use asm_state::{Named, Scanned, State};
 use asm_step::{Popped, Step, StepError};
 use asm_update::Instructions;
 use std::alloc::{AllocError, Global};
@@ -28,28 +28,37 @@ use std::marker::Model;
 pub struct OwnedStep {
     pub(crate) number: u32,
     pub(crate) step: Step,
-    // At most 256, each once, in ascending order.
+    // Each once, in ascending order; with what was scanned at most 256.
     pub(crate) got: Vec<Location>,
+    // Each name once, all at the number of the step.
+    pub(crate) scanned: Vec<Scanned>,
 }
 
 impl Model for OwnedStep {
     ghost use Rattle.std.specs.Coded.{coded_list};
     ghost use Rattle.asm_element.specs.contracts.location.Location.{the_row as location_row};
     ghost use Rattle.asm_step.specs.contracts.step.Step.{the_row as step_row};
-    ghost use Rattle.asm_slots.specs.StepView.{StepView, step_code};
+    ghost use Rattle.asm_slots.specs.StepView.{StepView, names_of, step_code};
 
     ghost Value = { StepView };
 
     ghost coded = { step_code step_row.coded (coded_list location_row.coded) };
 
-    ghost view = { λ s. record { number = s.number; layers = s.step; got = s.got.items } };
+    ghost view = { λ s. record {
+      number = s.number;
+      layers = s.step;
+      got = s.got.items;
+      scanned = names_of s.scanned.items;
+    } };
 
-    ghost use Rattle.std.specs.Prelude.{length, ◌≤◌};
+    ghost use Rattle.std.specs.Prelude.{All, length, ◌+◌, ◌≡◌, ◌≤◌};
     ghost use Rattle.std.specs.List.Sorted.{IsStrictlySortedBy};
     ghost use Rattle.asm_element.specs.Place.{location_cmp};
     ghost use Rattle.asm_storage.specs.Limits.{reads_limit};
 
-    ghost invariant = { λ s. IsStrictlySortedBy location_cmp s.got.items × (length s.got.items ≤ reads_limit) };
+    ghost invariant = { λ s. IsStrictlySortedBy location_cmp s.got.items
+        × (length s.got.items + length s.scanned.items ≤ reads_limit)
+        × All (λ scan. scan.number ≡ s.number) s.scanned.items };
 }
 
 /// How a move is put onto a step.
@@ -162,6 +171,7 @@ impl OwnedStep {
             number,
             step: Step::new(alloc),
             got: Vec::new(alloc),
+            scanned: Vec::new(alloc),
         }
     }
 
@@ -182,7 +192,7 @@ impl OwnedStep {
         self.step.pop()
     }
 
-    /// All that the step rests on, at its number.
+    /// All locations that the step rests on, at its number.
     pub(crate) fn reads(&self, alloc: Global) -> Result<Items<Named>, AllocError>
         ensures { IfOk result (NamesAll self.now) }
     {

@@ -1,5 +1,5 @@
 //! Beginning a step, what is seen through its pushed moves, and taking the last one away.
-ghost use Rattle.std.specs.Prelude.{◌≡◌, ◌≢◌, ◌≤◌, ◌<◌, ◌∷◌, ◌++◌, [], List, length, string_bytes, OnOk, OnErr, IfOk, IfErr, Some};
+ghost use Rattle.std.specs.Prelude.{◌≡◌, ◌≢◌, ◌≤◌, ◌<◌, ◌+◌, ◌∷◌, ◌++◌, [], List, length, string_bytes, OnOk, OnErr, IfOk, IfErr, Some};
 ghost use Rattle.std.specs.Bool.{OnTrue, OnFalse};
 ghost use Rattle.asm_element.specs.Place.{Place};
 ghost use Rattle.asm_storage.specs.Limits.{reads_limit};
@@ -77,6 +77,25 @@ pub(crate) struct Got {
 }
 
 // What is seen at the locations through the pushed moves, while the agent's own state stands at the step's number.
+fn text_seen(
+    alloc: Global,
+    agent: &OwnedAgent,
+    step: &OwnedStep,
+    locations: &[Location],
+) -> Result<String, GetError>
+    ensures text { IfOk result (λ text. string_bytes text
+        ≡ values_text step.now.number (seen agent.now step.now) locations.now) }
+    ensures reached { OnOk result (HasReached agent.now step.now) }
+    ensures err { IfErr result (λ e. ¬ (e ≡ GetError.Many) × ¬ (e ≡ GetError.Shape)) }
+{
+    let state = agent.state();
+    if state.number() != step.number {
+        return Err(GetError::Moved);
+    }
+    Ok(text_of_values(alloc, step.number, &step.step.over(state), locations)?)
+}
+
+// The same, with all that is got then.
 fn got_at(
     alloc: Global,
     agent: &OwnedAgent,
@@ -87,23 +106,47 @@ fn got_at(
         ≡ values_text step.now.number (seen agent.now step.now) locations.items) }
     ensures reached { OnOk result (HasReached agent.now step.now) }
     ensures all { IfOk result (λ g. AreEach (step.now.got ++ from_below step.now locations.items) g.all.items) }
-    ensures few { IfOk result (λ g. length g.all.items ≤ reads_limit) }
+    ensures few { IfOk result (λ g. length g.all.items + length step.now.scanned ≤ reads_limit) }
     ensures many { IfErr result (λ e. e ≡ GetError.Many → (ls : List Place)
-        × AreEach (step.now.got ++ from_below step.now locations.items) ls × (reads_limit < length ls)) }
+        × AreEach (step.now.got ++ from_below step.now locations.items) ls
+        × (reads_limit < length ls + length step.now.scanned)) }
     ensures many_reached { IfErr result (λ e. e ≡ GetError.Many → HasReached agent.now step.now) }
     ensures shape { IfErr result (λ e. ¬ (e ≡ GetError.Shape)) }
 {
-    let state = agent.state();
-    if state.number() != step.number {
-        return Err(GetError::Moved);
-    }
-    let text = text_of_values(alloc, step.number, &step.step.over(state), &locations)?;
+    let text = text_seen(alloc, agent, step, &locations)?;
     let below = from_below(alloc, &step.step, locations)?;
     let all = each_of(alloc, &step.got, below)?;
-    if all.len() > READS_LIMIT {
+    if all.len() > READS_LIMIT - step.scanned.len() {
         return Err(GetError::Many);
     }
     Ok(Got { text, all })
+}
+
+/// Tells what is seen at the locations of these bytes through the step, of which nothing is noted.
+pub fn see_in(
+    alloc: Global,
+    agent: &OwnedAgent,
+    step: &OwnedStep,
+    locations: &[u8],
+    out: &mut [u8],
+    written: &mut usize,
+) -> i32
+    requires { written.old ≡ 0 }
+    ensures codes { IsOneOf (ASM_DONE ∷ ASM_MEMORY ∷ ASM_SMALL ∷ ASM_NOT_JSON ∷ ASM_SHAPE ∷ ASM_MOVED ∷ []) result }
+    ensures text { TellsText (IsGotText locations.now agent.now step.now) out.old out.new written.new result }
+    ensures reached { IsOneOf (ASM_DONE ∷ ASM_SMALL ∷ []) result → HasReached agent.now step.now }
+    ensures not_json { result ≡ ASM_NOT_JSON → IsNoJson locations.now }
+    ensures shape { result ≡ ASM_SHAPE → IsOtherJson AreLocations locations.now }
+{
+    let locations = match locations_of(alloc, locations) {
+        Ok(locations) => locations,
+        Err(error) => return code_of_text_error(error),
+    };
+    match text_seen(alloc, agent, step, &locations) {
+        Ok(text) => copied(text.as_bytes(), out, written),
+        Err(GetError::Moved) => MOVED,
+        Err(_) => MEMORY,
+    }
 }
 
 /// Tells what is seen at the locations of these bytes through the step, which are got.

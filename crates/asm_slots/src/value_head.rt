@@ -21,11 +21,11 @@ pub(crate) const NUM: i32 = 2;
 
 pub(crate) const TEXT: i32 = 3;
 
-const LIST: i32 = 4;
+pub(crate) const LIST: i32 = 4;
 
-const SET: i32 = 5;
+pub(crate) const SET: i32 = 5;
 
-const BAG: i32 = 6;
+pub(crate) const BAG: i32 = 6;
 
 /// A value but for its bytes: what it is, with its number where it is a number, or 1 where it is true.
 #[repr(C)]
@@ -59,7 +59,7 @@ impl ValueHead {
         ValueHead { kind, number }
     }
 
-    fn of(value: &Value) -> ValueHead
+    pub(crate) fn of(value: &Value) -> ValueHead
         ensures kind { result.kind ≡ kind_of value.now }
         ensures number { result.number ≡ number_of value.now }
     {

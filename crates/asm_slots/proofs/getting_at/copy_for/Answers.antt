@@ -9,8 +9,8 @@ returns-then-contains-clause-copy c =
     subst (λ (ls : List Place). Contains ls c.args.at.now) c.deref.ensures.value
     (found c.deref.result.now c.args.at.now some.cases.0 some.cases.1 some.cases.2)
 
-pub returns-then-len-ge-READS_LIMIT-clause-many : goal.returns-then-len-ge-READS_LIMIT-clause-many
-returns-then-len-ge-READS_LIMIT-clause-many c _ =
+pub returns-then-len-limit-clause-many : goal.returns-then-len-limit-clause-many
+returns-then-len-limit-clause-many c _ =
     let none = c.if-contains.ensures in (
       search rules,
       subst (λ (ls : List Place). ¬ Contains ls c.args.at.now) c.deref.ensures.value

@@ -1,11 +1,5 @@
-use Rattle.std.proofs.Common.{◌≤◌, arith, List, length, subst, sym}
-use Rattle.std.specs.List.Sorted.{IsStrictlySortedBy}
-use Rattle.asm_element.specs.Place.{Place, location_cmp}
-use Rattle.asm_storage.specs.Limits.{reads_limit}
-use Rattle.asm_slots.proofs.Noting.{none_ascend}
+use Rattle.asm_slots.proofs.Scans.{none_kept}
 use Rattle.asm_slots.proofs.owned_step.OwnedStep.at.Goals as goal
 
 pub invariant_of-result : goal.invariant_of-result
-invariant_of-result c =
-    subst (λ (ls : List Place). IsStrictlySortedBy location_cmp ls × (length ls ≤ reads_limit)) (sym c.new-2.ensures.items)
-    (none_ascend, omega arith)
+invariant_of-result c = none_kept c.new-2.result.items c.new-3.result.items c.args.number c.new-2.ensures.items c.new-3.ensures.items

@@ -1,0 +1,36 @@
+use Rattle.std.proofs.Common.{◌≡◌, ap}
+use Rattle.std_alloc.specs.Arc.{arc_value}
+use Rattle.asm_aggregate.specs.Standard.{standard_meaning}
+use Rattle.asm_storage.specs.Calls.{IsFireOver}
+use Rattle.asm_storage.specs.Part.{agent_of}
+use Rattle.asm_slots.specs.Standard.{meaning}
+use Rattle.asm_slots.specs.declared.shared.Shared.{Shared}
+use Rattle.asm_slots.proofs.OwnAgents.{lent, part_fires_over, replied_over}
+use Rattle.asm_slots.proofs.owned_agent.OwnedAgent.fire_over.Goals as goal
+
+pub returns : goal.returns
+unfolding standard_meaning
+returns c =
+    let fired = c.try_fire_over in
+    let storage = (arc_value c.self.inside.shared).storage in
+    let lent : c.deref.result.now.storage ≡ storage = ap (λ (s : Shared). s.storage) c.deref.ensures in
+    let new = agent_of storage fired.new.self in
+    let is : IsFireOver meaning c.args.self.now new c.args.reads.now c.args.scans.now c.args.instrs.now fired.result =
+    part_fires_over storage c.deref.result.now.storage c.self.inside.part fired.new.self c.args.self.now c.args.reads.now
+    c.args.scans.now c.args.instrs.now fired.result lent c.self.view_is fired.ensures.fire in
+    record {
+      same = is.same;
+      answered = replied_over c.args.self.now new c.args.reads.now c.args.scans.now c.args.instrs.now fired.result is;
+      seen = is.seen;
+      refused = is.refused;
+      busy = is.busy;
+      missed = is.missed;
+      few = is.few;
+      lost = is.lost;
+      offers = is.offers;
+      many = is.many;
+    }
+
+pub try_fire_over-requires-clause-part : goal.try_fire_over-requires-clause-part
+unfolding standard_meaning
+try_fire_over-requires-clause-part c κs = lent _ _ c.self.inside.part c.deref.ensures c.self.invariant

@@ -1,0 +1,27 @@
+-- The move that was pushed last, with those that extend it, as one move.
+use Rattle.std.specs.Prelude.{◌≡◌, ℤ, List, [], ◌∷◌, ◌++◌, Result, Err}
+use Rattle.asm_update.specs.Move.{Move}
+use Rattle.asm_aggregate.specs.declared.composition.ComposeError.{ComposeError}
+use Rattle.asm_aggregate.specs.declared.composition.ComposeError.TheVariants.{Clash, Large, ManyInstructions, Memory}
+use Rattle.asm_storage.specs.Storage.{AgentAt}
+use Rattle.asm_step.specs.Popped.{IsOneOf, KeepsTurns}
+use Rattle.asm_slots.specs.Codes.{ASM_CLASH, ASM_LARGE, ASM_MANY, ASM_MEMORY}
+use Rattle.asm_slots.specs.Standard.{Standard, standard, part}
+use Rattle.asm_slots.specs.StepCalls.{IsStepOn}
+use Rattle.asm_slots.specs.StepView.{StepView}
+
+-- the answer is what the moves of the step's last group compose to, which does what they do in turn, or why they don't compose
+abbrev pub IsComposedLast : StepView → Result Move ComposeError → Type 0
+IsComposedLast s r = (a : AgentAt Standard) (groups : List (List Move)) (group : List Move) →
+    IsStepOn a s (groups ++ group ∷ []) → IsOneOf standard group r × KeepsTurns part group r
+
+-- the code of why they don't
+abbrev pub TellsUncomposed : ComposeError → ℤ → Type 0
+TellsUncomposed (Clash c) code = code ≡ ASM_CLASH
+TellsUncomposed (Large l) code = code ≡ ASM_LARGE
+TellsUncomposed ManyInstructions code = code ≡ ASM_MANY
+TellsUncomposed Memory code = code ≡ ASM_MEMORY
+
+-- the code tells why the moves of the step's last group don't compose
+abbrev pub IsUncomposedLast : StepView → ℤ → Type 0
+IsUncomposedLast s code = (e : ComposeError) × IsComposedLast s (Err e) × TellsUncomposed e code

@@ -1,0 +1,85 @@
+//! Taking the move that was pushed last out of a step, into a slot.
+#![tactic(auto, unfolding(asm_aggregate::specs::Standard::standard_meaning))]
+
+ghost use Rattle.std.specs.Bool.{OnFalse, OnTrue};
+ghost use Rattle.std.specs.Prelude.{◌≡◌, ◌≢◌, ◌∷◌, [], Err, IfErr, IfOk, IfSome, IsNone, Ok};
+ghost use Rattle.asm_slots.specs.Codes.{IsOneOf, ASM_CLASH, ASM_DONE, ASM_LARGE, ASM_MANY, ASM_MEMORY, ASM_NONE};
+ghost use Rattle.asm_slots.specs.Popping.{IsComposedLast, IsUncomposedLast, TellsUncomposed};
+ghost use Rattle.asm_slots.specs.Slots.{HasRoomForMove, HoldsMove, content_of};
+ghost use Rattle.asm_slots.specs.StepCalls.{HasPopped};
+
+use crate::codes::{CLASH, DONE, LARGE, MANY, MEMORY, NONE};
+use crate::content::Content;
+use crate::instructing::hold;
+use crate::owned_step::OwnedStep;
+use crate::slot::Slot;
+use crate::take_and_put::{put_shell, take_shell};
+use asm_aggregate::{ComposeError, standard};
+use asm_update::Instructions;
+use std::alloc::{AllocError, Global};
+
+/// Whether the slot is empty or holds a move.
+pub fn has_room_for_move(alloc: Global, slot: &mut Slot) -> bool
+    ensures kept { content_of slot.new ≡ content_of slot.old }
+    ensures yes { OnTrue result (HasRoomForMove (content_of slot.old)) }
+    ensures no { OnFalse result (¬ HasRoomForMove (content_of slot.old)) }
+{
+    let Some(shell) = take_shell(alloc, slot) else {
+        return true;
+    };
+    let room = matches!(&*shell, Content::Move(_));
+    put_shell(slot, shell);
+    room
+}
+
+// The code of why moves don't compose.
+fn code_of_compose_error(error: &ComposeError) -> i32
+    ensures { TellsUncomposed error.now result }
+{
+    match error {
+        ComposeError::Clash(_) => CLASH,
+        ComposeError::Large(_) => LARGE,
+        ComposeError::ManyInstructions => MANY,
+        ComposeError::Memory => MEMORY,
+    }
+}
+
+impl OwnedStep {
+    // The one move that does what the move does that was pushed last, and those that extend it; None where there is none.
+    fn last_as_move(&self, alloc: Global) -> Result<Option<Instructions>, ComposeError>
+        ensures some { IfOk result (λ one. IfSome one (λ M. IsComposedLast self.now (Ok M))) }
+        ensures pushed { IfOk result (λ one. IfSome one (λ M. self.now.layers ≢ [])) }
+        ensures none { IfOk result (λ one. IsNone one → self.now.layers ≡ []) }
+        ensures err { IfErr result (λ e. IsComposedLast self.now (Err e)) }
+    {
+        match self.step.last() {
+            Some(popped) => Ok(Some(popped.as_move(alloc, &standard())?)),
+            None => Ok(None),
+        }
+    }
+}
+
+/// Takes the move that was pushed last away, with those that extend it, and puts the one that does what they do into the
+/// slot.
+pub fn pop_into(alloc: Global, step: &mut OwnedStep, instrs: &mut Slot) -> i32
+    ensures codes { IsOneOf (ASM_DONE ∷ ASM_CLASH ∷ ASM_MEMORY ∷ ASM_MANY ∷ ASM_LARGE ∷ ASM_NONE ∷ []) result }
+    ensures popped { result ≡ ASM_DONE → HasPopped step.old step.new }
+    ensures done { result ≡ ASM_DONE → HoldsMove (content_of instrs.new) (λ M. IsComposedLast step.old (Ok M)) }
+    ensures none { result ≡ ASM_NONE → step.old.layers ≡ [] }
+    ensures refused { IsOneOf (ASM_CLASH ∷ ASM_MANY ∷ ASM_LARGE ∷ []) result → IsUncomposedLast step.old result }
+    ensures kept { result ≢ ASM_DONE → step.new ≡ step.old }
+    ensures held { result ≢ ASM_DONE → content_of instrs.new ≡ content_of instrs.old }
+{
+    let one = match step.last_as_move(alloc) {
+        Ok(Some(one)) => one,
+        Ok(None) => return NONE,
+        Err(error) => return code_of_compose_error(&error),
+    };
+    match hold(alloc, instrs, one) {
+        Ok(()) => {
+            step.pop();
+            DONE
+        }
+        Err(AllocError) => MEMORY,
+    }
+}
