@@ -3,7 +3,8 @@
 
 #include <sys/resource.h>
 
-/* Five gets, two pushes and looks of each kind leave the one receipt of the commit. */
+/* Five gets, two pushes and looks of each kind leave the one receipt of the commit, which names what
+ * was got, and not what was scanned. */
 static void one_receipt(void) {
     uint32_t number;
     begin_with(8);
@@ -18,10 +19,41 @@ static void one_receipt(void) {
     ANSWERS(ASM_DONE, asm_stands(&agents[0], TEXT("[[['x'],0]]"), OUT));
     REQUIRE(asm_follow(&agents[0], &number) == ASM_DONE && number == 0);
     gets("['s']", 0, "{'set':[1,2]}");
+    TELLS(ASM_DONE, "{'number':0,'values':[2,null]}",
+          asm_see(&agents[0], &step, TEXT("[['c'],['none']]"), OUT));
+    TELLS(ASM_DONE,
+          "{'fire':[['inc',['c'],2],['add',['s'],2],['put',['x'],9]],"
+          "'reads':[[['s'],0],[['x'],0],[['y'],0]]}",
+          asm_offer(&step, OUT));
     fired(1);
     journal_is("{'agent':0,'call':{'fire':[['inc',['c'],2],['add',['s'],2],['put',['x'],9]],"
-               "'reads':[[['c'],0],[['s'],0],[['x'],0],[['y'],0]]},'reply':{'fired':1}}\n",
+               "'reads':[[['s'],0],[['x'],0],[['y'],0]]},'reply':{'fired':1}}\n",
                1, 1);
+    end_all();
+}
+
+/* An offer is the one move with what the commit would name by now, which a fire takes; the step
+ * stays. */
+static void offers(void) {
+    const char *offer = "{'fire':[['inc',['c'],3]],'reads':[[['c'],0],[['none'],0]]}";
+    asm_numbers numbers;
+    begin_with(8);
+    TELLS(ASM_DONE, "{'fire':[],'reads':[]}", asm_offer(&step, OUT));
+    push("[['inc',['c'],1]]");
+    TELLS(ASM_DONE, "{'fire':[['inc',['c'],1]],'reads':[]}", asm_offer(&step, OUT));
+    push("[['inc',['c'],2]]");
+    gets("['none']", 0, "null");
+    TELLS(ASM_DONE, "[[['x'],7]]", asm_get_all(&agents[0], &step, TEXT("x"), OUT));
+    TELLS(ASM_DONE, offer, asm_offer(&step, OUT));
+    REQUIRE(asm_try_fire(&agents[1], TEXT(offer), &numbers) == ASM_DONE);
+    REQUIRE(asm_try_fire(&agents[1], TEXT(offer), &numbers) == ASM_STALE);
+    /* It is of the step's number, whatever was fired since. */
+    refused(ASM_STALE, "{'stale':['c']}");
+    TELLS(ASM_DONE, offer, asm_offer(&step, OUT));
+    pop();
+    TELLS(ASM_DONE, "{'fire':[['inc',['c'],1]],'reads':[[['none'],0]]}", asm_offer(&step, OUT));
+    fired(2);
+    ANSWERS(ASM_EMPTY, asm_offer(&step, OUT));
     end_all();
 }
 
@@ -93,6 +125,7 @@ static void moved(void) {
     asm_slot was[2] = {agents[0], step};
     uint32_t depth = asm_depth(&step);
     ANSWERS(ASM_MOVED, asm_get(&agents[0], &step, TEXT("[]"), OUT));
+    ANSWERS(ASM_MOVED, asm_see(&agents[0], &step, TEXT("[]"), OUT));
     ANSWERS(ASM_MOVED, asm_get_all(&agents[0], &step, TEXT("x"), OUT));
     ANSWERS(ASM_MOVED, asm_push(&agents[0], &step, TEXT("[]"), OUT));
     ANSWERS(ASM_MOVED, asm_extend(&agents[0], &step, TEXT("[['inc',['c'],1]]"), OUT));
@@ -315,6 +348,7 @@ static void steady_memory(void) {
 
 int main(void) {
     one_receipt();
+    offers();
     empty_steps();
     stale_reads();
     popped_moves();

@@ -24,21 +24,23 @@ typedef struct world {
     unsigned x_at, y_at, s_at, v_at;
 } world;
 
-/* What is seen through a pushed move with those before it, how often they raise x, how many of them
- * do, whether they put y and v, and how many of them change s, by adding 1 and removing 2. Of a
- * step's locations those are named that two of its moves raise or change. */
-typedef struct layer {
-    world seen;
-    unsigned raises, raising, changing;
-    bool puts, puts_v, adds, removes;
-} layer;
-
 /* What a move that is gathered does: how often it raises x, whether it puts y, which values it puts
  * at v, by their bits, and whether it adds 1 to s and removes 2 from it. */
 typedef struct gathered {
     unsigned raises, values;
     bool puts, adds, removes;
 } gathered;
+
+/* What is seen through a pushed move with those before it, how often they raise x, how many of them
+ * do, whether they put y and v, and how many of them change s, by adding 1 and removing 2; and what it
+ * does itself, with those that extend it. Of a step's locations those are named that two of its moves
+ * raise or change. */
+typedef struct layer {
+    world seen;
+    unsigned raises, raising, changing;
+    bool puts, puts_v, adds, removes;
+    gathered own;
+} layer;
 
 /* What a slot has to hold: nothing, a storage, an agent with its number and a bit for each move
  * that it fired, a step, a location, a move or an audit, that was fed the first byte of a header or

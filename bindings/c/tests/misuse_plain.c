@@ -11,6 +11,9 @@ static const struct {
     {ASM_KIND_BOOL, 1, "", "true"},
     {ASM_KIND_NUM, -5, "", "-5"},
     {ASM_KIND_TEXT, 0, "t\xc3\xbc", "\"t\xc3\xbc\""},
+    {ASM_KIND_LIST, 0, "{\"list\":[1]}", "{\"list\":[1]}"},
+    {ASM_KIND_SET, 0, "{\"set\":[1,2]}", "{\"set\":[1,2]}"},
+    {ASM_KIND_BAG, 0, "{\"bag\":[[1,2]]}", "{\"bag\":[[1,2]]}"},
 };
 enum { VALUES = sizeof values / sizeof *values };
 
@@ -114,7 +117,13 @@ static const struct {
     {ASM_ADD, ASM_KIND_NUM, 1, "", 0, ASM_DONE, S_PLACE, 0},
     {ASM_REMOVE, ASM_KIND_NUM, 2, "", 0, ASM_DONE, S_PLACE, 0},
     {ASM_PUT, ASM_KIND_TEXT, 0, "t\xc3", 0, ASM_SHAPE, PLACES, 0},
-    {ASM_PUT, ASM_KIND_LIST, 0, "", 0, ASM_RANGE, PLACES, 0},
+    {ASM_PUT, ASM_KIND_LIST, 0, "{\"list\": [1]}", 0, ASM_DONE, V_PLACE, 4},
+    {ASM_PUT, ASM_KIND_SET, 0, "{\"set\":[2,1]}", 0, ASM_DONE, V_PLACE, 5},
+    {ASM_PUT, ASM_KIND_BAG, 0, "{\"bag\":[[1,2]]}", 0, ASM_DONE, V_PLACE, 6},
+    {ASM_PUT, ASM_KIND_LIST, 0, "", 0, ASM_NOT_JSON, PLACES, 0},
+    {ASM_PUT, ASM_KIND_SET, 0, "{\"bag\":[]}", 0, ASM_SHAPE, PLACES, 0},
+    {ASM_PUT, ASM_KIND_BAG, 1, "{\"bag\":[]}", 0, ASM_RANGE, PLACES, 0},
+    {ASM_ADD, ASM_KIND_SET, 0, "{\"set\":[]}", 0, ASM_RANGE, PLACES, 0},
     {ASM_PUT, ASM_KIND_BOOL, 2, "", 0, ASM_RANGE, PLACES, 0},
     {ASM_PUT, ASM_KIND_UNDEF, 0, "u", 0, ASM_RANGE, PLACES, 0},
     {ASM_ADD, ASM_KIND_NUM, 1, "", 1, ASM_RANGE, PLACES, 0},
@@ -168,6 +177,11 @@ static const char *is_done(const gathered *move, layer *on) {
     on->changing += changes;
     on->adds |= move->adds;
     on->removes |= move->removes;
+    on->own.raises += move->raises;
+    on->own.puts |= move->puts;
+    on->own.values = move->values ? move->values : on->own.values;
+    on->own.adds |= move->adds;
+    on->own.removes |= move->removes;
     return NULL;
 }
 
@@ -179,6 +193,8 @@ static void grows_by(unsigned at, unsigned of_step, unsigned of_move, bool is_pu
     layer next = {0};
     if (wanted.code == ASM_DONE) {
         next = top_of(s);
+        if (is_push || s->depth == 0)
+            next.own = (gathered){0};
         if (is_push && s->depth == DEEPEST)
             wanted.code = ASM_DEEP;
         else if ((wanted.text = is_done(&m->move, &next)))
@@ -190,6 +206,20 @@ static void grows_by(unsigned at, unsigned of_step, unsigned of_move, bool is_pu
         s->depth += is_push || s->depth == 0;
         s->layers[s->depth - 1] = next;
     }
+}
+
+/* Pops what was pushed last into a slot, which has a move of what that did then. */
+static void pops_into(unsigned of_step, unsigned of_move) {
+    account *s = &accounts[of_step], *m = &accounts[of_move];
+    int32_t wanted = m->kind != NOTHING && m->kind != MOVE ? ASM_TAKEN
+                     : s->kind != STEP                     ? ASM_EMPTY
+                     : s->depth == 0                       ? ASM_NONE
+                                                           : ASM_DONE;
+    REQUIRE(asm_pop_move(&slots[of_step], &slots[of_move]) == wanted);
+    if (wanted != ASM_DONE)
+        return;
+    *m = (account){.kind = MOVE, .move = top_of(s).own};
+    s->depth--;
 }
 
 /* A slot of this kind, if there is one; at times the slot itself. */
@@ -217,7 +247,10 @@ void calls_any_plain(unsigned at, unsigned other) {
     unsigned of_step = fitting(at, other);
     at = below(4) ? some(AGENT, at) : at;
     of_step = below(4) ? fitting(at, of_step) : of_step;
-    switch (below(8)) {
+    switch (below(9)) {
+    case 8:
+        pops_into(of_step, below(2) ? other : some(MOVE, other));
+        break;
     case 0:
         locates(other);
         break;

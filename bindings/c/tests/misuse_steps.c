@@ -152,8 +152,10 @@ static void gets(unsigned at, unsigned of_step) {
     told wanted = {step_code(a, s, t->locations), NULL};
     if (wanted.code == ASM_DONE)
         wanted.text = values(s->stood, t, top_of(s).seen);
-    int32_t code = asm_get(&slots[at], &slots[of_step], bytes(t), strlen(t->bytes), OUT(b));
-    if (is_written(code, wanted, &b) && wanted.text) {
+    bool is_got = below(3);
+    int32_t code = (is_got ? asm_get : asm_see)(&slots[at], &slots[of_step], bytes(t),
+                                                strlen(t->bytes), OUT(b));
+    if (is_written(code, wanted, &b) && wanted.text && is_got) {
         s->has_got[X_PLACE] |= t->asks;
         s->has_got[Y_PLACE] |= t->asks && !top_of(s).puts;
     }
@@ -185,6 +187,10 @@ static void grows(unsigned at, unsigned of_step, bool is_push) {
     layer next = {0};
     if (wanted.code == ASM_DONE) {
         next = top_of(s);
+        if (is_push || s->depth == 0)
+            next.own = (gathered){0};
+        next.own.raises += t->does == RAISE_X;
+        next.own.puts |= t->does == PUT_Y;
         next.raises += t->does == RAISE_X;
         next.raising += t->does == RAISE_X;
         next.puts |= t->does == PUT_Y;
@@ -206,6 +212,17 @@ static void pops(unsigned at) {
     int32_t wanted = s->kind != STEP ? ASM_EMPTY : s->depth == 0 ? ASM_NONE : ASM_DONE;
     REQUIRE(asm_pop(&slots[at]) == wanted);
     s->depth -= wanted == ASM_DONE;
+}
+
+/* An offer tells how the step stands, and changes nothing. */
+static void offers(unsigned at) {
+    const account *s = &accounts[at];
+    buffer b = any_buffer();
+    int32_t code = asm_offer(&slots[at], OUT(b));
+    REQUIRE(code == (s->kind != STEP ? ASM_EMPTY : b.written > b.room ? ASM_SMALL : ASM_DONE));
+    REQUIRE((b.written >= strlen("{\"fire\":[],\"reads\":[]}")) == (s->kind == STEP));
+    REQUIRE(code != ASM_DONE || !memcmp(b.out, "{\"fire\":[", 9));
+    REQUIRE(s->kind == STEP || b.written == 0);
 }
 
 /* What the commit is answered on the latest world, which then is the one after it. */
@@ -392,6 +409,7 @@ void calls_any_step(unsigned at, unsigned other) {
         break;
     case 5:
         pops(at);
+        offers(below(2) ? at : fitting(at, other));
         break;
     case 6:
         goes_on_in(at, other);

@@ -51,14 +51,97 @@ static void gets_below(void) {
     push("[['inc',['c'],1],['put',['x'],1]]");
     gets("['c']", 0, "1");
     gets("['x']", 0, "1");
-    TELLS(ASM_DONE, "[[['x'],1]]", asm_get_all(&agents[0], &step, TEXT("x"), OUT));
     fire(&agents[1], "[['put',['x'],70]]");
     fired(2);
     begins_at(2);
     push("[['inc',['c'],1],['put',['x'],1]]");
-    TELLS(ASM_DONE, "[[['c'],2]]", asm_get_all(&agents[0], &step, TEXT("c"), OUT));
+    gets("['c']", 2, "2");
     fire(&agents[1], "[['inc',['c'],1]]");
     refused(ASM_STALE, "{'stale':['c']}");
+    end_all();
+}
+
+static void sees(const char *location, const char *value) {
+    char locations[64], text[128];
+    snprintf(locations, sizeof locations, "[%s]", location);
+    snprintf(text, sizeof text, "{'number':0,'values':[%s]}", value);
+    TELLS(ASM_DONE, text, asm_see(&agents[0], &step, TEXT(locations), OUT));
+}
+
+/* What is seen is named by nothing, through pushed moves too; once it is got as well, it is. */
+static void seen(void) {
+    for (int is_got = 0; is_got < 2; is_got++) {
+        begin_with(8);
+        sees("['x']", "7");
+        push("[['inc',['c'],1],['put',['y'],1]]");
+        sees("['c']", "1");
+        sees("['y']", "1");
+        if (is_got)
+            gets("['x']", 0, "7");
+        fire(&agents[1], "[['put',['x'],70],['inc',['c'],5],['put',['y'],70]]");
+        sees("['x']", "7");
+        if (is_got)
+            refused(ASM_STALE, "{'stale':['x']}");
+        else
+            fired(2);
+        end_all();
+    }
+}
+
+static void scans(const char *name, const char *wanted) {
+    TELLS(ASM_DONE, wanted, asm_get_all(&agents[0], &step, TEXT(name), OUT));
+}
+
+/* A step rests on all locations of a function that was scanned, those without a value too, until it
+ * is begun anew: a write to any of them, whatever it leaves there, makes the commit stale. */
+static void whole_functions(void) {
+    static const char *const writes[] = {"[['put',['x'],7]]", "[['put',['x'],null]]",
+                                         "[['put',['x',1],null]]", "[['put',['x','a'],1]]"};
+    static const char *const written[] = {"{'stale':['x']}", "{'stale':['x']}",
+                                          "{'stale':['x',1]}", "{'stale':['x','a']}"};
+    for (size_t i = 0; i < sizeof writes / sizeof *writes; i++) {
+        begin_with(8);
+        scans("x", "[[['x'],7]]");
+        push("[['put',['y'],1]]");
+        fire(&agents[1], writes[i]);
+        refused(ASM_STALE, written[i]);
+        end_all();
+    }
+    /* Other functions are of no account, also where a name begins alike. */
+    begin_with(8);
+    scans("x", "[[['x'],7]]");
+    fire(&agents[1], "[['put',['y'],1],['put',['xx'],1],['put',['c',1],1]]");
+    fired(2);
+    /* The least location that was written is named besides what was got; a pop leaves the scans. */
+    begins_at(2);
+    push("[['put',['y'],2]]");
+    scans("none", "[]");
+    scans("y", "[[['y'],2]]");
+    scans("none", "[]");
+    gets("['c']", 2, "0");
+    pop();
+    fire(&agents[1], "[['put',['none',2],1],['put',['none',1],1],['put',['c',1],2]]");
+    refused(ASM_STALE, "{'stale':['none',1]}");
+    /* Also where a step puts all that it scans. */
+    begins_at(3);
+    push("[['put',['x'],1]]");
+    scans("x", "[[['x'],1]]");
+    fire(&agents[1], "[['put',['x'],70]]");
+    refused(ASM_STALE, "{'stale':['x']}");
+    begins_at(4);
+    fired(5);
+    journal_is("{'agent':1,'call':{'fire':[['put',['y'],1],['put',['xx'],1],['put',['c',1],1]],"
+               "'reads':[]},'reply':{'fired':1}}\n"
+               "{'agent':0,'call':{'fire':[],'reads':[]},'reply':{'fired':2}}\n"
+               "{'agent':1,'call':{'fire':[['put',['none',2],1],['put',['none',1],1],"
+               "['put',['c',1],2]],'reads':[]},'reply':{'fired':3}}\n"
+               "{'agent':0,'call':{'fire':[],'reads':[[['c'],2],[['none',1],2]]},"
+               "'reply':{'stale':['none',1]}}\n"
+               "{'agent':1,'call':{'fire':[['put',['x'],70]],'reads':[]},'reply':{'fired':4}}\n"
+               "{'agent':0,'call':{'fire':[['put',['x'],1]],'reads':[[['x'],3]]},"
+               "'reply':{'stale':['x']}}\n"
+               "{'agent':0,'call':{'fire':[],'reads':[]},'reply':{'fired':5}}\n",
+               7, 5);
     end_all();
 }
 
@@ -199,6 +282,8 @@ int main(void) {
     resting_on_nothing();
     resting_locations();
     gets_below();
+    seen();
+    whole_functions();
     clashes_at_the_commit();
     many_named();
     many_rested_on();

@@ -136,6 +136,13 @@ static void run_step(void) {
     REQUIRE(ON_STEP(asm_get_all(&agents[0], &step, TEXT("y"), out, sizeof out, &written)) ==
             ASM_DONE);
     REQUIRE(has(out, written, "[[['y'],'why']]"));
+    REQUIRE(ON_STEP(asm_see(&agents[0], &step, TEXT("[['y']]"), out, sizeof out, &written)) ==
+            ASM_DONE);
+    REQUIRE(has(out, written, "{'number':1,'values':['why']}"));
+    REQUIRE(ON_STEP(asm_offer(&step, out, sizeof out, &written)) == ASM_DONE);
+    REQUIRE(has(out, written,
+                "{'fire':[['remove',['s'],'two'],['put',['x'],22],['put',['y'],'why']],"
+                "'reads':[[['s'],1],[['x'],1]]}"));
     push("[['inc',['x'],1]]", "{'number':1,'values':[23,{'set':[1,3]}]}");
     REQUIRE(AGAIN(asm_pop(&step)) == ASM_DONE);
     depth--;
@@ -165,6 +172,19 @@ static void instruct(asm_slot *place, int32_t verb, int32_t kind, int64_t number
     REQUIRE(last_code == ASM_DONE && move.full);
 }
 
+/* Pops what was pushed last into the move; both are as they were where there was no memory. */
+static void pop_move(const char *left) {
+    asm_slot was = move;
+    if (again(asm_pop_move(&step, &move)) && is_as_it_was()) {
+        REQUIRE(is_same(move, was));
+        last_code = asm_pop_move(&step, &move);
+    }
+    REQUIRE(last_code == ASM_DONE && move.full);
+    depth--;
+    seen = left;
+    is_as_it_was();
+}
+
 /* A step without text, which is abandoned. */
 static void run_plain(void) {
     uint8_t out[ROOM];
@@ -191,6 +211,16 @@ static void run_plain(void) {
     REQUIRE(ON_STEP(asm_push_move(&agents[0], &step, &move, out, sizeof out, &written)) ==
             ASM_CLASH);
     REQUIRE(has(out, written, "{'clash':[['u','why'],'Kind']}"));
+    pop_move("{'number':1,'values':[8,{'set':[1,3,'two']}]}");
+    asm_free(&move);
+    instruct(&at[0], ASM_PUT, ASM_KIND_SET, 0, "{\"set\":[1,{\"list\":[2]}]}");
+    instruct(&at[1], ASM_PUT, ASM_KIND_BAG, 0, "{\"bag\":[[1,2]]}");
+    REQUIRE(ON_STEP(asm_push_move(&agents[0], &step, &move, out, sizeof out, &written)) ==
+            ASM_DONE);
+    depth = 1;
+    seen = "{'number':1,'values':[{'set':[1,{'list':[2]}]},{'set':[1,3,'two']}]}";
+    asm_free(&move);
+    pop_move("{'number':1,'values':[8,{'set':[1,3,'two']}]}");
     REQUIRE(AGAIN(asm_peek_at(&agents[0], &at[0], &number, &value, out, sizeof out, &written)) ==
             ASM_DONE);
     REQUIRE(number == 1 && value.kind == ASM_KIND_NUM && value.number == 8);
