@@ -259,7 +259,7 @@ class Agent(Held):
     def scan(self, name: str) -> tuple[int, list[Any]]:
         """The same with the locations of one function name alone.
 
-        A fire that names each that was found doesn't notice that a further one is written later.
+        A fire that names each that was found doesn't notice that a further one is written later; a step that scans does.
         """
         return self._scan(utf_8(name))
 

@@ -89,7 +89,7 @@ class Busy(Retry):
 
 
 class Many(Error):
-    """More than 256 locations are read, got or named, or a composed move has more than 4,096 instructions."""
+    """More than 256 locations are read, got, scanned by a name or named, or a composed move has more than 4,096 instructions."""
 
 
 class Deep(Error):

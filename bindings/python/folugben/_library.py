@@ -15,14 +15,14 @@ DONE, STALE, CLASH, MEMORY, FULL, EMPTY, RANGE, SMALL, BUSY, MANY, NONE = range(
 TAKEN, NUMBER, MISSING, OTHER, ILLEGAL, NOT_JSON, SHAPE, VERSION, CUT, LARGE, MOVED, DEEP, APART = range(11, 24)
 
 # The calls of steps are made so often that what they are passed is made once, and passed on as it is: they have no argtypes.
-STEPS = ["asm_peek", "asm_begin", "asm_get", "asm_push", "asm_extend"]
+STEPS = ["asm_peek", "asm_begin", "asm_get", "asm_see", "asm_push", "asm_extend"]
 QUICK = ["asm_peek_at", "asm_get_at", "asm_instruct", "asm_push_move", "asm_extend_move", "asm_commit", "asm_free"]
 
 # The forms of texts that `explain` knows.
 LOCATIONS, MOVE, STATE, EVENT, SCRIPT = range(5)
 
-# The kinds of values in calls without text: those above TEXT come as texts of JSON.
-UNDEF, BOOL, NUM, TEXT = range(4)
+# The kinds of values in calls without text: those above TEXT are told by texts of JSON.
+UNDEF, BOOL, NUM, TEXT, LIST, SET, BAG = range(7)
 # What an instruction does.
 PUT, ADD, REMOVE, BAGADD, BAGREMOVE, INC = range(6)
 
@@ -87,6 +87,8 @@ def load() -> ctypes.CDLL:
         "asm_stands": (code, [slot, text, size, text, size, written]),
         "asm_get_all": (code, [slot, slot, text, size, text, size, written]),
         "asm_pop": (code, [slot]),
+        "asm_pop_move": (code, [slot, slot]),
+        "asm_offer": (code, [slot, text, size, written]),
         "asm_depth": (u32, [slot]),
         "asm_seen": (u32, [slot]),
         "asm_won": (u32, [slot]),

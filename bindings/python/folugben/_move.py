@@ -3,14 +3,14 @@ import ctypes
 import operator
 from typing import Self
 
-from ._errors import Error, expect
+from ._errors import INSTRUCTIONS, Error, expect, expect_part
 from ._held import Held, expect_over, here, marked, one_call, own_call
-from ._library import ADD, BAGADD, BAGREMOVE, BOOL, DONE, EMPTY, INC, NUM, PUT, RANGE, REMOVE, TEXT, UNDEF, Slot, lib, quick
+from ._library import ADD, BAG, BAGADD, BAGREMOVE, BOOL, DONE, EMPTY, INC, LIST, NOT_JSON, NUM, PUT, RANGE, REMOVE, SET, SHAPE
+from ._library import TEXT, UNDEF, Slot, lib, quick
 from ._location import Location
-from ._texts import utf_8
+from ._texts import encoded, utf_8
+from ._types import Element, Value
 
-# What an instruction takes: undef, a truth, a number or a text.
-Plain = bool | int | str | None
 LEAST, MOST = -(2**63), 2**63 - 1
 # The text of its location, its verb, and the kind, the number, the text and the amount of what it takes.
 _Instruction = tuple[bytes, int, int, int, bytes, int]
@@ -19,8 +19,9 @@ _Instruction = tuple[bytes, int, int, int, bytes, int]
 class Move(Held):
     """A move that is gathered instruction by instruction at prepared locations, and pushed by a step without any text.
 
-    It keeps its instructions until `clear`, and may be pushed any number of times, in steps of any storage. Its values are
-    None, True, False, whole numbers and texts; an instruction with a list, a set or a bag is pushed in a list of instructions.
+    It keeps its instructions until `clear`, and may be pushed any number of times, in steps of any storage. A value that is a
+    list, a set or a bag is written once, when it is gathered. `Step.pop_move` answers a move too: what it was popped with
+    counts as one instruction in its length, and more can be gathered behind that.
 
         move.clear().put(count, step.get(count) + 1).inc(total, 1)
         step.push(move)
@@ -30,35 +31,38 @@ class Move(Held):
         super().__init__()
         # Its instructions, and whether the slot is known to have these: a signal may end a call that the library has done.
         self._told: list[_Instruction] = []
-        self._is_whole, self._is_freed = True, False
+        self._is_whole, self._is_freed, self._is_popped = True, False, False
         self._number, self._length = ctypes.c_int64(), ctypes.c_size_t()
 
     def __len__(self) -> int:
-        return len(self._told)
+        return len(self._told) + self._is_popped
 
     def __bool__(self) -> bool:
         return True
 
     def __repr__(self) -> str:
-        return "<Move, freed>" if self._is_freed else f"<Move of {len(self._told)} instructions>"
+        if self._is_freed:
+            return "<Move, freed>"
+        count = f"{len(self._told)} instructions"
+        return f"<Move, popped, and {count} more>" if self._is_popped else f"<Move of {count}>"
 
-    def put(self, at: Location, value: Plain) -> Self:
+    def put(self, at: Location, value: Value) -> Self:
         """Puts a value; None leaves the location empty."""
         return self._instruct(at, PUT, value)
 
-    def add(self, at: Location, element: Plain) -> Self:
+    def add(self, at: Location, element: Element) -> Self:
         """Adds an element to a set."""
         return self._instruct(at, ADD, element)
 
-    def remove(self, at: Location, element: Plain) -> Self:
+    def remove(self, at: Location, element: Element) -> Self:
         """Removes an element from a set."""
         return self._instruct(at, REMOVE, element)
 
-    def bagadd(self, at: Location, element: Plain, amount: int) -> Self:
+    def bagadd(self, at: Location, element: Element, amount: int) -> Self:
         """Adds an element to a bag, 1 to 4,294,967,295 times."""
         return self._instruct(at, BAGADD, element, amount_of(amount))
 
-    def bagremove(self, at: Location, element: Plain, amount: int) -> Self:
+    def bagremove(self, at: Location, element: Element, amount: int) -> Self:
         """Removes an element from a bag, 1 to 4,294,967,295 times."""
         return self._instruct(at, BAGREMOVE, element, amount_of(amount))
 
@@ -67,7 +71,7 @@ class Move(Held):
         return self._instruct(at, INC, by)
 
     @own_call
-    def _instruct(self, at: Location, verb: int, value: Plain, amount: int = 0) -> Self:
+    def _instruct(self, at: Location, verb: int, value: Value, amount: int = 0) -> Self:
         if type(at) is not Location:
             raise TypeError(f"a gathered instruction is at a Location, as Location(['n']), and not at {type(at).__name__!r}")
         kind, number, text = operand(value)
@@ -87,6 +91,8 @@ class Move(Held):
                         self._told.append(own)
                     self._is_whole = True
                     if code != DONE:
+                        if kind > TEXT:
+                            expect_written(code, own)
                         at._expect_on(code)
                 return self
             finally:
@@ -107,6 +113,8 @@ class Move(Held):
 
     def _mend(self) -> None:
         """Has the slot have the instructions that it is told to have, by the texts of their locations."""
+        if self._is_popped:
+            raise Error(EMPTY, said="a call on the popped move was cut off, and may have been done: clear the move")
         quick.asm_free(self._at)
         for place, verb, kind, number, text, amount in self._told:
             slot = Slot()
@@ -134,14 +142,14 @@ class Move(Held):
             self._is_freed = True
 
     def _drop(self) -> None:
-        self._told, self._is_whole = [], False
+        self._told, self._is_whole, self._is_popped = [], False, False
         quick.asm_free(self._at)
         self._is_whole = True
 
     def _is_full(self) -> bool:
         """Whether it has instructions."""
         self._expect_held()
-        return len(self._told) > 0
+        return len(self) > 0
 
     def _expect_held(self) -> None:
         self._expect_open()
@@ -153,7 +161,21 @@ class Move(Held):
             raise Error(EMPTY, said="the move was freed")
 
 
-def operand(value: Plain) -> tuple[int, int, bytes]:
+# How the text of a value begins that is told by one.
+_BEGINNINGS = {LIST: b'{"list":', SET: b'{"set":', BAG: b'{"bag":'}
+_WORDS = {PUT: b"put", ADD: b"add", REMOVE: b"remove", BAGADD: b"bagadd", BAGREMOVE: b"bagremove", INC: b"inc"}
+
+
+def expect_written(code: int, own: _Instruction) -> None:
+    """Raises where and why an instruction is refused whose value is told by a text, if that is what the code says."""
+    place, verb, kind, _, text, amount = own
+    if code in (NOT_JSON, SHAPE):
+        expect_part(code, INSTRUCTIONS, b'[["%b",%b,%b%b]]' % (_WORDS[verb], place, text, b",%d" % amount if amount else b""))
+    if code == RANGE and kind != LIST and verb != INC:
+        raise Error(code, said="a set or a bag can be put, and is no element")
+
+
+def operand(value: Value) -> tuple[int, int, bytes]:
     """The kind, the number and the text of a value."""
     if isinstance(value, int):
         if isinstance(value, bool):
@@ -167,9 +189,14 @@ def operand(value: Plain) -> tuple[int, int, bytes]:
         return TEXT, 0, utf_8(value)
     if value is None:
         return UNDEF, 0, b""
+    if isinstance(value, (dict, set, frozenset)):
+        text = encoded(value, "value")
+        for kind, beginning in _BEGINNINGS.items():
+            if text.startswith(beginning):
+                return kind, 0, text
     raise TypeError(
-        f"a gathered instruction takes None, a bool, an int or a str, and not {type(value).__name__!r}; push lists, sets and "
-        "bags in a list of instructions"
+        'a gathered instruction takes None, a bool, an int, a str, {"list": [..]}, {"set": [..]} or {"bag": [..]}, and not '
+        f"{value!r:.40}"
     )
 
 

@@ -30,6 +30,7 @@ import threading
 import time
 import weakref
 from collections.abc import Callable
+from typing import Any
 
 from ._agent import Agent
 from ._errors import Broken, Error, Full, Missing, Past, expect
@@ -67,6 +68,11 @@ class PartStep(Step):
     @property
     def fired(self) -> int:
         return self._fired and self._agent.part.base + self._fired
+
+    def offer(self) -> dict[str, Any]:
+        """The same, with numbers of the run."""
+        offer, base = super().offer(), self._agent.part.base
+        return {"fire": offer["fire"], "reads": [[at, base + number] for at, number in offer["reads"]]}
 
     def fire(self) -> int:
         """The same as of any step; `Past` where its part has ended."""

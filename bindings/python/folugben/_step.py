@@ -23,9 +23,10 @@ class Step(Held):
     does what the pushed ones do in turn, unless something was written since that the step rests on: what it got of that
     state, and what two of its moves change there. A refused call leaves the step as it was.
 
-    The step is over once it is fired, and at the end of its `with` in any case; `get`, `scan`, `push`, `extend`, `pop` and
-    `fire` then raise `Over`. One that isn't fired leaves no trace. Where the agent's own state has moved on since, in a call
-    of the agent or in another step, a get, a scan or a push raises `Moved`; begin another step.
+    The step is over once it is fired, and at the end of its `with` in any case; `get`, `see`, `scan`, `push`, `extend`, `pop`,
+    `pop_move`, `offer` and `fire` then raise `Over`. One that isn't fired leaves no trace. Where the agent's own state has
+    moved on since, in a call of the agent or in another step, a get, a see, a scan or a push raises `Moved`; begin another
+    step.
 
     To get a `Location` and to push a `Move` takes a part of the time that lists take: no text is written or read.
     """
@@ -94,8 +95,8 @@ class Step(Held):
     def get(self, places: Location | Sequence[Form]) -> Any:
         """The values of the locations, as they are seen through the pushed moves; of a `Location` its value.
 
-        A location is got where its value is made from that of the state below, and the fire names it: at most 256 in all,
-        else `Many`. What a pushed move put there, and all that was done to it since, rests on nothing.
+        A location is got where its value is made from that of the state below, and the fire names it. At most 256 are got and
+        functions scanned, else `Many`. What a pushed move put there, and all that was done to it since, rests on nothing.
         """
         if not isinstance(places, Location):
             text = encoded(places, "places")
@@ -127,6 +128,30 @@ class Step(Held):
         finally:
             mark.in_call = False
 
+    @overload
+    def see(self, places: Location) -> Any: ...
+
+    @overload
+    def see(self, places: Sequence[Form]) -> list[Any]: ...
+
+    def see(self, places: Location | Sequence[Form]) -> Any:
+        """What `get` tells, but nothing is got: the step doesn't rest on it, and any number of locations can be seen.
+
+        It is for what is told or shown, and for what the step doesn't go by: the fire is done though another agent has
+        written there since.
+        """
+        if isinstance(places, Location):
+            return self._see(b"[%b]" % places._text)[0]
+        return self._see(encoded(places, "places"))
+
+    @one_call
+    def _see(self, places: bytes) -> list[Any]:
+        with self._agent._lock:
+            code, told = self._told(lib.asm_see, places)
+        expect_read(code, LOCATIONS, places)
+        values: list[Any] = decoded(told)["values"]
+        return values
+
     @one_call
     def _get(self, places: bytes) -> list[Any]:
         with self._agent._lock:
@@ -138,7 +163,8 @@ class Step(Held):
     def scan(self, name: str) -> list[list[Any]]:
         """Each location with this function name and its value, as seen through the pushed moves: a list of pairs, ascending.
 
-        The locations that are found are got, as by `get`; that a further one is written later isn't noticed.
+        The step then rests on the whole function: a write to any location of it, be it one that has no value yet, makes the
+        fire `Stale`. A scan counts as one of the 256 locations that may be got, however many it finds.
         """
         if here.turn is not None:
             here.turn()
@@ -223,14 +249,44 @@ class Step(Held):
             self._expect_on(code := lib.asm_pop(self._slot))
             expect(code)
 
+    def pop_move(self) -> Move:
+        """As `pop`, and the one move that does what the popped ones do in turn: `push` and `extend` take it, of any step.
+
+        A move that nothing extended is as it was pushed. No text is written or read. `Many` where the one move would have
+        more than 4,096 instructions, and `Error` with the code NONE where none is pushed; nothing is popped then.
+        """
+        move = Move()
+        self._pop_into(move)
+        return move
+
+    @one_call
+    def _pop_into(self, move: Move) -> None:
+        with self._agent._lock, move._lock:
+            move._is_popped = True
+            self._expect_on(code := lib.asm_pop_move(self._slot, move._slot))
+            expect(code)
+
+    @one_call
+    def offer(self) -> dict[str, Any]:
+        """What `fire` would offer by now: {"fire": [..], "reads": [..]}, the one move, and each location that it would name.
+
+        `Agent.fire` takes both. A fire of the step rests besides on the functions that were scanned, which it doesn't tell.
+        """
+        with self._agent._lock:
+            code, told = self._agent._buffer.text(lib.asm_offer, self._slot)
+            self._expect_on(code)
+        expect(code)
+        offer: dict[str, Any] = decoded(told)
+        return offer
+
     def fire(self) -> int:
         """Fires one move that does what the pushed moves do in turn. The number of the move; the step is over then.
 
-        It names, at the step's number, each location that was got, and each where the first of the moves that write there
+        It rests on each function that was scanned, and names, at the step's number, each location that was got, and each where the first of the moves that write there
         has partial updates alone and another one writes too. So what one move alone adds, removes or increments is named
         by nothing, and steps that do so fire beside each other.
 
-        It raises `Stale`, `Full` and `Busy` as a fire of the agent does, `Many` where it would name more than 256, and
+        It raises `Stale`, `Full` and `Busy` as a fire of the agent does, `Many` where what it would name and scanned is more than 256, and
         `Clash` where what is written by now doesn't bear such a partial update, as where another agent took out what this
         one removes: begin the step again, as after `Stale`.
         """

@@ -26,4 +26,4 @@ PROGRAMS = [customer(own) for own in range(CUSTOMERS)]
 
 def holds(agent: Agent) -> bool:
     """the sum of the accounts stays"""
-    return sum(money for _, money in agent.scan("account")[1]) == CUSTOMERS * OPENING
+    return bool(sum(money for _, money in agent.scan("account")[1]) == CUSTOMERS * OPENING)

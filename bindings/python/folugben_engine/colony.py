@@ -30,4 +30,4 @@ PROGRAMS = [grower(own) for own in range(GROWERS)]
 def holds(agent: Agent) -> bool:
     """the colony comes to 128 cells"""
     cells = agent.scan("cell")[1]
-    return sum(2**left for _, left in cells) == 2**ROUNDS and len(cells) == 2 ** agent.peek([AGE])[1][0]
+    return bool(sum(2**left for _, left in cells) == 2**ROUNDS and len(cells) == 2 ** agent.peek([AGE])[1][0])

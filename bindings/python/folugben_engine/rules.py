@@ -96,11 +96,11 @@ def Let(term: Any, body: Callable[[Any], Rule]) -> Rule:
     return Derived(lambda step: body(value_of(term, step)))
 
 
-def Choose(name: str, where: Callable[..., bool], body: Callable[..., Rule], otherwise: Rule = Par()) -> Rule:
+def Choose(name: str, where: Callable[..., object], body: Callable[..., Rule], otherwise: Rule = Par()) -> Rule:
     return Derived(lambda step: random.choice([body(*pair) for pair in step.scan(name) if where(*pair)] or [otherwise]))
 
 
-def Forall(name: str, where: Callable[..., bool], body: Callable[..., Rule]) -> Rule:
+def Forall(name: str, where: Callable[..., object], body: Callable[..., Rule]) -> Rule:
     return Derived(lambda step: Par(*(body(*pair) for pair in step.scan(name) if where(*pair))))
 
 

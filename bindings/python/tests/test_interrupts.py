@@ -147,9 +147,10 @@ class Interrupts(unittest.TestCase):
                 self.assertRaises(Nested, call)
             for call in (self.agent.step, self.agent.follow, self.agent.state, self.storage.next):
                 self.assertRaises(Nested, call)
-            for call in (step.pop, step.fire, step.free):
+            for call in (step.pop, step.pop_move, step.offer, step.fire, step.free):
                 self.assertRaises(Nested, call)
             self.assertRaises(Nested, step.get, [["other"]])
+            self.assertRaises(Nested, step.see, [["other"]])
             self.assertRaises(Nested, step.push, [])
             self.assertRaises(Nested, self.agent.read, [["other"]])
             self.assertRaises(Nested, self.agent.fire, [])

@@ -188,6 +188,19 @@ class Parts(Rooms):
                     self.assertEqual((step.fire(), step.fired), (number, number))
         self.assertEqual(self.last_state(), [[COUNT, 20]])
 
+    def test_offers_have_numbers_of_the_run_and_popped_moves_go_on(self):
+        with Run(INIT, self.path, 3) as run, run.agent(0) as agent:
+            for number in range(10):
+                with agent.step() as step:
+                    self.assertEqual((step.see([COUNT]), step.get([COUNT])), ([number], [number]))
+                    if number == 0:
+                        step.push([["inc", COUNT, 1]])
+                        popped = step.pop_move()
+                    step.push(popped)
+                    self.assertEqual(step.offer(), {"fire": [["inc", COUNT, 1]], "reads": [[COUNT, step.number]]})
+                    self.assertEqual((step.number, step.fire()), (number, number + 1))
+        self.assertEqual(self.last_state(), [[COUNT, 10]])
+
     def test_the_writer_limits_how_many_parts_are_in_memory(self):
         chain = None
         most = [0]

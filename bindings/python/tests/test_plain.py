@@ -4,6 +4,7 @@ import json
 import pickle
 import random
 import unittest
+from collections import Counter
 from unittest import mock
 
 import folugben
@@ -15,7 +16,7 @@ VALUES = [
     {"list": []}, {"list": [None, True, 1, "b", {"list": ["c"]}]}, {"set": []}, {"set": [None, True, 1, "ü"]}, {"bag": []},
     {"bag": [[True, 1], [1, 2**32 - 1]]}, {"set": [f"{k:0100}" for k in range(200)]},
 ]
-PLAIN = [value for value in VALUES if not isinstance(value, dict)]
+ELEMENTS = [value for value in VALUES if not isinstance(value, dict) or "list" in value]
 SET, BAG = {"set": [None, True, 1, "a"]}, {"bag": [[None, 5], [True, 5], [1, 5], ["a", 5]]}
 
 
@@ -59,7 +60,7 @@ class Plain(unittest.TestCase):
         def instruction():
             name = rng.choice("sbnp")
             word = rng.choice([*words.get(name, []), "put"]) if rng.random() < 0.9 else rng.choice(sum(words.values(), []))
-            value = rng.choice([0, 1, -1, 2**62]) if word == "inc" else rng.choice(PLAIN)
+            value = rng.choice([0, 1, -1, 2**62] if word == "inc" else VALUES if word == "put" else ELEMENTS)
             return [word, [name, rng.randrange(2)], value, *([rng.choice([1, 2, 2**32 - 1])] if word[:3] == "bag" else [])]
 
         init = [[[name, k], value] for k in range(2) for name, value in (("s", SET), ("b", BAG), ("n", 1), ("p", "a"))]
@@ -106,6 +107,75 @@ class Plain(unittest.TestCase):
                 later.push(move)
                 self.assertEqual((later.get(count), later.try_fire()), (11, 2))
 
+    def test_sets_and_counters_of_python_are_put(self):
+        at, move = Location(["v", 0]), Move()
+        for value, told in [
+            ({2, 1}, {"set": [1, 2]}), (frozenset({"a", None}), {"set": [None, "a"]}), (set(), {"set": []}),
+            (Counter("abba"), {"bag": [["a", 2], ["b", 2]]}), (Counter(), {"bag": []}), ({"list": (1, {"list": []})},
+             {"list": [1, {"list": []}]}),
+        ]:
+            with self.agent.step() as step:
+                step.push(move.clear().put(at, value))
+                self.assertEqual(repr(step.get(at)), repr(told))
+                step.pop()
+
+    def test_a_popped_move_is_pushed_as_it_was(self):
+        count, total = Location(["count"]), Location(["total"])
+        with self.agent.step() as step:
+            step.push([["put", ["count"], 1]])
+            step.push([["inc", ["count"], 2], ["put", ["total"], {"set": [1]}]])
+            step.extend([["inc", ["count"], 3], ["add", ["total"], 2]])
+            popped = step.pop_move()
+            self.assertEqual((step.depth, step.get(count), step.get(total)), (1, 1, None))
+            self.assertEqual((len(popped), repr(popped)), (1, "<Move, popped, and 0 instructions more>"))
+            # More is gathered behind it, and it is pushed any number of times.
+            step.push(popped)
+            self.assertEqual((step.depth, step.get(count), step.get(total)), (2, 6, {"set": [1, 2]}))
+            step.extend(popped.inc(count, 10))
+            self.assertEqual((len(popped), step.get(count)), (2, 21))
+            again = step.pop_move()
+            step.push(again)
+            self.assertEqual((step.get(count), step.fire()), (21, 1))
+            self.assertRaises(Over, step.pop_move)
+        with self.rival.step() as step:
+            step.push(again)
+            self.assertEqual((step.get(count), step.fire()), (41, 2))
+        self.assertEqual((len(popped.clear()), repr(popped)), (0, "<Move of 0 instructions>"))
+
+    def test_what_cannot_be_popped_stays(self):
+        at = Location(["s"])
+        with self.agent.step() as step:
+            self.assertEqual(self.code_of(step.pop_move)[0], folugben.NONE)
+            step.push([])
+            nothing = step.pop_move()
+            step.push(nothing)
+            self.assertEqual((step.depth, len(nothing)), (1, 1))
+            step.push(Move().put(at, {"set": []}))
+            for half in (0, 1):
+                (step.extend if half else step.push)([["add", ["s"], k] for k in range(3000 * half, 3000 * half + 3000)])
+            self.assertRaises(Many, step.pop_move)
+            self.assertEqual((step.depth, len(step.get(at)["set"])), (3, 6000))
+            step.pop()
+            self.assertEqual((step.get(at), step.fire()), ({"set": []}, 1))
+
+    def test_a_popped_move_that_was_cut_off_is_cleared(self):
+        at = Location(["count"])
+        with self.agent.step() as step:
+            step.push([["put", ["count"], 1]])
+            move = step.pop_move()
+
+            def cut_off(*arguments):
+                raise KeyboardInterrupt
+
+            quick = mock.Mock(wraps=_library.quick)
+            quick.asm_instruct = cut_off
+            with mock.patch.object(folugben._move, "quick", quick):
+                self.assertRaises(KeyboardInterrupt, move.inc, at, 1)
+            for call, *words in ((step.push, move), (move.inc, at, 1)):
+                self.assertEqual(self.code_of(call, *words)[0], folugben.EMPTY)
+            step.push(move.clear().put(at, 2))
+            self.assertEqual((step.get(at), step.fire()), (2, 1))
+
     def test_limits(self):
         at = Location(["count"])
         with self.agent.step() as step:
@@ -130,10 +200,23 @@ class Plain(unittest.TestCase):
     def test_operands_that_are_none(self):
         at, move = Location(["count"]), Move()
         move.put(at, 1)
-        for value in (1.5, [], {"list": []}, {"set": []}, b"", object()):
+        for value in (1.5, [], {}, {"lists": []}, b"", object()):
             for call in (move.put, move.add, move.remove, move.inc):
                 self.assertRaises(TypeError, call, at, value)
             self.assertRaises(TypeError, move.bagadd, at, value, 1)
+        for value in ({"set": []}, {"bag": []}, {1}, Counter("a")):
+            for call in (move.add, move.remove, lambda *words: move.bagadd(*words, 1)):
+                told = self.code_of(call, at, value)
+                self.assertEqual(told, (folugben.RANGE, "a set or a bag can be put, and is no element"))
+            self.assertEqual(self.code_of(move.inc, at, value)[0], folugben.RANGE)
+        self.assertEqual(self.code_of(move.inc, at, {"list": []})[0], folugben.RANGE)
+        said = "instruction 1: a set can't hold a set"
+        self.assertEqual(self.code_of(move.put, at, {"set": [{"set": []}]}), (folugben.SHAPE, said))
+        for value in ({"list": [1.5]}, {"set": [1, 1]}, {"bag": [["a", 0]]}, {"bag": [["a", 2**32]]}, {"list": [], "x": 1},
+                      {"list": [2**63]}, {"list": [{"set": []}]}, {"list": 1}):
+            self.assertEqual(self.code_of(move.put, at, value)[0], folugben.SHAPE)
+            if "list" in value:
+                self.assertEqual(self.code_of(move.bagadd, at, value, 2)[0], folugben.SHAPE)
         self.assertEqual(self.code_of(move.put, at, "\ud83d")[0], folugben.SHAPE)
         for number in (2**63, -(2**63) - 1, 10**30):
             for call in (move.put, move.add, move.inc):
@@ -250,9 +333,9 @@ class Plain(unittest.TestCase):
         def between(call):
             def made(*arguments):
                 for nested, *words in [
-                    (other.get, at), (self.agent.peek, at), (move.put, at, 2), (move.clear,), (other.push, move), (at.free,),
-                    (other.extend, move), (other.fire,), (other.try_fire,), (self.agent.step,), (move.free,), (Move().free,),
-                    (self.rival.step,), (self.storage.moves,),
+                    (other.get, at), (other.see, at), (other.pop_move,), (other.offer,), (self.agent.peek, at), (move.put, at, 2),
+                    (move.clear,), (other.push, move), (at.free,), (other.extend, move), (other.fire,), (other.try_fire,),
+                    (self.agent.step,), (move.free,), (Move().free,), (self.rival.step,), (self.storage.moves,),
                 ]:
                     self.assertRaises(Nested, nested, *words)
                 return call(*arguments)

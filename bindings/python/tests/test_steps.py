@@ -7,7 +7,7 @@ import unittest
 from unittest import mock
 
 import folugben
-from folugben import Clash, Deep, Error, Full, Many, Moved, Over, Stale, Storage, _library, _step, check
+from folugben import Clash, Deep, Error, Full, Location, Many, Moved, Over, Stale, Storage, _library, _step, check
 
 COUNT = [["count"]]
 
@@ -30,7 +30,8 @@ class Steps(unittest.TestCase):
 
     def assert_over(self, step):
         for call, *arguments in [
-            (step.get, COUNT), (step.scan, "f"), (step.push, []), (step.extend, []), (step.pop,), (step.fire,),
+            (step.get, COUNT), (step.see, COUNT), (step.scan, "f"), (step.push, []), (step.extend, []), (step.pop,),
+            (step.pop_move,), (step.offer,), (step.fire,),
         ]:
             with self.assertRaises(Over) as caught:
                 call(*arguments)
@@ -125,13 +126,48 @@ class Steps(unittest.TestCase):
         with self.agent.step() as step:
             step.push(put(1))
             # Of the state below it sees nothing through a put, and rests on nothing there.
-            self.assertEqual((step.get(COUNT), step.scan("count")), ([1], [[["count"], 1]]))
+            self.assertEqual(step.get(COUNT), [1])
             step.extend([["inc", ["count"], 1]])
             step.get(COUNT)
             step.pop()
             step.push(put("g", "g"))
             self.rival.fire([["put", ["g"], 1], ["put", ["f", 1], 7], ["put", ["count"], 9]])
             self.assertEqual(step.fire(), 2)
+
+    def test_what_is_seen_is_not_rested_on(self):
+        with self.agent.step() as step:
+            self.assertEqual((step.see(COUNT), step.see(Location(["f", 1])), step.see([])), ([0], 1, []))
+            step.push(put(1, "g"))
+            self.assertEqual(step.see([["g"], ["none"], ["bag"]]), [1, None, {"bag": [["e", 1]]}])
+            self.assertEqual(step.see([["x", k] for k in range(300)]), [None] * 300)
+            self.rival.fire(put(5) + put(7, "f", 1))
+            self.assertEqual((step.see(COUNT), step.offer()["reads"]), ([0], []))
+            self.assertEqual(step.fire(), 2)
+        with self.agent.step() as step:
+            step.see(COUNT)
+            step.get(COUNT)
+            self.rival.fire(put(6))
+            self.assertRaises(Stale, step.fire)
+            self.assertRaises(Moved, step.see, COUNT)
+            with self.assertRaises(Error) as caught:
+                step.see([["1"]])
+            self.assertEqual(caught.exception.code, folugben.SHAPE)
+
+    def test_an_offer_tells_what_would_be_fired(self):
+        with self.agent.step() as step:
+            self.assertEqual(step.offer(), {"fire": [], "reads": []})
+            step.get([["f", 2]])
+            step.push([["inc", ["count"], 1], ["put", ["g"], "a"]])
+            step.push([["inc", ["count"], 2]])
+            step.scan("none")
+            offer = step.offer()
+            step.pop()
+            step.pop()
+            self.assertEqual(step.offer(), {"fire": [], "reads": [[["f", 2], 0]]})
+        self.assertEqual(sorted(map(repr, offer["fire"])), sorted(map(repr, put("a", "g") + [["inc", ["count"], 3]])))
+        self.assertEqual(offer["reads"], [[["count"], 0], [["f", 2], 0]])
+        self.assertEqual(self.agent.fire(offer["fire"], offer["reads"]), 1)
+        self.assertRaises(Stale, self.agent.fire, offer["fire"], offer["reads"])
 
     def test_what_one_move_adds_rests_on_nothing(self):
         raise_, add = [["inc", ["count"], 1]], [["bagadd", ["bag"], "e", 1]]
@@ -179,17 +215,19 @@ class Steps(unittest.TestCase):
                     step.fire()
                 self.assertEqual(caught.exception.at, at)
 
-    def test_scanned_locations_are_got(self):
+    def test_a_scanned_function_is_rested_on_whole(self):
+        for further in (3, "three"):
+            with self.agent.step() as step:
+                self.assertEqual(len(step.scan("f")), 2)
+                step.push(put(1))
+                self.rival.fire(put(None, "f", further))
+                with self.assertRaises(Stale) as caught:
+                    step.fire()
+                self.assertEqual(caught.exception.at, ["f", further])
         with self.agent.step() as step:
             self.assertEqual(step.scan("f"), [[["f", 1], 1], [["f", 2], 2]])
-            self.rival.fire(put(3, "f", 3))
-            self.assertEqual(step.fire(), 2)
-        with self.agent.step() as step:
-            step.scan("f")
-            self.rival.fire(put(4, "f", 3))
-            with self.assertRaises(Stale) as caught:
-                step.fire()
-            self.assertEqual(caught.exception.at, ["f", 3])
+            self.rival.fire(put(3, "g", 3) + put(3, "ff"))
+            self.assertEqual(step.fire(), 4)
 
     def test_a_clash_leaves_the_step_as_it_was(self):
         with self.agent.step() as step:
@@ -227,7 +265,7 @@ class Steps(unittest.TestCase):
             step.get([["x", 7]] * 300)
             self.assertRaises(Many, step.get, [["y"]])
             self.assertRaises(Many, step.scan, "f")
-            self.assertEqual(step.scan("none"), [])
+            self.assertRaises(Many, step.scan, "none")
             step.push([["inc", ["count"], 1]])
             step.extend([["inc", ["count"], 1]])
             self.assertRaises(Many, step.fire)

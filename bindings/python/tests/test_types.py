@@ -21,6 +21,9 @@ move: list[Update] = [["put", count, 1], ["add", ["s"], "a"], ["bagadd", ["b", 1
 def rule(step: Step) -> int:
     value: int = step.get(Location(count))
     step.push(move)
+    popped: Move = step.pop_move()
+    step.extend(popped.put(Location(["x"]), {"set": [value]}).add(Location(["s"]), {"list": [value]}))
+    told: list[Value] = step.see([count])
     step.push(Move().put(Location(["x"]), value))
     return value
 
