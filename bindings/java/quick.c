@@ -15,6 +15,7 @@
 static struct {
     __typeof__(asm_begin) *begin;
     __typeof__(asm_get) *get;
+    __typeof__(asm_see) *see;
     __typeof__(asm_push) *push;
     __typeof__(asm_extend) *extend;
     __typeof__(asm_commit) *commit;
@@ -35,6 +36,7 @@ static jint JNICALL begin(OWN, jlong agent, jlong step, jlong number) {
         return library.name(AT(agent), AT(step), AT(text), (size_t)len, TEXTS_AT);        \
     }
 TEXT_CALL(get)
+TEXT_CALL(see)
 TEXT_CALL(push)
 TEXT_CALL(extend)
 
@@ -71,6 +73,7 @@ static const struct {
 } bound[] = {
     {{"asm_begin", "(JJJ)I", (void *)begin}, &library.begin},
     {{"asm_get", "(JJJJJJJ)I", (void *)get}, &library.get},
+    {{"asm_see", "(JJJJJJJ)I", (void *)see}, &library.see},
     {{"asm_push", "(JJJJJJJ)I", (void *)push}, &library.push},
     {{"asm_extend", "(JJJJJJJ)I", (void *)extend}, &library.extend},
     {{"asm_commit", "(JJJ)I", (void *)commit}, &library.commit},

@@ -421,7 +421,7 @@ public final class Agent implements AutoCloseable {
 
     /**
      * The same with the locations of one function name alone. A fire that names each that was found
-     * doesn't notice that a further one is written later.
+     * doesn't notice that a further one is written later; a step that scans does.
      */
     public State scan(String name) {
         byte[] bytes = Texts.utf8(name, "name");

@@ -73,6 +73,9 @@ final class Calls {
     static native int asm_get(
             long agent, long step, long locations, long len, long out, long room, long written);
 
+    static native int asm_see(
+            long agent, long step, long locations, long len, long out, long room, long written);
+
     static native int asm_get_all(
             long agent, long step, long name, long len, long out, long room, long written);
 
@@ -83,6 +86,10 @@ final class Calls {
             long agent, long step, long move, long len, long out, long room, long written);
 
     static native int asm_pop(long step);
+
+    static native int asm_pop_move(long step, long move);
+
+    static native int asm_offer(long step, long out, long room, long written);
 
     static native int asm_depth(long step);
 

@@ -116,6 +116,21 @@ final class JsonReader {
         });
     }
 
+    /** The offer {"fire":[INSTR, ..],"reads":[NAMED, ..]} of a step. */
+    static Step.Offer offer(String text) {
+        return parsed(text, "offer", reader -> {
+            reader.key("fire");
+            List<Instruction> fire = reader.list(JsonReader::instruction);
+            reader.nextKey("reads");
+            List<Read> reads = reader.list(JsonReader::read);
+            reader.end(JsonToken.END_OBJECT);
+            return new Step.Offer(fire,
+                    reads.stream()
+                            .map(it -> new Named(it.location(), Math.toIntExact(it.number())))
+                            .toList());
+        });
+    }
+
     /** A location as a text names it, at a number that may be of moves that are yet to come. */
     record Read(Location location, long number) {}
 

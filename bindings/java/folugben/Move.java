@@ -7,9 +7,10 @@ import java.util.Objects;
  * Step#push(Move)}: its text is neither written nor read. It keeps its instructions until {@link
  * #clear}, and may be pushed any number of times, in steps of any storage.
  *
- * <p>An operand is undef, a boolean, a whole number or a text, and no list, set or bag, of which a
- * put is pushed as an {@link Instruction}. Any thread may use it, in one call at a time. Nothing is
- * released by the garbage collector; call close().
+ * <p>Of an operand that is a list, a set or a bag the text is written once, when it is gathered.
+ * What {@link Step#popMove()} answers counts as one instruction, and more can be gathered behind
+ * it. Any thread may use a move, in one call at a time. Nothing is released by the garbage
+ * collector; call close().
  *
  * <pre>{@code
  * try (PreparedLocation count = Location.of("count").prepare(); Move move = new Move()) {
@@ -39,7 +40,7 @@ public final class Move implements AutoCloseable {
     /** A move of no instructions. */
     public Move() {}
 
-    /** How many instructions it has. */
+    /** How many instructions it has; what was popped into it is one of them. */
     public int size() {
         synchronized (slot) {
             return size;
@@ -99,9 +100,11 @@ public final class Move implements AutoCloseable {
         return text(at, PUT, text, 0);
     }
 
-    /** Puts an element that is no list; undef leaves the location empty. */
-    public Move put(PreparedLocation at, Element element) {
-        return element(at, PUT, element, 0);
+    /** Puts a value; undef leaves the location empty. */
+    public Move put(PreparedLocation at, Value value) {
+        if (Objects.requireNonNull(value, "value") instanceof Element element)
+            return element(at, PUT, element, 0);
+        return written(at, PUT, value instanceof Value.SetOf ? Room.SET : Room.BAG, value, 0);
     }
 
     /** Adds a number to a set. */
@@ -119,7 +122,7 @@ public final class Move implements AutoCloseable {
         return text(at, ADD, text, 0);
     }
 
-    /** Adds an element that is no list to a set. */
+    /** Adds an element to a set. */
     public Move add(PreparedLocation at, Element element) {
         return element(at, ADD, element, 0);
     }
@@ -139,7 +142,7 @@ public final class Move implements AutoCloseable {
         return text(at, REMOVE, text, 0);
     }
 
-    /** Removes an element that is no list from a set. */
+    /** Removes an element from a set. */
     public Move remove(PreparedLocation at, Element element) {
         return element(at, REMOVE, element, 0);
     }
@@ -163,7 +166,7 @@ public final class Move implements AutoCloseable {
         return text(at, BAG_ADD, text, Value.BagOf.inRange(amount));
     }
 
-    /** Adds an element that is no list to a bag so many times. */
+    /** Adds an element to a bag so many times. */
     public Move bagAdd(PreparedLocation at, Element element, long amount) {
         return element(at, BAG_ADD, element, Value.BagOf.inRange(amount));
     }
@@ -183,7 +186,7 @@ public final class Move implements AutoCloseable {
         return text(at, BAG_REMOVE, text, Value.BagOf.inRange(amount));
     }
 
-    /** Removes an element that is no list from a bag so many times. */
+    /** Removes an element from a bag so many times. */
     public Move bagRemove(PreparedLocation at, Element element, long amount) {
         return element(at, BAG_REMOVE, element, Value.BagOf.inRange(amount));
     }
@@ -210,7 +213,11 @@ public final class Move implements AutoCloseable {
             return text(at, verb, text.value(), amount);
         if (element instanceof Element.Undef)
             return plain(at, verb, Room.UNDEF, 0, amount);
-        throw new IllegalArgumentException("a list is no operand here: push an Instruction");
+        return written(at, verb, Room.LIST, element, amount);
+    }
+
+    private Move written(PreparedLocation at, int verb, int kind, Value value, long amount) {
+        return bytes(at, verb, kind, Texts.utf8(value.json(), "value"), amount);
     }
 
     private Move plain(PreparedLocation at, int verb, int kind, long number, long amount) {
@@ -228,16 +235,31 @@ public final class Move implements AutoCloseable {
 
     private Move text(PreparedLocation at, int verb, String text, long amount) {
         Objects.requireNonNull(at, "location");
-        byte[] bytes = Texts.utf8(text, "text");
+        return bytes(at, verb, Room.STRING, Texts.utf8(text, "text"), amount);
+    }
+
+    private Move bytes(PreparedLocation at, int verb, int kind, byte[] bytes, long amount) {
+        Objects.requireNonNull(at, "location");
         synchronized (slot) {
             expectOpen();
             synchronized (at.slot) {
                 isCutOff = true;
-                took(at, Calls.asm_instruct(slot.at, at.slot.at, verb, Room.STRING, 0, bytes,
+                took(at, Calls.asm_instruct(slot.at, at.slot.at, verb, kind, 0, bytes,
                         bytes.length, (int) amount));
             }
         }
         return this;
+    }
+
+    /** Takes what the step pops, in the place of its instructions. To be called with its lock. */
+    int takePopped(long step) {
+        expectOpen();
+        isCutOff = true;
+        int code = Calls.asm_pop_move(step, slot.at);
+        if (code == FolugbenException.DONE)
+            size = 1;
+        isCutOff = false;
+        return code;
     }
 
     /** Counts the instruction, if the code says that it was taken. */

@@ -26,6 +26,9 @@ final class Room {
     static final int BOOL = 1;
     static final int NUM = 2;
     static final int STRING = 3;
+    static final int LIST = 4;
+    static final int SET = 5;
+    static final int BAG = 6;
 
     private static final byte[] NO_TEXT = {};
 

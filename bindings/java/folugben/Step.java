@@ -135,7 +135,36 @@ public final class Step implements AutoCloseable {
     }
 
     /**
-     * The same of a prepared location.
+     * What get tells, but nothing is got: the fire doesn't rest on it, and is done though another
+     * agent has written there since. It is for what is told or shown, and for what the step doesn't
+     * go by.
+     *
+     * @throws FolugbenException MOVED
+     */
+    public String see(String locations) {
+        byte[] text = Texts.utf8(locations, "locations");
+        Calls.Told told = toldAtTurn(Calls::asm_see, text);
+        FolugbenException.expectRead(told.code(), Storage.Form.LOCATIONS, text);
+        return told.text();
+    }
+
+    /**
+     * What get tells of the locations, in their order, but nothing is got.
+     *
+     * @throws FolugbenException as a {@link MovedException}
+     */
+    public List<Value> see(List<Location> locations) {
+        List<Location> copy = Copies.of(locations, "locations");
+        return JsonReader.reading(see(JsonWriter.locations(copy)), copy).values();
+    }
+
+    /** The same of one location. */
+    public Value see(Location location) {
+        return see(List.of(Objects.requireNonNull(location, "location"))).get(0);
+    }
+
+    /**
+     * The same as get of a prepared location.
      *
      * @throws FolugbenException as a {@link MovedException} or {@link ManyException}, as get of
      *         others
@@ -202,9 +231,11 @@ public final class Step implements AutoCloseable {
 
     /**
      * What is seen through the pushed moves at all locations with a function name, as {@link
-     * Agent#scan} tells those of the agent's own state. Those that are found are got, as by get; that a further one is written later isn't noticed.
+     * Agent#scan} tells those of the agent's own state. The step then rests on the whole function: a
+     * write to any location of it, be it one that has no value yet, makes the fire stale. A scan
+     * counts as one of the 256 locations that may be got, however many it finds.
      *
-     * @throws FolugbenException MOVED; MANY if more than 256 would be got
+     * @throws FolugbenException MOVED; MANY if more than 256 would be got and scanned
      */
     public Agent.State scan(String name) {
         Calls.Told told = told(Calls::asm_get_all, Texts.utf8(name, "name"));
@@ -330,6 +361,62 @@ public final class Step implements AutoCloseable {
         }
     }
 
+    /**
+     * As pop, and the one move that does what the popped ones do in turn: push and extend take it,
+     * of any step. A move that nothing extended is as it was pushed. Close it.
+     *
+     * @throws FolugbenException NONE if no move is pushed; as a {@link ManyException} if the one
+     *         move would have more than 4,096 instructions; nothing is popped then
+     */
+    public Move popMove() {
+        return popMove(new Move());
+    }
+
+    /**
+     * The same into a move, whose instructions are dropped for it; that move.
+     *
+     * @throws FolugbenException as the other; EMPTY if the move is closed
+     */
+    public Move popMove(Move into) {
+        Objects.requireNonNull(into, "move");
+        synchronized (agent.slot) {
+            long step = slot().at;
+            synchronized (into.slot) {
+                FolugbenException.expect(agent.held(into.takePopped(step)));
+            }
+        }
+        return into;
+    }
+
+    /**
+     * What a fire would offer by now: the one move, and each location that it would name. Agent.fire
+     * takes both. A fire of the step rests besides on the functions that were scanned, which aren't
+     * told.
+     */
+    public record Offer(List<Instruction> fire, List<Named> reads) {
+        /** Copies of both. */
+        public Offer {
+            fire = Copies.of(fire, "fire");
+            reads = Copies.of(reads, "reads");
+        }
+    }
+
+    /** What a fire would offer by now. */
+    public Offer offer() {
+        return JsonReader.offer(offerText());
+    }
+
+    /** The same as the text {"fire":[INSTR, ..],"reads":[NAMED, ..]}. */
+    public String offerText() {
+        synchronized (agent.slot) {
+            long step = slot().at;
+            Calls.Told told = room.told(
+                    (text, out, length, written) -> Calls.asm_offer(step, out, length, written));
+            FolugbenException.expect(agent.held(told.code()));
+            return told.text();
+        }
+    }
+
     /** How many moves are pushed, at most 64. */
     public int depth() {
         synchronized (agent.slot) {
@@ -339,14 +426,15 @@ public final class Step implements AutoCloseable {
 
     /**
      * Fires one move that does what the pushed moves do in turn, unless a location was written
-     * since the step began that was got, or where the first of the moves that write there has
+     * since the step began that was got or is one of a function that was scanned, or where the first of the moves that write there has
      * partial updates alone and another one writes too. What one move alone adds, removes or
      * increments is named by nothing: it clashes where it doesn't fit what is there by now, as
      * where another agent took out what it removes. Where it fires, the step is over; else it stays
      * until it is closed. That it is stale, or clashes, is a reply, which asks to begin another
      * step ({@link Agent.Reply#shouldRetry}), and which {@link Agent.Reply#orThrow} throws.
      *
-     * @throws FolugbenException MANY if more than 256 locations would be named
+     * @throws FolugbenException MANY if more than 256 locations would be named and functions
+     *         were scanned
      */
     public Agent.Reply tryFire() {
         Interleave.turn();

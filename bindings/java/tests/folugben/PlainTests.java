@@ -74,22 +74,24 @@ final class PlainTests {
     private static void gather(Move move, Instruction instruction, boolean asElement) {
         try (PreparedLocation at = instruction.location().prepare()) {
             if (instruction instanceof Instruction.Put put)
-                operand((Element) put.value(), asElement, it -> move.put(at, it),
-                        it -> move.put(at, it), it -> move.put(at, it), it -> move.put(at, it));
+                operand(put.value(), asElement, it -> move.put(at, it), it -> move.put(at, it),
+                        it -> move.put(at, it), it -> move.put(at, it));
             else if (instruction instanceof Instruction.Add add)
-                operand(add.element(), asElement, it -> move.add(at, it), it -> move.add(at, it),
-                        it -> move.add(at, it), it -> move.add(at, it));
+                operand(add.element(), asElement, it -> move.add(at, (Element) it),
+                        it -> move.add(at, it), it -> move.add(at, it), it -> move.add(at, it));
             else if (instruction instanceof Instruction.Remove remove)
-                operand(remove.element(), asElement, it -> move.remove(at, it),
+                operand(remove.element(), asElement, it -> move.remove(at, (Element) it),
                         it -> move.remove(at, it), it -> move.remove(at, it),
                         it -> move.remove(at, it));
             else if (instruction instanceof Instruction.BagAdd add)
-                operand(add.element(), asElement, it -> move.bagAdd(at, it, add.amount()),
+                operand(add.element(), asElement,
+                        it -> move.bagAdd(at, (Element) it, add.amount()),
                         it -> move.bagAdd(at, it, add.amount()),
                         it -> move.bagAdd(at, it, add.amount()),
                         it -> move.bagAdd(at, it, add.amount()));
             else if (instruction instanceof Instruction.BagRemove remove)
-                operand(remove.element(), asElement, it -> move.bagRemove(at, it, remove.amount()),
+                operand(remove.element(), asElement,
+                        it -> move.bagRemove(at, (Element) it, remove.amount()),
                         it -> move.bagRemove(at, it, remove.amount()),
                         it -> move.bagRemove(at, it, remove.amount()),
                         it -> move.bagRemove(at, it, remove.amount()));
@@ -98,7 +100,7 @@ final class PlainTests {
         }
     }
 
-    private static void operand(Element element, boolean asElement, Consumer<Element> any,
+    private static void operand(Value element, boolean asElement, Consumer<Value> any,
             Consumer<Long> number, Consumer<Boolean> truth, Consumer<String> text) {
         if (!asElement && element instanceof Element.Num num)
             number.accept(num.value());
@@ -110,33 +112,13 @@ final class PlainTests {
             any.accept(element);
     }
 
-    private static Value operand(Instruction instruction) {
-        if (instruction instanceof Instruction.Put put)
-            return put.value();
-        if (instruction instanceof Instruction.Add add)
-            return add.element();
-        if (instruction instanceof Instruction.Remove remove)
-            return remove.element();
-        if (instruction instanceof Instruction.BagAdd add)
-            return add.element();
-        if (instruction instanceof Instruction.BagRemove remove)
-            return remove.element();
-        return Element.undef();
-    }
-
-    /** Whether a move that is gathered can have it. */
-    private static boolean isPlain(Instruction instruction) {
-        Value operand = operand(instruction);
-        return operand instanceof Element && !(operand instanceof Element.ListOf);
-    }
-
     /** A move that is gathered does what the same does as objects, clashes included. */
     static void moves() {
         int[] count = new int[2];
         for (int round = 0; round < 4 * ROUNDS; round++) {
             Randoms random = new Randoms(round);
             Map<Location, Value> state = random.state();
-            List<Instruction> all = random.move().stream().filter(PlainTests::isPlain).toList();
+            List<Instruction> all = random.move();
             try (Storage storage = Storage.open(state, 8); Agent agent = storage.agent(0);
                     Step step = agent.step(); Step other = agent.step(); Move move = new Move()) {
                 for (Instruction one : all) gather(move, one, round % 2 == 0);
@@ -224,15 +206,13 @@ final class PlainTests {
                 refusedValue(told, () -> move.bagAdd(x, 1, amount));
                 refusedValue(told, () -> move.bagRemove(x, "", amount));
             }
-            String list = "a list is no operand here: push an Instruction";
-            refusedValue(list, () -> move.put(x, Element.list(1)));
-            refusedValue(list, () -> move.bagRemove(x, Element.list(), 1));
             refusedValue("text has a lone surrogate at index 1", () -> move.put(x, "a\ud83d"));
             Class<? extends RuntimeException> kind = NullPointerException.class;
             thrown(kind, "location", () -> move.put(null, 1));
             thrown(kind, "location", () -> move.add(null, "text"));
             thrown(kind, "text", () -> move.add(x, (String) null));
             thrown(kind, "element", () -> move.remove(x, (Element) null));
+            thrown(kind, "value", () -> move.put(x, (Value) null));
             equal(move.size(), 1);
         }
         refusedAt(FolugbenException.NOT_JSON, 0, " at byte 2", () -> new PreparedLocation("[nul]"));
@@ -241,6 +221,59 @@ final class PlainTests {
                 () -> new PreparedLocation("7"));
         refused(FolugbenException.NOT_JSON, () -> new PreparedLocation("[\"x\"],[\"y\"]"));
         thrown(NullPointerException.class, "location", () -> new PreparedLocation(null));
+    }
+
+    /** A move that is popped, which is pushed again, here and in another step. */
+    static void popped() {
+        try (Storage storage = Storage.open(Map.of(X, 1, S, Value.set()), 8);
+                Agent agent = storage.agent(0); PreparedLocation x = X.prepare();
+                Move move = new Move()) {
+            try (Step step = agent.step()) {
+                refused(FolugbenException.NONE, step::popMove);
+                step.push(Instruction.put(X, 2));
+                step.push(Instruction.inc(X, 3), Instruction.add(S, Element.list(1)));
+                step.extend(Instruction.inc(X, 4), Instruction.add(S, "two"));
+                equal(step.popMove(move.put(x, "dropped")), move);
+                equal(step.depth(), 1);
+                equal(move.size(), 1);
+                equal(step.get(List.of(X, S)), List.of(Element.of(2), Value.set()));
+                step.push(move.inc(x, 10));
+                equal(move.size(), 2);
+                equal(step.get(List.of(X, S)),
+                        List.of(Element.of(19), Value.set(Element.list(1), "two")));
+                try (Move last = step.popMove()) {
+                    step.extend(last);
+                    equal(step.depth(), 1);
+                    equal(step.getNumber(x), 19L);
+                    step.extend(last.clear().put(x, Value.bag(Map.of("e", 2))));
+                    equal(step.get(x), Value.bag(Map.of("e", 2)));
+                }
+                equal(step.fire(), 1);
+                refused(FolugbenException.EMPTY, step::popMove);
+            }
+            try (Step step = agent.step()) {
+                refused(FolugbenException.CLASH, () -> step.push(move));
+                step.push(Instruction.put(S, Value.set()), Instruction.put(X, 1));
+                for (int half = 0; half < 2; half++) {
+                    Instruction[] adds = new Instruction[3000];
+                    for (int i = 0; i < 3000; i++) adds[i] = Instruction.add(S, 3000 * half + i);
+                    if (half == 0)
+                        step.push(adds);
+                    else
+                        step.extend(adds);
+                }
+                refused(FolugbenException.MANY, () -> step.popMove(move));
+                equal(step.depth(), 2);
+                equal(move.size(), 2);
+                step.pop();
+                step.push(move);
+                equal(step.getNumber(x), 18L);
+                Move closed = new Move();
+                closed.close();
+                refused(FolugbenException.EMPTY, () -> step.popMove(closed));
+                equal(step.depth(), 2);
+            }
+        }
     }
 
     /** Handles that are closed, or whose step or agent is over. */
@@ -358,6 +391,8 @@ final class PlainTests {
         System.out.println("plain limits");
         operands();
         System.out.println("operands");
+        popped();
+        System.out.println("popped moves");
         closed();
         System.out.println("closed handles");
         fires();

@@ -144,6 +144,42 @@ final class StepTests {
         }
     }
 
+    /** What is seen isn't named, and an offer tells what is. */
+    static void sees() {
+        Location x = Location.of("x");
+        Location y = Location.of("y", 1);
+        try (Storage storage = new Storage(INIT, 8); Agent agent = storage.agent(0);
+                Agent rival = storage.agent(1)) {
+            try (Step step = agent.step()) {
+                equal(step.offerText(), "{\"fire\":[],\"reads\":[]}");
+                step.push(inc("x", 3));
+                equal(step.see("[[\"x\"],[\"z\"]]"), seen(0, "10,null"));
+                equal(step.see(List.of(y, x)), List.of(Element.of("one"), Element.of(10)));
+                equal(step.see(y), Element.of("one"));
+                equal(step.get(Location.of("z")).isUndef(), true);
+                List<Named> reads = List.of(new Named(Location.of("z"), 0));
+                equal(step.offer(), new Step.Offer(List.of(Instruction.inc(x, 3)), reads));
+                equal(step.offerText(),
+                        "{\"fire\":[[\"inc\",[\"x\"],3]],\"reads\":[[[\"z\"],0]]}");
+                refused(FolugbenException.SHAPE, () -> step.see("[7]"));
+                refused(FolugbenException.NOT_JSON, () -> step.see("[["));
+                rival.tryFire(put("x", "20"), "[]");
+                equal(step.fire(), 2);
+                refused(FolugbenException.EMPTY, () -> step.see("[]"));
+                refused(FolugbenException.EMPTY, step::offer);
+            }
+            try (Step step = agent.step()) {
+                step.see(x);
+                step.get(x);
+                Step.Offer offer = step.offer();
+                rival.tryFire(put("x", "0"), "[]");
+                equal(step.tryFire().isStale(), true);
+                refused(FolugbenException.MOVED, () -> step.see(x));
+                equal(agent.tryFire(offer.fire(), offer.reads()).isStale(), true);
+            }
+        }
+    }
+
     /** What rivals fire makes a step stale, or has its agent move on. */
     static void rivals() {
         try (Storage storage = new Storage(INIT, 4); Agent agent = storage.agent(0);
@@ -342,6 +378,8 @@ final class StepTests {
         System.out.println("steps");
         refusals();
         System.out.println("refusals");
+        sees();
+        System.out.println("sees and offers");
         rivals();
         System.out.println("rivals");
         restingOnNothing();
