@@ -187,6 +187,7 @@ class value {
     }
 
   private:
+    friend class operand;
     asm_value head_{ASM_KIND_UNDEF, 0};
     std::string bytes_;
 };
@@ -206,7 +207,8 @@ class location {
     detail::held slot_;
 };
 
-// An operand of an instruction: null, a boolean, a number or a text.
+// An operand of an instruction: null, a boolean, a number, a text, what was told of a location, or the JSON of a list, a set or a
+// bag. It has no copy of the text.
 class operand {
   public:
     operand(std::nullptr_t) noexcept {}
@@ -218,17 +220,32 @@ class operand {
     operand(std::string_view text) noexcept : kind_(ASM_KIND_TEXT), text_(text) {}
     operand(const char *text) noexcept : operand(std::string_view(text)) {}
     operand(const std::string &text) noexcept : operand(std::string_view(text)) {}
+    operand(const value &told) noexcept : kind_(told.head_.kind), number_(told.head_.number), text_(told.bytes_) {}
+    // A list, a set or a bag, as the kind says, such as {"set":[1,2]}; sets and bags can be put alone.
+    static operand of_json(asm_kind kind, std::string_view json) noexcept {
+        operand it;
+        it.kind_ = kind;
+        it.text_ = json;
+        return it;
+    }
+    // Where and why the JSON is refused.
+    std::string refusal() const {
+        if (kind_ < ASM_KIND_LIST) return {};
+        return detail::explained(ASM_FORM_MOVE, detail::within("{\"fire\":[[\"put\",[\"at\"],", text_, "]],\"reads\":[]}"));
+    }
     std::int32_t into(asm_slot *move, const location &at, asm_verb verb, std::uint32_t amount) const noexcept {
         return asm_instruct(move, at.get(), verb, kind_, number_, detail::bytes(text_), text_.size(), amount);
     }
 
   private:
+    operand() noexcept = default;
     std::int32_t kind_ = ASM_KIND_UNDEF;
     std::int64_t number_ = 0;
     std::string_view text_;
 };
 
-// A move, gathered instruction by instruction. A refused instruction leaves it as it was.
+// A move, gathered instruction by instruction. A refused instruction leaves it as it was. What is popped into it counts as one
+// instruction, and more can be gathered behind that.
 class instructions {
   public:
     std::int32_t try_instruct(asm_verb verb, const location &at, const operand &what, std::uint32_t amount = 0) noexcept {
@@ -251,8 +268,10 @@ class instructions {
     asm_slot *get() const noexcept { return slot_.get(); }
 
   private:
+    friend class step;
     instructions &with(asm_verb verb, const location &at, const operand &what, std::uint32_t amount = 0) {
-        detail::done(try_instruct(verb, at, what, amount));
+        std::int32_t code = try_instruct(verb, at, what, amount);
+        detail::done(code, code == ASM_NOT_JSON || code == ASM_SHAPE ? what.refusal() : std::string());
         return *this;
     }
     detail::held slot_;
@@ -272,7 +291,9 @@ class step {
     value get(const location &at);
     // {"number":N,"values":[VALUE, ..]} of locations [LOC, ..].
     std::string get_json(std::string_view locations);
-    // [PAIR, ..]: all locations of a function.
+    // The same, but nothing is got: a fire is done though another agent has written there since.
+    std::string see_json(std::string_view locations);
+    // [PAIR, ..]: all locations of a function, which is scanned: the step rests on it whole.
     std::string get_all_json(std::string_view name);
 
     // `text` is that of a refusal, such as {"clash":[LOC,CAUSE]}.
@@ -293,6 +314,21 @@ class step {
     void extend_json(std::string_view move);
     std::int32_t try_pop() noexcept { return asm_pop(slot_.get()); }
     void pop() { detail::done(try_pop()); }
+    // The same, and the one move that does what the popped ones do in turn, in the place of what `move` has.
+    std::int32_t try_pop_move(instructions &move) noexcept {
+        std::int32_t code = asm_pop_move(slot_.get(), move.get());
+        if (code == ASM_DONE) move.size_ = 1;
+        return code;
+    }
+    instructions pop_move() {
+        instructions move;
+        detail::done(try_pop_move(move));
+        return move;
+    }
+
+    // {"fire":[INSTR, ..],"reads":[NAMED, ..]}: what a fire would offer and name by now, which agent::fire_json takes. The
+    // functions that were scanned aren't in it.
+    std::string offer_json();
 
     // Fires one move that does what the pushed ones do in turn. With ASM_DONE the step is over.
     [[nodiscard]] std::int32_t try_fire(asm_numbers &numbers) noexcept;
@@ -303,8 +339,9 @@ class step {
   private:
     friend class agent;
     explicit step(agent &of) : agent_(&of) {}
-    template <class Call> std::int32_t grow(Call call, const instructions &move, std::string &text);
+    template <class Call, class ByText> std::int32_t grow(Call call, ByText by_text, const instructions &move, std::string &text);
     template <class Call> void grow_json(Call call, std::string_view move);
+    template <class Call> std::string tell_json(Call call, std::string_view locations);
     agent *agent_;
     detail::held slot_;
     std::uint32_t number_ = 0;
@@ -485,15 +522,25 @@ inline value step::get(const location &at) {
     return what;
 }
 
-inline std::string step::get_json(std::string_view locations) {
+template <class Call> std::string step::tell_json(Call call, std::string_view locations) {
     std::string text;
     std::int32_t code = detail::told(
         [&](auto *out, auto room, auto *written) {
-            return asm_get(agent_->get(), slot_.get(), detail::bytes(locations), locations.size(), out, room, written);
+            return call(agent_->get(), slot_.get(), detail::bytes(locations), locations.size(), out, room, written);
         },
         text);
     if (code == ASM_NOT_JSON || code == ASM_SHAPE) detail::fail(code, detail::explained(ASM_FORM_LOCATIONS, locations));
     detail::done(code);
+    return text;
+}
+
+inline std::string step::get_json(std::string_view locations) { return tell_json(asm_get, locations); }
+inline std::string step::see_json(std::string_view locations) { return tell_json(asm_see, locations); }
+
+inline std::string step::offer_json() {
+    std::string text;
+    auto call = [&](auto *out, auto room, auto *written) { return asm_offer(slot_.get(), out, room, written); };
+    detail::done(detail::told(call, text));
     return text;
 }
 
@@ -507,20 +554,23 @@ inline std::string step::get_all_json(std::string_view name) {
     return text;
 }
 
-template <class Call> std::int32_t step::grow(Call call, const instructions &move, std::string &text) {
+template <class Call, class ByText>
+std::int32_t step::grow(Call call, ByText by_text, const instructions &move, std::string &text) {
     // A move without instructions has no slot that holds it.
     const std::string_view none = "[]";
     return detail::told(
         [&](auto *out, auto room, auto *written) {
             return move.size() == 0
-                       ? asm_extend(agent_->get(), slot_.get(), detail::bytes(none), none.size(), out, room, written)
+                       ? by_text(agent_->get(), slot_.get(), detail::bytes(none), none.size(), out, room, written)
                        : call(agent_->get(), slot_.get(), move.get(), out, room, written);
         },
         text);
 }
 
-inline std::int32_t step::try_push(const instructions &move, std::string &text) { return grow(asm_push_move, move, text); }
-inline std::int32_t step::try_extend(const instructions &move, std::string &text) { return grow(asm_extend_move, move, text); }
+inline std::int32_t step::try_push(const instructions &move, std::string &text) { return grow(asm_push_move, asm_push, move, text); }
+inline std::int32_t step::try_extend(const instructions &move, std::string &text) {
+    return grow(asm_extend_move, asm_extend, move, text);
+}
 
 template <class Call> void step::grow_json(Call call, std::string_view move) {
     std::string text;

@@ -52,6 +52,10 @@ void steps_fire_as_one_move() {
     WANTED(step.get_json(R"([["set"]])") == R"({"number":0,"values":[{"set":[1,2]}]})");
     WANTED(step.get_all_json("name") == R"([[["name","a",1],"a text"]])");
     step.pop();
+    step.push(move.clear());
+    step.extend(move);
+    WANTED(step.depth() == 2);
+    step.pop();
     WANTED(step.fire() == 1 && step.depth() == 0);
     WANTED(agent.follow() == 1 && agent.peek(count).number() == 5 && agent.won() == 1);
     WANTED(agent.read_json(R"([["count"]])") == R"({"number":1,"values":[5]})");
@@ -73,6 +77,53 @@ void values_are_told_by_their_kinds() {
     agent.play([&](folugben::step &step) { step.push(move.clear().put(at, longer)); });
     agent.follow();
     WANTED(agent.peek(at).text() == longer && agent.peek(at) == agent.peek(at));
+}
+
+void lists_sets_and_bags_are_operands() {
+    folugben::storage storage(R"([[["s"],{"set":[1]}]])", 10);
+    folugben::agent agent = storage.make_agent(0);
+    folugben::location at(R"(["x"])"), set(R"(["s"])");
+    folugben::step step = agent.begin();
+    folugben::instructions move;
+    step.push(move.put(at, folugben::operand::of_json(ASM_KIND_BAG, R"({"bag":[["e",2]]})"))
+                  .add(set, folugben::operand::of_json(ASM_KIND_LIST, R"({"list":[true]})")));
+    WANTED(step.get(at).text() == R"({"bag":[["e",2]]})" && step.get(set).text() == R"({"set":[1,{"list":[true]}]})");
+    // What was told is put as it is.
+    for (const char *told : {"null", "true", "-7", R"("a text")", R"({"list":[1]})", R"({"set":[]})", R"({"bag":[[1,2]]})"}) {
+        step.push_json(std::string(R"([["put",["x"],)") + told + "]]");
+        folugben::value value = step.get(at);
+        step.push(move.clear().put(at, 0));
+        step.push(move.clear().put(at, value));
+        WANTED(step.get(at) == value && step.get_json(R"([["x"]])") == std::string(R"({"number":0,"values":[)") + told + "]}");
+    }
+    folugben::error nested = REFUSED(
+        folugben::error, move.put(at, folugben::operand::of_json(ASM_KIND_SET, R"({"set":[{"set":[]}]})")));
+    WANTED(nested.code() == ASM_SHAPE && nested.text() == "instruction 1: a set can't hold a set");
+    WANTED(REFUSED(folugben::error, move.put(at, folugben::operand::of_json(ASM_KIND_LIST, "{"))).code() == ASM_NOT_JSON);
+    WANTED(REFUSED(folugben::error, move.put(at, "\xff")).code() == ASM_SHAPE && move.size() == 1);
+}
+
+void moves_are_popped_seen_and_offered() {
+    folugben::storage storage(COUNT, 10);
+    folugben::agent agent = storage.make_agent(0), other = storage.make_agent(1);
+    folugben::location count(R"(["count"])");
+    folugben::step step = agent.begin();
+    WANTED(REFUSED(folugben::error, step.pop_move()).code() == ASM_NONE);
+    step.push(folugben::instructions().inc(count, 1));
+    step.extend(folugben::instructions().inc(count, 2));
+    WANTED(step.see_json(R"([["count"]])") == R"({"number":0,"values":[10]})");
+    folugben::instructions move = step.pop_move();
+    WANTED(move.size() == 1 && step.depth() == 0 && step.offer_json() == R"({"fire":[],"reads":[]})");
+    step.push(move);
+    WANTED(step.offer_json() == R"({"fire":[["inc",["count"],3]],"reads":[]})");
+    step.pop();
+    step.push(move.inc(count, 10));
+    WANTED(move.size() == 2 && step.depth() == 1);
+    WANTED(REFUSED(folugben::error, step.see_json("[")).code() == ASM_NOT_JSON);
+    // What was seen isn't named.
+    WANTED(other.fire_json(R"({"fire":[["put",["count"],100]],"reads":[]})") == 1 && step.fire() == 2);
+    WANTED(other.play([&](folugben::step &it) { it.push(move); }) == 3);
+    WANTED(other.follow() == 3 && other.peek(count).number() == 126);
 }
 
 void stale_and_short_steps_are_played_again() {
@@ -266,6 +317,8 @@ void threads_take_agents() {
 int main() {
     steps_fire_as_one_move();
     values_are_told_by_their_kinds();
+    lists_sets_and_bags_are_operands();
+    moves_are_popped_seen_and_offered();
     stale_and_short_steps_are_played_again();
     refusals_say_what_is_wrong();
     agents_come_back_when_they_are_destroyed();

@@ -1,5 +1,5 @@
 //! The JSON forms of the library's texts: what is passed is written, and what is answered is read.
-use crate::instruction::Instruction;
+use crate::instruction::{Instruction, Move};
 use crate::value::{Element, Location, Value};
 use std::collections::{BTreeMap, BTreeSet};
 use std::fmt::Write;
@@ -343,6 +343,19 @@ impl Json {
 
     pub(crate) fn values(self) -> Option<Vec<Value>> {
         self.list()?.into_iter().map(Json::value).collect()
+    }
+
+    /// A move, and the locations that it names with their numbers.
+    pub(crate) fn offer(self) -> Option<(Move, Vec<(Location, u32)>)> {
+        let Json::Object(mut members) = self else {
+            return None;
+        };
+        let instructions = members.remove("fire")?.list()?.into_iter().map(Json::instruction);
+        let reads = members.remove("reads")?.list()?.into_iter().map(|read| {
+            let [at, number] = read.tuple()?;
+            Some((at.location()?, number.number()?))
+        });
+        Some((instructions.collect::<Option<Move>>()?, reads.collect::<Option<_>>()?))
     }
 
     pub(crate) fn instruction(self) -> Option<Instruction> {

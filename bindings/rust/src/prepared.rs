@@ -49,9 +49,9 @@ pub(crate) fn value_of(head: &sys::Value, bytes: Vec<u8>) -> Result<Value, Error
     })
 }
 
-/// A move that is gathered at prepared locations, instruction by instruction, without text.
+/// A move that is gathered at prepared locations, instruction by instruction; of lists, sets and bags alone a text is made.
 ///
-/// Its operands are elements but lists; for sets, bags and lists as values there is [`Move`](crate::Move).
+/// What [`Step::pop_move`](crate::Step::pop_move) answers counts as one instruction, and more can be gathered behind it.
 pub struct PreparedMove {
     len: usize,
     pub(crate) slot: Held,
@@ -63,7 +63,14 @@ impl PreparedMove {
         PreparedMove { len: 0, slot: Held::empty() }
     }
 
-    /// How many instructions it has.
+    /// The move that the call puts into the slot.
+    pub(crate) fn put_by(call: impl FnOnce(*mut sys::Slot) -> Result<(), Error>) -> Result<PreparedMove, Error> {
+        let slot = Held::empty();
+        call(slot.at())?;
+        Ok(PreparedMove { len: 1, slot })
+    }
+
+    /// How many instructions it has; what was popped into it is one of them.
     pub fn len(&self) -> usize {
         self.len
     }
@@ -80,42 +87,45 @@ impl PreparedMove {
         self
     }
 
-    fn instruct(
-        &mut self,
-        verb: i32,
-        at: &Prepared,
-        operand: Element,
-        amount: u32,
-    ) -> Result<&mut PreparedMove, Error> {
+    fn instruct(&mut self, verb: i32, at: &Prepared, operand: Value, amount: u32) -> Result<&mut PreparedMove, Error> {
         let (kind, number, bytes) = match operand {
-            Element::Undef => (sys::KIND_UNDEF, 0, String::new()),
-            Element::Bool(is_true) => (sys::KIND_BOOL, i64::from(is_true), String::new()),
-            Element::Num(number) => (sys::KIND_NUM, number, String::new()),
-            Element::Text(text) => (sys::KIND_TEXT, 0, text),
-            Element::List(_) => return Err(Error::Refused("a prepared move takes no lists: take a Move".to_owned())),
+            Value::Plain(Element::Undef) => (sys::KIND_UNDEF, 0, String::new()),
+            Value::Plain(Element::Bool(is_true)) => (sys::KIND_BOOL, i64::from(is_true), String::new()),
+            Value::Plain(Element::Num(number)) => (sys::KIND_NUM, number, String::new()),
+            Value::Plain(Element::Text(text)) => (sys::KIND_TEXT, 0, text),
+            list @ Value::Plain(Element::List(_)) => (sys::KIND_LIST, 0, list.json()),
+            set @ Value::Set(_) => (sys::KIND_SET, 0, set.json()),
+            bag @ Value::Bag(_) => (sys::KIND_BAG, 0, bag.json()),
         };
-        done(unsafe {
+        let code = unsafe {
             let (slot, place) = (self.slot.at(), at.slot.at());
             sys::asm_instruct(slot, place, verb, kind, number, bytes.as_ptr(), bytes.len(), amount)
-        })?;
+        };
+        match code {
+            sys::NOT_JSON | sys::SHAPE => {
+                let call = format!("{{\"fire\":[[\"put\",{},{bytes}]],\"reads\":[]}}", at.location.json());
+                done_with(code, sys::FORM_MOVE, &call)?;
+            }
+            code => done(code)?,
+        }
         self.len += 1;
         Ok(self)
     }
 
-    /// The location gets the element. After an error the move is as it was, here and below; [`Error::Many`]: it has 4,096
-    /// instructions.
-    pub fn put(&mut self, at: &Prepared, value: impl Into<Element>) -> Result<&mut PreparedMove, Error> {
+    /// The location gets the value. After an error the move is as it was, here and below; [`Error::Many`]: it has 4,096
+    /// instructions; [`Error::Refused`]: a list, a set or a bag is against the rules of values.
+    pub fn put(&mut self, at: &Prepared, value: impl Into<Value>) -> Result<&mut PreparedMove, Error> {
         self.instruct(0, at, value.into(), 0)
     }
 
     /// The set there gets the element.
     pub fn add(&mut self, at: &Prepared, element: impl Into<Element>) -> Result<&mut PreparedMove, Error> {
-        self.instruct(1, at, element.into(), 0)
+        self.instruct(1, at, Value::Plain(element.into()), 0)
     }
 
     /// The set there loses the element.
     pub fn remove(&mut self, at: &Prepared, element: impl Into<Element>) -> Result<&mut PreparedMove, Error> {
-        self.instruct(2, at, element.into(), 0)
+        self.instruct(2, at, Value::Plain(element.into()), 0)
     }
 
     /// The bag there gets the element so many times; [`Error::Range`] for 0.
@@ -125,7 +135,7 @@ impl PreparedMove {
         element: impl Into<Element>,
         amount: u32,
     ) -> Result<&mut PreparedMove, Error> {
-        self.instruct(3, at, element.into(), amount)
+        self.instruct(3, at, Value::Plain(element.into()), amount)
     }
 
     /// The bag there loses the element so many times; [`Error::Range`] for 0.
@@ -135,12 +145,12 @@ impl PreparedMove {
         element: impl Into<Element>,
         amount: u32,
     ) -> Result<&mut PreparedMove, Error> {
-        self.instruct(4, at, element.into(), amount)
+        self.instruct(4, at, Value::Plain(element.into()), amount)
     }
 
     /// The number there grows by so much.
     pub fn inc(&mut self, at: &Prepared, by: i64) -> Result<&mut PreparedMove, Error> {
-        self.instruct(5, at, Element::Num(by), 0)
+        self.instruct(5, at, Value::from(by), 0)
     }
 }
 

@@ -65,6 +65,18 @@ impl Step<'_> {
         Ok(answer(&told, Reading::of)?.values)
     }
 
+    /// What [`Step::get_each`] tells, but the step doesn't rest on it: it is fired though another agent has written there
+    /// since. So it is for what is told or shown, and for what the step doesn't go by. Any number of locations is seen.
+    pub fn see(&self, places: &[Location]) -> Result<Vec<Value>, Error> {
+        let text = places.json();
+        let (code, told) = told(|out, room, written| unsafe {
+            let step = self.agent.step.at();
+            sys::asm_see(self.agent.slot.at(), step, text.as_ptr(), text.len(), out, room, written)
+        });
+        done_with(code, sys::FORM_LOCATIONS, &text)?;
+        Ok(answer(&told, Reading::of)?.values)
+    }
+
     /// As [`Step::get`], of a prepared location, and quicker.
     pub fn get_at(&self, at: &Prepared) -> Result<Value, Error> {
         let mut head = sys::Value::default();
@@ -76,8 +88,9 @@ impl Step<'_> {
         value_of(&head, bytes)
     }
 
-    /// What is seen at all locations of a function, in ascending order. The step then rests on those that were found; that a
-    /// further one is written later isn't noticed.
+    /// What is seen at all locations of a function, in ascending order. The step then rests on the whole function: a write to
+    /// any location of it, be it one that had no value, makes the commit stale. [`Error::Many`]: it would rest on more than
+    /// 256 locations and functions; one function counts as one, however many locations it has.
     pub fn get_all(&self, name: &str) -> Result<Vec<(Location, Value)>, Error> {
         let (code, text) = told(|out, room, written| unsafe {
             let step = self.agent.step.at();
@@ -116,17 +129,23 @@ impl Step<'_> {
 
     /// As [`Step::push`], of a move that was gathered without text.
     pub fn push_prepared(&mut self, instructions: &PreparedMove) -> Result<(), Error> {
-        self.grow_prepared(sys::asm_push_move, instructions)
+        self.grow_prepared(sys::asm_push_move, sys::asm_push, instructions)
     }
 
     /// As [`Step::extend`], of a move that was gathered without text.
     pub fn extend_prepared(&mut self, instructions: &PreparedMove) -> Result<(), Error> {
-        self.grow_prepared(sys::asm_extend_move, instructions)
+        self.grow_prepared(sys::asm_extend_move, sys::asm_extend, instructions)
     }
 
-    fn grow_prepared(&mut self, call: GrowByMove, instructions: &PreparedMove) -> Result<(), Error> {
+    fn grow_prepared(
+        &mut self,
+        call: GrowByMove,
+        by_text: GrowByText,
+        instructions: &PreparedMove,
+    ) -> Result<(), Error> {
+        // An empty slot holds no move, not one of no instructions.
         if instructions.is_empty() {
-            return self.grow(sys::asm_extend, &[]);
+            return self.grow(by_text, &[]);
         }
         let (code, told) = told(|out, room, written| unsafe {
             call(self.agent.slot.at(), self.agent.step.at(), instructions.slot.at(), out, room, written)
@@ -160,6 +179,27 @@ impl Step<'_> {
             sys::NONE => Err(Error::NoMove),
             code => done(code),
         }
+    }
+
+    /// As [`Step::pop`], and answers the one move that does what the popped ones do in turn, which
+    /// [`Step::push_prepared`] and [`Step::extend_prepared`] take, of any step.
+    ///
+    /// A move that nothing joined is as it was pushed. [`Error::Many`]: the one move would have more than 4,096
+    /// instructions; nothing is popped then.
+    pub fn pop_move(&mut self) -> Result<PreparedMove, Error> {
+        PreparedMove::put_by(|slot| match unsafe { sys::asm_pop_move(self.agent.step.at(), slot) } {
+            sys::NONE => Err(Error::NoMove),
+            code => done(code),
+        })
+    }
+
+    /// What [`Step::fire`] would offer by now: the one move, and each location that it would name with its number, which
+    /// [`Agent::try_fire`] takes. A fire of the step rests besides on the functions of [`Step::get_all`], which aren't told.
+    pub fn offer(&self) -> Result<(Move, Vec<(Location, u32)>), Error> {
+        let (code, text) =
+            told(|out, room, written| unsafe { sys::asm_offer(self.agent.step.at(), out, room, written) });
+        done(code)?;
+        answer(&text, Json::offer)
     }
 
     /// How many moves are pushed.

@@ -76,6 +76,15 @@ unsafe extern "C" {
         room: usize,
         written: *mut usize,
     ) -> i32;
+    pub(crate) fn asm_see(
+        agent: *mut Slot,
+        step: *mut Slot,
+        locations: *const u8,
+        len: usize,
+        out: *mut u8,
+        room: usize,
+        written: *mut usize,
+    ) -> i32;
     pub(crate) fn asm_get_all(
         agent: *mut Slot,
         step: *mut Slot,
@@ -104,6 +113,8 @@ unsafe extern "C" {
         written: *mut usize,
     ) -> i32;
     pub(crate) fn asm_pop(step: *mut Slot) -> i32;
+    pub(crate) fn asm_pop_move(step: *mut Slot, instrs: *mut Slot) -> i32;
+    pub(crate) fn asm_offer(step: *mut Slot, out: *mut u8, room: usize, written: *mut usize) -> i32;
     pub(crate) fn asm_depth(step: *mut Slot) -> u32;
     pub(crate) fn asm_commit(agent: *mut Slot, step: *mut Slot, numbers: *mut Numbers) -> i32;
     pub(crate) fn asm_location(location: *const u8, len: usize, at: *mut Slot) -> i32;
@@ -243,6 +254,9 @@ pub(crate) const KIND_UNDEF: i32 = 0;
 pub(crate) const KIND_BOOL: i32 = 1;
 pub(crate) const KIND_NUM: i32 = 2;
 pub(crate) const KIND_TEXT: i32 = 3;
+pub(crate) const KIND_LIST: i32 = 4;
+pub(crate) const KIND_SET: i32 = 5;
+pub(crate) const KIND_BAG: i32 = 6;
 
 pub(crate) const FORM_LOCATIONS: i32 = 0;
 pub(crate) const FORM_MOVE: i32 = 1;

@@ -161,9 +161,92 @@ fn prepared_moves_do_what_moves_do() {
     agent.play(|step| step.extend_prepared(&gathered)).unwrap();
     agent.play(|step| step.push_prepared(gathered.clear())).unwrap();
     agent.follow().unwrap();
+    let mut step = agent.step().unwrap();
+    for depth in 1..3 {
+        step.push_prepared(&gathered).unwrap();
+        step.extend_prepared(&gathered).unwrap();
+        assert_eq!(step.depth(), depth);
+    }
+    drop(step);
     let values = agent.peek(&places).unwrap();
     let bag = Value::Bag(BTreeMap::from([(true.into(), 2)]));
     assert_eq!((values.number, values.values), (3, vec![(-3).into(), Value::Set(BTreeSet::new()), bag, "text".into()]));
+}
+
+#[test]
+fn prepared_moves_put_lists_sets_and_bags() {
+    let list = Element::List(vec![1.into(), Element::List(vec!["a".into()])]);
+    let values = [
+        Value::from(list.clone()),
+        Value::Set(BTreeSet::from([list.clone(), Element::Undef])),
+        Value::Bag(BTreeMap::from([(list.clone(), 2), ("b".into(), u32::MAX)])),
+    ];
+    let storage = open(&[]);
+    let mut agent = storage.agent(0).unwrap();
+    let at = Prepared::new(&count()).unwrap();
+    let mut gathered = PreparedMove::new();
+    for value in &values {
+        gathered.clear().put(&at, value.clone()).unwrap();
+        let mut step = agent.step().unwrap();
+        step.push_prepared(&gathered).unwrap();
+        assert_eq!(step.get_at(&at).unwrap(), *value);
+    }
+    let mut step = agent.step().unwrap();
+    step.push_prepared(gathered.bag_add(&at, list.clone(), 1).unwrap()).unwrap_err();
+    step.push_prepared(gathered.clear().put(&at, values[1].clone()).unwrap()).unwrap();
+    step.push_prepared(gathered.clear().remove(&at, list.clone()).unwrap().add(&at, vec![]).unwrap()).unwrap();
+    let left = BTreeSet::from([Element::Undef, Element::List(vec![])]);
+    assert_eq!(step.get_at(&at).unwrap(), Value::Set(left));
+    let deep = (0..9).fold(Element::List(vec![]), |inner, _| Element::List(vec![inner]));
+    assert!(matches!(gathered.put(&at, deep), Err(Error::Refused(_))));
+    assert!(matches!(gathered.put(&at, Value::Bag(BTreeMap::from([(list, 0)]))), Err(Error::Refused(_))));
+    assert_eq!(gathered.len(), 2);
+}
+
+#[test]
+fn a_popped_move_is_pushed_elsewhere() {
+    let storage = open(&[(count(), 1.into())]);
+    let (mut one, mut other) = (storage.agent(0).unwrap(), storage.agent(1).unwrap());
+    let at = Prepared::new(&count()).unwrap();
+    let mut step = one.step().unwrap();
+    assert_eq!(step.pop_move().err(), Some(Error::NoMove));
+    step.push(&Move::new().put(count(), 5)).unwrap();
+    step.push(&Move::new().inc(count(), 1)).unwrap();
+    step.extend(&Move::new().inc(count(), 2)).unwrap();
+    let mut popped = step.pop_move().unwrap();
+    assert_eq!((popped.len(), step.depth(), step.get(&count()).unwrap()), (1, 1, Value::from(5)));
+    step.push_prepared(popped.inc(&at, 10).unwrap()).unwrap();
+    assert_eq!((popped.len(), step.get(&count()).unwrap()), (2, Value::from(18)));
+    step.fire().unwrap();
+    other.play(|step| step.extend_prepared(&popped)).unwrap();
+    other.follow().unwrap();
+    assert_eq!(other.peek_at(&at).unwrap(), (2, Value::from(31)));
+    let mut step = one.step().unwrap();
+    step.put(count(), Value::Set(BTreeSet::new())).unwrap();
+    let adds = |from: i64| (from..from + 3000).fold(Move::new(), |adds, i| adds.add(count(), i));
+    step.push(&adds(0)).unwrap();
+    step.extend(&adds(3000)).unwrap();
+    assert_eq!((step.pop_move().err(), step.depth()), (Some(Error::Many), 2));
+}
+
+#[test]
+fn what_is_seen_is_not_named_and_an_offer_tells_what_is() {
+    let other_place = Location::new("other").arg(true);
+    let storage = open(&[(count(), 1.into())]);
+    let (mut one, mut other) = (storage.agent(0).unwrap(), storage.agent(1).unwrap());
+    let mut step = one.step().unwrap();
+    assert_eq!(step.offer().unwrap(), (Move::new(), vec![]));
+    step.push(&Move::new().inc(count(), 2)).unwrap();
+    assert_eq!(step.see(&[count(), other_place.clone()]).unwrap(), [3.into(), Value::UNDEF]);
+    assert!(step.see(&[Location::new("1")]).is_err());
+    step.get(&other_place).unwrap();
+    let (instructions, reads) = step.offer().unwrap();
+    assert_eq!((&instructions, &reads), (&Move::new().inc(count(), 2), &vec![(other_place.clone(), 0)]));
+    other.play(|step| step.put(count(), 10)).unwrap();
+    assert_eq!(step.fire(), Ok(2));
+    assert_eq!(one.try_fire(&instructions, &reads), Ok(3));
+    other.play(|step| step.put(&other_place, 1)).unwrap();
+    assert_eq!(one.try_fire(&instructions, &reads), Err(Error::Stale(other_place)));
 }
 
 #[test]
