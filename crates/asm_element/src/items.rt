@@ -52,16 +52,31 @@ impl<T> Items<T> {
 }
 
 impl<T: Drop> Items<T> {
-    /// The list of the vector's items, which its clones share: a clone takes no memory.
+    /// The list of the vector's items, which its clones share: a clone takes no memory, and an empty list takes none.
     ///
     /// `AllocError` comes only where memory was refused.
     pub fn shared(alloc: Global, items: Vec<T>) -> Result<Self, AllocError>
         ensures { IfOk result (λ list. list ≡ items.items) }
     {
+        if items.is_empty() {
+            return Ok(Items::new(items));
+        }
         let items = Arc::new(alloc, items)?;
         Ok(Items {
             held: Held::Shared(items),
         })
+    }
+
+    /// The same list, which its clones share from now on. Its items stay where they are.
+    ///
+    /// `AllocError` comes only where memory was refused, and the items are then dropped.
+    pub fn share(self, alloc: Global) -> Result<Self, AllocError>
+        ensures { IfOk result (λ list. list ≡ self) }
+    {
+        match self.held {
+            Held::Own(items) => Items::shared(alloc, items),
+            held => Ok(Items { held }),
+        }
     }
 }
 

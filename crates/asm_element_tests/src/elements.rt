@@ -320,7 +320,9 @@ fn clones_of_a_list_have_its_items(rt: HostRuntime) -> Result<(), Fail> {
     for numbers in [&[1, 2, 3][..], &[]] {
         assert!(rt; outlives(items(alloc, numbers)?, numbers)?);
         let elements = number_elements(alloc, numbers)?;
-        assert!(rt; outlives(Items::shared(alloc, elements)?, numbers)?);
+        let list = Items::shared(alloc, elements)?;
+        assert!(rt; outlives(list.share(alloc)?, numbers)?);
+        assert!(rt; outlives(items(alloc, numbers)?.share(alloc)?, numbers)?);
     }
     Ok(())
 }
@@ -342,6 +344,8 @@ fn a_clone_of_a_shared_list_clones_no_item(rt: HostRuntime) -> Result<(), Fail> 
     let alloc = rt.alloc();
     let list = Items::shared(alloc, vec![in alloc; Unclonable, Unclonable]?)?;
     assert_eq!(rt; list.clone()?.as_slice().len(), 2);
+    let list = Items::new(vec![in alloc; Unclonable]?);
+    assert_eq!(rt; list.share(alloc)?.clone()?.as_slice().len(), 1);
     Ok(())
 }
 
