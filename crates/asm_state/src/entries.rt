@@ -1,5 +1,5 @@
 //! What a state keeps of the locations that moves wrote, and how the updates of a move come in.
-ghost use Rattle.std.specs.Prelude.{◌≡◌, [], IfOk, IfErr, OnOk, OnErr, Some, Err};
+ghost use Rattle.std.specs.Prelude.{◌≡◌, IfOk, IfErr, OnOk, OnErr, Some, Err};
 ghost use Rattle.asm_update.specs.Aggregator.{IsOutcome};
 ghost use Rattle.asm_state.specs.Change.{IsChanged};
 ghost use Rattle.asm_state.specs.declared.entries.WrittenValue.{WrittenValue};
@@ -9,12 +9,13 @@ ghost use Rattle.std.specs.declared.ops.Bound.TheVariants.{Included, Unbounded};
 ghost use Rattle.std.specs.FinMap as map;
 ghost use Rattle.asm_element.specs.Place.{Place, location_cmp};
 ghost use Rattle.asm_update.specs.State.{val};
-ghost use Rattle.asm_state.specs.View.{value_of, value_over, writer_of};
+ghost use Rattle.asm_state.specs.View.{value_of, value_over};
 ghost use Rattle.asm_state.specs.Follow.{written_by, entry_after};
 ghost use Rattle.asm_state.specs.Replaced.{AreReplaced};
-ghost use Rattle.asm_state.specs.Scans.{has_name, is_newer, IsLeastOf};
 ghost use Rattle.asm_state.specs.View as view;
 ghost use Rattle.asm_aggregate.specs.Bundle.{by_place};
+
+pub(crate) mod scanning;
 
 use asm_aggregate::Results;
 use asm_element::{Location, Value};
@@ -101,20 +102,6 @@ impl WrittenValue {
     }
 }
 
-/// Whether the location has the function name.
-pub(crate) fn has_name(name: &str, at: &Location) -> bool
-    ensures { result ≡ has_name name.now at.now }
-{
-    at.name() == name
-}
-
-/// Whether the location has the function name, and a move above the number wrote the entry.
-fn is_newer(name: &str, number: u32, at: &Location, written: &WrittenValue) -> bool
-    ensures { result ≡ is_newer name.now number at.now written.now.writer }
-{
-    has_name(name, at) && number < written.writer
-}
-
 /// Entries of locations, which contracts see as a finite map.
 #[derive(Debug, Drop)]
 pub(crate) struct Entries {
@@ -165,55 +152,6 @@ impl Entries {
         ensures { result ≡ entries_between location_cmp (Included first.now) Unbounded (map.entries self.now) }
     {
         self.tree.range(first..)
-    }
-
-    // The least location with the name of the first one, which has no arguments, whose entry a move above the number
-    // wrote. It walks the entries of that name, up to that one.
-    fn least_from(&self, first: &Location, number: u32) -> Option<&Location>
-        requires { first.now.args ≡ [] }
-        ensures { IsLeastOf (λ l. is_newer first.now.name number l (writer_of (map.get self.now l)))
-            (option_copied result) }
-    {
-        for (at, written) in self.onward(first) {
-            if !has_name(first.name(), at) {
-                return None;
-            }
-            if number < written.writer {
-                return Some(at);
-            }
-        }
-        None
-    }
-
-    // The same for any name, by a walk of all entries up to that one.
-    fn least_of_all(&self, name: &str, number: u32) -> Option<&Location>
-        ensures { IsLeastOf (λ l. is_newer name.now number l (writer_of (map.get self.now l))) (option_copied result) }
-    {
-        for (at, written) in self.iter() {
-            if is_newer(name, number, at, written) {
-                return Some(at);
-            }
-        }
-        None
-    }
-
-    /// The least location with this function name whose entry a move above the number wrote. It walks the entries of
-    /// that name, up to that one.
-    pub(crate) fn least_written(
-        &self,
-        alloc: Global,
-        name: &str,
-        number: u32,
-    ) -> Result<Option<&Location>, AllocError>
-        ensures { IfOk result (λ found. IsLeastOf (λ l. is_newer name.now number l (writer_of (map.get self.now l)))
-            (option_copied found)) }
-    {
-        let owned = String::from_str(alloc, name)?;
-        match Location::new(owned, Vec::new(alloc)) {
-            Ok(first) => Ok(self.least_from(&first, number)),
-            // No location that a program holds has such a name.
-            Err(_) => Ok(self.least_of_all(name, number)),
-        }
     }
 
     /// Writes an entry, and drops the one that it replaces; only a new one takes memory.

@@ -8,7 +8,7 @@ ghost use Rattle.asm_state.specs.Plain.{is_wanted, wanted_value, value_of_name};
 ghost use Rattle.asm_state.specs.Scans.{has_name};
 ghost use Rattle.asm_state.specs.View.{value_at};
 
-use crate::entries::has_name;
+use crate::entries::scanning::has_name;
 use crate::state::State;
 use asm_element::{Element, Location, Value};
 use asm_update::PlainState;
