@@ -33,7 +33,7 @@ use Rattle.asm_journal.specs.Set.{count_json_of}
 use Rattle.asm_journal.specs.Value.{value_json_of, pair_json_of}
 use Rattle.asm_journal.specs.Instruction.{instruction_json_of}
 use Rattle.asm_journal.specs.Event.{named_json_of, move_json_of, call_json_of, reply_json_of, answer_json_of, event_json_of}
-use Rattle.asm_journal.specs.Text.{state_json_of, header_json_of}
+use Rattle.asm_journal.specs.Text.{state_json_of, header_of}
 
 -- a list of values without floats has none
 pub list_no_float : {X : Type 0} (f : X → Data) → ((x : X) → has_float (f x) ≡ false) → (xs : List X) → items_have_float (items_of (map f xs)) ≡ false
@@ -109,5 +109,6 @@ event_no_float e = rw (call_no_float e.call, answer_no_float e.answer) refl
 pub state_no_float : (A : State) → has_float (state_json_of A) ≡ false
 state_no_float A = rw (list_no_float pair_json_of pair_no_float (finite.entries A)) refl
 
-pub header_no_float : (h : History) → has_float (header_json_of h) ≡ false
-header_no_float h = rw (list_no_float pair_json_of pair_no_float (finite.entries h.init)) refl
+pub header_no_float : (agents capacity events : ℕ) (init : State) →
+    has_float (header_of agents capacity events (state_json_of init)) ≡ false
+header_no_float agents capacity events init = rw (list_no_float pair_json_of pair_no_float (finite.entries init)) refl

@@ -30,11 +30,15 @@ header_of agents capacity events init =
 abbrev pub header_json_of : History → Data
 header_json_of h = header_of h.agents h.capacity (length h.events) (state_json_of h.init)
 
--- "agents":N,"capacity":N,"events":N,"init":[PAIR, ..], which a history's journal and its trace tell alike, and what follows
+-- "agents":N,"capacity":N,"events":N,"init":[PAIR, ..], and what follows
+abbrev pub numbers_members_of : ℕ → ℕ → ℕ → State → Members → Members
+numbers_members_of agents capacity events init rest =
+    member (codes "agents") (number_json_of agents) (member (codes "capacity") (number_json_of capacity)
+    (member (codes "events") (number_json_of events) (member (codes "init") (state_json_of init) rest)))
+
+-- those of a history, which its journal and its trace tell alike, and what follows
 abbrev pub header_members_of : History → Members → Members
-header_members_of h rest =
-    member (codes "agents") (number_json_of h.agents) (member (codes "capacity") (number_json_of h.capacity)
-    (member (codes "events") (number_json_of (length h.events)) (member (codes "init") (state_json_of h.init) rest)))
+header_members_of h rest = numbers_members_of h.agents h.capacity (length h.events) h.init rest
 
 -- the compact text of a value, and a line feed
 abbrev pub line : Data → List ℕ

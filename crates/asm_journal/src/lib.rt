@@ -25,6 +25,6 @@ pub use form::{
 };
 pub use output::write_text;
 pub use parsing::{Header, Limits, from_text, read_event, read_header};
-pub use replaying::{next_storage, replay, replay_over};
+pub use replaying::{next_storage, replay, replay_closing, replay_over};
 pub use texts::{answer_text, move_text, state_text, updates_text};
-pub use writing::{header_members, push_line, to_text};
+pub use writing::{closing_text, header_members, push_line, to_text};

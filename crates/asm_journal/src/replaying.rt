@@ -16,7 +16,7 @@ use asm_aggregate::aggregate;
 use asm_element::Location;
 use asm_row::CAPACITY_LIMIT;
 use asm_state::one_change;
-use asm_storage::{Event, History, Storage, StorageError};
+use asm_storage::{Closing, Event, History, Storage, StorageError};
 use asm_update::{AggError, Aggregator, Group, Instructions, PlainState, ResultError, UpdateSet};
 use std::alloc::{AllocError, Global};
 
@@ -96,6 +96,27 @@ pub fn replay_over<A: Aggregator>(
     let mut state = init;
     for event in events {
         if let Some(instructions) = event.fired_move() {
+            fire_or_keep(alloc, aggregator, &mut state, instructions)?;
+        }
+    }
+    Ok(state)
+}
+
+/// The state that the history of agents leaves: the opening state, which is copied, with its moves fired in order. A move
+/// that clashes changes nothing.
+///
+/// `AllocError` comes only where memory was refused.
+pub fn replay_closing<A: Aggregator>(
+    alloc: Global,
+    aggregator: &A,
+    closing: &Closing<'_>,
+) -> Result<PlainState, AllocError>
+    ensures { IfOk result (λ state. state ≡ state_of (A.meaning aggregator.now).part
+        closing.now.init (fired_moves closing.now.events)) }
+{
+    let mut state = closing.init().copy(alloc)?;
+    for number in 0..closing.len() {
+        if let Some(instructions) = closing.fired_move(number) {
             fire_or_keep(alloc, aggregator, &mut state, instructions)?;
         }
     }

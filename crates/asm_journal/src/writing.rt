@@ -5,12 +5,74 @@ ghost use Rattle.serde_json.specs.View.{members_view, view};
 ghost use Rattle.serde_json.specs.Written.{has_float};
 ghost use Rattle.asm_storage.specs.History.{Fits};
 ghost use Rattle.asm_storage.specs.Limits.{events_limit};
-ghost use Rattle.asm_journal.specs.Text.{header_json_of, header_members_of, line, text_of};
+ghost use Rattle.asm_journal.specs.Event.{event_json_of};
+ghost use Rattle.asm_journal.specs.Text.{header_members_of, header_of, line, numbers_members_of, state_json_of, text_of};
 
 use crate::form::ToJson;
-use asm_storage::History;
+use asm_storage::{Closing, Event, History};
+use asm_update::PlainState;
 use serde_json::{Map, Value as Json};
 use std::alloc::{AllocError, Global};
+
+/// What a header tells: the numbers of agents, of moves that there is room for and of events, and the opening state.
+#[derive(Drop)]
+struct Numbers<'a> {
+    agents: u32,
+    capacity: u32,
+    events: u32,
+    init: &'a PlainState,
+}
+
+impl Numbers<'_> {
+    fn members(&self, alloc: Global) -> Result<Map<String, Json>, AllocError>
+        ensures { IfOk result (λ members. members_view members.entries ≡ numbers_members_of
+            self.now.agents self.now.capacity self.now.events self.now.init.now no_members) }
+    {
+        let mut members = Map::new(alloc);
+        serde_json::put(&mut members, alloc, "agents", Json::from(self.agents))?;
+        serde_json::put(&mut members, alloc, "capacity", Json::from(self.capacity))?;
+        serde_json::put(&mut members, alloc, "events", Json::from(self.events))?;
+        serde_json::put(&mut members, alloc, "init", self.init.to_json(alloc)?)?;
+        Ok(members)
+    }
+
+    /// The JSON of a journal's header.
+    fn header_json(&self, alloc: Global) -> Result<Json, AllocError>
+        ensures { IfOk result (λ json. view json ≡
+            header_of self.now.agents self.now.capacity self.now.events (state_json_of self.now.init.now)) }
+    {
+        let mut header = self.members(alloc)?;
+        serde_json::put(&mut header, alloc, "version", Json::from(2u32))?;
+        Ok(Json::Object(header))
+    }
+
+    /// The text of a journal's header: its line.
+    fn header_line(&self, alloc: Global) -> Result<String, AllocError>
+        ensures { IfOk result (λ text. string_bytes text ≡ line (header_of
+            self.now.agents self.now.capacity self.now.events (state_json_of self.now.init.now))) }
+    {
+        let header = self.header_json(alloc)?;
+        let mut text = String::new(alloc);
+        push_line(alloc, &mut text, &header)?;
+        Ok(text)
+    }
+}
+
+// What the history's header tells.
+fn numbers_of(history: &History) -> Numbers<'_>
+    requires { length history.now.events ≤ events_limit }
+    ensures agents { result.agents ≡ history.now.agents }
+    ensures capacity { result.capacity ≡ history.now.capacity }
+    ensures events { result.events ≡ length history.now.events }
+    ensures init { result.init.now ≡ history.now.init }
+{
+    Numbers {
+        agents: history.agents,
+        capacity: history.capacity,
+        events: history.events.as_slice().len() as u32,
+        init: &history.init,
+    }
+}
 
 /// What the headers of a history's journal and of its trace have in common: its numbers and its opening state, without a
 /// version.
@@ -20,28 +82,7 @@ pub fn header_members(alloc: Global, history: &History) -> Result<Map<String, Js
     requires { length history.now.events ≤ events_limit }
     ensures { IfOk result (λ members. members_view members.entries ≡ header_members_of history.now no_members) }
 {
-    let events = history.events.as_slice().len() as u32;
-    let mut members = Map::new(alloc);
-    serde_json::put(&mut members, alloc, "agents", Json::from(history.agents))?;
-    serde_json::put(
-        &mut members,
-        alloc,
-        "capacity",
-        Json::from(history.capacity),
-    )?;
-    serde_json::put(&mut members, alloc, "events", Json::from(events))?;
-    serde_json::put(&mut members, alloc, "init", history.init.to_json(alloc)?)?;
-    Ok(members)
-}
-
-/// The JSON of a history's header.
-fn header_json(alloc: Global, history: &History) -> Result<Json, AllocError>
-    requires { length history.now.events ≤ events_limit }
-    ensures { IfOk result (λ json. view json ≡ header_json_of history.now) }
-{
-    let mut header = header_members(alloc, history)?;
-    serde_json::put(&mut header, alloc, "version", Json::from(2u32))?;
-    Ok(Json::Object(header))
+    numbers_of(history).members(alloc)
 }
 
 /// Appends the compact text of a value without floats, and a line feed.
@@ -57,6 +98,13 @@ pub fn push_line(alloc: Global, text: &mut String, json: &Json) -> Result<(), Al
     Ok(())
 }
 
+// Appends the line of an event.
+fn push_event(alloc: Global, text: &mut String, event: &Event) -> Result<(), AllocError>
+    ensures { OnOk result (string_bytes text.new ≡ string_bytes text.old ++ line (event_json_of event.now)) }
+{
+    push_line(alloc, text, &event.to_json(alloc)?)
+}
+
 /// Writes a history as a journal of version 2: a header line, and a line for each event.
 ///
 /// The history must be within the limits of a journal, which `History::fits` tests. `AllocError`
@@ -65,10 +113,30 @@ pub fn to_text(alloc: Global, history: &History) -> Result<String, AllocError>
     requires { Fits history.now }
     ensures { IfOk result (λ s. string_bytes s ≡ text_of history.now) }
 {
-    let mut text = String::new(alloc);
-    push_line(alloc, &mut text, &header_json(alloc, history)?)?;
+    let mut text = numbers_of(history).header_line(alloc)?;
     for event in history.events.as_slice() {
-        push_line(alloc, &mut text, &event.to_json(alloc)?)?;
+        push_event(alloc, &mut text, event)?;
+    }
+    Ok(text)
+}
+
+/// Writes the history of agents as `to_text` does, of which each event is made for its line and then dropped.
+///
+/// The history must be within the limits of a journal, which `Closing::fits` tests. `AllocError` comes only where memory
+/// was refused.
+pub fn closing_text(alloc: Global, closing: &Closing<'_>) -> Result<String, AllocError>
+    requires { Fits closing.now }
+    ensures { IfOk result (λ s. string_bytes s ≡ text_of closing.now) }
+{
+    let numbers = Numbers {
+        agents: closing.agents(),
+        capacity: closing.capacity(),
+        events: closing.len() as u32,
+        init: closing.init(),
+    };
+    let mut text = numbers.header_line(alloc)?;
+    for number in 0..closing.len() {
+        push_event(alloc, &mut text, &closing.event(alloc, number)?)?;
     }
     Ok(text)
 }

@@ -10,7 +10,7 @@ ghost use Rattle.asm_play.specs.Trying.{names_of, outcome_of, read_value, HasRea
 use crate::gate::Passage;
 use crate::outcome::Outcome;
 use crate::read_values::ReadValues;
-use asm_element::Location;
+use asm_element::{Items, Location};
 use asm_script::{Step, StepFault, step_move};
 use asm_state::Named;
 use asm_storage::{Agent, FireError, READS_LIMIT, ReadError, Reading, Reply};
@@ -138,7 +138,7 @@ impl<'a, A: Aggregator + Sync + Drop, P: Passage> Player<'a, A, P> {
         rt: &R,
         agent: &mut Agent<'s, A>,
         calls: &mut u64,
-        reads: &[Named],
+        reads: &Items<Named>,
         instrs: &Instructions,
     ) -> Result<Option<Reply>, AllocError>
         requires { length reads.now ≤ reads_limit }
@@ -146,7 +146,12 @@ impl<'a, A: Aggregator + Sync + Drop, P: Passage> Player<'a, A, P> {
     {
         self.passage.enter(rt, agent.id(), *calls);
         let passage = &self.passage;
-        let answer = agent.try_fire_with(self.alloc, reads, instrs, &mut || passage.meddle());
+        let answer = agent.try_fire_shared_with(
+            self.alloc,
+            reads,
+            instrs,
+            &mut || passage.meddle(),
+        );
         self.passage.leave(rt, agent.id(), *calls);
         *calls = calls.saturating_add(1);
         match answer {
@@ -176,8 +181,8 @@ impl<'a, A: Aggregator + Sync + Drop, P: Passage> Player<'a, A, P> {
             Ok(instrs) => instrs,
             Err(fault) => return Ok(Some(stopped(fault)?)),
         };
-        let reads = names(self.alloc, &reading)?;
-        let reply = self.fire(rt, agent, calls, reads.as_slice(), &instrs)?;
+        let reads = Items::shared(self.alloc, names(self.alloc, &reading)?)?;
+        let reply = self.fire(rt, agent, calls, &reads, &instrs)?;
         Ok(outcome(reply))
     }
 

@@ -18,12 +18,9 @@ use Rattle.asm_storage.specs.declared.call.Answer.TheVariants as answer
 use Rattle.asm_storage.specs.declared.close.merging.AgentReceipt.{AgentReceipt}
 use Rattle.asm_storage.specs.Agents.{AgentView, is_fired, event_of, is_quiet_at, is_move_at, fired_at, rounds, most, last_stood, merged}
 use Rattle.asm_storage.specs.Storage.{AgentAt, accounts}
-use Rattle.asm_storage.specs.ReceiptOrder.{with_id, key, key_of, receipts_with_ids, id_and_receipt}
+use Rattle.asm_storage.specs.ReceiptOrder.{with_id, key, key_of, merged_event, receipts_with_ids, id_and_receipt}
 use Rattle.asm_storage.proofs.Lists.{Each-weaker, Each-flat_map, Each-map, Each-from_map, filter-map}
 use Rattle.asm_storage.proofs.KeyOrder.{Rises, by_key, by_key-map, rises_from, by_key_all}
-
-abbrev pub merged_event : AgentReceipt → Event
-merged_event s = event_of s.agent s.receipt.now
 
 abbrev pub event_with_id : ℕ × Receipt → Event
 event_with_id p = event_of p.0 p.1

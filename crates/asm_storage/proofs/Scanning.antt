@@ -1,5 +1,5 @@
 -- Fires that rest on scans: what is found of the scans, and what a turn and a whole fire then rest on.
-use Rattle.std.proofs.Common.{◌≡◌, ◌≢◌, ℕ, ◌+◌, ◌-◌, ◌<◌, true, false, ◌&&◌, List, [], ◌∷◌, ◌++◌, length, Option, Some, None}
+use Rattle.std.proofs.Common.{◌≡◌, ◌≢◌, ℕ, ◌+◌, ◌<◌, true, false, ◌&&◌, List, [], ◌∷◌, ◌++◌, length, Option, Some, None}
 use Rattle.std.proofs.Common.{◌↔◌, IfErr, Ok, Err, Result, arith, refl, ap, sym, ◌∙◌, subst}
 use Rattle.std.specs.Prelude.{All, IsTrue, IfOk, IfSome, IsErrOf, OnErr, string_bytes}
 use Rattle.std.specs.declared.alloc.AllocError.{AllocError}

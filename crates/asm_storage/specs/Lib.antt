@@ -1,5 +1,6 @@
 pub mod Agents
 pub mod Calls
+pub mod Closed
 pub mod History
 pub mod Limits
 pub mod Machine

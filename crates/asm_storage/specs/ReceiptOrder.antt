@@ -3,7 +3,8 @@ use Rattle.std.specs.Prelude.{ℕ, ◌+◌, ◌*◌, List, map, if◌then◌else
 use Rattle.std.specs.List.{flat_map}
 use Rattle.asm_storage.specs.declared.receipt.Receipt.{Receipt}
 use Rattle.asm_storage.specs.declared.close.merging.AgentReceipt.{AgentReceipt}
-use Rattle.asm_storage.specs.Agents.{AgentView, is_fired}
+use Rattle.asm_storage.specs.declared.history.Event.{Event}
+use Rattle.asm_storage.specs.Agents.{AgentView, event_of, is_fired}
 
 -- where a receipt merges: twice the number at which it stands, and one more for a move
 abbrev pub key : Receipt → ℕ
@@ -22,3 +23,7 @@ receipts_with_ids agents = flat_map (λ a. map (with_id a.id) a.receipts) agents
 
 abbrev pub id_and_receipt : AgentReceipt → ℕ × Receipt
 id_and_receipt s = (s.agent, s.receipt.now)
+
+-- the event that a receipt of its agent tells
+abbrev pub merged_event : AgentReceipt → Event
+merged_event s = event_of s.agent s.receipt.now

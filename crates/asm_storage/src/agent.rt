@@ -17,7 +17,7 @@ use crate::reading::Reading;
 use crate::receipt::Receipt;
 use crate::shared_lists::copied_named;
 use crate::storage::Storage;
-use asm_element::Location;
+use asm_element::{Items, Location};
 use asm_state::{Named, Scanned, State};
 use asm_update::{Aggregator, Instructions};
 use std::alloc::{AllocError, Global};
@@ -289,6 +289,26 @@ impl<'s, A: Aggregator + Sync + Drop> Agent<'s, A> {
                 Err(FireError::Memory)
             }
         }
+    }
+
+    /// Fires a move as `try_fire_with` does, with the same answers and errors. Its receipt shares the list of the reads,
+    /// which isn't copied.
+    pub fn try_fire_shared_with<F: FnMut()>(
+        &mut self,
+        alloc: Global,
+        reads: &Items<Named>,
+        instrs: &Instructions,
+        between: &mut F,
+    ) -> Result<Reply, FireError>
+        requires { F.IsAlwaysCallable between.old }
+        ensures fire { IsFire A.meaning self.old self.new reads.now instrs.now result }
+        ensures callable { F.IsAlwaysCallable between.new }
+        ensures offers { (n : ℕ) × MadeOffers self.old self.new result n ×
+            Ran (λ f g. F.step f tt g) between.old n between.new }
+    {
+        let storage = self.storage;
+        self.part
+            .try_fire_over(alloc, storage, reads, &[], instrs, between)
     }
 
     /// Fires a move, if none of the named locations was written since it was read, and no location of a scanned name

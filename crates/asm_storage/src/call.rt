@@ -1,6 +1,9 @@
-ghost use Rattle.std.specs.Prelude.{◌≡◌, IfOk};
+ghost use Rattle.std.specs.Prelude.{◌≡◌, ◌↔◌, IfOk, IsTrue};
+ghost use Rattle.std.specs.Option.{option_copied};
+ghost use Rattle.asm_storage.specs.History.{fired_move, CallFits};
 ghost use Rattle.asm_storage.specs.declared.call.Call.TheVariants as call;
 
+use crate::limits::READS_LIMIT;
 use crate::shared_lists::same_list;
 use asm_element::{Items, Location, Value};
 use asm_state::Named;
@@ -65,6 +68,30 @@ pub(crate) fn fire_call(
 }
 
 impl Call {
+    /// The instructions of the move that the call fired, or `None` where this answer fired none.
+    pub(crate) fn fired_move(&self, answer: &Answer) -> Option<&Instructions>
+        ensures { option_copied result ≡ fired_move self.now answer.now }
+    {
+        match (self, answer) {
+            (Call::Fire { instrs, .. }, Answer::Fire(Reply::Fired(_))) => Some(instrs),
+            _ => None,
+        }
+    }
+
+    /// Whether the call is within its limit, and the answer is one to such a call.
+    pub(crate) fn fits(&self, answer: &Answer) -> bool
+        ensures { IsTrue result ↔ CallFits self.now answer.now }
+    {
+        match (self, answer) {
+            (Call::Read(places), Answer::Read { values, .. }) => {
+                let places = places.as_slice().len();
+                places <= READS_LIMIT && values.as_slice().len() == places
+            }
+            (Call::Fire { reads, .. }, Answer::Fire(_)) => reads.as_slice().len() <= READS_LIMIT,
+            _ => false,
+        }
+    }
+
     pub(crate) fn copy(&self, alloc: Global) -> Result<Call, AllocError>
         ensures { IfOk result (λ c. c ≡ self.now) }
     {

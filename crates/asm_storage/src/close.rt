@@ -3,8 +3,10 @@ ghost use Rattle.std.specs.List.Sorted.{IsStrictlyIncreasing};
 ghost use mathlib.Core.List.{IsPrefix};
 ghost use Rattle.asm_storage.specs.declared.error.CloseError.TheVariants.{Missing};
 ghost use Rattle.asm_storage.specs.Agents.{ids, id_bound, merged, most_seen, IsAgent, NoneMissing, IsHistoryOf};
+ghost use Rattle.asm_storage.specs.Closed.{IsClosed};
 ghost use Rattle.asm_storage.specs.Storage.{machine_of, accounts, IsOf, IsMissing};
 
+mod closing;
 mod merging;
 mod missing_moves;
 
@@ -15,9 +17,9 @@ use crate::entry::Entry;
 use crate::error::CloseError;
 use crate::history::History;
 use crate::storage::Storage;
-use asm_element::Items;
 use asm_row::Seat;
 use asm_update::Aggregator;
+pub use closing::Closing;
 use std::alloc::{AllocError, Global};
 
 // One more than the greatest of the agents' numbers, or 0.
@@ -50,6 +52,36 @@ impl<A: Aggregator + Sync + Drop> Storage<A> {
         Ok(seat)
     }
 
+    /// The receipts of agents as one history, as `close` tells it, of which each event is made when it is asked for: the
+    /// agents' receipts and their order are all that is held.
+    ///
+    /// It asks of its agents what `close` does, and has its errors.
+    pub fn closing<'a>(
+        &'a self,
+        alloc: Global,
+        agents: &'a [Agent<'_, A>],
+    ) -> Result<Closing<'a>, CloseError>
+        requires of_this { All (IsOf self.now) agents.now }
+        requires ascending { IsStrictlyIncreasing (ids (accounts agents.now)) }
+        ensures closed { IfOk result (IsClosed A.meaning self.now agents.now) }
+        ensures missing { IfErr result (IsMissing (accounts agents.now)) }
+        ensures within { (number : ℕ) → result ≡ Err (Missing number) →
+            (1 ≤ number) × (number ≤ most_seen (accounts agents.now)) }
+    {
+        let seat = self.seat_of_all(alloc, agents)?;
+        match first_missing(alloc, agents, seat.seen_len())? {
+            Some(k) => return Err(CloseError::Missing(k + 1)),
+            None => {}
+        }
+        let receipts = merge(alloc, agents)?;
+        Ok(Closing::of(
+            self.init(),
+            self.row().capacity(),
+            bound_of_ids(agents),
+            receipts,
+        ))
+    }
+
     /// The receipts of agents as one history: that of a storage of one thread.
     ///
     /// The agents must be of this storage and stand in strictly ascending order of their numbers; there may
@@ -77,17 +109,7 @@ impl<A: Aggregator + Sync + Drop> Storage<A> {
         ensures within { (number : ℕ) → result ≡ Err (Missing number) →
             (1 ≤ number) × (number ≤ most_seen (accounts agents.now)) }
     {
-        let seat = self.seat_of_all(alloc, agents)?;
-        match first_missing(alloc, agents, seat.seen_len())? {
-            Some(k) => return Err(CloseError::Missing(k + 1)),
-            None => {}
-        }
-        let events = merge(alloc, agents)?;
-        Ok(History {
-            init: self.init().copy(alloc)?,
-            capacity: self.row().capacity(),
-            agents: bound_of_ids(agents),
-            events: Items::new(events),
-        })
+        let closing = self.closing(alloc, agents)?;
+        Ok(closing.history(alloc)?)
     }
 }

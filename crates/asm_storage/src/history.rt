@@ -1,10 +1,10 @@
 ghost use Rattle.std.specs.Prelude.{◌≡◌, ◌↔◌, length, min, All, IsTrue};
 ghost use Rattle.std.specs.Option.{option_copied};
-ghost use Rattle.asm_storage.specs.History.{move_of, fired_moves, EventFits, CallFits, Fits};
+ghost use Rattle.asm_storage.specs.History.{move_of, fired_moves, EventFits, Fits};
 ghost use Rattle.asm_storage.specs.Limits.{most_counted};
 
-use crate::call::{Answer, Call, Reply};
-use crate::limits::{AGENTS_LIMIT, EVENTS_LIMIT, READS_LIMIT};
+use crate::call::{Answer, Call};
+use crate::limits::{AGENTS_LIMIT, EVENTS_LIMIT};
 use asm_element::Items;
 use asm_row::CAPACITY_LIMIT;
 use asm_update::{Instructions, PlainState};
@@ -25,24 +25,7 @@ impl Event {
     pub fn fired_move(&self) -> Option<&Instructions>
         ensures { option_copied result ≡ move_of self.now }
     {
-        match (&self.call, &self.answer) {
-            (Call::Fire { instrs, .. }, Answer::Fire(Reply::Fired(_))) => Some(instrs),
-            _ => None,
-        }
-    }
-
-    // Whether the call is within its limit, and the answer is one to such a call.
-    fn call_fits(&self) -> bool
-        ensures { IsTrue result ↔ CallFits self.now.call self.now.answer }
-    {
-        match (&self.call, &self.answer) {
-            (Call::Read(places), Answer::Read { values, .. }) => {
-                let places = places.as_slice().len();
-                places <= READS_LIMIT && values.as_slice().len() == places
-            }
-            (Call::Fire { reads, .. }, Answer::Fire(_)) => reads.as_slice().len() <= READS_LIMIT,
-            _ => false,
-        }
+        self.call.fired_move(&self.answer)
     }
 
     /// Whether a journal of so many agents can hold the event: its agent's number is below `agents`, its call has at
@@ -50,7 +33,7 @@ impl Event {
     pub fn fits(&self, agents: u32) -> bool
         ensures { IsTrue result ↔ EventFits agents self.now }
     {
-        self.agent < agents && self.call_fits()
+        self.agent < agents && self.call.fits(&self.answer)
     }
 }
 

@@ -26,6 +26,7 @@ mod storage;
 
 pub use agent::{Agent, Mark};
 pub use call::{Answer, Call, Reply};
+pub use close::Closing;
 pub use entry::Entry;
 pub use error::{AgentsError, CloseError, FireError, ReadError, StorageError};
 pub use held_values::{has_value, have_values};

@@ -79,13 +79,21 @@ fn proper_answer(answer: &Answer)
     }
 }
 
+/// Does nothing. Its contract tells that a call and its answer are proper.
+pub(crate) fn proper_call_and_answer(call: &Call, answer: &Answer)
+    ensures call { IsProperCall call.now }
+    ensures answer { IsProperAnswer answer.now }
+{
+    proper_call(call);
+    proper_answer(answer);
+}
+
 // Does nothing; its contract tells that the events are proper.
 fn proper_events(events: &[Event])
     ensures { All IsProperEvent events.now }
 {
     for event in events {
-        proper_call(&event.call);
-        proper_answer(&event.answer);
+        proper_call_and_answer(&event.call, &event.answer);
     }
 }
 

@@ -6,16 +6,6 @@ use asm_element::{Items, Location};
 use asm_state::Named;
 use std::alloc::{AllocError, Global};
 
-/// The vector's items as a list that its copies share. An empty one takes no memory.
-pub(crate) fn shared_list<T: Drop>(alloc: Global, items: Vec<T>) -> Result<Items<T>, AllocError>
-    ensures { IfOk result (λ list. list ≡ items.items) }
-{
-    if items.is_empty() {
-        return Ok(Items::new(items));
-    }
-    Items::shared(alloc, items)
-}
-
 /// The same list; a shared one takes no memory.
 pub(crate) fn same_list<T: Clone>(items: &Items<T>) -> Result<Items<T>, AllocError>
     ensures { ((x y : T) → T.is_clone x y → y ≡ x) → IfOk result (λ copy. copy ≡ items.now) }
@@ -32,7 +22,7 @@ fn copied_places(alloc: Global, places: &[Location]) -> Result<Items<Location>, 
         let copy = place.copy(alloc)?;
         items.push(copy)?;
     }
-    shared_list(alloc, items)
+    Items::shared(alloc, items)
 }
 
 /// The same locations: the earlier list, where it has them, or else a copy.
@@ -66,7 +56,7 @@ pub(crate) fn copied_named(alloc: Global, reads: &[Named]) -> Result<Items<Named
     ensures { IfOk result (λ copy. copy ≡ reads.now) }
 {
     let items = named_copies(alloc, reads)?;
-    shared_list(alloc, items)
+    Items::shared(alloc, items)
 }
 
 /// The same named reads, and one more behind them if one was found.
@@ -82,7 +72,7 @@ pub(crate) fn named_with(
         Some(named) => {
             let mut items = named_copies(alloc, reads.as_slice())?;
             items.push(named)?;
-            shared_list(alloc, items)
+            Items::shared(alloc, items)
         }
     }
 }

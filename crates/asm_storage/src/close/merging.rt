@@ -1,12 +1,16 @@
-ghost use Rattle.std.specs.Prelude.{◌≡◌, IfOk, OnOk, map, ◌++◌};
+ghost use Rattle.std.specs.Prelude.{◌≡◌, ◌↔◌, IfOk, OnOk, IsTrue, map, ◌++◌};
+ghost use Rattle.std.specs.Option.{option_copied};
 ghost use Rattle.asm_storage.specs.Agents.{merged};
+ghost use Rattle.asm_storage.specs.History.{move_of, EventFits};
+ghost use Rattle.asm_storage.specs.Proper.{IsProperEvent};
 ghost use Rattle.asm_storage.specs.Storage.{accounts};
-ghost use Rattle.asm_storage.specs.ReceiptOrder.{with_id, key_of, receipts_with_ids, id_and_receipt};
+ghost use Rattle.asm_storage.specs.ReceiptOrder.{with_id, key_of, merged_event, receipts_with_ids, id_and_receipt};
 
 use crate::agent::Agent;
 use crate::history::Event;
+use crate::proper::proper_call_and_answer;
 use crate::receipt::Receipt;
-use asm_update::Aggregator;
+use asm_update::{Aggregator, Instructions};
 use std::alloc::{AllocError, Global};
 
 /// A receipt with the agent that has it.
@@ -16,12 +20,40 @@ pub(crate) struct AgentReceipt<'a> {
     receipt: &'a Receipt,
 }
 
-impl AgentReceipt<'_> {
+impl<'a> AgentReceipt<'a> {
     // Receipts merge by number, and at each number a fired move comes after the calls that fired nothing.
     fn key(&self) -> u64
         ensures { result ≡ key_of self.now }
     {
         2 * u64::from(self.receipt.stood) + u64::from(self.receipt.is_fired())
+    }
+
+    /// The event that it tells.
+    pub(crate) fn event(&self, alloc: Global) -> Result<Event, AllocError>
+        ensures { IfOk result (λ e. e ≡ merged_event self.now) }
+    {
+        self.receipt.event(alloc, self.agent)
+    }
+
+    /// The move that it fired, or `None` where it fired none.
+    pub(crate) fn fired_move(&self) -> Option<&'a Instructions>
+        ensures { option_copied result ≡ move_of (merged_event self.now) }
+    {
+        self.receipt.call.fired_move(&self.receipt.answer)
+    }
+
+    /// Does nothing. Its contract tells that the event is proper.
+    pub(crate) fn proper(&self)
+        ensures { IsProperEvent (merged_event self.now) }
+    {
+        proper_call_and_answer(&self.receipt.call, &self.receipt.answer);
+    }
+
+    /// Whether a journal of so many agents can hold the event that it tells.
+    pub(crate) fn fits(&self, agents: u32) -> bool
+        ensures { IsTrue result ↔ EventFits agents (merged_event self.now) }
+    {
+        self.agent < agents && self.receipt.call.fits(&self.receipt.answer)
     }
 }
 
@@ -55,19 +87,14 @@ fn all_receipts<'a, A: Aggregator + Sync + Drop>(
     Ok(all)
 }
 
-/// The receipts of the agents as one list of events.
-pub(crate) fn merge<A: Aggregator + Sync + Drop>(
+/// The receipts of the agents, in the order in which their calls stand in the history.
+pub(crate) fn merge<'a, A: Aggregator + Sync + Drop>(
     alloc: Global,
-    agents: &[Agent<'_, A>],
-) -> Result<Vec<Event>, AllocError>
-    ensures { IfOk result (λ events. events.items ≡ merged (accounts agents.now)) }
+    agents: &'a [Agent<'_, A>],
+) -> Result<Vec<AgentReceipt<'a>>, AllocError>
+    ensures { IfOk result (λ kept. map merged_event kept.items ≡ merged (accounts agents.now)) }
 {
     let mut all = all_receipts(alloc, agents)?;
     all.sort_by_key(|kept| kept.key())?;
-    let mut events = Vec::with_capacity(alloc, all.len())?;
-    for kept in &all {
-        let event = kept.receipt.event(alloc, kept.agent)?;
-        events.push(event)?;
-    }
-    Ok(events)
+    Ok(all)
 }

@@ -12,7 +12,7 @@ use crate::held_values::have_values;
 use crate::part::AgentPart;
 use crate::reading::Reading;
 use crate::receipt::Receipt;
-use crate::shared_lists::{places_again, same_list, shared_list};
+use crate::shared_lists::{places_again, same_list};
 use crate::storage::Storage;
 use asm_element::{Items, Location, Value};
 use asm_state::{Named, Objection};
@@ -32,7 +32,7 @@ fn copied_values<L: Lookup>(
         let value = Value::copy_or_undef(alloc, lookup.get(place))?;
         values.push(value)?;
     }
-    shared_list(alloc, values)
+    Items::shared(alloc, values)
 }
 
 // The values of the locations, in their order: the earlier list, where they are as they were, or else copies.

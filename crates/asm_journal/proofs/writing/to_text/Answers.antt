@@ -1,18 +1,10 @@
 use Rattle.std.proofs.Common.{◌≡◌, ◌+◌, ◌<◌, ◌++◌, ◌∷◌, [], ℕ, List, length, get_or, take, string_bytes, sym, ap, ◌∙◌}
 use Rattle.std.specs.List.{flat_map}
 use Rattle.std.proofs.lemmas.List.{take_more, flat_map_more}
-use Rattle.serde_json.specs.Data.{Data}
 use Rattle.asm_storage.specs.declared.history.Event.{Event}
 use Rattle.asm_journal.specs.Event.{event_json_of}
 use Rattle.asm_journal.specs.Text.{line, header_json_of}
-use Rattle.asm_journal.proofs.Floats.{event_no_float, header_no_float}
 use Rattle.asm_journal.proofs.writing.to_text.Goals as goal
-
-pub push_line-requires : goal.push_line-requires
-push_line-requires c = rw c.in_ok-header_json.ensures (header_no_float c.args.history.now)
-
-pub push_line-requires-in-loop-event : goal.push_line-requires-in-loop-event
-push_line-requires-in-loop-event c = rw c.in_ok-to_json.ensures (event_no_float c.event-item.result)
 
 pub loop-event-preserved : goal.loop-event-preserved
 loop-event-preserved c =
@@ -25,8 +17,7 @@ loop-event-preserved c =
     let taken : take (i + 1) es ≡ take i es ++ e ∷ [] = take_more es i e within ∙ ap (λ (x : Event). take i es ++ x ∷ []) (sym here) in
     let f : Event → List ℕ = λ x. line (event_json_of x) in
     let front = line (header_json_of c.args.history.now) in
-    c.in_ok-push_line-2.ensures
-    ∙ ap (λ (d : Data). string_bytes c.loop-event.text ++ line d) c.in_ok-to_json.ensures
+    c.in_ok-push_event.ensures
     ∙ ap (λ (s : List ℕ). s ++ f e) c.loop-event.invariant
     ∙ flat_map_more f front (take i es) e
     ∙ ap (λ (xs : List Event). front ++ flat_map f xs) (sym taken)

@@ -19,7 +19,7 @@ pub returns : goal.returns
 returns g c =
     let meaning = g.A.Aggregator.meaning in
     let own = meaning c.args.self.now.aggregator.now in
-    let named = c.as_slice.ensures.value ∙ c.in_ok-reads.ensures in
+    let named = c.in_ok-reads.ensures ∙ c.in_ok-names.ensures in
     let tried = subst (λ (ns : List Named). HasTried meaning c.read.new.agent c.fire.new.agent ns c.in-Ok.instrs
     c.in_ok-reply.reply) named c.in_ok-reply.ensures in
     subst (λ (o : Option Outcome). IsTry meaning own c.args.agent.now c.fire.new.agent c.args.step.now c.args.places.now o)
