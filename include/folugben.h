@@ -50,8 +50,8 @@
  * WHAT STANDS AFTER A CALL
  *
  *  - asm_read and asm_try_fire add a receipt with ASM_DONE, ASM_STALE, ASM_CLASH and ASM_FULL.
- *    So does asm_commit. Any other code of these three means that no receipt was added; the agent
- *    may have seen more moves. No other call adds one.
+ *    So do asm_try_fire_over and asm_commit. Any other code of these four means that no receipt was
+ *    added; the agent may have seen more moves. No other call adds one.
  *  - After asm_follow, asm_stands and asm_begin the agent may have seen more moves, with ASM_MEMORY
  *    too. asm_audit takes bytes with each code but ASM_TAKEN. After any other call, each code but
  *    ASM_DONE means that the slots are as they were.
@@ -68,6 +68,7 @@
  *    VALUE   ELEMENT, {"set":[ELEMENT,..]} or {"bag":[[ELEMENT,COUNT],..]}
  *    PAIR    [LOC,VALUE]                  COUNT    1 to 4294967295, as AMOUNT
  *    NAMED   [LOC,NUMBER], with the number that the read of the location answered
+ *    SCAN    ["name",NUMBER], with the number at which asm_scan told the function of this name
  *    INSTR   ["put",LOC,VALUE]; of a set ["add",LOC,ELEMENT] and ["remove",LOC,ELEMENT]; of a bag
  *            ["bagadd",LOC,ELEMENT,AMOUNT] and ["bagremove",LOC,ELEMENT,AMOUNT]; of a number
  *            ["inc",LOC,N], with a whole number N
@@ -217,6 +218,17 @@ typedef struct asm_numbers {
 FOLUGBEN_NODISCARD int32_t asm_try_fire(asm_slot *agent, const uint8_t *call, size_t len,
     asm_numbers *numbers);
 
+/* The same of a move that rests on whole functions too, those of the scans [SCAN, ..]: on all
+ * locations with the name, those that have a value and those that have none, as they were at the scan's
+ * number. Where one of these was written since, be it with its first value, the answer is ASM_STALE
+ * too, and the receipt names the least such location of one scan, behind the others; else the journal
+ * tells nothing of scans. Named locations and scans are at most 256 together (ASM_MANY), each at a number
+ * that the agent has seen (ASM_RANGE). ASM_NOT_JSON, ASM_SHAPE: the call, or else the scans. All else
+ * is as of asm_try_fire. A scan costs a walk of the locations of this name that moves wrote; with a
+ * text that is no name of a function, of all that they wrote. */
+FOLUGBEN_NODISCARD int32_t asm_try_fire_over(asm_slot *agent, const uint8_t *call, size_t call_len,
+    const uint8_t *scans, size_t scans_len, asm_numbers *numbers);
+
 /* Writes the text of the answer to the agent's last answered call.
  * ASM_EMPTY, ASM_NONE, ASM_SMALL, ASM_MEMORY. */
 FOLUGBEN_NODISCARD int32_t asm_answer(asm_slot *agent, uint8_t *out, size_t room, size_t *written);
@@ -227,10 +239,10 @@ FOLUGBEN_NODISCARD int32_t asm_answer(asm_slot *agent, uint8_t *out, size_t room
 FOLUGBEN_NODISCARD int32_t asm_learn(asm_slot *agent, asm_slot *other);
 
 /* AN AGENT'S OWN STATE stands at one number of moves, and moves on only in asm_follow, asm_stands,
- * asm_begin, asm_read, asm_try_fire and asm_commit; a move that the agent fired itself is taken in by
- * its next look, as asm_follow makes one. What asm_peek, asm_state and asm_scan tell is of that
- * state: no look is made and no receipt. A later fire may name each location with the number that
- * they tell. */
+ * asm_begin, asm_read, asm_try_fire, asm_try_fire_over and asm_commit; a move that the agent fired
+ * itself is taken in by its next look, as asm_follow makes one. What asm_peek, asm_state and asm_scan
+ * tell is of that state: no look is made and no receipt. A later fire may name each location, and
+ * rest on each function that was scanned, with the number that they tell. */
 
 /* Looks on until nothing more is found, and has the agent's own state follow: `*number` is then how
  * many moves it has seen. ASM_EMPTY, ASM_MEMORY. */
@@ -248,8 +260,9 @@ FOLUGBEN_NODISCARD int32_t asm_state(asm_slot *agent, uint32_t *number, uint8_t 
     size_t *written);
 
 /* The same with the locations of one function name alone, which is passed in UTF-8 without quotes.
- * A fire that names each that was found doesn't notice that a further one is written later; the
- * commit of a step that tells them by asm_get_all does. ASM_EMPTY, ASM_SHAPE (the name isn't UTF-8), ASM_SMALL, ASM_MEMORY. */
+ * A fire that names each that was found doesn't notice that a further one is written later; one over
+ * the scan does (asm_try_fire_over), as the commit of a step that tells them by asm_get_all.
+ * ASM_EMPTY, ASM_SHAPE (the name isn't UTF-8), ASM_SMALL, ASM_MEMORY. */
 FOLUGBEN_NODISCARD int32_t asm_scan(asm_slot *agent, const uint8_t *name, size_t len,
     uint32_t *number, uint8_t *out, size_t room, size_t *written);
 

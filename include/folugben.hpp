@@ -440,8 +440,19 @@ class agent {
                                   text));
         return text;
     }
+    // The same of one function alone, with the number of moves at which its state stands, under which a fire rests on the scan.
+    std::string scan_json(std::string_view name, std::uint32_t &number) {
+        std::string text;
+        detail::done(detail::told(
+            [&](auto *out, auto room, auto *written) {
+                return asm_scan(get(), detail::bytes(name), name.size(), &number, out, room, written);
+            },
+            text));
+        return text;
+    }
 
-    // The answer to a read of [LOC, ..], and to a fire of {"fire":[INSTR, ..],"reads":[NAMED, ..]}.
+    // The answer to a read of [LOC, ..], and to a fire of {"fire":[INSTR, ..],"reads":[NAMED, ..]}, which may rest on the whole
+    // functions of [[NAME,NUMBER], ..] too.
     std::string read_json(std::string_view locations) {
         std::int32_t code = asm_read(get(), detail::bytes(locations), locations.size());
         if (code == ASM_NOT_JSON || code == ASM_SHAPE) detail::fail(code, detail::explained(ASM_FORM_LOCATIONS, locations));
@@ -451,9 +462,12 @@ class agent {
     [[nodiscard]] std::int32_t try_fire_json(std::string_view call, asm_numbers &numbers) noexcept {
         return asm_try_fire(get(), detail::bytes(call), call.size(), &numbers);
     }
-    std::uint32_t fire_json(std::string_view call) {
+    [[nodiscard]] std::int32_t try_fire_json(std::string_view call, std::string_view scans, asm_numbers &numbers) noexcept {
+        return asm_try_fire_over(get(), detail::bytes(call), call.size(), detail::bytes(scans), scans.size(), &numbers);
+    }
+    std::uint32_t fire_json(std::string_view call, std::string_view scans = "[]") {
         asm_numbers numbers{};
-        std::int32_t code = try_fire_json(call, numbers);
+        std::int32_t code = try_fire_json(call, scans, numbers);
         if (code == ASM_NOT_JSON || code == ASM_SHAPE) detail::fail(code, detail::explained(ASM_FORM_MOVE, call));
         if (code == ASM_STALE || code == ASM_CLASH) detail::fail(code, answer());
         detail::done(code);

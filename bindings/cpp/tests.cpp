@@ -126,6 +126,24 @@ void moves_are_popped_seen_and_offered() {
     WANTED(other.follow() == 3 && other.peek(count).number() == 126);
 }
 
+void fires_rest_on_whole_functions() {
+    folugben::storage storage(R"([[["task",1],7]])", 10);
+    folugben::agent agent = storage.make_agent(0), other = storage.make_agent(1);
+    const char *const put = R"({"fire":[["put",["count"],1]],"reads":[]})";
+    std::uint32_t number = 9;
+    WANTED(agent.scan_json("task", number) == R"([[["task",1],7]])" && number == 0);
+    WANTED(agent.fire_json(put, R"([["task",0],["none",0]])") == 1);
+    // A location that had no value makes it stale.
+    WANTED(other.fire_json(R"({"fire":[["put",["task",2],8]],"reads":[]})") == 2);
+    folugben::error stale = REFUSED(folugben::error, agent.fire_json(put, R"([["task",0]])"));
+    WANTED(stale.code() == ASM_STALE && stale.text() == R"({"stale":["task",2]})");
+    WANTED(REFUSED(folugben::error, agent.fire_json(put, R"([["task",3]])")).code() == ASM_RANGE);
+    WANTED(REFUSED(folugben::error, agent.fire_json(put, R"([["task"]])")).code() == ASM_SHAPE);
+    WANTED(agent.scan_json("task", number) == R"([[["task",1],7],[["task",2],8]])" && number == 2);
+    asm_numbers numbers{};
+    WANTED(agent.try_fire_json(put, R"([["task",2]])", numbers) == ASM_DONE && numbers.fired == 3);
+}
+
 void stale_and_short_steps_are_played_again() {
     folugben::storage storage(R"([[["count"],0],[["bag"],{"bag":[["e",1]]}]])", 100);
     folugben::agent one = storage.make_agent(0), other = storage.make_agent(1);
@@ -319,6 +337,7 @@ int main() {
     values_are_told_by_their_kinds();
     lists_sets_and_bags_are_operands();
     moves_are_popped_seen_and_offered();
+    fires_rest_on_whole_functions();
     stale_and_short_steps_are_played_again();
     refusals_say_what_is_wrong();
     agents_come_back_when_they_are_destroyed();

@@ -161,9 +161,12 @@ static void reads(unsigned at) {
         a->stood = stories[a->storage].moves;
 }
 
+/* Scans on which a fire rests: none, of x, and of y and another function, as both began. */
+static const char *const scans[] = {"[]", "[[\"x\",0]]", "[[\"y\",0],[\"z\",0]]"};
+
 /* What a fire of the move is answered on the latest world, which then is the one after it. */
-static int32_t fire_answer(const text *t, const story *s, world *w) {
-    if (t->x >= 0 && w->x_at > (unsigned)t->x)
+static int32_t fire_answer(const text *t, const story *s, unsigned over, world *w) {
+    if ((t->x >= 0 && w->x_at > (unsigned)t->x) || (over == 1 && w->x_at) || (over == 2 && w->y_at))
         return ASM_STALE;
     if (!goes_on(t, w))
         return ASM_CLASH;
@@ -181,8 +184,14 @@ static void fires(unsigned at) {
     asm_numbers numbers = {9, 9, 9};
     world w = *latest(s);
     bool is_answer = a->kind == AGENT && t->fire == ASM_DONE;
-    int32_t wanted = a->kind != AGENT ? ASM_EMPTY : is_answer ? fire_answer(t, s, &w) : t->fire;
-    REQUIRE(asm_try_fire(&slots[at], bytes(t), strlen(t->bytes), &numbers) == wanted);
+    unsigned over = below(3);
+    int32_t wanted = a->kind != AGENT ? ASM_EMPTY : is_answer ? fire_answer(t, s, over, &w) : t->fire;
+    size_t len = strlen(t->bytes), scans_len = strlen(scans[over]);
+    int32_t code = over || below(2)
+                       ? asm_try_fire_over(&slots[at], bytes(t), len, (const uint8_t *)scans[over],
+                                           scans_len, &numbers)
+                       : asm_try_fire(&slots[at], bytes(t), len, &numbers);
+    REQUIRE(code == wanted);
     REQUIRE(numbers.fired == (wanted == ASM_DONE ? s->moves + 1 : 0));
     REQUIRE(numbers.from == 0 && numbers.to == 0);
     if (!is_answer)

@@ -145,6 +145,42 @@ static void whole_functions(void) {
     end_all();
 }
 
+/* A fire over scans, of the number that it tells where it fired. */
+static void fires_over(int32_t wanted, asm_slot *agent, const char *call, const char *over,
+                       uint32_t number) {
+    asm_numbers numbers = {9, 9, 9};
+    REQUIRE(asm_try_fire_over(agent, TEXT(call), TEXT(over), &numbers) == wanted);
+    REQUIRE(numbers.fired == number && numbers.from == 0 && numbers.to == 0);
+}
+
+/* A fire without a step rests on the functions that it is told, each at its number: a location that
+ * had no value makes it stale, and is named then alone. */
+static void fires_over_functions(void) {
+    const char *put = "{'fire':[['put',['y'],1]],'reads':[[['c'],0]]}";
+    uint32_t number;
+    begin_with(8);
+    TELLS(ASM_DONE, "[[['x'],7]]", asm_scan(&agents[0], TEXT("x"), &number, OUT));
+    REQUIRE(number == 0);
+    fires_over(ASM_RANGE, &agents[0], put, "[['x',0],['none',1]]", 0);
+    fire(&agents[1], "[['put',['x',1],null],['put',['xx'],1]]");
+    fires_over(ASM_STALE, &agents[0], put, "[['y',0],['x',0]]", 0);
+    TELLS(ASM_DONE, "{'stale':['x',1]}", asm_answer(&agents[0], OUT));
+    fires_over(ASM_DONE, &agents[0], put, "[['y',0],['x',1],['none',0]]", 2);
+    fires_over(ASM_NOT_JSON, &agents[0], put, "[", 0);
+    fires_over(ASM_SHAPE, &agents[0], put, "[['x']]", 0);
+    fires_over(ASM_STALE, &agents[0], put, "[['y',1]]", 0);
+    journal_is("{'agent':1,'call':{'fire':[['put',['x',1],null],['put',['xx'],1]],'reads':[]},"
+               "'reply':{'fired':1}}\n"
+               "{'agent':0,'call':{'fire':[['put',['y'],1]],'reads':[[['c'],0],[['x',1],0]]},"
+               "'reply':{'stale':['x',1]}}\n"
+               "{'agent':0,'call':{'fire':[['put',['y'],1]],'reads':[[['c'],0]]},"
+               "'reply':{'fired':2}}\n"
+               "{'agent':0,'call':{'fire':[['put',['y'],1]],'reads':[[['c'],0],[['y'],1]]},"
+               "'reply':{'stale':['y']}}\n",
+               4, 2);
+    end_all();
+}
+
 /* A push was taken, and what it rests on is gone by the time of the commit: that clashes. The step
  * stays, and is begun anew. */
 static void clashes_at_the_commit(void) {
@@ -237,6 +273,21 @@ static void begins_wide(void) {
     begins_at(0);
 }
 
+/* A fire may name 256 locations and scans together. */
+static void many_scanned(void) {
+    char call[2 * LONGEST];
+    asm_numbers numbers;
+    for (int named = 128; named <= 129; named++) {
+        begin_with(8);
+        snprintf(call, sizeof call, "{\"fire\":[],\"reads\":%s}", each("[[\"w\",%d],0]", named));
+        const char *over = each("[\"f%d\",0]", 128);
+        int32_t code = asm_try_fire_over(&agents[0], bytes(call), strlen(call), bytes(over),
+                                         strlen(over), &numbers);
+        REQUIRE(code == (named == 128 ? ASM_DONE : ASM_MANY));
+        end_all();
+    }
+}
+
 /* As many locations are named as the moves rest on and were got, each counted once. */
 static void many_rested_on(void) {
     begins_wide();
@@ -284,8 +335,10 @@ int main(void) {
     gets_below();
     seen();
     whole_functions();
+    fires_over_functions();
     clashes_at_the_commit();
     many_named();
+    many_scanned();
     many_rested_on();
     puts("passed");
     return 0;

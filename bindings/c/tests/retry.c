@@ -68,6 +68,9 @@ static void play(void) {
     REQUIRE(AGAIN(asm_try_fire(&agents[0], TEXT(move), &numbers)) == ASM_DONE);
     REQUIRE(numbers.fired == 1 && asm_won(&agents[0]) == 1);
     REQUIRE(answers(&agents[0], "{'fired':1}"));
+    REQUIRE(AGAIN(asm_try_fire_over(&agents[1], TEXT(move), TEXT("[['s',0]]"), &numbers)) ==
+            ASM_STALE);
+    REQUIRE(answers(&agents[1], "{'stale':['s']}"));
     REQUIRE(AGAIN(asm_try_fire(&agents[1], TEXT(move), &numbers)) == ASM_STALE);
     REQUIRE(numbers.fired == 0 && asm_won(&agents[1]) == 0);
     REQUIRE(answers(&agents[1], "{'stale':['x']}"));
@@ -351,7 +354,7 @@ int main(int argc, char **argv) {
     run_plain();
     run_step();
     compute();
-    close_all(&storage, 3, 5, 2, left);
+    close_all(&storage, 3, 6, 2, left);
     go_on(left);
     go_on_full();
     if (argc > 1)

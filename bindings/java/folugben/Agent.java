@@ -175,9 +175,20 @@ public final class Agent implements AutoCloseable {
         return tryFire(instructions, reads).orThrow();
     }
 
+    /** The same of instructions that rest on the whole functions of the scans too, as tryFire. */
+    public int fire(
+            List<? extends Instruction> instructions, List<Named> reads, List<Scanned> scans) {
+        return tryFire(instructions, reads, scans).orThrow();
+    }
+
     /** The same of the instructions [INSTR, ..], which rest on the reads [NAMED, ..]. */
     public int fire(String instructions, String reads) {
         return tryFire(instructions, reads).orThrow();
+    }
+
+    /** The same of instructions that rest on the scans [[NAME,NUMBER], ..] too. */
+    public int fire(String instructions, String reads, String scans) {
+        return tryFire(instructions, reads, scans).orThrow();
     }
 
     /**
@@ -192,7 +203,19 @@ public final class Agent implements AutoCloseable {
      *         of the moves that the agent has seen, as it would guard nothing
      */
     public Reply tryFire(List<? extends Instruction> instructions, List<Named> reads) {
-        return tryFire(JsonWriter.move(instructions, "instructions"), JsonWriter.reads(reads));
+        return tryFire(instructions, reads, List.of());
+    }
+
+    /**
+     * The same of instructions that rest on the whole functions of the scans too: it is stale also
+     * where a location of one of the functions was written since, be it one that had no value.
+     *
+     * <p>At most 256 reads and scans together. The number of a scan is that of {@link #scan}.
+     */
+    public Reply tryFire(
+            List<? extends Instruction> instructions, List<Named> reads, List<Scanned> scans) {
+        return tryFire(JsonWriter.move(instructions, "instructions"), JsonWriter.reads(reads),
+                JsonWriter.scans(scans));
     }
 
     /**
@@ -202,16 +225,30 @@ public final class Agent implements AutoCloseable {
      *         as of reads that are objects
      */
     public Reply tryFire(String instructions, String reads) {
-        byte[] call = Texts.utf8("{\"fire\":" + Texts.oneValue(instructions, "instructions")
-                        + ",\"reads\":" + Texts.oneValue(reads, "reads") + "}", "the move");
+        return tryFire(instructions, reads, "[]");
+    }
+
+    /**
+     * Fires the instructions [INSTR, ..], which rest on the reads [NAMED, ..] and on the whole
+     * functions of the scans [[NAME,NUMBER], ..].
+     *
+     * @throws FolugbenException as of two arguments
+     */
+    public Reply tryFire(String instructions, String reads, String scans) {
+        String move = "{\"fire\":" + Texts.oneValue(instructions, "instructions") + ",\"reads\":"
+                + Texts.oneValue(reads, "reads") + "}";
+        byte[] call = Texts.utf8(move, "the move");
+        byte[] both = Texts.utf8(move + Texts.oneValue(scans, "scans"), "the move");
         synchronized (slot) {
-            int code = room.make(call,
+            int code = room.make(both,
                     (text, out, length, written)
-                            -> Calls.asm_try_fire(slot.at, text, call.length, room.numbers()));
+                            -> Calls.asm_try_fire_over(slot.at, text, call.length,
+                                    text + call.length, both.length - call.length,
+                                    room.numbers()));
             if (code == FolugbenException.NOT_JSON || code == FolugbenException.SHAPE)
-                FolugbenException.expectRead(code, Storage.Form.MOVE, call);
+                FolugbenException.expectFire(code, call);
             if (code == FolugbenException.RANGE)
-                throw FolugbenException.ahead(reads, Calls.asm_seen(slot.at));
+                throw FolugbenException.ahead(reads, scans, Calls.asm_seen(slot.at));
             return reply(code, false);
         }
     }
@@ -421,7 +458,8 @@ public final class Agent implements AutoCloseable {
 
     /**
      * The same with the locations of one function name alone. A fire that names each that was found
-     * doesn't notice that a further one is written later; a step that scans does.
+     * doesn't notice that a further one is written later; one that rests on the scan does, as a step
+     * that scans.
      */
     public State scan(String name) {
         byte[] bytes = Texts.utf8(name, "name");

@@ -49,7 +49,8 @@ final class Calls {
 
     static native int asm_read(long agent, long locations, long len);
 
-    static native int asm_try_fire(long agent, long call, long len, long numbers);
+    static native int asm_try_fire_over(
+            long agent, long call, long len, long scans, long scansLen, long numbers);
 
     static native int asm_answer(long agent, long out, long room, long written);
 

@@ -58,6 +58,9 @@ public sealed class FolugbenException extends RuntimeException
     /** The number of {@link Code#APART}. */
     public static final int APART = 23;
 
+    private static final String SCAN =
+            "a scan is an array of a function's name and a number, from 0 to 4,294,967,295";
+
     /** The number of its code. */
     private final int code;
     /** What the code counts; else 0. */
@@ -96,16 +99,29 @@ public sealed class FolugbenException extends RuntimeException
 
     /** The exception of named reads of which one has a number above what the agent has seen. */
     static FolugbenException ahead(String reads, int seen) {
+        return ahead(reads, "[]", seen);
+    }
+
+    /** The same of named reads and scans. */
+    static FolugbenException ahead(String reads, String scans, int seen) {
         int place = 0;
         for (JsonReader.Read read : JsonReader.reads(reads)) {
             place++;
             if (read.number() > seen)
-                return of(RANGE, 0,
-                        "read " + place + ": " + read.location().json() + " is named at "
-                                + read.number() + ", and the agent has seen " + seen,
-                        "");
+                return ahead("read " + place + ": " + read.location().json(), read.number(), seen);
+        }
+        place = 0;
+        for (JsonReader.Scan scan : JsonReader.scans(scans)) {
+            place++;
+            if (scan.number() > seen)
+                return ahead("scan " + place + ": " + scan.name(), scan.number(), seen);
         }
         return of(RANGE, 0, "", "");
+    }
+
+    private static FolugbenException ahead(String what, long number, int seen) {
+        return of(RANGE, 0,
+                what + " is named at " + number + ", and the agent has seen " + seen, "");
     }
 
     /** What the code means, with what is said of the text that is refused. */
@@ -182,6 +198,12 @@ public sealed class FolugbenException extends RuntimeException
     /** What is expected of the code of a call that was passed a text of this form. */
     static void expectRead(int code, Storage.Form form, byte[] text) {
         expect(code, isMisread(code) ? Calls.explain(form, text) : "");
+    }
+
+    /** What is expected of the code of a fire that was passed this move, and scans. */
+    static void expectFire(int code, byte[] call) {
+        String said = isMisread(code) ? Calls.explain(Storage.Form.MOVE, call) : "";
+        expect(code, code == SHAPE && said.isEmpty() ? SCAN : said);
     }
 
     private static boolean isMisread(int code) {

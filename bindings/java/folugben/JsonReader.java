@@ -138,6 +138,19 @@ final class JsonReader {
         return parsed(reads, "reads", reader -> reader.list(JsonReader::read));
     }
 
+    /** A function's name as a text has it, at such a number. */
+    record Scan(String name, long number) {}
+
+    static List<Scan> scans(String scans) {
+        return parsed(scans, "scans", reader -> reader.list(JsonReader::scan));
+    }
+
+    private Scan scan() throws IOException {
+        begin(JsonToken.START_ARRAY, "no scan");
+        String name = string();
+        return ended(new Scan(name, nextNumber()), JsonToken.END_ARRAY);
+    }
+
     private Read read() throws IOException {
         begin(JsonToken.START_ARRAY, "no read");
         Location location = location();

@@ -67,6 +67,10 @@ final class JsonWriter {
         return list(JsonWriter::named, reads, "reads");
     }
 
+    static String scans(Collection<Scanned> scans) {
+        return list(JsonWriter::scanned, scans, "scans");
+    }
+
     static String state(Collection<Pair> pairs, String name) {
         return list(JsonWriter::pair, pairs, name);
     }
@@ -141,6 +145,13 @@ final class JsonWriter {
         out.writeStartArray();
         location(named.location());
         out.writeNumber(named.number());
+        out.writeEndArray();
+    }
+
+    private void scanned(Scanned scanned) throws IOException {
+        out.writeStartArray();
+        out.writeString(scanned.name());
+        out.writeNumber(scanned.number());
         out.writeEndArray();
     }
 

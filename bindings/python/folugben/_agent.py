@@ -6,9 +6,9 @@ from collections.abc import Callable, Iterable, Sequence
 from types import TracebackType
 from typing import TYPE_CHECKING, Any, TypeVar, overload
 
-from ._errors import READS, Busy, Error, ahead, expect, expect_part, expect_read, refusal
+from ._errors import READS, Busy, Error, ahead, expect, expect_part, expect_read, expect_scans, explain, refusal
 from ._held import Held, expect_over, here, is_in_call, marked, one_call, own_call
-from ._library import BUSY, CLASH, DONE, EMPTY, LOCATIONS, MOVE, NONE, NUMBER, OTHER, RANGE, SMALL, STALE
+from ._library import BUSY, CLASH, DONE, EMPTY, LOCATIONS, MOVE, NONE, NUMBER, OTHER, RANGE, SHAPE, SMALL, STALE
 from ._library import Buffer, Numbers, Slot, lib, quick
 from ._location import Location
 from ._step import Step
@@ -60,7 +60,8 @@ class Agent(Held):
 
     Its own state follows the moves of all agents in `follow`, `stands`, `step` and `read`, and moves on in no other call but
     a fire; after that it may stand before the move which was fired. `peek`, `state` and `scan` tell of it, without a look
-    and without a trace in the journal. A later fire may name each location with the number of moves that they tell.
+    and without a trace in the journal. A later fire may name each location, and each function that was scanned, with the
+    number of moves that they tell.
     """
 
     def __init__(self, storage: "Storage", number: int) -> None:
@@ -136,32 +137,41 @@ class Agent(Held):
             answer = self._answer()
         return answer["number"], answer["values"]
 
-    def fire(self, instructions: Sequence[Form], reads: Iterable[Form] = ()) -> int:
-        """Fires a move that rests on these reads, pairs of a location and a number. The number of the move.
+    def fire(self, instructions: Sequence[Form], reads: Iterable[Form] = (), scans: Iterable[Form] = ()) -> int:
+        """Fires a move that rests on these reads, pairs of a location and a number, and on the whole functions of these scans,
+        pairs of a function's name and a number. The number of the move.
 
-        `Stale` where one of the locations was written since that number of moves, `Clash` where the updates clash, `Full`
-        where as many moves were fired as the capacity, `Busy` where 64 offers were lost to other agents.
+            number, tasks = agent.scan("task")
+            agent.fire([["put", ["count"], len(tasks)]], scans=[("task", number)])
+
+        `Stale` where one of the locations was written since that number of moves, or any location of one of the functions, also
+        one that had no value; `Clash` where the updates clash, `Full` where as many moves were fired as the capacity, `Busy`
+        where 64 offers were lost to other agents. At most 256 reads and scans together, else `Many`.
 
         No update is lost where each number is that of a reading of this agent, or of one of which it has learnt. A number
         above that of the moves that it has seen guards nothing, and is an `Error` with the code RANGE, which says of which
-        location. After `Storage.next` numbers begin anew: keep none.
+        location or function. After `Storage.next` numbers begin anew: keep none.
         """
-        return self._fire(b'{"fire":%b,"reads":%b}' % (encoded(instructions, "instructions"), encoded(list(reads), "reads")))
+        call = b'{"fire":%b,"reads":%b}' % (encoded(instructions, "instructions"), encoded(list(reads), "reads"))
+        return self._fire(call, encoded(list(scans), "scans"))
 
     @one_call
-    def _fire(self, call: bytes) -> int:
+    def _fire(self, call: bytes, scans: bytes) -> int:
         numbers = self._numbers
         with self._lock:
-            return self._fired(lib.asm_try_fire(self._slot, call, len(call), numbers), numbers, call)
+            code = lib.asm_try_fire_over(self._slot, call, len(call), scans, len(scans), numbers)
+            return self._fired(code, numbers, call, scans)
 
-    def _fired(self, code: int, numbers: Numbers, call: bytes) -> int:
+    def _fired(self, code: int, numbers: Numbers, call: bytes, scans: bytes = b"[]") -> int:
         """The number of the move that was fired, or what the code of the fire says."""
         if code in (STALE, CLASH):
             raise refusal(code, self._answer())
         if code == BUSY:
             raise Busy(code, (numbers.from_, numbers.to))
         if code == RANGE:
-            raise ahead(decoded(call)["reads"], lib.asm_seen(self._slot))
+            raise ahead(decoded(call)["reads"], lib.asm_seen(self._slot), decoded(scans))
+        if code == SHAPE and not explain(MOVE, call):
+            expect_scans(code, decoded(scans))
         self._expect_read(code, MOVE, call)
         return numbers.fired
 
@@ -259,7 +269,8 @@ class Agent(Held):
     def scan(self, name: str) -> tuple[int, list[Any]]:
         """The same with the locations of one function name alone.
 
-        A fire that names each that was found doesn't notice that a further one is written later; a step that scans does.
+        A fire that names each that was found doesn't notice that a further one is written later; one over the scan does, as a
+        step that scans.
         """
         return self._scan(utf_8(name))
 

@@ -36,7 +36,7 @@ class Error(Exception):
     """A call that wasn't answered, with its code, and its numbers where the code has some.
 
     Of a text that was refused `said` tells where and why, as `explain` does; of a move that was, at which location; and of
-    named reads that were, which location is named at a number that the agent hasn't seen.
+    named reads and scans that were, which is named at a number that the agent hasn't seen.
     """
 
     def __init__(self, code: int, numbers: Iterable[int] = (), said: str = "") -> None:
@@ -183,12 +183,13 @@ def refusal(code: int, told: Any) -> Stale | Clash | Large:
     return clash
 
 
-def ahead(reads: Iterable[Any], seen: int) -> Error:
-    """The exception of named reads of which one has a number above that of the moves which the agent has seen."""
-    for place, (at, number) in enumerate(reads, 1):
-        if number > seen:
-            said = f"read {place}: {json.dumps(at)} is named at {number}, and the agent has seen {seen}"
-            return Error(RANGE, said=said)
+def ahead(reads: Iterable[Any], seen: int, scans: Iterable[Any] = ()) -> Error:
+    """The exception of named reads and of scans of which one has a number above that of the moves which the agent has seen."""
+    for kind, those in ("read", reads), ("scan", scans):
+        for place, (at, number) in enumerate(those, 1):
+            if number > seen:
+                said = f"{kind} {place}: {json.dumps(at)} is named at {number}, and the agent has seen {seen}"
+                return Error(RANGE, said=said)
     return Error(RANGE)
 
 
@@ -235,6 +236,23 @@ def expect_read(code: int, form: int, text: bytes) -> None:
             said += f", and {at}"
         expect(code, said=said)
     expect(code)
+
+
+def expect_scans(code: int, scans: Iterable[Any]) -> None:
+    """Raises what the code of a fire says of which the move is read: SHAPE where one of these is no scan."""
+    if code == SHAPE:
+        for place, scan in enumerate(scans, 1):
+            if not is_scan(scan):
+                expect(code, said=f"scan {place}: a scan is an array of a function's name and a number, from 0 to 4,294,967,295")
+    expect(code)
+
+
+def is_scan(value: Any) -> bool:
+    """Whether the value of a text is a function's name with a number of moves."""
+    if not isinstance(value, list) or len(value) != 2:
+        return False
+    name, number = value
+    return isinstance(name, str) and type(number) is int and 0 <= number < 2**32
 
 
 def expect_part(code: int, move: bytes, part: bytes) -> None:

@@ -78,7 +78,7 @@ def load() -> ctypes.CDLL:
         "asm_open": (code, [text, size, u32, slot]),
         "asm_agent": (code, [slot, u32, slot]),
         "asm_read": (code, [slot, text, size]),
-        "asm_try_fire": (code, [slot, text, size, ctypes.POINTER(Numbers)]),
+        "asm_try_fire_over": (code, [slot, text, size, text, size, ctypes.POINTER(Numbers)]),
         "asm_answer": (code, [slot, text, size, written]),
         "asm_learn": (code, [slot, slot]),
         "asm_follow": (code, [slot, number]),

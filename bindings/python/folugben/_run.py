@@ -171,7 +171,7 @@ class RunAgent:
     that was begun before goes on seeing its state, but fires no more: its `fire` raises `Past`, which is a `Retry`, `try_fire`
     answers 0, and `play` begins anew.
 
-    Numbers of moves are those of the run. What was read in a part that has ended can't be named in a fire: `Past`.
+    Numbers of moves are those of the run. What was read or scanned in a part that has ended can't be named in a fire: `Past`.
     """
 
     def __init__(self, run: Run, own: int) -> None:
@@ -218,21 +218,21 @@ class RunAgent:
 
         return self._looked(look)
 
-    def fire(self, instructions: Sequence[Form], reads: Iterable[Form] = ()) -> int:
-        """Fires a move that rests on these reads, as the agent of a storage does. `Past`, which is a `Retry`, where a location
-        is named at a number of a part that has ended."""
-        named = list(reads)
+    def fire(self, instructions: Sequence[Form], reads: Iterable[Form] = (), scans: Iterable[Form] = ()) -> int:
+        """Fires a move that rests on these reads and scans, as the agent of a storage does. `Past`, which is a `Retry`, where one
+        of them is named at a number of a part that has ended."""
+        named, functions = list(reads), list(scans)
         while True:
             agent = self._in
             if agent is not None:
-                own = self._of_part(named, agent)
+                own, over = self._of_part(named, agent), self._of_part(functions, agent, "scan")
                 agent.tried()
                 try:
-                    return agent.part.base + agent.fire(instructions, own)
+                    return agent.part.base + agent.fire(instructions, own, over)
                 except Full:
                     pass
                 except Error as error:
-                    self._expect_seen(named, error)
+                    self._expect_seen(named, error, functions)
                     self._expect_given(agent, error)
             self._go_on()
 
@@ -305,10 +305,10 @@ class RunAgent:
                     self._expect_given(agent, error)
             self._go_on()
 
-    def _expect_seen(self, named: list[Form], error: Error) -> None:
-        """Tells the numbers of the run, where a read is named at one that is yet to come."""
+    def _expect_seen(self, named: list[Form], error: Error, functions: Iterable[Form] = ()) -> None:
+        """Tells the numbers of the run, where a read or a scan is named at one that is yet to come."""
         if type(error) is Error and error.code == RANGE:
-            raise ahead(named, self.seen) from None
+            raise ahead(named, self.seen, functions) from None
 
     @staticmethod
     def _expect_given(agent: PartAgent, error: Error) -> None:
@@ -317,8 +317,8 @@ class RunAgent:
             raise error
 
     @staticmethod
-    def _of_part(named: list[Form], agent: PartAgent) -> list[Form]:
-        """The named reads with the numbers that they have in the part of its agent; the library tells which is none."""
+    def _of_part(named: list[Form], agent: PartAgent, kind: str = "read") -> list[Form]:
+        """The named reads or scans with the numbers that they have in the part of its agent; the library tells which is none."""
         own: list[Form] = []
         for place, read in enumerate(named, 1):
             number = read[1] if isinstance(read, (list, tuple)) and len(read) == 2 else None
@@ -327,7 +327,7 @@ class RunAgent:
             elif number >= agent.part.base:
                 own.append([read[0], number - agent.part.base])
             else:
-                said = f"read {place} names {json.dumps(read[0])} at {number}, and that part has ended at {agent.part.base}"
+                said = f"{kind} {place} names {json.dumps(read[0])} at {number}, and that part has ended at {agent.part.base}"
                 raise Past(RANGE, said=f"{said}, so read again")
         return own
 

@@ -10,7 +10,7 @@ from typing import Any, TypeAlias
 from ._errors import Error, exact
 from ._library import BOOL, NUM, RANGE, SHAPE, TEXT, UNDEF, Buffer
 
-# A location, an instruction, or a pair of a location and its value or number, as JSON has it.
+# A location, an instruction, or a pair, of a location and its value or number, or of a name and a number, as JSON has it.
 Form: TypeAlias = Sequence[Any]
 
 # What JSON has where an object has one of no value's members, which a Counter has, or a dict that is no value.

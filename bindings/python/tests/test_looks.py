@@ -55,6 +55,35 @@ class Looks(unittest.TestCase):
             self.agent.fire([["put", ["g"], 2]], [[at, 2] for at, _ in self.agent.state()[1]])
         self.assertEqual(caught.exception.at, ["count"])
 
+    def test_a_fire_rests_on_the_whole_functions_of_its_scans(self):
+        number, found = self.agent.scan("f")
+        self.assertEqual(self.agent.fire([["put", ["count"], len(found)]], scans=[("f", number), ("none", number)]), 1)
+        # A phantom: a location that had no value makes it stale, and is told.
+        self.rival.fire([["put", ["f", 7], 1]])
+        with self.assertRaises(Stale) as caught:
+            self.agent.fire([["put", ["count"], 9]], [[["g"], 0]], [["g", 0], ["f", number]])
+        self.assertEqual(caught.exception.at, ["f", 7])
+        self.assertEqual(self.agent.peek(COUNT), (2, [2]))
+        number, found = self.agent.scan("f")
+        self.assertEqual((number, len(found)), (2, 3))
+        self.assertEqual(self.agent.fire([["put", ["count"], 3]], scans=iter([["f", number]])), 3)
+        # At most 256 of both together.
+        self.assertEqual(self.code_of(self.agent.fire, [], [], [["f", 0]] * 257), folugben.MANY)
+        self.assertEqual(self.agent.fire([], [[["g"], 0]] * 128, [["none", 0]] * 128), 4)
+
+    def test_scans_that_are_refused(self):
+        where = folugben.error_text(folugben.RANGE) + ": scan 2: "
+        with self.assertRaises(Error) as caught:
+            self.agent.fire([], [[["g"], 0]], [["g", 0], ["f", 1]])
+        self.assertEqual(str(caught.exception), where + '"f" is named at 1, and the agent has seen 0')
+        for scan in (["f"], ["f", 0, 0], [["f"], 0], ["f", -1], ["f", 2**32], ["f", 0.5], ["f", True], "f", 7):
+            with self.subTest(scan), self.assertRaisesRegex(Error, "scan 2: a scan is an array") as caught:
+                self.agent.fire([], [], [["g", 0], scan])
+            self.assertEqual(caught.exception.code, folugben.SHAPE)
+        with self.assertRaisesRegex(Error, "read 1: a read is an array"):
+            self.agent.fire([], [["g"]], [["f"]])
+        self.assertEqual((self.agent.seen, self.agent.misses), (0, 0))
+
     def test_whether_reads_still_stand(self):
         reads = [[["g"], 0], [["count"], 0], [["f", 1], 0]]
         self.assertIsNone(self.agent.stands(reads))

@@ -118,6 +118,12 @@ class Parts(Rooms):
                 agent.fire([], [[COUNT]])
             self.assertEqual((agent.peek([COUNT]), agent.peek(AT)), ((7, [7]), (7, 7)))
             self.assertEqual((agent.state(), agent.scan("count")), ((7, [[COUNT, 7]]), (7, [[COUNT, 7]])))
+            with self.assertRaises(Stale):
+                agent.fire([["put", COUNT, 0]], scans=[("count", 5)])
+            with self.assertRaisesRegex(Past, 'scan 1 names "count" at 0'):
+                agent.fire([], scans=[("count", 0)])
+            with self.assertRaisesRegex(Error, 'scan 1: "count" is named at 8, and the agent has seen 7'):
+                agent.fire([], scans=[("count", 8)])
             # The eighth move is the part's last: the next part opens with what that leaves, at the same number.
             seen, _ = agent.read([COUNT])
             other.fire([["put", ["else"], 1]])

@@ -116,13 +116,28 @@ impl Agent {
     /// Fires the move, unless one of the at most 256 named locations (else [`Error::Many`]) was written since the number at
     /// which it is named, and answers the move's number. A number above [`Agent::seen`] is [`Error::Range`].
     pub fn try_fire(&mut self, instructions: &Move, reads: &[(Location, u32)]) -> Result<u32, Error> {
+        self.try_fire_over(instructions, reads, &[])
+    }
+
+    /// Fires the move as [`Agent::try_fire`] does, unless a location of one of these functions was written since the number
+    /// that [`Agent::scan`] told, be it one that had no value. At most 256 of both together, else [`Error::Many`].
+    pub fn try_fire_over(
+        &mut self,
+        instructions: &Move,
+        reads: &[(Location, u32)],
+        scans: &[(&str, u32)],
+    ) -> Result<u32, Error> {
         let mut text = String::from("{\"fire\":");
         instructions.instructions().write(&mut text);
         text.push_str(",\"reads\":");
         reads.write(&mut text);
         text.push('}');
+        let over = scans.json();
         let mut numbers = sys::Numbers::default();
-        let code = unsafe { sys::asm_try_fire(self.slot.at(), text.as_ptr(), text.len(), &mut numbers) };
+        let code = unsafe {
+            let (slot, scans) = (self.slot.at(), over.as_ptr());
+            sys::asm_try_fire_over(slot, text.as_ptr(), text.len(), scans, over.len(), &mut numbers)
+        };
         match code {
             sys::STALE | sys::CLASH => Err(of_text(code, &self.last_answer()?)),
             code => {

@@ -36,7 +36,14 @@ unsafe extern "C" {
     pub(crate) fn asm_open(init: *const u8, len: usize, capacity: u32, storage: *mut Slot) -> i32;
     pub(crate) fn asm_agent(storage: *mut Slot, number: u32, agent: *mut Slot) -> i32;
     pub(crate) fn asm_read(agent: *mut Slot, locations: *const u8, len: usize) -> i32;
-    pub(crate) fn asm_try_fire(agent: *mut Slot, call: *const u8, len: usize, numbers: *mut Numbers) -> i32;
+    pub(crate) fn asm_try_fire_over(
+        agent: *mut Slot,
+        call: *const u8,
+        call_len: usize,
+        scans: *const u8,
+        scans_len: usize,
+        numbers: *mut Numbers,
+    ) -> i32;
     pub(crate) fn asm_answer(agent: *mut Slot, out: *mut u8, room: usize, written: *mut usize) -> i32;
     pub(crate) fn asm_learn(agent: *mut Slot, other: *mut Slot) -> i32;
     pub(crate) fn asm_follow(agent: *mut Slot, number: *mut u32) -> i32;

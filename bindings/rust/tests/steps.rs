@@ -110,6 +110,24 @@ fn a_removal_that_is_short_by_now_is_played_again() {
 }
 
 #[test]
+fn a_fire_rests_on_the_functions_that_were_scanned() {
+    let task = |n: i64| Location::new("task").arg(n);
+    let storage = open(&[(task(1), 7.into())]);
+    let (mut one, mut other) = (storage.agent(0).unwrap(), storage.agent(1).unwrap());
+    let count_all = |tasks: usize| Move::new().put(count(), tasks as i64);
+    let (number, tasks) = one.scan("task").unwrap();
+    assert_eq!(one.try_fire_over(&count_all(tasks.len()), &[], &[("task", number), ("none", 0)]), Ok(1));
+    other.play(|step| step.put(task(2), 8)).unwrap();
+    assert_eq!(one.try_fire(&count_all(1), &[(task(1), 0)]), Ok(3));
+    assert_eq!(one.try_fire_over(&count_all(1), &[], &[("task", number)]), Err(Error::Stale(task(2))));
+    assert_eq!(one.try_fire_over(&count_all(1), &[], &[("task", 4)]), Err(Error::Range));
+    let (number, tasks) = one.scan("task").unwrap();
+    assert_eq!((number, tasks.len()), (3, 2));
+    assert_eq!(one.try_fire_over(&count_all(2), &[(count(), number)], &[("task", number)]), Ok(4));
+    assert_eq!(one.try_fire_over(&count_all(2), &[], &[("task", 0); 257]), Err(Error::Many));
+}
+
+#[test]
 fn values_of_each_kind_come_back() {
     let elements = [
         Element::Undef,

@@ -9,6 +9,9 @@ mod counts_and_learning;
 mod explaining;
 #[cfg(test)]
 mod explaining_tests;
+mod firing_over;
+#[cfg(test)]
+mod firing_over_tests;
 mod getting_all;
 mod give_and_close;
 mod instructing;

@@ -110,8 +110,14 @@ fn fires_are_answered_or_refused(rt: HostRuntime) {
     assert!(rt; refused_fires(alloc) == ([(16, 0), (17, 0), (17, 0), (6, 0)], true));
 }
 
-// The item so many times, between these.
-fn many(alloc: Global, head: &str, item: &str, count: usize, tail: &str) -> Result<String, Fail> {
+/// The item so many times, between these.
+pub(crate) fn many(
+    alloc: Global,
+    head: &str,
+    item: &str,
+    count: usize,
+    tail: &str,
+) -> Result<String, Fail> {
     let mut text = String::from_str(alloc, head)?;
     for at in 0..count {
         if at > 0 {

@@ -43,6 +43,7 @@ use Rattle.asm_slots.specs.OwnState.{state_at}
 use Rattle.asm_slots.specs.Standard.{Standard, meaning, part, standard}
 use Rattle.asm_slots.specs.StepView.{StepView, names_of}
 use Rattle.asm_slots.specs.StepCalls.{IsOfScanned, IsStepOn, below}
+use Rattle.asm_slots.proofs.WholeScans.{kept_whole, take_all_seen}
 
 -- each named location stands as at the number under which it is named, so as at the step's number
 named_stand : (state : ℕ → Old) (n before : ℕ) (reads : List Named) → n ≤ before → All (λ r. r.number ≡ n) reads →
@@ -55,28 +56,10 @@ named_stand state n before reads le numbers stand =
     subst (λ (x : ℕ). state x (get_or reads k d).at ≡ state before (get_or reads k d).at) is
     (stand k d lt (subst (λ (x : ℕ). x ≤ before) (sym is) le)))
 
--- each location of a scanned function has what it had at the number at which it was scanned, so at the step's number
-scanned_stand : (m : Machine) (q : List Move) (n : ℕ) (scans : List Scanned) → n ≤ length q →
-    All (λ x. x.number ≡ n) scans → All (IsKept m q) scans →
-    All (λ name. (l : Place) → IsTrue (has_name name l) → val (machine_state m (take n q)) l ≡ val (machine_state m q) l)
-    (names_of scans)
-scanned_stand m q n scans le numbers kept =
-    All-map (λ name. (l : Place) → IsTrue (has_name name l) → val (machine_state m (take n q)) l ≡ val (machine_state m q) l)
-    (λ x. string_bytes x.name) scans
-    (λ k d lt l named.
-    let is = numbers k d lt in
-    subst (λ (x : ℕ). val (machine_state m (take x q)) l ≡ val (machine_state m q) l) is
-    ((kept k d lt).value (subst (λ (x : ℕ). x ≤ length q) (sym is) le) l named))
-
 take_twice : (n : ℕ) (xs : List Entry) → take n (moves_seen (take n xs)) ≡ take n (moves_seen xs)
 take_twice zero xs = refl
 take_twice (suc n) [] = refl
 take_twice (suc n) (x ∷ xs) = ap (λ l. x.instrs ∷ l) (take_twice n xs)
-
-take_all_seen : (n : ℕ) (xs : List Entry) → moves_seen (take n xs) ≡ take n (moves_seen xs)
-take_all_seen zero xs = refl
-take_all_seen (suc n) [] = refl
-take_all_seen (suc n) (x ∷ xs) = ap (λ l. x.instrs ∷ l) (take_all_seen n xs)
 
 -- a move that fires leaves a state
 has_state : (m : Machine) (q : List Move) (reads : List Named) (M : Move) (k : ℕ) →
@@ -145,20 +128,22 @@ module _ (a new : AgentAt Standard) (s : StepView) (reads : List Named) (scans :
       sym (ap (λ (o : Old). o l) before_is) ∙ sym here ∙ ap (λ (o : Old). o l) (below_is le)
 
   -- and so does each function that was scanned
+  abbrev IsWhole : List ℕ → Type 0
+  IsWhole name = (l : Place) → IsTrue (has_name name l) → val (state_at new (k - 1)) l ≡ below a s l
+
+  scans_whole : s.number ≤ length a.account.seen → All IsWhole (names_of scans)
+  scans_whole le =
+      All-map IsWhole (λ x. string_bytes x.name) scans
+      (λ j d lt l named.
+      let scan = get_or scans j d in
+      let is = scanned.numbers j d lt in
+      subst (λ (n : ℕ). val (state_at new (k - 1)) l ≡ val (state_at a n) l) is
+      (kept_whole a new k scan same_storage answered.begins (subst (λ (n : ℕ). n ≤ length a.account.seen) (sym is) le)
+      (kept j d lt) l named))
+
   pub whole : s.number ≤ length a.account.seen → AreWhole a s k new
   whole le l (name, has, named) =
-      let longer = length-prefix a.account.seen (take (k - 1) new.account.seen) answered.begins in
-      let many : s.number ≤ length moves =
-      omega (arith, le, longer, length-map (take (k - 1) new.account.seen) (λ (x : Entry). x.instrs)) in
-      let stand = scanned_stand (machine_of meaning new.storage) moves s.number scans many scanned.numbers kept in
-      let here : after s.number l ≡ val (machine_state (machine_of meaning new.storage) moves) l =
-      All-contains (λ name. (l : Place) → IsTrue (has_name name l) →
-      val (machine_state (machine_of meaning new.storage) (take s.number moves)) l ≡ val (machine_state (machine_of meaning new.storage) moves) l)
-      s.scanned name
-      (subst (λ ns. All (λ name. (l : Place) → IsTrue (has_name name l) → after s.number l ≡ val (machine_state (machine_of meaning new.storage) moves) l) ns)
-      scanned.names stand) has l named in
-      ap (λ (q : List Move). val (state_of part new.storage.init q) l) (sym (take_all_seen (k - 1) new.account.seen))
-      ∙ sym here ∙ ap (λ (o : Old). o l) (below_is le)
+      All-contains IsWhole s.scanned name (subst (All IsWhole) scanned.names (scans_whole le)) has l named
 
   -- what was got or scanned stands there
   rested_stands : s.number ≤ length a.account.seen → (l : Place) → Contains s.got l ⊎ IsOfScanned l s →

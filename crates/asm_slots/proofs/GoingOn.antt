@@ -7,7 +7,6 @@ use Rattle.asm_state.specs.View.{StateView, value_at}
 use Rattle.asm_storage.specs.History.{fired_moves}
 use Rattle.asm_storage.specs.Storage.{AgentAt, StorageView}
 use Rattle.asm_storage.specs.declared.error.StorageError.{StorageError}
-use Rattle.asm_storage.specs.declared.history.Event.{Event}
 use Rattle.asm_storage.specs.declared.history.History.{History}
 use Rattle.asm_journal.specs.Reading.{ReadsAs}
 use Rattle.asm_journal.specs.Text.{text_of}
@@ -25,12 +24,12 @@ use Rattle.asm_slots.specs.declared.content.Content.TheVariants as content
 use Rattle.asm_slots.proofs.OwnStates.{IsOwn, own_values}
 
 -- a text reads back as the history that it is of, so it leaves what the history's moves leave
-pub leaves : (text : List ℕ) (S : State) (h : History) (events : List Event) → text ≡ text_of h → ReadsAs (text_of h) h →
-    events ≡ h.events → S ≡ state_of part h.init (fired_moves events) → Leaves text S
-leaves text S h events same reads all left = record {
+pub leaves : (text : List ℕ) (S : State) (h : History) → text ≡ text_of h → ReadsAs (text_of h) h →
+    S ≡ state_of part h.init (fired_moves h.events) → Leaves text S
+leaves text S h same reads left = record {
   history = h;
   reads = subst (λ (t : List ℕ). ReadsAs t h) (sym same) reads;
-  left = left ∙ ap (λ (es : List Event). state_of part h.init (fired_moves es)) all;
+  left = left;
 }
 
 -- a storage that opens with what is kept

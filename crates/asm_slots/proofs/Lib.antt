@@ -12,6 +12,7 @@ pub mod OwnAgents
 pub mod OwnStates
 pub mod GoingOn
 pub mod Growing
+pub mod WholeScans
 pub mod Commits
 pub mod Unwritten
 pub mod Noting

@@ -1,30 +1,21 @@
 -- What a closed storage tells.
 use Rattle.std.specs.Prelude.{◌≡◌, ◌⊎◌, ◌+◌, ◌≤◌, ℕ, List, length}
 use Rattle.asm_storage.specs.declared.history.History.{History}
-use Rattle.asm_storage.specs.Agents.{IsHistoryOf, NoneMissing, id_bound, merged, most_seen}
+use Rattle.asm_storage.specs.Agents.{NoneMissing, most_seen}
+use Rattle.asm_storage.specs.Closed.{IsClosed}
 use Rattle.asm_storage.specs.declared.error.CloseError.TheVariants.{Missing}
 use Rattle.asm_storage.specs.History.{Fits}
-use Rattle.asm_storage.specs.Storage.{AgentAt, StorageView, accounts, machine_of, IsMissing}
+use Rattle.asm_storage.specs.Storage.{AgentAt, StorageView, accounts, IsMissing}
 use Rattle.asm_journal.specs.Text.{text_of}
 use Rattle.asm_slots.specs.Standard.{Standard, meaning}
 
--- the history of these agents: the answered calls of each once and in their order, each with the answer of the storage
--- of one thread, merged by the number of moves at which they were answered
-pub record IsClosing (s : StorageView Standard) (all : List (AgentAt Standard)) (history : History) : Type 0 where
-  pub init : history.init ≡ s.init
-  pub capacity : history.capacity ≡ length s.row
-  pub agents : history.agents ≡ id_bound (accounts all)
-  pub events : history.events ≡ merged (accounts all)
-  pub told : IsHistoryOf (machine_of meaning s) (accounts all) history.events
-  pub none_missing : NoneMissing (accounts all)
-
 -- the text is the journal of the history of these agents, which is within a journal's limits
 abbrev pub IsJournalOf : StorageView Standard → List (AgentAt Standard) → List ℕ → Type 0
-IsJournalOf s all text = (history : History) × IsClosing s all history × Fits history × (text ≡ text_of history)
+IsJournalOf s all text = (history : History) × IsClosed meaning s all history × Fits history × (text ≡ text_of history)
 
 -- the history of these agents is beyond a journal's limits
 abbrev pub IsTooLarge : StorageView Standard → List (AgentAt Standard) → Type 0
-IsTooLarge s all = (history : History) × IsClosing s all history × ¬ Fits history
+IsTooLarge s all = (history : History) × IsClosed meaning s all history × ¬ Fits history
 
 -- this is the number of the move after all that these agents have seen, and the storage's row has a cell for it
 abbrev pub IsUnseen : StorageView Standard → List (AgentAt Standard) → ℕ → Type 0

@@ -22,6 +22,7 @@ pub mod Audits
 pub mod NumbersAhead
 pub mod Looks
 pub mod ReadAndFire
+pub mod FireOver
 pub mod MadeAgents
 pub mod StepCalls
 pub mod StepPush

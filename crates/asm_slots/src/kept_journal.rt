@@ -7,9 +7,9 @@ ghost use Rattle.asm_slots.specs.AgentCalls.{IsNoCapacity};
 ghost use Rattle.asm_slots.specs.NextStore.{HasOpened};
 
 use asm_aggregate::{Standard, standard};
-use asm_journal::laws::reads_back;
-use asm_journal::{replay_over, to_text};
-use asm_storage::{History, Storage, StorageError};
+use asm_journal::laws::text_reads_back;
+use asm_journal::{closing_text, replay_closing};
+use asm_storage::{Closing, Storage, StorageError};
 use asm_update::PlainState;
 use std::alloc::{AllocError, Global};
 use std::marker::Model;
@@ -35,16 +35,15 @@ impl Model for KeptJournal {
 }
 
 impl KeptJournal {
-    /// The journal of a history, which moves in.
-    pub(crate) fn of(alloc: Global, history: History) -> Result<KeptJournal, AllocError>
-        requires { Fits history }
-        ensures { IfOk result (λ journal. journal ≡ text_of history) }
+    /// The journal of the history of agents, of which no more than one event is made at a time.
+    pub(crate) fn of(alloc: Global, closing: &Closing<'_>) -> Result<KeptJournal, AllocError>
+        requires { Fits closing.now }
+        ensures { IfOk result (λ journal. journal ≡ text_of closing.now) }
     {
         // The invariant needs that the text reads as the history.
-        reads_back(&history);
-        let text = to_text(alloc, &history)?;
-        let History { init, events, .. } = history;
-        let left = replay_over(alloc, &standard(), init, events.as_slice())?;
+        text_reads_back();
+        let text = closing_text(alloc, closing)?;
+        let left = replay_closing(alloc, &standard(), closing)?;
         let left = Arc::new(alloc, left)?;
         Ok(KeptJournal { text, left })
     }

@@ -2,7 +2,8 @@
 #![tactic(auto, unfolding(asm_aggregate::specs::Standard::standard_meaning))]
 
 ghost use Rattle.std.specs.Prelude.{◌≡◌, ◌↔◌, ◌<◌, ◌≤◌, ◌+◌, ℕ, length, option_map, string_bytes};
-ghost use Rattle.std.specs.Prelude.{Ok, Err, IfOk, OnOk, OnErr, IfErr, IsErrOf};
+ghost use Rattle.std.specs.Prelude.{Ok, Err, IfOk, OnOk, OnErr, IfErr, IsErrOf, nat_lt};
+ghost use Rattle.std.specs.List.{list_any};
 ghost use Rattle.std_alloc.specs.Arc.{arc_value};
 ghost use Rattle.asm_storage.specs.Limits.{agents_limit, offers_limit, reads_limit};
 ghost use Rattle.asm_storage.specs.declared.call.Reply.TheVariants.{Fired};
@@ -13,6 +14,7 @@ ghost use Rattle.asm_storage.specs.Storage.{at_start, last_look, machine_of, IsS
 ghost use Rattle.asm_storage.specs.Calls.{HasLookedFor, IsReplied, IsBusy, IsCoherentReply, IsRead};
 ghost use Rattle.asm_storage.specs.Calls.{IsStaleRead, MadeOffers};
 ghost use Rattle.asm_slots.specs.Standard.{meaning};
+ghost use Rattle.asm_slots.specs.FireOver.{is_any_over};
 ghost use Rattle.asm_slots.specs.NumbersAhead.{is_any_above};
 ghost use Rattle.asm_slots.specs.OwnState.{HasLookedOn};
 ghost use Rattle.asm_slots.specs.AgentCalls.{HasLearnt, HasLooked, IsRepliedOver, MissedFew, MissedOne, SeesOn, TellsLast};
@@ -225,6 +227,13 @@ impl OwnedAgent {
         has_above(reads, self.seen())
     }
 
+    /// Whether one of the reads or of the scans has a number above what it has seen.
+    pub(crate) fn is_behind_over(&self, reads: &[Named], scans: &[Scanned]) -> bool
+        ensures { result ≡ is_any_over reads.now scans.now (length self.now.account.seen) }
+    {
+        self.is_behind(reads) || has_later(scans, self.seen())
+    }
+
     /// How many of its offers won.
     pub fn won(&self) -> u32
         ensures { result ≡ self.now.account.won }
@@ -281,6 +290,13 @@ fn has_above(reads: &[Named], seen: u32) -> bool
     ensures { result ≡ is_any_above reads.now seen }
 {
     reads.iter().any(|read| seen < read.number)
+}
+
+// Whether one of the scans has a number above this one.
+fn has_later(scans: &[Scanned], seen: u32) -> bool
+    ensures { result ≡ list_any (λ s. nat_lt seen s.number) scans.now }
+{
+    scans.iter().any(|scan| seen < scan.number)
 }
 
 fn last_answer(alloc: Global, agent: &Agent<'_, Standard>) -> Result<Option<String>, AllocError>

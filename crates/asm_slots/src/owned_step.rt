@@ -152,16 +152,6 @@ fn named_at(alloc: Global, locations: Vec<Location>, number: u32) -> Result<Vec<
     Ok(reads)
 }
 
-// The reads as a list that a receipt shares. An empty one takes no memory.
-fn shared_list(alloc: Global, reads: Vec<Named>) -> Result<Items<Named>, AllocError>
-    ensures { IfOk result (λ list. list ≡ reads.items) }
-{
-    if reads.is_empty() {
-        return Ok(Items::new(reads));
-    }
-    Items::shared(alloc, reads)
-}
-
 impl OwnedStep {
     /// A step at this number of moves, of no moves; it takes no memory.
     pub(crate) fn at(alloc: Global, number: u32) -> OwnedStep
@@ -198,6 +188,6 @@ impl OwnedStep {
     {
         let resting = self.step.resting_locations(alloc)?;
         let locations = each_of(alloc, &self.got, resting)?;
-        shared_list(alloc, named_at(alloc, locations, self.number)?)
+        Items::shared(alloc, named_at(alloc, locations, self.number)?)
     }
 }

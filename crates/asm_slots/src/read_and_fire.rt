@@ -133,7 +133,11 @@ pub fn fire_in(alloc: Global, agent: &mut OwnedAgent, call: &[u8]) -> (i32, Numb
     if agent.is_behind(fire.reads.as_slice()) {
         return (RANGE, Numbers::none());
     }
-    match agent.fire(alloc, &fire.reads, &fire.instrs) {
+    // So the receipt shares them, where it would copy them.
+    let Ok(reads) = fire.reads.share(alloc) else {
+        return (MEMORY, Numbers::none());
+    };
+    match agent.fire(alloc, &reads, &fire.instrs) {
         Ok(reply) => {
             let (code, fired) = code_of_reply(reply);
             (

@@ -17,7 +17,7 @@ ghost use Rattle.asm_slots.specs.CloseFaults.{IsUnclosed, IsUnwritten};
 use crate::kept_journal::KeptJournal;
 use crate::store::Store;
 use asm_aggregate::Standard;
-use asm_storage::{Agent, AgentPart, CloseError, History, Storage};
+use asm_storage::{Agent, AgentPart, CloseError, Closing, Storage};
 use std::alloc::{AllocError, Global};
 
 // The agents of which these are the parts, in room that was made for them.
@@ -90,18 +90,18 @@ fn written(
     alloc: Global,
     storage: &Storage<Standard>,
     agents: &[Agent<'_, Standard>],
-    history: History,
+    closing: &Closing<'_>,
 ) -> Result<KeptJournal, Unclosed>
-    ensures ok { IfOk result (λ journal. Fits history × (journal ≡ text_of history)) }
-    ensures err { IfErr result (IsUnwritten storage.now agents.now history) }
+    ensures ok { IfOk result (λ journal. Fits closing.now × (journal ≡ text_of closing.now)) }
+    ensures err { IfErr result (IsUnwritten storage.now agents.now closing.now) }
 {
     if let Some(number) = unseen_move(storage, agents) {
         return Err(Unclosed::Missing(number));
     }
-    if !history.fits() {
+    if !closing.fits() {
         return Err(Unclosed::Large);
     }
-    match KeptJournal::of(alloc, history) {
+    match KeptJournal::of(alloc, closing) {
         Ok(journal) => Ok(journal),
         Err(AllocError) => Err(Unclosed::Memory),
     }
@@ -118,8 +118,8 @@ fn journal_of(
     ensures ok { IfOk result (IsJournalOf storage.now agents.now) }
     ensures err { IfErr result (IsUnclosed storage.now agents.now) }
 {
-    match storage.close(alloc, agents) {
-        Ok(history) => match written(alloc, storage, agents, history) {
+    match storage.closing(alloc, agents) {
+        Ok(closing) => match written(alloc, storage, agents, &closing) {
             Ok(journal) => Ok(journal),
             Err(error) => Err(error),
         },

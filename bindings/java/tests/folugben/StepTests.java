@@ -4,6 +4,7 @@ import static folugben.Checks.equal;
 import static folugben.Checks.refused;
 import static folugben.Checks.refusedAt;
 
+import java.util.Collections;
 import java.util.List;
 
 /** Tests of looks, steps, moves without an agent, and runs that go on. */
@@ -54,6 +55,36 @@ final class StepTests {
             refused(FolugbenException.EMPTY, agent::state);
             refused(FolugbenException.EMPTY, agent::step);
             refused(FolugbenException.EMPTY, () -> agent.scan("x"));
+        }
+    }
+
+    static void scans() {
+        try (Storage storage = new Storage(INIT, 8); Agent agent = storage.agent(0);
+                Agent rival = storage.agent(1)) {
+            int number = agent.scan("y").number();
+            List<Scanned> scans = List.of(new Scanned("z", 0), new Scanned("y", number));
+            Instruction move = Instruction.inc(Location.of("x"), 1);
+            equal(agent.fire(List.of(move), List.of(), scans), 1);
+            // A location that had no value makes it stale.
+            rival.fire("[[\"put\",[\"y\",2],1]]", "[]");
+            List<Named> reads = List.of(new Named(Location.of("s"), 0));
+            Agent.Reply stale = agent.tryFire(List.of(move), reads, scans);
+            equal(stale.isStale(), true);
+            equal(stale.at(), Location.of("y", 2));
+            equal(agent.scan("y").number(), 2);
+            equal(agent.fire(inc("x", 1), "[]", "[[\"y\",2],[\"z\",0]]"), 3);
+            refusedAt(FolugbenException.RANGE, 0, 
+                    ": scan 2: y is named at 4, and the agent has seen 3",
+                    () -> agent.tryFire("[]", "[]", "[[\"x\",0],[\"y\",4]]"));
+            refusedAt(FolugbenException.SHAPE, 0,
+                    ": a scan is an array of a function's name and a number, from 0 to 4,294,967,295",
+                    () -> agent.tryFire("[]", "[]", "[[\"y\"]]"));
+            refusedAt(FolugbenException.SHAPE, 0,
+                    ": read 1: a read is an array of a location and a number",
+                    () -> agent.tryFire("[]", "[[7]]", "[[\"y\"]]"));
+            refused(FolugbenException.NOT_JSON, () -> agent.tryFire("[]", "[]", "[nul]"));
+            refused(FolugbenException.MANY,
+                    () -> agent.fire(List.of(), List.of(), Collections.nCopies(257, scans.get(0))));
         }
     }
 
@@ -374,6 +405,8 @@ final class StepTests {
     static void all() throws InterruptedException {
         looks();
         System.out.println("looks");
+        scans();
+        System.out.println("scans");
         steps();
         System.out.println("steps");
         refusals();

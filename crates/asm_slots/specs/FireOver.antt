@@ -1,0 +1,106 @@
+-- What a fire does that rests on whole functions too.
+use Rattle.std.specs.Prelude.{◌≡◌, ◌≢◌, ◌≤◌, ◌<◌, ◌+◌, ◌-◌, ◌||◌, nat_lt, ℕ, ℤ, List, [], ◌∷◌, length, All, Option, Ok}
+use Rattle.std.specs.Prelude.{Bool, true, false, IsTrue, string_bytes}
+use Rattle.std.specs.List.{list_any}
+use Rattle.serde_json.specs.Data.{Data, string}
+use Rattle.asm_element.specs.Place.{Place}
+use Rattle.asm_update.specs.Move.{Move}
+use Rattle.asm_update.specs.State.{val}
+use Rattle.asm_state.specs.Scans.{has_name}
+use Rattle.asm_state.specs.declared.named.Named.{Named}
+use Rattle.asm_state.specs.declared.scanned.Scanned.{Scanned}
+use Rattle.asm_storage.specs.Calls.{MadeOffers}
+use Rattle.asm_storage.specs.Limits.{offers_limit, reads_limit}
+use Rattle.asm_storage.specs.Storage.{AgentAt, IsSameAgent}
+use Rattle.asm_storage.specs.declared.call.Reply.{Reply}
+use Rattle.asm_storage.specs.declared.call.Reply.TheVariants.{Fired}
+use Rattle.asm_journal.specs.Shape.{pair_of, IsListForm, IsNumberForm}
+use Rattle.asm_explain.specs.Bytes.{IsFireForm, ReadAs, ReadAsFire}
+use Rattle.asm_slots.specs.AgentCalls.{HasLooked, IsRepliedOver, IsReplyCode, MayHaveOffered}
+use Rattle.asm_slots.specs.AgentCalls.{MissedFew, MissedOne, SeesOn, WasBusy, code_of, number_of}
+use Rattle.asm_slots.specs.Bytes.{AreMisread}
+use Rattle.asm_slots.specs.Codes.{IsOneOf, ASM_DONE, ASM_STALE, ASM_CLASH, ASM_MEMORY, ASM_FULL}
+use Rattle.asm_slots.specs.Codes.{ASM_EMPTY, ASM_RANGE, ASM_BUSY, ASM_MANY, ASM_NOT_JSON, ASM_SHAPE}
+use Rattle.asm_slots.specs.NumbersAhead.{is_any_above}
+use Rattle.asm_slots.specs.OwnState.{state_at}
+use Rattle.asm_slots.specs.Slots.{Goes, Holds, HoldsNoAgent}
+use Rattle.asm_slots.specs.Standard.{Standard}
+use Rattle.asm_slots.specs.declared.content.Content.{Content}
+use Rattle.asm_slots.specs.declared.read_and_fire.Numbers.{Numbers}
+
+-- a function's name and a number, [NAME,NUMBER]
+abbrev pub IsScanForm : Scanned → Data → Type 0
+IsScanForm s d =
+    (name number : Data) × (d ≡ pair_of name number) × (name ≡ string (string_bytes s.name)) × IsNumberForm s.number number
+
+-- scans, [[NAME,NUMBER], ..]
+abbrev pub AreScans : List Scanned → Data → Type 0
+AreScans = IsListForm IsScanForm
+
+-- the bytes are JSON of these scans, [[NAME,NUMBER], ..]
+abbrev pub ReadAsScans : List ℕ → List Scanned → Type 0
+ReadAsScans bytes scans = ReadAs AreScans bytes scans
+
+-- the first bytes are JSON of a move with these named reads, and the second ones of these scans
+abbrev pub ReadAsFireOver : List ℕ → List ℕ → List Named → List Scanned → Move → Type 0
+ReadAsFireOver call scans reads over M = ReadAsFire call reads M × ReadAsScans scans over
+
+-- whether one of the reads or of the scans has a number above this one
+abbrev pub is_any_over : List Named → List Scanned → ℕ → Bool
+is_any_over reads over seen = is_any_above reads seen || list_any (λ s. nat_lt seen s.number) over
+
+-- they are JSON of a move and of scans, and a named read or a scan has a number above what the agent has seen
+abbrev pub FiresOverAhead : List ℕ → List ℕ → AgentAt Standard → Type 0
+FiresOverAhead call scans a =
+    (reads : List Named) × (over : List Scanned) × (M : Move) × ReadAsFireOver call scans reads over M
+    × (is_any_over reads over (length a.account.seen) ≡ true)
+
+-- they are JSON of a move and of scans, and no named read and no scan has such a number
+abbrev pub FiresOverWithin : List ℕ → List ℕ → AgentAt Standard → Type 0
+FiresOverWithin call scans a =
+    (reads : List Named) × (over : List Scanned) × (M : Move) × ReadAsFireOver call scans reads over M
+    × (is_any_over reads over (length a.account.seen) ≡ false)
+
+-- they are JSON of a move and of scans, with more than 256 named reads and scans together
+abbrev pub ReadAsManyOver : List ℕ → List ℕ → Type 0
+ReadAsManyOver call scans =
+    (reads : List Named) × (over : List Scanned) × (M : Move) × ReadAsFireOver call scans reads over M
+    × (reads_limit < length reads + length over)
+
+-- where the move fired with this number, each function that was scanned is whole before it: each of its locations, whether it
+-- has a value or none, has what it had at the number of the scan
+abbrev pub AreWholeOver : AgentAt Standard → List Scanned → Reply → AgentAt Standard → Type 0
+AreWholeOver a over r new = (k : ℕ) → r ≡ Fired k →
+    All (λ s. (l : Place) → IsTrue (has_name (string_bytes s.name) l) → val (state_at new (k - 1)) l ≡ val (state_at a s.number) l) over
+
+-- they are JSON of a move and of scans, at most 256 named reads and scans together, and the fire was answered over the scans
+-- with a reply of this code and this number, after so many offers and looks as this reply comes after
+abbrev pub HasTriedFireOver : List ℕ → List ℕ → ℤ → ℕ → AgentAt Standard → AgentAt Standard → Type 0
+HasTriedFireOver call scans code number old new =
+    (reads : List Named) × (over : List Scanned) × (M : Move) × (r : Reply) × ReadAsFireOver call scans reads over M
+    × (code_of r ≡ code) × (number_of r ≡ number) × (length reads + length over ≤ reads_limit)
+    × IsRepliedOver old new reads over M r × AreWholeOver old over r new × ((n : ℕ) × MadeOffers old new (Ok r) n)
+
+-- the fire of these bytes is answered over the scans of those, which code and numbers tell; or the code tells why not. A number
+-- that is yet to come is told before the agent looks, and before more than 256 named reads and scans are
+pub record FiresOver (call scans : List ℕ) (agent after : Option Content) (numbers : Numbers) (code : ℤ) : Type 0 where
+  pub codes : IsOneOf (ASM_DONE ∷ ASM_STALE ∷ ASM_CLASH ∷ ASM_MEMORY ∷ ASM_FULL ∷ ASM_EMPTY
+      ∷ ASM_RANGE ∷ ASM_BUSY ∷ ASM_MANY ∷ ASM_NOT_JSON ∷ ASM_SHAPE ∷ []) code
+  pub answered : IsReplyCode code → Goes agent after (HasTriedFireOver call scans code numbers.fired)
+  pub unfired : code ≢ ASM_DONE → numbers.fired ≡ 0
+  pub not_busy : code ≢ ASM_BUSY → (numbers.from ≡ 0) × (numbers.to ≡ 0)
+  pub few : code ≢ ASM_EMPTY → Goes agent after MissedFew
+  pub missed : code ≡ ASM_DONE → Goes agent after MissedOne
+  pub lost : code ≡ ASM_BUSY → numbers.from + offers_limit ≤ numbers.to
+  pub memory : code ≡ ASM_MEMORY → Goes agent after MayHaveOffered
+  pub range : code ≡ ASM_RANGE → Holds agent (FiresOverAhead call scans)
+  pub within : IsOneOf (ASM_DONE ∷ ASM_STALE ∷ ASM_CLASH ∷ ASM_FULL ∷ ASM_BUSY ∷ ASM_MANY ∷ []) code →
+      Holds agent (FiresOverWithin call scans)
+  pub many : code ≡ ASM_MANY → ReadAsManyOver call scans
+  pub misread : IsOneOf (ASM_NOT_JSON ∷ ASM_SHAPE ∷ []) code → AreMisread IsFireForm AreScans call scans code
+  pub refused : IsOneOf (ASM_MEMORY ∷ ASM_BUSY ∷ ASM_MANY ∷ ASM_NOT_JSON ∷ ASM_SHAPE ∷ []) code → Goes agent after HasLooked
+  pub busy : code ≡ ASM_BUSY → Goes agent after (WasBusy numbers.from numbers.to)
+  pub same : code ≢ ASM_EMPTY → Goes agent after IsSameAgent
+  pub seen : code ≢ ASM_EMPTY → Goes agent after SeesOn
+  pub empty : code ≡ ASM_EMPTY → HoldsNoAgent agent
+  pub kept : IsOneOf (ASM_EMPTY ∷ ASM_RANGE ∷ ASM_MANY ∷ ASM_NOT_JSON ∷ ASM_SHAPE ∷ []) code → after ≡ agent
