@@ -5,17 +5,17 @@ import { conditionText } from "./watch.js";
 
 const REST = 200, TOGETHER = 100; // milliseconds
 // What the address tells, by its names there.
-export function addressed() {
-  const told = new URLSearchParams(location.hash.slice(1)), number = name => told.has(name) ? Number.parseInt(told.get(name), 10) : NaN;
+export function addressed(run) {
+  const told = new URLSearchParams(location.hash.slice(1)), number = name => told.has(name) ? Number.parseInt(told.get(name), 10) - run.from : NaN;
   return {
     count: number("event") + 1 || 0, mark: Number.isNaN(number("from")) ? null : number("from") + 1, at: told.get("at"), condition: told.get("if") ?? "",
     filter: { kind: told.get("kind") ?? "all", agent: told.get("agent") ?? "all", place: told.get("of"), cause: told.get("cause"), text: told.get("find") ?? "" },
   };
 }
 function told() {
-  const out = [`event=${shown.count - 1}`], put = (name, value, usual = "") => value && value !== usual && out.push(`${name}=${encodeURIComponent(value)}`);
+  const out = [`event=${shown.run.from + shown.count - 1}`], put = (name, value, usual = "") => value && value !== usual && out.push(`${name}=${encodeURIComponent(value)}`);
   put("at", shown.location?.key);
-  if (shown.mark !== null) put("from", String(shown.mark - 1));
+  if (shown.mark !== null) put("from", String(shown.run.from + shown.mark - 1));
   put("kind", filter.kind, "all");
   put("agent", filter.agent, "all");
   put("of", filter.place);
@@ -59,6 +59,6 @@ export function onAddress(follow) {
     clearTimeout(due);
     due = 0;
     standing = location.hash;
-    follow(addressed());
+    follow(addressed(shown.run));
   });
 }

@@ -68,7 +68,7 @@ export function madeStale(event) {
 
 // The locations that a fired move rests on, and into which nothing was put up to the number that it names.
 export function unputIn(event) {
-  if (event.kind !== "fired" || !event.named.length) return [];
+  if (shown.run.from || event.kind !== "fired" || !event.named.length) return []; // what was put before a window isn't told
   const isUnput = ({ location, number }) => !location.isPutIn(shown.run.eventsTo(Math.min(number, event.before)));
   return [...new Set(event.named.filter(isUnput).map(it => it.location))];
 }

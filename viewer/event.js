@@ -14,7 +14,7 @@ export function eventNode(event) {
   const answer = event.isWrong ? event.right : event.reply;
   const tag = event.kind === "fired" ? `move ${event.move}` : event.kind;
   return make("div", { class: "detail" },
-    make("h2", { class: "title" }, glyph(event.kind), `Event ${event.number}`, span(`tag ${event.kind}`, tag),
+    make("h2", { class: "title" }, glyph(event.kind), `Event ${event.ordinal}`, span(`tag ${event.kind}`, tag),
       make("small", {}, `agent ${event.agent}, ${event.before ? afterMoves(event.before) : "before any move"}`)),
     event.isWrong ? wrongNote(event) : null,
     whyNote(event, answer),
@@ -33,7 +33,7 @@ function table(heads, rows) {
     printedLeft(rows.length),
   ];
 }
-export const eventLink = (event, ...text) => button("link", `Go to event ${event.number}`, () => act.choose(event.number + 1), ...text.length ? text : [`event ${event.number}`]);
+export const eventLink = (event, ...text) => button("link", `Go to event ${event.ordinal}`, () => act.choose(event.number + 1), ...text.length ? text : [`event ${event.ordinal}`]);
 
 // Why a move isn't fired, by the right answer to it.
 function whyNote(event, answer) {
@@ -47,7 +47,7 @@ const note = (kind, ...children) => make("div", { class: `note ${kind}` }, ...ch
 // What the fire names at that number: a read of the agent's own, or what no read of the run tells.
 function seenNodes(event, named) {
   const read = ownRead(ownReads(event), named);
-  return read ? [" was read ", afterMoves(named.number), ", in ", eventLink(read), "."] : [` is named as it stood ${afterMoves(named.number)}; the run has no read of it by agent ${event.agent}.`];
+  return read ? [" was read ", afterMoves(named.number), ", in ", eventLink(read), "."] : [` is named as it stood ${afterMoves(named.number)}; the ${shown.run.part === null ? "run" : "window"} has no read of it by agent ${event.agent}.`];
 }
 function whyStale(event, location) {
   const named = event.named.filter(it => it.location === location).sort((a, b) => a.number - b.number)[0], write = staledBy(event);
@@ -100,14 +100,14 @@ function grounds(event) {
   const { run } = shown, reads = ownReads(event);
   if (!event.named.length) return block("What it rests on", make("p", { class: "soft" }, "Nothing: the move names no read."));
   return block("What it rests on", table(["Location", "As of", "Value then", "Since then"], event.named.map(it => {
-    const { location, number } = it, since = run.writesSince(location, number, event), isThere = number <= event.before, read = ownRead(reads, it);
+    const { location, number } = it, since = run.writesSince(location, number, event), isThere = number <= event.before && run.isTold(number), read = ownRead(reads, it);
     const isUnput = isThere && !location.isPutIn(run.eventsTo(number));
     return [
       locationNode(location),
-      [number && isThere ? button("link", `Go to move ${number}`, () => act.choose(run.eventsTo(number)), `move ${number}`) : number ? `move ${number}, which is still to come` : "opening state",
+      [number && isThere ? button("link", `Go to move ${number}`, () => act.choose(run.eventsTo(number)), `move ${number}`) : number ? `move ${number}, ${number <= event.before ? "before the window" : "which is still to come"}` : "opening state",
         make("div", { class: "faint" }, ...read ? ["read in ", eventLink(read)] : ["not read"])],
       isUnput ? span("unput", "nothing yet put") : isThere ? valueNode(run.valueAt(location, run.eventsTo(number)), 8) : "unknown",
-      since ? span("since", moveLink(since.first), " wrote it") : "not written",
+      since ? span("since", moveLink(since.first), " wrote it") : run.isTold(number) ? "not written" : "unknown",
     ];
   })));
 }
@@ -132,5 +132,5 @@ export function eventText(event) {
     clash: () => answerText(event.reply),
     full: () => "found the storage full",
   }[event.kind]();
-  return `Event ${event.number}, agent ${event.agent}: ${what}${event.isWrong ? ". The answer is wrong" : ""}`;
+  return `Event ${event.ordinal}, agent ${event.agent}: ${what}${event.isWrong ? ". The answer is wrong" : ""}`;
 }

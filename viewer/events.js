@@ -19,17 +19,17 @@ function whatNodes(event) {
 function staleNodes(event, location) {
   const { run } = shown;
   if (run.lastWrite(location, event.number)?.items) return [" ", span("name", location.label)];
-  const numbers = event.named.filter(it => it.location === location && it.number <= event.before).map(it => it.number);
+  const numbers = event.named.filter(it => it.location === location && it.number <= event.before && run.isTold(it.number)).map(it => it.number);
   const values = numbers.length ? [run.valueAt(location, run.eventsTo(Math.min(...numbers))), run.valueAt(location, event.number)] : [];
   return [" ", span("name", location.label), values.length && keyOf(values[0]) !== keyOf(values[1]) ? ` ${values.map(shortText).join(" → ")}` : ""];
 }
-const labelOf = (event, what) => `Event ${event.number}, agent ${event.agent}: ${what}${event.isWrong ? ". The answer is wrong" : ""}`;
+const labelOf = (event, what) => `Event ${event.ordinal}, agent ${event.agent}: ${what}${event.isWrong ? ". The answer is wrong" : ""}`;
 function eventRow(i) {
   const event = shown.run.events[listItem(i)], isChosen = event.number === shown.count - 1, what = span("what", whatNodes(event));
   what.title = what.textContent;
   const told = { role: "option", "aria-selected": String(isChosen), "aria-posinset": i + 1, "aria-setsize": listLength(), "aria-label": labelOf(event, what.textContent) };
   return make("div", { class: "row event", id: `event-${event.number}`, ...told, onclick: () => act.choose(event.number + 1, { isPressed: true }) },
-    span("number", String(event.number)), glyph(event.kind, event.isWrong), span("agent", `a${event.agent}`), what, event.isWrong ? span("tag wrong", "wrong") : null);
+    span("number", String(event.ordinal)), glyph(event.kind, event.isWrong), span("agent", `a${event.agent}`), what, event.isWrong ? span("tag wrong", "wrong") : null);
 }
 export const events = new List($("events"), ROW, {
   count: listLength,
@@ -113,6 +113,6 @@ export function renewEvents() {
   forgetTexts();
   $("events-find").value = "";
   $("events-agent").replaceChildren(make("option", { value: "all" }, "All agents"), ...run.byAgent.map((_, i) => make("option", { value: i }, `Agent ${i}`)));
-  $("events").style.setProperty("--digits", `${String(Math.max(0, run.events.length - 1)).length}ch`);
+  $("events").style.setProperty("--digits", `${String(Math.max(0, run.from + run.events.length - 1)).length}ch`);
   events.clear();
 }

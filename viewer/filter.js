@@ -72,7 +72,7 @@ function isAbout(event, place) {
 }
 // All that is asked, answered and changed, in small letters; of one location its values alone.
 function searchText(event, place) {
-  const parts = place ? [] : [event.kind, `agent ${event.agent}`, `event ${event.number}`], isOf = it => !place || it === place;
+  const parts = place ? [] : [event.kind, `agent ${event.agent}`, `event ${event.ordinal}`], isOf = it => !place || it === place;
   const tell = (location, ...values) => isOf(location) && parts.push(...place ? [] : [location.label], ...values);
   if (!place && event.move) parts.push(`move ${event.move}`);
   if (!place && event.isWrong) parts.push("wrong");

@@ -87,7 +87,7 @@ function drawAxis(pen, from, to, wide) {
   for (let number = Math.ceil(from / each) * each; number < to; number += each) {
     if (xOf(number) < GUTTER) continue;
     pen.fillRect(xOf(number) - 0.5, top + AXIS - 6, 1, 4);
-    pen.fillText(grouped(number), xOf(number), top + 9);
+    pen.fillText(grouped(shown.run.from + number), xOf(number), top + 9);
   }
   pen.fillStyle = colors.place;
   for (let i = location ? firstFrom(location.times, from) : 0; location?.times[i] < to; i++) {

@@ -3,7 +3,7 @@ import { addressed, beforeChange, changed, onAddress } from "./address.js";
 import { eventNode, eventText } from "./event.js";
 import { events, relist, renewEvents, showEvents, showHere } from "./events.js";
 import { draw, renewLanes, resized } from "./lanes.js";
-import { $, make, span } from "./nodes.js";
+import { $, beginningText, make, span } from "./nodes.js";
 import { openTrace } from "./opening.js";
 import { fitLanes } from "./room.js";
 import { act, chosen, shown } from "./shown.js";
@@ -82,7 +82,7 @@ act.show = () => {
   });
 };
 function showNow() {
-  const { run, count } = shown, event = chosen(), text = event ? eventText(event) : "Opening state";
+  const { run, count } = shown, event = chosen(), text = event ? eventText(event) : beginningText();
   $("slider").value = count;
   $("slider").setAttribute("aria-valuetext", text);
   if (document.activeElement !== $("move")) $("move").value = run.movesIn(count);
@@ -117,7 +117,7 @@ act.speak = text => {
 // ---- another run
 let isFirst = true;
 act.showRun = (run, name) => {
-  const start = isFirst ? addressed() : { count: 0, mark: null, at: null, condition: "", filter: {} };
+  const start = isFirst ? addressed(run) : { count: 0, mark: null, at: null, condition: "", filter: {} };
   isFirst = false;
   Object.assign(shown, { run, count: 0, location: null, mark: null, holds: [] });
   $("busy").hidden = $("start").hidden = true;
@@ -126,7 +126,7 @@ act.showRun = (run, name) => {
   document.title = `${name} – Folugben`;
   $("warning").hidden = run.events.length === run.told;
   $("warning").textContent = `This trace is cut off: it has ${plural(run.events.length, "event")} of ${grouped(run.told)}. What is there is shown.`;
-  $("of").textContent = `of ${grouped(run.moves.length)}`;
+  $("of").textContent = `of ${grouped(run.movesIn(run.events.length))}`;
   $("slider").max = run.events.length;
   showFacts();
   $("help-marks").replaceChildren(marksNode());
@@ -151,8 +151,9 @@ onAddress(goTo);
 function showFacts() {
   const { run } = shown, fact = (number, one, many) => span("fact", make("b", {}, grouped(number)), ` ${number === 1 ? one : many ?? `${one}s`}`);
   const legal = !run.wrong.length ? span("fact legal", run.events.length === run.told ? "legal" : "legal so far")
-    : make("button", { class: "fact illegal", type: "button", title: "Go to the first wrong answer", onclick: () => act.choose(run.wrong[0] + 1) }, `not legal: ${plural(run.wrong.length, "wrong answer")}, the first at event ${run.wrong[0]}`);
-  $("facts").replaceChildren(fact(run.agents, "agent"), fact(run.events.length, "event"), fact(run.moves.length, "move"), fact(run.sorted.length, "location"), legal);
+    : make("button", { class: "fact illegal", type: "button", title: "Go to the first wrong answer", onclick: () => act.choose(run.wrong[0] + 1) }, `not legal: ${plural(run.wrong.length, "wrong answer")}, the first at event ${run.events[run.wrong[0]].ordinal}`);
+  const place = run.part === null ? "" : span("fact", `part ${grouped(run.part)} from event ${grouped(run.from)} on`);
+  $("facts").replaceChildren(place, fact(run.agents, "agent"), fact(run.events.length, "event"), fact(run.moves.length, "move"), fact(run.sorted.length, "location"), legal);
 }
 
 new ResizeObserver(() => {

@@ -1,6 +1,6 @@
 // Nodes of the page for values, locations and changes. Whatever a trace holds is put in as text, never as markup.
 import { itemsOf } from "./run.js";
-import { act } from "./shown.js";
+import { act, shown } from "./shown.js";
 import { afterMoves, byElement, cut, elementText, grouped, isBag, isNumber, isSet, keyOf, locationText, plural, sharedLength, shortText } from "./terms.js";
 
 export const $ = id => document.getElementById(id);
@@ -140,9 +140,12 @@ export function changeText(write) {
   return [...told(added, "added"), ...told(removed, "removed"), ...recounted, size].join(", ");
 }
 
+// What stands before the first event: the opening state of a part, or what the events before a window leave.
+export const beginningText = () => shown.run.from ? `Before event ${grouped(shown.run.from)}` : "Opening state";
+
 // The way to a move.
 export const moveLink = write => button("link", `Go to move ${write.move}`, () => act.choose(write.event + 1), `move ${write.move}`);
-export const writerNodes = write => write ? [moveLink(write), ` by agent ${write.agent}`] : ["opening state"];
+export const writerNodes = write => write ? [moveLink(write), ` by agent ${write.agent}`] : [beginningText().toLowerCase()];
 
 export function answerText(answer) {
   if (answer === "full") return "full";

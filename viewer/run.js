@@ -133,7 +133,10 @@ class Place {
 export class Run {
   constructor(header) {
     checkHeader(header);
-    Object.assign(this, { agents: header.agents, capacity: header.capacity, told: header.events });
+    const { agents, capacity, events, part = null, from = 0, moves = 0 } = header;
+    // Of a window of a part, `from` events with `moves` moves stand before it, of which nothing is told; its events are counted from
+    // 0 here, and told with the numbers that they have in the part, as its moves are.
+    Object.assign(this, { agents, capacity, told: events, part, from, movesBefore: moves });
     this.events = [];
     this.locations = new Map();
     this.moves = []; // the events of the fired moves
@@ -151,10 +154,10 @@ export class Run {
   }
   add(line) {
     const number = this.events.length;
-    checkEvent(line, number, this.agents);
+    checkEvent(line, this.from + number, this.agents);
     if (number === this.told) throw new Fault(`the header tells of ${number} events, and this is one more`);
     const { agent, call, reply, right } = line;
-    const event = { number, agent, kind: kindOf(reply), reply, right, isWrong: "right" in line, before: this.moves.length };
+    const event = { number, ordinal: line.event, agent, kind: kindOf(reply), reply, right, isWrong: "right" in line, before: this.movesBefore + this.moves.length };
     if ("read" in call) event.read = call.read.map(at => this.location(at));
     else {
       event.fire = call.fire;
@@ -170,7 +173,7 @@ export class Run {
   }
   fire(event, updates) {
     this.moves.push(event.number);
-    event.move = this.moves.length;
+    event.move = this.movesBefore + this.moves.length;
     event.writes = updates.map(([at, ...told]) => {
       const location = this.location(at), write = { event: event.number, move: event.move, agent: event.agent, location, index: location.writes.length };
       if (!location.take(write, told)) throw new Fault(`its change at ${location.label} isn't one of the value that stands there`);
@@ -190,13 +193,18 @@ export class Run {
     }
     return this;
   }
-  // How many moves the first events fire, so many of them.
+  // How many moves were fired behind the first events, so many of them.
   movesIn(count) {
-    return firstFrom(this.moves, count);
+    return this.movesBefore + firstFrom(this.moves, count);
   }
   // How many events there are up to that move, it among them.
   eventsTo(move) {
-    return move <= 0 ? 0 : move > this.moves.length ? this.events.length : this.moves[move - 1] + 1;
+    const index = move - this.movesBefore;
+    return index <= 0 ? 0 : index > this.moves.length ? this.events.length : this.moves[index - 1] + 1;
+  }
+  // Whether the state after so many moves is told: not that before a window.
+  isTold(moves) {
+    return moves >= this.movesBefore;
   }
   lastWrite(location, count) {
     return location.writes[location.indexBefore(count)] ?? null;
@@ -208,8 +216,9 @@ export class Run {
     const write = this.lastWrite(location, count);
     return (write ? write.items ? 0 : write.value : location.opening) === null;
   }
-  // The writes of the location by moves above that number, before the event.
+  // The writes of the location by moves above that number, before the event. Nothing is known of those before a window.
   writesSince(location, number, event) {
+    if (!this.isTold(number)) return null;
     const from = firstFrom(location.writes, number + 1, it => it.move), to = firstFrom(location.times, event.number);
     return from < to ? { first: location.writes[from], count: to - from } : null;
   }

@@ -21,13 +21,20 @@ export function checkHeader(header) {
   need(!("version" in header), "This is a journal, not its trace. ./view < JOURNAL shows it, and ./asm_driver trace < JOURNAL makes the trace.");
   need(!(Array.isArray(header.agents) && "init" in header), "This is a script, not the trace of its run. ./asm_driver run --journal < SCRIPT plays it, and ./view shows the journal.");
   need("trace" in header, "This is no trace: its first line is no header.");
-  need(header.trace === 1, "This page reads traces of version 1, and this is one of another version.");
-  members(header, ["agents", "capacity", "events", "init", "trace"], "the header");
+  need(header.trace === 1 || header.trace === 2, "This page reads traces of the versions 1 and 2, and this is one of another version.");
+  members(header, ["agents", "capacity", "events", "init", "trace", ...header.trace === 2 ? ["from", "moves", "part"] : []], "the header");
   need(isWithin(header.agents, 0, MOST.agents), "`agents` isn't a whole number from 0 to 256");
   need(isWithin(header.capacity, 1, MOST.capacity), "`capacity` isn't a whole number from 1 to 1,048,576");
   need(isWithin(header.events, 0, MOST.number), "`events` isn't a whole number from 0 to 4,294,967,295");
   listOf(header.init, Infinity, checkPair, "`init`");
   ascending(header.init.map(it => it[0]), byLocation, "the locations of `init`");
+  if (header.trace === 2) checkWindow(header);
+}
+// The numbers of a window of a part: which part it is, how many of its events stand before, and how many moves these fired.
+function checkWindow({ from, moves, part, events }) {
+  need(isWithin(part, 0, MOST.number), "`part` isn't a whole number from 0 to 4,294,967,295");
+  need(isWithin(from, 0, MOST.number - events), "`from` and `events` aren't whole numbers whose sum is at most 4,294,967,295");
+  need(isWithin(moves, 0, from), "`moves` isn't a whole number up to `from`");
 }
 
 export function checkEvent(line, number, agents) {

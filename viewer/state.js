@@ -1,7 +1,7 @@
 // The state after the chosen event, or what differs from it at another moment.
 import { hasAll, wordsOf } from "./filter.js";
 import { List, ROW } from "./lists.js";
-import { $, changeNode, locationNode, make, moveLink, valueNode } from "./nodes.js";
+import { $, beginningText, changeNode, locationNode, make, moveLink, valueNode } from "./nodes.js";
 import { itemsApart } from "./run.js";
 import { act, chosen, shown } from "./shown.js";
 import { grouped, keyOf, valueText } from "./terms.js";
@@ -42,7 +42,7 @@ function differenceAt(location) {
   if (!items) return { location, old, value };
   return { location, items, isBag: "bag" in value, size: (value.set ?? value.bag).length, index: location.indexBefore(to) };
 }
-const momentText = count => count ? `Event ${count - 1}` : "Opening state";
+const momentText = count => count ? `Event ${shown.run.events[count - 1].ordinal}` : beginningText();
 $("state-compare").addEventListener("click", () => act.mark(isComparing() ? null : shown.count));
 
 function stateRow(i) {
@@ -52,7 +52,7 @@ function stateRow(i) {
   return make("div", { class: `row place ${kind}`, id: `place-${i}`, role: "row", "aria-rowindex": i + 2, "aria-selected": String(isChosen), onclick: () => act.chooseLocation(location) },
     make("span", { role: "gridcell", title: location.label }, locationNode(location)),
     make("span", { role: "gridcell", title: valueText(value).slice(0, 600) }, told),
-    make("span", { role: "gridcell", class: "by" }, write ? [moveLink(write), ` a${write.agent}`] : value !== null ? "opening state" : "not yet written"));
+    make("span", { role: "gridcell", class: "by" }, write ? [moveLink(write), ` a${write.agent}`] : value !== null || run.from ? beginningText().toLowerCase() : "not yet written"));
 }
 export const state = new List($("state"), ROW, {
   count: () => rows.length,
@@ -64,7 +64,7 @@ export const state = new List($("state"), ROW, {
 function titleText() {
   const { count, run } = shown, moves = run.movesIn(count);
   if (isComparing()) return `${momentText(ends()[0])} → ${momentText(ends()[1])}`;
-  return !count ? "Opening state" : moves ? `After move ${moves}` : "Before any move";
+  return !count ? beginningText() : moves ? `After move ${moves}` : "Before any move";
 }
 export function showState() {
   const { run, location } = shown;
@@ -103,7 +103,7 @@ $("state").addEventListener("keydown", event => {
 });
 
 export function renewState() {
-  const { run } = shown, writer = `move ${run.moves.length} a${Math.max(0, run.agents - 1)}`;
+  const { run } = shown, writer = `move ${run.movesIn(run.events.length)} a${Math.max(0, run.agents - 1)}`;
   countShown = -1;
   $("state-find").value = "";
   $("state-which").value = "put";

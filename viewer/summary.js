@@ -2,7 +2,7 @@
 import { unputIn } from "./chains.js";
 import { block } from "./event.js";
 import { ofKind } from "./filter.js";
-import { button, glyph, make, span } from "./nodes.js";
+import { beginningText, button, glyph, make, span } from "./nodes.js";
 import { act, shown } from "./shown.js";
 import { grouped, keyOf, locationText } from "./terms.js";
 
@@ -11,14 +11,15 @@ const MOST_LINES = 6;
 export function openingNode() {
   const { run } = shown, hasEvents = run.events.length > 0;
   return make("div", { class: "detail" },
-    make("h2", { class: "title" }, "Opening state"),
+    make("h2", { class: "title" }, beginningText()),
     make("p", { class: "soft" }, hasEvents
       ? ["This is what stood before the first event. Step on with ", make("kbd", {}, "→"), ", play with ", make("kbd", {}, "Space"), ", or press a line to list its events."]
-      : "No call was made in this run, so the opening state is all there is."),
+      : run.part === null ? "No call was made in this run, so the opening state is all there is." : "The window has no event, so this state is all there is."),
     hasEvents ? make("div", { class: "summary" }, shares(), ...blocksOf(run)) : null, facts(), hasEvents ? marksNode() : null);
 }
 function facts() {
-  const { run } = shown, all = [["Agents", run.agents], ["Events", run.events.length], ["Locations", run.sorted.length], ["Capacity, in moves", run.capacity]];
+  const { run } = shown, place = run.part === null ? [] : [["Part", run.part], ["Events before", run.from], ["Moves before", run.movesBefore]];
+  const all = [...place, ["Agents", run.agents], ["Events", run.events.length], ["Locations", run.sorted.length], ["Capacity, in moves", run.capacity]];
   return block("The run", make("dl", { class: "facts" }, all.map(([name, number]) => make("div", {}, make("dt", {}, name), make("dd", {}, grouped(number))))));
 }
 const NAMES = { fired: "Fired moves", read: "Reads", stale: "Stale fires", clash: "Clashes", full: "Full" };

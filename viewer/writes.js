@@ -20,7 +20,7 @@ function writeRow(i) {
   const now = itemIndex(), item = items[i - 1], isNow = i === now, event = i ? shown.run.events[item.event] : null;
   const kind = `row write ${isNow ? "now" : ""} ${i > now ? "later" : ""}`, told = { role: "option", "aria-selected": String(isNow), "aria-posinset": i + 1, "aria-setsize": items.length + 1 };
   return make("div", { class: kind, id: `write-${i}`, ...told, onclick: () => act.choose(i ? item.event + 1 : 0, { isPressed: true }) },
-    span("", !i ? "opening" : item.write ? `move ${item.write.move}` : `event ${event.number}`), span("", i ? `agent ${event.agent}` : ""),
+    span("", !i ? (shown.run.from ? "before" : "opening") : item.write ? `move ${item.write.move}` : `event ${event.ordinal}`), span("", i ? `agent ${event.agent}` : ""),
     span("", !i ? valueNode(shown.location.opening, 8) : item.write ? changeNode(item.write, 5, true) : [glyph(event.kind, event.isWrong), ` ${HOW[item.how]}`]));
 }
 export const writes = new List($("writes"), ROW, {

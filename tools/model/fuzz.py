@@ -42,6 +42,7 @@ KINDS = {
     "journal": 8,
     "history": 12,
     "run": 12,
+    "window": 12,
     "contending": 1,
     "words": 3,
     "large": 1,
@@ -54,6 +55,9 @@ BAD_WORDS = [
     *[[], [""], ["Run"], ["Rewrite"], ["run", "check"], ["check", "run"], ["check", "--journal"], ["run", "x"]],
     *[["rewrite", "check"], ["check", "rewrite"], ["rewrite", "--journal"], ["rewrite", "--capacity", "8"], ["rewrit"]],
     *[["Trace"], ["trace", "check"], ["run", "trace"], ["trace", "--journal"], ["trace", "--capacity=8"], ["traces"]],
+    *[["trace", "--part"], ["trace", "--part", "4294967296"], ["trace", "--from=-1"], ["trace", "--to", "1.0"]],
+    *[["trace", "--from", "2", "--to", "1"], ["trace", "--to=0", "--from=4294967295"], ["trace", "--part=1", "--part=1"]],
+    *[["check", "--part", "0"], ["audit", "--from", "0"], ["--part", "0", "trace"], ["trace", "--par", "0"], ["trace", "--to="]],
     *[["run", "--capacity"], ["run", "--capacity", "0"], ["run", "--capacity", "1048577"], ["run", "--capacity="]],
     *[["run", "--capacity", it] for it in ["-1", "1.0", "1e2", "0x8", " 8", "8 ", "++8", "+", "٣", 30 * "9"]],
     *[["run", "--capacity", "1", "--capacity", "1"], ["run", "--journal", "--journal"], ["run", "--journal=1"]],
@@ -118,6 +122,8 @@ class Fuzz:
             yield from self.journals(write_journal(maker.history()))
         elif self.kind == "run":
             yield from self.audits()
+        elif self.kind == "window":
+            yield from self.windows()
         elif self.kind == "words":
             yield Trial(random.choice(BAD_WORDS), b'{"init":[],"agents":[]}')
         elif self.kind == "long":
@@ -147,15 +153,39 @@ class Fuzz:
             yield Trial(self.random.choice(READING), changed_journal(version, self.random))
 
     def audits(self) -> Iterator[Trial]:
-        """Answers a run of some parts, of either version, as it is and altered, in a part or with its parts mixed."""
+        for run in self.altered_runs(self.parts()):
+            yield Trial(["audit", *self.every()], run)
+
+    def windows(self) -> Iterator[Trial]:
+        """Answers windows of a run, and of altered ones: of each part one that has a call at least, where the part has some."""
+        parts = self.parts()
+        whole = b"".join(parts)
+        for number, part in enumerate(parts):
+            yield Trial(self.window(number, part.count(b"\n") - 1), whole)
+        for run in self.altered_runs(parts):
+            number = self.random.randrange(len(parts) + 1)
+            yield Trial(self.window(number, parts[number % len(parts)].count(b"\n") - 1), run)
+
+    def window(self, part: int, calls: int) -> list[str]:
+        """Answers words that ask for a window of a part with so many calls; sometimes it goes beyond, or is empty."""
+        first, last = sorted(self.random.choices(range(calls + 1), k=2))
+        last = self.random.choice([last, last, last, calls, calls + 1])
+        options = [[], ["--from", str(first)], [f"--to={last}"], ["--from", f"+{first}", "--to", str(last)]]
+        return ["trace", *self.random.choice(options), *([f"--part={part}"] if part or self.random.random() < 0.5 else [])]
+
+    def parts(self) -> list[bytes]:
+        """Answers the parts of a run, of either version."""
         parts = [write_journal(it) for it in self.maker.run()]
-        parts = [in_version_1(it) if self.random.random() < 0.3 else it for it in parts]
+        return [in_version_1(it) if self.random.random() < 0.3 else it for it in parts]
+
+    def altered_runs(self, parts: list[bytes]) -> Iterator[bytes]:
+        """Answers the run as it is and altered, in a part or with its parts mixed, and cut."""
         mixed = self.random.choices(parts, k=len(parts))
         at = self.random.randrange(len(parts))
         altered = [*parts[:at], changed_journal(parts[at], self.random), *parts[at + 1 :]]
         for chosen in (parts, mixed, altered):
-            yield Trial(["audit", *self.every()], b"".join(chosen))
-        yield Trial(["audit", *self.every()], cut(b"".join(parts), self.random))
+            yield b"".join(chosen)
+        yield cut(b"".join(parts), self.random)
 
     def every(self) -> list[str]:
         given = self.random.choice(["1", "1", "2", "3", "+5", "007", "4294967295"])
@@ -250,6 +280,8 @@ def sorts_of(ran: model.Answer) -> set[str]:
         return {"status 0 legal, told meanwhile"}
     if ran.output[:1] == b"{":
         header, *lines = ran.output.split(b"\n")
+        if header.endswith(b'"trace":2}'):
+            return {"status 0 window"}
         if not header.endswith(b'"trace":1}'):
             return {"status 0 journal"}
         is_legal = not any(b',"right":' in it for it in lines)

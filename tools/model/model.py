@@ -2,8 +2,8 @@
 """A second implementation of the program, for comparison: slow, plain, and written from the page on formats in docs/.
 
 It takes the program's words, reads its standard input, and ends with its status: `run [--capacity N] [--journal] [--terms]`,
-`check`, `rewrite`, `trace` and `audit [--every N]`. It plays one agent after the other, and so refuses, with status 70, a script of several agents
-whose output may depend on the order of their moves. It tells neither help nor a version.
+`check`, `rewrite`, `trace [--part N] [--from N] [--to N]` and `audit [--every N]`. It plays one agent after the other, and so refuses,
+with status 70, a script of several agents whose output may depend on the order of their moves. It tells neither help nor a version.
 """
 
 import re
@@ -15,9 +15,12 @@ from journal import CAPACITIES, BadJournal, first_illegal, read_journal, write_j
 from play import SeveralAgents, play, report
 from script import BadScript, read_script
 from tracing import write_trace
+from window import Window, trace_window
 
 MAX_INPUT = 2**24
 EVERY = range(1, 2**32)
+NUMBERS = range(2**32)
+WINDOW_OPTIONS = ["--part", "--from", "--to"]
 DEFAULT_CAPACITY = 4096
 REFUSED = 70
 
@@ -44,6 +47,9 @@ def answer(words: list[str], text: bytes) -> Answer:
         return line(2, "bad words")
     if isinstance(given, AuditWords):
         status, told = audit(text, given.every)
+        return Answer(status, told.encode())
+    if isinstance(given, Window):
+        status, told = trace_window(text, given)
         return Answer(status, told.encode())
     if len(text) > MAX_INPUT:
         return line(2, "input too large")
@@ -86,12 +92,14 @@ def trace(text: bytes) -> Answer:
 READING = {"check": check, "rewrite": rewrite, "trace": trace}
 
 
-def read_words(words: list[str]) -> RunWords | AuditWords | str | None:
+def read_words(words: list[str]) -> RunWords | AuditWords | Window | str | None:
     """Answers what the words ask for, or None where they are refused; an option may be given once."""
     if len(words) == 1 and words[0] in READING:
         return words[0]
     if words[:1] == ["audit"]:
         return read_audit_words(words[1:])
+    if words[:1] == ["trace"]:
+        return read_window_words(words[1:])
     if words[:1] != ["run"]:
         return None
     capacity, is_journal, is_told = None, False, False
@@ -122,6 +130,20 @@ def read_audit_words(words: list[str]) -> AuditWords | None:
     return None if every is None else AuditWords(every)
 
 
+def read_window_words(words: list[str]) -> Window | None:
+    numbers: dict[str, int] = {}
+    rest = iter(words)
+    for word in rest:
+        name, equals, text = word.partition("=")
+        number = read_number(text if equals else next(rest, ""), NUMBERS)
+        if name not in WINDOW_OPTIONS or name in numbers or number is None:
+            return None
+        numbers[name] = number
+    part, start, to = (numbers.get(it) for it in WINDOW_OPTIONS)
+    window = Window(part or 0, start or 0, to)
+    return None if to is not None and to < window.start else window
+
+
 def read_number(text: str, within: range) -> int | None:
     if not re.fullmatch(r"\+?[0-9]{1,4000}", text, re.ASCII):
         return None
@@ -130,8 +152,9 @@ def read_number(text: str, within: range) -> int | None:
 
 def main() -> int:
     try:
-        # But for an audit a byte more than the most is as good as all.
-        most = -1 if sys.argv[1:2] == ["audit"] else MAX_INPUT + 1
+        # But for an audit and a window a byte more than the most is as good as all.
+        is_long = sys.argv[1:2] == ["audit"] or sys.argv[1:2] == ["trace"] and sys.argv[2:]
+        most = -1 if is_long else MAX_INPUT + 1
         given = answer(sys.argv[1:], sys.stdin.buffer.read(most))
     except SeveralAgents:
         print("model: the output may depend on the order of the agents' moves", file=sys.stderr)

@@ -36,11 +36,11 @@ def write_trace(history: History) -> bytes:
         "trace": TRACE_VERSION,
     }
     storage = Storage(history.init, history.capacity)
-    lines = [header, *(_line(storage, number, it) for number, it in enumerate(history.events))]
+    lines = [header, *(event_line(storage, number, it) for number, it in enumerate(history.events))]
     return "".join(jsontext.write(line) + "\n" for line in lines).encode()
 
 
-def _line(storage: Storage, number: int, event: Event) -> dict[str, Json]:
+def event_line(storage: Storage, number: int, event: Event) -> dict[str, Json]:
     """Answers the line of an event; the storage follows what the event tells, be it right or not."""
     line = event_json(event) | {"event": number}
     right = storage.judged(event.call)

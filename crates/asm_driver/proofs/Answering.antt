@@ -1,7 +1,7 @@
 -- What is answered to the program's words.
 use Rattle.std.proofs.Common.{◌≡◌, ◌∙◌, ℕ, Bool, true, false, ap, ap₂, List, [], ◌∷◌, ◌==◌, if◌then◌else◌}
 use Rattle.std.proofs.Common.{get_or, Option, Some, None, Result, Ok, Err, refl, sym, subst, codes, inl, inr, arith, lit<}
-use Rattle.std.specs.Prelude.{IfOk, IfErr, IfSome, IfNone, ◌⊎◌}
+use Rattle.std.specs.Prelude.{◌<◌, IfOk, IfErr, IfSome, IfNone, unwrap_or, ◌⊎◌}
 use Rattle.std.specs.Option.{ok_or}
 use Rattle.std.specs.Str.Parse.{digits_value, without_leading_plus}
 use Rattle.clap.proofs.OnLiterals.{clap_on_literals}
@@ -9,9 +9,11 @@ use Rattle.clap.specs.Words.{Row, Text, Kinds, IsAmong, first_of, one_of, subcom
 use Rattle.clap.specs.declared.error.kind.ErrorKind.{ErrorKind}
 use Rattle.clap.specs.declared.error.kind.ErrorKind.TheVariants as kind
 use Rattle.asm_driver.specs.Words.{Words, program, faults, kind_word, AsksCapacity, Asks, AsksFor, IsNoCommand, IsRefusal, IsMadeOf, IsTold}
-use Rattle.asm_driver.specs.Words.{IsNumber, Gives, RefusesWords, Helps, TellsVersion, Answers}
+use Rattle.asm_driver.specs.Words.{IsNumber, AsksNumber, AsksNone, AsksTrace, IsForward, window_of, Gives, RefusesWords, Helps, TellsVersion, Answers}
+use Rattle.asm_driver.specs.declared.program.words.Window.{Window}
+use Rattle.asm_driver.proofs.Asking.{number_once, no_window}
 use Rattle.asm_driver.specs.declared.program.words.Request.{Request}
-use Rattle.asm_driver.specs.declared.program.words.Request.TheVariants.{Run, Terms, Check, Rewrite, Trace, Audit, Watch, Explain}
+use Rattle.asm_driver.specs.declared.program.words.Request.TheVariants.{Run, Terms, Check, Rewrite, Trace, Show, Audit, Watch, Explain}
 use Rattle.asm_driver.specs.declared.program.words.TextKind.{TextKind}
 use Rattle.asm_driver.specs.declared.program.words.TextKind.TheVariants.{Script, Journal}
 use Rattle.asm_driver.specs.declared.program.words.WordsError.{WordsError}
@@ -42,6 +44,7 @@ word (Terms c) = codes "run"
 word Check = codes "check"
 word Rewrite = codes "rewrite"
 word Trace = codes "trace"
+word (Show w) = codes "trace"
 word Audit = codes "audit"
 word (Watch n) = codes "audit"
 word (Explain t) = codes "explain"
@@ -52,12 +55,13 @@ letter r = get_or (word r) 2 0
 
 -- the request with this letter, where it has no options, and else this one
 abbrev with_letter : ℕ → Request → Request
-with_letter l r =
-    if l == 101 then Check else (if l == 119 then Rewrite else (if l == 97 then Trace else r))
+with_letter l r = if l == 101 then Check else (if l == 119 then Rewrite else r)
 
 with_own_letter : (r : Request) → with_letter (letter r) r ≡ r
 with_own_letter (Run c j) = refl
 with_own_letter (Terms c) = refl
+with_own_letter Trace = refl
+with_own_letter (Show w) = refl
 with_own_letter (Watch n) = refl
 with_own_letter (Explain t) = refl
 with_own_letter r = refl
@@ -66,6 +70,8 @@ with_own_letter r = refl
 same_letter : (n m : Request) (rows : List Row) → Asks (Some (word n, rows)) m → letter n ≡ letter m
 same_letter n (Run c j) rows h = ap (λ (t : Text). get_or t 2 0) h.0
 same_letter n (Terms c) rows h = ap (λ (t : Text). get_or t 2 0) h.0
+same_letter n Trace rows h = ap (λ (t : Text). get_or t 2 0) h.0
+same_letter n (Show w) rows h = ap (λ (t : Text). get_or t 2 0) h.0
 same_letter n Audit rows h = ap (λ (t : Text). get_or t 2 0) h.0
 same_letter n (Watch k) rows h = ap (λ (t : Text). get_or t 2 0) h.0
 same_letter n (Explain k) rows h = ap (λ (t : Text). get_or t 2 0) h.0
@@ -85,7 +91,14 @@ abbrev HasCapacity : List Row → ℕ → Type 0
 HasCapacity rows c =
     (t : Text) × IsNumber t × (digits_value 10 (without_leading_plus t) ≡ c) × (one_of (codes "capacity") rows ≡ Some t)
 
--- the options have texts that ask for this request: run's are a number of 32 bits and flags, audit's a number or none
+-- the text of the option is this number, if it has one
+abbrev HasNumber : Text → List Row → Option ℕ → Type 0
+HasNumber name rows None = one_of name rows ≡ None
+HasNumber name rows (Some n) =
+    (t : Text) × IsNumber t × (digits_value 10 (without_leading_plus t) ≡ n) × (one_of name rows ≡ Some t)
+
+-- the options have texts that ask for this request: run's are a number of 32 bits and flags, audit's and trace's numbers
+-- or none
 abbrev HasOptions : List Row → Request → Type 0
 HasOptions rows (Run c true) = HasCapacity rows c × (one_of (codes "journal") rows ≡ Some (flag_text true))
 HasOptions rows (Run c false) =
@@ -94,9 +107,14 @@ HasOptions rows (Run c false) =
 HasOptions rows (Terms c) =
     HasCapacity rows c × (one_of (codes "journal") rows ≡ Some (flag_text false))
     × (one_of (codes "terms") rows ≡ Some (flag_text true))
-HasOptions rows Audit = one_of (codes "every") rows ≡ None
-HasOptions rows (Watch n) =
-    (t : Text) × IsNumber t × (digits_value 10 (without_leading_plus t) ≡ n) × (one_of (codes "every") rows ≡ Some t)
+HasOptions rows Trace =
+    HasNumber (codes "part") rows None × HasNumber (codes "from") rows None × HasNumber (codes "to") rows None
+HasOptions rows (Show w) =
+    (part from : Option ℕ) × HasNumber (codes "part") rows part × HasNumber (codes "from") rows from
+    × HasNumber (codes "to") rows w.to × ¬ AsksNone part from w.to × (w.part ≡ unwrap_or part 0)
+    × (w.from ≡ unwrap_or from 0) × IsForward w
+HasOptions rows Audit = HasNumber (codes "every") rows None
+HasOptions rows (Watch n) = HasNumber (codes "every") rows (Some n)
 HasOptions rows (Explain t) = first_of (codes "kind") rows ≡ Some (kind_word t)
 HasOptions rows r = Unit {0}
 
@@ -126,8 +144,54 @@ same_kind t u o is same =
 same_capacity : (c d : ℕ) (rows : List Row) → HasCapacity rows c → AsksCapacity rows d → d ≡ c
 same_capacity c d rows (t, number, value, stands) asks = asks t stands number.0 number.1 ∙ value
 
+some_number : {n : ℕ} → ◌≡◌ {A = Option ℕ} (Some n) None → ⊥
+some_number e = cc (e)
+
 no_flag : false ≡ true → ⊥
 no_flag e = cc (e)
+
+-- what has a text asks for its number
+number_there : (name : Text) (rows : List Row) (o : Option ℕ) → HasNumber name rows o → AsksNumber name rows o
+number_there name rows None h = λ t is number. no_text _ t h is
+number_there name rows (Some n) h = (h.0, h.3, h.1, sym h.2)
+
+-- what options of trace ask for
+abbrev AsksTraceOf : List Row → Request → Type 0
+AsksTraceOf rows Trace = AsksTrace rows Trace
+AsksTraceOf rows (Show w) = AsksTrace rows (Show w)
+AsksTraceOf rows r = Unit {0}
+
+trace_options : (rows : List Row) (r : Request) → HasOptions rows r → AsksTraceOf rows r
+trace_options rows Trace h =
+    (number_there _ rows None h.0, number_there _ rows None h.1, number_there _ rows None h.2)
+trace_options rows (Show w) h = (
+  h.0,
+  h.1,
+  number_there _ rows h.0 h.2,
+  number_there _ rows h.1 h.3,
+  number_there _ rows w.to h.4,
+  h.5,
+  h.6,
+  h.7,
+  h.8,
+)
+trace_options rows r h = tt
+
+-- two windows that the same options ask for are the same
+same_window : (v w : Window) (rows : List Row) → AsksTrace rows (Show v) → AsksTrace rows (Show w) → w ≡ v
+same_window v w rows h k =
+    let part : w.part ≡ v.part = k.6 ∙ ap (λ (o : Option ℕ). unwrap_or o 0) (number_once _ rows k.0 h.0 k.2 h.2) ∙ sym h.6 in
+    let from : w.from ≡ v.from = k.7 ∙ ap (λ (o : Option ℕ). unwrap_or o 0) (number_once _ rows k.1 h.1 k.3 h.3) ∙ sym h.7 in
+    let to : w.to ≡ v.to = number_once _ rows w.to v.to k.4 h.4 in
+    ap (λ n. window_of n w.from w.to) part ∙ ap (λ n. window_of v.part n w.to) from ∙ ap (window_of v.part v.from) to
+
+-- options that ask for a window don't ask for none
+trace_or_window : (w : Window) (rows : List Row) → AsksTrace rows Trace → AsksTrace rows (Show w) → ⊥
+trace_or_window w rows h k = k.5 (
+  number_once _ rows k.0 None k.2 h.0,
+  number_once _ rows k.1 None k.3 h.1,
+  number_once _ rows w.to None k.4 h.2,
+)
 
 -- a command with these options asks for nothing else
 asked_alone : (n m : Request) (rows : List Row) → HasOptions rows n → Asks (Some (word n, rows)) m → m ≡ n
@@ -148,6 +212,12 @@ asked_alone (Watch n) Audit rows (t, number, value, stands) h = absurd (h.1 t st
 asked_alone (Watch n) (Watch k) rows (t, number, value, stands) h =
     ap Watch (h.1.3 ∙ ap (λ (u : Text). digits_value 10 (without_leading_plus u)) (some_word h.1.0 _ t h.1.1 stands) ∙ value)
 asked_alone (Watch n) m rows has h = absurd (omega (arith, same_letter (Watch n) m rows h))
+asked_alone Trace Trace rows has h = refl
+asked_alone Trace (Show w) rows has h = absurd (trace_or_window w rows (trace_options rows Trace has) h.1)
+asked_alone Trace m rows has h = absurd (omega (arith, same_letter Trace m rows h))
+asked_alone (Show v) Trace rows has h = absurd (trace_or_window v rows h.1 (trace_options rows (Show v) has))
+asked_alone (Show v) (Show w) rows has h = ap Show (same_window v w rows (trace_options rows (Show v) has) h.1)
+asked_alone (Show v) m rows has h = absurd (omega (arith, same_letter (Show v) m rows h))
 asked_alone (Explain t) (Explain u) rows has h = ap Explain (same_kind t u _ has h.1)
 asked_alone (Explain t) m rows has h = absurd (omega (arith, same_letter (Explain t) m rows h))
 asked_alone n m rows has h = by_letter n m rows h
@@ -158,7 +228,8 @@ known (Run c j) rows has none = none.0 refl
 known (Terms c) rows has none = none.0 refl
 known Check rows has none = none.1 refl
 known Rewrite rows has none = none.2 refl
-known Trace rows has none = none.3 refl
+known Trace rows has none = none.3 Trace refl (trace_options rows Trace has)
+known (Show w) rows has none = none.3 (Show w) refl (trace_options rows (Show w) has)
 known Audit rows has none = none.4 refl
 known (Watch n) rows has none = none.4 refl
 known (Explain t) rows has none = none.5 t (refl, has)
@@ -215,6 +286,34 @@ refuses_kind right taken command is other e =
 other_report : IsOther (codes "report")
 other_report Script e = let bad : 114 ≡ 115 = ap (λ (x : Text). get_or x 0 0) e in absurd (omega (arith, bad))
 other_report Journal e = let bad : 114 ≡ 106 = ap (λ (x : Text). get_or x 0 0) e in absurd (omega (arith, bad))
+
+-- ---- a window that ends before it begins
+
+unasked_trace : (rows : List Row) (m : Request) → ((r : Request) → ¬ AsksTrace rows r)
+    → Asks (Some (codes "trace", rows)) m → ⊥
+unasked_trace rows Trace none h = none Trace h.1
+unasked_trace rows (Show w) none h = none (Show w) h.1
+unasked_trace rows m none h = absurd (omega (arith, same_letter Trace m rows h))
+
+no_trace : (words : Words) (rows : List Row) (r : Result Request WordsError) → faults words ≡ [] →
+    subcommand_of program words ≡ Some (codes "trace", rows) → ((q : Request) → ¬ AsksTrace rows q)
+    → IsRight words r → RefusesWords r
+no_trace words rows (Ok m) taken command none right =
+    absurd (unasked_trace rows m none (subst (λ s. Asks s m) command right.ok.1))
+no_trace words rows (Err (Help text)) taken command none right = absurd (none_among _ _ taken right.err)
+no_trace words rows (Err Version) taken command none right = absurd (none_among _ _ taken right.err)
+no_trace words rows (Err Bad) taken command none right = inl refl
+no_trace words rows (Err Memory) taken command none right = inr refl
+
+-- the options have these texts, the first of which is a greater number
+refuses_window : (from to : ℕ) {example words : Words} {rows : List Row} {r : Result Request WordsError} → IsRight words r
+    → faults example ≡ [] → subcommand_of program example ≡ Some (codes "trace", rows)
+    → HasNumber (codes "part") rows None → HasNumber (codes "from") rows (Some from) → HasNumber (codes "to") rows (Some to)
+    → to < from → words ≡ example → RefusesWords r
+refuses_window from to {rows = rows} right taken command p f t less e =
+    no_trace _ rows _ (ap faults e ∙ taken) (ap (subcommand_of program) e ∙ command)
+    (no_window rows None (Some from) (Some to) (number_there _ rows None p) (number_there _ rows (Some from) f)
+    (number_there _ rows (Some to) t) (λ none. some_number none.1) (λ forward. omega (arith, less, forward))) right
 
 -- ---- words at which clap finds something
 
@@ -323,8 +422,36 @@ answers words r right = record {
   check_further = refuses right refl (tt, tt);
   rewrite = gives right refl refl tt;
   rewrite_further = refuses right refl (tt, tt);
-  trace = gives right refl refl tt;
+  trace = gives right refl refl (refl, refl, refl);
   trace_further = refuses right refl (tt, tt);
+  trace_part = gives right refl refl (Some 1, None, (codes "1", ((lit< tt, (lit< tt, tt)), lit< tt), refl, refl), refl, refl, (λ none. some_number none.0), refl, refl, tt);
+  trace_from = gives right refl refl (None, Some 2, refl, (codes "2", ((lit< tt, (lit< tt, tt)), lit< tt), refl, refl), refl, (λ none. some_number none.1), refl, refl, tt);
+  trace_to = gives right refl refl (None, None, refl, refl, (codes "+03", ((lit< tt, (lit< tt, (lit< tt, tt))), lit< tt), refl, refl), (λ none. some_number none.2), refl, refl, omega arith);
+  trace_window = gives right refl refl (Some 1, Some 2, (codes "1", ((lit< tt, (lit< tt, tt)), lit< tt), refl, refl), (codes "2", ((lit< tt, (lit< tt, tt)), lit< tt), refl, refl), (codes "3", ((lit< tt, (lit< tt, tt)), lit< tt), refl, refl), (λ none. some_number none.0), refl, refl, omega arith);
+  trace_nowhere = gives right refl refl (None, Some 3, refl, (codes "3", ((lit< tt, (lit< tt, tt)), lit< tt), refl, refl), (codes "3", ((lit< tt, (lit< tt, tt)), lit< tt), refl, refl), (λ none. some_number none.1), refl, refl, omega arith);
+  trace_backward = refuses_window 3 2 right refl refl refl (codes "3", ((lit< tt, (lit< tt, tt)), lit< tt), refl, refl) (codes "2", ((lit< tt, (lit< tt, tt)), lit< tt), refl, refl) (lit< tt);
+  trace_greatest = gives right refl refl (
+    Some 4294967295,
+    None,
+    (
+      codes "4294967295",
+      (
+        (lit< tt, (lit< tt, (lit< tt, (lit< tt, (lit< tt, (lit< tt, (lit< tt, (lit< tt, (lit< tt, (lit< tt, (lit< tt, tt))))))))))),
+        lit< tt,
+      ),
+      refl,
+      refl,
+    ),
+    refl,
+    refl,
+    (λ none. some_number none.0),
+    refl,
+    refl,
+    tt,
+  );
+  trace_above = refuses right refl (tt, tt);
+  trace_below = refuses right refl (tt, tt);
+  trace_no_part = refuses right refl (tt, tt);
   audit = gives right refl refl refl;
   audit_every = gives right refl refl (codes "8", ((lit< tt, (lit< tt, tt)), lit< tt), refl, refl);
   audit_joined = gives right refl refl (codes "+08", ((lit< tt, (lit< tt, (lit< tt, tt))), lit< tt), refl, refl);

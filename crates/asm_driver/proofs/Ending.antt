@@ -7,6 +7,7 @@ use Rattle.asm_driver.specs.Input.{Known}
 use Rattle.asm_driver.specs.Refusal.{refusal_line, refusal_status}
 use Rattle.asm_driver.specs.Run.{Input, Output, output_of, input_of, IsUnread, IsAnswer, IsNoAnswer, IsAnswerTo, Writes, Refuses, TellsVerdict, Watches, Runs, HasFailed, Takes}
 use Rattle.asm_driver.specs.Watch.{IsWatchEnd}
+use Rattle.asm_driver.specs.Window.{IsWindow}
 use Rattle.asm_driver.specs.Words.{Words, AsksFor, IsRefusal}
 use Rattle.asm_driver.specs.declared.program.words.Request.{Request}
 use Rattle.asm_driver.specs.declared.program.commands.Ending.{Ending}
@@ -15,7 +16,8 @@ use Rattle.asm_driver.specs.declared.program.refusal.Refusal.TheVariants as refu
 use Rattle.asm_driver.specs.declared.program.watching.Stop.TheVariants.{Refused, Unwritten}
 use Rattle.asm_driver.specs.declared.program.words.WordsError.{WordsError}
 use Rattle.asm_driver.specs.declared.program.words.WordsError.TheVariants.{Help, Version, Bad, Memory}
-use Rattle.asm_driver.specs.declared.program.words.Request.TheVariants.{Watch}
+use Rattle.asm_driver.specs.declared.program.words.Request.TheVariants.{Show, Watch}
+use Rattle.asm_driver.specs.declared.program.words.Window.{Window}
 use Rattle.asm_driver.proofs.Faulting.{faults_answered, faults_refused, faults_watched}
 use Rattle.asm_driver.proofs.Runs.{answered, refused}
 use Rattle.asm_driver.proofs.Taking.{answered_taken, refused_taken, watched_taken}
@@ -29,13 +31,13 @@ IsAnswered words i (Err r) = IsNoAnswer words i r
 
 version_told : (words : Words) (i : Input) (r : Result Ending Refusal) → IsRefusal words Version → IsAnswerTo Version r →
     IsUnread i → IsAnswered words i r
-version_told words i (Ok e) asks is unread = inr (inr (is.0, inr (asks, is.1), unread))
+version_told words i (Ok e) asks is unread = inr (inr (inr (is.0, inr (asks, is.1), unread)))
 version_told words i (Err r) asks is unread = subst (IsNoAnswer words i) (sym is) (inl (tt, unread))
 
 pub told_of_words : (words : Words) (i : Input) (e : WordsError) (r : Result Ending Refusal) → IsRefusal words e →
     IsAnswerTo e r → IsUnread i → IsAnswered words i r
 told_of_words words i (Help text) r asks is unread =
-    subst (IsAnswered words i) (sym is) (inr (inr (refl, inl asks, unread)))
+    subst (IsAnswered words i) (sym is) (inr (inr (inr (refl, inl asks, unread))))
 told_of_words words i Version r asks is unread = version_told words i r asks is unread
 told_of_words words i Bad r asks is unread = subst (IsAnswered words i) (sym is) (inl (asks, unread))
 told_of_words words i Memory r asks is unread = subst (IsAnswered words i) (sym is) (inl (tt, unread))
@@ -45,6 +47,16 @@ pub asked_answered : (words : Words) (i : Input) (q : Request) (r : Result Endin
     IfErr r (λ x. (w : Words) → AsksFor w q → IsNoAnswer w i x) → AsksFor words q → IsAnswered words i r
 asked_answered words i q (Ok e) ok err asks = ok words asks
 asked_answered words i q (Err r) ok err asks = err words asks
+
+-- ---- a window
+
+pub shown_answered : (w : Window) (had left : Known) (failed : Bool) (q : Request) (r : Result Ending Refusal) →
+    q ≡ Show w → IfOk r (λ e. e.status ≡ 0) → IfOk r (λ e. IsWindow w had left failed (string_bytes e.text)) →
+    IfOk r (λ e. (words : Words) → AsksFor words q →
+    IsAnswer words (input_of had left failed) e.status (string_bytes e.text))
+shown_answered w had left failed q (Ok e) asked status is =
+    λ words asks. inr (inr (inl (w, subst (AsksFor words) asked asks, status, is)))
+shown_answered w had left failed q (Err r) asked status is = tt
 
 -- ---- what is written of an answer
 

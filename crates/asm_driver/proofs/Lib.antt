@@ -10,5 +10,10 @@ mod Faulting
 mod Taking
 mod Auditing
 mod Watching
+mod BytesTaken
+mod PartLines
+mod LinesTaken
+mod Windows
+mod PartsRead
 mod Ending
 mod ReadTerms

@@ -9,8 +9,10 @@ use Rattle.asm_driver.specs.Run.{RunsOver, input_of, output_of}
 use Rattle.asm_driver.specs.declared.program.refusal.Refusal.{Refusal}
 use Rattle.asm_driver.specs.declared.program.refusal.Refusal.TheVariants as refusal
 use Rattle.asm_driver.specs.declared.program.words.Request.{Request}
-use Rattle.asm_driver.specs.declared.program.words.Request.TheVariants.{Run, Terms, Audit, Watch, Explain}
+use Rattle.asm_driver.specs.declared.program.words.Request.TheVariants.{Run, Terms, Show, Audit, Watch, Explain}
 use Rattle.asm_driver.specs.Audit.{is_failed_read, IsNoAudit}
+use Rattle.asm_driver.specs.Window.{IsNoWindow}
+use Rattle.asm_driver.specs.declared.program.words.Window.{Window}
 
 pub answered : (given words : Words) (i : Input) (o : Output) (status : ℕ) (text bytes : List ℕ) (result : ℕ) →
     given ≡ words → bytes ≡ text → IsAnswer given i status text → Writes o status bytes result → Runs words i o result
@@ -27,6 +29,7 @@ memory_done : (bytes : List ℕ) (request : Request) (r : Refusal) → IsNotDone
     IsNotDone bytes request refusal.Memory
 memory_done bytes (Run capacity asked) r is = tt
 memory_done bytes (Terms capacity) r is = tt
+memory_done bytes (Show w) r is = is
 memory_done bytes Audit r is = is
 memory_done bytes (Watch every) r is = is
 memory_done bytes (Explain t) r is = refl
@@ -47,6 +50,22 @@ memory_audited had left failed r number told = record {
   noted = told.noted ∙ number_read r number;
 }
 
+-- and where a window is asked for
+memory_shown : (w : Window) (had left : Known) (failed : Bool) (r : Refusal) → has_number r ≡ true →
+    IsNoWindow w had left failed r → IsNoWindow w had left failed refusal.Memory
+memory_shown w had left failed r number (taken, inside, told) = (
+  taken,
+  inside,
+  record {
+    line = told.line;
+    behind = told.behind;
+    consumed = told.consumed;
+    one = told.one;
+    told = inr (λ more. tt);
+    noted = told.noted ∙ number_read r number;
+  },
+)
+
 -- a refusal of the input has no number
 input_plain : (i : Input) (r : Refusal) → IsNoInput i r → has_number r ≡ true → ⊥
 input_plain i refusal.TooLarge is e = cc (e)
@@ -60,8 +79,10 @@ memory_told words i r number (inl (bad, unread)) = inl (tt, unread)
 memory_told words i r number (inr (inl (taken, is))) = absurd (input_plain i r is number)
 memory_told words i r number (inr (inr (inl (bytes, request, whole, asks, is)))) =
     inr (inr (inl (bytes, request, whole, asks, memory_done bytes request r is)))
-memory_told words i r number (inr (inr (inr (asks, is)))) =
-    inr (inr (inr (asks, memory_audited i.had i.left i.failed r number is)))
+memory_told words i r number (inr (inr (inr (inl (asks, is))))) =
+    inr (inr (inr (inl (asks, memory_audited i.had i.left i.failed r number is))))
+memory_told words i r number (inr (inr (inr (inr (w, asks, is))))) =
+    inr (inr (inr (inr (w, asks, memory_shown w i.had i.left i.failed r number is))))
 
 -- the refusal that is shown tells why there is no answer
 shown_told : (words : Words) (i : Input) (r shown : Refusal) → IsNoAnswer words i r → IsShown r shown →

@@ -24,7 +24,8 @@ pub answered_taken : (words : Words) (i : Input) (status : ℕ) (text : List ℕ
     Takes words i.had i.left
 answered_taken words i status text (inl (bytes, request, whole, asks, done)) = inl (all_taken i bytes whole)
 answered_taken words i status text (inr (inl (asks, (v, is, same, written)))) = inr (inl asks, (is.bytes, is.consumed))
-answered_taken words i status text (inr (inr (same, asks, unread))) = inl (none_taken i unread)
+answered_taken words i status text (inr (inr (inl (w, asks, same, is)))) = inr (inr (inr (w, asks)), (is.bytes, is.consumed))
+answered_taken words i status text (inr (inr (inr (same, asks, unread)))) = inl (none_taken i unread)
 
 -- where there is no input, at most one byte beyond the limit was taken
 input_taken : (i : Input) (r : Refusal) → IsNoInput i r → TakesSome i.had i.left
@@ -37,11 +38,13 @@ pub refused_taken : (words : Words) (i : Input) (r : Refusal) → IsNoAnswer wor
 refused_taken words i r (inl (bad, unread)) = inl (none_taken i unread)
 refused_taken words i r (inr (inl (taken, is))) = inl (input_taken i r is)
 refused_taken words i r (inr (inr (inl (bytes, request, whole, asks, is)))) = inl (all_taken i bytes whole)
-refused_taken words i r (inr (inr (inr (asks, told)))) = inr (inl asks, (told.bytes, told.consumed))
+refused_taken words i r (inr (inr (inr (inl (asks, told))))) = inr (inl asks, (told.bytes, told.consumed))
+refused_taken words i r (inr (inr (inr (inr (w, asks, told))))) =
+    inr (inr (inr (w, asks)), (told.0 ++ (told.2.line ++ told.2.behind), told.2.consumed))
 
 pub watched_taken : (words : Words) (i : Input) (o : Output) (every result : ℕ) → AsksFor words (Watch every) →
     Watches every i o result → Takes words i.had i.left
 watched_taken words i o every result asks (inl (r, told, text, status, is, ends, writes)) =
-    inr (inr (every, asks), (is.taken ++ is.behind, is.consumed))
+    inr (inr (inl (every, asks)), (is.taken ++ is.behind, is.consumed))
 watched_taken words i o every result asks (inr (told, cut, reads, four, some)) =
-    inr (inr (every, asks), (cut.taken ++ cut.behind, cut.consumed))
+    inr (inr (inl (every, asks)), (cut.taken ++ cut.behind, cut.consumed))

@@ -23,7 +23,7 @@ use Rattle.asm_driver.specs.declared.program.refusal.Refusal.{Refusal}
 use Rattle.asm_driver.specs.declared.program.refusal.Refusal.TheVariants as refusal
 use Rattle.asm_script.specs.declared.script.ScriptError.TheVariants.{BadScript}
 use Rattle.asm_driver.specs.declared.program.words.Request.{Request}
-use Rattle.asm_driver.specs.declared.program.words.Request.TheVariants.{Run, Terms, Check, Rewrite, Trace, Audit, Watch, Explain}
+use Rattle.asm_driver.specs.declared.program.words.Request.TheVariants.{Run, Terms, Check, Rewrite, Trace, Show, Audit, Watch, Explain}
 
 -- ---- run
 
@@ -112,14 +112,15 @@ IsNoJournal bytes r = ⊥
 
 -- ---- each command
 
--- what is asked is done with these bytes, which are the whole input: the status and the text; an audit asks for no whole
--- input
+-- what is asked is done with these bytes, which are the whole input: the status and the text; an audit and a window ask
+-- for no whole input
 abbrev pub IsDone : List ℕ → Request → ℕ → List ℕ → Type 0
 IsDone bytes (Run capacity asked) status text = (status ≡ 0) × IsRunText bytes capacity asked text
 IsDone bytes (Terms capacity) status text = (status ≡ 0) × IsTermsText bytes capacity text
 IsDone bytes Check status text = IsCheck bytes status text
 IsDone bytes Rewrite status text = (status ≡ 0) × IsRewrite bytes text
 IsDone bytes Trace status text = (status ≡ 0) × IsTraceOf bytes text
+IsDone bytes (Show w) status text = ⊥
 IsDone bytes Audit status text = ⊥
 IsDone bytes (Watch every) status text = ⊥
 IsDone bytes (Explain t) status text = IsExplained bytes t status text
@@ -131,6 +132,7 @@ IsNotDone bytes (Terms capacity) r = IsNoRun bytes capacity false r
 IsNotDone bytes Check r = IsNoJournal bytes r
 IsNotDone bytes Rewrite r = IsNoJournal bytes r
 IsNotDone bytes Trace r = IsNoJournal bytes r
+IsNotDone bytes (Show w) r = ⊥
 IsNotDone bytes Audit r = ⊥
 IsNotDone bytes (Watch every) r = ⊥
 IsNotDone bytes (Explain t) r = r ≡ refusal.Memory

@@ -1,11 +1,14 @@
 pub mod Limits
 pub mod Report
 pub mod Input
+pub mod Lines
 pub mod Output
 pub mod Words
 pub mod Refusal
 pub mod Audit
 pub mod Watch
+pub mod Parts
+pub mod Window
 pub mod Explained
 pub mod Commands
 pub mod Terms

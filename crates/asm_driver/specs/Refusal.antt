@@ -75,6 +75,10 @@ journal_line journal.Memory = memory_line
 abbrev pub part_line : ℕ → JournalError → List ℕ
 part_line part fault = codes "part " ++ decimal part ++ codes " " ++ journal_line fault
 
+-- the line for a window that goes beyond the calls of this part
+abbrev pub few_calls_line : ℕ → ℕ → List ℕ
+few_calls_line part calls = line (codes "part " ++ decimal part ++ codes " has " ++ decimal calls ++ codes " calls")
+
 -- the line that is written
 abbrev pub refusal_line : Refusal → List ℕ
 refusal_line refusal.Words = line (codes "bad words")
@@ -83,6 +87,9 @@ refusal_line (refusal.BadScript cause) = cause_line cause
 refusal_line (refusal.BadJournal e) = journal_line e
 refusal_line (refusal.BadPart part fault) = part_line part fault
 refusal_line (refusal.Apart part) = line (codes "part " ++ decimal part ++ codes " apart")
+refusal_line (refusal.Illegal part call) = line (codes "illegal " ++ decimal part ++ codes " " ++ decimal call)
+refusal_line (refusal.FewCalls part calls) = few_calls_line part calls
+refusal_line (refusal.FewParts parts) = line (codes "the run has " ++ decimal parts ++ codes " parts")
 refusal_line refusal.Unfit = line (codes "bad script: shape")
 refusal_line (refusal.Missing k) = line (codes "missing move " ++ decimal k)
 refusal_line refusal.InputFault = line (codes "input fault")
@@ -100,6 +107,9 @@ abbrev pub has_number : Refusal → Bool
 has_number (refusal.BadJournal e) = journal_has_number e
 has_number (refusal.BadPart part fault) = true
 has_number (refusal.Apart part) = true
+has_number (refusal.Illegal part call) = true
+has_number (refusal.FewCalls part calls) = true
+has_number (refusal.FewParts parts) = true
 has_number (refusal.Missing k) = true
 has_number _ = false
 
@@ -118,6 +128,9 @@ refusal_status (refusal.BadScript cause) = 2
 refusal_status (refusal.BadJournal e) = journal_status e
 refusal_status (refusal.BadPart part fault) = journal_status fault
 refusal_status (refusal.Apart part) = 2
+refusal_status (refusal.Illegal part call) = 1
+refusal_status (refusal.FewCalls part calls) = 2
+refusal_status (refusal.FewParts parts) = 2
 refusal_status refusal.Unfit = 2
 refusal_status (refusal.Missing k) = 1
 refusal_status refusal.InputFault = 4

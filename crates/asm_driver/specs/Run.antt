@@ -10,13 +10,15 @@ use Rattle.asm_driver.specs.Report.{line}
 use Rattle.asm_audit.specs.declared.reading.Verdict.{Verdict}
 use Rattle.asm_driver.specs.Audit.{IsAudit, IsNoAudit, verdict_line, verdict_status}
 use Rattle.asm_driver.specs.Watch.{IsWatchTold, IsWatchCut}
+use Rattle.asm_driver.specs.Window.{IsWindow, IsNoWindow}
 use Rattle.asm_driver.specs.Commands.{IsDone, IsNotDone}
 use Rattle.asm_driver.specs.Refusal.{refusal_line, refusal_status, has_number}
 use Rattle.asm_driver.specs.declared.program.commands.Ending.{Ending}
 use Rattle.asm_driver.specs.declared.program.refusal.Refusal.{Refusal}
 use Rattle.asm_driver.specs.declared.program.refusal.Refusal.TheVariants as refusal
 use Rattle.asm_driver.specs.declared.program.words.Request.{Request}
-use Rattle.asm_driver.specs.declared.program.words.Request.TheVariants.{Audit, Watch}
+use Rattle.asm_driver.specs.declared.program.words.Request.TheVariants.{Audit, Show, Watch}
+use Rattle.asm_driver.specs.declared.program.words.Window.{Window}
 use Rattle.asm_driver.specs.declared.program.words.WordsError.{WordsError}
 use Rattle.asm_driver.specs.declared.program.words.WordsError.TheVariants as words
 
@@ -53,6 +55,11 @@ IsAsked words i status text =
 abbrev pub IsAudited : Words → Input → ℕ → List ℕ → Type 0
 IsAudited words i status text = AsksFor words Audit × IsAudit i.had i.left i.failed status text
 
+-- the trace of the window that the words ask for, of the run that the input gives
+abbrev pub IsShownOf : Words → Input → ℕ → List ℕ → Type 0
+IsShownOf words i status text =
+    (w : Window) × AsksFor words (Show w) × (status ≡ 0) × IsWindow w i.had i.left i.failed text
+
 -- the line that tells the version
 abbrev pub version_line : List ℕ
 version_line = line (codes "asm_driver 0.2.0")
@@ -64,7 +71,8 @@ IsToldOf words text = AsksForHelp words ⊎ (AsksForVersion words × (text ≡ v
 -- what the words ask for; or help or the version that is asked for, before anything is read
 abbrev pub IsAnswer : Words → Input → ℕ → List ℕ → Type 0
 IsAnswer words i status text =
-    IsAsked words i status text ⊎ IsAudited words i status text ⊎ ((status ≡ 0) × IsToldOf words text × IsUnread i)
+    IsAsked words i status text ⊎ IsAudited words i status text ⊎ IsShownOf words i status text
+    ⊎ ((status ≡ 0) × IsToldOf words text × IsUnread i)
 
 -- why the words are refused
 abbrev pub IsWordsRefusal : Words → Refusal → Type 0
@@ -81,24 +89,27 @@ IsNoInput i r = ⊥
 
 -- the words ask for something that is done with the whole input
 abbrev pub AsksForWhole : Words → Type 0
-AsksForWhole words = (request : Request) × AsksFor words request × (request ≢ Audit)
+AsksForWhole words =
+    (request : Request) × AsksFor words request × (request ≢ Audit) × ((w : Window) → request ≢ Show w)
 
 -- why there is no answer: the words, before anything is read; then the input, where all of it is asked for; then what it
--- holds; or why there is no audit
+-- holds; or why there is no audit, or no trace of a window
 abbrev pub IsNoAnswer : Words → Input → Refusal → Type 0
 IsNoAnswer words i r =
     (IsWordsRefusal words r × IsUnread i)
     ⊎ (AsksForWhole words × IsNoInput i r)
     ⊎ ((bytes : List ℕ) × (request : Request) × IsWhole i bytes × AsksFor words request × IsNotDone bytes request r)
     ⊎ (AsksFor words Audit × IsNoAudit i.had i.left i.failed r)
+    ⊎ ((w : Window) × AsksFor words (Show w) × IsNoWindow w i.had i.left i.failed r)
 
--- the words ask for an audit, which tells how far it is or doesn't
-abbrev pub AsksForAudit : Words → Type 0
-AsksForAudit words = AsksFor words Audit ⊎ ((every : ℕ) × AsksFor words (Watch every))
+-- the words ask for an audit of a run, which tells how far it is or doesn't, or for the trace of a window of one
+abbrev pub AsksForRun : Words → Type 0
+AsksForRun words =
+    AsksFor words Audit ⊎ ((every : ℕ) × AsksFor words (Watch every)) ⊎ ((w : Window) × AsksFor words (Show w))
 
--- bytes of the input were taken: as many as an audit wants, else at most one beyond the limit
+-- bytes of the input were taken: as many as an audit or a window wants, else at most one beyond the limit
 abbrev pub Takes : Words → Known → Known → Type 0
-Takes words had left = TakesSome had left ⊎ (AsksForAudit words × TakesAny had left)
+Takes words had left = TakesSome had left ⊎ (AsksForRun words × TakesAny had left)
 
 -- the line of the version is answered, for which there has to be memory
 abbrev pub IsVersion : Result Ending Refusal → Type 0

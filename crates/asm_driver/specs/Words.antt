@@ -1,6 +1,6 @@
 -- The words that the program takes, what they ask for, and how others are refused.
-use Rattle.std.specs.Prelude.{◌≡◌, ◌<◌, ◌^◌, ◌⊎◌, ℕ, Bool, pos, true, false, List, [], ◌∷◌, Option, Some, None}
-use Rattle.std.specs.Prelude.{Result, Ok, Err, codes, String}
+use Rattle.std.specs.Prelude.{◌≡◌, ◌<◌, ◌≤◌, ◌^◌, ◌⊎◌, ℕ, Bool, pos, true, false, List, [], ◌∷◌, Option, Some, None}
+use Rattle.std.specs.Prelude.{Result, Ok, Err, IfSome, unwrap_or, codes, String}
 use Rattle.std.specs.declared.alloc.Global.{Global}
 use Rattle.std.specs.Str.Parse.{IsNumeral, digits_value, without_leading_plus}
 use Rattle.clap.specs.Words.{App, Row, Rule, Text, Kinds, IsAmong, fault_of, first_of, new_app, new_rule, one_of}
@@ -13,7 +13,8 @@ use Rattle.clap.specs.declared.error.kind.ErrorKind.TheVariants as kind
 use Rattle.asm_row.specs.Limits.{capacity_limit}
 use Rattle.asm_driver.specs.Limits.{default_capacity}
 use Rattle.asm_driver.specs.declared.program.words.Request.{Request}
-use Rattle.asm_driver.specs.declared.program.words.Request.TheVariants.{Run, Terms, Check, Rewrite, Trace, Audit, Watch, Explain}
+use Rattle.asm_driver.specs.declared.program.words.Request.TheVariants.{Run, Terms, Check, Rewrite, Trace, Show, Audit, Watch, Explain}
+use Rattle.asm_driver.specs.declared.program.words.Window.{Window}
 use Rattle.asm_driver.specs.declared.program.words.TextKind.{TextKind}
 use Rattle.asm_driver.specs.declared.program.words.TextKind.TheVariants.{Script, Journal}
 use Rattle.asm_driver.specs.declared.program.words.WordsError.{WordsError}
@@ -49,9 +50,20 @@ check = new_app (codes "check")
 abbrev pub rewrite : App
 rewrite = new_app (codes "rewrite")
 
--- the command trace
+-- --NAME N, with N from 0 to 4,294,967,295
+abbrev pub number_rule : Text → Rule
+number_rule name = record (new_rule name) {
+  long = Some name;
+  action = Some Set;
+  parser = Some (Signed (pos 0) (pos 4294967295));
+  value_names = 1;
+}
+
+-- the command trace, with the options of a window
 abbrev pub trace : App
-trace = new_app (codes "trace")
+trace =
+    let named = new_app (codes "trace") in
+    with_rule (with_rule (with_rule named (number_rule (codes "part"))) (number_rule (codes "from"))) (number_rule (codes "to"))
 
 -- --every N, with N from 1 to 4,294,967,295
 abbrev pub every : Rule
@@ -74,9 +86,13 @@ kind_rule = record (new_rule (codes "kind")) { action = Some Set; value_names = 
 abbrev pub explain : App
 explain = with_rule (new_app (codes "explain")) kind_rule
 
--- with the commands that read a journal
+-- with the commands that read a journal and have no option
 abbrev pub with_journals : App → App
-with_journals a = with_subcommand (with_subcommand (with_subcommand a check.top) rewrite.top) trace.top
+with_journals a = with_subcommand (with_subcommand a check.top) rewrite.top
+
+-- with the command that traces a journal, or a window of a run
+abbrev pub with_trace : App → App
+with_trace a = with_subcommand a trace.top
 
 -- with the command that audits a run
 abbrev pub with_audit : App → App
@@ -92,7 +108,7 @@ abbrev pub program : App
 program =
     let named = new_app (codes "asm_driver") in
     let required = record named { top = record named.top { has_version = true; subcommand_required = true } } in
-    with_audit (with_explain (with_journals (with_subcommand required run.top)))
+    with_audit (with_explain (with_trace (with_journals (with_subcommand required run.top))))
 
 -- the words, each with its bytes
 abbrev pub Words : Type 0
@@ -127,12 +143,36 @@ AsksRun rows r = ⊥
 abbrev pub IsNumber : Text → Type 0
 IsNumber t = IsNumeral 10 (without_leading_plus t) × (digits_value 10 (without_leading_plus t) < 2 ^ 32)
 
+-- the number that stands at the option, if one does
+abbrev pub AsksNumber : Text → List Row → Option ℕ → Type 0
+AsksNumber name rows None = (t : Text) → one_of name rows ≡ Some t → ¬ IsNumber t
+AsksNumber name rows (Some n) =
+    (t : Text) × (one_of name rows ≡ Some t) × IsNumber t × (n ≡ digits_value 10 (without_leading_plus t))
+
 -- what the option of audit asks for: where a number stands at --every, to tell how far the audit is, and else not
 abbrev pub AsksAudit : List Row → Request → Type 0
-AsksAudit rows Audit = (t : Text) → one_of (codes "every") rows ≡ Some t → ¬ IsNumber t
-AsksAudit rows (Watch n) =
-    (t : Text) × (one_of (codes "every") rows ≡ Some t) × IsNumber t × (n ≡ digits_value 10 (without_leading_plus t))
+AsksAudit rows Audit = AsksNumber (codes "every") rows None
+AsksAudit rows (Watch n) = AsksNumber (codes "every") rows (Some n)
 AsksAudit rows r = ⊥
+
+-- the window doesn't end before it begins
+abbrev pub IsForward : Window → Type 0
+IsForward w = IfSome w.to (λ to. w.from ≤ to)
+
+-- no option of trace has a number
+abbrev pub AsksNone : Option ℕ → Option ℕ → Option ℕ → Type 0
+AsksNone part from to = (part ≡ None) × (from ≡ None) × (to ≡ None)
+
+-- what the options of trace ask for: where one of them has a number, a window, which begins with the first part and its
+-- first call where these have none
+abbrev pub AsksTrace : List Row → Request → Type 0
+AsksTrace rows Trace =
+    AsksNumber (codes "part") rows None × AsksNumber (codes "from") rows None × AsksNumber (codes "to") rows None
+AsksTrace rows (Show w) =
+    (part from : Option ℕ) × AsksNumber (codes "part") rows part × AsksNumber (codes "from") rows from
+    × AsksNumber (codes "to") rows w.to × ¬ AsksNone part from w.to × (w.part ≡ unwrap_or part 0)
+    × (w.from ≡ unwrap_or from 0) × IsForward w
+AsksTrace rows r = ⊥
 
 -- the word of a kind of text
 abbrev pub kind_word : TextKind → Text
@@ -150,7 +190,8 @@ Asks (Some p) (Run number asked) = (p.0 ≡ codes "run") × AsksRun p.1 (Run num
 Asks (Some p) (Terms number) = (p.0 ≡ codes "run") × AsksRun p.1 (Terms number)
 Asks (Some p) Check = p.0 ≡ codes "check"
 Asks (Some p) Rewrite = p.0 ≡ codes "rewrite"
-Asks (Some p) Trace = p.0 ≡ codes "trace"
+Asks (Some p) Trace = (p.0 ≡ codes "trace") × AsksTrace p.1 Trace
+Asks (Some p) (Show w) = (p.0 ≡ codes "trace") × AsksTrace p.1 (Show w)
 Asks (Some p) Audit = (p.0 ≡ codes "audit") × AsksAudit p.1 Audit
 Asks (Some p) (Watch n) = (p.0 ≡ codes "audit") × AsksAudit p.1 (Watch n)
 Asks (Some p) (Explain t) = (p.0 ≡ codes "explain") × AsksKind p.1 t
@@ -171,12 +212,12 @@ AsksForVersion words = IsAmong kind.DisplayVersion (faults words)
 abbrev pub IsTold : ErrorKind → Type 0
 IsTold k = (k ≡ kind.DisplayHelp) ⊎ (k ≡ kind.DisplayVersion)
 
--- there is another command, or none, or one that explains another text
+-- there is another command, or none, or one that explains another text or traces a window that ends before it begins
 abbrev pub IsNoCommand : Option (Text × List Row) → Type 0
 IsNoCommand None = Unit {0}
 IsNoCommand (Some p) =
-    ¬ (p.0 ≡ codes "run") × ¬ (p.0 ≡ codes "check") × ¬ (p.0 ≡ codes "rewrite") × ¬ (p.0 ≡ codes "trace")
-    × ¬ (p.0 ≡ codes "audit")
+    ¬ (p.0 ≡ codes "run") × ¬ (p.0 ≡ codes "check") × ¬ (p.0 ≡ codes "rewrite")
+    × ((r : Request) → p.0 ≡ codes "trace" → ¬ AsksTrace p.1 r) × ¬ (p.0 ≡ codes "audit")
     × ((t : TextKind) → ¬ Asks (Some p) (Explain t))
 
 -- the words have a mistake: one that clap may find, or clap takes them and there is no command of the program's
@@ -209,6 +250,14 @@ program_with more = codes "asm_driver" ∷ more
 -- the program's name, the word run, and further ones
 abbrev pub run_with : Words → Words
 run_with more = program_with (codes "run" ∷ more)
+
+-- the program's name, the word trace, and further ones
+abbrev pub trace_with : Words → Words
+trace_with more = program_with (codes "trace" ∷ more)
+
+-- the window of this part, from this call on and, where another is told, to before that one
+abbrev pub window_of : ℕ → ℕ → Option ℕ → Window
+window_of part from to = record { part = part; from = from; to = to }
 
 -- the program's name, the word audit, and further ones
 abbrev pub audit_with : Words → Words
@@ -257,6 +306,18 @@ pub record Answers (words : Words) (r : Result Request WordsError) : Type 0 wher
   pub rewrite_further : words ≡ program_with (codes "rewrite" ∷ codes "more" ∷ []) → RefusesWords r
   pub trace : words ≡ program_with (codes "trace" ∷ []) → Gives Trace r
   pub trace_further : words ≡ program_with (codes "trace" ∷ codes "more" ∷ []) → RefusesWords r
+  pub trace_part : words ≡ trace_with (codes "--part" ∷ codes "1" ∷ []) → Gives (Show (window_of 1 0 None)) r
+  pub trace_from : words ≡ trace_with (codes "--from=2" ∷ []) → Gives (Show (window_of 0 2 None)) r
+  pub trace_to : words ≡ trace_with (codes "--to=+03" ∷ []) → Gives (Show (window_of 0 0 (Some 3))) r
+  pub trace_window : words ≡ trace_with (codes "--to=3" ∷ codes "--from=2" ∷ codes "--part=1" ∷ []) →
+      Gives (Show (window_of 1 2 (Some 3))) r
+  pub trace_nowhere : words ≡ trace_with (codes "--from=3" ∷ codes "--to=3" ∷ []) →
+      Gives (Show (window_of 0 3 (Some 3))) r
+  pub trace_backward : words ≡ trace_with (codes "--from=3" ∷ codes "--to=2" ∷ []) → RefusesWords r
+  pub trace_greatest : words ≡ trace_with (codes "--part=4294967295" ∷ []) → Gives (Show (window_of 4294967295 0 None)) r
+  pub trace_above : words ≡ trace_with (codes "--from=4294967296" ∷ []) → RefusesWords r
+  pub trace_below : words ≡ trace_with (codes "--to=-1" ∷ []) → RefusesWords r
+  pub trace_no_part : words ≡ trace_with (codes "--part" ∷ []) → RefusesWords r
   pub audit : words ≡ audit_with [] → Gives Audit r
   pub audit_every : words ≡ audit_with (codes "--every" ∷ codes "8" ∷ []) → Gives (Watch 8) r
   pub audit_joined : words ≡ audit_with (codes "--every=+08" ∷ []) → Gives (Watch 8) r

@@ -1,6 +1,7 @@
 //! The program's input and output, each with whether a call of it failed.
 
 pub(crate) mod input;
+pub(crate) mod line_reader;
 pub(crate) mod output;
 pub(crate) mod sink;
 pub(crate) mod source;

@@ -11,8 +11,10 @@ ghost use Rattle.asm_driver.specs.Run.{input_of, output_of, Runs, RunsOver, HasF
 mod auditing;
 mod commands;
 mod explained;
+mod parts;
 mod refusal;
 mod watching;
+mod windowing;
 mod words;
 
 use crate::ports::input::read_input;
@@ -23,6 +25,7 @@ use crate::program::auditing::{audit_input, verdict_ending};
 use crate::program::commands::{Ending, carry_out};
 use crate::program::refusal::Refusal;
 use crate::program::watching::{Stop, watched};
+use crate::program::windowing::window_input;
 use crate::program::words::{Request, WordsError, read_words};
 use asm_audit::Verdict;
 use std::alloc::{AllocError, Global};
@@ -71,6 +74,7 @@ fn answer<T: Threads + Wait + Sync, S: Source>(
 {
     match request {
         Request::Audit => audit_input(rt, alloc, input),
+        Request::Show(window) => window_input(rt, alloc, window, input),
         _ => {
             let bytes = read_input(alloc, input)?;
             carry_out(rt, alloc, request, bytes.as_slice())
@@ -202,17 +206,18 @@ pub fn run_noted<T: Threads + Wait + Sync, S: Source, K: Sink>(
 /// Does what the words ask for, and gives the program's status.
 ///
 /// The words begin with the program's name, and are `run` with its options, `check`, `rewrite`, `trace`, `explain` with
-/// the kind of text, or `audit`. But with `audit` the input is read to its end, at most 16,777,216 bytes. With `run` it
-/// is a script, which is played, and the report is written with status 0, or with `--journal` the journal of the calls.
+/// the kind of text, or `audit`. But with `audit`, or with `trace` of a window, the input is read to its end, at most
+/// 16,777,216 bytes. With `run` it is a script, which is played, and the report is written with status 0, or with `--journal` the journal of the calls.
 /// With `check` it is a journal, and `legal CALLS MOVES` is written with status 0, or `illegal CALL` with status 1. With
 /// `rewrite` it is a journal too, whether legal or not, and the journal of the same history is written with status 0; so
 /// is its trace with `trace`. With `explain script` or `explain journal` nothing is written, with status 0, where `run`
 /// or `check` would take the input, and else a line that says where and why not, with status 1. With `audit` it is a run
 /// of any length, whose parts are journals, of which no line may have more than 16,777,216 bytes; it is read to its end
 /// or to where something is told, and `legal CALLS MOVES PARTS` is written with status 0, or `illegal PART CALL` with
-/// status 1; with `--every N` also `so far CALLS MOVES PARTS` after each N calls, before more is read. Help that is asked
-/// for has status 0, and so has the line `asm_driver 0.2.0` where the words ask
-/// for the version.
+/// status 1; with `--every N` also `so far CALLS MOVES PARTS` after each N calls, before more is read. With `trace` and a
+/// part, a first call or one behind the last, it is such a run too, which is read to the window's end, and the trace of
+/// the window is written with status 0, or `illegal PART CALL` with status 1. Help that is asked for has status 0, and so
+/// has the line `asm_driver 0.2.0` where the words ask for the version.
 ///
 /// Otherwise one line tells why: status 1 for a fired move without a receipt, 2 for words, a size, a script,
 /// a journal or a run that is refused, 3 for an allocation failure or a thread that couldn't be started, 4 for a failed

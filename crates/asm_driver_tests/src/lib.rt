@@ -18,4 +18,6 @@ mod threads;
 #[cfg(test)]
 mod watches;
 #[cfg(test)]
+mod windows;
+#[cfg(test)]
 mod words;

@@ -32,7 +32,7 @@ fn status_of<T: Threads + Wait + Sync, R: Read, W: Write>(
 /// Gives spaces: so many bytes, and then the end, or a fault of this kind and then the end. It counts its bytes and its
 /// reads.
 #[derive(Clone, Copy)]
-struct Spaces {
+pub(crate) struct Spaces {
     left: usize,
     fails: Option<ErrorKind>,
     given: usize,
@@ -40,7 +40,7 @@ struct Spaces {
 }
 
 impl Spaces {
-    fn new((left, fails): (usize, Option<ErrorKind>)) -> Spaces {
+    pub(crate) fn new((left, fails): (usize, Option<ErrorKind>)) -> Spaces {
         Spaces {
             left,
             fails,

@@ -17,7 +17,7 @@ Commands:
   run      Plays a script, which is read from standard input, and writes the report
   check    Checks a journal of at most 16777216 bytes, which is read from standard input, and writes whether it is legal; audit has no such limit
   rewrite  Rewrites a journal of at most 16777216 bytes, which is read from standard input, in version 2, and doesn't check it; audit has no such limit
-  trace    Traces a journal of at most 16777216 bytes, which is read from standard input, and writes what each call did; audit has no such limit
+  trace    Traces a journal of at most 16777216 bytes, which is read from standard input, and writes what each call did; with an option it traces a window of a run of any length, as audit reads it, and holds the window's text in memory until its end was read
   explain  Explains where and why a script or a journal, which is read from standard input, is refused
   audit    Audits a run of any length, whose parts are journals and are read from standard input, and writes whether it is legal
   help     Print this message or the help of the given subcommand(s)
@@ -57,12 +57,15 @@ Options:
 "#;
 
 const TRACE_HELP: &str =
-    r#"Traces a journal of at most 16777216 bytes, which is read from standard input, and writes what each call did; audit has no such limit
+    r#"Traces a journal of at most 16777216 bytes, which is read from standard input, and writes what each call did; with an option it traces a window of a run of any length, as audit reads it, and holds the window's text in memory until its end was read
 
-Usage: asm_driver trace
+Usage: asm_driver trace [OPTIONS]
 
 Options:
-  -h, --help  Print help
+      --part <N>  Which part of the run, counted from 0; 0 where it isn't given
+      --from <N>  The window's first call, counted from 0 in its part; 0 where it isn't given
+      --to <N>    The call behind the window's last one; the end of its part where it isn't given
+  -h, --help      Print help
 "#;
 
 const EXPLAIN_HELP: &str =

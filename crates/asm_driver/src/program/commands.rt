@@ -1,6 +1,7 @@
 //! What the commands do with the input.
 ghost use Rattle.std.specs.Prelude.{◌≡◌, ◌≢◌, ℕ, false, IfOk, IfErr, string_bytes};
 ghost use Rattle.asm_driver.specs.declared.program.words.Request.TheVariants as requests;
+ghost use Rattle.asm_driver.specs.declared.program.words.Window.{Window as Wanted};
 ghost use Rattle.asm_driver.specs.Commands.{text_of_played, IsNoText, IsRunText, IsTermsText, IsNoRun, IsCheck};
 ghost use Rattle.asm_driver.specs.Commands.{IsNoJournal, IsRewrite, IsTraceOf};
 ghost use Rattle.asm_driver.specs.Commands.{legality_line, legality_status, IsDone, IsNotDone};
@@ -128,6 +129,7 @@ pub(crate) fn carry_out<T: Threads + Wait + Sync>(
 ) -> Result<Ending, Refusal>
     requires audit { request ≢ requests.Audit }
     requires watch { (every : ℕ) → request ≢ requests.Watch every }
+    requires show { (w : Wanted) → request ≢ requests.Show w }
     ensures ok { IfOk result (λ e. IsDone bytes.now request e.status (string_bytes e.text)) }
     ensures err { IfErr result (IsNotDone bytes.now request) }
 {
@@ -149,6 +151,7 @@ pub(crate) fn carry_out<T: Threads + Wait + Sync>(
             status: 0,
             text: trace(alloc, bytes)?,
         }),
+        Request::Show(_) => unreachable!(),
         Request::Audit => unreachable!(),
         Request::Watch { every: _ } => unreachable!(),
         Request::Explain(kind) => Ok(explained(alloc, kind, bytes)?),

@@ -2,7 +2,8 @@
 ghost use Rattle.std.specs.Prelude.{◌≡◌, false, IfOk, IsOk, string_bytes};
 ghost use Rattle.asm_driver.specs.Audit.{refusal_of_audit};
 ghost use Rattle.asm_driver.specs.Refusal.{refusal_line, refusal_status, has_number, cause_line as line_of_cause};
-ghost use Rattle.asm_driver.specs.Refusal.{journal_line as line_of_journal, part_line as line_of_part, journal_has_number, line_bytes};
+ghost use Rattle.asm_driver.specs.Refusal.{journal_line as line_of_journal, part_line as line_of_part, line_bytes};
+ghost use Rattle.asm_driver.specs.Refusal.{few_calls_line as line_of_few_calls, journal_has_number};
 ghost use Rattle.asm_driver.specs.Refusal.{journal_status as status_of_journal, refusal_of_input, refusal_of_script};
 ghost use Rattle.asm_driver.specs.Refusal.{refusal_of_run, refusal_of_journal};
 ghost use Rattle.asm_driver.specs.declared.program.refusal.Refusal.TheVariants as refusals;
@@ -29,6 +30,12 @@ pub enum Refusal {
     BadPart { part: u64, fault: JournalError },
     /// This part of a run opens with another state than the part before it leaves.
     Apart(u64),
+    /// Of a run that is traced, this call of this part is the first whose answer isn't that of the storage of one thread.
+    Illegal { part: u32, call: u32 },
+    /// The part of a run has so many calls, which a window goes beyond.
+    FewCalls { part: u32, calls: u32 },
+    /// A run has so many parts, and none with the number of a window's.
+    FewParts(u32),
     /// The history of the script's calls is too long for a journal.
     Unfit,
     /// The fired move with this number has no receipt.
@@ -173,6 +180,12 @@ fn part_line(alloc: Global, part: u64, fault: JournalError) -> Result<String, Al
     }
 }
 
+fn few_calls_line(alloc: Global, part: u32, calls: u32) -> Result<String, AllocError>
+    ensures { IfOk result (λ l. string_bytes l ≡ line_of_few_calls part calls) }
+{
+    format!(in alloc; "part {part} has {calls} calls\n")
+}
+
 fn journal_status(error: JournalError) -> u8
     ensures { result ≡ status_of_journal error }
 {
@@ -195,6 +208,13 @@ impl Refusal {
             Refusal::BadJournal(error) => return journal_line(alloc, error),
             Refusal::BadPart { part, fault } => Line::Made(part_line(alloc, part, fault)?),
             Refusal::Apart(part) => Line::Made(format!(in alloc; "part {part} apart\n")?),
+            Refusal::Illegal { part, call } => {
+                Line::Made(format!(in alloc; "illegal {part} {call}\n")?)
+            }
+            Refusal::FewCalls { part, calls } => Line::Made(few_calls_line(alloc, part, calls)?),
+            Refusal::FewParts(parts) => {
+                Line::Made(format!(in alloc; "the run has {parts} parts\n")?)
+            }
             Refusal::Unfit => Line::Known(b"bad script: shape\n"),
             Refusal::Missing(number) => {
                 Line::Made(format!(in alloc; "missing move {number}\n")?)
@@ -210,12 +230,14 @@ impl Refusal {
         ensures { result ≡ refusal_status self }
     {
         match self {
-            Refusal::Missing(_) => 1,
+            Refusal::Missing(_) | Refusal::Illegal { part: _, call: _ } => 1,
             Refusal::Words
             | Refusal::TooLarge
             | Refusal::BadScript(_)
             | Refusal::Unfit
-            | Refusal::Apart(_) => 2,
+            | Refusal::Apart(_)
+            | Refusal::FewCalls { part: _, calls: _ }
+            | Refusal::FewParts(_) => 2,
             Refusal::BadJournal(error) => journal_status(error),
             Refusal::BadPart { part: _, fault } => journal_status(fault),
             Refusal::NoThread | Refusal::Memory => 3,

@@ -1,11 +1,11 @@
 //! The program's words.
-ghost use Rattle.std.specs.Prelude.{◌≡◌, false, map, IfOk, IfErr, IfSome, IfNone, string_bytes};
+ghost use Rattle.std.specs.Prelude.{◌≡◌, ◌↔◌, false, map, IfOk, IfErr, IfSome, IfNone, IsTrue, string_bytes};
 ghost use Rattle.clap.specs.Words.{FailsBy, app_of, found_of, kind_of, rows_of, rule_of, subcommand_of};
 ghost use Rattle.clap.specs.Words.{subcommand_rows_of};
 ghost use Rattle.asm_driver.specs.Words.{capacity as capacity_rule, journal as journal_rule, terms as terms_rule};
-ghost use Rattle.asm_driver.specs.Words.{every as every_rule, kind_rule};
-ghost use Rattle.asm_driver.specs.Words.{with_audit, with_explain, with_journals, program, faults, Asks, AsksKind, AsksRun};
-ghost use Rattle.asm_driver.specs.Words.{AsksAudit, AsksFor, IsNoCommand, IsMadeOf, IsRefusal, Answers};
+ghost use Rattle.asm_driver.specs.Words.{every as every_rule, kind_rule, number_rule};
+ghost use Rattle.asm_driver.specs.Words.{with_audit, with_explain, with_journals, with_trace, program, faults, Asks, AsksKind, AsksRun};
+ghost use Rattle.asm_driver.specs.Words.{AsksAudit, AsksTrace, IsForward, AsksFor, IsNoCommand, IsMadeOf, IsRefusal, Answers};
 
 use asm_row::CAPACITY_LIMIT;
 use clap::error::ErrorKind;
@@ -28,12 +28,37 @@ pub enum Request {
     Rewrite,
     /// To write the trace of a journal.
     Trace,
+    /// To write the trace of these calls of a run, whose parts are journals.
+    Show(Window),
     /// To audit a run, whose parts are journals.
     Audit,
     /// To audit a run, and to write how far that is after each so many calls.
     Watch { every: u32 },
     /// To write where and why a text of this kind is refused.
     Explain(TextKind),
+}
+
+/// Some calls of a run that follow one another.
+#[derive(Clone, Copy, Debug, PartialEq, Eq)]
+pub struct Window {
+    /// The number of the part that they are in. Parts count from 0.
+    pub part: u32,
+    /// The number of the first of them. Calls of a part count from 0.
+    pub from: u32,
+    /// The number of the call behind the last of them; where there is none, they go on to the part's end.
+    pub to: Option<u32>,
+}
+
+impl Window {
+    /// Whether it doesn't end before it begins.
+    fn is_forward(self) -> bool
+        ensures { IsTrue result ↔ IsForward self }
+    {
+        match self.to {
+            Some(to) => self.from <= to,
+            None => true,
+        }
+    }
 }
 
 /// The kinds of texts that are explained.
@@ -91,7 +116,20 @@ fn terms_option<'a>(alloc: Global) -> Arg<'a>
         .help("Writes behind the report where terms had no value, and why")
 }
 
-/// Adds the commands that read a journal.
+// An option with a number of 32 bits.
+fn number_option<'a>(alloc: Global, name: &'a str, help: &'a str) -> Arg<'a>
+    ensures rule { rule_of result ≡ number_rule name.now }
+    ensures local { result.global ≡ false }
+{
+    Arg::new(alloc, name)
+        .long(name)
+        .action(ArgAction::Set)
+        .value_parser(value_parser!(u32).range(0..=4_294_967_295))
+        .value_name("N")
+        .help(help)
+}
+
+/// Adds the commands that read a journal and have no option.
 fn with_journals<'a>(alloc: Global, command: Command<'a>) -> Result<Command<'a>, AllocError>
     ensures app { IfOk result (λ c. app_of c ≡ with_journals (app_of command.entry)) }
 {
@@ -101,13 +139,33 @@ fn with_journals<'a>(alloc: Global, command: Command<'a>) -> Result<Command<'a>,
     let rewrite = Command::new(alloc, "rewrite").about(
         "Rewrites a journal of at most 16777216 bytes, which is read from standard input, in version 2, and doesn't check it; audit has no such limit",
     );
-    let trace = Command::new(alloc, "trace").about(
-        "Traces a journal of at most 16777216 bytes, which is read from standard input, and writes what each call did; audit has no such limit",
-    );
-    command
-        .subcommand(check)?
-        .subcommand(rewrite)?
-        .subcommand(trace)
+    command.subcommand(check)?.subcommand(rewrite)
+}
+
+/// Adds the command that traces a journal, or a window of a run.
+fn with_trace<'a>(alloc: Global, command: Command<'a>) -> Result<Command<'a>, AllocError>
+    ensures app { IfOk result (λ c. app_of c ≡ with_trace (app_of command.entry)) }
+{
+    let trace = Command::new(alloc, "trace")
+        .about(
+            "Traces a journal of at most 16777216 bytes, which is read from standard input, and writes what each call did; with an option it traces a window of a run of any length, as audit reads it, and holds the window's text in memory until its end was read",
+        )
+        .arg(number_option(
+            alloc,
+            "part",
+            "Which part of the run, counted from 0; 0 where it isn't given",
+        ))?
+        .arg(number_option(
+            alloc,
+            "from",
+            "The window's first call, counted from 0 in its part; 0 where it isn't given",
+        ))?
+        .arg(number_option(
+            alloc,
+            "to",
+            "The call behind the window's last one; the end of its part where it isn't given",
+        ))?;
+    command.subcommand(trace)
 }
 
 fn every_option<'a>(alloc: Global) -> Arg<'a>
@@ -171,10 +229,9 @@ fn program_command<'a>(alloc: Global) -> Result<Command<'a>, AllocError>
         )
         .version("0.2.0")
         .subcommand_required(true);
-    with_audit(
-        alloc,
-        with_explain(alloc, with_journals(alloc, named.subcommand(run)?)?)?,
-    )
+    let journals = with_journals(alloc, named.subcommand(run)?)?;
+    let explain = with_explain(alloc, with_trace(alloc, journals)?)?;
+    with_audit(alloc, explain)
 }
 
 fn parse<'a>(alloc: Global, words: &'a [String]) -> Result<ArgMatches<'a>, Error>
@@ -217,6 +274,29 @@ fn audit_asked(options: &ArgMatches<'_>) -> Request
     }
 }
 
+/// What the options of `trace` ask for; nothing where a window would end before it begins.
+fn trace_asked(options: &ArgMatches<'_>) -> Option<Request>
+    ensures some { IfSome result (AsksTrace (rows_of (found_of options.now))) }
+    ensures none { IfNone result ((r : Request) → ¬ AsksTrace (rows_of (found_of options.now)) r) }
+{
+    let part = options.get_one::<u32>("part");
+    let from = options.get_one::<u32>("from");
+    let to = options.get_one::<u32>("to");
+    if part.or(from).or(to).is_none() {
+        return Some(Request::Trace);
+    }
+    let window = Window {
+        part: part.unwrap_or(0),
+        from: from.unwrap_or(0),
+        to,
+    };
+    if window.is_forward() {
+        Some(Request::Show(window))
+    } else {
+        None
+    }
+}
+
 /// The kind of text that the word behind `explain` names.
 fn kind_asked(options: &ArgMatches<'_>) -> Option<TextKind>
     ensures some { IfSome result (AsksKind (rows_of (found_of options.now))) }
@@ -251,7 +331,7 @@ fn asked(matches: &ArgMatches<'_>) -> Option<Request>
         return Some(Request::Rewrite);
     }
     if name == "trace" {
-        return Some(Request::Trace);
+        return trace_asked(options);
     }
     if name == "audit" {
         return Some(audit_asked(options));

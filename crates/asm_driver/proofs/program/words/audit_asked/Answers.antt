@@ -1,16 +1,17 @@
 use Rattle.std.specs.Str.Parse.{ParsesUnsigned, ExplainsUnsignedError, HasUnsignedDigitsIfOk}
 use Rattle.clap.specs.Words.{found_of}
-use Rattle.asm_driver.proofs.Asking.{every_asked, none_asked}
+use Rattle.std.proofs.Common.{Some, None, codes}
+use Rattle.asm_driver.proofs.Asking.{number_asked}
 use Rattle.asm_driver.proofs.program.words.audit_asked.Goals as goal
 
 pub returns-in-Some : goal.returns-in-Some
 returns-in-Some c =
-    every_asked (λ bs r. ParsesUnsigned 32 10 bs r × ExplainsUnsignedError 10 bs r × HasUnsignedDigitsIfOk bs r)
-    (found_of c.args.options.now) c.get_one.result (λ t r g. g.0) c.get_one.ensures.none c.get_one.ensures.value
-    c.in-Some.every c.in-Some.is
+    number_asked (λ bs r. ParsesUnsigned 32 10 bs r × ExplainsUnsignedError 10 bs r × HasUnsignedDigitsIfOk bs r)
+    (found_of c.args.options.now) (codes "every") c.get_one.result (λ t r g. g.0) c.get_one.ensures.none
+    c.get_one.ensures.value (Some c.in-Some.every) c.in-Some.is
 
 pub returns-in-None : goal.returns-in-None
 returns-in-None c =
-    none_asked (λ bs r. ParsesUnsigned 32 10 bs r × ExplainsUnsignedError 10 bs r × HasUnsignedDigitsIfOk bs r)
-    (found_of c.args.options.now) c.get_one.result (λ t r g. g.0) c.get_one.ensures.none c.get_one.ensures.value
-    c.in-None.is
+    number_asked (λ bs r. ParsesUnsigned 32 10 bs r × ExplainsUnsignedError 10 bs r × HasUnsignedDigitsIfOk bs r)
+    (found_of c.args.options.now) (codes "every") c.get_one.result (λ t r g. g.0) c.get_one.ensures.none
+    c.get_one.ensures.value None c.in-None.is

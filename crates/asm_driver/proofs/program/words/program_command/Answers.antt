@@ -2,7 +2,7 @@ use Rattle.std.proofs.Common.{rules, ap, ap₂, codes, true, ◌≡◌, ◌∙�
 use Rattle.std.proofs.lemmas.Result.{IfOk-weaker}
 use Rattle.clap.specs.Simple.{app_of_fields}
 use Rattle.clap.specs.Words.{App, app_of, new_app, with_rule, with_subcommand}
-use Rattle.asm_driver.specs.Words.{capacity, journal, run, with_audit, with_explain, with_journals}
+use Rattle.asm_driver.specs.Words.{capacity, journal, run, with_audit, with_explain, with_journals, with_trace}
 use Rattle.asm_driver.proofs.program.words.program_command.Goals as goal
 
 abbrev versioned : App → App
@@ -30,10 +30,12 @@ returns c =
     ap app_of_fields c.subcommand_required-named.ensures ∙ ap required versioned_is in
     let one_is : app_of c.in_ok-subcommand.field-0 ≡ with_subcommand wanted run.top =
     c.in_ok-subcommand.ensures.shape (search rules) ∙ ap₂ with_subcommand named_is (ap (λ (a : App). a.top) run_is) in
-    let journals_are : app_of c.in_ok-with_journals.field-0 ≡ with_journals (with_subcommand wanted run.top) =
-    c.in_ok-with_journals.ensures.app ∙ ap with_journals one_is in
-    let explain_is : app_of c.in_ok-with_explain.field-0 ≡ with_explain (with_journals (with_subcommand wanted run.top)) =
-    c.in_ok-with_explain.ensures.app ∙ ap with_explain journals_are in
+    let journals_are : app_of c.in_ok-journals.journals ≡ with_journals (with_subcommand wanted run.top) =
+    c.in_ok-journals.ensures.app ∙ ap with_journals one_is in
+    let trace_is : app_of c.in_ok-with_trace.field-0 ≡ with_trace (with_journals (with_subcommand wanted run.top)) =
+    c.in_ok-with_trace.ensures.app ∙ ap with_trace journals_are in
+    let explain_is : app_of c.in_ok-explain.explain ≡ with_explain (with_trace (with_journals (with_subcommand wanted run.top))) =
+    c.in_ok-explain.ensures.app ∙ ap with_explain trace_is in
     record {
       app = IfOk-weaker c.with_audit.result _ _ (λ m h. h ∙ ap with_audit explain_is) c.with_audit.ensures.app;
     }

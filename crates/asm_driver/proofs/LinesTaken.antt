@@ -1,0 +1,111 @@
+-- Lines that are taken from the input, and what is told at one of them.
+use Rattle.std.proofs.Common.{◌≡◌, ◌≢◌, ℕ, Bool, List, [], ◌∷◌, ◌++◌, Err, refl, sym, ap, subst, ◌∙◌, inl, inr, append-nil, append_assoc}
+use Rattle.std.proofs.KnownBytes.{Consumes-trans}
+use Rattle.std.specs.Io.KnownBytes.{Consumes}
+use Rattle.std.proofs.lemmas.List.Elements.{All-nil}
+use Rattle.serde_json.specs.Data.{Data}
+use Rattle.asm_journal.specs.Reading.{HasNoLineFeed, HasLine}
+use Rattle.asm_audit.specs.Text.{IsLineBefore}
+use Rattle.asm_audit.proofs.Extended.{ended}
+use Rattle.asm_driver.specs.Audit.{is_failed_read}
+use Rattle.asm_driver.specs.Input.{Known, TakesAny}
+use Rattle.asm_driver.specs.Lines.{Takes, IsLineAt, IsLongLine, IsLineRead}
+use Rattle.asm_driver.specs.Parts.{IsAt, IsOneLine, IsToldBehind}
+use Rattle.asm_driver.specs.Refusal.{refusal_of_input}
+use Rattle.asm_driver.specs.declared.ports.input.InputError.{InputError}
+use Rattle.asm_driver.specs.declared.ports.input.InputError.TheVariants.{TooLarge, Fault, Memory}
+use Rattle.asm_driver.specs.declared.program.refusal.Refusal.{Refusal}
+use Rattle.asm_driver.specs.declared.program.refusal.Refusal.TheVariants as refusal
+use Rattle.asm_driver.proofs.PartLines.{IsLineOf}
+
+none_open : HasNoLineFeed []
+none_open = All-nil (λ b. b ≢ 10)
+
+-- ---- bytes behind those that were taken
+
+pub taken_on : (had old new : Known) (text before behind bytes : List ℕ) → IsAt had old text before →
+    Takes old new before behind bytes → IsAt had new (text ++ bytes) behind
+taken_on had old new text before behind bytes at (more, consumed, all) =
+    subst (Consumes had new)
+    (append_assoc text before more ∙ ap (λ (l : List ℕ). text ++ l) all ∙ sym (append_assoc text bytes behind))
+    (Consumes-trans had old new (text ++ before) more at consumed)
+
+-- all bytes that were read, whatever was told of them
+any_taken : (had old new : Known) (text before : List ℕ) → IsAt had old text before → (taken : TakesAny old new) →
+    Consumes had new (text ++ (before ++ taken.0))
+any_taken had old new text before at (more, consumed) =
+    subst (Consumes had new) (append_assoc text before more) (Consumes-trans had old new (text ++ before) more at consumed)
+
+-- ---- what is told at a line
+
+module _ (had left : Known) (failed : Bool) (text : List ℕ) (Told : List ℕ → Refusal → Type 0) where
+  -- what is told wherever it is asked for
+  pub told_anywhere : (r : Refusal) (behind : List ℕ) → Consumes had left (text ++ behind) →
+      failed ≡ is_failed_read (Err r) → ((all : List ℕ) → Told all r) → IsToldBehind had left failed text Told r
+  told_anywhere r behind consumed noted any = record {
+    line = [];
+    behind = behind;
+    consumed = consumed;
+    one = inl none_open;
+    told = inr (λ more. any (text ++ more));
+    noted = noted;
+  }
+
+  -- what is told of a line, whatever stands behind it
+  pub told_at : (r : Refusal) (line behind : List ℕ) → IsAt had left (text ++ line) behind → IsLineAt left behind line →
+      failed ≡ is_failed_read (Err r) → ((rest : List ℕ) → IsLineOf line rest → Told (text ++ (line ++ rest)) r) →
+      IsToldBehind had left failed text Told r
+  told_at r line behind at (inl (body, ends)) noted is = record {
+    line = line;
+    behind = behind;
+    consumed = subst (Consumes had left) (append_assoc text line behind) at;
+    one = inr (body, ends);
+    told = inr (λ more. is more (inl (inl (body, ends))));
+    noted = noted;
+  }
+  told_at r line behind at (inr (none, nothing, end)) noted is = record {
+    line = line;
+    behind = behind;
+    consumed = subst (Consumes had left) (append_assoc text line behind) at;
+    one = inl none;
+    told = inl (end, nothing, subst (λ (l : List ℕ). Told (text ++ l) r) (append-nil line) (is [] (last line none)));
+    noted = noted;
+  } where
+    last : (l : List ℕ) → HasNoLineFeed l → IsLineOf l []
+    last [] none = inr (refl, refl)
+    last (b ∷ bs) none = inl (inr (refl, (λ e. cc), none))
+
+-- ---- a line that wasn't read
+
+pub unread_told : (had old new : Known) (failed : Bool) (text before behind line : List ℕ)
+    (Told : List ℕ → Refusal → Type 0) (e : InputError) → IsAt had old text before →
+    IsLineRead old new failed before behind line (Err e) → ((all : List ℕ) → Told all refusal.InputFault) →
+    ((all : List ℕ) → Told all refusal.Memory) →
+    ((long more : List ℕ) → IsLongLine long → Told (text ++ (long ++ more)) refusal.TooLarge) →
+    IsToldBehind had new failed text Told (refusal_of_input e)
+unread_told had old new failed text before behind line Told TooLarge at (long, taken, is, noted) fault memory large = record {
+  line = long;
+  behind = behind;
+  consumed = subst (Consumes had new) (append_assoc text long behind) (taken_on had old new text before behind long at taken);
+  one = inl is.0;
+  told = inr (λ more. large long more is);
+  noted = noted;
+}
+unread_told had old new failed text before behind line Told Fault at (taken, noted) fault memory large =
+    told_anywhere had new failed text Told refusal.InputFault (before ++ taken.0) (any_taken had old new text before at taken)
+    noted fault
+unread_told had old new failed text before behind line Told Memory at (taken, noted) fault memory large =
+    told_anywhere had new failed text Told refusal.Memory (before ++ taken.0) (any_taken had old new text before at taken) noted
+    memory
+
+-- ---- lines
+
+-- what is read as a value has its line feed
+pub line_ended : (left : Known) (behind line : List ℕ) (d : Data) (after : List ℕ) → IsLineAt left behind line →
+    HasLine line d after → IsLineBefore line []
+line_ended left behind line d after (inl is) has = inl is
+line_ended left behind line d after (inr (none, nothing, end)) has = absurd (ended line has.0 after has.1 none)
+
+pub line_one : (left : Known) (behind line : List ℕ) → IsLineAt left behind line → IsOneLine line
+line_one left behind line (inl is) = inr is
+line_one left behind line (inr (none, nothing, end)) = inl none

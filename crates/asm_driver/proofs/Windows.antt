@@ -1,0 +1,245 @@
+-- A window of a run that is traced.
+use Rattle.std.proofs.Common.{◌≡◌, ◌+◌, ◌≤◌, ◌<◌, ◌⊎◌, ℕ, Bool, false, List, [], ◌∷◌, ◌++◌, length, refl, sym, ap, subst, ◌∙◌, inl, inr, append-nil, append_assoc, length-append, arith}
+use Rattle.std.specs.Io.KnownBytes.{Consumes, IsAtEnd}
+use Rattle.asm_aggregate.specs.Standard.{standard_part}
+use Rattle.asm_update.specs.State.{State}
+use Rattle.asm_update.specs.State as plain
+use Rattle.asm_state.specs.Stands.{Stands}
+use Rattle.asm_state.specs.View.{StateView}
+use Rattle.asm_storage.specs.History.{fired_moves}
+use Rattle.asm_storage.specs.Limits.{events_limit}
+use Rattle.asm_storage.specs.declared.history.Event.{Event}
+use Rattle.asm_storage.proofs.Legal.{fired_moves-append}
+use Rattle.asm_journal.specs.Check.{machine}
+use Rattle.asm_journal.specs.Text.{line}
+use Rattle.asm_audit.specs.declared.opened.Opened as audit
+use Rattle.asm_audit.specs.Opened.{history_of}
+use Rattle.asm_audit.proofs.Extended.{begun_more}
+use Rattle.asm_audit.proofs.Steps.{legal_more}
+use Rattle.asm_trace.specs.Note.{Note, IsNoteOf, AreNotesOf}
+use Rattle.asm_trace.specs.Text.{notes_text, note_json_of, IsNoted}
+use Rattle.asm_trace.proofs.Noted.{notes_more, text_more, few_moves}
+use Rattle.asm_driver.specs.Input.{Known}
+use Rattle.asm_driver.specs.Parts.{IsPartRead, AreParts, IsAt, IsOneLine, IsRefusedRun, IsToldBehind}
+use Rattle.std.specs.FinMap as finite
+use Rattle.serde_json.specs.Data.{Data}
+use Rattle.serde_json.specs.Written.{has_float}
+use Rattle.asm_update.specs.Fire.{state_of}
+use Rattle.asm_journal.specs.Value.{IsStateForm, pair_json_of}
+use Rattle.asm_journal.proofs.Floats.{list_no_float, pair_no_float}
+use Rattle.asm_audit.specs.Step.{HasValues}
+use Rattle.asm_audit.proofs.SameState.{IsHeld, proper_held, written_held, left_held, same_values}
+use Rattle.asm_driver.specs.declared.program.parts.Opened.{Opened}
+use Rattle.asm_driver.specs.Window.{end_in, LiesIn, window_header, window_header_with, IsShown, HasFewCalls, IsBadWindow, IsInside, IsWindow, IsNoWindow, IsUpTo}
+use Rattle.asm_driver.specs.declared.program.refusal.Refusal.{Refusal}
+use Rattle.asm_driver.specs.declared.program.refusal.Refusal.TheVariants as refusal
+use Rattle.asm_driver.specs.declared.program.words.Window.{Window}
+use Rattle.asm_driver.proofs.LinesTaken.{told_anywhere}
+
+-- ---- refusals
+
+-- why a run is refused is why no window of it is told
+pub bad_window : (w : Window) (text : List ℕ) (r : Refusal) → IsRefusedRun text r → IsBadWindow w text r
+bad_window w text (refusal.FewCalls part calls) is = absurd is
+bad_window w text (refusal.FewParts parts) is = absurd is
+bad_window w text r is = is
+
+pub refused_window : (w : Window) (had left : Known) (failed : Bool) (text : List ℕ) (r : Refusal) → IsInside w text →
+    IsToldBehind had left failed text IsRefusedRun r → IsNoWindow w had left failed r
+refused_window w had left failed text r inside told = (
+  text,
+  inside,
+  record {
+    line = told.line;
+    behind = told.behind;
+    consumed = told.consumed;
+    one = told.one;
+    told = by_end told.told;
+    noted = told.noted;
+  },
+) where
+  by_end : (IsAtEnd left × (told.behind ≡ []) × IsRefusedRun (text ++ told.line) r)
+      ⊎ ((more : List ℕ) → IsRefusedRun (text ++ (told.line ++ more)) r) →
+      (IsAtEnd left × (told.behind ≡ []) × IsBadWindow w (text ++ told.line) r)
+      ⊎ ((more : List ℕ) → IsBadWindow w (text ++ (told.line ++ more)) r)
+  by_end (inl (end, nothing, is)) = inl (end, nothing, bad_window w (text ++ told.line) r is)
+  by_end (inr is) = inr (λ more. bad_window w (text ++ (told.line ++ more)) r (is more))
+
+-- whole parts
+pub inside_parts : (w : Window) (text : List ℕ) (number : ℕ) → AreParts number text → number ≤ w.part → IsInside w text
+inside_parts w text number are few = inl (number, are, few)
+
+pub no_parts : AreParts 0 []
+no_parts = record { first = plain.empty; parts = []; has = record { journals = refl; legal = tt }; numbered = refl }
+
+-- and events of a further one
+pub inside_part : (w : Window) (number calls : ℕ) (text : List ℕ) (o : audit.Opened) (A : State) (es : List Event) →
+    IsPartRead number text o A es → IsUpTo w number calls o.limits.events → length es < calls → IsInside w text
+inside_part w number calls text o A es read up_to less = inr (number, o, A, es, read, few up_to, fewer up_to) where
+  few : IsUpTo w number calls o.limits.events → number ≤ w.part
+  few (inl h) = omega (arith, h)
+  few (inr h) = let same = h.0 in omega (arith, same)
+
+  fewer : IsUpTo w number calls o.limits.events → number ≡ w.part → length es < end_in w o.limits.events
+  fewer (inl h) same = absurd (omega (arith, h, same))
+  fewer (inr h) same = let most = h.1 in omega (arith, most, less)
+
+-- refused memory tells nothing
+pub memory_window : (w : Window) (had left : Known) (failed : Bool) (bytes : List ℕ) → Consumes had left bytes →
+    failed ≡ false → IsNoWindow w had left failed refusal.Memory
+memory_window w had left failed bytes consumed noted = (
+  [],
+  inside_parts w [] 0 no_parts (omega arith),
+  told_anywhere had left failed [] (IsBadWindow w) refusal.Memory bytes consumed noted (λ all. tt),
+)
+
+-- the window goes beyond its part
+pub few_calls : (w : Window) (had left : Known) (failed : Bool) (text l behind : List ℕ) (number : ℕ) (o : audit.Opened)
+    (A : State) → number ≡ w.part → AreParts number text → IsOneLine l → IsPartRead number (text ++ l) o A [] →
+    IsAt had left (text ++ l) behind → failed ≡ false → ¬ LiesIn w o.limits.events →
+    IsNoWindow w had left failed (refusal.FewCalls w.part o.limits.events)
+few_calls w had left failed text l behind number o A same are one read at noted beyond = (
+  text,
+  inside_parts w text number are (omega (arith, same)),
+  record {
+    line = l;
+    behind = behind;
+    consumed = subst (Consumes had left) (append_assoc text l behind) at;
+    one = one;
+    told = inr (λ more. subst (λ (t : List ℕ). IsBadWindow w t (refusal.FewCalls w.part o.limits.events))
+        (append_assoc text l more) (refl, calls more));
+    noted = noted;
+  },
+) where
+  calls : (more : List ℕ) → HasFewCalls w ((text ++ l) ++ more) o.limits.events
+  calls more = record {
+    first = read.first;
+    parts = read.parts;
+    rest = read.rest ++ more;
+    has = legal_more standard_part read.first read.parts (text ++ l) read.rest more read.has;
+    number = read.numbered ∙ same;
+    v = o.limits.version;
+    h = history_of o.limits A [];
+    behind = more;
+    going = record {
+      begun = begun_more o.limits.version o.limits.events (history_of o.limits A []) read.rest [] more read.going.begun;
+      opens = read.going.opens ∙ read.opens;
+      legal = read.going.legal;
+    };
+    beyond = beyond;
+  }
+
+-- ---- the window
+
+pub window_shown : (w : Window) (had left : Known) (failed : Bool) (text behind : List ℕ) (o : audit.Opened) (A : State)
+    (es shown : List Event) (notes : List Note) (told : List ℕ) → IsAt had left text behind → failed ≡ false →
+    IsPartRead w.part text o A (es ++ shown) → LiesIn w o.limits.events → length es ≡ w.from →
+    length (es ++ shown) ≡ end_in w o.limits.events →
+    AreNotesOf (machine standard_part A o.limits.capacity) (fired_moves es) (length es) shown notes →
+    told ≡ line (window_header w.part (history_of o.limits A (es ++ shown)) es (length shown)) ++ notes_text notes →
+    IsWindow w had left failed told
+window_shown w had left failed text behind o A es shown notes told at noted read lies from end are is = record {
+  bytes = text ++ behind;
+  consumed = at;
+  shown = λ more. subst (λ (t : List ℕ). IsShown w t told) (sym (append_assoc text behind more)) (here (behind ++ more));
+  noted = noted;
+} where
+  here : (rest : List ℕ) → IsShown w (text ++ rest) told
+  here rest = record {
+    first = read.first;
+    parts = read.parts;
+    rest = read.rest ++ rest;
+    has = legal_more standard_part read.first read.parts text read.rest rest read.has;
+    number = read.numbered;
+    v = o.limits.version;
+    count = o.limits.events;
+    h = history_of o.limits A (es ++ shown);
+    behind = rest;
+    going = record {
+      begun = begun_more o.limits.version o.limits.events (history_of o.limits A (es ++ shown)) read.rest [] rest read.going.begun;
+      opens = read.going.opens ∙ read.opens;
+      legal = read.going.legal;
+    };
+    lies = lies;
+    before = es;
+    shown = shown;
+    events = refl;
+    from = from;
+    end = end;
+    is = (notes, are, is);
+  }
+
+-- ---- notes
+
+-- these events were noted behind those, and the state stands for the moves of all
+pub record AreNotedTo (capacity : ℕ) (A : State) (es shown : List Event) (s : StateView) (old new : List ℕ) : Type 0 where
+  pub notes : List Note
+  pub are : AreNotesOf (machine standard_part A capacity) (fired_moves es) (length es) shown notes
+  pub text : new ≡ old ++ notes_text notes
+  pub stands : Stands standard_part A s (fired_moves (es ++ shown))
+
+pub noted_none : (capacity : ℕ) (A : State) (es : List Event) (s : StateView) (old : List ℕ) →
+    Stands standard_part A s (fired_moves es) → AreNotedTo capacity A es [] s old old
+noted_none capacity A es s old stands = record {
+  notes = [];
+  are = tt;
+  text = sym (append-nil old);
+  stands = subst (λ (xs : List Event). Stands standard_part A s (fired_moves xs)) (sym (append-nil es)) stands;
+}
+
+pub noted_more : (capacity : ℕ) (A : State) (es shown : List Event) (e : Event) (n : ℕ) (s t : StateView)
+    (old mid new : List ℕ) → AreNotedTo capacity A es shown s old mid → n ≡ length (es ++ shown) →
+    IsNoted standard_part capacity n e s t mid new → AreNotedTo capacity A es (shown ++ e ∷ []) t old new
+noted_more capacity A es shown e n s t old mid new so_far number step =
+    let m = machine standard_part A capacity in
+    let q = fired_moves (es ++ shown) in
+    let done = step A q so_far.stands in
+    let x : Note = done.0.0 in
+    let moves : q ≡ fired_moves es ++ fired_moves shown = fired_moves-append es shown in
+    let count : n ≡ length es + length shown = number ∙ length-append es shown in
+    let one = subst (λ k. IsNoteOf m (fired_moves es ++ fired_moves shown) k e x) count
+    (subst (λ p. IsNoteOf m p n e x) moves done.0.1) in
+    record {
+      notes = so_far.notes ++ x ∷ [];
+      are = notes_more m (fired_moves es) (length es) shown e so_far.notes x so_far.are one;
+      text = done.0.2 ∙ ap (λ b. b ++ line (note_json_of x)) so_far.text
+          ∙ append_assoc old (notes_text so_far.notes) (line (note_json_of x))
+          ∙ ap (λ b. old ++ b) (sym (text_more so_far.notes x));
+      stands = subst (λ (xs : List Event). Stands standard_part A t (fired_moves xs)) (append_assoc es shown (e ∷ []))
+          (subst (Stands standard_part A t) (sym (fired_moves-append (es ++ shown) (e ∷ []))) done.1);
+    }
+
+-- the state has followed fewer moves than can be counted
+pub few_followed : (number n count : ℕ) (text : List ℕ) (o : audit.Opened) (A : State) (es : List Event) (s : StateView) →
+    IsPartRead number text o A es → Stands standard_part A s (fired_moves es) → length es < count → count ≤ events_limit →
+    s.number < events_limit
+few_followed number n count text o A es s read stands less few =
+    let moves = few_moves es in
+    let followed = stands.number in
+    omega (arith, moves, followed, less, few)
+
+-- ---- the header
+
+-- the opening state of a part holds no undef
+pub part_held : (number : ℕ) (text : List ℕ) (o : audit.Opened) (A : State) (es : List Event) → IsPartRead number text o A es →
+    IsHeld A
+part_held number text o A es read = form_held A read.going.begun.header.3 read.going.begun.header.7 where
+  form_held : (B : State) (pairs : Data) → IsStateForm B pairs → IsHeld B
+  form_held B pairs form = subst IsHeld (sym form.2.1) (written_held form.0)
+
+pub header_is : (o : Opened) (init A : State) (es all : List Event) (count : ℕ) (d : Data) → HasValues o.state init → IsHeld A →
+    o.taken ≡ length es → Stands standard_part A o.state (fired_moves es) →
+    d ≡ window_header_with o.limits.agents o.limits.capacity count o.taken init o.state.number o.number →
+    d ≡ window_header o.number (history_of o.limits A all) es count
+header_is o init A es all count d has held taken stands is =
+    let left = same_values init (state_of standard_part A (fired_moves es)) (proper_held init has.1)
+    (left_held standard_part A (fired_moves es) held) (λ l. has.0 l ∙ stands.values l) in
+    is ∙ ap (λ n. window_header_with o.limits.agents o.limits.capacity count n init o.state.number o.number) taken
+    ∙ ap (λ B. window_header_with o.limits.agents o.limits.capacity count (length es) B o.state.number o.number) left
+    ∙ ap (λ n. window_header_with o.limits.agents o.limits.capacity count (length es)
+    (state_of standard_part A (fired_moves es)) n o.number) stands.number
+
+pub window_no_float : (agents capacity events from : ℕ) (init : State) (moves part : ℕ) →
+    has_float (window_header_with agents capacity events from init moves part) ≡ false
+window_no_float agents capacity events from init moves part =
+    rw (list_no_float pair_json_of pair_no_float (finite.entries init)) refl

@@ -1,0 +1,156 @@
+-- What is told of a window of a run.
+use Rattle.std.specs.Prelude.{◌≡◌, ◌<◌, ◌≤◌, ◌⊎◌, ℕ, Bool, false, List, [], ◌++◌, length, codes, unwrap_or}
+use Rattle.std.specs.Prelude.{Result, Ok, Err}
+use Rattle.std.specs.Io.KnownBytes.{Consumes}
+use Rattle.serde_json.specs.Data.{Data, object, member, no_members}
+use Rattle.asm_aggregate.specs.Standard.{standard_part}
+use Rattle.asm_update.specs.State.{State}
+use Rattle.asm_storage.specs.History.{fired_moves}
+use Rattle.asm_storage.specs.Machine.{machine_state}
+use Rattle.asm_storage.specs.declared.history.Event.{Event}
+use Rattle.asm_storage.specs.declared.history.History.{History}
+use Rattle.asm_journal.specs.Check.{machine, machine_of}
+use Rattle.asm_journal.specs.Shape.{number_json_of}
+use Rattle.asm_journal.specs.Text.{line, state_json_of}
+use Rattle.asm_audit.specs.Audited.{IsWhole}
+use Rattle.asm_audit.specs.Chain.{last_left, HasLegal, IsGoing}
+use Rattle.asm_audit.specs.declared.progress.Counts.{Counts}
+use Rattle.asm_trace.specs.Note.{Note, AreNotesOf}
+use Rattle.asm_trace.specs.Text.{notes_text}
+use Rattle.asm_driver.specs.Input.{Known}
+use Rattle.asm_audit.specs.declared.opened.Opened as audit
+use Rattle.asm_driver.specs.Parts.{audited, AreParts, IsPartRead, IsAt, IsOneLine, IsRefusedRun, IsToldBehind}
+use Rattle.asm_driver.specs.declared.program.parts.Opened.{Opened}
+use Rattle.asm_driver.specs.declared.program.refusal.Refusal.{Refusal}
+use Rattle.asm_driver.specs.declared.program.refusal.Refusal.TheVariants as refusal
+use Rattle.asm_driver.specs.declared.program.words.Window.{Window}
+
+-- ---- a window
+
+-- the number of the call behind the window's last one, in a part of so many calls
+abbrev pub end_in : Window → ℕ → ℕ
+end_in w count = unwrap_or w.to count
+
+-- a part of so many calls has all calls of the window
+abbrev pub LiesIn : Window → ℕ → Type 0
+LiesIn w count = (w.from ≤ end_in w count) × (end_in w count ≤ count)
+
+-- ---- its text
+
+-- {"agents":N,"capacity":N,"events":N,"from":N,"init":[PAIR, ..],"moves":N,"part":N,"trace":2}
+abbrev pub window_header_with : ℕ → ℕ → ℕ → ℕ → State → ℕ → ℕ → Data
+window_header_with agents capacity events from init moves part =
+    object (member (codes "agents") (number_json_of agents) (member (codes "capacity") (number_json_of capacity)
+    (member (codes "events") (number_json_of events) (member (codes "from") (number_json_of from)
+    (member (codes "init") (state_json_of init) (member (codes "moves") (number_json_of moves)
+    (member (codes "part") (number_json_of part) (member (codes "trace") (number_json_of 2) no_members))))))))
+
+-- the header of a window of so many events of the part, which come after these: the state that the moves of these leave,
+-- and how many moves that are
+abbrev pub window_header : ℕ → History → List Event → ℕ → Data
+window_header part h before count =
+    let q = fired_moves before in
+    window_header_with h.agents h.capacity count (length before) (machine_state (machine_of standard_part h) q) (length q) part
+
+-- the header of a window of the part, and a line for each of its events, which come after these
+abbrev pub IsWindowText : ℕ → History → List Event → List Event → List ℕ → Type 0
+IsWindowText part h before shown text =
+    (notes : List Note)
+    × AreNotesOf (machine_of standard_part h) (fired_moves before) (length before) shown notes
+    × (text ≡ line (window_header part h before (length shown)) ++ notes_text notes)
+
+-- ---- what is told of a run
+
+-- the text is whole legal parts that go on from one another, as many as the window's number, and one more that is legal
+-- up to the window's end; and this is told of the window
+pub record IsShown (w : Window) (text told : List ℕ) : Type 0 where
+  pub first : State
+  pub parts : List History
+  pub rest : List ℕ
+  pub has : HasLegal standard_part first parts text rest
+  pub number : length parts ≡ w.part
+  pub v : ℕ
+  pub count : ℕ
+  pub h : History
+  pub behind : List ℕ
+  pub going : IsGoing standard_part (last_left standard_part first parts) v count h rest behind
+  pub lies : LiesIn w count
+  pub before : List Event
+  pub shown : List Event
+  pub events : h.events ≡ before ++ shown
+  pub from : length before ≡ w.from
+  pub end : length h.events ≡ end_in w count
+  pub is : IsWindowText w.part h before shown told
+
+-- the text is such parts, and the window's one has so many calls, beyond which the window goes
+pub record HasFewCalls (w : Window) (text : List ℕ) (count : ℕ) : Type 0 where
+  pub first : State
+  pub parts : List History
+  pub rest : List ℕ
+  pub has : HasLegal standard_part first parts text rest
+  pub number : length parts ≡ w.part
+  pub v : ℕ
+  pub h : History
+  pub behind : List ℕ
+  pub going : IsGoing standard_part (last_left standard_part first parts) v count h rest behind
+  pub beyond : ¬ LiesIn w count
+
+-- the text is whole legal parts, so many, and none has the window's number
+abbrev pub HasFewParts : Window → List ℕ → ℕ → Type 0
+HasFewParts w text count =
+    (count ≤ w.part) × ((found : Counts) × IsWhole standard_part text found × (found.parts ≡ count))
+
+-- why no window is told of a run of this text
+abbrev pub IsBadWindow : Window → List ℕ → Refusal → Type 0
+IsBadWindow w text (refusal.FewCalls part calls) = (part ≡ w.part) × HasFewCalls w text calls
+IsBadWindow w text (refusal.FewParts parts) = HasFewParts w text parts
+IsBadWindow w text r = IsRefusedRun text r
+
+-- the text is whole legal parts, at most as many as the window's number, and perhaps the header and the first events of one
+-- more: of the window's one fewer than the window goes on to
+abbrev pub IsInside : Window → List ℕ → Type 0
+IsInside w text =
+    ((number : ℕ) × AreParts number text × (number ≤ w.part))
+    ⊎ ((number : ℕ) × (o : audit.Opened) × (A : State) × (es : List Event) × IsPartRead number text o A es
+    × (number ≤ w.part) × (number ≡ w.part → length es < end_in w o.limits.events))
+
+-- some bytes of the input were taken, and this is told of the window, whatever stands behind them
+pub record IsWindow (w : Window) (had left : Known) (failed : Bool) (told : List ℕ) : Type 0 where
+  pub bytes : List ℕ
+  pub consumed : Consumes had left bytes
+  pub shown : (more : List ℕ) → IsShown w (bytes ++ more) told
+  pub noted : failed ≡ false
+
+-- some bytes of the input were taken, and no window is told: at a line that stands before the window's end
+abbrev pub IsNoWindow : Window → Known → Known → Bool → Refusal → Type 0
+IsNoWindow w had left failed r =
+    (taken : List ℕ) × IsInside w taken × IsToldBehind had left failed taken (IsBadWindow w) r
+
+-- ---- on the way
+
+-- so many events of the part with this number are no more than the window goes on to, in a part of so many calls
+abbrev pub IsUpTo : Window → ℕ → ℕ → ℕ → Type 0
+IsUpTo w number calls count = (number < w.part) ⊎ ((number ≡ w.part) × (calls ≤ end_in w count))
+
+-- so many events were read of the part; or the run is refused
+abbrev pub IsPassed : Window → Known → Known → Bool → ℕ → List ℕ → Opened → State → Result (Unit {0}) Refusal → Type 0
+IsPassed w had left failed calls behind o A (Ok u) =
+    (failed ≡ false) × ((text : List ℕ) × (es : List Event) × IsAt had left text behind
+    × IsPartRead o.number text (audited o) A es × (length es ≡ calls))
+IsPassed w had left failed calls behind o A (Err r) = IsNoWindow w had left failed r
+
+-- the header of the part was read, behind whole parts
+abbrev pub IsPartOpened : Known → Known → Bool → List ℕ → Opened → Type 0
+IsPartOpened had left failed behind o =
+    (failed ≡ false) × (o.taken ≡ 0) × ((text line : List ℕ) × (A : State) × IsAt had left (text ++ line) behind
+    × AreParts o.number text × IsOneLine line × IsPartRead o.number (text ++ line) (audited o) A [])
+
+-- the events up to the window's end were read, and the line of each was appended; or the run is refused
+abbrev pub AreNoted : Window → Known → Known → Bool → ℕ → List ℕ → Opened → State → List Event → List ℕ → List ℕ →
+    Result (Unit {0}) Refusal → Type 0
+AreNoted w had left failed end behind o A es old new (Ok u) =
+    (failed ≡ false) × ((text : List ℕ) × (shown : List Event) × (notes : List Note) × IsAt had left text behind
+    × IsPartRead w.part text (audited o) A (es ++ shown) × (length (es ++ shown) ≡ end)
+    × AreNotesOf (machine standard_part A o.limits.capacity) (fired_moves es) (length es) shown notes
+    × (new ≡ old ++ notes_text notes))
+AreNoted w had left failed end behind o A es old new (Err r) = IsNoWindow w had left failed r

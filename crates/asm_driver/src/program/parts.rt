@@ -1,0 +1,151 @@
+//! The parts of a run that is traced, line by line.
+ghost use Rattle.std.specs.Prelude.{◌≡◌, ◌<◌, ◌+◌, [], IfOk, IfErr};
+ghost use Rattle.asm_aggregate.specs.Standard.{standard_part};
+ghost use Rattle.asm_state.specs.Stands.{Stands};
+ghost use Rattle.asm_audit.specs.Step.{HasValues, IsNextTest};
+ghost use Rattle.asm_driver.specs.Parts.{audited, HasHeader, BreaksHeaderOf, IsOpenedFirst, IsOpenedNext};
+ghost use Rattle.asm_driver.specs.Parts.{IsNotOpenedNext, IsTakenAs, IsNotTaken, refusal_of_fault};
+
+use crate::program::refusal::Refusal;
+use asm_journal::{Header, JournalError, Limits, judge_event, read_event, read_header};
+use asm_play::aggregator::chosen;
+use asm_state::State;
+use asm_storage::Event;
+use asm_update::PlainState;
+use std::alloc::{AllocError, Global};
+
+/// A part of a run whose header was read, and some of its events.
+#[derive(Drop)]
+pub(crate) struct Opened {
+    /// Its number, counted from 0.
+    pub(crate) number: u32,
+    /// What its header says.
+    pub(crate) limits: Limits,
+    /// How many of its events were read.
+    pub(crate) taken: u32,
+    /// The state that the moves of these leave.
+    pub(crate) state: State,
+}
+
+// What is told of the fault of the journal of a part.
+fn fault_of(number: u32, fault: JournalError) -> Refusal
+    ensures { result ≡ refusal_of_fault number fault }
+{
+    match fault {
+        JournalError::Memory => Refusal::Memory,
+        fault => Refusal::BadPart {
+            part: u64::from(number),
+            fault,
+        },
+    }
+}
+
+// Reads the header of the part with this number.
+fn header_of(alloc: Global, number: u32, line: &[u8]) -> Result<Header, Refusal>
+    ensures ok { IfOk result (HasHeader line.now) }
+    ensures err { IfErr result (BreaksHeaderOf number line.now) }
+{
+    match read_header(alloc, line) {
+        Ok((header, _)) => Ok(header),
+        Err(fault) => Err(fault_of(number, fault)),
+    }
+}
+
+impl Opened {
+    // The part with this number, of which the header was read.
+    fn new(alloc: Global, number: u32, header: Header) -> Result<Opened, AllocError>
+        ensures number { IfOk result (λ o. o.number ≡ number) }
+        ensures limits { IfOk result (λ o. o.limits ≡ header.limits) }
+        ensures taken { IfOk result (λ o. o.taken ≡ 0) }
+        ensures stands { IfOk result (λ o. Stands standard_part header.init o.state []) }
+    {
+        let state = State::new(alloc, header.init)?;
+        Ok(Opened {
+            number,
+            limits: header.limits,
+            taken: 0,
+            state,
+        })
+    }
+
+    /// The state that the moves of these events leave.
+    ///
+    /// It costs a copy of each value. `AllocError` comes only where memory was refused.
+    pub(crate) fn left(&self, alloc: Global) -> Result<PlainState, AllocError>
+        ensures { IfOk result (HasValues self.now.state) }
+    {
+        let left = self.state.to_plain(alloc)?;
+        left.proper();
+        Ok(left)
+    }
+
+    // Whether the header opens with that state.
+    fn leads_to(&self, alloc: Global, header: &Header) -> Result<bool, AllocError>
+        ensures { IfOk result (IsNextTest self.now.state header.now.init) }
+    {
+        Ok(self.left(alloc)? == header.init)
+    }
+
+    /// Opens the first part of a run by its header's line.
+    ///
+    /// `BadPart` where this is none. `Memory` comes only where memory was refused.
+    pub(crate) fn first(alloc: Global, line: &[u8]) -> Result<Opened, Refusal>
+        ensures number { IfOk result (λ o. o.number ≡ 0) }
+        ensures ok { IfOk result (λ o. IsOpenedFirst line.now (audited o)) }
+        ensures err { IfErr result (BreaksHeaderOf 0 line.now) }
+    {
+        let header = header_of(alloc, 0, line)?;
+        Ok(Opened::new(alloc, 0, header)?)
+    }
+
+    /// Opens the part behind this one, which is whole, by its header's line.
+    ///
+    /// `BadPart` where this is none; `Apart` where it opens with another state than this part leaves. `Memory` comes only
+    /// where memory was refused.
+    pub(crate) fn next(&self, alloc: Global, line: &[u8]) -> Result<Opened, Refusal>
+        requires few { self.now.number < 4294967295 }
+        ensures number { IfOk result (λ o. o.number ≡ self.now.number + 1) }
+        ensures ok { IfOk result (λ o. IsOpenedNext line.now (audited self.now) (audited o)) }
+        ensures err { IfErr result (IsNotOpenedNext (self.now.number + 1) line.now (audited self.now)) }
+    {
+        let number = self.number + 1;
+        let header = header_of(alloc, number, line)?;
+        if !self.leads_to(alloc, &header)? {
+            return Err(Refusal::Apart(u64::from(number)));
+        }
+        Ok(Opened::new(alloc, number, header)?)
+    }
+
+    /// Takes the next event by its line. The state follows its move.
+    ///
+    /// `BadPart` where the line is no event; `Illegal` where its answer isn't that of the storage of one thread. `Memory`
+    /// comes only where memory was refused.
+    pub(crate) fn take(&mut self, alloc: Global, line: &[u8]) -> Result<Event, Refusal>
+        requires { self.old.taken < self.old.limits.events }
+        ensures number { self.new.number ≡ self.old.number }
+        ensures ok { IfOk result (IsTakenAs line.now (audited self.old) (audited self.new)) }
+        ensures err { IfErr result (IsNotTaken self.old.number line.now (audited self.old)) }
+    {
+        // That one more event can be counted rests on the range of this number.
+        let _events = self.limits.events;
+        let place = u64::from(self.taken) + 2;
+        let (event, _) = match read_event(alloc, line, place, self.limits) {
+            Ok(read) => read,
+            Err(fault) => return Err(fault_of(self.number, fault)),
+        };
+        if !judge_event(
+            alloc,
+            &chosen(),
+            &mut self.state,
+            self.limits.capacity,
+            &event,
+        )? {
+            return Err(Refusal::Illegal {
+                part: self.number,
+                call: self.taken,
+            });
+        }
+        self.taken += 1;
+        Ok(event)
+    }
+}

@@ -1,0 +1,302 @@
+//! The trace of a window of a run, as the input gives it.
+ghost use Rattle.std.specs.Prelude.{◌≡◌, ◌≤◌, ◌<◌, ◌+◌, ℕ, false, List, [], length, IfOk, IfErr, IfSome, IfNone, string_bytes};
+ghost use Rattle.serde_json.specs.View.{view};
+ghost use Rattle.asm_aggregate.specs.Standard.{standard_part};
+ghost use Rattle.asm_update.specs.State.{State as Plain};
+ghost use Rattle.asm_state.specs.Stands.{Stands};
+ghost use Rattle.asm_storage.specs.History.{fired_moves};
+ghost use Rattle.asm_storage.specs.declared.history.Event.{Event as Item};
+ghost use Rattle.asm_audit.proofs.SameState.{IsHeld};
+ghost use Rattle.asm_audit.specs.Opened.{history_of};
+ghost use Rattle.asm_driver.specs.Input.{Known};
+ghost use Rattle.asm_driver.specs.Lines.{pending};
+ghost use Rattle.asm_driver.specs.Parts.{audited, IsAt, IsPartRead, IsEventRead, IsNext};
+ghost use Rattle.asm_driver.specs.Window.{end_in, LiesIn, IsUpTo, IsPassed, IsPartOpened, AreNoted, window_header, window_header_with};
+ghost use Rattle.asm_driver.specs.Window.{IsWindow, IsNoWindow};
+ghost use Rattle.asm_driver.specs.declared.program.words.Window.{Window as Wanted};
+
+use crate::ports::line_reader::LineReader;
+use crate::ports::source::Source;
+use crate::program::commands::Ending;
+use crate::program::parts::Opened;
+use crate::program::refusal::Refusal;
+use crate::program::words::Window;
+use asm_journal::{ToJson, push_line};
+use asm_storage::Event;
+use asm_trace::push_standard_note;
+use asm_update::PlainState;
+use serde_json::{Map, Value as Json};
+use std::alloc::{AllocError, Global};
+use std::sync::Wait;
+
+// The number of the call behind the window's last one in a part of so many calls; none where the window goes beyond.
+fn end_of(window: Window, calls: u32) -> Option<u32>
+    ensures some { IfSome result (λ end. (end ≡ end_in window calls) × LiesIn window calls) }
+    ensures none { IfNone result (¬ LiesIn window calls) }
+{
+    let end = window.to.unwrap_or(calls);
+    if window.from <= end && end <= calls {
+        Some(end)
+    } else {
+        None
+    }
+}
+
+/// Reads the next event of the part.
+fn next_event<T: Wait, S: Source>(
+    rt: &T,
+    alloc: Global,
+    opened: &mut Opened,
+    lines: &mut LineReader,
+    input: &mut S,
+) -> Result<Event, Refusal>
+    requires unread { S.failed input.old ≡ false }
+    requires some { opened.old.taken < opened.old.limits.events }
+    ensures same_reference { S.lender input.new ≡ S.lender input.old }
+    ensures next { IfOk result (λ _. IsNext opened.old opened.new) }
+    ensures unread { IfOk result (λ _. S.failed input.new ≡ false) }
+    ensures told { (had : Known) (text : List ℕ) (A : Plain) (es : List Item) →
+        IsAt had (S.remaining input.old) text (pending lines.old) →
+        IsPartRead opened.old.number text (audited opened.old) A es →
+        IsEventRead had (S.remaining input.new) (S.failed input.new) text (pending lines.new) opened.new A es result }
+{
+    lines.read(rt, input)?;
+    opened.take(alloc, lines.line())
+}
+
+/// Reads the first events of the part, so many.
+fn pass<T: Wait, S: Source>(
+    rt: &T,
+    alloc: Global,
+    opened: &mut Opened,
+    calls: u32,
+    lines: &mut LineReader,
+    input: &mut S,
+) -> Result<(), Refusal>
+    requires unread { S.failed input.old ≡ false }
+    requires none { opened.old.taken ≡ 0 }
+    requires enough { calls ≤ opened.old.limits.events }
+    ensures same_reference { S.lender input.new ≡ S.lender input.old }
+    ensures unread { IfOk result (λ _. S.failed input.new ≡ false) }
+    ensures number { IfOk result (λ _. opened.new.number ≡ opened.old.number) }
+    ensures limits { IfOk result (λ _. opened.new.limits ≡ opened.old.limits) }
+    ensures taken { IfOk result (λ _. opened.new.taken ≡ calls) }
+    ensures told { (w : Wanted) (had : Known) (text : List ℕ) (A : Plain) →
+        IsUpTo w opened.old.number calls opened.old.limits.events →
+        IsAt had (S.remaining input.old) text (pending lines.old) →
+        IsPartRead opened.old.number text (audited opened.old) A [] →
+        IsPassed w had (S.remaining input.new) (S.failed input.new) calls (pending lines.new) opened.new A result }
+{
+    for _ in 0..calls {
+        next_event(rt, alloc, opened, lines, input)?;
+    }
+    Ok(())
+}
+
+/// Opens the part behind a whole one.
+fn next_part<T: Wait, S: Source>(
+    rt: &T,
+    alloc: Global,
+    before: &Opened,
+    lines: &mut LineReader,
+    input: &mut S,
+) -> Result<Opened, Refusal>
+    requires unread { S.failed input.old ≡ false }
+    requires whole { before.now.limits.events ≤ before.now.taken }
+    requires few { before.now.number < 4294967295 }
+    ensures same_reference { S.lender input.new ≡ S.lender input.old }
+    ensures number { IfOk result (λ o. o.number ≡ before.now.number + 1) }
+    ensures ok { IfOk result (λ o. (had : Known) (text : List ℕ) (A : Plain) (es : List Item) →
+        IsAt had (S.remaining input.old) text (pending lines.old) →
+        IsPartRead before.now.number text (audited before.now) A es →
+        IsPartOpened had (S.remaining input.new) (S.failed input.new) (pending lines.new) o) }
+    ensures err { IfErr result (λ r. (w : Wanted) (had : Known) (text : List ℕ) (A : Plain) (es : List Item) →
+        before.now.number < w.part → IsAt had (S.remaining input.old) text (pending lines.old) →
+        IsPartRead before.now.number text (audited before.now) A es →
+        IsNoWindow w had (S.remaining input.new) (S.failed input.new) r) }
+{
+    lines.read(rt, input)?;
+    if lines.line().is_empty() {
+        return Err(Refusal::FewParts(before.number + 1));
+    }
+    before.next(alloc, lines.line())
+}
+
+/// Opens the first part of a run.
+fn first_part<T: Wait, S: Source>(
+    rt: &T,
+    alloc: Global,
+    lines: &mut LineReader,
+    input: &mut S,
+) -> Result<Opened, Refusal>
+    requires unread { S.failed input.old ≡ false }
+    requires begins { pending lines.old ≡ [] }
+    ensures same_reference { S.lender input.new ≡ S.lender input.old }
+    ensures number { IfOk result (λ o. o.number ≡ 0) }
+    ensures ok { IfOk result (IsPartOpened (S.remaining input.old) (S.remaining input.new) (S.failed input.new)
+        (pending lines.new)) }
+    ensures err { IfErr result (λ r. (w : Wanted) →
+        IsNoWindow w (S.remaining input.old) (S.remaining input.new) (S.failed input.new) r) }
+{
+    lines.read(rt, input)?;
+    Opened::first(alloc, lines.line())
+}
+
+/// Reads whole parts, so many, and opens the next one.
+fn open_part<T: Wait, S: Source>(
+    rt: &T,
+    alloc: Global,
+    wanted: u32,
+    lines: &mut LineReader,
+    input: &mut S,
+) -> Result<Opened, Refusal>
+    requires unread { S.failed input.old ≡ false }
+    requires begins { pending lines.old ≡ [] }
+    ensures same_reference { S.lender input.new ≡ S.lender input.old }
+    ensures number { IfOk result (λ o. o.number ≡ wanted) }
+    ensures ok { IfOk result (IsPartOpened (S.remaining input.old) (S.remaining input.new) (S.failed input.new)
+        (pending lines.new)) }
+    ensures err { IfErr result (λ r. (w : Wanted) → wanted ≡ w.part →
+        IsNoWindow w (S.remaining input.old) (S.remaining input.new) (S.failed input.new) r) }
+{
+    let mut opened = first_part(rt, alloc, lines, input)?;
+    for _ in 0..wanted {
+        let calls = opened.limits.events;
+        pass(rt, alloc, &mut opened, calls, lines, input)?;
+        opened = next_part(rt, alloc, &opened, lines, input)?;
+    }
+    Ok(opened)
+}
+
+/// The JSON of the header of a window of so many calls behind what was read of its part, which leaves this state.
+fn header_with(
+    alloc: Global,
+    opened: &Opened,
+    init: &PlainState,
+    calls: u32,
+) -> Result<Json, AllocError>
+    ensures { IfOk result (λ json. view json ≡ window_header_with opened.now.limits.agents opened.now.limits.capacity
+        calls opened.now.taken init.now opened.now.state.number opened.now.number) }
+{
+    let mut header = Map::new(alloc);
+    serde_json::put(
+        &mut header,
+        alloc,
+        "agents",
+        Json::from(opened.limits.agents),
+    )?;
+    serde_json::put(
+        &mut header,
+        alloc,
+        "capacity",
+        Json::from(opened.limits.capacity),
+    )?;
+    serde_json::put(&mut header, alloc, "events", Json::from(calls))?;
+    serde_json::put(&mut header, alloc, "from", Json::from(opened.taken))?;
+    serde_json::put(&mut header, alloc, "init", init.to_json(alloc)?)?;
+    serde_json::put(
+        &mut header,
+        alloc,
+        "moves",
+        Json::from(opened.state.number()),
+    )?;
+    serde_json::put(&mut header, alloc, "part", Json::from(opened.number))?;
+    serde_json::put(&mut header, alloc, "trace", Json::from(2u32))?;
+    Ok(Json::Object(header))
+}
+
+/// The JSON of the header of a window of so many calls, which begins behind what was read of its part.
+fn header_json(alloc: Global, opened: &Opened, calls: u32) -> Result<Json, AllocError>
+    ensures { IfOk result (λ json. (A : Plain) (es all : List Item) → IsHeld A → opened.now.taken ≡ length es →
+        Stands standard_part A opened.now.state (fired_moves es) →
+        view json ≡ window_header opened.now.number (history_of opened.now.limits A all) es calls) }
+{
+    let init = opened.left(alloc)?;
+    header_with(alloc, opened, &init, calls)
+}
+
+/// Reads the events of the window's part up to before the call `end`, and appends the line of each.
+fn note_calls<T: Wait, S: Source>(
+    rt: &T,
+    alloc: Global,
+    opened: &mut Opened,
+    end: u32,
+    lines: &mut LineReader,
+    input: &mut S,
+    text: &mut String,
+) -> Result<(), Refusal>
+    requires unread { S.failed input.old ≡ false }
+    requires forward { opened.old.taken ≤ end }
+    requires enough { end ≤ opened.old.limits.events }
+    requires known { (text : List ℕ) × (A : Plain) × (es : List Item)
+        × IsPartRead opened.old.number text (audited opened.old) A es }
+    ensures same_reference { S.lender input.new ≡ S.lender input.old }
+    ensures limits { IfOk result (λ _. opened.new.limits ≡ opened.old.limits) }
+    ensures told { (w : Wanted) (had : Known) (before : List ℕ) (A : Plain) (es : List Item) →
+        opened.old.number ≡ w.part → end ≡ end_in w opened.old.limits.events →
+        IsAt had (S.remaining input.old) before (pending lines.old) →
+        IsPartRead opened.old.number before (audited opened.old) A es →
+        AreNoted w had (S.remaining input.new) (S.failed input.new) end (pending lines.new) opened.new A es
+        (string_bytes text.old) (string_bytes text.new) result }
+{
+    // The events are judged on a state of their own, since a note tells of the state before its event.
+    let mut noted = opened.state.copy(alloc)?;
+    let capacity = opened.limits.capacity;
+    for call in opened.taken..end {
+        let event = next_event(rt, alloc, opened, lines, input)?;
+        push_standard_note(alloc, text, &mut noted, capacity, u64::from(call), &event)?;
+    }
+    Ok(())
+}
+
+/// Reads the run up to the window's end: the text of its trace.
+fn window_text<T: Wait, S: Source>(
+    rt: &T,
+    alloc: Global,
+    window: Window,
+    lines: &mut LineReader,
+    input: &mut S,
+) -> Result<String, Refusal>
+    requires unread { S.failed input.old ≡ false }
+    requires begins { pending lines.old ≡ [] }
+    ensures same_reference { S.lender input.new ≡ S.lender input.old }
+    ensures ok { IfOk result (λ text. IsWindow window (S.remaining input.old) (S.remaining input.new) (S.failed input.new)
+        (string_bytes text)) }
+    ensures err { IfErr result (IsNoWindow window (S.remaining input.old) (S.remaining input.new) (S.failed input.new)) }
+{
+    let mut opened = open_part(rt, alloc, window.part, lines, input)?;
+    let Some(end) = end_of(window, opened.limits.events) else {
+        return Err(Refusal::FewCalls {
+            part: window.part,
+            calls: opened.limits.events,
+        });
+    };
+    pass(rt, alloc, &mut opened, window.from, lines, input)?;
+    let mut text = String::new(alloc);
+    let header = header_json(alloc, &opened, end - window.from)?;
+    push_line(alloc, &mut text, &header)?;
+    note_calls(rt, alloc, &mut opened, end, lines, input, &mut text)?;
+    Ok(text)
+}
+
+/// Traces a window of the run that the input gives: the text of its trace, and status 0. It reads no further than the
+/// chunk of bytes in which the window ends, and judges nothing behind its end.
+///
+/// It holds one line, the state, within the window once more, and the window's text.
+pub(crate) fn window_input<T: Wait, S: Source>(
+    rt: &T,
+    alloc: Global,
+    window: Window,
+    input: &mut S,
+) -> Result<Ending, Refusal>
+    requires { S.failed input.old ≡ false }
+    ensures same_reference { S.lender input.new ≡ S.lender input.old }
+    ensures status { IfOk result (λ e. e.status ≡ 0) }
+    ensures ok { IfOk result (λ e. IsWindow window (S.remaining input.old) (S.remaining input.new) (S.failed input.new)
+        (string_bytes e.text)) }
+    ensures err { IfErr result (IsNoWindow window (S.remaining input.old) (S.remaining input.new) (S.failed input.new)) }
+{
+    let mut lines = LineReader::new(alloc);
+    let text = window_text(rt, alloc, window, &mut lines, input)?;
+    Ok(Ending { status: 0, text })
+}
