@@ -245,7 +245,7 @@ class Scopes(unittest.TestCase):
         for regex, call in [
             ("is at a Location", lambda: move.put(["n"], 1)),
             ("is at a Location", lambda: move.put(agent.step(), 8)),
-            ('{"bag": [..]}, and not [1]', lambda: move.put(place, [1])),
+            (r'\{"bag": \[\.\.\]\}, and not \[1\]', lambda: move.put(place, [1])),
             ("learns from an agent", lambda: agent.learn(self.storage)),
             ("takes back an agent", lambda: self.storage.give(None)),
             ("made before", lambda: agent.__init__(self.storage, 5)),
