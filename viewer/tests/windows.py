@@ -22,8 +22,9 @@ def window_of(history: History, start: int, end: int) -> bytes:
 def try_window(tries: Tries, browser: Browser) -> None:
     path = tries.file("window.trace", window_of(WHOLE, START, END))
     browser.load(path)
-    tries.same("the facts tell of the window", browser.texts("#facts .fact")[1], f"{END - START} events")
-    tries.has("and of its place in the part", " ".join(browser.texts("#facts .fact")), f"part 0 from event {START} on")
+    facts = browser.texts("#facts .fact")
+    tries.claim("the facts tell how many events the window has", f"{END - START} events" in facts, facts)
+    tries.has("and of its place in the part", " ".join(facts), f"part 0 from event {START} on")
     browser.slide(0)
     tries.same("what stands before its first event is told so", browser.title(), f"Before event {START}")
     browser.slide(1)

@@ -4,6 +4,7 @@ mod TextPieces
 mod NoJournals
 mod NoRuns
 mod Asking
+mod WordsTaken
 mod Answering
 mod Runs
 mod Faulting

@@ -1,4 +1,5 @@
-use Rattle.asm_driver.proofs.Answering.{refused, answers, answers_asked}
+use Rattle.asm_driver.proofs.WordsTaken.{refused}
+use Rattle.asm_driver.proofs.Answering.{answers, answers_asked}
 use Rattle.asm_driver.proofs.program.words.read_words.Goals as goal
 
 pub returns-in-Ok-clause-answers : goal.returns-in-Ok-clause-answers
