@@ -13,8 +13,8 @@ from ._library import BOOL, NUM, RANGE, SHAPE, TEXT, UNDEF, Buffer
 # A location, an instruction, or a pair, of a location and its value or number, or of a name and a number, as JSON has it.
 Form: TypeAlias = Sequence[Any]
 
-# What JSON has where an object has one of no value's members, which a Counter has, or a dict that is no value.
-_ODD = re.compile(r'\{(?!"(?:list|set|bag)":)')
+# What JSON has where an object isn't a value's, as that of a Counter isn't, whatever its first key, or a dict that is no value.
+_ODD = re.compile(r'\{(?!"(?:list|set|bag)":\[)')
 
 
 def _members(value: Iterable[Any], kind: str) -> list[Any]:

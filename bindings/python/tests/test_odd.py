@@ -92,6 +92,10 @@ class Odd(unittest.TestCase):
         self.assertEqual(told, [{"bag": [["a", 2], ["b", 1]]}, {"bag": []}, {"bag": [[None, 1], [1, 2]]}])
         with Storage([[["b"], Counter("aab")]]) as storage, storage.agent(0) as agent:
             self.assertEqual(agent.peek([["b"]])[1], [{"bag": [["a", 2], ["b", 1]]}])
+        for word in ("list", "set", "bag"):
+            self.agent.fire([["put", ["b"], Counter([word])]])
+            self.agent.follow()
+            self.assertEqual(self.agent.peek([["b"]])[1], [{"bag": [[word, 1]]}])
         self.refused(TypeError, "instructions[0][2]: True and 1 are one in a Python Counter", self.agent.fire,
                      [["put", ["b"], Counter([True])]])
         self.refused(Error, "a count", self.agent.fire, [["put", ["b"], Counter({"a": -1})]])
