@@ -1,4 +1,4 @@
-ghost use Rattle.std.specs.Prelude.{◌≡◌, ◌<◌, ◌≤◌, ◌++◌, ◌∷◌, [], ◌↔◌, length, All, IsTrue};
+ghost use Rattle.std.specs.Prelude.{◌≡◌, ◌+◌, ◌<◌, ◌≤◌, ◌++◌, ◌∷◌, [], ◌↔◌, length, All, IsTrue};
 ghost use Rattle.std.specs.Prelude.{OnOk, OnErr, IfOk, Some, Err, slice_get, vec_len};
 ghost use Rattle.std.specs.Arc.{arc_value};
 ghost use Rattle.std.specs.Slice.Iter.{iter_rest};
@@ -20,10 +20,10 @@ use thiserror::Error;
 /// The most instructions of one move.
 pub const INSTRUCTIONS_LIMIT: usize = 4096;
 
-/// Why an instruction isn't appended.
+/// Why instructions aren't appended.
 #[derive(Clone, Copy, Debug, PartialEq, Eq, Error)]
 pub enum InstructionsError {
-    /// There are 4,096 instructions already; this is found before memory is asked for.
+    /// There would be more than 4,096 instructions; this is found before memory is asked for.
     #[error("more than 4,096 instructions")]
     ManyInstructions,
     /// The memory that the call asked for was refused.
@@ -77,12 +77,22 @@ impl Model for Instructions {
 }
 
 // Puts the instruction behind a list, which is copied first where it has another owner.
-fn append(list: &mut Arc<Vec<Instruction>>, instruction: Instruction) -> Result<(), AllocError>
+fn push_to(list: &mut Arc<Vec<Instruction>>, instruction: Instruction) -> Result<(), AllocError>
     ensures ok { OnOk result ((arc_value list.new).items ≡ (arc_value list.old).items ++ instruction ∷ []) }
     ensures err { OnErr result ((arc_value list.new).items ≡ (arc_value list.old).items) }
 {
     let unshared = Arc::make_mut(list)?;
     unshared.push(instruction)?;
+    Ok(())
+}
+
+// Puts copies of the instructions behind a list, which is copied first where it has another owner.
+fn append_to(list: &mut Arc<Vec<Instruction>>, more: &[Instruction]) -> Result<(), AllocError>
+    ensures ok { OnOk result ((arc_value list.new).items ≡ (arc_value list.old).items ++ more.now) }
+    ensures err { OnErr result ((arc_value list.new).items ≡ (arc_value list.old).items) }
+{
+    let unshared = Arc::make_mut(list)?;
+    unshared.extend_with_clones(more)?;
     Ok(())
 }
 
@@ -144,12 +154,39 @@ impl Instructions {
         }
         proper_instruction(&instruction);
         match &mut self.items {
-            Some(items) => append(items, instruction)?,
+            Some(items) => push_to(items, instruction)?,
             None => {
                 let mut items = Vec::with_capacity(self.alloc, 1)?;
                 items.push(instruction)?;
                 self.items = Some(Arc::new(self.alloc, items)?);
             }
+        }
+        Ok(())
+    }
+
+    /// Appends the instructions of another move: the two together are the union of the two multisets.
+    ///
+    /// No instructions share the list of `other` from then on, which takes no memory.
+    ///
+    /// # Errors
+    ///
+    /// - `ManyInstructions` exactly where there would be more than 4,096, before memory is asked for.
+    /// - `Memory` only where memory was refused.
+    ///
+    /// On error, the list is unchanged.
+    pub fn append(&mut self, other: &Instructions) -> Result<(), InstructionsError>
+        ensures ok { OnOk result (self.new ≡ self.old ++ other.now) }
+        ensures many { (result ≡ Err InstructionsError.ManyInstructions) ↔
+            (instructions_limit < length self.old + length other.now) }
+        ensures err { OnErr result (self.new ≡ self.old) }
+    {
+        if self.len() + other.len() > INSTRUCTIONS_LIMIT {
+            return Err(InstructionsError::ManyInstructions);
+        }
+        other.proper();
+        match &mut self.items {
+            Some(items) => append_to(items, other.as_slice())?,
+            None => *self = other.clone()?,
         }
         Ok(())
     }

@@ -265,6 +265,21 @@ fn a_list_becomes_the_instructions_of_a_move(rt: HostRuntime) -> Result<(), Fail
     Ok(())
 }
 
+/// How many instructions a move of so many puts has once it got those of another one.
+fn united(alloc: Global, puts_first: usize, puts_more: usize) -> Result<usize, Fail> {
+    let mut list = Instructions::from_vec(alloc, puts(alloc, puts_first)?)?;
+    list.append(&Instructions::from_vec(alloc, puts(alloc, puts_more)?)?)?;
+    Ok(list.len())
+}
+
+#[test]
+fn a_move_gets_the_instructions_of_another(rt: HostRuntime) -> Result<(), Fail> {
+    for (first, more) in [(0, 0), (0, 2), (2, 0), (1, 4095), (4096, 0)] {
+        assert!(rt; united(rt.alloc(), first, more)? == first + more, "{first} {more}");
+    }
+    Ok(())
+}
+
 fn is_copied(alloc: Global, list: Instructions) -> Result<bool, AllocError> {
     Ok(list.copy(alloc)? == list)
 }
