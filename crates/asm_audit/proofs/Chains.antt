@@ -1,24 +1,17 @@
 -- Chains of legal histories, one journal or one event longer.
-use Rattle.std.proofs.Common.{◌≡◌, ◌≢◌, ◌+◌, List, [], ◌∷◌, ◌++◌, length, refl, sym, subst, append_assoc, arith}
+use Rattle.std.proofs.Common.{◌≡◌, ◌≢◌, ◌+◌, List, [], ◌∷◌, ◌++◌, length, refl, arith}
 use Rattle.asm_update.specs.Fire.{Part}
 use Rattle.asm_update.specs.State.{State}
 use Rattle.asm_storage.specs.declared.history.Event.{Event}
 use Rattle.asm_storage.specs.declared.history.History.{History}
 use Rattle.asm_storage.specs.History.{fired_moves, IsLegal}
 use Rattle.asm_storage.specs.Machine.{Machine, reply_to}
-use Rattle.asm_storage.proofs.Legal.{IsLegalFrom, fired_moves-append, legal-append, legal-from}
+use Rattle.asm_storage.proofs.Legal.{fired_moves-append, legal-append, legal_behind, legal-from}
 use Rattle.asm_journal.specs.Check.{machine_of}
 use Rattle.asm_audit.specs.Chain.{state_left, last_left, AreLegalFrom}
 use Rattle.asm_audit.specs.Audited.{calls_of, moves_of}
 
 -- ---- one more event
-
-pub legal_behind : (m : Machine) (before h : List Event) → IsLegal m (before ++ h) → IsLegalFrom m (fired_moves before) h
-legal_behind m before [] legal = tt
-legal_behind m before (e ∷ h) legal =
-    let all : (before ++ e ∷ []) ++ h ≡ before ++ e ∷ h = append_assoc before (e ∷ []) h in
-    let rest = legal_behind m (before ++ e ∷ []) h (subst (IsLegal m) (sym all) legal) in
-    (legal before h e refl, subst (λ q. IsLegalFrom m q h) (fired_moves-append before (e ∷ [])) rest)
 
 pub legal_none : (m : Machine) → IsLegal m []
 legal_none m = legal-from m [] tt

@@ -6,7 +6,7 @@ use Rattle.asm_update.specs.State.{State}
 use Rattle.asm_storage.specs.declared.history.Event.{Event}
 use Rattle.asm_storage.specs.declared.history.History.{History}
 use Rattle.asm_storage.specs.History.{fired_moves, IsLegal}
-use Rattle.asm_storage.proofs.Legal.{fired_moves-append}
+use Rattle.asm_storage.proofs.Legal.{fired_moves-append, legal_behind}
 use Rattle.asm_storage.proofs.Run.{run_from}
 use Rattle.asm_journal.specs.Check.{machine}
 use Rattle.asm_journal.specs.Next.{IsRunFromStart}
@@ -15,7 +15,6 @@ use Rattle.asm_audit.specs.Chain.{state_left, last_left, AreLegalFrom}
 use Rattle.asm_audit.specs.Audited.{moves_of}
 use Rattle.asm_audit.specs.Run.{all_events}
 use Rattle.asm_audit.specs.Laws.{OneRun}
-use Rattle.asm_audit.proofs.Chains.{legal_behind}
 
 -- the moves of a legal history are a run, whatever the capacity
 legal_run : (part : Part) (A : State) (c capacity : ℕ) (es : List Event) → IsLegal (machine part A c) es →

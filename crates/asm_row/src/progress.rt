@@ -173,6 +173,20 @@ impl<T> Progress<T> {
             self.prefix = mark.prefix.copy();
         }
     }
+
+    /// Takes in what another progress at the same row has seen, as `learn` does of its mark.
+    pub fn learn_from(&mut self, other: &Progress<T>)
+        requires { other.now.row ≡ self.old.row }
+        ensures kept { self.new ≡ record self.old { seen = self.new.seen } }
+        ensures mine { IsPrefix self.old.seen self.new.seen }
+        ensures theirs { IsPrefix other.now.seen self.new.seen }
+        ensures longest { length self.new.seen ≡ max (length self.old.seen) (length other.now.seen) }
+    {
+        self.learn(&Mark {
+            len: other.seen_len,
+            prefix: other.prefix.copy(),
+        })
+    }
 }
 
 impl<T: Drop> Progress<T> {

@@ -29,6 +29,14 @@ legal_at m q (b ∷ before) after e legal = subst (λ r. e.answer ≡ reply_to m
 pub legal-from : (m : Machine) (h : List Event) → IsLegalFrom m [] h → IsLegal m h
 legal-from m h legal before after e is = legal_at m [] before after e (subst (IsLegalFrom m []) (sym is) legal)
 
+-- what follows some events of a legal history is legal after their moves
+pub legal_behind : (m : Machine) (before h : List Event) → IsLegal m (before ++ h) → IsLegalFrom m (fired_moves before) h
+legal_behind m before [] legal = tt
+legal_behind m before (e ∷ h) legal =
+    let all : (before ++ e ∷ []) ++ h ≡ before ++ e ∷ h = append_assoc before (e ∷ []) h in
+    let rest = legal_behind m (before ++ e ∷ []) h (subst (IsLegal m) (sym all) legal) in
+    (legal before h e refl, subst (λ q. IsLegalFrom m q h) (fired_moves-append before (e ∷ [])) rest)
+
 -- events that fire nothing, each with the reply after q
 pub legal_quiet : (m : Machine) (q : List Move) (h : List Event) → AllByRecursion (λ e. e.answer ≡ reply_to m q e.call) h → fired_moves h ≡ [] → IsLegalFrom m q h
 legal_quiet m q [] each none = tt

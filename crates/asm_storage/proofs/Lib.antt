@@ -2,6 +2,7 @@ pub mod Crossing
 pub mod Standard
 pub mod Accounts
 pub mod AgentKept
+pub mod CallsDecide
 pub mod Coherent
 pub mod FireTurns
 pub mod Judging

@@ -29,6 +29,16 @@ following_more m seen more s prefix f = record {
   stands = subst (Stands m.part m.init s) (take-moves_seen s.number seen more prefix f.within) f.stands;
 }
 
+-- a state that stands for the first moves of one list stands for those of another one, where both begin a third
+pub following_other : (m : Machine) (mine theirs all : List Entry) (s : StateView) → IsPrefix mine all →
+    IsPrefix theirs all → s.number ≤ length theirs → IsFollowing m mine s → IsFollowing m theirs s
+following_other m mine theirs all s mine_first theirs_first within f = record {
+  within = within;
+  stands = subst (Stands m.part m.init s)
+      (take-moves_seen s.number mine all mine_first f.within ∙ sym (take-moves_seen s.number theirs all theirs_first within))
+      f.stands;
+}
+
 pub following_next : (m : Machine) (seen : List Entry) (old new : StateView) (x : Entry) →
     IsFollowing m seen old → slice_get seen old.number ≡ Some x → new.number ≡ old.number + 1 →
     ((init : State) (q : List Move) → Stands m.part init old q → Stands m.part init new (q ++ x.instrs ∷ [])) →
@@ -103,6 +113,26 @@ module _ {A : Type 0} (meaning : A → Meaning) (s : StorageView A) where
         agent = subst (λ w. IsAgent m (account w)) (sym won) (seen_more m (account_of old) new.seen more part.agent);
         following = following_more m old.progress.seen new.seen old.state more part.following;
       }
+
+  -- what another one has seen was learnt
+  pub learnt_part : (old : AgentPart) (new : SeatView Entry) → IsPartOf meaning s old →
+      new ≡ record old.progress { seen = new.seen } → IsPrefix old.progress.seen new.seen →
+      IsPartOf meaning s (record old { progress = new })
+  learnt_part old new part kept more =
+      let misses = ap (λ (p : SeatView Entry). p.misses) kept in
+      seen_part old new part (ap (λ (p : SeatView Entry). p.row) kept) (ap (λ (p : SeatView Entry). p.won) kept)
+      (omega (arith, misses, part.counted)) more
+
+  -- the part has another state, which follows the same row
+  pub with_state : (p : AgentPart) (was new : StateView) → IsPartOf meaning s p → new ≡ was →
+      IsFollowing (machine_of meaning s) p.progress.seen was → IsPartOf meaning s (record p { state = new })
+  with_state p was new part same following = record {
+    row = part.row;
+    few = part.few;
+    counted = part.counted;
+    agent = part.agent;
+    following = subst (IsFollowing (machine_of meaning s) p.progress.seen) (sym same) following;
+  }
 
   pub looks_with : (old : AgentPart) (new : SeatView Entry) → IsPartOf meaning s old →
       new.row ≡ old.progress.row → new.won ≡ old.progress.won → new.misses ≤ 2 ^ 64 - 1 →

@@ -2,6 +2,7 @@ pub mod Agents
 pub mod Calls
 pub mod Closed
 pub mod History
+pub mod Laws
 pub mod Limits
 pub mod Machine
 pub mod Offering
@@ -11,3 +12,4 @@ pub mod Proper
 pub mod ReceiptOrder
 pub mod Scans
 pub mod Storage
+pub mod Taken

@@ -7,6 +7,7 @@ ghost use Rattle.asm_storage.specs.Limits.{agents_limit, reads_limit};
 ghost use Rattle.asm_storage.specs.Part.{agent_of, IsFollowing, IsPartOf};
 ghost use Rattle.asm_storage.specs.Storage.{machine_of, has_seen, has_looked, last_look};
 ghost use Rattle.asm_storage.specs.Storage.{FollowsOn, IsLevel, IsSameAgent, Missed};
+ghost use Rattle.asm_storage.specs.Taken.{HasTaken};
 
 use crate::call::Reply;
 use crate::entry::Entry;
@@ -141,6 +142,19 @@ impl<'s, A: Aggregator + Sync + Drop> Agent<'s, A> {
         let storage = self.storage;
         self.part.learn(storage, mark);
         Ok(())
+    }
+
+    /// Learns what another agent of the storage has seen, and exchanges the states of the two where the other's is ahead.
+    ///
+    /// So agents that one thread plays by turns share the work of following: the one that is about to act takes the
+    /// state of the one that acted last, which keeps an older one and catches up if it is used again. Receipts,
+    /// wins and misses of both are unchanged, and so is what the other has seen. It polls nothing and takes no memory.
+    pub fn take_state(&mut self, other: &mut Agent<'_, A>)
+        requires { other.old.storage ≡ self.old.storage }
+        ensures { HasTaken self.old other.old self.new other.new }
+    {
+        let storage = self.storage;
+        self.part.take_state(storage, &mut other.part);
     }
 
     /// Looks at the row until it finds nothing more, and has its state follow what it found, without a receipt;

@@ -16,6 +16,7 @@ mod entry;
 mod error;
 mod held_values;
 mod history;
+pub mod laws;
 mod limits;
 mod part;
 mod proper;

@@ -3,6 +3,7 @@ ghost use mathlib.Core.List.{IsPrefix};
 ghost use Rattle.asm_storage.specs.Storage.{at_start, has_seen, last_look, Missed};
 ghost use Rattle.asm_storage.specs.Limits.{agents_limit};
 ghost use Rattle.asm_storage.specs.Part.{agent_of, IsPartOf, LooksOn};
+ghost use Rattle.asm_storage.specs.Taken.{HasTaken};
 
 mod fire;
 mod judging;
@@ -18,6 +19,7 @@ use asm_row::Progress;
 use asm_state::State;
 use asm_update::Aggregator;
 use std::alloc::{AllocError, Global};
+use std::mem;
 
 /// What an agent has beside its borrow of the storage: its number, how far it has come at the row, its own
 /// state, which may lag behind what was seen, and its receipts.
@@ -167,5 +169,26 @@ impl AgentPart {
     {
         let _ = storage; // The contract alone speaks of it.
         self.progress.learn(mark);
+    }
+
+    /// Learns what another agent of the storage has seen, and exchanges the states where the other's is ahead, as
+    /// `Agent::take_state` does. Both parts came from this storage.
+    pub fn take_state<A: Aggregator + Sync + Drop>(
+        &mut self,
+        storage: &Storage<A>,
+        other: &mut AgentPart,
+    )
+        requires part { IsPartOf A.meaning storage.now self.old }
+        requires other { IsPartOf A.meaning storage.now other.old }
+        ensures part { IsPartOf A.meaning storage.now self.new }
+        ensures other { IsPartOf A.meaning storage.now other.new }
+        ensures taken { HasTaken (agent_of storage.now self.old) (agent_of storage.now other.old)
+            (agent_of storage.now self.new) (agent_of storage.now other.new) }
+    {
+        let _ = storage; // The contract alone speaks of it.
+        self.progress.learn_from(&other.progress);
+        if self.state.number() < other.state.number() {
+            mem::swap(&mut self.state, &mut other.state);
+        }
     }
 }

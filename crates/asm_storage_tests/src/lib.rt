@@ -44,6 +44,8 @@ mod reads_on_threads;
 #[cfg(test)]
 mod scanned_turns;
 #[cfg(test)]
+mod taken_states;
+#[cfg(test)]
 mod telling;
 #[cfg(test)]
 mod two_agents;

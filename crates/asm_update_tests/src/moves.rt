@@ -275,7 +275,10 @@ fn united(alloc: Global, puts_first: usize, puts_more: usize) -> Result<usize, F
 #[test]
 fn a_move_gets_the_instructions_of_another(rt: HostRuntime) -> Result<(), Fail> {
     for (first, more) in [(0, 0), (0, 2), (2, 0), (1, 4095), (4096, 0)] {
-        assert!(rt; united(rt.alloc(), first, more)? == first + more, "{first} {more}");
+        assert!(rt;
+            united(rt.alloc(), first, more)? == first.saturating_add(more),
+            "{first} {more}"
+        );
     }
     Ok(())
 }
