@@ -1,16 +1,25 @@
 -- Blocks and moves depend on the locations that they name alone.
-use Rattle.std.proofs.Common.{◌≡◌, ⊎_elim, arith, Bool, true, false, cond, List, [], ◌∷◌, ◌++◌, Contains}
-use Rattle.std.proofs.Common.{Option, Some, None, refl, sym, ap, subst}
-use Rattle.std.proofs.lemmas.List.Elements.{Contains-append_left, Contains-append_right, Contains-append_cases}
+use Rattle.std.proofs.Common.{◌≡◌, ◌≢◌, ◌⊎◌, inl, inr, ⊎_elim, map, arith, IsOk, IsSomeAnd, Bool, true, false, ◌||◌}
+use Rattle.std.proofs.Common.{cond, List, [], ◌∷◌, ◌++◌, Contains, filter, Option, Some, None, Ok, Err, refl, sym, ap}
+use Rattle.std.proofs.Common.{◌∙◌, subst}
+use Rattle.std.proofs.lemmas.Bool.{false≢true}
+use Rattle.std.specs.FinMap as finite
+use Rattle.std.proofs.lemmas.List.Elements.{Contains-append_left, Contains-append_right}
 use Rattle.std.specs.Option.{option_and_then, option_map}
-use Rattle.asm_element.specs.Place.{Place}
-use Rattle.asm_update.specs.Action.{is_partial}
-use Rattle.asm_update.specs.Fire.{Old}
-use Rattle.asm_update.specs.Move.{Move}
+use Rattle.std.specs.List.{list_any, filter_map}
+use Rattle.std.specs.Ordering.{eq_by_cmp}
+use Rattle.asm_element.specs.Place.{Place, location_cmp, same_location}
+use Rattle.asm_element.specs.declared.value.Value.{Value}
+use Rattle.asm_update.specs.Action.{is_partial, regular_value}
+use Rattle.asm_update.specs.Fire.{Part, Old, GroupResult, res, group_result, result_at, IsUpdateSet, IsLeastClash}
+use Rattle.asm_update.specs.Move.{Move, actions_at, writes, are_different}
+use Rattle.asm_update.specs.State.{Updates}
 use Rattle.asm_update.specs.declared.action.Action.{Action}
 use Rattle.asm_update.specs.declared.action.Action.TheVariants as action
 use Rattle.asm_update.specs.declared.action.Instruction.{Instruction}
-use Rattle.asm_step.specs.Places.{partial_place, partial_places}
+use Rattle.asm_update.specs.declared.clash.Cause.TheVariants.{Two}
+use Rattle.asm_update.specs.declared.clash.Clash.{Clash}
+use Rattle.asm_update.proofs.ActionLemmas.{IsRegular, IsPartial, kinds}
 use Rattle.asm_script.specs.Terms.{term_value, given_element, given_number, sum_value, locations_in}
 use Rattle.asm_script.specs.Blocks.{action_in, instruction_in, move_in}
 use Rattle.asm_script.specs.StepReads.{places_in, target_of, taken, changed}
@@ -60,10 +69,6 @@ module _ (old new : Old) where
       λ n. option_and_then (λ j. option_map (λ M. j ∷ M) (others n))
       (option_map (λ a. record { at = i.at; action = a }) (one n))
 
-either_way : (l k : Place) (b : Bool) → Contains (cond b (l ∷ []) []) k → Contains (l ∷ []) k
-either_way l k true there = there
-either_way l k false there = Contains-append_left [] (l ∷ []) k there
-
 mapped : {X Y : Type 0} (f : X → Y) (o : Option X) (y : Y) → option_map f o ≡ Some y →
     (x : X) × (o ≡ Some x) × (f x ≡ y)
 mapped f None y h = cc
@@ -75,36 +80,125 @@ chained f None y h = cc
 chained f (Some x) y h = (x, refl, h)
 
 -- an action that comes out partial was written as a partial update
-written_partial : (old : Old) (l k : Place) (t : TermAction) (a : Action) → action_in old t ≡ Some a →
-    Contains (cond (is_partial a) (l ∷ []) []) k → Contains (target_of l t) k
-written_partial old l k (Put t) a h there =
+written_partial : (old : Old) (l : Place) (t : TermAction) (a : Action) → action_in old t ≡ Some a →
+    is_partial a ≡ true →
+    target_of l t ≡ l ∷ []
+written_partial old l (Put t) a h partial =
     let regular = mapped action.Regular (term_value old t) a h in
-    subst (λ (b : Bool). Contains (cond b (l ∷ []) []) k) (sym (ap is_partial regular.2)) there
-written_partial old l k (Add t) a h there = either_way l k (is_partial a) there
-written_partial old l k (Remove t) a h there = either_way l k (is_partial a) there
-written_partial old l k (BagAdd t n) a h there = either_way l k (is_partial a) there
-written_partial old l k (BagRemove t n) a h there = either_way l k (is_partial a) there
-written_partial old l k (Increment n) a h there = either_way l k (is_partial a) there
+    absurd (false≢true (ap is_partial regular.2 ∙ partial))
+written_partial old l (Add t) a h partial = refl
+written_partial old l (Remove t) a h partial = refl
+written_partial old l (BagAdd t n) a h partial = refl
+written_partial old l (BagRemove t n) a h partial = refl
+written_partial old l (Increment n) a h partial = refl
 
 target_there : (old : Old) (i : TermInstruction) (j : Instruction) (l : Place) → instruction_in old i ≡ Some j →
-    Contains (partial_place j) l → Contains (target_of i.at i.action) l
-target_there old i j l is there =
+    is_partial j.action ≡ true → eq_by_cmp location_cmp j.at l ≡ true → Contains (target_of i.at i.action) l
+target_there old i j l is partial there =
     let from = mapped (λ a. record { at = i.at; action = a }) (action_in old i.action) j is in
-    written_partial old i.at l i.action from.0 from.1
-    (subst (λ (k : Instruction). Contains (partial_place k) l) (sym from.2) there)
+    let target = written_partial old i.at i.action from.0 from.1
+    (ap (λ (k : Instruction). is_partial k.action) from.2 ∙ partial) in
+    let at = ap (λ (k : Instruction). k.at) from.2 ∙ same_location j.at l there in
+    subst (λ (ls : List Place). Contains ls l) (sym target) (0, omega arith, at)
+
+-- a partial update of the move at a location is its first instruction's, or one of the others'
+partial_at : (j : Instruction) (M : Move) (l : Place) → list_any is_partial (actions_at (j ∷ M) l) ≡ true →
+    ((is_partial j.action ≡ true) × (eq_by_cmp location_cmp j.at l ≡ true)) ⊎
+    (list_any is_partial (actions_at M l) ≡ true)
+partial_at j M l = by_test (eq_by_cmp location_cmp j.at l) refl where
+  rest : List Instruction
+  rest = filter (λ i. eq_by_cmp location_cmp i.at l) M
+
+  by_kind : (b : Bool) → is_partial j.action ≡ b → (b || list_any is_partial (map (λ i. i.action) rest)) ≡ true →
+      (is_partial j.action ≡ true) ⊎ (list_any is_partial (map (λ i. i.action) rest) ≡ true)
+  by_kind true is h = inl is
+  by_kind false is h = inr h
+
+  by_test : (b : Bool) → eq_by_cmp location_cmp j.at l ≡ b →
+      list_any is_partial (map (λ (i : Instruction). i.action) (cond b (j ∷ rest) rest)) ≡ true →
+      ((is_partial j.action ≡ true) × (eq_by_cmp location_cmp j.at l ≡ true)) ⊎
+      (list_any is_partial (map (λ i. i.action) rest) ≡ true)
+  by_test true is h = ⊎_elim (λ partial. inl (partial, is)) (λ other. inr other) (by_kind (is_partial j.action) refl h)
+  by_test false is h = inr h
 
 -- where a block's move has a partial update, the block has one
-pub partial_there : (old : Old) (b : Block) (M : Move) (l : Place) → move_in old b ≡ Some M →
-    Contains (partial_places M) l → Contains (changed b) l
-partial_there old [] M l is there =
-    let none : M ≡ [] = cc in
-    subst (λ (N : Move). Contains (partial_places N) l) none there
-partial_there old (i ∷ b) M l is there =
+partial_there : (old : Old) (b : Block) (M : Move) (l : Place) → move_in old b ≡ Some M →
+    list_any is_partial (actions_at M l) ≡ true → Contains (changed b) l
+partial_there old [] M l is h =
+    let none : [] ≡ M = cc in
+    absurd (false≢true (ap (λ (N : Move). list_any is_partial (actions_at N l)) none ∙ h))
+partial_there old (i ∷ b) M l is h =
     let one = chained (λ j. option_map (λ N. j ∷ N) (move_in old b)) (instruction_in old i) M is in
     let others = mapped (λ (N : Move). one.0 ∷ N) (move_in old b) M one.2 in
     ⊎_elim
-    (λ first. Contains-append_left (target_of i.at i.action) (changed b) l (target_there old i one.0 l one.1 first))
+    (λ first. Contains-append_left (target_of i.at i.action) (changed b) l
+    (target_there old i one.0 l one.1 first.0 first.1))
     (λ later. Contains-append_right (target_of i.at i.action) (changed b) l
     (partial_there old b others.0 l others.1 later))
-    (Contains-append_cases (partial_place one.0) (partial_places others.0) l
-    (subst (λ (N : Move). Contains (partial_places N) l) (sym others.2) there))
+    (partial_at one.0 others.0 l (ap (λ (N : Move). list_any is_partial (actions_at N l)) others.2 ∙ h))
+
+no_partials : (G : List Action) → list_any is_partial G ≡ false → filter is_partial G ≡ []
+no_partials [] h = refl
+no_partials (x ∷ G) h = by_kind (is_partial x) h (no_partials G) where
+  by_kind : (b : Bool) → (b || list_any is_partial G) ≡ false →
+      (list_any is_partial G ≡ false → filter is_partial G ≡ []) →
+      cond b (x ∷ filter is_partial G) (filter is_partial G) ≡ []
+  by_kind true h rest = absurd (false≢true (sym h))
+  by_kind false h rest = rest h
+
+-- regular updates alone have the same result on each old value
+regular_result : (part : Part) (v w : Value) (x : Value) (G : List Action) → list_any is_partial G ≡ false →
+    res part v (action.Regular x ∷ G) ≡ res part w (action.Regular x ∷ G)
+regular_result part v w x G none = is v ∙ sym (is w) where
+  is : (u : Value) → res part u (action.Regular x ∷ G) ≡ cond (are_different (x ∷ filter_map regular_value G))
+      (Err Two) (Ok x)
+  is u = ap (λ (ps : List Action). cond (are_different (x ∷ filter_map regular_value G)) (Err Two)
+      (group_result part u (Some x) ps)) (no_partials G none)
+
+-- the old value is no matter where there is no partial update
+same_result : (part : Part) (v w : Value) (G : List Action) → G ≢ [] → (list_any is_partial G ≡ true → v ≡ w) →
+    res part v G ≡ res part w G
+same_result part v w G some same = by_test (list_any is_partial G) refl where
+  by_list : (F : List Action) → F ≢ [] → list_any is_partial F ≡ false → res part v F ≡ res part w F
+  by_list [] some none = absurd (some refl)
+  by_list (a ∷ F) some none = elim (kinds a) [
+    | IsRegular x e ↦ let regulars = rw e at none in rw e (regular_result part v w x F regulars)
+    | IsPartial p n ↦ let found = rw p at none in absurd (false≢true (sym found))
+  ]
+
+  by_test : (b : Bool) → list_any is_partial G ≡ b → res part v G ≡ res part w G
+  by_test true is = ap (λ u. res part u G) (same is)
+  by_test false is = by_list G some is
+
+some_actions : (M : Move) (l : Place) → writes M l ≡ true → actions_at M l ≢ []
+some_actions [] l h = λ none. absurd (false≢true h)
+some_actions (j ∷ M) l h = by_test (eq_by_cmp location_cmp j.at l) h (some_actions M l) where
+  by_test : (b : Bool) → (b || writes M l) ≡ true → (writes M l ≡ true → actions_at M l ≢ []) →
+      map (λ (i : Instruction). i.action)
+      (cond b (j ∷ filter (λ i. eq_by_cmp location_cmp i.at l) M) (filter (λ i. eq_by_cmp location_cmp i.at l) M))
+      ≢ []
+  by_test true h rest = λ none. cc
+  by_test false h rest = rest h
+
+module _ (part : Part) (old new : Old) (b : Block) (M : Move) (is : move_in old b ≡ Some M)
+    (same : Agree old new (changed b)) where
+  same_outcome : (l : Place) → writes M l ≡ true → result_at part old M l ≡ result_at part new M l
+  same_outcome l w =
+      same_result part (old l) (new l) (actions_at M l) (some_actions M l w)
+      (λ partial. same l (partial_there old b M l is partial))
+
+  -- a block's move has the same update set in both
+  pub same_update_set : (U : Updates) → IsUpdateSet part old M U → IsUpdateSet part new M U
+  same_update_set U h = record {
+    written = λ l w. subst (λ (o : GroupResult). IsSomeAnd (finite.get U l) (λ v. o ≡ Ok v)) (same_outcome l w)
+        (h.written l w);
+    others = h.others;
+  }
+
+  -- and the same clash
+  pub same_clash : (clash : Clash) → IsLeastClash part old M clash → IsLeastClash part new M clash
+  same_clash clash h = record {
+    written = h.written;
+    cause = sym (same_outcome clash.at h.written) ∙ h.cause;
+    least = λ l lt w. subst IsOk (same_outcome l w) (h.least l lt w);
+  }

@@ -1,17 +1,14 @@
 -- Blocks in sequence: the state that they leave, and what the one move of a step owes to it.
-use Rattle.std.specs.Prelude.{◌≡◌, [], ◌∷◌, length, nat_lt, if◌then◌else◌, Option, Some, None}
+use Rattle.std.specs.Prelude.{◌≡◌, ◌≤◌, ◌<◌, [], ◌∷◌, length, nat_lt, if◌then◌else◌, Option, Some, None}
 use Rattle.std.specs.Prelude.{Result, Ok, Err, unwrap_or, Contains}
 use Rattle.asm_element.specs.Place.{Place}
 use Rattle.asm_update.specs.Aggregator.{Meaning, NoJoin, Refused, TooLarge}
-use Rattle.asm_update.specs.Fire.{Part, Old, fire}
+use Rattle.asm_update.specs.Fire.{Part, Old, fire, IsUpdateSet, IsLeastClash}
 use Rattle.asm_update.specs.Limits.{instructions_limit}
 use Rattle.asm_update.specs.Move.{Move}
-use Rattle.asm_update.specs.State.{State, IsProper, val}
-use Rattle.asm_aggregate.specs.Compose.{composition}
-use Rattle.asm_step.specs.Continued.{continued}
+use Rattle.asm_update.specs.State.{State, Updates, IsProper, val}
+use Rattle.asm_aggregate.specs.Compose.{composition, IsSequence, NeverFires}
 use Rattle.asm_update.specs.declared.clash.Clash.{Clash}
-use Rattle.asm_step.specs.declared.error.StepError.{StepError}
-use Rattle.asm_step.specs.declared.error.StepError.TheVariants as step_error
 use Rattle.asm_script.specs.Blocks.{move_in}
 use Rattle.asm_script.specs.StepReads.{named}
 use Rattle.asm_script.specs.declared.block.Block.{Block}
@@ -72,11 +69,6 @@ abbrev pub composed_on : Meaning → Option Move → Move → Result Move StepFa
 composed_on a None N = Ok N
 composed_on a (Some M) N = fitting (composition a M N)
 
--- the one move of the earlier ones, if there are any, and then the next one, or the fault
-abbrev pub continued_on : Meaning → Option Move → Move → Result Move StepFault
-continued_on a None N = Ok N
-continued_on a (Some M) N = fitting (continued a M N)
-
 -- what comes after a block's move, if there is one; where a term was faulty there is none
 abbrev pub on_move : (Move → Result Move StepFault) → Option Move → Result Move StepFault
 on_move next (Some M) = next M
@@ -92,14 +84,13 @@ abbrev pub on_composed : (Move → Result Move StepFault) → Result Move StepFa
 on_composed next (Ok C) = next C
 on_composed next (Err fault) = Err fault
 
--- The one move of a step on a state, or why there is none; before it come moves whose one move is this one, which goes on
--- with each block but the last. Each block's terms have their values in the state that the blocks before it leave. The last
--- block isn't fired, and is composed to what comes before it.
+-- The one move of a step on a state, or why there is none; before it come moves that compose to this one. Each block's
+-- terms have their values in the state that the blocks before it leave. The last block isn't fired.
 abbrev pub step_move_on : Meaning → State → Option Move → Step → Result Move StepFault
 step_move_on a A before [] = Ok (unwrap_or before [])
 step_move_on a A before (b ∷ []) = on_move (composed_on a before) (move_in (val A) b)
 step_move_on a A before (b ∷ c ∷ bs) =
-    on_move (λ M. on_fired (λ B. on_composed (λ C. step_move_on a B (Some C) (c ∷ bs)) (continued_on a before M))
+    on_move (λ M. on_fired (λ B. on_composed (λ C. step_move_on a B (Some C) (c ∷ bs)) (composed_on a before M))
     (fire a.part A M)) (move_in (val A) b)
 
 -- What a step's move owes to a state that was read: it is the one there. Firing it leaves what the blocks leave, and
@@ -127,10 +118,22 @@ IsNext there (Err Term) = there ≡ None
 IsNext there (Err Memory) = Unit {0}
 IsNext there (Err _) = ⊥
 
--- the fault of a step of which a block isn't taken; at most 64 are pushed, so none is too deep
-abbrev pub fault_of : StepError → StepFault
-fault_of (step_error.Clash clash) = Clashing clash
-fault_of (step_error.Large l) = Large l
-fault_of step_error.Many = Many
-fault_of step_error.Deep = Many
-fault_of step_error.Memory = Memory
+-- the answer is the move's update set, or its clash
+abbrev pub IsFrame : Part → Old → Move → Result Updates StepFault → Type 0
+IsFrame part old M (Ok U) = IsUpdateSet part old M U
+IsFrame part old M (Err (Clashing clash)) = IsLeastClash part old M clash
+IsFrame part old M (Err Memory) = Unit {0}
+IsFrame part old M (Err _) = ⊥
+
+-- the answer is what the earlier move, if there is one, and the next one compose to, and does what they do in turn; or
+-- why they don't compose, and where they are refused no state lets both fire
+abbrev pub Extends : Meaning → Option Move → Move → Result Move StepFault → Type 0
+Extends a None N (Ok C) = C ≡ N
+Extends a None N (Err fault) = ⊥
+Extends a (Some M) N (Ok C) = IsSequence a.part M N C × (composition a M N ≡ Ok C) × (length C ≤ instructions_limit)
+Extends a (Some M) N (Err Term) = ⊥
+Extends a (Some M) N (Err (Clashing clash)) =
+    NeverFires a.part M N × (composition a M N ≡ Err (clash.at, Refused clash.cause))
+Extends a (Some M) N (Err (Large l)) = NeverFires a.part M N × (composition a M N ≡ Err (l, TooLarge))
+Extends a (Some M) N (Err Many) = (C : Move) × (composition a M N ≡ Ok C) × (instructions_limit < length C)
+Extends a (Some M) N (Err Memory) = Unit {0}

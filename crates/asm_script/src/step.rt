@@ -1,22 +1,24 @@
 //! Steps: blocks that are run in sequence.
 ghost use Rattle.std.specs.Prelude.{◌≡◌, ◌↔◌, ◌⊎◌, ◌<◌, ◌++◌, ◌∷◌, [], length, map, vec_len, IfSome, IsNone};
-ghost use Rattle.std.specs.Prelude.{OnOk, IfOk};
+ghost use Rattle.std.specs.Prelude.{OnOk, IfOk, IfErr};
 ghost use Rattle.asm_script.specs.Terms.{locations_in};
 ghost use Rattle.asm_overlay.specs.Frames.{seen_through};
+ghost use Rattle.asm_overlay.specs.Limits.{frames_limit};
 ghost use Rattle.asm_script.specs.Limits.{blocks_limit};
 ghost use Rattle.asm_script.specs.Ready.{as_written, written};
 ghost use Rattle.asm_script.specs.Blocks.{move_in};
-ghost use Rattle.asm_script.specs.Sequencing as sequencing;
-ghost use Rattle.asm_script.specs.Sequencing.{IsNext, IsStepMove};
-ghost use Rattle.asm_step.specs.Layers.{frames_of};
+ghost use Rattle.asm_script.specs.Sequencing.{IsNext, IsFrame, Extends, IsStepMove};
 ghost use Rattle.asm_script.specs.StepReads.{places_in, target_of, taken, changed, AreReads};
 
 use crate::block::{Block, Form, TermAction, TermInstruction, block_move};
 use crate::script::BLOCKS_LIMIT;
 use crate::term::{Term, TermFault};
+use asm_aggregate::{ComposeError, aggregate, compose};
 use asm_element::Location;
-use asm_step::{Step as Pushed, StepError};
-use asm_update::{Action, Aggregator, Clash, Instruction, Instructions, Lookup};
+use asm_overlay::{Over, Overlay, OverlayError};
+use asm_update::{
+    Action, AggError, Aggregator, Clash, Instruction, Instructions, Lookup, UpdateSet,
+};
 use std::alloc::{AllocError, Global};
 use std::marker::Model;
 use thiserror::Error;
@@ -251,31 +253,71 @@ fn gathered_reads(
     Ok(places)
 }
 
-/// The block's instructions on what the pushed blocks leave.
+/// The block's instructions on what is seen through the frames.
 fn next_move<L: Lookup>(
     alloc: Global,
     block: &Block,
-    pushed: &Pushed,
+    overlay: &Overlay,
     reading: &L,
 ) -> Result<Instructions, StepFault>
-    ensures { IsNext (move_in (seen_through (frames_of pushed.now) (L.value_at reading.now)) block.now) result }
+    ensures { IsNext (move_in (seen_through overlay.now (L.value_at reading.now)) block.now) result }
 {
-    match block_move(alloc, block, &pushed.over(reading)) {
+    match block_move(alloc, block, &Over::new(overlay, reading)) {
         Ok(next) => Ok(next),
         Err(TermFault::Faulty) => Err(StepFault::Term),
         Err(TermFault::Memory) => Err(StepFault::Memory),
     }
 }
 
-/// Why a step has no move, where a block isn't taken. `Deep` doesn't come: at most 64 blocks are pushed.
-fn fault_of(error: StepError) -> StepFault
-    ensures { result ≡ sequencing.fault_of error }
+/// The update set of the instructions on what is seen through the frames.
+fn next_frame<A: Aggregator, L: Lookup>(
+    alloc: Global,
+    aggregator: &A,
+    overlay: &Overlay,
+    reading: &L,
+    next: &Instructions,
+) -> Result<UpdateSet, StepFault>
+    ensures { IsFrame (A.meaning aggregator.now).part
+        (seen_through overlay.now (L.value_at reading.now)) next.now result }
 {
-    match error {
-        StepError::Clash(clash) => StepFault::Clash(clash),
-        StepError::Large(at) => StepFault::Large(at),
-        StepError::Many | StepError::Deep => StepFault::Many,
-        StepError::Memory => StepFault::Memory,
+    match aggregate(alloc, aggregator, &Over::new(overlay, reading), next) {
+        Ok(frame) => Ok(frame),
+        Err(AggError::Clash(clash)) => Err(StepFault::Clash(clash)),
+        Err(AggError::Memory) => Err(StepFault::Memory),
+    }
+}
+
+/// Puts a frame on top of fewer than 64. `Memory` comes only where memory was refused.
+fn push_frame(overlay: &mut Overlay, frame: UpdateSet) -> Result<(), StepFault>
+    requires { length overlay.old < frames_limit }
+    ensures ok { OnOk result (overlay.new ≡ overlay.old ++ frame ∷ []) }
+    ensures err { IfErr result (λ fault. fault ≡ StepFault.Memory) }
+{
+    match overlay.push(frame) {
+        Ok(()) => Ok(()),
+        Err(OverlayError::Memory(_)) => Err(StepFault::Memory),
+        Err(OverlayError::Deep(_)) => unreachable!(),
+    }
+}
+
+/// The instructions with the effect of the earlier ones, if there are any, followed by the next ones.
+fn extended<A: Aggregator>(
+    alloc: Global,
+    aggregator: &A,
+    earlier: &Option<Instructions>,
+    next: Instructions,
+) -> Result<Instructions, StepFault>
+    ensures { Extends (A.meaning aggregator.now) earlier.now next result }
+{
+    let Some(earlier) = earlier else {
+        return Ok(next);
+    };
+    match compose(alloc, aggregator, earlier, &next) {
+        Ok(composed) => Ok(composed),
+        Err(ComposeError::Clash(clash)) => Err(StepFault::Clash(clash)),
+        Err(ComposeError::Large(at)) => Err(StepFault::Large(at)),
+        Err(ComposeError::ManyInstructions) => Err(StepFault::Many),
+        Err(ComposeError::Memory) => Err(StepFault::Memory),
     }
 }
 
@@ -299,16 +341,15 @@ pub fn step_move<A: Aggregator, L: Lookup>(
 ) -> Result<Instructions, StepFault>
     ensures { IsStepMove (A.meaning aggregator.now) (L.value_at reading.now) step.now result }
 {
-    let mut pushed = Pushed::new(alloc);
+    let mut overlay = Overlay::new(alloc);
+    let mut done: Option<Instructions> = None;
     for block in &step.earlier {
-        let next = next_move(alloc, block, &pushed, reading)?;
-        if let Err(error) = pushed.push(alloc, aggregator, reading, &next) {
-            return Err(fault_of(error));
-        }
+        let next = next_move(alloc, block, &overlay, reading)?;
+        let frame = next_frame(alloc, aggregator, &overlay, reading, &next)?;
+        push_frame(&mut overlay, frame)?;
+        let composed = extended(alloc, aggregator, &done, next)?;
+        done = Some(composed);
     }
-    let last = next_move(alloc, &step.last, &pushed, reading)?;
-    match pushed.followed_by(alloc, aggregator, &last) {
-        Ok(one) => Ok(one),
-        Err(error) => Err(fault_of(error)),
-    }
+    let last = next_move(alloc, &step.last, &overlay, reading)?;
+    extended(alloc, aggregator, &done, last)
 }
