@@ -62,6 +62,8 @@ def long(pairs: int) -> Iterator[Case]:
         fire = fires[k].replace(',"reply"', f',"event":{2 * k + 1},"reply"')
         traced.append(f'{fire[:-2]},"updates":[[["n"],{k},{k + 1}]]}}\n')
     yield Case(f"trace_{name}", ("trace",), journal.encode(), "".join(traced).encode())
+    late = window(pairs - 1, pairs - 1, traced[-2:], **{"from": 2 * pairs - 2, "part": 0})
+    yield Case(f"trace_the_end_of_{name}", ("trace", "--from", f"{2 * pairs - 2}"), journal.encode(), late.encode())
 
 
 def growing(n: int) -> Iterator[Case]:
@@ -93,16 +95,38 @@ def calls_of(n: int) -> Iterator[Case]:
         yield Case(f"rewrite_a_call_of_{n}_{name}", ("rewrite",), journal, *ends)
 
 
-def parts(n: int) -> Iterator[Case]:
-    """A run of so many parts of one move each, longer than any other input: legal, and with a last part that opens with
-    another state or has a wrong answer."""
+def run_of(n: int) -> str:
+    """A run of so many parts, each of one move, which raises a number."""
     fired = event('{"fire":[["inc",["n"],1]],"reads":[]}', '{"fired":1}')
-    run = "".join(header(1, init=[[N, k]]) + fired for k in range(n))
-    yield Case(f"audit_{n}_parts", ("audit",), run.encode(), f"legal {n} {n} {n}\n".encode())
-    apart = run + header(1, init=[[N, n - 1]]) + fired
+    return "".join(header(1, init=[[N, k]]) + fired for k in range(n))
+
+
+def parts(n: int) -> Iterator[Case]:
+    """A run of so many parts, longer than any other input: legal, and with a last part that opens with another state or has
+    a wrong answer."""
+    run, legal = run_of(n), f"legal {n} {n} {n}\n"
+    yield Case(f"audit_{n}_parts", ("audit",), run.encode(), legal.encode())
+    told = "".join(f"so far {k} {k} {k}\n" for k in range(4096, n + 1, 4096))
+    yield Case(f"audit_every_4096_of_{n}_parts", ("audit", "--every", "4096"), run.encode(), (told + legal).encode())
+    apart = run + header(1, init=[[N, n - 1]]) + event('{"fire":[],"reads":[]}', '{"fired":1}')
     yield Case(f"audit_{n}_parts_and_one_apart", ("audit",), apart.encode(), f"part {n} apart\n".encode(), 2)
     wrong = run + header(1, init=[[N, n]]) + event('{"read":[["n"]]}', f'{{"number":0,"values":[{n - 1}]}}')
     yield Case(f"audit_{n}_parts_and_a_wrong_one", ("audit",), wrong.encode(), f"illegal {n} 0\n".encode(), 1)
+
+
+def window(n: int, before: int, calls: list[str], **part: int) -> str:
+    """The trace of a window of these calls, which begins where the number is n and so many moves of its part were fired."""
+    head = {"agents": 1, "capacity": 1048576, "events": len(calls), "init": [[N, n]], "moves": before, "trace": 2, **part}
+    return text(dict(sorted(head.items()))) + "\n" + "".join(calls)
+
+
+def windows(n: int) -> Iterator[Case]:
+    """The last of so many parts, and one behind it, which isn't there."""
+    call = event('{"fire":[["inc",["n"],1]],"reads":[]},"event":0', f'{{"fired":1}},"updates":[[["n"],{n - 1},{n}]]')
+    told = window(n - 1, 0, [call], **{"from": 0, "part": n - 1})
+    yield Case(f"trace_the_last_of_{n}_parts", ("trace", "--part", f"{n - 1}"), run_of(n).encode(), told.encode())
+    few = f"the run has {n} parts\n".encode()
+    yield Case(f"trace_a_part_behind_{n}_parts", ("trace", "--part", f"{n}"), run_of(n).encode(), few, 2)
 
 
 def lines() -> Iterator[Case]:
@@ -187,4 +211,4 @@ def judged(name: str, journal: str, line: str, at: int) -> Iterator[Case]:
 def journals() -> list[Case]:
     found = [it for n in (4097, 16385, 65537) for make in (raises, plain) for it in make(n)]
     found += [it for n in (255, 256, 257, 4095, 4096, 4097) for it in calls_of(n)]
-    return [*found, *default(), *long(35000), *growing(400), *parts(120000), *lines(), *cut(), *placed()]
+    return [*found, *default(), *long(35000), *growing(400), *parts(120000), *windows(1000), *windows(120000), *lines(), *cut(), *placed()]
