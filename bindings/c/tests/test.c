@@ -328,58 +328,6 @@ static void ends(void) {
     asm_free(&storage);
 }
 
-/* What is said of a text; nothing where it is accepted. One byte of room less is too little. */
-static void explains(int32_t form, const char *text, const char *said) {
-    uint8_t out[128];
-    size_t written = 9, len = strlen(said);
-    REQUIRE(asm_explain(form, bytes(text), strlen(text), out, len, &written) == ASM_DONE);
-    REQUIRE(written == len && !memcmp(out, said, len));
-    REQUIRE(len == 0 || (asm_explain(form, bytes(text), strlen(text), out, len - 1, &written) ==
-                             ASM_SMALL &&
-                         written == len));
-}
-
-static void sentences(void) {
-    static char text[2 * ROOM];
-    uint8_t out[8];
-    size_t written = 9;
-    explains(ASM_FORM_LOCATIONS, "[[\"x\"],[\"y\",1]]", "");
-    explains(ASM_FORM_MOVE, "{\"fire\":[[\"inc\",[\"x\"],1]],\"reads\":[[[\"x\"],0]]}", "");
-    explains(ASM_FORM_STATE, "[[[\"x\"],7]]", "");
-    explains(ASM_FORM_EVENT, "{\"agent\":0,\"call\":{\"read\":[]},\"reply\":\"full\"}", "");
-    explains(ASM_FORM_LOCATIONS, "[[\"x\"],\n[nul]]", "not JSON at byte 10");
-    explains(ASM_FORM_LOCATIONS, "[[\"1\"]]",
-             "location 1: a name has 1 to 64 letters, digits and _, and begins with no digit");
-    explains(ASM_FORM_MOVE,
-             "{\"fire\":[[\"add\",[\"s\"],1],[\"inc\",[\"x\"],1],[\"put\",[\"s\"],"
-             "{\"set\":[{\"set\":[]}]}]],\"reads\":[]}",
-             "instruction 3: a set can't hold a set");
-    explains(ASM_FORM_STATE, "[[[\"x\"],1],[[\"x\"],2]]", "a location stands twice");
-    explains(ASM_FORM_SCRIPT, "{\"agents\":[[[[[\"inc\",[\"x\"],1]]]]],\"init\":[]}", "");
-    explains(ASM_FORM_SCRIPT,
-             "{\"agents\":[[],[[[[\"inc\",[\"x\"],1],[\"putt\",[\"x\"],1]]]]],\"init\":[]}",
-             "agent 1 step 0 block 0 instruction 1: unknown word \"putt\"");
-    char *at = text + sprintf(text, "{\"fire\":[");
-    for (int i = 0; i < 4097; i++)
-        at += sprintf(at, "%s[\"put\",[\"x\"],1]", i ? "," : "");
-    sprintf(at, "],\"reads\":[]}");
-    explains(ASM_FORM_MOVE, text, "4,097 instructions, at most 4,096");
-    for (int32_t form = -1; form <= 5; form += 6)
-        REQUIRE(asm_explain(form, bytes("[]"), 2, out, sizeof out, &written) == ASM_RANGE &&
-                written == 0);
-}
-
-static void texts_of_codes(void) {
-    uint8_t out[128];
-    size_t written;
-    REQUIRE(asm_version() == FOLUGBEN_VERSION);
-    for (int32_t code = -2; code < 26; code++) {
-        bool known = code >= ASM_DONE && code <= ASM_APART;
-        REQUIRE(asm_error_text(code, out, sizeof out, &written) == ASM_DONE && written > 0);
-        REQUIRE(known == !(written == 23 && !memcmp(out, "no code of this library", 23)));
-    }
-}
-
 int main(void) {
     empty_slots();
     full_slots();
@@ -392,8 +340,6 @@ int main(void) {
     many_instructions();
     two_storages();
     ends();
-    sentences();
-    texts_of_codes();
     puts("passed");
     return 0;
 }
