@@ -19,14 +19,6 @@ pub(crate) enum Closing {
     Counted(u32, usize),
 }
 
-/// How many moves the history has.
-pub(crate) fn moves_in(closing: Closing) -> u32 {
-    match closing {
-        Closing::Events(moves, _) | Closing::Counted(moves, _) => moves,
-        Closing::Missing(_) => 0,
-    }
-}
-
 fn is_by(events: &[Event], agents: &[u32]) -> bool {
     events
         .iter()
@@ -34,30 +26,16 @@ fn is_by(events: &[Event], agents: &[u32]) -> bool {
         .eq(agents.iter().copied())
 }
 
-fn is_history(history: &History, want: Closing) -> bool {
-    match want {
-        Closing::Events(moves, by) => {
-            history.moves() == moves && is_by(history.events.as_slice(), by)
-        }
-        Closing::Counted(moves, events) => {
-            history.moves() == moves && history.events.as_slice().len() == events
-        }
-        Closing::Missing(_) => false,
-    }
-}
-
-fn is_missing(number: u32, want: Closing) -> bool {
-    match want {
-        Closing::Missing(wanted) => number == wanted,
-        _ => false,
-    }
-}
-
 fn is_closed(closed: &Result<History, CloseError>, want: Closing) -> bool {
-    match closed {
-        Ok(history) => history.fits() && is_history(history, want),
-        Err(CloseError::Missing(number)) => is_missing(*number, want),
-        Err(CloseError::Memory) => false,
+    match (closed, want) {
+        (Ok(history), Closing::Events(moves, by)) => {
+            history.fits() && history.moves() == moves && is_by(history.events.as_slice(), by)
+        }
+        (Ok(history), Closing::Counted(moves, events)) => {
+            history.fits() && history.moves() == moves && history.events.as_slice().len() == events
+        }
+        (Err(CloseError::Missing(number)), Closing::Missing(wanted)) => *number == wanted,
+        _ => false,
     }
 }
 
@@ -88,9 +66,4 @@ pub(crate) fn closes(
 {
     let closed = close(alloc, storage, agents);
     is_closed(&closed, want) && close(alloc, storage, agents) == closed
-}
-
-/// Whether the row holds so many moves.
-pub(crate) fn holds(storage: &Storage<Standard>, moves: u32) -> bool {
-    storage.moves() == moves
 }

@@ -1,7 +1,7 @@
 //! Fires of one agent in whose turns another one fires first.
 ghost use Rattle.asm_storage.specs.Storage.{IsSameAgent};
 
-use crate::asked::{Act, Put, Want, move_of, receipt_of};
+use crate::asked::{Act, At, Put, Want, move_of, receipt_of};
 use crate::performing::is_last;
 use asm_aggregate::Standard;
 use asm_state::Named;
@@ -18,11 +18,11 @@ pub(crate) enum Outcome {
     Busy(u32, u32),
 }
 
-/// The one agent asks this. Just before each of its offers, but at most so many times, the other fires a move with these
-/// puts, or two.
+/// The one agent puts 1 at y, with these named reads. Just before each of its offers, but at most so many times, the other
+/// fires a move with this put, or two.
 #[derive(Clone, Copy)]
 pub(crate) struct Contest {
-    pub(crate) act: Act,
+    pub(crate) reads: &'static [At],
     pub(crate) others: &'static [Put],
     pub(crate) times: u32,
     pub(crate) fires_twice: bool,
@@ -91,59 +91,19 @@ fn fire_against(
     given
 }
 
-/// The same for a call, which has to be a fire.
-fn ask_against(
-    alloc: Global,
-    agent: &mut Agent<'_, Standard>,
-    other: &mut Agent<'_, Standard>,
-    call: &Call,
-    others: &Instructions,
-    rival: Rival,
-) -> Result<Reply, FireError>
-    ensures first { IsSameAgent agent.old agent.new }
-    ensures second { IsSameAgent other.old other.new }
-{
-    match call {
-        Call::Fire { reads, instrs } => {
-            fire_against(alloc, agent, other, reads.as_slice(), instrs, others, rival)
-        }
-        Call::Read(_) => Err(FireError::ManyReads),
-    }
-}
-
-fn is_reply(reply: &Reply, wanted: &Answer) -> bool {
-    match wanted {
-        Answer::Fire(wanted) => reply == wanted,
-        _ => false,
-    }
-}
-
-fn is_busy(outcome: Outcome, from: u32, to: u32) -> bool {
-    match outcome {
-        Outcome::Busy(start, end) => start == from && end == to,
-        Outcome::Answered(_) => false,
-    }
-}
-
 /// Whether the fire gave this: the answer of the receipt, where there is one.
 fn is_given(
     given: Result<Reply, FireError>,
     wanted: &Answer,
     outcome: Outcome,
 ) -> Result<bool, AllocError> {
-    match given {
-        Ok(reply) => Ok(is_reply(&reply, wanted)),
-        Err(FireError::Busy { from, to }) => Ok(is_busy(outcome, from, to)),
-        Err(FireError::Memory) => Err(AllocError),
-        Err(FireError::ManyReads) => Ok(false),
-    }
-}
-
-/// What the fire is answered; where it is not, an answer that no fire has: the first move is number 1.
-fn wanted_in(outcome: Outcome) -> Want {
-    match outcome {
-        Outcome::Answered(want) => want,
-        Outcome::Busy(_, _) => Want::Fired(0),
+    match (given, wanted, outcome) {
+        (Ok(reply), Answer::Fire(wanted), Outcome::Answered(_)) => Ok(reply == *wanted),
+        (Err(FireError::Busy { from, to }), _, Outcome::Busy(start, end)) => {
+            Ok(start == from && end == to)
+        }
+        (Err(FireError::Memory), _, _) => Err(AllocError),
+        _ => Ok(false),
     }
 }
 
@@ -158,13 +118,24 @@ fn contends_for(
     ensures first { IsSameAgent agent.old agent.new }
     ensures second { IsSameAgent other.old other.new }
 {
+    let Call::Fire { reads, instrs } = &wanted.call else {
+        return Ok(false);
+    };
     let others = move_of(alloc, contest.others)?;
     let rival = Rival {
         times: contest.times,
         fires_twice: contest.fires_twice,
         is_refused: false,
     };
-    let given = ask_against(alloc, agent, other, &wanted.call, &others, rival);
+    let given = fire_against(
+        alloc,
+        agent,
+        other,
+        reads.as_slice(),
+        instrs,
+        &others,
+        rival,
+    );
     let is_right = is_given(given, &wanted.answer, contest.outcome)?;
     let is_answered = matches!(contest.outcome, Outcome::Answered(_));
     Ok(is_right && is_last(agent, wanted) == is_answered)
@@ -180,6 +151,11 @@ pub(crate) fn contends(
     ensures first { IsSameAgent agent.old agent.new }
     ensures second { IsSameAgent other.old other.new }
 {
-    let wanted = receipt_of(alloc, contest.act, wanted_in(contest.outcome))?;
+    // The first move is number 1, so that no fire is answered 0.
+    let want = match contest.outcome {
+        Outcome::Answered(want) => want,
+        Outcome::Busy(_, _) => Want::Fired(0),
+    };
+    let wanted = receipt_of(alloc, Act::Fire(&[Put("y", 1)], contest.reads), want)?;
     contends_for(alloc, agent, other, &wanted, contest)
 }

@@ -1,14 +1,13 @@
 //! Two agents of one storage fire, each on a thread of its own. Where memory is refused, a thread ends with `AllocError`.
 ghost use Rattle.std.specs.Prelude.{◌≡◌, IfOk};
-ghost use Rattle.asm_storage.specs.Storage.{IsSameAgent};
 
-use crate::asked::{move_at, places_of};
+use crate::asked::move_at;
 use crate::closings::Closing;
-use crate::two_agents::{Two, storage_of, storage_with};
+use crate::two_agents::{Two, storage_of};
 use crate::workers::{fires_as, puts, two_with};
-use asm_aggregate::Standard;
+use asm_aggregate::{Standard, standard};
 use asm_element::{ElemBag, Element, Value};
-use asm_storage::{Agent, Answer, Reading, Receipt, Reply, Storage};
+use asm_storage::{Agent, Storage};
 use asm_test_support::location;
 use asm_update::{Action, Amount, Instructions, PlainState};
 use std::alloc::{AllocError, Global};
@@ -40,11 +39,11 @@ fn wins(two: &Two<'_>) -> (u32, u32) {
     (two.a.won(), two.b.won())
 }
 
-/// An opening state where b is an empty bag.
-fn opened_with_bag(alloc: Global) -> Result<PlainState, AllocError> {
+/// A storage for 200 moves where b is an empty bag.
+fn storage_of_bag(alloc: Global) -> Result<Storage<Standard>, AllocError> {
     let mut init = PlainState::new(alloc);
     init.set(location(alloc, "b")?, Value::Bag(ElemBag::new(alloc)))?;
-    Ok(init)
+    Storage::new(alloc, standard(), init, 200).map_err(|_| AllocError)
 }
 
 /// A move that adds one 5 to the bag b.
@@ -64,43 +63,6 @@ fn additions(alloc: Global) -> Result<Vec<Instructions>, AllocError> {
     Ok(moves)
 }
 
-fn has_fives(bag: &ElemBag, number: u32) -> bool {
-    bag.count(&Element::Num(5)) == number
-}
-
-/// Whether the bag was read at this number, and has as many 5.
-fn is_bag_of(reading: &Reading, number: u32) -> bool {
-    if reading.len() == 0 {
-        return false;
-    }
-    match reading.value(0) {
-        Value::Bag(bag) => reading.number() == number && has_fives(bag, number),
-        _ => false,
-    }
-}
-
-/// Whether the agent reads that many 5 in the bag, after as many moves.
-fn reads_bag(
-    alloc: Global,
-    agent: &mut Agent<'_, Standard>,
-    number: u32,
-) -> Result<bool, AllocError>
-    ensures { IsSameAgent agent.old agent.new }
-{
-    let places = places_of(alloc, &["b"])?;
-    match agent.read(alloc, &places) {
-        Ok(reading) => Ok(is_bag_of(&reading, number)),
-        Err(_) => Err(AllocError),
-    }
-}
-
-/// Whether the two agents have fired 100 additions each.
-fn is_added(alloc: Global, mut two: Two<'_>) -> Result<bool, AllocError> {
-    let is_read = reads_bag(alloc, &mut two.a, 200)?;
-    let is_won = wins(&two) == (100, 100);
-    Ok(is_read && is_won && two.closes_both(alloc, Closing::Counted(200, 201)))
-}
-
 /// Whether two agents on threads of their own fire 100 additions each.
 fn adds_by_two<R: Threads>(
     rt: &R,
@@ -108,54 +70,28 @@ fn adds_by_two<R: Threads>(
     storage: &Storage<Standard>,
 ) -> Result<bool, AllocError> {
     let moves = additions(alloc)?;
-    is_added(alloc, both_fire(rt, alloc, storage, &moves)?)
+    let two = both_fire(rt, alloc, storage, &moves)?;
+    Ok(wins(&two) == (100, 100) && two.closes(alloc, Closing::Counted(200, 200)))
 }
 
 #[test]
 fn additions_of_two_threads_are_all_fired(rt: HostRuntime) -> Result<(), Fail> {
     let alloc = rt.alloc();
-    let storage = storage_with(alloc, opened_with_bag(alloc)?, 200)?;
+    let storage = storage_of_bag(alloc)?;
     assert!(&rt; adds_by_two(&rt, alloc, &storage)?);
     Ok(())
 }
 
-/// Whether the agent was answered once, `Fired(1)` where it won and else `Full`.
-fn is_answered_once(agent: &Agent<'_, Standard>) -> bool {
-    let receipts = agent.receipts();
-    let fired = agent.won() == 1;
-    match receipts.first() {
-        Some(
-            Receipt {
-                answer: Answer::Fire(Reply::Fired(1)),
-                ..
-            },
-        ) => fired && receipts.len() == 1,
-        Some(
-            Receipt {
-                answer: Answer::Fire(Reply::Full),
-                ..
-            },
-        ) => !fired && receipts.len() == 1,
-        _ => false,
-    }
-}
-
-/// Whether one of the two agents has fired, and the other found the storage full.
-fn is_one_fired(alloc: Global, two: Two<'_>) -> bool {
-    is_answered_once(&two.a)
-        && is_answered_once(&two.b)
-        && matches!(wins(&two), (0, 1) | (1, 0))
-        && two.closes_both(alloc, Closing::Counted(1, 2))
-}
-
-/// Whether that is so of two agents that fire one move each, on threads of their own.
+/// Whether one of two agents on threads of their own fires, and the other finds the storage full.
 fn fires_last<R: Threads>(
     rt: &R,
     alloc: Global,
     storage: &Storage<Standard>,
 ) -> Result<bool, AllocError> {
     let moves = puts(alloc, 1)?;
-    Ok(is_one_fired(alloc, both_fire(rt, alloc, storage, &moves)?))
+    let two = both_fire(rt, alloc, storage, &moves)?;
+    let is_one_fired = matches!(wins(&two), (0, 1) | (1, 0));
+    Ok(is_one_fired && two.closes(alloc, Closing::Counted(1, 2)))
 }
 
 #[test]

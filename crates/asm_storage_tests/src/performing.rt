@@ -11,7 +11,7 @@ use asm_update::Instructions;
 use std::alloc::{AllocError, Global};
 
 /// Whether these values were read, in this order.
-pub(crate) fn are_read(reading: &Reading, values: &[Value]) -> bool {
+fn are_read(reading: &Reading, values: &[Value]) -> bool {
     if reading.len() != values.len() {
         return false;
     }
@@ -24,7 +24,7 @@ pub(crate) fn are_read(reading: &Reading, values: &[Value]) -> bool {
 }
 
 /// Whether a read is answered so.
-pub(crate) fn reads(
+fn reads(
     alloc: Global,
     agent: &mut Agent<'_, Standard>,
     places: &[Location],
@@ -57,16 +57,20 @@ pub(crate) fn fires(
     }
 }
 
-/// Whether a call is answered so.
-fn is_answered(
+/// Whether this is the agent's last receipt.
+pub(crate) fn is_last(agent: &Agent<'_, Standard>, wanted: &Receipt) -> bool {
+    agent.receipts().last() == Some(wanted)
+}
+
+/// The agent asks what the receipt tells; whether it is answered so, and keeps that receipt.
+fn performs(
     alloc: Global,
     agent: &mut Agent<'_, Standard>,
-    call: &Call,
-    answer: &Answer,
+    wanted: &Receipt,
 ) -> Result<bool, AllocError>
     ensures { IsSameAgent agent.old agent.new }
 {
-    match (call, answer) {
+    let is_answered = match (&wanted.call, &wanted.answer) {
         (Call::Read(places), Answer::Read { number, values }) => {
             reads(alloc, agent, places.as_slice(), *number, values.as_slice())
         }
@@ -74,23 +78,8 @@ fn is_answered(
             fires(alloc, agent, reads.as_slice(), instrs, reply)
         }
         _ => Ok(false),
-    }
-}
-
-/// Whether this is the agent's last receipt.
-pub(crate) fn is_last(agent: &Agent<'_, Standard>, wanted: &Receipt) -> bool {
-    agent.receipts().last() == Some(wanted)
-}
-
-/// The agent asks what the receipt tells; whether it is answered so, and keeps that receipt.
-pub(crate) fn performs(
-    alloc: Global,
-    agent: &mut Agent<'_, Standard>,
-    wanted: &Receipt,
-) -> Result<bool, AllocError>
-    ensures { IsSameAgent agent.old agent.new }
-{
-    Ok(is_answered(alloc, agent, &wanted.call, &wanted.answer)? && is_last(agent, wanted))
+    };
+    Ok(is_answered? && is_last(agent, wanted))
 }
 
 /// The agent asks this; whether it is answered so, and keeps the receipt.
@@ -106,24 +95,23 @@ pub(crate) fn asks(
     performs(alloc, agent, &wanted)
 }
 
-/// Whether it has this many receipts, and has seen at most so many moves.
-fn is_unanswered(agent: &Agent<'_, Standard>, receipts: usize, seen: u32) -> bool {
-    agent.receipts().len() == receipts && agent.seen() <= seen
-}
-
-/// The agent asks what the receipt tells, and once more where memory was refused: it has then as many receipts as
-/// before, and has seen at most so many moves. Whether it is answered so.
-pub(crate) fn performs_in_the_end(
+/// The agent asks this, and once more where memory was refused: it has then as many receipts as before, and has seen at
+/// most so many moves. Whether it is answered so.
+pub(crate) fn retries(
     alloc: Global,
     agent: &mut Agent<'_, Standard>,
-    wanted: &Receipt,
+    act: Act,
+    want: Want,
     seen: u32,
 ) -> Result<bool, AllocError>
     ensures { IsSameAgent agent.old agent.new }
 {
+    let wanted = receipt_of(alloc, act, want)?;
     let receipts = agent.receipts().len();
-    match performs(alloc, agent, wanted) {
-        Err(_) if is_unanswered(agent, receipts, seen) => performs(alloc, agent, wanted),
+    match performs(alloc, agent, &wanted) {
+        Err(_) if agent.receipts().len() == receipts && agent.seen() <= seen => {
+            performs(alloc, agent, &wanted)
+        }
         Err(_) => Ok(false),
         is_right => is_right,
     }
@@ -144,25 +132,12 @@ pub(crate) fn learns(
     Ok(agent.seen() == seen)
 }
 
-/// Learns a mark of the other from before that one asks this, and is answered so; whether it has then seen so many
-/// moves.
-pub(crate) fn learns_from_before(
-    alloc: Global,
-    agent: &mut Agent<'_, Standard>,
-    other: &mut Agent<'_, Standard>,
-    wanted: &Receipt,
-    seen: u32,
-) -> Result<bool, AllocError>
-    requires { other.old.storage ≡ agent.old.storage }
-    ensures first { IsSameAgent agent.old agent.new }
-    ensures second { IsSameAgent other.old other.new }
-{
-    let mark = other.mark(alloc)?;
-    let is_right = performs(alloc, other, wanted)?;
-    agent.learn(alloc, &mark)?;
-    Ok(is_right && agent.seen() == seen)
-}
-
-pub(crate) fn counts(agent: &Agent<'_, Standard>, seen: u32, won: u32, misses: u64) -> bool {
-    agent.seen() == seen && agent.won() == won && agent.misses() == misses
+/// Whether the agent, which asks nothing, has seen so many moves, won so many offers, found so many cells empty, and has
+/// so many receipts.
+pub(crate) fn counts(agent: &Agent<'_, Standard>, wanted: (u32, u32, u64, usize)) -> bool {
+    let (seen, won, misses, receipts) = wanted;
+    agent.seen() == seen
+        && agent.won() == won
+        && agent.misses() == misses
+        && agent.receipts().len() == receipts
 }

@@ -117,7 +117,7 @@ fn is_never_falling(
     let is_read = marks.len() == 100 && reads_each_mark(alloc, &mut two.b, marks, places)?;
     let receipts = two.b.receipts();
     let never_falls = receipts.len() == 200 && never_fall(receipts);
-    Ok(is_read && never_falls && two.closes_both(alloc, Closing::Counted(100, 300)))
+    Ok(is_read && never_falls && two.closes(alloc, Closing::Counted(100, 300)))
 }
 
 /// Whether the reads of one agent never fall beside the other one, which fires the moves.
