@@ -1,0 +1,242 @@
+/* Storages: moves of each size, however they are judged, many moves and many agents, and how many
+ * moves a storage holds after each call. */
+#include "tests.h"
+
+static asm_slot storage, agents[2];
+
+static void begin_with(const char *opening, uint32_t capacity) {
+    open_with(opening, capacity, &storage);
+    REQUIRE(asm_agents(&storage, agents, 2) == ASM_DONE);
+}
+
+static void end_all(void) {
+    asm_free(&storage);
+    asm_free(&agents[0]);
+    asm_free(&agents[1]);
+}
+
+static void holds(uint32_t moves) {
+    uint32_t number = 9999999;
+    REQUIRE(asm_moves(&storage, &number) == ASM_DONE && number == moves);
+}
+
+static void reads(asm_slot *agent, const char *locations, const char *answer) {
+    REQUIRE(asm_read(agent, TEXT(locations)) == ASM_DONE);
+    TELLS(ASM_DONE, answer, asm_answer(agent, OUT));
+}
+
+static int32_t fire_of(asm_slot *agent, const char *call) {
+    asm_numbers numbers;
+    return asm_try_fire(agent, TEXT(call), &numbers);
+}
+
+/* A move that puts 1, 2 and so on at w(0), w(1) and so on, and then 0 at some of them; the location
+ * at which it clashes, or -1. */
+static const struct wide {
+    int count, again[2], clash;
+} wides[] = {
+    {16, {-1, -1}, -1},       {17, {-1, -1}, -1},   {15, {7, -1}, 7}, {16, {15, -1}, 15},
+    {14, {9, 4}, 4},          {15, {4, 9}, 4},      {17, {16, 0}, 0}, {4096, {-1, -1}, -1},
+    {4095, {4094, -1}, 4094}, {4094, {4000, 3}, 3},
+};
+
+static const char *call_of(const struct wide *w) {
+    static char text[32 * LONGEST];
+    char *at = text + sprintf(text, "{\"fire\":[");
+    for (int i = 0; i < w->count; i++)
+        at += sprintf(at, "%s[\"put\",[\"w\",%d],%d]", i ? "," : "", i, i + 1);
+    for (int i = 0; i < 2 && w->again[i] >= 0; i++)
+        at += sprintf(at, ",[\"put\",[\"w\",%d],0]", w->again[i]);
+    sprintf(at, "],\"reads\":[]}");
+    return text;
+}
+
+/* Another agent reads what the move left at its first, a middle and its last location. */
+static void wide_move(const struct wide *w) {
+    char locations[64], answer[64];
+    const char *call = call_of(w);
+    asm_numbers numbers = {9, 9, 9};
+    int places[] = {0, w->count / 2, w->count - 1};
+    begin_with("[]", 8);
+    int32_t code = asm_try_fire(&agents[1], bytes(call), strlen(call), &numbers);
+    if (w->clash < 0) {
+        REQUIRE(code == ASM_DONE && numbers.fired == 1);
+    } else {
+        REQUIRE(code == ASM_CLASH && numbers.fired == 0);
+        snprintf(answer, sizeof answer, "{'clash':[['w',%d],'Two']}", w->clash);
+        TELLS(ASM_DONE, answer, asm_answer(&agents[1], OUT));
+    }
+    for (int i = 0; i < 3; i++) {
+        snprintf(locations, sizeof locations, "[['w',%d]]", places[i]);
+        if (w->clash < 0)
+            snprintf(answer, sizeof answer, "{'number':1,'values':[%d]}", places[i] + 1);
+        else
+            snprintf(answer, sizeof answer, "{'number':0,'values':[null]}");
+        reads(&agents[0], locations, answer);
+    }
+    holds(w->clash < 0);
+    end_all();
+}
+
+static uint32_t drawn(uint32_t seed) { return seed * 1664525 + 1013904223; }
+
+/* A move of at most 19 puts at 24 locations, many of which clash; where it is wide, with puts at 17
+ * locations more. */
+static char *append_drawn(char *at, uint32_t seed, bool is_wide) {
+    uint32_t draw = seed;
+    const char *comma = "";
+    for (uint32_t i = 0; i < (seed >> 8) % 20; i++, comma = ",") {
+        draw = drawn(draw);
+        at += sprintf(at, "%s['put',['w',%u],%u]", comma, (unsigned)((draw >> 8) % 24),
+                      (unsigned)((draw >> 16) % 2));
+    }
+    for (int i = 100; is_wide && i < 117; i++, comma = ",")
+        at += sprintf(at, "%s['put',['w',%d],1]", comma, i);
+    return at;
+}
+
+/* The same moves are answered alike with no read, with one that is never stale, and where they are
+ * wide, until the storage is full. */
+static void judged_alike(void) {
+    asm_slot stores[3] = {{0}, {0}, {0}}, ones[3] = {{0}, {0}, {0}};
+    unsigned fired = 0, clashed = 0;
+    uint32_t seed = 1;
+    for (int i = 0; i < 3; i++) {
+        open_with("[]", 40, &stores[i]);
+        REQUIRE(asm_agent(&stores[i], 0, &ones[i]) == ASM_DONE);
+    }
+    for (int k = 0; k < 300; k++) {
+        asm_numbers numbers[3];
+        int32_t codes[3];
+        seed = drawn(seed);
+        for (int i = 0; i < 3; i++) {
+            char call[LONGEST];
+            char *at = append_drawn(call + sprintf(call, "{'fire':["), seed, i == 2);
+            sprintf(at, "],'reads':[%s]}", i == 1 ? "[['never'],0]" : "");
+            codes[i] = asm_try_fire(&ones[i], TEXT(call), &numbers[i]);
+            REQUIRE(codes[i] == codes[0] && numbers[i].fired == numbers[0].fired);
+        }
+        fired += codes[0] == ASM_DONE;
+        clashed += codes[0] == ASM_CLASH;
+        REQUIRE(codes[0] == ASM_DONE || codes[0] == ASM_CLASH || codes[0] == ASM_FULL);
+    }
+    REQUIRE(fired == 40 && clashed > 100);
+    for (int i = 0; i < 3; i++) {
+        REQUIRE(asm_give(&stores[i], &ones[i]) == ASM_DONE);
+        char *journal = journal_of(&stores[i]);
+        is_legal(journal, 300, 40);
+        free(journal);
+        asm_free(&stores[i]);
+    }
+}
+
+/* Many moves that needed no state are followed by the first call that asks for one. */
+static void many_moves(uint32_t count) {
+    char call[128];
+    begin_with("[]", count + 8);
+    for (uint32_t k = 1; k <= count; k++) {
+        snprintf(call, sizeof call, "[['put',['x'],%u]]", (unsigned)k);
+        fire(&agents[1], call);
+    }
+    holds(count);
+    snprintf(call, sizeof call, "{'fire':[],'reads':[[['x'],%u]]}", (unsigned)count - 1);
+    REQUIRE(fire_of(&agents[1], call) == ASM_STALE && asm_misses(&agents[1]) == count + 1);
+    snprintf(call, sizeof call, "{'number':%u,'values':[%u]}", (unsigned)count, (unsigned)count);
+    reads(&agents[0], "[['x']]", call);
+    REQUIRE(asm_seen(&agents[0]) == count && asm_misses(&agents[0]) == 1);
+    end_all();
+}
+
+/* A read tells the value that was written last, undef too, again and again. */
+static void hidden_values(void) {
+    begin_with("[[['s'],{'set':[1]}],[['x'],7]]", 8);
+    for (int i = 0; i < 2; i++)
+        reads(&agents[0], "[['x'],['y']]", "{'number':0,'values':[7,null]}");
+    fire(&agents[1], "[['put',['x'],5],['add',['s'],2]]");
+    for (size_t i = 0; i < 2; i++)
+        reads(&agents[i], "[['x'],['s']]", "{'number':1,'values':[5,{'set':[1,2]}]}");
+    reads(&agents[0], "[['s'],['x'],['x']]", "{'number':1,'values':[{'set':[1,2]},5,5]}");
+    fire(&agents[0], "[['put',['x'],null]]");
+    for (size_t i = 0; i < 2; i++)
+        reads(&agents[i], "[['x'],['s']]", "{'number':2,'values':[null,{'set':[1,2]}]}");
+    fire(&agents[1], "[['put',['x'],7]]");
+    reads(&agents[0], "[['x']]", "{'number':3,'values':[7]}");
+    end_all();
+}
+
+/* A call adds the move that it fires to the storage, and nothing else does. */
+static void each_call(void) {
+    uint32_t number;
+    begin_with("[[['x'],7]]", 3);
+    holds(0);
+    reads(&agents[0], "[['x']]", "{'number':0,'values':[7]}");
+    holds(0);
+    REQUIRE(fire_of(&agents[0], "{'fire':[['put',['x'],1],['put',['x'],2]],'reads':[]}") ==
+            ASM_CLASH);
+    REQUIRE(asm_learn(&agents[1], &agents[0]) == ASM_DONE);
+    REQUIRE(asm_follow(&agents[1], &number) == ASM_DONE && number == 0);
+    holds(0);
+    fire(&agents[0], "[['put',['x'],5]]");
+    holds(1);
+    REQUIRE(fire_of(&agents[0], "{'fire':[['put',['y'],1]],'reads':[[['x'],0]]}") == ASM_STALE);
+    reads(&agents[0], "[['x']]", "{'number':1,'values':[5]}");
+    holds(1);
+    fire(&agents[1], "[['put',['y'],1]]");
+    holds(2);
+    REQUIRE(asm_learn(&agents[0], &agents[1]) == ASM_DONE && asm_seen(&agents[0]) == 2);
+    REQUIRE(fire_of(&agents[0], "{'fire':[],'reads':[[['y'],1]]}") == ASM_STALE);
+    holds(2);
+    REQUIRE(asm_close(&storage, &number) == ASM_MISSING && number == 1);
+    holds(2);
+    fire(&agents[0], "[]");
+    holds(3);
+    for (size_t i = 0; i < 2; i++)
+        REQUIRE(fire_of(&agents[i], "{'fire':[],'reads':[]}") == ASM_FULL);
+    holds(3);
+    for (size_t i = 0; i < 2; i++)
+        REQUIRE(asm_give(&storage, &agents[i]) == ASM_DONE);
+    char *journal = journal_of(&storage);
+    is_legal(journal, 10, 3);
+    free(journal);
+    holds(3);
+    end_all();
+}
+
+/* Of 256 agents the first and the last fire, and the others read between the two moves. */
+static void many_agents(void) {
+    asm_slot many[256] = {{0}};
+    char line[64];
+    open_with("[]", 8, &storage);
+    REQUIRE(asm_agents(&storage, many, 256) == ASM_DONE);
+    for (size_t i = 0; i < 256; i++) {
+        if (i % 255 == 0)
+            fire(&many[i], "[['put',['x'],0]]");
+        else
+            reads(&many[i], "[]", "{'number':1,'values':[]}");
+    }
+    holds(2);
+    for (size_t i = 256; i > 0; i--)
+        REQUIRE(asm_give(&storage, &many[i - 1]) == ASM_DONE);
+    char *journal = journal_of(&storage);
+    is_legal(journal, 256, 2);
+    const char *at = journal;
+    for (int i = 0; i < 256; i++) {
+        snprintf(line, sizeof line, "\n{\"agent\":%d,", i);
+        REQUIRE((at = strchr(at, '\n')) != NULL && !strncmp(at++, line, strlen(line)));
+    }
+    free(journal);
+    asm_free(&storage);
+}
+
+int main(void) {
+    for (size_t i = 0; i < sizeof wides / sizeof *wides; i++)
+        wide_move(&wides[i]);
+    judged_alike();
+    many_moves(1000);
+    many_moves(16384);
+    hidden_values();
+    each_call();
+    many_agents();
+    puts("passed");
+    return 0;
+}
