@@ -2,26 +2,16 @@
 #![tactic(auto)]
 
 #[cfg(test)]
-mod balance;
-#[cfg(test)]
 mod elements;
-#[cfg(test)]
-mod following;
-#[cfg(test)]
-mod frames;
 #[cfg(test)]
 mod journal;
 #[cfg(test)]
 mod moves;
-#[cfg(test)]
-mod row;
 #[cfg(test)]
 mod script;
 #[cfg(test)]
 mod shared;
 #[cfg(test)]
 mod steps;
-#[cfg(test)]
-mod trace;
 #[cfg(test)]
 mod two_agents;

@@ -1,7 +1,7 @@
 //! Moves that raise one counter.
 use crate::shared::{location, number, one};
-use asm_aggregate::{admit, aggregate, compose, standard};
-use asm_update::{Action, AggError, Cause, Clash, PlainState};
+use asm_aggregate::{aggregate, compose, standard};
+use asm_update::{Action, PlainState};
 use std::test::Fail;
 
 #[test]
@@ -12,16 +12,5 @@ fn one_move_does_what_two_do(rt: HostRuntime) -> Result<(), Fail> {
     let both = compose(alloc, &standard(), &first, &second)?;
     let updates = aggregate(alloc, &standard(), &PlainState::new(alloc), &both)?;
     assert_eq!(rt; updates.get(&location(alloc, "count")?), Some(&number(3)));
-    Ok(())
-}
-
-#[test]
-fn what_holds_no_number_is_not_raised(rt: HostRuntime) -> Result<(), Fail> {
-    let alloc = rt.alloc();
-    let step = one(alloc, "count", Action::Increment(2))?;
-    let answer = admit(alloc, &standard(), &PlainState::new(alloc), &step);
-    let at = location(alloc, "count")?;
-    let cause = Cause::Kind;
-    assert_eq!(rt; answer, Err(AggError::Clash(Clash { at, cause })));
     Ok(())
 }
