@@ -14,4 +14,6 @@ mod shared;
 #[cfg(test)]
 mod steps;
 #[cfg(test)]
+mod trace;
+#[cfg(test)]
 mod two_agents;

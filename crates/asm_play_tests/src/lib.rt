@@ -1,12 +1,10 @@
-//! Tests of `asm_play`, which see its public items alone.
+//! Tests of `asm_play` and `asm_script`, which see their public items alone.
 #![tactic(auto)]
 
 #[cfg(test)]
 mod busy_steps;
 #[cfg(test)]
 mod errors;
-#[cfg(test)]
-mod gates;
 #[cfg(test)]
 mod limits;
 #[cfg(test)]

@@ -8,8 +8,8 @@ ghost use Rattle.asm_storage.specs.declared.history.Event.{Event};
 ghost use Rattle.asm_script.specs.declared.step.Step.{Step};
 ghost use Rattle.asm_play.specs.StepEvents.{stale_fires, AreInVain, IsEndedAfter, IsGivenUp};
 
-use crate::plays::script_of;
 use asm_play::{Open, RunError, run_script};
+use asm_script::parse_script;
 use std::alloc::Global;
 use std::sync::Wait;
 use std::test::Fail;
@@ -21,7 +21,7 @@ fn is_refused<R: Threads + Wait + Sync>(
     alloc: Global,
     capacity: u32,
 ) -> Result<bool, Fail> {
-    let script = script_of(alloc, "", &[])?;
+    let script = parse_script(alloc, b"{\"init\":[],\"agents\":[]}")?;
     match run_script(rt, alloc, &script, capacity, &Open) {
         Err(RunError::BadCapacity) => Ok(true),
         Err(error) => Err(Fail::from(error)),

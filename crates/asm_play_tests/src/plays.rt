@@ -1,8 +1,8 @@
-//! Scripts that agents play at once.
+//! Scripts that agents play at once, behind gates that hold their calls.
 use asm_aggregate::standard;
 use asm_element::{Element, Value};
-use asm_journal::{Legality, check, from_text, replay, to_text};
-use asm_play::{Gate, Open, Outcome, Played, run_script};
+use asm_journal::replay;
+use asm_play::{Gate, Outcome, Played, run_script};
 use asm_script::{Script, parse_script};
 use asm_test_support::location;
 use std::alloc::Global;
@@ -29,11 +29,7 @@ fn push_agent(text: &mut String, step: &str, count: usize) -> Result<(), Fail> {
 }
 
 /// The script of these agents, each with a step that it has so many times.
-pub(crate) fn script_of(
-    alloc: Global,
-    init: &str,
-    agents: &[(&str, usize)],
-) -> Result<Script, Fail> {
+fn script_of(alloc: Global, init: &str, agents: &[(&str, usize)]) -> Result<Script, Fail> {
     let mut text = String::from_str(alloc, r#"{"init":["#)?;
     text.push_str(init)?;
     text.push_str(r#"],"agents":["#)?;
@@ -125,13 +121,8 @@ fn meet<R: Threads + Wait + Sync>(
 
 #[test]
 fn agents_play_at_once(rt: HostRuntime) -> Result<(), Fail> {
-    let agents = [(RESET, 1usize); 64];
-    for count in [2usize, 4, 16, 64] {
-        assert!(rt;
-            meet(&rt, rt.alloc(), agents.get(..count).unwrap_or(&[]))?,
-            "{count}"
-        );
-    }
+    assert!(rt; meet(&rt, rt.alloc(), &[(RESET, 1usize); 2])?);
+    assert!(rt; meet(&rt, rt.alloc(), &[(RESET, 1usize); 64])?);
     Ok(())
 }
 
@@ -206,82 +197,5 @@ fn an_agent_gives_up_after_1001_tries(rt: HostRuntime) -> Result<(), Fail> {
     assert_eq!(rt; played.history.moves(), 1001);
     assert!(rt; has_number(rt.alloc(), &played, "n", 0)?);
     assert!(rt; gave_up(&played));
-    Ok(())
-}
-
-/// Appends the step that an agent has at a place of its list: an addition, a removal, a sum and a put of what is read,
-/// by turns.
-fn push_mixed(text: &mut String, agent: usize, step: usize) -> Result<(), Fail> {
-    match step % 4 {
-        0 => write!(text, r#"[[["add",["s"],{}]]]"#, step)?,
-        1 => write!(text, r#"[[["remove",["s"],{}]]]"#, agent)?,
-        2 => text.push_str(SUM)?,
-        _ => write!(
-            text,
-            r#"[[["put",["m",{}],{}]]]"#,
-            agent, r#"{"val":["n"]}"#
-        )?,
-    }
-    Ok(())
-}
-
-/// Appends an agent with 50 steps.
-fn push_mixed_agent(text: &mut String, agent: usize) -> Result<(), Fail> {
-    text.push_str("[")?;
-    for step in 0..50usize {
-        text.push_str(if step > 0 { "," } else { "" })?;
-        push_mixed(text, agent, step)?;
-    }
-    text.push_str("]")?;
-    Ok(())
-}
-
-/// The script of 16 such agents.
-fn mixed_script(alloc: Global) -> Result<Script, Fail> {
-    let mut text = String::from_str(
-        alloc,
-        r#"{"init":[[["s"],{"set":[]}],[["n"],0]],"agents":["#,
-    )?;
-    for agent in 0..16usize {
-        text.push_str(if agent > 0 { "," } else { "" })?;
-        push_mixed_agent(&mut text, agent)?;
-    }
-    text.push_str("]}")?;
-    Ok(parse_script(alloc, text.as_bytes())?)
-}
-
-/// The journal of a run of the script.
-fn journal_of<R: Threads + Wait + Sync>(
-    rt: &R,
-    alloc: Global,
-    script: &Script,
-) -> Result<String, Fail> {
-    let played = run_script(rt, alloc, script, 4096, &Open)?;
-    if played.history.fits() {
-        Ok(to_text(alloc, &played.history)?)
-    } else {
-        Err(Fail::new("too long a history"))
-    }
-}
-
-/// The numbers of calls and of moves of a legal journal.
-fn legal_calls(alloc: Global, journal: &str) -> Result<(u64, u32), Fail> {
-    let history = from_text(alloc, journal.as_bytes())?;
-    match check(alloc, &standard(), &history)? {
-        Legality::Legal { calls, moves } => Ok((calls, moves)),
-        Legality::Illegal { .. } => Err(Fail::new("an illegal journal")),
-    }
-}
-
-#[test]
-fn mixed_steps_of_16_agents_leave_legal_journals(rt: HostRuntime) -> Result<(), Fail> {
-    let alloc = rt.alloc();
-    let script = mixed_script(alloc)?;
-    for _ in 0..4 {
-        let journal = journal_of(&rt, alloc, &script)?;
-        let (calls, moves) = legal_calls(alloc, journal.as_str())?;
-        assert!(rt; calls >= 1000);
-        assert_eq!(rt; moves, 800);
-    }
     Ok(())
 }
