@@ -1,12 +1,11 @@
-//! What `admit` and `change` answer beside `aggregate` and `result`, and how a group changes a state.
-use crate::groups::{Row, admits_and_changes, group_in, is_clash, is_value, judge_all};
+//! What `admit` answers beside `aggregate`, and how a group changes a state.
+use crate::groups::{Row, group_in, is_clash};
 use crate::plain_data::Act::{Add, BagAdd, BagRemove, Inc, Remove};
-use crate::plain_data::Old::{self, Bag, Num, Set, Undef};
-use crate::plain_data::{move_of, state_with, value_of};
+use crate::plain_data::Old::{self, Bag, Num, Set};
+use crate::plain_data::{move_of, state_with};
 use asm_aggregate::{admit, standard};
-use asm_element::Value;
 use asm_test_support::{Resultless, location};
-use asm_update::{AggError, Aggregator, Cause, Group, Instructions, PlainState, ResultError};
+use asm_update::{AggError, Aggregator, Cause, Instructions, PlainState, ResultError};
 use std::alloc::{AllocError, Global};
 use std::test::Fail;
 
@@ -32,18 +31,6 @@ pub(crate) fn admits<A: Aggregator>(alloc: Global, aggregator: &A, row: Row) -> 
     }
 }
 
-/// What a change by the group leaves of the value, with its answer.
-fn changed_by<A: Aggregator>(
-    alloc: Global,
-    aggregator: &A,
-    old: Value,
-    group: Group,
-) -> (Value, Result<(), ResultError>) {
-    let mut value = old;
-    let answer = aggregator.change(alloc, &mut value, &group);
-    (value, answer)
-}
-
 /// Whether the answer goes with what is left: the new value, or for the wanted cause the old one. Also where
 /// memory was refused the old one has to be left.
 fn is_told(
@@ -62,22 +49,6 @@ fn is_told(
             Ok(false)
         }
     }
-}
-
-/// Whether a change by the row's group leaves the row's value, or for the row's cause the old value.
-pub(crate) fn changes<A: Aggregator>(
-    alloc: Global,
-    aggregator: &A,
-    row: Row,
-) -> Result<bool, Fail> {
-    let old = value_of(alloc, row.0)?;
-    let Some(group) = group_in(alloc, row)? else {
-        return Ok(false);
-    };
-    let (left, answer) = changed_by(alloc, aggregator, old, group);
-    let is_new = is_value(alloc, &left, row.3)?;
-    let is_old = is_value(alloc, &left, Ok(row.0))?;
-    is_told(answer, is_new, is_old, row.3)
 }
 
 /// What a change at x by the row's group answers; None where the row has no group.
@@ -154,56 +125,14 @@ static GROWN: [Row; 8] = [
     Row(Num(5), &[], &[Inc(3), Inc(-9)], Ok(Num(-1))),
 ];
 
-static REFUSED: [Row; 6] = [
-    Row(
-        Bag(1, 2),
-        &[],
-        &[BagAdd("f", 2), BagRemove("e", 2)],
-        Err(Cause::Short),
-    ),
-    Row(
-        Bag(u32::MAX, 0),
-        &[],
-        &[BagAdd("f", 1), BagAdd("e", 1)],
-        Err(Cause::Large),
-    ),
-    Row(Undef, &[], &[Add(1)], Err(Cause::Kind)),
-    Row(Undef, &[], &[Inc(1)], Err(Cause::Kind)),
-    Row(Num(i64::MAX), &[], &[Inc(1)], Err(Cause::Large)),
-    Row(Set(&[1]), &[], &[Add(2), BagAdd("e", 1)], Err(Cause::Mixed)),
-];
-
-static BESIDE_A_VALUE: [Row; 5] = [
-    Row(Undef, &[Set(&[1, 2])], &[Add(1)], Ok(Set(&[1, 2]))),
-    Row(
-        Set(&[9]),
-        &[Set(&[1, 2])],
-        &[Add(1), Remove(3)],
-        Ok(Set(&[1, 2])),
-    ),
-    Row(Set(&[9]), &[Set(&[1, 2])], &[Add(9)], Err(Cause::Against)),
-    Row(
-        Bag(1, 0),
-        &[Bag(1, 0)],
-        &[BagAdd("e", 1)],
-        Err(Cause::Against),
-    ),
-    Row(Num(1), &[Num(2)], &[Inc(0)], Err(Cause::Against)),
-];
-
-#[test]
-fn values_are_changed_in_place(rt: HostRuntime) -> Result<(), Fail> {
-    judge_all(&rt, rt.alloc(), &standard(), &GROWN)
-}
-
-/// Whether the aggregator admits the rows and changes values to what they tell.
+/// Whether the aggregator admits the rows and changes a state to what they tell.
 fn admits_and_changes_all<A: Aggregator>(
     alloc: Global,
     aggregator: &A,
     rows: &[Row],
 ) -> Result<bool, Fail> {
     for row in rows {
-        if !admits_and_changes(alloc, aggregator, *row)? {
+        if !admits(alloc, aggregator, *row)? || !changes_a_state(alloc, aggregator, *row)? {
             return Ok(false);
         }
     }
@@ -215,14 +144,4 @@ fn an_admission_and_a_change_ask_for_no_result(rt: HostRuntime) -> Result<(), Fa
     let aggregator = Resultless::over(standard());
     assert!(rt; admits_and_changes_all(rt.alloc(), &aggregator, &GROWN)?);
     Ok(())
-}
-
-#[test]
-fn a_refused_change_leaves_the_value(rt: HostRuntime) -> Result<(), Fail> {
-    judge_all(&rt, rt.alloc(), &standard(), &REFUSED)
-}
-
-#[test]
-fn a_regular_value_is_changed_to_or_contradicted(rt: HostRuntime) -> Result<(), Fail> {
-    judge_all(&rt, rt.alloc(), &standard(), &BESIDE_A_VALUE)
 }

@@ -3,7 +3,7 @@ use crate::groups::{is_clash, is_wanted, pairs};
 use crate::plain_data::Act::{self, Add, BagAdd, BagRemove, Remove};
 use crate::plain_data::Old::{self, Bag, Num, Set};
 use crate::plain_data::{do_at, put_at, state_with};
-use asm_aggregate::{ComposeError, SetAgg, aggregate, compose, standard};
+use asm_aggregate::{ComposeError, aggregate, compose, standard};
 use asm_update::{Aggregator, Cause, Instructions};
 use std::alloc::{AllocError, Global};
 use std::process::Abort;
@@ -21,8 +21,6 @@ pub(crate) enum Line {
 pub(crate) enum NoComposition {
     Clashes(&'static str, Cause),
     Large(&'static str),
-    Many,
-    OutOfMemory,
 }
 
 use Line::{Do, Put};
@@ -138,11 +136,6 @@ static PUTS: [Row; 6] = [
     ),
 ];
 
-#[test]
-fn a_put_takes_what_comes_after_it_or_gives_way(rt: HostRuntime) -> Result<(), Fail> {
-    compose_all(&rt, rt.alloc(), &standard(), &PUTS)
-}
-
 static PUTS_OVER_PARTIALS: [Row; 5] = [
     Row(
         &[Do("s", Add(1))],
@@ -171,11 +164,6 @@ static PUTS_OVER_PARTIALS: [Row; 5] = [
     ),
 ];
 
-#[test]
-fn a_put_takes_the_place_of_partial_updates(rt: HostRuntime) -> Result<(), Fail> {
-    compose_all(&rt, rt.alloc(), &standard(), &PUTS_OVER_PARTIALS)
-}
-
 static SETS: [Row; 3] = [
     Row(
         &[Do("s", Add(1))],
@@ -193,11 +181,6 @@ static SETS: [Row; 3] = [
         Err(Clashes("s", Cause::Kind)),
     ),
 ];
-
-#[test]
-fn partial_updates_of_sets_are_joined(rt: HostRuntime) -> Result<(), Fail> {
-    compose_all(&rt, rt.alloc(), &standard(), &SETS)
-}
 
 static BAGS: [Row; 3] = [
     Row(
@@ -221,11 +204,6 @@ static BAGS: [Row; 3] = [
     ),
 ];
 
-#[test]
-fn partial_updates_of_bags_are_joined(rt: HostRuntime) -> Result<(), Fail> {
-    compose_all(&rt, rt.alloc(), &standard(), &BAGS)
-}
-
 static AMOUNTS: [Row; 3] = [
     Row(
         &[Do("b", BagAdd("e", 1))],
@@ -244,11 +222,6 @@ static AMOUNTS: [Row; 3] = [
     ),
 ];
 
-#[test]
-fn amounts_cancel_or_are_too_large(rt: HostRuntime) -> Result<(), Fail> {
-    compose_all(&rt, rt.alloc(), &standard(), &AMOUNTS)
-}
-
 /// More of an element than one amount can be, which no bag takes.
 const OVER: &[Line] = &[Do("b", BagAdd("e", u32::MAX)), Do("b", BagAdd("e", 1))];
 
@@ -262,11 +235,6 @@ static TOO_LARGE_ALONE: [Row; 4] = [
         Ok(&[Do("b", BagAdd("e", u32::MAX))]),
     ),
 ];
-
-#[test]
-fn an_amount_that_is_too_large_alone_counts_in_the_join(rt: HostRuntime) -> Result<(), Fail> {
-    compose_all(&rt, rt.alloc(), &standard(), &TOO_LARGE_ALONE)
-}
 
 /// Whether the move gives this at x where that stands there.
 pub(crate) fn fires(
@@ -318,24 +286,6 @@ static LEAST: [Row; 2] = [
     ),
 ];
 
-#[test]
-fn the_least_location_that_refuses_is_answered(rt: HostRuntime) -> Result<(), Fail> {
-    compose_all(&rt, rt.alloc(), &standard(), &LEAST)
-}
-
-static BY_SETS: [Row; 2] = [
-    Row(
-        &[Do("s", Add(1))],
-        &[Do("s", Add(2))],
-        Ok(&[Do("s", Add(1)), Do("s", Add(2))]),
-    ),
-    Row(
-        &[Do("s", BagAdd("e", 1))],
-        &[],
-        Err(Clashes("s", Cause::Mixed)),
-    ),
-];
-
 static BY_PAIRS: [Row; 2] = [
     Row(
         &[Do("s", Add(1))],
@@ -350,7 +300,18 @@ static BY_PAIRS: [Row; 2] = [
 ];
 
 #[test]
-fn any_aggregator_composes(rt: HostRuntime) -> Result<(), Fail> {
-    compose_all(&rt, rt.alloc(), &SetAgg, &BY_SETS)?;
-    compose_all(&rt, rt.alloc(), &pairs(), &BY_PAIRS)
+fn moves_compose_or_are_refused(rt: HostRuntime) -> Result<(), Fail> {
+    compose_all(&rt, rt.alloc(), &pairs(), &BY_PAIRS)?;
+    for rows in [
+        PUTS.as_slice(),
+        &PUTS_OVER_PARTIALS,
+        &SETS,
+        &BAGS,
+        &AMOUNTS,
+        &TOO_LARGE_ALONE,
+        &LEAST,
+    ] {
+        compose_all(&rt, rt.alloc(), &standard(), rows)?;
+    }
+    Ok(())
 }

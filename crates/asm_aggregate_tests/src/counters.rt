@@ -36,13 +36,6 @@ static TOO_LARGE: [Row; 5] = [
     Row(Num(MAX), &[], &[Inc(MIN), Inc(MIN)], Err(Cause::Large)),
 ];
 
-#[test]
-fn counters_are_raised_and_lowered(rt: HostRuntime) -> Result<(), Fail> {
-    judge_all(&rt, rt.alloc(), &standard(), &SUMS)?;
-    judge_all(&rt, rt.alloc(), &CountAgg, &SUMS)?;
-    judge_all(&rt, rt.alloc(), &standard(), &TOO_LARGE)
-}
-
 static CAUSES: [Row; 9] = [
     Row(Undef, &[], &[Inc(1)], Err(Cause::Kind)),
     Row(Undef, &[Num(1)], &[Inc(1)], Err(Cause::Against)),
@@ -60,14 +53,12 @@ static ANOTHER_FAMILY: [Row; 2] = [
     Row(Num(1), &[], &[Inc(1), BagAdd("e", 1)], Err(Cause::Mixed)),
 ];
 
-static A_COUNTER: [Row; 1] = [Row(Num(1), &[], &[Inc(1)], Err(Cause::Mixed))];
-
 #[test]
-fn causes_of_counters_come_in_the_order_of_the_table(rt: HostRuntime) -> Result<(), Fail> {
+fn counters_are_raised_and_lowered(rt: HostRuntime) -> Result<(), Fail> {
+    judge_all(&rt, rt.alloc(), &standard(), &SUMS)?;
+    judge_all(&rt, rt.alloc(), &standard(), &TOO_LARGE)?;
     judge_all(&rt, rt.alloc(), &standard(), &CAUSES)?;
-    judge_all(&rt, rt.alloc(), &CountAgg, &ANOTHER_FAMILY)?;
-    judge_all(&rt, rt.alloc(), &SetAgg, &A_COUNTER)?;
-    judge_all(&rt, rt.alloc(), &BagAgg, &A_COUNTER)
+    judge_all(&rt, rt.alloc(), &CountAgg, &ANOTHER_FAMILY)
 }
 
 #[test]
@@ -125,15 +116,8 @@ static REFUSED: [Joint; 3] = [
     ),
 ];
 
-static BESIDE_ANOTHER_FAMILY: [Joint; 2] = [
-    Joint(&[Add(1)], &[Inc(1)], Err(JoinError::Cause(Cause::Mixed))),
-    Joint(&[Inc(1)], &[Add(1)], Err(JoinError::Cause(Cause::Mixed))),
-];
-
 #[test]
 fn increments_are_joined_or_refused(rt: HostRuntime) -> Result<(), Fail> {
-    join_all(&rt, rt.alloc(), &CountAgg, &JOINTS)?;
-    join_all(&rt, rt.alloc(), &CountAgg, &BESIDE_ANOTHER_FAMILY)?;
     join_all(&rt, rt.alloc(), &standard(), &JOINTS)?;
     join_all(&rt, rt.alloc(), &standard(), &SPLIT)?;
     join_all(&rt, rt.alloc(), &standard(), &REFUSED)

@@ -1,72 +1,49 @@
 //! The errors of a composition: their texts, and where two are equal.
-use crate::compositions::NoComposition::{self, Clashes, Large, Many, OutOfMemory};
 use asm_aggregate::ComposeError;
-use asm_test_support::location;
+use asm_test_support::{are_told_apart, location};
 use asm_update::{Cause, Clash};
 use std::alloc::Global;
 use std::test::Fail;
 
-fn clash_of(alloc: Global, name: &str, cause: Cause) -> Result<ComposeError, Fail> {
-    let at = location(alloc, name)?;
-    Ok(ComposeError::Clash(Clash { at, cause }))
-}
-
-fn error_of(alloc: Global, why: NoComposition) -> Result<ComposeError, Fail> {
-    match why {
-        Clashes(name, cause) => clash_of(alloc, name, cause),
-        Large(name) => Ok(ComposeError::Large(location(alloc, name)?)),
-        Many => Ok(ComposeError::ManyInstructions),
-        OutOfMemory => Ok(ComposeError::Memory),
+/// An error for each kind, and further ones where it has parts.
+fn errors(alloc: Global) -> Result<Vec<ComposeError>, Fail> {
+    let mut errors = Vec::new(alloc);
+    for (name, cause) in [("a", Cause::Two), ("b", Cause::Two), ("a", Cause::Kind)] {
+        let at = location(alloc, name)?;
+        errors.push(ComposeError::Clash(Clash { at, cause }))?;
     }
+    for name in ["a", "b"] {
+        errors.push(ComposeError::Large(location(alloc, name)?))?;
+    }
+    errors.push(ComposeError::ManyInstructions)?;
+    errors.push(ComposeError::Memory)?;
+    Ok(errors)
 }
 
-static DIFFERENT: [NoComposition; 7] = [
-    Clashes("a", Cause::Two),
-    Clashes("b", Cause::Two),
-    Clashes("a", Cause::Kind),
-    Large("a"),
-    Large("b"),
-    Many,
-    OutOfMemory,
+static TEXTS: [&str; 7] = [
+    "the two moves clash at a: two different regular values",
+    "the two moves clash at b: two different regular values",
+    "",
+    "a composed amount or sum is too large at a",
+    "a composed amount or sum is too large at b",
+    "more than 4,096 instructions",
+    "out of memory",
 ];
 
-fn are_equal(alloc: Global, one: NoComposition, other: NoComposition) -> Result<bool, Fail> {
-    let one = error_of(alloc, one)?;
-    let other = error_of(alloc, other)?;
-    Ok(one == other)
-}
-
-#[test]
-fn errors_with_other_contents_differ(rt: HostRuntime) -> Result<(), Fail> {
-    let alloc = rt.alloc();
-    for (k, one) in DIFFERENT.iter().enumerate() {
-        for (n, other) in DIFFERENT.iter().enumerate() {
-            let equal = are_equal(alloc, *one, *other)?;
-            assert!(rt; equal == (k == n), "at {k} and {n}");
+/// Whether each error has its text, where there is one.
+fn have_texts(alloc: Global, errors: &[ComposeError]) -> Result<bool, Fail> {
+    for (error, text) in errors.iter().zip(TEXTS) {
+        if !text.is_empty() && error.to_string(alloc)?.as_str() != text {
+            return Ok(false);
         }
     }
-    Ok(())
-}
-
-static TEXTS: [(NoComposition, &str); 4] = [
-    (Large("b"), "a composed amount or sum is too large at b"),
-    (
-        Clashes("b", Cause::Two),
-        "the two moves clash at b: two different regular values",
-    ),
-    (Many, "more than 4,096 instructions"),
-    (OutOfMemory, "out of memory"),
-];
-
-fn has_text(alloc: Global, why: NoComposition, text: &str) -> Result<bool, Fail> {
-    let written = error_of(alloc, why)?.to_string(alloc)?;
-    Ok(written.as_str() == text)
+    Ok(errors.len() == TEXTS.len())
 }
 
 #[test]
-fn errors_have_their_texts(rt: HostRuntime) -> Result<(), Fail> {
-    for (k, (why, text)) in TEXTS.iter().enumerate() {
-        assert!(rt; has_text(rt.alloc(), *why, text)?, "at text {k}");
-    }
+fn errors_have_their_texts_and_differ(rt: HostRuntime) -> Result<(), Fail> {
+    let errors = errors(rt.alloc())?;
+    assert!(rt; are_told_apart(errors.as_slice()));
+    assert!(rt; have_texts(rt.alloc(), errors.as_slice())?);
     Ok(())
 }

@@ -2,7 +2,7 @@
 use crate::groups::{are_partial, pairs};
 use crate::plain_data::Act::{self, Add, BagAdd, BagRemove, Inc, Remove};
 use crate::plain_data::actions_of;
-use asm_aggregate::{BagAgg, SetAgg, standard};
+use asm_aggregate::standard;
 use asm_update::{Action, Aggregator, Cause, JoinError};
 use std::alloc::{AllocError, Global};
 use std::process::Abort;
@@ -100,11 +100,6 @@ static SET_JOINTS: [Joint; 2] = [
     ),
 ];
 
-#[test]
-fn updates_of_sets_are_joined(rt: HostRuntime) -> Result<(), Fail> {
-    join_all(&rt, rt.alloc(), &standard(), &SET_JOINTS)
-}
-
 static BAG_JOINTS: [Joint; 3] = [
     Joint(
         &[BagAdd("e", 3)],
@@ -123,11 +118,6 @@ static BAG_JOINTS: [Joint; 3] = [
     ),
 ];
 
-#[test]
-fn updates_of_bags_are_joined(rt: HostRuntime) -> Result<(), Fail> {
-    join_all(&rt, rt.alloc(), &standard(), &BAG_JOINTS)
-}
-
 static CANCELLING: [Joint; 3] = [
     Joint(
         &[BagRemove("e", 1)],
@@ -141,11 +131,6 @@ static CANCELLING: [Joint; 3] = [
         Ok(&[Add(2), Remove(1)]),
     ),
 ];
-
-#[test]
-fn opposite_amounts_cancel(rt: HostRuntime) -> Result<(), Fail> {
-    join_all(&rt, rt.alloc(), &standard(), &CANCELLING)
-}
 
 static NOTHING_AFTER: [Joint; 2] = [
     Joint(
@@ -161,77 +146,11 @@ static NOTHING_AFTER: [Joint; 2] = [
 ];
 
 #[test]
-fn updates_with_nothing_after_are_joined_or_refused(rt: HostRuntime) -> Result<(), Fail> {
+fn updates_are_joined_or_refused(rt: HostRuntime) -> Result<(), Fail> {
+    join_all(&rt, rt.alloc(), &standard(), &SET_JOINTS)?;
+    join_all(&rt, rt.alloc(), &standard(), &BAG_JOINTS)?;
+    join_all(&rt, rt.alloc(), &standard(), &CANCELLING)?;
     join_all(&rt, rt.alloc(), &standard(), &NOTHING_AFTER)
-}
-
-static BAGS_BESIDE_NOTHING: [Joint; 4] = [
-    Joint(&[], &[BagAdd("e", 1)], Ok(&[BagAdd("e", 1)])),
-    Joint(
-        &[],
-        &[BagAdd("f", 1), BagRemove("e", 2), BagAdd("f", 2)],
-        Ok(&[BagAdd("f", 3), BagRemove("e", 2)]),
-    ),
-    Joint(&[BagRemove("e", 1)], &[], Ok(&[BagRemove("e", 1)])),
-    Joint(
-        &[BagAdd("f", 1), BagRemove("e", 2), BagAdd("f", 2)],
-        &[],
-        Ok(&[BagAdd("f", 3), BagRemove("e", 2)]),
-    ),
-];
-
-#[test]
-fn updates_of_bags_are_joined_with_an_empty_side(rt: HostRuntime) -> Result<(), Fail> {
-    join_all(&rt, rt.alloc(), &BagAgg, &BAGS_BESIDE_NOTHING)?;
-    join_all(&rt, rt.alloc(), &standard(), &BAGS_BESIDE_NOTHING)
-}
-
-static SETS_BESIDE_NOTHING: [Joint; 4] = [
-    Joint(
-        &[],
-        &[Remove(1), Add(3), Add(2), Add(3)],
-        Ok(&[Add(2), Add(3), Remove(1)]),
-    ),
-    Joint(
-        &[Remove(1), Add(3), Add(2), Add(3)],
-        &[],
-        Ok(&[Add(2), Add(3), Remove(1)]),
-    ),
-    Joint(
-        &[],
-        &[Add(1), Remove(1)],
-        Err(JoinError::Cause(Cause::Both)),
-    ),
-    Joint(
-        &[Add(1), Remove(1)],
-        &[],
-        Err(JoinError::Cause(Cause::Both)),
-    ),
-];
-
-#[test]
-fn updates_of_sets_are_joined_with_an_empty_side(rt: HostRuntime) -> Result<(), Fail> {
-    join_all(&rt, rt.alloc(), &SetAgg, &SETS_BESIDE_NOTHING)?;
-    join_all(&rt, rt.alloc(), &standard(), &SETS_BESIDE_NOTHING)
-}
-
-static BESIDE_ANOTHER_FAMILY: [Joint; 2] = [
-    Joint(
-        &[Add(1)],
-        &[BagAdd("e", 1)],
-        Err(JoinError::Cause(Cause::Mixed)),
-    ),
-    Joint(
-        &[BagAdd("e", 1)],
-        &[Add(1)],
-        Err(JoinError::Cause(Cause::Mixed)),
-    ),
-];
-
-#[test]
-fn one_family_alone_is_joined(rt: HostRuntime) -> Result<(), Fail> {
-    join_all(&rt, rt.alloc(), &BagAgg, &BESIDE_ANOTHER_FAMILY)?;
-    join_all(&rt, rt.alloc(), &SetAgg, &BESIDE_ANOTHER_FAMILY)
 }
 
 static BY_PAIRS: [Joint; 3] = [

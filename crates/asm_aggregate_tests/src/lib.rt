@@ -4,10 +4,6 @@
 #[cfg(test)]
 mod admissions;
 #[cfg(test)]
-mod bag_changes;
-#[cfg(test)]
-mod bags;
-#[cfg(test)]
 mod compositions;
 #[cfg(test)]
 mod counters;
@@ -21,5 +17,3 @@ mod joins;
 mod lookups;
 #[cfg(test)]
 mod plain_data;
-#[cfg(test)]
-mod shelves;

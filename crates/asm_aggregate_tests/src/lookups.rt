@@ -1,12 +1,12 @@
 //! What an aggregation looks up, and how many instructions a composition has.
 ghost use Rattle.asm_update.specs.State.{val};
 
-use crate::bags::{additions_by_turns, counts_at_both, two_empty_bags};
 use crate::compositions::Line::{self, Do, Put};
 use crate::compositions::{compose_of, steps};
 use crate::plain_data::Act::{Add, BagAdd, BagRemove};
 use crate::plain_data::Old::{Bag, Num, Set, Undef};
-use asm_aggregate::{ComposeError, admit, aggregate, results, standard};
+use crate::plain_data::{do_at, set_at, write_at};
+use asm_aggregate::{ComposeError, admit, aggregate, standard};
 use asm_element::{Element, Location, Value};
 use asm_update::{Action, AggError, Instruction, Instructions, Lookup, PlainState, UpdateSet};
 use std::alloc::{AllocError, Global};
@@ -42,6 +42,15 @@ fn numbered(alloc: Global, name: &str, n: i64) -> Result<Location, Fail> {
     Ok(Location::new(name, args)?)
 }
 
+/// A state in which b and c are empty bags.
+fn two_empty_bags(alloc: Global) -> Result<PlainState, Fail> {
+    let mut state = PlainState::new(alloc);
+    for name in ["b", "c"] {
+        set_at(alloc, &mut state, name, Bag(0, 0))?;
+    }
+    Ok(state)
+}
+
 /// A look-up in which b and c are empty bags, and which was asked for nothing.
 fn noting_two_bags(alloc: Global) -> Result<Noting, Fail> {
     let state = two_empty_bags(alloc)?;
@@ -63,20 +72,6 @@ fn aggregate_on(
     Ok((lookup.asked.get(), has_updates))
 }
 
-/// The same of its results beside its own locations.
-fn results_on(
-    alloc: Global,
-    lookup: Noting,
-    list: &Instructions,
-) -> Result<(u64, bool), AllocError> {
-    let has_results = match results(alloc, &standard(), &lookup, list) {
-        Ok(_results) => true,
-        Err(AggError::Clash(_clash)) => false,
-        Err(AggError::Memory) => return Err(AllocError),
-    };
-    Ok((lookup.asked.get(), has_results))
-}
-
 /// What the look-up is asked for until the move is admitted or not, and which of the two it is.
 fn admit_on(alloc: Global, lookup: Noting, list: &Instructions) -> Result<(u64, bool), AllocError> {
     let is_admitted = match admit(alloc, &standard(), &lookup, list) {
@@ -87,13 +82,12 @@ fn admit_on(alloc: Global, lookup: Noting, list: &Instructions) -> Result<(u64, 
     Ok((lookup.asked.get(), is_admitted))
 }
 
-/// Whether an aggregation, a list of results and an admission of the move each ask for this, and find that it fires
+/// Whether an aggregation and an admission of the move each ask for this, and find that it fires
 /// or clashes.
 fn asks(alloc: Global, list: &Instructions, asked: u64, fires: bool) -> Result<bool, Fail> {
     let aggregated = aggregate_on(alloc, noting_two_bags(alloc)?, list)?;
-    let listed = results_on(alloc, noting_two_bags(alloc)?, list)?;
     let admitted = admit_on(alloc, noting_two_bags(alloc)?, list)?;
-    Ok(aggregated == (asked, fires) && listed == (asked, fires) && admitted == (asked, fires))
+    Ok(aggregated == (asked, fires) && admitted == (asked, fires))
 }
 
 /// A move, what the look-up is asked for where b and c are empty bags, and whether the move fires there.
@@ -161,6 +155,25 @@ fn partial_updates_up_to_a_clash_are_looked_up(rt: HostRuntime) -> Result<(), Fa
 fn updates_of(alloc: Global, list: &Instructions) -> Result<UpdateSet, Fail> {
     let state = two_empty_bags(alloc)?;
     Ok(aggregate(alloc, &standard(), &state, list)?)
+}
+
+/// Additions of one e each, by turns at c and at b.
+fn additions_by_turns(alloc: Global, count: u32) -> Result<Instructions, Fail> {
+    let mut list = Instructions::new(alloc);
+    for n in 0..count {
+        let name = if n % 2 == 0 { "c" } else { "b" };
+        do_at(alloc, &mut list, name, BagAdd("e", 1))?;
+    }
+    Ok(list)
+}
+
+/// Updates by which b and c are bags with this count of e.
+fn counts_at_both(alloc: Global, count: u32) -> Result<UpdateSet, Fail> {
+    let mut updates = UpdateSet::new(alloc);
+    for name in ["b", "c"] {
+        write_at(alloc, &mut updates, name, Bag(count, 0))?;
+    }
+    Ok(updates)
 }
 
 #[test]

@@ -5,14 +5,13 @@ use asm_update::{Action, Amount, Instruction, Instructions, PlainState, UpdateSe
 use std::alloc::Global;
 use std::test::Fail;
 
-/// A value, in few letters. A bag has these counts of e and of f, or counts of the named texts.
+/// A value, in few letters. A bag has these counts of e and of f.
 #[derive(Clone, Copy)]
 pub(crate) enum Old {
     Undef,
     Num(i64),
     Set(&'static [i64]),
     Bag(u32, u32),
-    Counts(&'static [(&'static str, u32)]),
 }
 
 /// A partial update, in few letters.
@@ -26,7 +25,7 @@ pub(crate) enum Act {
 }
 
 use Act::{Add, BagAdd, BagRemove, Inc, Remove};
-use Old::{Bag, Counts, Num, Set, Undef};
+use Old::{Bag, Num, Set, Undef};
 
 fn text(alloc: Global, text: &str) -> Result<Element, Fail> {
     Ok(Element::Text(ElemText::new(String::from_str(alloc, text)?)))
@@ -55,21 +54,12 @@ fn bag_of(alloc: Global, e: u32, f: u32) -> Result<Value, Fail> {
     Ok(Value::Bag(bag))
 }
 
-fn counts_of(alloc: Global, counts: &[(&'static str, u32)]) -> Result<Value, Fail> {
-    let mut bag = ElemBag::new(alloc);
-    for (name, n) in counts {
-        put_text(alloc, &mut bag, name, *n)?;
-    }
-    Ok(Value::Bag(bag))
-}
-
 pub(crate) fn value_of(alloc: Global, value: Old) -> Result<Value, Fail> {
     match value {
         Undef => Ok(Value::Plain(Element::Undef)),
         Num(n) => Ok(number(n)),
         Set(numbers) => set_of(alloc, numbers),
         Bag(e, f) => bag_of(alloc, e, f),
-        Counts(counts) => counts_of(alloc, counts),
     }
 }
 

@@ -4,17 +4,11 @@
 #[cfg(test)]
 mod failing_outputs;
 #[cfg(test)]
-mod list_plays;
-#[cfg(test)]
 mod ports;
 #[cfg(test)]
 mod refusals;
 #[cfg(test)]
-mod reports;
-#[cfg(test)]
 mod running;
-#[cfg(test)]
-mod threads;
 #[cfg(test)]
 mod watches;
 #[cfg(test)]

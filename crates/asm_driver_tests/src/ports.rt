@@ -13,17 +13,16 @@ const ONE_PUT_REPORT: &str = r#"[["x"],1]
 moves 1
 "#;
 
-/// The program's status with this word, over an input and an output. The error is an allocation failure, of which the
+/// The program's status with these words, over an input and an output. The error is an allocation failure, of which the
 /// program tells.
 fn status_of<T: Threads + Wait + Sync, R: Read, W: Write>(
     rt: &T,
     alloc: Global,
-    word: &str,
+    words: &[&str],
     input: &mut R,
     output: &mut W,
 ) -> Result<u8, AllocError> {
-    let words = words_of(alloc, &["asm_driver", word])?;
-    match run_main(rt, alloc, words, input, output) {
+    match run_main(rt, alloc, words_of(alloc, words)?, input, output) {
         3 => Err(AllocError),
         status => Ok(status),
     }
@@ -69,7 +68,7 @@ impl Read for Spaces {
     }
 }
 
-/// What the program does with a word and so many spaces, which may end in a fault: its status, how much it reads,
+/// What the program does with words and so many spaces, which may end in a fault: its status, how much it reads,
 /// and what it writes.
 #[derive(Clone, Copy)]
 struct Ending {
@@ -82,13 +81,13 @@ struct Ending {
 fn ends<T: Threads + Wait + Sync>(
     rt: &T,
     alloc: Global,
-    word: &str,
+    words: &[&str],
     spaces: (usize, Option<ErrorKind>),
     wanted: Ending,
 ) -> Result<bool, AllocError> {
     let mut input = Spaces::new(spaces);
     let mut output = Vec::with_capacity(alloc, 64)?;
-    let status = status_of(rt, alloc, word, &mut input, &mut output)?;
+    let status = status_of(rt, alloc, words, &mut input, &mut output)?;
     Ok(
         status == wanted.status
             && input.given == wanted.given
@@ -120,38 +119,59 @@ const FAULT: Ending = Ending {
     text: "input fault\n",
 };
 
-static REFUSED: [(&str, (usize, Option<ErrorKind>), Ending); 11] = [
-    ("run", (16_777_216, None), NOT_JSON),
-    ("run", (16_777_217, None), TOO_LARGE),
-    ("check", (usize::MAX, None), TOO_LARGE),
-    ("check", (4096, Some(ErrorKind::Other)), FAULT),
-    ("rewrite", (16_777_216, None), NO_JOURNAL),
-    ("rewrite", (16_777_217, None), TOO_LARGE),
-    ("rewrite", (4096, Some(ErrorKind::Other)), FAULT),
-    ("trace", (16_777_216, None), NO_JOURNAL),
-    ("trace", (16_777_217, None), TOO_LARGE),
-    ("trace", (4096, Some(ErrorKind::Other)), FAULT),
-    ("audit", (4096, Some(ErrorKind::Other)), FAULT),
+static REFUSED: [(&[&str], (usize, Option<ErrorKind>), Ending); 12] = [
+    (&["asm_driver", "run"], (16_777_216, None), NOT_JSON),
+    (&["asm_driver", "run"], (16_777_217, None), TOO_LARGE),
+    (&["asm_driver", "check"], (usize::MAX, None), TOO_LARGE),
+    (
+        &["asm_driver", "check"],
+        (4096, Some(ErrorKind::Other)),
+        FAULT,
+    ),
+    (&["asm_driver", "rewrite"], (16_777_216, None), NO_JOURNAL),
+    (&["asm_driver", "rewrite"], (16_777_217, None), TOO_LARGE),
+    (
+        &["asm_driver", "rewrite"],
+        (4096, Some(ErrorKind::Other)),
+        FAULT,
+    ),
+    (&["asm_driver", "trace"], (16_777_216, None), NO_JOURNAL),
+    (&["asm_driver", "trace"], (16_777_217, None), TOO_LARGE),
+    (
+        &["asm_driver", "trace"],
+        (4096, Some(ErrorKind::Other)),
+        FAULT,
+    ),
+    (
+        &["asm_driver", "audit"],
+        (4096, Some(ErrorKind::Other)),
+        FAULT,
+    ),
+    (
+        &["asm_driver", "trace", "--part", "0"],
+        (4096, Some(ErrorKind::Other)),
+        FAULT,
+    ),
 ];
 
 #[test]
 fn long_and_failing_inputs_are_refused(rt: HostRuntime) -> Result<(), Fail> {
-    for (word, spaces, wanted) in REFUSED.iter() {
-        assert!(rt; ends(&rt, rt.alloc(), word, *spaces, *wanted)?, "{word}");
+    for (index, (words, spaces, wanted)) in REFUSED.iter().enumerate() {
+        assert!(rt; ends(&rt, rt.alloc(), words, *spaces, *wanted)?, "{index}");
     }
     Ok(())
 }
 
-/// How often the input is read with this word, and the status.
+/// How often the input is read with these words, and the status.
 fn reads_of<T: Threads + Wait + Sync>(
     rt: &T,
     alloc: Global,
-    word: &str,
+    words: &[&str],
     spaces: (usize, Option<ErrorKind>),
 ) -> Result<(usize, u8), AllocError> {
     let mut input = Spaces::new(spaces);
     let mut output = Vec::with_capacity(alloc, 1024)?;
-    let status = status_of(rt, alloc, word, &mut input, &mut output)?;
+    let status = status_of(rt, alloc, words, &mut input, &mut output)?;
     Ok((input.reads, status))
 }
 
@@ -160,7 +180,7 @@ fn a_failed_read_is_not_tried_again_whatever_its_kind(rt: HostRuntime) -> Result
     for (index, kind) in ERROR_KINDS.iter().enumerate() {
         let spaces = (0, Some(*kind));
         assert!(rt;
-            reads_of(&rt, rt.alloc(), "run", spaces)? == (1, 4),
+            reads_of(&rt, rt.alloc(), &["asm_driver", "run"], spaces)? == (1, 4),
             "{index}"
         );
     }
@@ -170,9 +190,9 @@ fn a_failed_read_is_not_tried_again_whatever_its_kind(rt: HostRuntime) -> Result
 #[test]
 fn nothing_is_read_before_the_words_are_good(rt: HostRuntime) -> Result<(), Fail> {
     let spaces = (1, Some(ErrorKind::Other));
-    assert!(rt; reads_of(&rt, rt.alloc(), "play", spaces)? == (0, 2));
-    assert!(rt; reads_of(&rt, rt.alloc(), "--help", spaces)? == (0, 0));
-    assert!(rt; reads_of(&rt, rt.alloc(), "--version", spaces)? == (0, 0));
+    assert!(rt; reads_of(&rt, rt.alloc(), &["asm_driver", "play"], spaces)? == (0, 2));
+    assert!(rt; reads_of(&rt, rt.alloc(), &["asm_driver", "--help"], spaces)? == (0, 0));
+    assert!(rt; reads_of(&rt, rt.alloc(), &["asm_driver", "--version"], spaces)? == (0, 0));
     Ok(())
 }
 
@@ -191,22 +211,6 @@ impl Read for Slow<'_> {
         self.rest = &self.rest[count..];
         Ok(count)
     }
-}
-
-/// Whether the program plays the script of one put that it is given so slowly.
-fn plays_slowly<T: Threads + Wait + Sync>(rt: &T, alloc: Global) -> Result<bool, AllocError> {
-    let mut input = Slow {
-        rest: ONE_PUT.as_bytes(),
-    };
-    let mut output = Vec::with_capacity(alloc, 64)?;
-    let status = status_of(rt, alloc, "run", &mut input, &mut output)?;
-    Ok(status == 0 && output.as_slice() == ONE_PUT_REPORT.as_bytes())
-}
-
-#[test]
-fn an_input_of_one_byte_at_a_time_is_played(rt: HostRuntime) -> Result<(), Fail> {
-    assert!(rt; plays_slowly(&rt, rt.alloc())?);
-    Ok(())
 }
 
 /// How much room an output has, and with which faults a write then fails and its flush does. Without the first, a write
@@ -283,7 +287,7 @@ fn fails_over<T: Threads + Wait + Sync>(
 ) -> Result<bool, AllocError> {
     let mut input = ONE_PUT.as_bytes();
     let mut output = Short::new(alloc, failing)?;
-    let status = status_of(rt, alloc, "run", &mut input, &mut output)?;
+    let status = status_of(rt, alloc, &["asm_driver", "run"], &mut input, &mut output)?;
     if matches!(output.taken.as_slice().first(), Some(b'o')) {
         return Err(AllocError);
     }
