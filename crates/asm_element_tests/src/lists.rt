@@ -46,7 +46,7 @@ fn refusal(alloc: Global, undef_count: usize, depth: u32) -> Result<Option<ListE
 }
 
 #[test]
-fn a_list_has_its_items_and_its_depth(rt: HostRuntime) -> Result<(), Fail> {
+fn a_list_has_at_most_4096_items_and_nests_eight_deep(rt: HostRuntime) -> Result<(), Fail> {
     let alloc = rt.alloc();
     let empty = ElemList::new(Vec::new(alloc))?;
     assert!(rt; empty.depth() == 1 && empty.items().is_empty());
@@ -55,28 +55,13 @@ fn a_list_has_its_items_and_its_depth(rt: HostRuntime) -> Result<(), Fail> {
     let deepest = around(alloc, 7)??;
     assert!(rt; deepest.depth() == 8 && deepest.items().len() == 3);
     assert!(rt; deepest.items()[1] == nested(alloc, 7)?);
-    Ok(())
-}
-
-#[test]
-fn a_list_has_at_most_4096_items(rt: HostRuntime) -> Result<(), Fail> {
-    let many = ElemList::new(undefs(rt.alloc(), 4097)?).err();
+    let many = ElemList::new(undefs(alloc, 4097)?).err();
     assert!(rt; many == Some(ListError::ManyItems));
-    Ok(())
-}
-
-#[test]
-fn lists_nest_at_most_eight_deep(rt: HostRuntime) -> Result<(), Fail> {
-    let alloc = rt.alloc();
     assert!(rt; around(alloc, 8)?.err() == Some(ListError::TooDeep));
     assert!(rt; refusal(alloc, 4095, 8)? == Some(ListError::TooDeep));
     assert!(rt; refusal(alloc, 4095, 7)?.is_none());
-    Ok(())
-}
-
-#[test]
-fn too_many_items_come_before_too_great_a_depth(rt: HostRuntime) -> Result<(), Fail> {
-    assert!(rt; refusal(rt.alloc(), 4096, 8)? == Some(ListError::ManyItems));
+    // Too many items come before too great a depth.
+    assert!(rt; refusal(alloc, 4096, 8)? == Some(ListError::ManyItems));
     Ok(())
 }
 
@@ -105,20 +90,6 @@ fn ascending(alloc: Global) -> Result<Vec<Element>, Fail> {
 fn lists_ascend_by_length_and_then_by_their_items(rt: HostRuntime) -> Result<(), Fail> {
     let elements = ascending(rt.alloc())?;
     assert!(rt; elements.len() == 9 && ascend(&elements));
-    Ok(())
-}
-
-#[test]
-fn items_compare_as_elements_do(rt: HostRuntime) -> Result<(), Fail> {
-    let alloc = rt.alloc();
-    let mut elements = Vec::new(alloc);
-    elements.push(list(vec![in alloc; Element::Undef]?)?)?;
-    elements.push(list(vec![in alloc; Element::Bool(true)]?)?)?;
-    elements.push(numbers(alloc, &[7])?)?;
-    elements.push(list(vec![in alloc; text(alloc, "a")?]?)?)?;
-    elements.push(nested(alloc, 2)?)?;
-    elements.push(nested(alloc, 3)?)?;
-    assert!(rt; elements.len() == 6 && ascend(&elements));
     Ok(())
 }
 

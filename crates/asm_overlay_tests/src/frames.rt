@@ -1,5 +1,5 @@
 //! Frames that are pushed, seen and popped.
-use asm_overlay::{FRAMES_LIMIT, Overlay, OverlayError, Seen};
+use asm_overlay::{Overlay, OverlayError, Seen};
 use asm_test_support::{are_told_apart, location, value};
 use asm_update::UpdateSet;
 use std::alloc::Global;
@@ -8,10 +8,10 @@ use std::test::Fail;
 
 /// A number, or undef, at the location of this name.
 #[derive(Clone, Copy)]
-pub(crate) struct Put(pub(crate) &'static str, pub(crate) Option<i64>);
+struct Put(&'static str, Option<i64>);
 
 /// A frame as plain data.
-pub(crate) type Frame = &'static [Put];
+type Frame = &'static [Put];
 
 /// What is done with an overlay, and what comes of it.
 #[derive(Clone, Copy)]
@@ -22,14 +22,10 @@ enum Step {
     Deep(Frame),
     /// The topmost frame is this one.
     Pop(Frame),
-    /// There is no frame.
-    Empty,
     /// There are so many frames.
     Depth(usize),
     /// The frames have this value.
     Held(Put),
-    /// No frame has the location.
-    Below(&'static str),
 }
 
 fn frame(alloc: Global, puts: &[Put]) -> Result<UpdateSet, Fail> {
@@ -41,7 +37,7 @@ fn frame(alloc: Global, puts: &[Put]) -> Result<UpdateSet, Fail> {
     Ok(updates)
 }
 
-pub(crate) fn pushes(alloc: Global, overlay: &mut Overlay, puts: &[Put]) -> Result<bool, Fail> {
+fn pushes(alloc: Global, overlay: &mut Overlay, puts: &[Put]) -> Result<bool, Fail> {
     overlay.push(frame(alloc, puts)?)?;
     Ok(true)
 }
@@ -73,20 +69,13 @@ fn holds(alloc: Global, overlay: &Overlay, put: Put) -> Result<bool, Fail> {
     })
 }
 
-fn is_below(alloc: Global, overlay: &Overlay, name: &str) -> Result<bool, Fail> {
-    let at = location(alloc, name)?;
-    Ok(overlay.get(&at) == Seen::Below)
-}
-
 fn takes(alloc: Global, overlay: &mut Overlay, step: Step) -> Result<bool, Fail> {
     match step {
         Step::Push(puts) => pushes(alloc, overlay, puts),
         Step::Deep(puts) => is_too_many(alloc, overlay, puts),
         Step::Pop(puts) => pops(alloc, overlay, puts),
-        Step::Empty => Ok(overlay.pop().is_none()),
         Step::Depth(depth) => Ok(overlay.depth() == depth),
         Step::Held(put) => holds(alloc, overlay, put),
-        Step::Below(name) => is_below(alloc, overlay, name),
     }
 }
 
@@ -111,27 +100,23 @@ fn full(alloc: Global) -> Result<Overlay, Fail> {
     Ok(overlay)
 }
 
-static AT_64_FRAMES: [Step; 8] = [
+static AT_64_FRAMES: [Step; 10] = [
     Step::Depth(64),
     Step::Deep(&[Put("x", Some(64))]),
     Step::Deep(&[]),
     Step::Depth(64),
     Step::Pop(&[Put("x", Some(63))]),
     Step::Depth(63),
-    Step::Push(&[Put("x", Some(64))]),
+    Step::Push(&[Put("y", None)]),
     Step::Depth(64),
+    Step::Held(Put("y", None)),
+    Step::Held(Put("x", Some(62))),
 ];
 
 #[test]
 fn the_65th_frame_is_handed_back(rt: HostRuntime) -> Result<(), Fail> {
     let mut overlay = full(rt.alloc())?;
     play(&rt, rt.alloc(), &mut overlay, &AT_64_FRAMES)
-}
-
-#[test]
-fn the_limit_of_frames_is_told(rt: HostRuntime) -> Result<(), Fail> {
-    assert_eq!(rt; FRAMES_LIMIT, 64);
-    Ok(())
 }
 
 /// Whether the answer of a push tells whether the frame is on top, and else hands it back.
@@ -159,34 +144,6 @@ fn a_frame_that_finds_no_memory_is_handed_back(rt: HostRuntime) -> Result<(), Fa
         assert!(rt; is_handed_back(rt.alloc(), &mut overlay, &[Put("x", Some(n))])?);
     }
     Ok(())
-}
-
-static TOPMOST: [Step; 19] = [
-    Step::Empty,
-    Step::Below("x"),
-    Step::Push(&[Put("x", Some(1))]),
-    Step::Push(&[Put("x", Some(2))]),
-    Step::Push(&[Put("y", Some(3)), Put("w", None)]),
-    Step::Held(Put("x", Some(2))),
-    Step::Held(Put("y", Some(3))),
-    Step::Held(Put("w", None)),
-    Step::Below("z"),
-    Step::Push(&[]),
-    Step::Depth(4),
-    Step::Held(Put("x", Some(2))),
-    Step::Below("z"),
-    Step::Pop(&[]),
-    Step::Depth(3),
-    Step::Pop(&[Put("y", Some(3)), Put("w", None)]),
-    Step::Pop(&[Put("x", Some(2))]),
-    Step::Held(Put("x", Some(1))),
-    Step::Below("y"),
-];
-
-#[test]
-fn the_topmost_frame_wins(rt: HostRuntime) -> Result<(), Fail> {
-    let mut overlay = Overlay::new(rt.alloc());
-    play(&rt, rt.alloc(), &mut overlay, &TOPMOST)
 }
 
 /// Whether what shows the one value is equal to what shows the other.

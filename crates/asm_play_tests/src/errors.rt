@@ -1,7 +1,10 @@
-//! The errors of runs, of scripts and of steps.
+//! The errors of runs, of scripts, and of the steps that scripts and engines take.
 use asm_play::RunError;
 use asm_script::{ScriptCause, ScriptError, StepFault};
-use asm_test_support::are_told_apart;
+use asm_step::StepError;
+use asm_test_support::{are_told_apart, location};
+use asm_update::{Cause, Clash};
+use std::alloc::Global;
 use std::test::Fail;
 
 #[test]
@@ -58,4 +61,48 @@ fn causes_of_scripts_are_told_apart(rt: HostRuntime) {
             ScriptCause::Reads,
         ])
     );
+}
+
+/// An error for each kind, and a second one where it has parts.
+fn step_errors(alloc: Global) -> Result<Vec<StepError>, Fail> {
+    let mut errors = Vec::new(alloc);
+    for (name, cause) in [("x", Cause::Two), ("x", Cause::Kind), ("y", Cause::Two)] {
+        let at = location(alloc, name)?;
+        errors.push(StepError::Clash(Clash { at, cause }))?;
+    }
+    for name in ["x", "y"] {
+        errors.push(StepError::Large(location(alloc, name)?))?;
+    }
+    errors.push(StepError::Many)?;
+    errors.push(StepError::Deep)?;
+    errors.push(StepError::Memory)?;
+    Ok(errors)
+}
+
+static TEXTS: [&str; 8] = [
+    "the updates clash",
+    "the updates clash",
+    "the updates clash",
+    "too large an amount or sum",
+    "too large an amount or sum",
+    "more than 4,096 instructions",
+    "more than 64 pushed moves",
+    "out of memory",
+];
+
+fn have_texts(alloc: Global, errors: &[StepError]) -> Result<bool, Fail> {
+    for (error, text) in errors.iter().zip(TEXTS) {
+        if error.to_string(alloc)?.as_str() != text {
+            return Ok(false);
+        }
+    }
+    Ok(errors.len() == TEXTS.len())
+}
+
+#[test]
+fn errors_of_steps_are_told_apart(rt: HostRuntime) -> Result<(), Fail> {
+    let errors = step_errors(rt.alloc())?;
+    assert!(rt; are_told_apart(errors.as_slice()));
+    assert!(rt; have_texts(rt.alloc(), errors.as_slice())?);
+    Ok(())
 }

@@ -1,4 +1,4 @@
-//! Tests of `asm_play` and `asm_script`, which see their public items alone.
+//! Tests of `asm_play`, `asm_script` and `asm_step`, which see their public items alone.
 #![tactic(auto)]
 
 #[cfg(test)]

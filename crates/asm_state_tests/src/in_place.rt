@@ -1,4 +1,4 @@
-//! Moves that change one location in place leave what they leave beside a move of another location.
+//! Moves that change one location in place, and ask the aggregator for no result.
 use asm_aggregate::standard;
 use asm_element::{ElemBag, ElemSet, Element, Value};
 use asm_state::{Named, Objection, State, Verdict};
@@ -37,20 +37,6 @@ fn push(alloc: Global, list: &mut Instructions, name: &str, action: Action) -> R
 
 fn move_of(alloc: Global, name: &str, acts: &[Act]) -> Result<Instructions, Fail> {
     let mut list = Instructions::new(alloc);
-    for act in acts {
-        push(alloc, &mut list, name, action(*act).ok_or(Zero)?)?;
-    }
-    Ok(list)
-}
-
-fn put_at_z() -> Action {
-    Action::Regular(number(1))
-}
-
-/// The move with a put at z before it.
-fn beside(alloc: Global, name: &str, acts: &[Act]) -> Result<Instructions, Fail> {
-    let mut list = Instructions::new(alloc);
-    push(alloc, &mut list, "z", put_at_z())?;
     for act in acts {
         push(alloc, &mut list, name, action(*act).ok_or(Zero)?)?;
     }
@@ -111,25 +97,6 @@ fn follow_by<A: Aggregator>(
     Ok(true)
 }
 
-/// The opened state after the move twice; the error is that memory was refused.
-fn followed_twice(alloc: Global, instructions: &Instructions) -> Result<State, Fail> {
-    let mut state = opened(alloc)?;
-    for _turn in 0..2 {
-        follow_by(alloc, &standard(), &mut state, instructions)?;
-    }
-    Ok(state)
-}
-
-fn after_two(alloc: Global, name: &str, acts: &[Act]) -> Result<State, Fail> {
-    let instructions = move_of(alloc, name, acts)?;
-    followed_twice(alloc, &instructions)
-}
-
-fn after_two_beside(alloc: Global, name: &str, acts: &[Act]) -> Result<State, Fail> {
-    let instructions = beside(alloc, name, acts)?;
-    followed_twice(alloc, &instructions)
-}
-
 fn are_alike_at(alloc: Global, one: &State, other: &State, name: &str) -> Result<bool, Fail> {
     let at = location(alloc, name)?;
     Ok(one.get(&at) == other.get(&at) && one.written_at(&at) == other.written_at(&at))
@@ -142,12 +109,6 @@ fn are_alike(alloc: Global, one: &State, other: &State) -> Result<bool, Fail> {
         }
     }
     Ok(one.number() == other.number())
-}
-
-fn follows_alike(alloc: Global, name: &str, acts: &[Act]) -> Result<bool, Fail> {
-    let one = after_two(alloc, name, acts)?;
-    let other = after_two_beside(alloc, name, acts)?;
-    Ok(one.number() == 2 && are_alike(alloc, &one, &other)?)
 }
 
 static ROWS: [(&str, &[Act]); 16] = [
@@ -168,44 +129,6 @@ static ROWS: [(&str, &[Act]); 16] = [
     ("n", &[Inc(1); 4095]),
     ("b", &[BagAdd(1, 1); 4095]),
 ];
-
-#[test]
-fn a_change_in_place_leaves_what_firing_leaves(rt: HostRuntime) -> Result<(), Fail> {
-    for (k, (name, acts)) in ROWS.iter().enumerate() {
-        assert!(rt; follows_alike(rt.alloc(), name, acts)?, "at row {k}");
-    }
-    Ok(())
-}
-
-fn is_copied(alloc: Global, state: &State) -> Result<bool, Fail> {
-    let copy = state.copy(alloc)?;
-    are_alike(alloc, state, &copy)
-}
-
-/// Whether a copy is like the state once it has followed the move as well.
-fn is_copied_after(
-    alloc: Global,
-    state: &mut State,
-    name: &str,
-    acts: &[Act],
-) -> Result<bool, Fail> {
-    let instructions = move_of(alloc, name, acts)?;
-    Ok(follow_by(alloc, &standard(), state, &instructions)? && is_copied(alloc, state)?)
-}
-
-#[test]
-fn a_copy_after_each_change_is_like_its_original(rt: HostRuntime) -> Result<(), Fail> {
-    let alloc = rt.alloc();
-    let mut state = opened(alloc)?;
-    for (k, (name, acts)) in ROWS.iter().enumerate() {
-        assert!(rt;
-            is_copied_after(alloc, &mut state, name, acts)?,
-            "at row {k}"
-        );
-    }
-    assert_eq!(rt; state.number(), 16);
-    Ok(())
-}
 
 /// Whether a follow changed s and counted the move, or left both where memory was refused.
 fn is_whole(alloc: Global, state: &State, answer: Result<(), AllocError>) -> Result<bool, Fail> {
@@ -257,7 +180,8 @@ fn changed_by<A: Aggregator>(
     aggregator: &A,
     instructions: &Instructions,
 ) -> Result<State, Fail> {
-    let mut state = followed_twice(alloc, &puts_of_first(alloc)?)?;
+    let mut state = opened(alloc)?;
+    follow_by(alloc, &standard(), &mut state, &puts_of_first(alloc)?)?;
     follow_by(alloc, aggregator, &mut state, instructions)?;
     Ok(state)
 }
@@ -272,7 +196,7 @@ fn changes_as_by_standard<A: Aggregator>(
     let instructions = move_of(alloc, name, acts)?;
     let one = changed_by(alloc, aggregator, &instructions)?;
     let other = changed_by(alloc, &standard(), &instructions)?;
-    Ok(one.number() == 3 && are_alike(alloc, &one, &other)?)
+    Ok(one.number() == 2 && are_alike(alloc, &one, &other)?)
 }
 
 #[test]
@@ -311,42 +235,30 @@ fn objects_to<A: Aggregator>(
     Ok(is_told_alike(&verdict, &objection))
 }
 
-/// The same, where s was read at this number.
-fn objects_at<A: Aggregator>(
-    alloc: Global,
-    aggregator: &A,
-    state: &State,
-    number: u32,
-    instructions: &Instructions,
-) -> Result<bool, Fail> {
-    let at = location(alloc, "s")?;
-    let named = vec![in alloc; Named { at, number }]?;
-    Ok(objects_to(alloc, aggregator, state, &named, instructions)?)
-}
-
+/// The same where s was read at this number.
 fn objects_alike<A: Aggregator>(
     alloc: Global,
     aggregator: &A,
     state: &State,
     row: (&str, &[Act]),
+    number: u32,
 ) -> Result<bool, Fail> {
-    let instructions = beside(alloc, row.0, row.1)?;
-    for number in 0..3u32 {
-        if !objects_at(alloc, aggregator, state, number, &instructions)? {
-            return Ok(false);
-        }
-    }
-    Ok(true)
+    let at = location(alloc, "s")?;
+    let named = vec![in alloc; Named { at, number }]?;
+    let instructions = move_of(alloc, row.0, row.1)?;
+    Ok(objects_to(alloc, aggregator, state, &named, &instructions)?)
 }
 
-/// Whether the aggregator objects to each row's move, beside a put at z, as verdicts tell.
+/// Whether the aggregator objects to each row's move as verdicts tell, where s was read before or after it was written.
 fn objects_to_all<A: Aggregator>(
     alloc: Global,
     aggregator: &A,
     state: &State,
 ) -> Result<bool, Fail> {
     for row in ROWS {
-        if !objects_alike(alloc, aggregator, state, row)? {
+        if !objects_alike(alloc, aggregator, state, row, 0)?
+            || !objects_alike(alloc, aggregator, state, row, 1)?
+        {
             return Ok(false);
         }
     }
@@ -355,8 +267,13 @@ fn objects_to_all<A: Aggregator>(
 
 #[test]
 fn objections_are_those_of_verdicts_and_ask_for_no_result(rt: HostRuntime) -> Result<(), Fail> {
-    let state = after_two(rt.alloc(), "s", &[Add(7)])?;
-    assert!(rt; objects_to_all(rt.alloc(), &standard(), &state)?);
+    let mut state = opened(rt.alloc())?;
+    follow_by(
+        rt.alloc(),
+        &standard(),
+        &mut state,
+        &puts_of_first(rt.alloc())?,
+    )?;
     assert!(rt; objects_to_all(rt.alloc(), &Resultless::over(standard()), &state)?);
     Ok(())
 }

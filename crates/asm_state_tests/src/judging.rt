@@ -132,51 +132,18 @@ fn holds_at(
 }
 
 #[test]
-fn a_move_that_clashes_is_counted_and_changes_nothing(rt: HostRuntime) -> Result<(), Fail> {
+fn moves_are_judged_on_what_was_followed(rt: HostRuntime) -> Result<(), Fail> {
     let (rt, alloc) = (&rt, rt.alloc());
-    assert_eq!(rt; opened(alloc)?.number(), 0);
-    let state = played(rt, alloc)?;
+    let mut state = played(rt, alloc)?;
     assert_eq!(rt; state.number(), 2);
     assert!(rt; holds_at(alloc, &state, "x", Some(7), 1)?);
     assert!(rt; holds_at(alloc, &state, "y", None, 0)?);
-    Ok(())
-}
-
-#[test]
-fn a_stale_read_is_told_before_a_clash(rt: HostRuntime) -> Result<(), Fail> {
-    let (rt, alloc) = (&rt, rt.alloc());
-    let state = played(rt, alloc)?;
     assert!(rt; judges(alloc, &state, &[("x", 0)], &TWO, Want::Stale("x"))?);
-    Ok(())
-}
-
-#[test]
-fn a_fresh_read_leaves_the_clash(rt: HostRuntime) -> Result<(), Fail> {
-    let (rt, alloc) = (&rt, rt.alloc());
-    let state = played(rt, alloc)?;
     assert!(rt; judges(alloc, &state, &[("x", 1)], &TWO, Want::Clash("x"))?);
-    Ok(())
-}
-
-#[test]
-fn a_location_that_was_written_undef_keeps_the_number(rt: HostRuntime) -> Result<(), Fail> {
-    let (rt, alloc) = (&rt, rt.alloc());
-    let mut state = played(rt, alloc)?;
     let puts = [Put("y", None)];
     assert!(rt; judges(alloc, &state, &[], &puts, Want::Undef("y"))?);
     follow(rt, alloc, &mut state, &puts)?;
     assert!(rt; holds_at(alloc, &state, "y", None, 3)?);
-    Ok(())
-}
-
-#[test]
-fn the_least_of_the_stale_reads_is_told(rt: HostRuntime) -> Result<(), Fail> {
-    let (rt, alloc) = (&rt, rt.alloc());
-    let mut state = opened(alloc)?;
-    let puts = [Put("c", Some(1)), Put("b", Some(1)), Put("a", Some(1))];
-    follow(rt, alloc, &mut state, &puts)?;
-    let reads = [("x", 0), ("c", 0), ("b", 0), ("a", 1), ("d", 9)];
-    assert!(rt; judges(alloc, &state, &reads, &TWO, Want::Stale("b"))?);
     Ok(())
 }
 
@@ -202,7 +169,6 @@ fn is_named_copied(alloc: Global, name: &str, number: u32) -> Result<bool, Fail>
 fn copies_are_equal(rt: HostRuntime) -> Result<(), Fail> {
     let (rt, alloc) = (&rt, rt.alloc());
     assert!(rt; is_named_copied(alloc, "x", 3)?);
-    assert!(rt; is_copied(alloc, &opened(alloc)?)?);
     assert!(rt; is_copied(alloc, &played(rt, alloc)?)?);
     Ok(())
 }
@@ -294,52 +260,4 @@ fn a_follow_of_16_updates_writes_all_or_nothing(rt: HostRuntime) -> Result<(), F
 #[test]
 fn a_follow_of_4096_updates_writes_all_or_nothing(rt: HostRuntime) -> Result<(), Fail> {
     follow_writes_all_or_nothing(&rt, rt.alloc(), 4096)
-}
-
-/// A state where a move wrote n(0), n(1) and so on, 256 locations.
-fn written_at_256<R: Abort>(rt: &R, alloc: Global) -> Result<State, Fail> {
-    let mut state = half_held(alloc, 256)?;
-    assert!(rt; state.number() == 0);
-    let puts = many_puts(alloc, 256)?;
-    state.follow(alloc, &standard(), &puts)?;
-    Ok(state)
-}
-
-/// Reads of n(0), n(1) and so on, 256 of them, at number 1, and those from this one on at number 0.
-fn reads_stale_from(alloc: Global, first: i64) -> Result<Vec<Named>, Fail> {
-    let mut named = Vec::new(alloc);
-    for n in 0i64..256 {
-        let at = place(alloc, n)?;
-        let number = if n < first { 1 } else { 0 };
-        named.push(Named { at, number })?;
-    }
-    Ok(named)
-}
-
-/// What becomes of a move that writes undef at y, and names those reads.
-fn verdict_from(alloc: Global, state: &State, first: i64) -> Result<Verdict, Fail> {
-    let named = reads_stale_from(alloc, first)?;
-    verdict_on(alloc, state, &named, &[Put("y", None)])
-}
-
-fn is_stale_from(alloc: Global, state: &State, first: i64) -> Result<bool, Fail> {
-    let at = place(alloc, first)?;
-    let verdict = verdict_from(alloc, state, first)?;
-    Ok(verdict == Verdict::Stale(at))
-}
-
-fn is_ready(alloc: Global, state: &State) -> Result<bool, Fail> {
-    let verdict = verdict_from(alloc, state, 256)?;
-    Ok(is_wanted(&verdict, Want::Undef("y")))
-}
-
-#[test]
-fn each_of_256_reads_is_judged(rt: HostRuntime) -> Result<(), Fail> {
-    let (rt, alloc) = (&rt, rt.alloc());
-    let state = written_at_256(rt, alloc)?;
-    assert!(rt; is_ready(alloc, &state)?);
-    for first in [255i64, 100, 0] {
-        assert!(rt; is_stale_from(alloc, &state, first)?, "from {first}");
-    }
-    Ok(())
 }

@@ -7,7 +7,3 @@ mod equality;
 mod in_place;
 #[cfg(test)]
 mod judging;
-#[cfg(test)]
-mod opening_state;
-#[cfg(test)]
-mod plain_state;

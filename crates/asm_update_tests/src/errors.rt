@@ -142,15 +142,9 @@ fn errors_have_their_texts(rt: HostRuntime) -> Result<(), Fail> {
     for (error, want) in TEXTS_OF_JOINS {
         assert!(rt; has_text(alloc, &error, want)?, "{want}");
     }
-    Ok(())
-}
-
-#[test]
-fn refused_memory_has_one_text(rt: HostRuntime) -> Result<(), Fail> {
-    let alloc = rt.alloc();
-    let want = "out of memory";
-    assert!(rt; has_text(alloc, &InstructionsError::Memory, want)?);
-    assert!(rt; has_text(alloc, &AggError::Memory, want)?);
-    assert!(rt; has_text(alloc, &ResultError::Memory, want)?);
+    let memory = "out of memory";
+    assert!(rt; has_text(alloc, &InstructionsError::Memory, memory)?);
+    assert!(rt; has_text(alloc, &AggError::Memory, memory)?);
+    assert!(rt; has_text(alloc, &ResultError::Memory, memory)?);
     Ok(())
 }

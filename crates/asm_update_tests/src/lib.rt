@@ -6,6 +6,4 @@ mod errors;
 #[cfg(test)]
 mod moves;
 #[cfg(test)]
-mod sizes;
-#[cfg(test)]
 mod states;

@@ -5,8 +5,8 @@ ghost use Rattle.asm_update.specs.Move.{all_regular};
 use asm_element::Element;
 use asm_test_support::{Zero, location, location_at, value};
 use asm_update::{
-    Action, AggError, Amount, Cause, Clash, Family, INSTRUCTIONS_LIMIT, Instruction, Instructions,
-    InstructionsError, Lookup, PlainState, consistent, fire_plain,
+    Action, AggError, Amount, Cause, Clash, Instruction, Instructions, InstructionsError,
+    PlainState, consistent, fire_plain,
 };
 use std::alloc::{AllocError, Global};
 use std::test::Fail;
@@ -72,20 +72,6 @@ fn an_amount_is_at_least_one(rt: HostRuntime) -> Result<(), Fail> {
     Ok(())
 }
 
-#[test]
-fn a_partial_update_has_a_family(rt: HostRuntime) -> Result<(), Fail> {
-    for (update, family) in [
-        (Update::Put(None), None),
-        (Update::SetAdd(1), Some(Family::Set)),
-        (Update::SetRemove(1), Some(Family::Set)),
-        (Update::BagAdd(1, 2), Some(Family::Bag)),
-        (Update::BagRemove(1, 2), Some(Family::Bag)),
-    ] {
-        assert!(rt; action(update).ok_or(Zero)?.family() == family);
-    }
-    Ok(())
-}
-
 fn is_two_at(clash: &Clash, name: &str) -> bool {
     clash.at.name() == name && clash.at.args().is_empty() && clash.cause == Cause::Two
 }
@@ -137,11 +123,6 @@ fn two_clashes_answer_the_least_location(rt: HostRuntime) -> Result<(), Fail> {
     Ok(())
 }
 
-pub(crate) fn is_undef<L: Lookup>(alloc: Global, lookup: &L, name: &str) -> Result<bool, Fail> {
-    let at = location(alloc, name)?;
-    Ok(lookup.get(&at).is_none())
-}
-
 /// Whether firing on x = 1 leaves this number at that name alone.
 fn fires_to(alloc: Global, list: &Instructions, name: &str, number: i64) -> Result<bool, Fail>
     requires { IsTrue (all_regular list.now) }
@@ -157,27 +138,6 @@ fn firing_writes_values_and_takes_undef_out(rt: HostRuntime) -> Result<(), Fail>
     let list = list_of(rt.alloc(), &puts)?;
     assert!(rt; list.all_regular());
     assert!(rt; fires_to(rt.alloc(), &list, "y", 2)?);
-    Ok(())
-}
-
-#[test]
-fn firing_nothing_changes_nothing(rt: HostRuntime) -> Result<(), Fail> {
-    let list = Instructions::new(rt.alloc());
-    assert!(rt; list.all_regular() && fires_to(rt.alloc(), &list, "x", 1)?);
-    Ok(())
-}
-
-#[test]
-fn equal_values_and_partial_updates_are_consistent(rt: HostRuntime) -> Result<(), Fail> {
-    let updates = [
-        ("s", Update::Put(Some(1))),
-        ("s", Update::Put(Some(1))),
-        ("s", Update::SetAdd(2)),
-        ("s", Update::SetRemove(2)),
-    ];
-    let list = list_of(rt.alloc(), &updates)?;
-    assert!(rt; consistent(&list).is_none() && !list.all_regular());
-    assert!(rt; list.len() == 4 && list.get(2).action == Action::SetAdd(Element::Num(2)));
     Ok(())
 }
 
@@ -197,28 +157,6 @@ fn one_instruction_more_than_4096_is_refused(rt: HostRuntime) -> Result<(), Fail
     Ok(())
 }
 
-#[test]
-fn the_limit_of_instructions_is_told(rt: HostRuntime) -> Result<(), Fail> {
-    assert_eq!(rt; INSTRUCTIONS_LIMIT, 4096);
-    Ok(())
-}
-
-/// Whether a walk of the instructions gives each at its place, and there are as many as this.
-fn is_walked(list: &Instructions, len: usize) -> bool {
-    list.iter().enumerate().all(|(i, instruction)| Some(instruction) == list.as_slice().get(i))
-        && list.iter().count() == len
-        && list.is_empty() == (len == 0)
-}
-
-#[test]
-fn instructions_are_walked_in_their_order(rt: HostRuntime) -> Result<(), Fail> {
-    assert!(rt; is_walked(&Instructions::new(rt.alloc()), 0));
-    let updates = [("x", Update::Put(Some(1))), ("y", Update::SetAdd(2))];
-    let list = list_of(rt.alloc(), &updates)?;
-    assert!(rt; is_walked(&list, 2));
-    Ok(())
-}
-
 /// Whether the list puts 0, 1 and so on.
 fn counts_up(list: &Instructions) -> bool {
     for i in 0..list.len() {
@@ -228,59 +166,6 @@ fn counts_up(list: &Instructions) -> bool {
         }
     }
     true
-}
-
-/// Puts of 0, 1 and so on, so many.
-fn puts(alloc: Global, count: usize) -> Result<Vec<Instruction>, Fail> {
-    let mut items = Vec::new(alloc);
-    for i in 0..count {
-        let at = location(alloc, "x")?;
-        let action = Action::Regular(value(i64::try_from(i).ok()));
-        items.push(Instruction { at, action })?;
-    }
-    Ok(items)
-}
-
-/// Whether it is a move of so many puts, where they fit into one, or the refusal. `AllocError` comes only where
-/// memory was refused.
-fn is_move_of(
-    answer: Result<Instructions, InstructionsError>,
-    count: usize,
-    fits: bool,
-) -> Result<bool, AllocError> {
-    match answer {
-        Ok(list) => Ok(fits && list.len() == count && counts_up(&list)),
-        Err(InstructionsError::ManyInstructions) => Ok(!fits),
-        Err(InstructionsError::Memory) => Err(AllocError),
-    }
-}
-
-#[test]
-fn a_list_becomes_the_instructions_of_a_move(rt: HostRuntime) -> Result<(), Fail> {
-    let alloc = rt.alloc();
-    for (count, fits) in [(0, true), (1, true), (4096, true), (4097, false)] {
-        let answer = Instructions::from_vec(alloc, puts(alloc, count)?);
-        assert!(rt; is_move_of(answer, count, fits)?, "{count}");
-    }
-    Ok(())
-}
-
-/// How many instructions a move of so many puts has once it got those of another one.
-fn united(alloc: Global, puts_first: usize, puts_more: usize) -> Result<usize, Fail> {
-    let mut list = Instructions::from_vec(alloc, puts(alloc, puts_first)?)?;
-    list.append(&Instructions::from_vec(alloc, puts(alloc, puts_more)?)?)?;
-    Ok(list.len())
-}
-
-#[test]
-fn a_move_gets_the_instructions_of_another(rt: HostRuntime) -> Result<(), Fail> {
-    for (first, more) in [(0, 0), (0, 2), (2, 0), (1, 4095), (4096, 0)] {
-        assert!(rt;
-            united(rt.alloc(), first, more)? == first.saturating_add(more),
-            "{first} {more}"
-        );
-    }
-    Ok(())
 }
 
 fn is_copied(alloc: Global, list: Instructions) -> Result<bool, AllocError> {
