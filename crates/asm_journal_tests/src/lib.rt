@@ -1,6 +1,8 @@
-//! Tests of `asm_journal`, which see its public items alone, of what no case of the program shows.
+//! Tests of `asm_journal` and `asm_audit`, which see their public items alone, of what no case of the program shows.
 #![tactic(auto)]
 
+#[cfg(test)]
+mod audits;
 #[cfg(test)]
 mod errors;
 #[cfg(test)]
@@ -9,5 +11,3 @@ mod forms;
 mod outputs;
 #[cfg(test)]
 mod replays;
-#[cfg(test)]
-mod texts;

@@ -140,14 +140,6 @@ static OFFERS: [Case; 2] = [
     },
 ];
 
-#[test]
-fn lost_offer_sets_no_cell(rt: HostRuntime) -> Result<(), Fail> {
-    for case in OFFERS {
-        check(&rt, rt.alloc(), case)?;
-    }
-    Ok(())
-}
-
 static LOOKS: [Case; 2] = [
     Case {
         capacity: 2,
@@ -174,14 +166,6 @@ static LOOKS: [Case; 2] = [
         ],
     },
 ];
-
-#[test]
-fn only_a_look_at_an_empty_cell_is_a_miss(rt: HostRuntime) -> Result<(), Fail> {
-    for case in LOOKS {
-        check(&rt, rt.alloc(), case)?;
-    }
-    Ok(())
-}
 
 static LATE: [Case; 4] = [
     Case {
@@ -240,14 +224,6 @@ static LATE: [Case; 4] = [
     },
 ];
 
-#[test]
-fn a_seat_that_missed_wins_loses_and_finds(rt: HostRuntime) -> Result<(), Fail> {
-    for case in LATE {
-        check(&rt, rt.alloc(), case)?;
-    }
-    Ok(())
-}
-
 // However often a seat has missed, it looks, wins and loses as before.
 static QUIET: [Case; 1] = [Case {
     capacity: 3,
@@ -270,9 +246,11 @@ static QUIET: [Case; 1] = [Case {
 }];
 
 #[test]
-fn an_entry_is_found_after_thousands_of_misses(rt: HostRuntime) -> Result<(), Fail> {
-    for case in QUIET {
-        check(&rt, rt.alloc(), case)?;
+fn seats_win_lose_and_find(rt: HostRuntime) -> Result<(), Fail> {
+    for cases in [OFFERS.as_slice(), &LOOKS, &LATE, &QUIET] {
+        for case in cases {
+            check(&rt, rt.alloc(), *case)?;
+        }
     }
     Ok(())
 }

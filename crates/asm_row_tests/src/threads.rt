@@ -136,26 +136,6 @@ fn seats_of_two_threads_agree(rt: HostRuntime) -> Result<(), Fail> {
     Ok(())
 }
 
-// Whether the looks of the seat find 0, 1 and so on, so many, and then nothing, in a row that is full.
-fn walks(mut seat: Seat<'_, u32>, count: u32) -> bool {
-    for k in 0..count {
-        if seat.next().copied() != Some(k) {
-            return false;
-        }
-    }
-    seat.is_full() && seat.next().is_none() && seat.misses() == 0
-}
-
-#[test]
-fn a_second_seat_walks_65537_entries(rt: HostRuntime) -> Result<(), Fail> {
-    let alloc = rt.alloc();
-    let row = Row::new(alloc, 65_537)?;
-    let wins = AtomicU32::new(0);
-    assert!(rt; fill(alloc, &row, 0, &wins)?.won() == 65_537);
-    assert!(rt; walks(row.seat(alloc)?, 65_537));
-    Ok(())
-}
-
 #[test]
 fn seats_and_marks_cross_threads(rt: HostRuntime) -> Result<(), Fail> {
     let alloc = rt.alloc();
