@@ -234,15 +234,10 @@ fn length_of(answer: Result<Instructions, ComposeError>) -> Result<Option<usize>
 #[derive(Clone, Copy)]
 struct Lengths((&'static str, i64), (&'static str, i64), Option<usize>);
 
-static LENGTHS: [Lengths; 8] = [
-    Lengths(("x", 0), ("x", 0), Some(0)),
-    Lengths(("x", 4096), ("x", 0), Some(4096)),
-    Lengths(("x", 0), ("x", 4096), Some(4096)),
-    Lengths(("x", 4096), ("x", 4096), Some(4096)),
+static LENGTHS: [Lengths; 3] = [
     Lengths(("x", 2048), ("y", 2048), Some(4096)),
     Lengths(("x", 4096), ("y", 1), None),
     Lengths(("x", 1), ("y", 4096), None),
-    Lengths(("x", 4096), ("y", 4096), None),
 ];
 
 /// How many instructions the row's moves compose to.
