@@ -8,9 +8,9 @@ ghost use Rattle.asm_aggregate_tests.specs.laws.NobodyLaws.{nobody_laws};
 use crate::admissions::{admits, changes_a_state};
 use crate::plain_data::Act::{Add, BagAdd, BagRemove, Inc, Remove};
 use crate::plain_data::Old::{Bag, Num, Set, Undef};
-use crate::plain_data::{Act, Old, actions_of, move_of, push_at, state_with, updates_of, value_of};
+use crate::plain_data::{Act, Old, actions_of, move_of, state_with, updates_of, value_of};
 use asm_aggregate::{BagAgg, Pair, SetAgg, aggregate, standard};
-use asm_element::{Element, Value};
+use asm_element::Value;
 use asm_update::{
     Action, AggError, Aggregator, Cause, Clash, Family, Group, Instructions, JoinError, PlainState,
     ResultError, UpdateSet,

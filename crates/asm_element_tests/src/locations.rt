@@ -1,6 +1,6 @@
 //! Locations: their names, arguments and order, and why there is none.
 use crate::elements::{ascend, number_elements};
-use asm_element::{Element, Location, LocationError};
+use asm_element::{Location, LocationError};
 use asm_test_support::{are_told_apart, location_at};
 use std::alloc::{AllocError, Global};
 use std::test::Fail;
