@@ -36,6 +36,7 @@ KINDS = {
     "script": 25,
     "spelled": 8,
     "sequence": 6,
+    "blocks": 20,
     "apart": 5,
     "changed": 22,
     "cut": 10,
@@ -132,6 +133,8 @@ class Fuzz:
             yield Trial(random.choice([["run"], ["run", "--terms"]]), self.text(maker.apart()))
         elif self.kind == "sequence":
             yield Trial(either, self.text(maker.sequence()))
+        elif self.kind == "blocks":
+            yield Trial(either, self.text(maker.blocks(), is_plain=True))
         elif self.kind == "large":
             yield Trial(either, self.text(maker.large()))
         elif self.kind == "journal":

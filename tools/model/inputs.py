@@ -152,6 +152,26 @@ class Maker:
             steps.append([self.block() for _ in range(self.random.randint(2, 4))])
         return {"init": self.init(), "agents": [steps]}
 
+    def blocks(self) -> Json:
+        """Makes a script of steps of one to five blocks, where a block may repeat what it has up to a limit, or undo it."""
+        self.places, self.elements = [["b"], ["s"], ["n"], ["x"]], self.elements[:2]
+        self.strange, self.heavy, self.lines = 0.0, 0.1, [0, 1, 1, 2]
+        steps: list[Json] = []
+        for _ in range(self.random.randint(1, 3)):
+            steps.append([self.repeated(self.block()) for _ in range(self.random.randint(1, 5))])
+        return {"init": self.init(), "agents": [steps]}
+
+    def repeated(self, block: list[Json]) -> list[Json]:
+        """Makes the block as it is, or with an instruction of it as often as a move may have one, or with what undoes it."""
+        pick = self.random.random()
+        if not block or pick < 0.5:
+            return block
+        if pick < 0.55:
+            return [*block, *[block[-1]] * (MAX_ITEMS - len(block) + self.random.choice([-1, 0, 0, 0, 0, 1]))]
+        undone = {"inc": "inc", "add": "remove", "remove": "add", "bagadd": "bagremove", "bagremove": "bagadd"}
+        others = [[undone[it[0]], *it[1:]] for it in block if it[0] in undone]
+        return [*block, *([*it[:2], -it[2]] if it[0] == "inc" and it[2] != -(2**63) else it for it in others)]
+
     def apart(self) -> Json:
         """Makes a script of several agents, no two of which touch one location."""
         init: list[Json] = []

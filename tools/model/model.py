@@ -1,9 +1,12 @@
 #!/usr/bin/env python3
 """A second implementation of the program, for comparison: slow, plain, and written from the page on formats in docs/.
 
+usage: model.py COMMAND [OPTIONS] < INPUT
+
 It takes the program's words, reads its standard input, and ends with its status: `run [--capacity N] [--journal] [--terms]`,
 `check`, `rewrite`, `trace [--part N] [--from N] [--to N]` and `audit [--every N]`. It plays one agent after the other, and so refuses,
-with status 70, a script of several agents whose output may depend on the order of their moves. It tells neither help nor a version.
+with status 70, a script of several agents whose output may depend on the order of their moves. It has neither the program's help
+nor its version.
 """
 
 import re
@@ -151,6 +154,9 @@ def read_number(text: str, within: range) -> int | None:
 
 
 def main() -> int:
+    if sys.argv[1:] == ["--help"]:
+        print(__doc__)
+        return 0
     try:
         # But for an audit and a window a byte more than the most is as good as all.
         is_long = sys.argv[1:2] == ["audit"] or sys.argv[1:2] == ["trace"] and sys.argv[2:]

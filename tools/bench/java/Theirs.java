@@ -14,7 +14,7 @@ final class Theirs implements Side {
         Twin.Location at = new Twin.Location("x", location);
         try {
             step.push(at, step.get(at) + 1);
-            return step.tryFire();
+            return step.fire();
         } catch (Twin.Moved moved) {
             return false;
         }
