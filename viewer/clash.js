@@ -1,4 +1,5 @@
 // Why the updates of a location have no result, in words.
+import { MOST_COUNT } from "./judge.js";
 import { elementNode, valueNode } from "./nodes.js";
 import { byElement, isBag, isNumber, isSet, keyOf } from "./terms.js";
 
@@ -11,7 +12,6 @@ const REASONS = {
   Short: "more of an element is removed than the bag has of it",
 };
 const TOO_LARGE = { count: "the new count is above 4,294,967,295", number: "the new number is outside the range of 64 bits" };
-const MOST_COUNT = 2 ** 32 - 1;
 
 // The cause in words, and what it is about where that can be shown: nodes and texts.
 export function clashNodes(cause, instructions, old) {
@@ -60,7 +60,7 @@ function tellCounts(group, old) {
     it[word === "bagadd" ? "added" : "removed"] += amount;
     counts.set(keyOf(element), it);
   }
-  const had = element => old.bag.find(it => keyOf(it[0]) === keyOf(element))?.[1] ?? 0;
+  const held = new Map(old.bag.map(it => [keyOf(it[0]), it[1]])), had = element => held.get(keyOf(element)) ?? 0;
   for (const { element, added, removed } of [...counts.values()].sort((a, b) => byElement(a.element, b.element))) {
     const count = had(element), now = count - removed + added;
     if (removed > count) return [`${removed} of `, elementNode(element), ` are removed, and the bag has ${count || "none"}.`];

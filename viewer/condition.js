@@ -1,6 +1,6 @@
 // A condition on what a location holds, and the stretches of a run in which it holds.
 import { Fault, readJson } from "./exact.js";
-import { isNumber, keyOf } from "./terms.js";
+import { isNumber, keyOf, shortText } from "./terms.js";
 
 const TOKEN = /\s*(?:("(?:[^"\\]|\\.)*")|(-?\d+)|([A-Za-z_][A-Za-z0-9_]*)|(<=|>=|!=|==|[<>=≤≥≠(),*{}[\]]))/y;
 const SAME = { "==": "=", is: "=", "≤": "<=", "≥": ">=", "≠": "!=" };
@@ -8,10 +8,12 @@ const ORDERS = { "<": apart => apart < 0, "<=": apart => apart <= 0, ">": apart 
 const NAMED = { undef: null, null: null, true: true, false: false };
 const TESTS = ["changes", "has", "lacks", "size", "is"];
 const ANY = Symbol("any");
+const MOST_LETTERS = 1000;
 const EXAMPLES = "write it as stock(\"rice\") < 0, door = \"open\", open has 3, open size > 9 or stock(*) changes";
 
 // Reads a condition: the pattern of its locations, null where none is named, and what tests a content.
 export function readCondition(text) {
+  if (text.length > MOST_LETTERS) throw new Fault(`a condition has at most ${MOST_LETTERS} letters`);
   const reading = new Tokens(text), pattern = reading.isWord() ? reading.location() : null;
   return { pattern, ...reading.test() };
 }
@@ -22,7 +24,7 @@ class Tokens {
     TOKEN.lastIndex = 0;
     for (let at = 0; at < text.trimEnd().length; at = TOKEN.lastIndex) {
       const found = TOKEN.exec(text);
-      if (!found) throw new Fault(`${JSON.stringify(text.slice(at).trim().slice(0, 12))} can't be read; ${EXAMPLES}`);
+      if (!found) throw new Fault(`${shortText(text.slice(at).trim().slice(0, 12))} can't be read; ${EXAMPLES}`);
       this.list.push({ text: found[0].trim(), isText: !!found[1], isNumber: !!found[2], isWord: !!found[3] });
     }
     this.at = 0;

@@ -6,7 +6,7 @@ import { kindOf } from "./run.js";
 import { answerText, button, changeNode, elementNode, glyph, locationNode, make, moveLink, span, valueNode, writerNodes } from "./nodes.js";
 import { act, shown } from "./shown.js";
 import { afterMoves, grouped, keyOf, plural } from "./terms.js";
-import { apartNode, isOther, wrongNote } from "./wrong.js";
+import { apartNode, doubtNote, isOther, wrongNote } from "./wrong.js";
 
 const MOST_ITEMS = 24, MOST_ROWS = 300, MOST_STALED = 12, MOST_PRINTED = 8;
 
@@ -16,6 +16,7 @@ export function eventNode(event) {
   return make("div", { class: "detail" },
     make("h2", { class: "title" }, glyph(event.kind), `Event ${event.ordinal}`, span(`tag ${event.kind}`, tag),
       make("small", {}, `agent ${event.agent}, ${event.before ? afterMoves(event.before) : "before any move"}`)),
+    event.doubt ? doubtNote(event) : null,
     event.isWrong ? wrongNote(event) : null,
     whyNote(event, answer),
     chain(event),
@@ -122,6 +123,7 @@ function instructions(event, answer) {
   return block("Instructions", make("ol", { class: "instructions" }, rows), left > 0 ? make("p", { class: "soft far" }, `and ${grouped(left)} more`) : null, printedLeft(event.fire.length));
 }
 
+export const faultText = event => `${event.isWrong ? ". The answer is wrong" : ""}${event.doubt ? ". It doesn't agree with the trace" : ""}`;
 // The event in a line, for the list's and the lanes' help and for readers of the screen.
 export function eventText(event) {
   const names = list => list.length ? list.slice(0, 6).map(it => it.label).join(", ") + (list.length > 6 ? ", …" : "") : "nothing";
@@ -132,5 +134,5 @@ export function eventText(event) {
     clash: () => answerText(event.reply),
     full: () => "found the storage full",
   }[event.kind]();
-  return `Event ${event.ordinal}, agent ${event.agent}: ${what}${event.isWrong ? ". The answer is wrong" : ""}`;
+  return `Event ${event.ordinal}, agent ${event.agent}: ${what}${faultText(event)}`;
 }

@@ -1,7 +1,9 @@
 // The list of events, and what is asked of it.
+import { faultText } from "./event.js";
 import { filter, forgetTexts, isFiltered, isListed, LABELS, listIndex, listItem, listLength, nextListed, ofKind, setFilter } from "./filter.js";
 import { List, ROW } from "./lists.js";
 import { $, changeText, glyph, make, span } from "./nodes.js";
+import { isBad } from "./run.js";
 import { act, shown } from "./shown.js";
 import { grouped, keyOf, locationText, shortText } from "./terms.js";
 
@@ -23,13 +25,13 @@ function staleNodes(event, location) {
   const values = numbers.length ? [run.valueAt(location, run.eventsTo(Math.min(...numbers))), run.valueAt(location, event.number)] : [];
   return [" ", span("name", location.label), values.length && keyOf(values[0]) !== keyOf(values[1]) ? ` ${values.map(shortText).join(" → ")}` : ""];
 }
-const labelOf = (event, what) => `Event ${event.ordinal}, agent ${event.agent}: ${what}${event.isWrong ? ". The answer is wrong" : ""}`;
+const labelOf = (event, what) => `Event ${event.ordinal}, agent ${event.agent}: ${what}${faultText(event)}`;
 function eventRow(i) {
   const event = shown.run.events[listItem(i)], isChosen = event.number === shown.count - 1, what = span("what", whatNodes(event));
   what.title = what.textContent;
   const told = { role: "option", "aria-selected": String(isChosen), "aria-posinset": i + 1, "aria-setsize": listLength(), "aria-label": labelOf(event, what.textContent) };
   return make("div", { class: "row event", id: `event-${event.number}`, ...told, onclick: () => act.choose(event.number + 1, { isPressed: true }) },
-    span("number", String(event.ordinal)), glyph(event.kind, event.isWrong), span("agent", `a${event.agent}`), what, event.isWrong ? span("tag wrong", "wrong") : null);
+    span("number", String(event.ordinal)), glyph(event.kind, isBad(event)), span("agent", `a${event.agent}`), what, event.isWrong ? span("tag wrong", "wrong") : null, event.doubt ? span("tag wrong", "doesn't agree") : null);
 }
 export const events = new List($("events"), ROW, {
   count: listLength,
@@ -71,7 +73,7 @@ function showKinds() {
   const place = run.locations.get(filter.place);
   $("kinds").replaceChildren(...Object.keys(LABELS).filter(isThere).map(kind => {
     const title = `${LABELS[kind]}: ${grouped(countOf(kind))}`;
-    return chip("", title, filter.kind === kind, press(kind), kind === "all" ? "All" : kind === "wrong" ? "Wrong" : kind === "unput" ? "On nothing put" : glyph(kind), make("b", {}, grouped(countOf(kind))));
+    return chip("", title, filter.kind === kind, press(kind), kind === "all" ? "All" : kind === "wrong" ? "Wrong" : kind === "doubt" ? "Doubtful" : kind === "unput" ? "On nothing put" : glyph(kind), make("b", {}, grouped(countOf(kind))));
   }), filter.cause ? off(filter.cause, { cause: null }) : "", place ? off(place.label, { place: null }) : "");
 }
 // The chosen location, to the values of which the search can be limited.

@@ -5,7 +5,6 @@ export class Fault extends Error {}
 
 // A line in which a digit might be lost, or a number might stand that is no whole one; all others go to JSON.parse.
 const DELICATE = /\d{16}|\d[.eE]|-0/;
-const STRING = /"(?:[^"\\\u0000-\u001f]|\\.)*"/y;
 const NUMBER = /-?(?:0|[1-9]\d*)(?![\d.eE])/y;
 const WORDS = { n: ["null", null], t: ["true", true], f: ["false", false] };
 const MOST_NESTING = 127;
@@ -21,6 +20,12 @@ export function readJson(text) {
   return new Reader(text).whole();
 }
 
+// Whether an odd number of backslashes is before the place.
+function isEscaped(text, at) {
+  let from = at;
+  while (text[from - 1] === "\\") from--;
+  return (at - from) % 2 === 1;
+}
 class Reader {
   constructor(text) {
     this.text = text;
@@ -66,12 +71,15 @@ class Reader {
     return value;
   }
   string() {
-    const from = this.at;
-    const found = this.match(STRING, "a text without an end");
+    const from = this.at, { text } = this;
+    let end = text.indexOf('"', from + 1);
+    while (end > 0 && isEscaped(text, end)) end = text.indexOf('"', end + 1);
+    if (end < 0) this.fail("a text without an end");
     try {
-      return JSON.parse(found);
+      const found = JSON.parse(text.slice(from, end + 1));
+      this.at = end + 1;
+      return found;
     } catch {
-      this.at = from;
       return this.fail("a text with a wrong escape");
     }
   }

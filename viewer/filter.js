@@ -1,18 +1,19 @@
 // Which events are listed: by kind, agent, location, cause and words.
 import { unputIn } from "./chains.js";
 import { answerText } from "./nodes.js";
+import { isBad } from "./run.js";
 import { shown } from "./shown.js";
-import { elementText, firstFrom, keyOf, valueText } from "./terms.js";
+import { elementText, firstFrom, keyOf, valueText, withoutIsolates } from "./terms.js";
 
 // `unput` are the fired moves that rest on what was not yet put.
-export const LABELS = { all: "All events", fired: "Moves", read: "Reads", stale: "Stale fires", clash: "Clashes", full: "Full", wrong: "Wrong answers", unput: "Moves that rest on what was not yet put" };
+export const LABELS = { all: "All events", fired: "Moves", read: "Reads", stale: "Stale fires", clash: "Clashes", full: "Full", wrong: "Wrong answers", doubt: "Events that don't agree with the trace", unput: "Moves that rest on what was not yet put" };
 const NONE = { kind: "all", agent: "all", place: null, cause: null, text: "" };
 export const filter = { ...NONE };
 let listed = null; // the numbers of the events in the list; null for all
 let texts = null, textsOf = null; // what is searched of each event, and at which location
 const CAUSE = /^(Two|Mixed|Kind|Both|Against|Short|Large)$/;
 
-export const wordsOf = text => text.toLowerCase().split(/\s+/).filter(Boolean);
+export const wordsOf = text => withoutIsolates(text).toLowerCase().split(/\s+/).filter(Boolean);
 export const hasAll = (text, words) => words.every(it => text.includes(it));
 export const isFiltered = () => listed !== null;
 export const listLength = () => listed ? listed.length : shown.run.events.length;
@@ -46,6 +47,8 @@ export function ofKind(kind) {
   const { run } = shown;
   if (kind === "all") return null;
   if (kind === "wrong") return run.wrong;
+  if (kind === "doubt") return run.doubted;
+  if (kind === "bad") return run.bad ??= run.events.filter(isBad).map(it => it.number);
   if (kind === "unput") return run.unput ??= run.byKind.fired.filter(it => unputIn(run.events[it]).length);
   return run.byKind[kind];
 }
@@ -76,10 +79,11 @@ function searchText(event, place) {
   const tell = (location, ...values) => isOf(location) && parts.push(...place ? [] : [location.label], ...values);
   if (!place && event.move) parts.push(`move ${event.move}`);
   if (!place && event.isWrong) parts.push("wrong");
+  if (!place && event.doubt) parts.push("doubtful");
   if (!place && (event.reply.clash || event.reply.stale)) parts.push(answerText(event.reply));
   for (const it of event.named ?? []) tell(it.location);
   event.read?.forEach((it, i) => tell(it, valueText(event.reply.values[i])));
   event.fire?.forEach((it, i) => tell(event.targets[i], it[0], it[0] === "put" ? valueText(it[2]) : elementText(it[2])));
   for (const it of event.writes ?? []) if (!it.items && isOf(it.location)) parts.push(valueText(it.value));
-  return parts.join(" ").toLowerCase();
+  return withoutIsolates(parts.join(" ")).toLowerCase();
 }

@@ -2,6 +2,7 @@
 import { madeStale } from "./chains.js";
 import { eventText } from "./event.js";
 import { $ } from "./nodes.js";
+import { isBad } from "./run.js";
 import { act, chosen, shown } from "./shown.js";
 import { AXIS, clamp, colors, Columns, GUTTER, lanesHigh, prepared, renewSight, seen, view, width, xOf, yOf, zoomAbout } from "./sight.js";
 import { drawStretches, drawStrip } from "./strip.js";
@@ -147,7 +148,7 @@ function drawEvents(pen, from, to) {
     const event = run.events[number], x = xOf(number), y = yOf(event.agent);
     if (event.kind === "fired") drawMove(pen, event, x, y, r);
     else drawMark(pen, event.kind, x, y, r);
-    if (event.isWrong) ring(pen, x, y, r + 2.6, colors.wrong, 1.8);
+    if (isBad(event)) ring(pen, x, y, r + 2.6, colors.wrong, 1.8);
     if (number === shown.count - 1) {
       pen.strokeStyle = colors.accent;
       pen.lineWidth = 2;

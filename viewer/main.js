@@ -116,7 +116,8 @@ act.speak = text => {
 
 // ---- another run
 let isFirst = true;
-act.showRun = (run, name) => {
+act.showRun = run => {
+  const { name } = run;
   const start = isFirst ? addressed(run) : { count: 0, mark: null, at: null, condition: "", filter: {} };
   isFirst = false;
   Object.assign(shown, { run, count: 0, location: null, mark: null, holds: [] });
@@ -150,10 +151,18 @@ function goTo({ count, mark, at, condition, filter }) {
 onAddress(goTo);
 function showFacts() {
   const { run } = shown, fact = (number, one, many) => span("fact", make("b", {}, grouped(number)), ` ${number === 1 ? one : many ?? `${one}s`}`);
-  const legal = !run.wrong.length ? span("fact legal", run.events.length === run.told ? "legal" : "legal so far")
-    : make("button", { class: "fact illegal", type: "button", title: "Go to the first wrong answer", onclick: () => act.choose(run.wrong[0] + 1) }, `not legal: ${plural(run.wrong.length, "wrong answer")}, the first at event ${run.events[run.wrong[0]].ordinal}`);
   const place = run.part === null ? "" : span("fact", `part ${grouped(run.part)} from event ${grouped(run.from)} on`);
-  $("facts").replaceChildren(place, fact(run.agents, "agent"), fact(run.events.length, "event"), fact(run.moves.length, "move"), fact(run.sorted.length, "location"), legal);
+  $("facts").replaceChildren(place, fact(run.agents, "agent"), fact(run.events.length, "event"), fact(run.moves.length, "move"), fact(run.sorted.length, "location"), ...verdict(run));
+}
+// Whether the run is legal, and who has checked that; the page has checked every trace.
+const CHECKERS = { asm_driver: "asm_driver", folugben: "libfolugben" };
+function verdict(run) {
+  const to = (list, text, title) => make("button", { class: "fact illegal", type: "button", title, onclick: () => act.choose(list[0] + 1) }, `${text}, the first at event ${run.events[list[0]].ordinal}`);
+  if (run.doubted.length) return [to(run.doubted, `doesn't agree with itself: ${plural(run.doubted.length, "event")}`, "Go to the first event that doesn't agree with the trace")];
+  if (run.wrong.length) return [to(run.wrong, `not legal: ${plural(run.wrong.length, "wrong answer")}`, "Go to the first wrong answer")];
+  const by = Object.hasOwn(CHECKERS, run.by) ? CHECKERS[run.by] : null, word = run.events.length === run.told ? "legal" : "legal so far";
+  return by ? [make("span", { class: "fact legal", title: `The trace was made of a journal by ${by}, which has checked each answer.` }, `${word}, checked by ${by}`)]
+    : [make("span", { class: "fact legal", title: "Each answer agrees with the state that the trace's changes leave. This page alone has checked that: a proved check reads the journal." }, `${word}, checked by this page`)];
 }
 
 new ResizeObserver(() => {
@@ -165,4 +174,4 @@ new ResizeObserver(() => {
 
 paint();
 const embedded = $("trace").textContent;
-if (embedded.trim()) openTrace(embedded.replace(/^\n/, ""), $("trace").dataset.name || "a run");
+if (embedded.trim()) openTrace(embedded.replace(/^\n/, ""), $("trace").dataset.name || "a run", $("trace").dataset.by);

@@ -1,5 +1,5 @@
 // Nodes of the page for values, locations and changes. Whatever a trace holds is put in as text, never as markup.
-import { itemsOf } from "./run.js";
+import { itemsOf } from "./content.js";
 import { act, shown } from "./shown.js";
 import { afterMoves, byElement, cut, elementText, grouped, isBag, isNumber, isSet, keyOf, locationText, plural, sharedLength, shortText } from "./terms.js";
 
@@ -47,21 +47,28 @@ export function glyph(kind, isWrong = false) {
 
 // An element, of which a long text or list tells its beginning; `from` is the letter at which a text begins to matter.
 const MOST_TEXT = 160, MOST_LIST = 40;
-export function elementNode(x, from = 0) {
+export function elementNode(x, from = 0, room = { left: MOST_LIST }) {
   if (x === null) return span("undef", "undef");
   if (isNumber(x)) return span("number", String(x));
   if (typeof x === "string" && x.length > MOST_TEXT) return longText(x, from < MOST_TEXT - 20 ? 0 : from - 20, MOST_TEXT);
   if (typeof x !== "object") return span(typeof x === "string" ? "text" : "word", elementText(x));
-  return listNode(x.list, MOST_LIST);
+  return listNode(x.list, room);
 }
 function longText(text, start, most) {
   const piece = cut(text, start, start + most), left = text.length - piece.length;
   const rest = left ? restNode("long", `${grouped(left)} more letters`, () => longText(text, 0, start + most + MORE)) : null;
   return span("long text", start ? "…" : "", elementText(piece), left ? [start + most < text.length ? "… " : " ", rest] : null);
 }
-function listNode(list, most) {
-  const items = list.slice(0, most).flatMap((it, i) => i ? [span("mark", ", "), elementNode(it)] : [elementNode(it)]), left = list.length - most;
-  return span("long", span("mark", "["), items, left > 0 ? [" ", restNode("long", `${grouped(left)} more`, () => listNode(list, most + MORE))] : null, span("mark", "]"));
+// A list with the lists in it tells as many elements as there is room for.
+function listNode(list, room) {
+  const items = [], most = room.left;
+  for (const it of list) {
+    if (room.left <= 0) break;
+    room.left--;
+    items.push(...items.length ? [span("mark", ", ")] : [], elementNode(it, 0, room));
+  }
+  const left = list.length - Math.ceil(items.length / 2);
+  return span("long", span("mark", "["), items, left > 0 ? [" ", restNode("long", `${grouped(left)} more`, () => listNode(list, { left: Math.max(0, most) + MORE }))] : null, span("mark", "]"));
 }
 export function locationNode(location) {
   return button("location", `All writes of ${location.label}`, () => act.chooseLocation(location), location.label);

@@ -4,9 +4,11 @@ import { $ } from "./nodes.js";
 import { play } from "./play.js";
 import { readRun } from "./run.js";
 import { act, shown } from "./shown.js";
+import { plainText } from "./terms.js";
 
 let opening = 0;
-export async function openTrace(source, name) {
+export async function openTrace(source, fileName, by = "") {
+  const name = plainText(fileName);
   const turn = ++opening;
   play(false);
   shown.run = null;
@@ -20,7 +22,7 @@ export async function openTrace(source, name) {
     const run = await readRun(source, part => {
       $("busy").value = part;
     });
-    if (turn === opening) act.showRun(run, name);
+    if (turn === opening) act.showRun(Object.assign(run, { name, by }));
   } catch (fault) {
     if (turn === opening) refuse(fault instanceof Fault ? fault.message : `${name} could not be read: ${fault.message}`, name);
   }

@@ -1,70 +1,32 @@
 // The run that a trace tells: its events, its locations, and the value of each at any move.
+import { Content } from "./content.js";
 import { Fault, readJson } from "./exact.js";
+import { doubtOf, isDone } from "./judge.js";
 import { checkEvent, checkHeader } from "./shape.js";
-import { byElement, byLocation, firstFrom, isBag, isSet, keyOf, locationText } from "./terms.js";
+import { byElement, byLocation, firstFrom, isSame, keyOf, locationText } from "./terms.js";
 
 export const KINDS = ["read", "fired", "stale", "clash", "full"];
 export const kindOf = reply => reply === "full" ? "full" : KINDS.find(it => it in reply) ?? "read";
 
+// Whether the event's answer is wrong, or something in it doesn't agree with the trace.
+export const isBad = event => event.isWrong || !!event.doubt;
+
 // So many items may be told as changes after a whole value, however small that is.
 const FEW = 64;
-
-// What a location holds, where a set or a bag is a map from keys to an element with its count.
-class Content {
-  constructor(value) {
-    this.kind = isSet(value) ? "set" : isBag(value) ? "bag" : "element";
-    this.value = value;
-    if (this.kind !== "element") this.items = new Map(itemsOf(value).map(it => [keyOf(it[0]), it]));
-  }
-  get size() {
-    return this.items ? this.items.size : 1;
-  }
-  countOf(element) {
-    return this.items.get(keyOf(element))?.[1] ?? 0;
-  }
-  put(element, count) {
-    const key = keyOf(element);
-    this.items.delete(key);
-    if (count) this.items.set(key, [element, count]);
-  }
-  whole() {
-    if (this.kind === "element") return this.value;
-    const items = [...this.items.values()].sort((a, b) => byElement(a[0], b[0]));
-    return this.kind === "set" ? { set: items.map(it => it[0]) } : { bag: items };
-  }
-  equals(value) {
-    const other = new Content(value);
-    if (this.kind !== other.kind || this.size !== other.size) return false;
-    if (this.kind === "element") return keyOf(this.value) === keyOf(value);
-    return itemsOf(value).every(([element, count]) => this.countOf(element) === count);
-  }
-  // Makes a change, each item of which is an element with its counts before and after.
-  follow(items) {
-    for (const [element, , now] of items) this.put(element, now);
-  }
-}
-export const itemsOf = value => isSet(value) ? value.set.map(it => [it, 1]) : value.bag;
-
-// What two values of sets or of bags hold a different number of times, each with its count in both; null where they are no such two.
-export function itemsApart(a, b) {
-  if (!(isSet(a) && isSet(b)) && !(isBag(a) && isBag(b))) return null;
-  const was = new Content(a), now = new Content(b), out = [];
-  for (const [element, count] of itemsOf(a)) if (now.countOf(element) !== count) out.push([element, count, now.countOf(element)]);
-  for (const [element, count] of itemsOf(b)) if (!was.countOf(element)) out.push([element, 0, count]);
-  return out.sort((x, y) => byElement(x[0], y[0]));
-}
 
 class Place {
   constructor(at) {
     this.at = at;
     this.key = keyOf(at);
-    this.label = locationText(at);
     this.opening = null;
     this.times = []; // the events that write it, and what each of them writes
     this.writes = [];
     this.content = new Content(null); // while the trace is read
     this.debt = 0;
     this.last = { index: -1, value: null }; // the value that was made last
+  }
+  get label() {
+    return this.text ??= locationText(this.at);
   }
   // Takes in a change of the trace; false where it isn't one of what the location holds.
   take(write, told) {
@@ -168,14 +130,22 @@ export class Run {
       const at = answer.stale ?? answer.clash?.[0];
       if (at) this.location(at);
     }
-    if (event.kind === "fired") this.fire(event, line.updates);
+    this.judge(event, line.updates);
     this.events.push(event);
+  }
+  // Takes in what the event changes; `doubt` is what doesn't agree with what the trace has so far.
+  judge(event, updates) {
+    const doubt = doubtOf(event, this);
+    if (event.kind === "fired") this.fire(event, updates);
+    if (doubt) event.doubt = doubt;
+    else if (event.kind === "fired" && !isDone(event)) event.doubt = { isChange: true };
+    delete event.effects;
   }
   fire(event, updates) {
     this.moves.push(event.number);
     event.move = this.movesBefore + this.moves.length;
     event.writes = updates.map(([at, ...told]) => {
-      const location = this.location(at), write = { event: event.number, move: event.move, agent: event.agent, location, index: location.writes.length };
+      const location = event.targets.find(it => isSame(it.at, at)) ?? this.location(at), write = { event: event.number, move: event.move, agent: event.agent, location, index: location.writes.length };
       if (!location.take(write, told)) throw new Fault(`its change at ${location.label} isn't one of the value that stands there`);
       return write;
     });
@@ -186,10 +156,12 @@ export class Run {
     this.byAgent = Array.from({ length: this.agents }, () => []);
     this.byKind = Object.fromEntries(KINDS.map(kind => [kind, []]));
     this.wrong = [];
+    this.doubted = [];
     for (const it of this.events) {
       this.byAgent[it.agent].push(it.number);
       this.byKind[it.kind].push(it.number);
       if (it.isWrong) this.wrong.push(it.number);
+      if (it.doubt) this.doubted.push(it.number);
     }
     return this;
   }

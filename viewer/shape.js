@@ -1,6 +1,6 @@
 // The forms of a trace, by the page on formats: what a line has to be, and in words why it isn't.
 import { Fault } from "./exact.js";
-import { byElement, byLocation } from "./terms.js";
+import { byElement, byLocation, shortText } from "./terms.js";
 
 const NAME = /^[A-Za-z_][A-Za-z0-9_]{0,63}$/;
 const MOST = { agents: 256, capacity: 2 ** 20, number: 2 ** 32 - 1, reads: 256, fire: 4096, arguments: 8, items: 4096, depth: 8 };
@@ -37,10 +37,11 @@ function checkWindow({ from, moves, part, events }) {
   need(isWithin(moves, 0, from), "`moves` isn't a whole number up to `from`");
 }
 
+const EVENT = ["agent", "call", "event", "reply"], MEMBERS = [EVENT, [...EVENT, "right"], [...EVENT, "updates"], [...EVENT, "right", "updates"]];
 export function checkEvent(line, number, agents) {
   need(isObject(line), "it is no event");
-  need(line.event === number, `its \`event\` isn't ${number}`);
-  need(isWithin(line.agent, 0, agents - 1), `its \`agent\` isn't one of the ${agents} of the header, which are counted from 0`);
+  if (line.event !== number) throw new Fault(`its \`event\` isn't ${number}`);
+  if (!isWithin(line.agent, 0, agents - 1)) throw new Fault(`its \`agent\` isn't one of the ${agents} of the header, which are counted from 0`);
   checkCall(line.call);
   checkReply(line.call, line.reply, "`reply`");
   if ("right" in line) checkReply(line.call, line.right, "`right`");
@@ -48,22 +49,22 @@ export function checkEvent(line, number, agents) {
   need(isFired === "updates" in line, isFired ? "it is fired and has no `updates`" : "it isn't fired and has `updates`");
   if (isFired) {
     listOf(line.updates, MOST.fire, checkChange, "`updates`");
-    ascending(line.updates.map(it => it[0]), byLocation, "the locations of `updates`");
+    if (line.updates.length > 1) ascending(line.updates.map(it => it[0]), byLocation, "the locations of `updates`");
   }
-  members(line, ["agent", "call", "event", "reply", ...["right", "updates"].filter(it => it in line)], "it");
+  members(line, MEMBERS[("right" in line ? 1 : 0) + (isFired ? 2 : 0)], "it");
 }
 
 function members(object, names, what) {
-  for (const name of names) need(name in object, `${what} has no \`${name}\``);
-  for (const name in object) need(names.includes(name), `${what} has a further member \`${name}\``);
+  for (const name of names) if (!(name in object)) throw new Fault(`${what} has no \`${name}\``);
+  for (const name in object) if (!names.includes(name)) throw new Fault(`${what} has a further member ${shortText(name)}`);
 }
 function listOf(list, most, check, what) {
-  need(Array.isArray(list), `${what} is no list`);
-  need(list.length <= most, `${what} has more than ${most} items`);
+  if (!Array.isArray(list)) throw new Fault(`${what} is no list`);
+  if (list.length > most) throw new Fault(`${what} has more than ${most} items`);
   list.forEach(check);
 }
 function ascending(list, by, what) {
-  for (let i = 1; i < list.length; i++) need(by(list[i - 1], list[i]) < 0, `${what} aren't in ascending order`);
+  for (let i = 1; i < list.length; i++) if (by(list[i - 1], list[i]) >= 0) throw new Fault(`${what} aren't in ascending order`);
 }
 
 function checkCall(call) {
@@ -84,9 +85,10 @@ function checkReply(call, reply, what) {
   if ("read" in call) {
     need(isObject(reply) && "number" in reply && "values" in reply, `${what} isn't one of a read`);
     members(reply, ["number", "values"], what);
-    need(isWithin(reply.number, 0, MOST.number), `${what} has no number`);
+    need(isWithin(reply.number, 0, MOST.number), "a read is answered without a number");
     listOf(reply.values, MOST.reads, checkValue, `the values of ${what}`);
-    return need(reply.values.length === call.read.length, `${what} has ${reply.values.length} values for ${call.read.length} locations`);
+    if (reply.values.length === call.read.length) return;
+    throw new Fault(`${what} has ${reply.values.length} values for ${call.read.length} locations`);
   }
   if (reply === "full") return;
   if (isOnly(reply, "fired")) return need(isWithin(reply.fired, 0, MOST.number), `${what} has no number`);
@@ -96,9 +98,9 @@ function checkReply(call, reply, what) {
   need(CAUSES.includes(reply.clash[1]), `${what} has no cause of a clash`);
 }
 function checkInstruction(it) {
-  need(Array.isArray(it) && Object.hasOwn(INSTRUCTIONS, it[0]), "an instruction begins with none of put, add, remove, bagadd, bagremove and inc");
+  need(Array.isArray(it) && typeof it[0] === "string" && Object.hasOwn(INSTRUCTIONS, it[0]), "an instruction begins with none of put, add, remove, bagadd, bagremove and inc");
   const [count, check] = INSTRUCTIONS[it[0]];
-  need(it.length === count, `an instruction \`${it[0]}\` has ${it.length} members and not ${count}`);
+  if (it.length !== count) throw new Fault(`an instruction \`${it[0]}\` has ${it.length} members and not ${count}`);
   checkLocation(it[1]);
   check(it[2]);
   if (count === 4) checkCount(it[3], 1);

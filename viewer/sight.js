@@ -1,6 +1,6 @@
 // What of a run is in sight in the pictures of time, and how they are drawn: sizes, colors, shares.
 import { $ } from "./nodes.js";
-import { KINDS } from "./run.js";
+import { isBad, KINDS } from "./run.js";
 import { chosen, shown } from "./shown.js";
 
 export const GUTTER = 72, AXIS = 22;
@@ -80,7 +80,7 @@ export class Columns {
   put(column, event) {
     const at = column * (WRONG + 1);
     this.counts[at + SLOT[event.kind]]++;
-    if (event.isWrong) this.counts[at + WRONG]++;
+    if (isBad(event)) this.counts[at + WRONG]++;
   }
   // Draws the shares of the kinds upon each other; a small one is still seen.
   draw(pen, column, x, top, wide, high) {

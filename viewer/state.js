@@ -2,9 +2,9 @@
 import { hasAll, wordsOf } from "./filter.js";
 import { List, ROW } from "./lists.js";
 import { $, beginningText, changeNode, locationNode, make, moveLink, valueNode } from "./nodes.js";
-import { itemsApart } from "./run.js";
+import { itemsApart } from "./content.js";
 import { act, chosen, shown } from "./shown.js";
-import { grouped, keyOf, valueText } from "./terms.js";
+import { grouped, keyOf, valueText, withoutIsolates } from "./terms.js";
 
 let rows = []; // the locations in the list
 let marks = new Map(); // those with which the chosen event has to do
@@ -19,7 +19,7 @@ function findRows() {
     put: it => it.isPutIn(count), held: it => !run.isUndefAt(it, count), all: () => true,
   }[words.length ? "all" : which];
   const isShown = isComparing() ? isDifferent : it => isHere(it) || marks.has(it) || it === location;
-  rows = run.sorted.filter(it => (!words.length || hasAll(it.label.toLowerCase(), words)) && isShown(it));
+  rows = run.sorted.filter(it => (!words.length || hasAll(withoutIsolates(it.label).toLowerCase(), words)) && isShown(it));
 }
 function findMarks() {
   const event = isComparing() ? null : chosen(), answer = event?.right ?? event?.reply;

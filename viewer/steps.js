@@ -1,6 +1,6 @@
 // The ways from the chosen event to another one, and the keys for them. Those along events keep to the events that are listed.
 import { ownReads, retryOf, tryBefore } from "./chains.js";
-import { isFiltered, listItem, listLength, nextListed, nextOf } from "./filter.js";
+import { isFiltered, listItem, listLength, nextListed, nextOf, ofKind } from "./filter.js";
 import { fit, zoom } from "./lanes.js";
 import { $ } from "./nodes.js";
 import { isPlaying, play } from "./play.js";
@@ -99,7 +99,7 @@ function escape() {
 }
 const keys = {
   ArrowLeft: by => by > 0 ? acts.back() : jumpMove(-1), ArrowRight: by => by > 0 ? acts.on() : jumpMove(1), Home: acts.first, End: acts.last,
-  c: by => jump(shown.run.byKind.clash, by, "clash"), s: by => jump(shown.run.byKind.stale, by, "stale fire"), w: by => jump(shown.run.wrong, by, "wrong answer"),
+  c: by => jump(shown.run.byKind.clash, by, "clash"), s: by => jump(shown.run.byKind.stale, by, "stale fire"), w: by => jump(ofKind("bad"), by, "wrong or doubtful answer"),
   a: jumpOfAgent, z: jumpToEndOfAgent, r: () => follow(lastRead, "read of its own"), t: by => by > 0 ? follow(retryOf, "later try") : follow(tryBefore, "earlier try"),
   n: goToHold, v: () => find("watch"), m: () => act.mark(shown.mark === null ? shown.count : null), x: () => act.list({}), l: foldLanes,
   "[": acts["write-back"], "]": acts["write-on"], "/": () => find("state-find"), e: () => find("events-find"), g: () => find("move"),

@@ -27,6 +27,7 @@ function shares() {
   const { run } = shown, all = run.events.length;
   const lines = Object.keys(NAMES).map(kind => ({ count: run.byKind[kind].length, label: [glyph(kind), ` ${NAMES[kind]}`], asked: { kind } }));
   if (run.wrong.length) lines.push({ count: run.wrong.length, label: [glyph("read", true), " Wrong answers"], asked: { kind: "wrong" } });
+  if (run.doubted.length) lines.push({ count: run.doubted.length, label: [glyph("read", true), " Doubtful"], asked: { kind: "doubt" } });
   return linesBlock("Answers", lines.filter(it => it.count), all);
 }
 
@@ -87,15 +88,16 @@ function linesBlock(title, lines, all, note = null, most = MOST_LINES) {
   return out;
 }
 function lineNode({ count, label, more = null, asked }, all) {
-  const press = button("tally", "List these events", () => act.list(asked),
-    span("tally-name", label), span(`share ${asked.kind}`, make("i", { style: `width:${Math.max(1.5, 100 * count / Math.max(1, all)).toFixed(1)}%` })), span("tally-count", make("b", {}, grouped(count)), more));
-  return make("li", {}, press);
+  const bar = make("i");
+  bar.style.width = `${Math.max(1.5, 100 * count / Math.max(1, all)).toFixed(1)}%`;
+  return make("li", {}, button("tally", "List these events", () => act.list(asked),
+    span("tally-name", label), span(`share ${asked.kind}`, bar), span("tally-count", make("b", {}, grouped(count)), more)));
 }
 // What the marks in the lanes are.
 export function marksNode() {
   const { run } = shown, names = { fired: "fired move", read: "read", stale: "stale fire", clash: "clash", full: "full" };
   const kinds = Object.keys(names).filter(it => run.byKind[it].length).map(it => span("", glyph(it), names[it]));
-  return block("Marks in the lanes", make("div", { class: "legend" }, kinds, run.wrong.length ? span("", glyph("fired", true), "wrong answer") : null,
+  return block("Marks in the lanes", make("div", { class: "legend" }, kinds, run.wrong.length || run.doubted.length ? span("", glyph("fired", true), "wrong or doubtful") : null,
     span("", span("dash"), "writes the chosen location"), span("", span("dash holds"), "the condition holds"),
     span("", span("dash stale"), "from the move that made it stale"), span("", span("dash ground"), "from what it rests on")));
 }

@@ -15,6 +15,21 @@ function exactKey(x) {
   return JSON.stringify(x);
 }
 
+// The key of an element in a map: a number is its own.
+export const itemKey = x => typeof x === "number" ? x : keyOf(x);
+// Whether two elements, values, locations or answers are one.
+export function isSame(a, b) {
+  if (a === b) return true;
+  if (typeof a !== "object" || typeof b !== "object" || !a || !b) return false;
+  if (Array.isArray(a)) {
+    if (!Array.isArray(b) || a.length !== b.length) return false;
+    for (let i = 0; i < a.length; i++) if (!isSame(a[i], b[i])) return false;
+    return true;
+  }
+  const keys = Object.keys(a);
+  return keys.length === Object.keys(b).length && keys.every(it => Object.hasOwn(b, it) && isSame(a[it], b[it]));
+}
+
 export const isSet = v => v !== null && typeof v === "object" && "set" in v;
 export const isBag = v => v !== null && typeof v === "object" && "bag" in v;
 export const isNumber = v => typeof v === "number" || typeof v === "bigint";
@@ -52,9 +67,21 @@ function byItems(a, b, from) {
 }
 export const byLocation = (a, b) => byText(a[0], b[0]) || byItems(a, b, 1);
 
-// What can't be seen, or turns the direction of writing.
-const UNSEEN = /[\u007f-\u009f\u00ad\u200b-\u200f\u2028-\u202e\u2060-\u206f\ufeff]/g;
-const quoted = text => JSON.stringify(text).replace(UNSEEN, it => `\\u${it.charCodeAt(0).toString(16).padStart(4, "0")}`);
+// What can't be seen, looks like a space, or turns the direction of writing is written as JSON escapes it.
+const UNSEEN = /(?! )[\p{Cc}\p{Cf}\p{Cs}\p{Z}\p{Default_Ignorable_Code_Point}\u2800]/gu;
+// Letters that are written from right to left, with their digits and marks.
+const FROM_RIGHT = /[\u0590-\u08ff\ufb1d-\ufdff\ufe70-\ufeff\u{10800}-\u{10fff}\u{1e800}-\u{1efff}]/u;
+const escaped = it => Array.from({ length: it.length }, (_, i) => `\\u${it.charCodeAt(i).toString(16).padStart(4, "0")}`).join("");
+// A text that others stand beside: a first strong isolate keeps its direction within it.
+const alone = text => FROM_RIGHT.test(text) ? `\u2068${text}\u2069` : text;
+export const withoutIsolates = text => text.replace(/[\u2068\u2069]/g, "");
+const PLAIN = /^[ -~]*$/;
+function quoted(text) {
+  const told = JSON.stringify(text);
+  return PLAIN.test(told) ? told : alone(told.replace(UNSEEN, escaped));
+}
+// A text that comes from outside and is no value, such as a file's name.
+export const plainText = text => alone(text.replace(UNSEEN, escaped));
 export function elementText(x) {
   if (x === null) return "undef";
   if (typeof x === "string") return quoted(x);

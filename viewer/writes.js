@@ -1,6 +1,7 @@
 // The writes of one location.
 import { List, ROW } from "./lists.js";
 import { $, changeNode, glyph, make, span, valueNode } from "./nodes.js";
+import { isBad } from "./run.js";
 import { act, shown } from "./shown.js";
 import { firstFrom, plural } from "./terms.js";
 
@@ -21,7 +22,7 @@ function writeRow(i) {
   const kind = `row write ${isNow ? "now" : ""} ${i > now ? "later" : ""}`, told = { role: "option", "aria-selected": String(isNow), "aria-posinset": i + 1, "aria-setsize": items.length + 1 };
   return make("div", { class: kind, id: `write-${i}`, ...told, onclick: () => act.choose(i ? item.event + 1 : 0, { isPressed: true }) },
     span("", !i ? (shown.run.from ? "before" : "opening") : item.write ? `move ${item.write.move}` : `event ${event.ordinal}`), span("", i ? `agent ${event.agent}` : ""),
-    span("", !i ? valueNode(shown.location.opening, 8) : item.write ? changeNode(item.write, 5, true) : [glyph(event.kind, event.isWrong), ` ${HOW[item.how]}`]));
+    span("", !i ? valueNode(shown.location.opening, 8) : item.write ? changeNode(item.write, 5, true) : [glyph(event.kind, isBad(event)), ` ${HOW[item.how]}`]));
 }
 export const writes = new List($("writes"), ROW, {
   count: () => items.length + 1,

@@ -1,7 +1,8 @@
 // A wrong answer beside the right one, and in what they differ.
-import { kindOf, itemsApart } from "./run.js";
+import { itemsApart } from "./content.js";
+import { kindOf } from "./run.js";
 import { answerText, glyph, itemNode, locationNode, make, span, times, valueNode } from "./nodes.js";
-import { afterMoves, isBag, keyOf } from "./terms.js";
+import { afterMoves, isBag, isSame } from "./terms.js";
 
 const MOST_APART = 12, MOST_PLACES = 8;
 
@@ -16,14 +17,23 @@ export function wrongNote(event) {
 function side(kind, title, event, answer, other) {
   const head = make("h3", {}, title);
   if (!event.read) return make("div", { class: `side ${kind}` }, head, glyph(kindOf(answer)), ` ${answerText(answer)}`);
-  const places = event.read.map((_, i) => i).filter(i => isOther(event, i)), left = places.length - MOST_PLACES;
+  const places = event.read.map((_, i) => i).filter(i => !isSame(answer.values[i], other.values[i])), left = places.length - MOST_PLACES;
   return make("div", { class: `side ${kind}` }, head,
     answer.number === other.number ? null : make("p", {}, glyph("read"), ` read ${afterMoves(answer.number)}`),
     places.slice(0, MOST_PLACES).map(i => make("p", {}, locationNode(event.read[i]), " ", apartNode(answer.values[i], other.values[i]))),
     left > 0 ? make("p", { class: "soft" }, `and at ${left} more locations`) : null);
 }
+// What of the event doesn't agree with the rest of the trace, whatever that says of it.
+export function doubtNote(event) {
+  const { right, isRepeated } = event.doubt;
+  const why = isRepeated ? "The trace calls this answer wrong, and gives the same one as the right one."
+    : right === undefined ? "The changes that the trace has here aren't those of the instructions." : null;
+  return make("div", { class: "note wrong" },
+    make("p", {}, make("b", {}, "This event doesn't agree with the trace that it is in."), " The trace is made up or damaged, so nothing behind this event can be relied on."),
+    why ? make("p", {}, why) : make("div", { class: "sides" }, side("told", "In the trace", event, event.right ?? event.reply, right), side("right", "By its own state", event, right, event.right ?? event.reply)));
+}
 // Whether the right value of the location with this index is another one than that of the journal.
-export const isOther = (event, i) => event.isWrong && keyOf(event.reply.values[i]) !== keyOf(event.right.values[i]);
+export const isOther = (event, i) => event.isWrong && !isSame(event.reply.values[i], event.right.values[i]);
 
 // What one of two values has and the other hasn't: of sets and bags the items, else the value.
 export function apartNode(value, other) {

@@ -1,5 +1,9 @@
 """The page in headless Chromium, and what a person does with it."""
 
+import atexit
+import shutil
+import subprocess
+import tempfile
 import time
 from pathlib import Path
 from typing import Any
@@ -12,7 +16,11 @@ from selenium.webdriver.common.keys import Keys
 from selenium.webdriver.remote.webelement import WebElement
 from selenium.webdriver.support.ui import Select
 
-PAGE = Path(__file__).resolve().parents[1] / "index.html"
+ROOT = Path(__file__).resolve().parents[2]
+# The page as it is joined for these tries.
+PAGE = Path(tempfile.mkdtemp()) / "index.html"
+subprocess.run([ROOT / "viewer" / "join", PAGE], check=True)
+atexit.register(shutil.rmtree, PAGE.parent)
 # The live region is spoken, and the address is set, this long after a choice.
 REST = 0.3
 
