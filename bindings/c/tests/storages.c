@@ -175,6 +175,7 @@ static void each_call(void) {
             ASM_CLASH);
     REQUIRE(asm_learn(&agents[1], &agents[0]) == ASM_DONE);
     REQUIRE(asm_follow(&agents[1], &number) == ASM_DONE && number == 0);
+    ANSWERS(ASM_DONE, asm_stands(&agents[1], TEXT("[[['x'],0]]"), OUT));
     holds(0);
     fire(&agents[0], "[['put',['x'],5]]");
     holds(1);

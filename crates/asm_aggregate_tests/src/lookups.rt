@@ -6,7 +6,7 @@ use crate::compositions::{compose_of, steps};
 use crate::plain_data::Act::{Add, BagAdd, BagRemove};
 use crate::plain_data::Old::{Bag, Num, Set, Undef};
 use crate::plain_data::{do_at, set_at, write_at};
-use asm_aggregate::{ComposeError, admit, aggregate, standard};
+use asm_aggregate::{ComposeError, admit, aggregate, results, standard};
 use asm_element::{Element, Location, Value};
 use asm_update::{Action, AggError, Instruction, Instructions, Lookup, PlainState, UpdateSet};
 use std::alloc::{AllocError, Global};
@@ -72,6 +72,20 @@ fn aggregate_on(
     Ok((lookup.asked.get(), has_updates))
 }
 
+/// The same of its results beside its own locations.
+fn results_on(
+    alloc: Global,
+    lookup: Noting,
+    list: &Instructions,
+) -> Result<(u64, bool), AllocError> {
+    let has_results = match results(alloc, &standard(), &lookup, list) {
+        Ok(_results) => true,
+        Err(AggError::Clash(_clash)) => false,
+        Err(AggError::Memory) => return Err(AllocError),
+    };
+    Ok((lookup.asked.get(), has_results))
+}
+
 /// What the look-up is asked for until the move is admitted or not, and which of the two it is.
 fn admit_on(alloc: Global, lookup: Noting, list: &Instructions) -> Result<(u64, bool), AllocError> {
     let is_admitted = match admit(alloc, &standard(), &lookup, list) {
@@ -82,12 +96,13 @@ fn admit_on(alloc: Global, lookup: Noting, list: &Instructions) -> Result<(u64, 
     Ok((lookup.asked.get(), is_admitted))
 }
 
-/// Whether an aggregation and an admission of the move each ask for this, and find that it fires
+/// Whether an aggregation, a list of results and an admission of the move each ask for this, and find that it fires
 /// or clashes.
 fn asks(alloc: Global, list: &Instructions, asked: u64, fires: bool) -> Result<bool, Fail> {
     let aggregated = aggregate_on(alloc, noting_two_bags(alloc)?, list)?;
+    let listed = results_on(alloc, noting_two_bags(alloc)?, list)?;
     let admitted = admit_on(alloc, noting_two_bags(alloc)?, list)?;
-    Ok(aggregated == (asked, fires) && admitted == (asked, fires))
+    Ok(aggregated == (asked, fires) && listed == (asked, fires) && admitted == (asked, fires))
 }
 
 /// A move, what the look-up is asked for where b and c are empty bags, and whether the move fires there.

@@ -33,13 +33,14 @@ fn capacities_out_of_range_are_refused(rt: HostRuntime) -> Result<(), Fail> {
     Ok(())
 }
 
-/// Whether so many agents are made, the last of which has the last of the numbers from 0 up. `AllocError` comes only where
-/// memory was refused.
+/// Whether so many agents are made, the last of which has the last of the numbers from 0 up, and no move. `AllocError` comes
+/// only where memory was refused.
 fn are_made(alloc: Global, storage: &Storage<Standard>, n: u32) -> Result<bool, AllocError> {
     match storage.agents(alloc, n) {
         Ok(agents) => {
             let last = agents.as_slice().last().map_or(0, |agent| agent.id());
-            Ok(agents.len() == n as usize && last == n.saturating_sub(1))
+            let are_numbered = agents.len() == n as usize && last == n.saturating_sub(1);
+            Ok(are_numbered && storage.moves() == 0)
         }
         Err(AgentsError::BadAgents) => Ok(false),
         Err(AgentsError::Memory) => Err(AllocError),
