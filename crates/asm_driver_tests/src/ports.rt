@@ -101,12 +101,6 @@ const NOT_JSON: Ending = Ending {
     text: "bad script: not JSON\n",
 };
 
-const NO_JOURNAL: Ending = Ending {
-    status: 2,
-    given: 16_777_216,
-    text: "journal line 1: not JSON\n",
-};
-
 const TOO_LARGE: Ending = Ending {
     status: 2,
     given: 16_777_217,
@@ -119,7 +113,7 @@ const FAULT: Ending = Ending {
     text: "input fault\n",
 };
 
-static REFUSED: [(&[&str], (usize, Option<ErrorKind>), Ending); 12] = [
+static REFUSED: [(&[&str], (usize, Option<ErrorKind>), Ending); 8] = [
     (&["asm_driver", "run"], (16_777_216, None), NOT_JSON),
     (&["asm_driver", "run"], (16_777_217, None), TOO_LARGE),
     (&["asm_driver", "check"], (usize::MAX, None), TOO_LARGE),
@@ -128,15 +122,11 @@ static REFUSED: [(&[&str], (usize, Option<ErrorKind>), Ending); 12] = [
         (4096, Some(ErrorKind::Other)),
         FAULT,
     ),
-    (&["asm_driver", "rewrite"], (16_777_216, None), NO_JOURNAL),
-    (&["asm_driver", "rewrite"], (16_777_217, None), TOO_LARGE),
     (
         &["asm_driver", "rewrite"],
         (4096, Some(ErrorKind::Other)),
         FAULT,
     ),
-    (&["asm_driver", "trace"], (16_777_216, None), NO_JOURNAL),
-    (&["asm_driver", "trace"], (16_777_217, None), TOO_LARGE),
     (
         &["asm_driver", "trace"],
         (4096, Some(ErrorKind::Other)),
