@@ -1,8 +1,17 @@
-//! Tests of `asm_driver`, which see its public items alone, of what no case of the program shows.
+//! Tests of `asm_driver` and of what it stands on, `asm_play`, `asm_script` and `asm_step`, which see their public items alone,
+//! of what no case of the program shows.
 #![tactic(auto)]
 
 #[cfg(test)]
+mod busy_steps;
+#[cfg(test)]
+mod errors;
+#[cfg(test)]
 mod failing_outputs;
+#[cfg(test)]
+mod limits;
+#[cfg(test)]
+mod plays;
 #[cfg(test)]
 mod ports;
 #[cfg(test)]

@@ -1,5 +1,5 @@
 use Rattle.std.proofs.Common.{arith}
-use Rattle.asm_play_tests.proofs.limits.tries_have_limits.Goals as goal
+use Rattle.asm_driver_tests.proofs.limits.tries_have_limits.Goals as goal
 
 pub returns-clause-in_vain : goal.returns-clause-in_vain
 returns-clause-in_vain c own m q s places n es vain = (vain.lost, vain.counted)

@@ -1,7 +1,0 @@
-//! Tests of `asm_overlay`, which see its public items alone.
-#![tactic(auto)]
-
-#[cfg(test)]
-mod frames;
-#[cfg(test)]
-mod layers;
