@@ -93,13 +93,6 @@ fn clashes(alloc: Global) -> Result<Vec<Clash>, Fail> {
     Ok(clashes)
 }
 
-#[test]
-fn clashes_are_equal_by_location_and_cause(rt: HostRuntime) -> Result<(), Fail> {
-    let clashes = clashes(rt.alloc())?;
-    assert!(rt; clashes.len() == 4 && are_told_apart(&clashes));
-    Ok(())
-}
-
 /// An error for each clash, and refused memory.
 fn errors_of_moves(alloc: Global) -> Result<Vec<AggError>, Fail> {
     let mut errors = vec![in alloc; AggError::Memory]?;
@@ -113,6 +106,7 @@ fn errors_of_moves(alloc: Global) -> Result<Vec<AggError>, Fail> {
 fn errors_of_moves_are_equal_by_their_clash(rt: HostRuntime) -> Result<(), Fail> {
     let errors = errors_of_moves(rt.alloc())?;
     assert!(rt; errors.len() == 5 && are_told_apart(&errors));
+    assert!(rt; are_told_apart(&clashes(rt.alloc())?));
     Ok(())
 }
 

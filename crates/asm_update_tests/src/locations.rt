@@ -64,20 +64,6 @@ fn a_location_takes_at_most_eight_arguments(rt: HostRuntime) -> Result<(), Fail>
     Ok(())
 }
 
-/// Whether the location is shown as this text.
-fn is_shown(alloc: Global, name: &str, args: &[i64], text: &str) -> Result<bool, Fail> {
-    Ok(location_at(alloc, name, args)?.to_string(alloc)?.as_str() == text)
-}
-
-#[test]
-fn a_location_is_shown_with_its_arguments(rt: HostRuntime) -> Result<(), Fail> {
-    assert!(rt; is_shown(rt.alloc(), "counter", &[], "counter")?);
-    assert!(rt; is_shown(rt.alloc(), "at", &[1, -2], "at[Num(1), Num(-2)]")?);
-    let want = "at[Num(1), Num(-2), Num(3)]";
-    assert!(rt; is_shown(rt.alloc(), "at", &[1, -2, 3], want)?);
-    Ok(())
-}
-
 #[test]
 fn errors_are_equal_by_their_reason(rt: HostRuntime) {
     assert!(rt; are_told_apart(&[LocationError::BadName, LocationError::ManyArgs]));
