@@ -4,8 +4,8 @@
  * the environment's FAIL_AT is answered as where there is no memory. Where that happens, an empty file is made at the
  * path in REFUSED_MARK, so that whoever tries one number after the other knows where to end.
  *
- * Where the environment has ASKED_FOR, how many allocations were asked for, and how many bytes in all, is written to that file
- * as the program exits. */
+ * Where the environment has ASKED_FOR, how many allocations were asked for, how many bytes in all, and how many blocks were not
+ * freed is written to that file as the program exits. */
 #define _GNU_SOURCE
 #include <dlfcn.h>
 #include <errno.h>
@@ -21,11 +21,13 @@ extern void *__libc_malloc(size_t size);
 extern void *__libc_calloc(size_t count, size_t size);
 extern void *__libc_realloc(void *old, size_t size);
 extern void *__libc_memalign(size_t alignment, size_t size);
+extern void __libc_free(void *block);
 
 typedef int Main(int argc, char **argv, char **environment);
 
 static atomic_long calls;
 static atomic_ulong asked;
+static atomic_long held;
 static long fail_at;
 static const char *mark;
 static Main *program;
@@ -45,21 +47,45 @@ static int refuses(size_t size) {
     return 1;
 }
 
-void *malloc(size_t size) { return refuses(size) ? NULL : __libc_malloc(size); }
+/* Counts a new block, which is none where memory ran out. */
+static void *hold(void *block) {
+    atomic_fetch_add(&held, block != NULL);
+    return block;
+}
 
-void *calloc(size_t count, size_t size) { return refuses(count * size) ? NULL : __libc_calloc(count, size); }
+void *malloc(size_t size) { return refuses(size) ? NULL : hold(__libc_malloc(size)); }
 
-void *realloc(void *old, size_t size) { return refuses(size) ? NULL : __libc_realloc(old, size); }
+void *calloc(size_t count, size_t size) {
+    return refuses(count * size) ? NULL : hold(__libc_calloc(count, size));
+}
+
+/* A block that only moves is held as before; one of no bytes is freed. */
+void *realloc(void *old, size_t size) {
+    if (!old) {
+        return malloc(size);
+    }
+    if (refuses(size)) {
+        return NULL;
+    }
+    void *block = __libc_realloc(old, size);
+    atomic_fetch_sub(&held, size == 0 && block == NULL);
+    return block;
+}
+
+void free(void *block) {
+    atomic_fetch_sub(&held, block != NULL);
+    __libc_free(block);
+}
 
 void *aligned_alloc(size_t alignment, size_t size) {
-    return refuses(size) ? NULL : __libc_memalign(alignment, size);
+    return refuses(size) ? NULL : hold(__libc_memalign(alignment, size));
 }
 
 int posix_memalign(void **answer, size_t alignment, size_t size) {
     if (alignment % sizeof(void *) != 0 || (alignment & (alignment - 1)) != 0 || alignment == 0) {
         return EINVAL;
     }
-    void *room = refuses(size) ? NULL : __libc_memalign(alignment, size);
+    void *room = aligned_alloc(alignment, size);
     if (!room) {
         return ENOMEM;
     }
@@ -72,19 +98,30 @@ static int main_that_counts(int argc, char **argv, char **environment) {
     mark = getenv("REFUSED_MARK");
     atomic_store(&calls, 0);
     atomic_store(&asked, 0);
+    atomic_store(&held, 0);
     fail_at = given ? atol(given) : 0;
     return program(argc, argv, environment);
 }
 
+/* Frees what the C library keeps for itself, such as the stacks of ended threads. */
+static void free_own(void) {
+    void (*free_all)(void) = (void (*)(void))dlsym(RTLD_DEFAULT, "__libc_freeres");
+    if (free_all) {
+        free_all();
+    }
+}
+
 static __attribute__((destructor)) void tell_asked(void) {
     const char *path = getenv("ASKED_FOR");
+    int file = path ? open(path, O_WRONLY | O_CREAT | O_TRUNC, 0600) : -1;
+    if (file < 0) {
+        return;
+    }
     long number = atomic_load(&calls);
     unsigned long bytes = atomic_load(&asked);
-    FILE *file = path ? fopen(path, "w") : NULL;
-    if (file) {
-        fprintf(file, "%ld %lu\n", number, bytes);
-        fclose(file);
-    }
+    free_own();
+    dprintf(file, "%ld %lu %ld\n", number, bytes, atomic_load(&held));
+    close(file);
 }
 
 /* The program may end so, and then no destructor runs. */

@@ -15,14 +15,16 @@ DID_NOT_END = -1000
 
 
 class Ended(NamedTuple):
-    """How a run ended; a signal's number is negative."""
+    """How a run ended, and how many blocks of memory it hadn't freed then; a signal's number is negative."""
 
     status: int
     output: bytes
+    held: int = 0
 
     def __str__(self) -> str:
         status = "it did not end" if self.status == DID_NOT_END else f"status {self.status}"
-        return f"{status}, {self.output[-500:].decode(errors='backslashreplace')!r}"
+        held = f", {self.held:,} blocks not freed" if self.held else ""
+        return f"{status}{held}, {self.output[-500:].decode(errors='backslashreplace')!r}"
 
 
 class Sweep(NamedTuple):
@@ -56,19 +58,29 @@ class Refuser:
     def run(self, words: list[str], text: bytes, number: int = 0) -> tuple[Ended, bool]:
         """Runs the program with the call of this number refused (of 0: none); tells also whether one was refused."""
         mark = Path(f"{self.folder.name}/mark_{number}")
-        ended = self.ended(words, text, {"FAIL_AT": str(number), "REFUSED_MARK": str(mark)})
+        given = {"FAIL_AT": str(number), "REFUSED_MARK": str(mark)}
+        ended, _ = self.ended(words, text, given, f"asked_{number}")
         is_refused = mark.exists()
         mark.unlink(missing_ok=True)
         return ended, is_refused
 
     def asked(self, words: list[str], text: bytes = b"") -> tuple[Ended, Asked | None]:
         """Runs the program with no call refused, and tells what it asked for; nothing where it was stopped."""
-        told = Path(f"{self.folder.name}/asked")
-        told.unlink(missing_ok=True)
-        ended = self.ended(words, text, {"ASKED_FOR": str(told)})
-        return ended, Asked(*map(int, told.read_text().split())) if told.exists() else None
+        return self.ended(words, text, {}, "asked")
 
-    def ended(self, words: list[str], text: bytes, given: dict[str, str]) -> Ended:
+    def ended(
+        self, words: list[str], text: bytes, given: dict[str, str], name: str
+    ) -> tuple[Ended, Asked | None]:
+        """Runs the program over the library, with this in its environment, and a file of this name for what it asked for."""
+        told = Path(f"{self.folder.name}/{name}")
+        ended = self.ran(words, text, {"ASKED_FOR": str(told), **given})
+        if not told.exists():
+            return ended, None
+        allocations, size, held = map(int, told.read_text(encoding="utf-8").split())
+        told.unlink()
+        return ended._replace(held=held), Asked(allocations, size)
+
+    def ran(self, words: list[str], text: bytes, given: dict[str, str]) -> Ended:
         """Runs the program over the library, with this in its environment."""
         try:
             ran = subprocess.run(
