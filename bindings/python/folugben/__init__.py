@@ -34,9 +34,9 @@ agents in different threads do run at the same time. Of the header's calls only 
 `Storage.agent` for each number. A storage makes one agent of each number.
 
 A storage has room for 1,048,576 moves at most. A Run goes on without an end: its agents go from one storage to the next by
-themselves, and its file has the journals of all of them, which `audit` checks in memory that doesn't grow:
+themselves, and its folder has the journals of all of them, which `audit` checks in memory that doesn't grow:
 
-    with Run([[["count"], 0]], "count.run") as run, run.agent(0) as agent:
+    with Run("count.run", init=[[["count"], 0]]) as run, run.agent(0) as agent:
         agent.play(lambda step: step.push([["inc", ["count"], 1]]))
     calls, moves, parts = audit("count.run")
 
@@ -55,16 +55,19 @@ here, has two. Likewise ["f", True] and ["f", 1] are two locations, and a value 
 `is True` where both may occur.
 """
 from ._agent import Agent
-from ._auditor import Auditor, Counts, audit, part
-from ._errors import BadJournal, Broken, Busy, Clash, Deep, Error, Full, Large, Many, Missing, Moved, Over, Past, Retry, Stale
-from ._errors import error_text, explain
+from ._auditor import Auditor, Counts
+from ._errors import BadJournal, Broken, Busy, Clash, Damaged, Deep, Error, Full, Large, Many, Missing, Moved, Over, Past
+from ._errors import Retry, Stale, TooLong, error_text, explain
 from ._functions import aggregate, check, compose, replay, trace, version
 from ._held import Forked, Nested
+from ._import import import_run
 from ._library import APART, BUSY, CLASH, CUT, DEEP, DONE, EMPTY, EVENT, FULL, ILLEGAL, LARGE, LOCATIONS, MANY, MEMORY, MISSING
 from ._library import MOVE, MOVED, NONE, NOT_JSON, NUMBER, OTHER, RANGE, SCRIPT, SHAPE, SMALL, STALE, STATE, TAKEN, VERSION
 from ._location import Location
 from ._move import Move
-from ._run import Run, RunAgent
+from ._reading import audit, part
+from ._run import Run
+from ._run_agent import RunAgent
 from ._runs import interleave, states
 from ._step import Step
 from ._storage import Storage
@@ -73,11 +76,11 @@ from ._types import Element, Place, Update, Value
 __version__ = "0.2.0"
 
 __all__ = [
-    "Agent", "Auditor", "BadJournal", "Broken", "Busy", "Clash", "Counts", "Deep", "Element", "Error", "Forked", "Full",
-    "Large", "Location", "Many", "Missing", "Move", "Moved", "Nested", "Over", "Past", "Place", "Retry", "Run", "RunAgent",
-    "Stale", "Step", "Storage", "Update", "Value",
-    "aggregate", "audit", "check", "compose", "error_text", "explain", "interleave", "part", "replay", "states", "trace",
-    "version",
+    "Agent", "Auditor", "BadJournal", "Broken", "Busy", "Clash", "Counts", "Damaged", "Deep", "Element", "Error", "Forked",
+    "Full", "Large", "Location", "Many", "Missing", "Move", "Moved", "Nested", "Over", "Past", "Place", "Retry", "Run",
+    "RunAgent", "Stale", "Step", "Storage", "TooLong", "Update", "Value",
+    "aggregate", "audit", "check", "compose", "error_text", "explain", "import_run", "interleave", "part", "replay", "states",
+    "trace", "version",
     "EVENT", "LOCATIONS", "MOVE", "SCRIPT", "STATE",
     "APART", "BUSY", "CLASH", "CUT", "DEEP", "DONE", "EMPTY", "FULL", "ILLEGAL", "LARGE", "MANY", "MEMORY", "MISSING", "MOVED",
     "NONE", "NOT_JSON", "NUMBER", "OTHER", "RANGE", "SHAPE", "SMALL", "STALE", "TAKEN", "VERSION",

@@ -1,15 +1,17 @@
-"""Journals on the command line: python -m folugben audit|check|part|replay|trace|csv|itf|perfetto|view FILE.."""
+"""Runs and journals on the command line: python -m folugben COMMAND .., of which --help tells."""
 import argparse
 import json
+import os
 import sys
 import time
 from collections.abc import Callable
 from pathlib import Path
 from typing import BinaryIO, TextIO
 
-from . import __version__, audit, part, replay, trace
-from ._errors import BadJournal, Error
+from . import __version__, audit, import_run, part, replay, trace
+from ._errors import BadJournal, Damaged, Error
 from ._exports import judged, write_csv, write_itf, write_page, write_perfetto
+from ._reading import follow, is_stored, save, verify
 
 
 def _check(journal: bytes, out: TextIO) -> bool:
@@ -21,8 +23,8 @@ def _check(journal: bytes, out: TextIO) -> bool:
 class _Progress:
     """Tells on a terminal how much of a file was read, once a second."""
 
-    def __init__(self, file: Path) -> None:
-        self._size = 0 if str(file) == "-" else file.stat().st_size
+    def __init__(self, file: str) -> None:
+        self._size = os.path.getsize(file) if os.path.isfile(file) else 0
         self._file, self._next, self._is_told = file, time.monotonic() + 1, False
 
     def __call__(self, done: int) -> None:
@@ -37,11 +39,11 @@ class _Progress:
             sys.stderr.write("\r\033[K")
 
 
-def _audit(file: Path, _: int | None, out: TextIO) -> bool:
+def _audit(file: str, _: int | None, out: TextIO) -> bool:
     """Of a file of any length, of which one line at a time is held."""
     progress = _Progress(file) if sys.stderr.isatty() else None
     try:
-        calls, moves, parts = audit(sys.stdin.buffer if str(file) == "-" else file, progress)
+        calls, moves, parts = audit(sys.stdin.buffer if file == "-" else file, progress)
     except BadJournal as bad:
         told = str(bad)
     else:
@@ -51,6 +53,28 @@ def _audit(file: Path, _: int | None, out: TextIO) -> bool:
             progress.end()
     out.write(told + "\n")
     return told.startswith("legal")
+
+
+def _verify(target: str, _: int | None, out: TextIO) -> bool:
+    last = verify(target)
+    out.write(f"{last.number + 1} segments, {last.end} moves, digest {last.digest}\n")
+    return True
+
+
+def _save(target: str, _: int | None, out: TextIO) -> bool:
+    out.flush()
+    save(target, getattr(out, "buffer"))
+    return True
+
+
+def _follow(target: str, _: int | None, out: TextIO) -> bool:
+    try:
+        for calls, moves, parts in follow(target):
+            out.write(f"legal so far {calls} {moves} {parts}\n")
+            out.flush()
+    except KeyboardInterrupt:
+        pass
+    return True
 
 
 def _replay(journal: bytes, out: TextIO) -> bool:
@@ -78,27 +102,29 @@ def _part(journal: bytes, out: TextIO) -> bool:
     return True
 
 
-# What a command does with a file, or with one part of it.
-_Work = Callable[[Path, int | None, TextIO], bool]
+# What a command does with a run or a file, or with one part of it.
+_Work = Callable[[str, int | None, TextIO], bool]
 
 
 def _whole(work: Callable[[bytes, TextIO], bool]) -> _Work:
     """The work on a journal, which is read as a whole."""
 
-    def on_file(file: Path, number: int | None, out: TextIO) -> bool:
-        def on(opened: BinaryIO) -> bool:
-            return work(opened.read() if number is None else part(opened, number), out)
-
-        if str(file) == "-":
-            return on(sys.stdin.buffer)
-        with file.open("rb") as opened:
-            return on(opened)
+    def on_file(file: str, number: int | None, out: TextIO) -> bool:
+        if number is None and is_stored(file):
+            raise IsADirectoryError(f"{file} is a run, of which this command takes one part: --part 0 and so on")
+        source: str | BinaryIO = sys.stdin.buffer if file == "-" else file
+        if number is not None:
+            return work(part(source, number), out)
+        return work(source.read() if not isinstance(source, str) else Path(source).read_bytes(), out)
 
     return on_file
 
 
 COMMANDS: dict[str, tuple[_Work, str]] = {
     "audit": (_audit, "whether each answer is right, in a run of any number of parts"),
+    "verify": (_verify, "whether the segments of a run are those that were saved, by their digests"),
+    "save": (_save, "a run as one file; --output names it"),
+    "follow": (_follow, "an audit of a run that goes on, with a line for each look that found more; Ctrl-C ends it"),
     "check": (_whole(_check), "whether each answer is the one that a storage of one thread gives there"),
     "part": (_whole(_part), "a part of a run, as a journal; --part tells which"),
     "replay": (_whole(_replay), "the state that the moves leave, a location and its value on each line"),
@@ -108,43 +134,68 @@ COMMANDS: dict[str, tuple[_Work, str]] = {
     "perfetto": (_whole(_written(write_perfetto)), "the run as Chrome's trace events, for Perfetto"),
     "view": (_whole(_written(write_page)), "a page that shows the run in a browser; --output names its file"),
 }
+# Those that take stored runs alone.
+ON_RUNS = ("verify", "save", "follow")
 
 
 def _words() -> argparse.ArgumentParser:
-    parser = argparse.ArgumentParser(prog="folugben", description="What the journals of runs tell.")
+    parser = argparse.ArgumentParser(prog="folugben", description="What runs and their journals tell.")
     parser.add_argument("--version", action="version", version=f"folugben {__version__}")
     commands = parser.add_subparsers(dest="command", required=True, metavar="COMMAND")
     for name, (_, told) in COMMANDS.items():
         command = commands.add_parser(name, help=told, description=told[0].upper() + told[1:] + ".")
-        command.add_argument("files", nargs="+", type=Path, metavar="FILE", help="a journal; - is standard input")
-        if name != "audit":
+        what = "a run" if name in ON_RUNS else "a run, or a journal; - is standard input"
+        command.add_argument("files", nargs="+", metavar="FILE", help=what)
+        if name != "audit" and name not in ON_RUNS:
             only = "of a run of several parts the one with this number, from 0 up, alone"
             command.add_argument("-p", "--part", type=int, metavar="N", default=0 if name == "part" else None, help=only)
         command.add_argument("-o", "--output", type=Path, metavar="FILE", help="where to write, in place of standard output")
+    told = "imports a run of version 0.2, which is one file, into a new folder"
+    command = commands.add_parser("import", help=told, description=told[0].upper() + told[1:] + ".")
+    command.add_argument("file", metavar="FILE")
+    command.add_argument("folder", metavar="FOLDER")
     return parser
 
 
-def main(words: list[str] | None = None) -> int:
-    """The exit status: 0, or 1 where a journal is illegal or none, or 2 where a file or a word is refused."""
-    asked = _words().parse_args(words)
-    work, status = COMMANDS[asked.command][0], 0
+def _import(file: str, folder: str) -> int:
     try:
-        out = asked.output.open("w", encoding="utf-8", newline="") if asked.output else sys.stdout
-        for file in asked.files:
-            if len(asked.files) > 1 and asked.command in ("audit", "check"):
-                out.write(f"{file}: ")
-            try:
-                status = status if work(file, getattr(asked, "part", None), out) else 1
-            except (BadJournal, Error, IndexError) as refused:
-                print(f"folugben: {file}: {refused}", file=sys.stderr)
-                status = 1
-        out.flush()
-        if asked.output:
-            out.close()
+        counts, left = import_run(file, folder)
+    except BadJournal as bad:
+        print(f"folugben: {file}: {bad}", file=sys.stderr)
+        return 1
+    print(f"{counts.moves} moves in {counts.parts} parts")
+    if left:
+        print(f"folugben: {file}: {left:,} bytes of an incomplete last part were left out", file=sys.stderr)
+    return 0
+
+
+def _work_on(asked: argparse.Namespace, out: TextIO) -> int:
+    work, status = COMMANDS[asked.command][0], 0
+    for file in asked.files:
+        if len(asked.files) > 1 and asked.command in ("audit", "check", "verify"):
+            out.write(f"{file}: ")
+        try:
+            status = status if work(file, getattr(asked, "part", None), out) else 1
+        except (BadJournal, Damaged, Error, IndexError) as refused:
+            print(f"folugben: {file}: {refused}", file=sys.stderr)
+            status = 1
+    out.flush()
+    return status
+
+
+def main(words: list[str] | None = None) -> int:
+    """The exit status: 0, or 1 where a run or a journal is illegal, damaged or none, or 2 where a file or a word is refused."""
+    asked = _words().parse_args(words)
+    try:
+        if asked.command == "import":
+            return _import(asked.file, asked.folder)
+        if asked.output is None:
+            return _work_on(asked, sys.stdout)
+        with asked.output.open("w", encoding="utf-8", newline="") as out:
+            return _work_on(asked, out)
     except OSError as fault:
         print(f"folugben: {fault}", file=sys.stderr)
         return 2
-    return status
 
 
 if __name__ == "__main__":

@@ -1,18 +1,12 @@
 """Audits: runs of any length, which are checked as their bytes come."""
 import ctypes
-import os
-from collections.abc import Callable
-from typing import Any, BinaryIO, NamedTuple, Protocol
+from typing import Any, NamedTuple
 
 from ._errors import BadJournal, Error, Text, exact, expect
 from ._held import Held, one_call
 from ._library import DONE, EMPTY, LARGE, MEMORY, NONE, AuditNumbers, Buffer, lib
+from ._lines import LINE_LIMIT
 from ._texts import decoded
-
-# How many bytes of a file are read at once.
-CHUNK = 1 << 20
-# How the header of a part begins, which no line of an event does.
-HEADER = b'{"agents":'
 
 
 class Counts(NamedTuple):
@@ -21,12 +15,6 @@ class Counts(NamedTuple):
     calls: int
     moves: int
     parts: int
-
-
-class Readable(Protocol):
-    """A file."""
-
-    def read(self, size: int, /) -> bytes | str | None: ...
 
 
 class Auditor(Held):
@@ -121,7 +109,7 @@ class Auditor(Held):
     def _bad(self, code: int) -> BadJournal:
         said = ""
         if code == LARGE:
-            said = "a line has more than 16,777,216 bytes"
+            said = f"a line has more than {LINE_LIMIT:,} bytes"
             # What would be told if no further byte came is of the part that the line stands in.
             lib.asm_audited(self._slot, self._numbers)
         bad = BadJournal(code, (self._numbers.calls,), said)
@@ -146,48 +134,3 @@ class Auditor(Held):
         if self._fault is not None:
             return f"<Auditor, {self._fault}>"
         return f"<Auditor, {', '.join(f'{count} {name}' for name, count in self._counts._asdict().items())}>"
-
-
-def audit(run: str | os.PathLike[str] | Readable, progress: Callable[[int], None] | None = None) -> Counts:
-    """Checks the run in a file of any length, which is opened or told by its path: the numbers of its calls, moves and parts.
-
-    `BadJournal` where it isn't legal, or isn't whole, as soon as that is read. With `progress`, that is called with the number
-    of bytes now and then.
-    """
-    if isinstance(run, (str, os.PathLike)):
-        with open(run, "rb", buffering=0) as file:
-            return _audited(file, progress)
-    if not hasattr(run, "read"):
-        raise TypeError(f"audit takes a path or a file, and not {type(run).__name__!r}: feed bytes to an Auditor")
-    return _audited(run, progress)
-
-
-def _audited(file: Readable, progress: Callable[[int], None] | None) -> Counts:
-    # Of a pipe what is there is taken, so that a wrong answer is told when it comes.
-    read, fed = getattr(file, "read1", file.read), 0
-    with Auditor() as auditor:
-        while chunk := read(CHUNK):
-            auditor.feed(chunk)
-            fed += len(chunk)
-            if progress is not None:
-                progress(fed)
-        return auditor.end()
-
-
-def part(run: str | os.PathLike[str] | BinaryIO, number: int) -> bytes:
-    """The journal of one part of a run, counted from 0, of a file or its path. `IndexError` where there are fewer."""
-    if isinstance(run, (str, os.PathLike)):
-        with open(run, "rb") as file:
-            return part(file, number)
-    lines: list[bytes] = []
-    at = -1
-    for line in run:
-        if line.startswith(HEADER):
-            at += 1
-        if at > number:
-            break
-        if at == number:
-            lines.append(line)
-    if at < number or number < 0:
-        raise IndexError(f"there is no part {number}, as the run has {at + 1}")
-    return b"".join(lines)

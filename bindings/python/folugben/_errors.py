@@ -119,6 +119,21 @@ class Broken(RuntimeError):
         return f"the run has ended, as its part {self.part} couldn't be written: {told}"
 
 
+class Damaged(RuntimeError):
+    """What is stored of a run isn't what the run has written; `segment` is the number of the first segment concerned."""
+
+    def __init__(self, segment: int, said: str) -> None:
+        super().__init__(segment, said)
+        self.segment, self.said = segment, said
+
+    def __str__(self) -> str:
+        return f"segment {self.segment}: {self.said}"
+
+
+class TooLong(Error):
+    """A line of the journal would be longer than an audit reads, `LINE_LIMIT` bytes; nothing was done."""
+
+
 class Over(Error):
     """The step is over: it was fired, or freed as at the end of its `with`."""
 

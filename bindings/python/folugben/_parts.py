@@ -1,4 +1,4 @@
-"""The parts of a run: storages, each of which opens with the state that the one before leaves, and the thread that writes them.
+"""The parts of a run: storages, each of which opens with the state that the one before leaves, and the thread that saves them.
 
 What always holds, whichever thread goes on when:
 
@@ -7,18 +7,19 @@ What always holds, whichever thread goes on when:
   storage is full, or all its agents were given back. So each move of the run is in one part, and each part opens with what all
   moves before it leave.
 - An agent is given back to its part before it comes into another one: it is never in two.
-- A step that has begun goes on in its part, with the state that it saw, also where that has ended. It fires nothing there any
-  more; it is begun anew in the newest part.
+- A step that has begun goes on in its part, with the state that it saw, until the part has ended and `PATIENCE` has passed.
+  Then its agent is given back, and the step raises `Past`; only agents that are played by turns are waited for.
 - An agent that is between two steps may be given back by another thread. Its own thread finds the slot empty, as any call looks
   there under the agent's lock, and comes into the newest part.
-- An agent waits for another thread only while that opens a part, while two whole parts wait for the disk, or, for a second at
-  most, while a part that keeps too much comes to rest.
-- Only the writer writes, the oldest part first, once that has ended and all its agents are given back. The storage is released
+- An agent waits for another thread only while that opens a part, while two ended parts wait for the writer, or while a part
+  comes to rest. So there are at most three parts in memory.
+- Only the writer saves, the oldest part first, once that has ended and all its agents are given back. The storage is released
   when its journal is on the disk, and then the next part is the oldest.
-- After a fault nothing more is written: no part stands in the file behind one that is missing.
+- After a fault nothing more is saved: no segment is behind one that is missing.
 
 What is the case is asked of the slots, which the library fills and empties as a whole. So a signal handler that raises between
-any two lines leaves nothing half done: the next call goes on from there.
+any two lines leaves nothing half done: the next call goes on from there. While a call is on a slot it may look empty: so an
+agent's is looked at under its lock, and that a storage was opened is kept, once it was seen.
 
 Locks are taken in this order: the chain's, a storage's, an agent's. No call of an agent on its own slot takes the chain's while
 it has its own.
@@ -26,182 +27,53 @@ it has its own.
 import atexit
 import contextlib
 import ctypes
+import re
 import threading
 import time
 import weakref
-from collections.abc import Callable
-from typing import Any
 
-from ._agent import Agent
-from ._errors import Broken, Error, Full, Missing, Past, expect
-from ._held import Held, Locked, here, one_call
-from ._library import BUSY, CLASH, EMPTY, FULL, MISSING, NONE, NUMBER, STALE, Buffer, lib
-from ._run_file import RunFile
-from ._step import Step
-from ._storage import Storage, unopened
+from ._errors import Broken, Error, TooLong, expect
+from ._folder import RunWriter
+from ._held import Locked, here, one_call
+from ._library import EMPTY, MISSING, NONE, NUMBER, Buffer, lib
+from ._lines import expect_lines, expect_state
+from ._part import PATIENCE, Part, PartAgent
+from ._storage import Storage
 
 # The chains of runs that go on, which the end of the program closes.
 _chains: "weakref.WeakSet[Chain]" = weakref.WeakSet()
-# After so many tries an agent has them counted with those of all.
-_EACH = 32
-# How long a part that keeps too much may take to come to rest, and how long an agent waits at once.
-_PATIENCE, _MOMENT = 1.0, 0.002
+# How long an agent waits at once.
+_MOMENT = 0.002
 # How often the writer looks whether agents have come to rest in a part that has ended, and whether one has.
 _SOON, _LATER = 0.02, 1.0
-# How many whole parts may wait for the disk.
+# How many ended parts may wait for the writer.
 _WAITING = 2
-
-
-class PartStep(Step):
-    """A step of an agent of a run, whose numbers are those of the run."""
-
-    _agent: "PartAgent"
-
-    def __init__(self, agent: "PartAgent") -> None:
-        agent._last = weakref.ref(self)
-        super().__init__(agent)
-
-    @property
-    def number(self) -> int:
-        return self._agent.part.base + self._number
-
-    @property
-    def fired(self) -> int:
-        return self._fired and self._agent.part.base + self._fired
-
-    def offer(self) -> dict[str, Any]:
-        """The same, with numbers of the run."""
-        offer, base = super().offer(), self._agent.part.base
-        return {"fire": offer["fire"], "reads": [[at, base + number] for at, number in offer["reads"]]}
-
-    def fire(self) -> int:
-        """The same as of any step; `Past` where its part has ended."""
-        try:
-            return self._agent.part.base + self._fire(())
-        except Full:
-            raise Past(FULL, said="the part of the run has ended, so begin another step") from None
-
-    def try_fire(self) -> int:
-        """The same, but 0 where the step is to be begun again, also where its part has ended."""
-        fired = self._fire((STALE, CLASH, BUSY, FULL))
-        return fired and self._agent.part.base + fired
-
-    def _fire(self, vain: tuple[int, ...]) -> int:
-        self._agent.tried()
-        return super()._fire(vain)
-
-
-def _no_step() -> PartStep | None:
-    return None
-
-
-class PartAgent(Agent):
-    """An agent of a run while it is in one part."""
-
-    part: "Part"
-
-    def __init__(self, part: "Part", own: int) -> None:
-        self._prepare(part.storage, own)
-        self.part, self.is_abandoned = part, False
-        self._last: Callable[[], PartStep | None] = _no_step
-        self._tries, self._counts = 0, (0, 0)
-
-    def is_at_rest(self) -> bool:
-        """Whether it is in no step; its lock is held."""
-        step = self._last()
-        return step is None or not step._slot.full
-
-    def tried(self) -> None:
-        """Counts a call that leaves a receipt."""
-        self._tries += 1
-        if self._tries % _EACH == 0:
-            self.part.chain.count(self.part, _EACH)
-
-    @one_call
-    def counts(self) -> tuple[int, int]:
-        """How many moves it has seen and fired in its part."""
-        with self._lock:
-            return self._counted()
-
-    def _counted(self) -> tuple[int, int]:
-        if self._slot.full:
-            self._counts = lib.asm_seen(self._slot), lib.asm_won(self._slot)
-        return self._counts
-
-    def give_back(self) -> None:
-        """Gives it back, if it isn't; a storage's lock and its own are free, or held by this thread."""
-        with self._storage._lock, self._lock:
-            if self._slot.full:
-                self._counted()
-                expect(lib.asm_give(self._storage._slot, self._slot))
-
-    def release(self) -> None:
-        """Lets its memory go, with its receipts."""
-        with self._lock:
-            self._counted()
-            lib.asm_free(self._slot)
-
-    def _expect_held(self) -> None:
-        if not self._slot.full:
-            self.part.chain.expect_going()
-            if self.part.has_ended():
-                raise Past(EMPTY, said="the part of the run has ended, so begin another step")
-            raise Error(EMPTY, said="the agent was given back")
-
-    def __del__(self) -> None:
-        Held.__del__(self)
-
-
-class Part:
-    """A part: its storage, the agents that came into it, and the one behind it."""
-
-    def __init__(self, chain: "Chain", number: int, base: int, capacity: int) -> None:
-        self.chain, self.number, self.base, self.capacity = chain, number, base, capacity
-        self.storage = unopened()
-        self.agents: dict[int, PartAgent] = {}
-        # An agent that has seen as many moves goes on: all of the part, or 0 where that ends at rest.
-        self.most = capacity
-        self.next: Part | None = None
-        self.tries, self.until = 0, 0.0
-        # Whether a move is missing, so that no part comes behind it; whether it is on the disk.
-        self.is_last = self.is_written = False
-
-    def is_open(self) -> bool:
-        return bool(self.storage._slot.full)
-
-    def has_ended(self) -> bool:
-        return self.is_written or self.next is not None and self.next.is_open()
-
-    def missing(self, move: int) -> Missing:
-        abandoned = sorted(own for own, agent in self.agents.items() if agent.is_abandoned)
-        were = "was" if len(abandoned) == 1 else "were"
-        said = f"agent{'s' * (len(abandoned) > 1)} {', '.join(map(str, abandoned))} {were} abandoned" if abandoned else ""
-        return Missing(MISSING, (move,), said)
+_EVENTS = re.compile(rb'\{"agents":\d+,"capacity":\d+,"events":(\d+),')
 
 
 class Chain(Locked):
-    """The parts of a run that aren't in its file yet, and the thread that writes them."""
+    """The parts of a run that aren't on the disk yet, and the thread that saves them."""
 
-    def __init__(self, file: RunFile, storage: Storage, moves: int, tries: int, saved: tuple[int, int]) -> None:
-        self._file, self._moves, self._tries = file, moves, tries
+    def __init__(self, folder: RunWriter, storage: Storage, moves: int, tries: int, every: float | None) -> None:
+        self._folder, self._moves, self._tries, self._every = folder, moves, tries, every
         # The lock itself is taken, as a condition's own methods aren't fit for a signal handler that raises.
         lock = threading.RLock()
         self._changed = threading.Condition(lock)
         self._locked_by(lock)
         # How many parts and moves are on the disk.
-        self.saved = saved
-        self._oldest = Part(self, *saved, moves)
+        self.saved = folder.last.number + 1, folder.last.end
+        self._oldest = Part(self, *self.saved, moves)
         self._oldest.storage = storage
         self._fault: tuple[int, BaseException] | None = None
         self.is_closing = self._is_over = False
-        self._writer = threading.Thread(target=self._write, name=f"writer of {file.path}", daemon=True)
+        self._writer = threading.Thread(target=self._write, name=f"writer of {folder.path}", daemon=True)
         self._writer.start()
         _chains.add(self)
 
     def _is_copied(self) -> None:
         super()._is_copied()
         self.is_closing = True
-        self._file.leave()
+        self._folder.leave()
         _chains.discard(self)
 
     def expect_going(self) -> None:
@@ -234,7 +106,7 @@ class Chain(Locked):
         """The same, or None where another thread has to go on before."""
         self.expect_going()
         newest = self.newest()
-        if before is not None and before._slot.full and before.part is newest:
+        if before is not None and before.part is newest and before.is_held():
             if self._is_at_end(before):
                 if self._is_behind():
                     return None
@@ -247,7 +119,9 @@ class Chain(Locked):
             self._changed.notify_all()
         if newest.most == 0 and not self._is_rested(newest):
             return None
-        return self._into(self.newest(), own)
+        agent = self._into(self.newest(), own)
+        agent.is_taken = False
+        return agent
 
     def _is_at_end(self, agent: PartAgent) -> bool:
         """Looks on: whether it has seen as many moves as its part has room for."""
@@ -258,16 +132,20 @@ class Chain(Locked):
 
     def _open_behind(self, agent: PartAgent) -> None:
         part = agent.part
+        expect_state(len(agent.state_text()[1]))
+        part.until = time.monotonic() + PATIENCE
         further = part.next = Part(self, part.number + 1, part.base + part.capacity, self._moves)
         with agent._lock:
             expect(lib.asm_go_on(agent._slot, self._moves, further.storage._slot))
         self._changed.notify_all()
 
     def _is_behind(self) -> bool:
-        """Whether the writer has parts enough, for which it waits for nothing but the disk."""
+        """Whether so many ended parts wait for the writer that no further one may be opened."""
         part, waiting = self._oldest, 0
-        while part.next is not None and part.next.is_open() and self._is_left(part, at_rest=True):
-            part, waiting = part.next, waiting + 1
+        while part.next is not None and part.next.is_open():
+            # By turns none comes to rest while another one waits, so nobody waits for such a part.
+            waiting += here.turn is None or self._is_left(part)
+            part = part.next
         return waiting >= _WAITING
 
     def _into(self, part: Part, own: int) -> PartAgent:
@@ -293,7 +171,7 @@ class Chain(Locked):
     def abandon(self, agent: PartAgent) -> None:
         """Releases an agent, whose moves are missing."""
         with self._lock:
-            agent.is_abandoned = agent.is_abandoned or agent._slot.full
+            agent.is_abandoned = agent.is_abandoned or agent.is_held()
             agent.release()
             self._changed.notify_all()
 
@@ -302,44 +180,101 @@ class Chain(Locked):
         """Counts calls that left receipts in a part, which comes to rest where they are too many."""
         with self._lock:
             part.tries += tries
-            if part.tries > self._tries and part.most > 0:
-                part.most, part.until = 0, time.monotonic() + _PATIENCE
+            if part.tries > self._tries:
+                part.end_at_rest()
+
+    @one_call
+    def state(self) -> tuple[int, bytes]:
+        """The number of moves of the run by now, and the text of the state after them."""
+        with self._lock:
+            self.expect_going()
+            part = self.newest()
+            number, text = self._last_state(part)
+            return part.base + number, text
+
+    def _last_state(self, part: Part) -> tuple[int, bytes]:
+        """The number of moves of a part and the state after them, by an agent that isn't held, which stays so for its thread."""
+        idle = (own for own, agent in part.agents.items() if not agent.is_abandoned and not agent.is_held())
+        own = next(idle, None)
+        if own is None:
+            own = next(it for it in range(257) if it not in part.agents)
+            part.agents[own] = PartAgent(part, own)
+        agent = part.agents[own]
+        with part.storage._lock, agent._lock:
+            self._into(part, own)
+            try:
+                self._is_at_end(agent)
+                return agent.state_text()
+            finally:
+                agent.give_back()
 
     # A part that ends before it is full.
 
-    def _is_rested(self, part: Part) -> bool:
-        """Ends a part if all its agents are between two steps. Whether that is done, or is given up, as it lasts too long."""
-        if part.is_last:
+    def _is_rested(self, part: Part, is_flush: bool = False) -> bool:
+        """Ends a part if all its agents are between two steps. Whether that is done, or is given up."""
+        if part.is_last or self._is_behind():
             return False
-        if self._is_left(part, at_rest=True):
-            self._end_at_rest(part)
+        if self._is_left(part):
+            try:
+                self._end_at_rest(part)
+            except TooLong:
+                # It goes on until it is full.
+                part.go_on()
+                if is_flush:
+                    raise
             return not part.is_last
         # Where agents are played by turns, none comes to rest while another one waits.
-        is_over = here.turn is not None or time.monotonic() > part.until
-        if is_over:
-            part.most, part.tries = part.capacity, 0
-        return is_over
+        if here.turn is not None and not part.is_forced:
+            part.go_on()
+            return True
+        return False
 
     def _end_at_rest(self, part: Part) -> None:
-        missing, moves, slot = ctypes.c_uint32(), ctypes.c_uint32(), part.storage._slot
+        expect_state(len(self._last_state(part)[1]))
+        missing, slot = ctypes.c_uint32(), part.storage._slot
         with part.storage._lock:
             code = lib.asm_close(slot, missing)
             # The writer comes to it and tells it, once the parts before it are written.
             part.is_last = code == MISSING
             if not part.is_last:
                 expect(code)
-                expect(lib.asm_moves(slot, moves))
-                further = part.next = Part(self, part.number + 1, part.base + moves.value, self._moves)
+                further = part.next = Part(self, part.number + 1, part.base + part.moves(), self._moves)
                 expect(lib.asm_next(slot, self._moves, further.storage._slot))
         self._changed.notify_all()
 
-    def _is_left(self, part: Part, at_rest: bool) -> bool:
-        """Whether no agent is in a part, once those are given back that are between two steps, or all."""
-        for agent in part.agents.values():
-            with part.storage._lock, agent._lock:
-                if not at_rest or agent.is_at_rest():
-                    agent.give_back()
-        return not any(agent._slot.full for agent in part.agents.values())
+    def _is_left(self, part: Part) -> bool:
+        """Whether no agent is in a part, once those are given back that may be."""
+        return all([agent.is_left(self._may_take) for agent in part.agents.values()])
+
+    def _may_take(self, agent: PartAgent) -> bool:
+        """Whether an agent may be given back by another thread than its own; its lock is held."""
+        if self.is_closing or agent.is_at_rest():
+            return True
+        is_waited_for = agent.is_by_turns and not agent.part.is_forced
+        return not is_waited_for and time.monotonic() > agent.part.until
+
+    @one_call
+    def flush(self) -> None:
+        """Ends the newest part if it has moves, and waits until it is on the disk."""
+        with self._lock:
+            self.expect_going()
+            part = self.newest()
+            is_empty = part.moves() == 0
+            if not is_empty and not part.has_ended():
+                part.end_at_rest(is_forced=True)
+        while not self._is_flushed(part, is_empty):
+            time.sleep(_MOMENT)
+
+    def _is_flushed(self, part: Part, is_empty: bool) -> bool:
+        with self._lock:
+            if self._fault is not None:
+                raise Broken(*self._fault)
+            if self.saved[0] >= part.number + (not is_empty):
+                return True
+            if not is_empty and not part.has_ended() and not self._is_over:
+                part.end_at_rest(is_forced=True)
+                self._is_rested(part, is_flush=True)
+            return self._is_over
 
     # What the writer does.
 
@@ -349,30 +284,46 @@ class Chain(Locked):
         try:
             while (part := self._due()) is not None:
                 journal, moves = self._journal(part, buffer)
+                events = _EVENTS.match(journal)
+                assert events is not None
                 # An empty part behind all others is none.
-                if part.has_ended() or b'"events":0,' not in bytes(journal[:100]):
-                    self._file.append(journal)
+                if part.has_ended() or int(events[1]) > 0:
+                    self._folder.save(journal, moves, int(events[1]))
                     self.saved = part.number + 1, part.base + moves
                 journal.release()
                 self._let_go(part)
         except BaseException as error:
             self._break(self._oldest.number if part is None else part.number, error)
         finally:
-            self._file.close()
+            self._folder.close()
             _chains.discard(self)
 
     def _due(self) -> Part | None:
         """The oldest part, once it has ended and its agents are given back; none where all is written."""
+        later = _LATER if self._every is None else min(_LATER, max(_SOON, self._every / 10))
         with self._lock:
             while not self._is_over:
                 part = self._oldest
-                is_due = part.has_ended() or part.is_last or self.is_closing
+                is_due = False
                 # An agent that memory was refused for is given back later.
                 with contextlib.suppress(MemoryError):
-                    if is_due and self._is_left(part, at_rest=not self.is_closing):
+                    self._end_by_time()
+                    is_due = part.has_ended() or part.is_last or self.is_closing
+                    if is_due and self._is_left(part):
                         return part
-                self._changed.wait(_SOON if is_due else _LATER)
+                self._changed.wait(_SOON if is_due else later)
         return None
+
+    def _end_by_time(self) -> None:
+        """Ends the newest part if its first move was noticed long enough ago."""
+        part, now = self.newest(), time.monotonic()
+        if self._every is None or part.is_last or self.is_closing:
+            return
+        if part.begun == 0.0:
+            part.begun = now if part.moves() > 0 else 0.0
+        elif now >= part.begun + self._every:
+            part.end_at_rest()
+            self._is_rested(part)
 
     def _journal(self, part: Part, buffer: Buffer) -> tuple[memoryview, int]:
         """The journal of a part, and how many moves it tells."""
@@ -385,6 +336,7 @@ class Chain(Locked):
             expect(lib.asm_moves(slot, number))
             code, journal = buffer.view(lib.asm_journal, slot)
         expect(code)
+        expect_lines(journal)
         return journal, number.value
 
     def _let_go(self, part: Part) -> None:

@@ -1,13 +1,18 @@
 """Runs: the states of a journal's moves, and agents that are played by turns, in an order that a seed tells."""
+import os
 import random
 import threading
 from collections.abc import Callable, Iterator, Sequence
-from typing import Any, TypeVar
+from typing import TYPE_CHECKING, Any, TypeVar
 
 from ._errors import Text
 from ._functions import trace
 from ._held import here
+from ._reading import texts
 from ._texts import encoded
+
+if TYPE_CHECKING:
+    from ._run import Run
 
 _A = TypeVar("_A")
 _R = TypeVar("_R")
@@ -38,12 +43,32 @@ def _changed(old: Any, change: list[Any]) -> Any:
     return {"set": sorted(members.values(), key=_ordered)}
 
 
-def states(journal: Text) -> Iterator[tuple[int, dict[str, Any]]]:
-    """The number and the values of each state of the run that a journal tells, the opening state first, as number 0.
+def states(run: "Text | os.PathLike[str] | Run") -> Iterator[tuple[int, dict[str, Any]]]:
+    """Yield the number and the values of each state of a run, the opening state first, as number 0.
 
-    The values are those of the locations that hold one, by the location's JSON, such as '["count"]'; it is one dict, which
-    each further move changes: copy what you keep. `BadJournal` where it is no journal.
+    The run is a journal, a stored run by a path that is no str, or a `Run`, of which it is what is saved. The values are those
+    of the locations that have one, by the location's JSON, such as '["count"]'. It is one dict, which each further move
+    changes: copy what you keep.
+
+    Raises:
+        BadJournal: it is no journal.
     """
+    if isinstance(run, (bytes, bytearray, memoryview, str)):
+        return _states(run)
+    return _states_of(texts(run if isinstance(run, os.PathLike) else run.path))
+
+
+def _states_of(journals: Iterator[bytes]) -> Iterator[tuple[int, dict[str, Any]]]:
+    base = number = 0
+    for place, journal in enumerate(journals):
+        for number, values in _states(journal):
+            # What opens a later segment was yielded before.
+            if number > 0 or place == 0:
+                yield base + number, values
+        base += number
+
+
+def _states(journal: Text) -> Iterator[tuple[int, dict[str, Any]]]:
     lines = trace(journal)
     values = {encoded(at, "at").decode(): value for at, value in next(lines)["init"] if value is not None}
     yield 0, values

@@ -1,11 +1,11 @@
 """An engine of abstract state machines, and four machines.
 
     python3 -m folugben_engine                   runs them, and says what was checked
-    python3 -m folugben_engine FILE [SECONDS]    runs the bank for so many seconds (10), or goes on with the run in the file
+    python3 -m folugben_engine FOLDER [SECONDS]  runs the bank for so many seconds (10), or goes on with the run in the folder
 """
 import sys
 
-from folugben import Auditor, Storage, check
+from folugben import Run, Storage, audit, check
 
 from . import bank, colony, crossing, philosophers
 from .agents import run, run_on, states
@@ -14,12 +14,9 @@ from .agents import run, run_on, states
 def live_on(path: str, seconds: float) -> None:
     """The bank, without an end."""
     run_on(path, bank.INIT, bank.PROGRAMS, seconds)
-    with Auditor() as auditor, open(path, "rb") as file:
-        while chunk := file.read(1 << 20):
-            auditor.feed(chunk)
-        calls, moves, parts = auditor.end()
-        with Storage(auditor.state()) as storage, storage.agent(0) as agent:
-            assert bank.holds(agent)
+    calls, moves, parts = audit(path)
+    with Run.resume(path, check="last") as there, Storage(there.state()[1]) as storage, storage.agent(0) as agent:
+        assert bank.holds(agent)
     print(f"{bank.__name__}: {calls} calls and {moves} moves in {parts} parts are legal, and {bank.holds.__doc__}")
 
 

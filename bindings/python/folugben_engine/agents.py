@@ -3,10 +3,11 @@ import json
 import time
 from collections.abc import Iterator
 from concurrent.futures import FIRST_EXCEPTION, ThreadPoolExecutor, wait
+from contextlib import suppress
 from threading import Event
 from typing import Any
 
-from folugben import Agent, Run, Storage
+from folugben import Agent, Past, Run, Storage
 
 from .rules import Program
 
@@ -15,7 +16,7 @@ def live(storage: Storage | Run, number: int, program: Program, stop: Event) -> 
     rule, is_over = program
     with storage.agent(number) as agent:
         while not (stop.is_set() or is_over(agent)):
-            with agent.step() as step:
+            with suppress(Past), agent.step() as step:
                 if any(rule.play(step)):
                     step.try_fire()  # or others were quicker, and the next step sees what they did
                 else:
@@ -43,12 +44,12 @@ def run(init: list[Any], programs: list[Program]) -> bytes:
 
 
 def run_on(path: str, init: list[Any], programs: list[Program], seconds: float, moves: int = 100_000) -> None:
-    """Plays the rules for so many seconds, in parts of so many moves; where the file has a run, that goes on."""
+    """Plays the rules for so many seconds, in parts of so many moves; where the folder has a run, that goes on."""
     endless: list[Program] = [(rule, lambda agent: False) for rule, _ in programs]
     try:
         there = Run.resume(path, moves)
     except FileNotFoundError:
-        there = Run(init, path, moves)
+        there = Run(path, init, moves)
     with there as run:
         live_all(run, endless, seconds)
 

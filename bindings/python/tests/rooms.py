@@ -1,4 +1,6 @@
-"""What the tests of runs share: a file for each test, rules, and processes of their own."""
+"""What the tests of runs share: a folder for each test, rules, and processes of their own."""
+import contextlib
+import json
 import os
 import pathlib
 import random
@@ -7,10 +9,11 @@ import sys
 import tempfile
 import time
 import unittest
-import warnings
 
 import folugben
-from folugben import Auditor, Location, Run, audit, part
+from folugben import Location, Run, audit, part
+from folugben._folder import RunFolder
+from folugben._reading import Reading
 from threads import in_threads
 
 COUNT, AT = ["count"], Location(["count"])
@@ -53,6 +56,16 @@ def called(code, *words):
     return subprocess.run(command, capture_output=True, text=True, env=environment(), timeout=60)
 
 
+def segments(path):
+    """The files of a run's segments, in order."""
+    return sorted(path.glob("*.journal"))
+
+
+def text_of(path):
+    """A run as one text."""
+    return b"".join(file.read_bytes() for file in segments(path))
+
+
 class Rooms(unittest.TestCase):
     def setUp(self):
         room = tempfile.TemporaryDirectory()
@@ -64,22 +77,20 @@ class Rooms(unittest.TestCase):
         return [part(self.path, number) for number in range(audit(self.path).parts)]
 
     def last_state(self):
-        with Auditor() as auditor, self.path.open("rb") as file:
-            auditor.feed(file.read())
-            auditor.end()
-            return auditor.state()
+        with contextlib.closing(RunFolder(self.path)) as folder, Reading(folder) as reading:
+            reading.audit(folder.segments())
+            return json.loads(reading.state())
 
 
 def live_in_bank(path):
     """What is killed: agents in threads that go on with a run of small parts, or begin it."""
-    warnings.simplefilter("ignore")
-    # A part is written in many pieces, so that some of them are cut.
-    write = os.pwrite
-    os.pwrite = lambda fd, data, at: write(fd, data[:20], at)
+    # A segment is written in many pieces, so that some of them are cut.
+    write = os.write
+    os.write = lambda fd, data: write(fd, data[:20])
     try:
         run = Run.resume(path, 20)
     except FileNotFoundError:
-        run = Run(BANK, path, 20)
+        run = Run(path, BANK, 20)
     sys.stdout.write("x")
     sys.stdout.flush()
 

@@ -192,7 +192,7 @@ class Endless(Rooms):
     def test_machines_that_end_are_played_on_a_run(self):
         for machine in (philosophers, crossing, colony):
             path = self.room / machine.__name__
-            with Run(machine.INIT, path, 10) as there:
+            with Run(path, machine.INIT, 10) as there:
                 live_all(there, machine.PROGRAMS)
             self.path = path
             self.assertTrue(all(machine.holds(agent) for journal in self.journals() for agent in states(journal)))

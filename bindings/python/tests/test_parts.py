@@ -8,8 +8,8 @@ import unittest
 from unittest import mock
 
 from folugben import Broken, Clash, Error, Move, Past, Retry, Run, Stale
-from folugben import _parts, _run_file, audit, check, interleave, states
-from rooms import AT, BANK, COUNT, INIT, Rooms, raised, transfer, until
+from folugben import _folder, audit, check, interleave, states
+from rooms import AT, BANK, COUNT, INIT, Rooms, raised, text_of, transfer, until
 from threads import in_threads
 
 
@@ -24,7 +24,7 @@ class Parts(Rooms):
                 self.assertEqual((agent.won, agent.number), (times, own))
                 self.assertGreaterEqual(agent.seen, told[own][-1])
 
-        with Run(INIT, self.path, 50) as run:
+        with Run(self.path, INIT, 50) as run:
             self.assertEqual(in_threads(work, agents), ([], True))
         self.assertEqual(sorted(itertools.chain(*told)), list(range(1, agents * times + 1)))
         self.assertTrue(all(it == sorted(it) for it in told))
@@ -39,14 +39,14 @@ class Parts(Rooms):
                          [{'["count"]': 0}, *({'["count"]': 50 * number} for number in range(24))])
 
     def test_a_part_of_one_move(self):
-        with Run(INIT, self.path, 1) as run, run.agent(7) as agent:
+        with Run(self.path, INIT, 1) as run, run.agent(7) as agent:
             for number in range(1, 20):
                 self.assertEqual(agent.play(raised), (number, None))
                 self.assertEqual((agent.seen, agent.won), (number, number))
         self.assertEqual(audit(self.path), (19, 19, 20))
 
     def test_a_step_that_has_begun_sees_its_state_and_fires_no_more(self):
-        with Run(INIT, self.path, 5) as run, run.agent(0) as slow, run.agent(1) as quick:
+        with Run(self.path, INIT, 5) as run, run.agent(0) as slow, run.agent(1) as quick:
             with slow.step() as step:
                 for _ in range(12):
                     quick.play(raised)
@@ -69,21 +69,22 @@ class Parts(Rooms):
         self.assertEqual(audit(self.path)[1:], (25, 6))
 
     def test_a_step_whose_agent_has_gone_on_says_so(self):
-        with Run(INIT, self.path, 5) as run, run.agent(0) as slow, run.agent(1) as quick:
+        with Run(self.path, INIT, 5) as run, run.agent(0) as slow, run.agent(1) as quick:
             with slow.step() as step:
                 for _ in range(7):
                     quick.play(raised)
                 self.assertEqual(slow.follow(), 7)
-                for call in (step.fire, step.try_fire, lambda: step.get(AT), lambda: step.push([]), lambda: step.scan("count")):
+                for call in (step.fire, lambda: step.get(AT), lambda: step.push([]), lambda: step.scan("count")):
                     with self.assertRaisesRegex(Past, "begin another step"):
                         call()
+                self.assertEqual(step.try_fire(), 0)
             with slow.step() as step:
                 slow.give()
                 with self.assertRaisesRegex(Error, "the agent was given back"):
                     step.get(AT)
 
     def test_a_part_waits_for_no_agent_that_is_idle(self):
-        with Run(INIT, self.path, 10) as run, run.agent(0) as idle, run.agent(1) as busy:
+        with Run(self.path, INIT, 10) as run, run.agent(0) as idle, run.agent(1) as busy:
             idle.play(raised)
             while run.parts < 5:
                 busy.play(raised)
@@ -94,7 +95,7 @@ class Parts(Rooms):
         self.assertEqual(audit(self.path).moves, number + 1)
 
     def test_reads_and_fires_by_numbers_of_the_run(self):
-        with Run(INIT, self.path, 4) as run, run.agent(0) as agent, run.agent(1) as other:
+        with Run(self.path, INIT, 4) as run, run.agent(0) as agent, run.agent(1) as other:
             old = agent.read([COUNT])
             self.assertEqual(old, (0, [0]))
             for number in range(1, 8):
@@ -144,11 +145,11 @@ class Parts(Rooms):
                     until(lambda: agent.follow() == 30)
                     self.assertEqual(agent.peek(AT), (30, 30))
 
-        with Run(INIT, self.path, 7) as run:
+        with Run(self.path, INIT, 7) as run:
             self.assertEqual(in_threads(work, 3), ([], True))
 
     def test_numbers_are_free_again(self):
-        with Run(INIT, self.path, 4) as run:
+        with Run(self.path, INIT, 4) as run:
             first = run.agent(0)
             first.play(raised)
             with self.assertRaisesRegex(Error, "agent 0"):
@@ -175,7 +176,7 @@ class Parts(Rooms):
         self.assertEqual(audit(self.path).moves, 13)
 
     def test_what_a_rule_raises_fires_nothing(self):
-        with Run(INIT, self.path, 4) as run, run.agent(0) as agent:
+        with Run(self.path, INIT, 4) as run, run.agent(0) as agent:
             for _ in range(10):
                 with self.assertRaises(ZeroDivisionError):
                     agent.play(lambda step: (raised(step), 1 // 0))
@@ -186,7 +187,7 @@ class Parts(Rooms):
 
     def test_steps_without_text_and_extensions(self):
         move = Move()
-        with Run(INIT, self.path, 3) as run, run.agent(0) as agent:
+        with Run(self.path, INIT, 3) as run, run.agent(0) as agent:
             for number in range(1, 11):
                 with agent.step() as step:
                     step.push(move.clear().inc(AT, 1))
@@ -195,7 +196,7 @@ class Parts(Rooms):
         self.assertEqual(self.last_state(), [[COUNT, 20]])
 
     def test_offers_have_numbers_of_the_run_and_popped_moves_go_on(self):
-        with Run(INIT, self.path, 3) as run, run.agent(0) as agent:
+        with Run(self.path, INIT, 3) as run, run.agent(0) as agent:
             for number in range(10):
                 with agent.step() as step:
                     self.assertEqual((step.see([COUNT]), step.get([COUNT])), ([number], [number]))
@@ -210,33 +211,33 @@ class Parts(Rooms):
     def test_the_writer_limits_how_many_parts_are_in_memory(self):
         chain = None
         most = [0]
-        real = _run_file.RunFile.append
+        real = _folder.RunWriter.save
 
-        def slow(file, journal):
+        def slow(folder, journal, *counts):
             part, count = chain._oldest, 0
             while part is not None:
                 part, count = part.next, count + part.is_open()
             most[0] = max(most[0], count)
             time.sleep(0.02)
-            real(file, journal)
+            real(folder, journal, *counts)
 
         def work(own):
             with run.agent(own) as agent:
                 for _ in range(100):
                     agent.play(raised)
 
-        with Run(INIT, self.path, 10) as run:
+        with Run(self.path, INIT, 10) as run:
             chain = run._chain
-            with mock.patch.object(_run_file.RunFile, "append", slow):
+            with mock.patch.object(_folder.RunWriter, "save", slow):
                 self.assertEqual(in_threads(work, 4), ([], True))
                 run.close()
         self.assertEqual(audit(self.path)[1:], (400, 41))
-        self.assertIn(most[0], (2, 3, 4))
+        self.assertIn(most[0], (2, 3))
 
     def test_one_schedule_gives_one_file(self):
         def played(seed, name):
             path = self.room / name
-            with Run(BANK, path, 7) as run:
+            with Run(path, BANK, 7) as run:
                 agents = [run.agent(own) for own in range(3)]
 
                 def work(agent):
@@ -244,7 +245,7 @@ class Parts(Rooms):
                     return [transfer(agent, rng)[0] for _ in range(12)]
 
                 told = interleave(agents, [work] * 3, seed)
-            return told, path.read_bytes()
+            return told, text_of(path)
 
         for seed in range(6):
             self.assertEqual(played(seed, f"{seed} a"), played(seed, f"{seed} b"))
@@ -292,9 +293,9 @@ class Random(Rooms):
             def work(own):
                 self.live(run, own, random.Random(f"{seed} {own}"), told[own])
 
-            with mock.patch.object(_parts, "_PATIENCE", 0.05):
-                with Run(INIT, self.path, rng.choice([1, 2, 7, 500]), receipts=rng.choice([None, 64])) as run:
-                    self.assertEqual(in_threads(work, 5), ([], True))
+            limits = {"receipts": rng.choice([None, 64]), "every": rng.choice([None, 0.05])}
+            with Run(self.path, INIT, rng.choice([1, 2, 7, 500]), **limits) as run:
+                self.assertEqual(in_threads(work, 5), ([], True))
             numbers = sorted(itertools.chain(*told))
             self.assertEqual(numbers, list(range(1, len(numbers) + 1)))
             self.assertEqual((audit(self.path).moves, self.last_state()), (len(numbers), [[COUNT, len(numbers)]]))
@@ -313,7 +314,7 @@ class Receipts(Rooms):
                 self.assertEqual(step.try_fire(), 0)
 
     def test_a_part_that_keeps_too_much_ends_at_rest(self):
-        with Run(INIT, self.path, 10_000, receipts=100) as run, run.agent(0) as agent, run.agent(1) as other:
+        with Run(self.path, INIT, 10_000, receipts=100) as run, run.agent(0) as agent, run.agent(1) as other:
             number = 0
             for _ in range(30):
                 for _ in range(20):
@@ -334,30 +335,53 @@ class Receipts(Rooms):
                 for _ in range(200):
                     agent.play(lambda step: (raised(step), time.sleep(0)))
 
-        with Run(INIT, self.path, 10_000, receipts=150) as run:
+        with Run(self.path, INIT, 10_000, receipts=150) as run:
             self.assertEqual(in_threads(work, 4), ([], True))
         calls, moves, parts = audit(self.path)
         self.assertEqual((moves, self.last_state()), (800, [[COUNT, 800]]))
         self.assertGreaterEqual(parts, 4)
 
-    def test_a_step_that_lasts_holds_the_part_open(self):
+    def test_a_step_that_lasts_is_given_back(self):
         def work(own):
             with run.agent(own) as agent:
                 for _ in range(300):
                     agent.play(raised)
 
-        with mock.patch.object(_parts, "_PATIENCE", 0.1), Run(INIT, self.path, 10_000, receipts=100) as run:
+        with Run(self.path, INIT, 10_000, receipts=100) as run:
             with run.agent(9) as slow, slow.step() as step:
-                self.assertEqual(in_threads(work, 2), ([], True))
-                self.assertEqual((step.get(AT), run.parts), (0, 1))
+                self.assertEqual((step.get(AT), in_threads(work, 2)), (0, ([], True)))
+                self.assertGreaterEqual(run.parts, 3)
+                with self.assertRaisesRegex(Past, "begin another step"):
+                    step.get(AT)
+                self.assertEqual(step.try_fire(), 0)
             self.assertEqual(slow.won, 0)
-            with run.agent(8) as last:
-                while run.parts < 3:
-                    last.play(raised)
-        self.assertGreaterEqual(audit(self.path).parts, 3)
+        self.assertEqual(audit(self.path).moves, 600)
+
+    def test_a_step_that_lasts_bounds_memory_and_stops_no_saving(self):
+        with Run(self.path, INIT, 10) as run, run.agent(0) as slow, run.agent(1) as quick:
+            with slow.step() as step:
+                begun = time.monotonic()
+                for number in range(1, 200):
+                    quick.play(raised)
+                    self.assertLess(number - run.saved, 40)
+                self.assertLess(time.monotonic() - begun, 5)
+                with self.assertRaises(Past):
+                    step.get(AT)
+
+            def lasts(step):
+                tries.append(step.get(AT))
+                if len(tries) < 3:
+                    for _ in range(40):
+                        quick.play(raised)
+                return step.push([["put", COUNT, step.get(AT) + 1]])
+
+            tries = []
+            self.assertEqual(slow.play(lasts), (280, None))
+            self.assertEqual(tries, [199, 239, 279])
+        self.assertEqual(self.last_state(), [[COUNT, 280]])
 
     def test_an_agent_that_was_abandoned_is_told_at_rest_too(self):
-        with contextlib.suppress(Broken), Run(INIT, self.path, 10_000, receipts=64) as run, run.agent(0) as agent:
+        with contextlib.suppress(Broken), Run(self.path, INIT, 10_000, receipts=64) as run, run.agent(0) as agent:
             with run.agent(1) as lost:
                 lost.play(raised)
                 lost.abandon()

@@ -17,7 +17,7 @@ from threads import in_threads
 
 class Ends(Rooms):
     def test_close_gives_all_back_and_ends_steps(self):
-        run = Run(INIT, self.path, 5)
+        run = Run(self.path, INIT, 5)
         agents = [run.agent(own) for own in range(3)]
         for _ in range(4):
             agents[0].play(raised)
@@ -53,20 +53,20 @@ class Ends(Rooms):
                     self.assertIn("the run was closed", str(error))
 
         last = [0] * 5
-        with Run(INIT, self.path, 20) as run:
+        with Run(self.path, INIT, 20) as run:
             self.assertEqual(in_threads(work, 5), ([], True))
         self.assertGreaterEqual(audit(self.path).moves, max(last))
         self.assertEqual(self.last_state(), [[COUNT, audit(self.path).moves]])
 
     def test_what_the_body_raises_closes_the_run(self):
-        with self.assertRaises(KeyError), Run(INIT, self.path, 5) as run, run.agent(0) as agent:
+        with self.assertRaises(KeyError), Run(self.path, INIT, 5) as run, run.agent(0) as agent:
             for _ in range(7):
                 agent.play(raised)
             raise KeyError
         self.assertEqual(audit(self.path), (7, 7, 3))
 
     def test_a_run_without_a_move(self):
-        Run(INIT, self.path).close()
+        Run(self.path, INIT).close()
         self.assertEqual((audit(self.path), self.last_state()), ((0, 0, 1), INIT))
         with Run.resume(self.path) as run:
             run.agent(0).follow()
@@ -87,7 +87,7 @@ class Ends(Rooms):
                     told.append(broken)
 
         told, start = [], threading.Barrier(4)
-        with self.assertRaises(Broken) as caught, Run(INIT, self.path, 20) as run:
+        with self.assertRaises(Broken) as caught, Run(self.path, INIT, 20) as run:
             self.assertEqual(in_threads(work, 4), ([], True))
         self.assertEqual(len(told), 3)
         parts = audit(self.path).parts
@@ -99,7 +99,7 @@ class Ends(Rooms):
         with Run.resume(self.path, 20) as run, run.agent(2) as agent:
             self.assertEqual(agent.play(raised), (20 * (parts - 1) + 1, None))
 
-    def assert_broken(self, fault, kind):
+    def assert_broken(self, fault, kind, is_named=False):
         def work(own):
             with run.agent(own) as agent:
                 start.wait()
@@ -109,40 +109,47 @@ class Ends(Rooms):
             told.append(caught.exception)
 
         told, start = [], threading.Barrier(3)
-        with self.assertRaises(Broken), Run(INIT, self.path, 20) as run, run.agent(9) as other, fault:
+        with self.assertRaises(Broken), Run(self.path, INIT, 20) as run, run.agent(9) as other, fault:
             self.assertEqual(in_threads(work, 3), ([], True))
             for call in (other.step, other.follow, lambda: run.agent(8), run.close, lambda: other.play(raised)):
                 with self.assertRaises(Broken):
                     call()
         counts = audit(self.path)
-        self.assertEqual({(it.part, type(it.__cause__)) for it in told}, {(counts.parts, kind)})
-        self.assertEqual(counts.moves, 20 * (counts.parts - 1))
-        self.assertEqual((run.saved, run.parts), counts[1:])
-        return counts.parts
+        self.assertEqual({(it.part, type(it.__cause__)) for it in told}, {(run.parts, kind)})
+        self.assertEqual(run.saved, 20 * (run.parts - 1))
+        # What has its name is there, though nobody was told.
+        self.assertEqual(counts[1:], (run.saved + 20 * is_named, run.parts + is_named))
+        return run.parts
 
     def test_a_write_that_fails_ends_the_run_and_harms_nothing(self):
-        writes, real = [0], os.pwrite
+        for number, last in enumerate((OSError(errno.ENOSPC, os.strerror(errno.ENOSPC)), 0)):
+            self.path = self.room / f"run{number}"
+            writes, real = [0], os.write
 
-        def full(fd, data, at):
-            writes[0] += 1
-            if writes[0] == 5:
-                return real(fd, data[:100], at)
-            if writes[0] > 5:
-                raise OSError(errno.ENOSPC, os.strerror(errno.ENOSPC))
-            return real(fd, data, at)
+            def full(fd, data):
+                writes[0] += 1
+                if writes[0] == 5:
+                    return real(fd, data[:100])
+                if writes[0] == 6 and last:
+                    raise last
+                return real(fd, data) if writes[0] < 6 else 0  # which took no byte
 
-        self.assertEqual(self.assert_broken(mock.patch.object(os, "pwrite", full), OSError), 5)
+            self.assertEqual(self.assert_broken(mock.patch.object(os, "write", full), OSError), 5)
+            self.assertFalse((self.path / "new").exists())
 
     def test_a_flush_that_fails_ends_the_run(self):
-        syncs, real = [0], os.fsync
+        # The seventh is that of the fourth file, the eighth that of the folder, where the file has its name.
+        for number in 7, 8:
+            self.path = self.room / f"run{number}"
+            syncs, real = [0], os.fsync
 
-        def fails(fd):
-            syncs[0] += 1
-            if syncs[0] == 4:
-                raise OSError(errno.EIO, os.strerror(errno.EIO))
-            real(fd)
+            def fails(fd):
+                syncs[0] += 1
+                if syncs[0] == number:
+                    raise OSError(errno.EIO, os.strerror(errno.EIO))
+                real(fd)
 
-        self.assertEqual(self.assert_broken(mock.patch.object(os, "fsync", fails), OSError), 4)
+            self.assertEqual(self.assert_broken(mock.patch.object(os, "fsync", fails), OSError, number == 8), 4)
 
     def test_refused_memory_of_the_writer_ends_the_run(self):
         real, asked = _parts.lib.asm_close, [0]
@@ -160,7 +167,7 @@ class Ends(Rooms):
             asked[0] += 1
             return 3 if asked[0] % 2 else real(*words)  # MEMORY
 
-        with Run(INIT, self.path, 3) as run, run.agent(0) as agent:
+        with Run(self.path, INIT, 3) as run, run.agent(0) as agent:
             with mock.patch.object(_parts.lib, "asm_go_on", refused):
                 told = 0
                 for _ in range(20):
@@ -175,11 +182,12 @@ class Ends(Rooms):
         code = """
 import resource, sys
 from folugben import Broken, Run
-resource.setrlimit(resource.RLIMIT_FSIZE, (100_000, 100_000))
+resource.setrlimit(resource.RLIMIT_FSIZE, (3_000, 3_000))
 try:
-    with Run([[["count"], 0]], sys.argv[1], 50) as run, run.agent(0) as agent:
+    with Run(sys.argv[1], [[["count"], 0]], 30) as run, run.agent(0) as agent:
         while True:
-            agent.play(lambda step: step.push([["inc", ["count"], 1]]))
+            text = "x" * (run.parts * 20)
+            agent.play(lambda step: step.push([["put", ["count"], text]]))
 except Broken as broken:
     print(broken.part, broken.__cause__.errno, broken)
 """
@@ -187,11 +195,11 @@ except Broken as broken:
         number, error, said = told.stdout.split(" ", 2)
         counts = audit(self.path)
         self.assertEqual((int(number), int(error), told.stderr), (counts.parts, errno.EFBIG, ""))
-        self.assertEqual(counts.moves, 50 * (counts.parts - 1))
-        self.assertGreater(self.path.stat().st_size, 90_000)
+        self.assertEqual(counts.moves, 30 * (counts.parts - 1))
+        self.assertLess(counts.moves, 2_000)
 
     def test_a_run_that_nobody_closes_is_written(self):
-        run = Run(INIT, self.path, 5)
+        run = Run(self.path, INIT, 5)
         agent = run.agent(0)
         for _ in range(7):
             agent.play(raised)
@@ -202,7 +210,7 @@ except Broken as broken:
         code = """
 import sys
 from folugben import Run
-run = Run([[["count"], 0]], sys.argv[1], 5)
+run = Run(sys.argv[1], [[["count"], 0]], 5)
 agent = run.agent(0)
 for _ in range(7):
     agent.play(lambda step: step.push([["inc", ["count"], 1]]))
@@ -226,12 +234,12 @@ class Processes(Rooms):
                 said.append("forked")
             except BaseException as error:
                 said.append(repr(error))
-        with Run(INIT, self.room / "own", 5) as own, own.agent(0) as new:
+        with Run(self.room / "own", INIT, 5) as own, own.agent(0) as new:
             said.append(str(new.play(lambda step: step.push([["inc", COUNT, 1]]))))
         os.write(pipe, json.dumps(said).encode() + b"\n")
 
     def test_a_fork_is_refused_and_holds_no_lock(self):
-        run = Run(INIT, self.path, 5)
+        run = Run(self.path, INIT, 5)
         agent, other = run.agent(0), run.agent(1)
         agent.play(raised)
         step = agent.step()
@@ -263,7 +271,7 @@ class Processes(Rooms):
         code = """
 import os, sys
 from folugben import Run
-with Run([[["count"], 0]], sys.argv[1], 5) as run, run.agent(0) as agent:
+with Run(sys.argv[1], [[["count"], 0]], 5) as run, run.agent(0) as agent:
     for _ in range(7):
         agent.play(lambda step: step.push([["inc", ["count"], 1]]))
     if os.fork() == 0:
@@ -314,7 +322,7 @@ class Signals(Rooms):
                     short = None  # which may not have come to its end
                 self.assertLess(time.monotonic(), end)
 
-        with mock.patch.object(sys, "unraisablehook", lambda _: None), Run(INIT, self.path, 3, receipts=64) as run:
+        with mock.patch.object(sys, "unraisablehook", lambda _: None), Run(self.path, INIT, 3, receipts=64) as run:
             thread, agent = threading.Thread(target=rival, daemon=True), run.agent(0)
             thread.start()
             signal.setitimer(signal.ITIMER_REAL, 0.0005, 0.0003)
@@ -343,7 +351,7 @@ class Signals(Rooms):
                     told.append("nested")
             return real(*words)
 
-        with Run(INIT, self.path, 2) as run, run.agent(0) as agent, run.agent(1) as other:
+        with Run(self.path, INIT, 2) as run, run.agent(0) as agent, run.agent(1) as other:
             other.play(raised)
             with mock.patch.object(_parts.lib, "asm_go_on", between):
                 for _ in range(3):

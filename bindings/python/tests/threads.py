@@ -3,7 +3,7 @@ import threading
 from collections.abc import Callable
 
 
-def in_threads(work: Callable[[int], object], count: int) -> tuple[list[Exception], bool]:
+def in_threads(work: Callable[[int], object], count: int, seconds: float = 60) -> tuple[list[Exception], bool]:
     """Calls work with 0, 1 .. at once, each in a thread of its own; the errors, and whether all threads ended."""
     start, errors = threading.Barrier(count), []
 
@@ -18,5 +18,5 @@ def in_threads(work: Callable[[int], object], count: int) -> tuple[list[Exceptio
     for thread in threads:
         thread.start()
     for thread in threads:
-        thread.join(60)
+        thread.join(seconds)
     return errors, not any(thread.is_alive() for thread in threads)

@@ -1,9 +1,9 @@
 """A run without an end beside the same moves without journals: time and memory.
 
-usage: endless.py run MOVES FILE | plain MOVES | audit FILE
+usage: endless.py run MOVES FOLDER | plain MOVES | audit FOLDER
 
 Eight agents in threads each raise a number of their own, in steps without text. `run` writes the parts of a Run, of 100,000 moves
-each, into the file, and tells the peak of memory once three parts are on the disk beside that at the end. `plain` has storages of
+each, into the folder, and tells the peak of memory once three parts are on the disk beside that at the end. `plain` has storages of
 as many moves, which are released without being closed. `audit` tells how many calls a second it judges, in how much memory.
 """
 import resource
@@ -45,7 +45,7 @@ def raises(storage, times):
 
 def run(moves, path):
     early = 0.0
-    with Run(INIT, path, PART) as it:
+    with Run(path, INIT, PART) as it:
         threads = raises(it, moves // AGENTS)
         while any(thread.is_alive() for thread in threads):
             threads[-1].join(0.05)

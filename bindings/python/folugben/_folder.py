@@ -1,0 +1,286 @@
+"""The folder of a run: one text file a segment, whose names hold a chain of digests."""
+import contextlib
+import errno
+import fcntl
+import hashlib
+import os
+import pathlib
+import re
+import stat
+from collections.abc import Iterator
+from typing import NamedTuple
+
+from ._errors import Damaged
+
+# How many bytes of a file are read at once.
+CHUNK = 1 << 20
+# What comes before the first segment's digest.
+NO_DIGEST = "0" * 64
+_NEW, _LOCK, _SUFFIX = "new", "lock", ".journal"
+_NUMBER = "(0|[1-9][0-9]*)"
+_NAME = re.compile(rf"([0-9]{{8}})-{_NUMBER}-{_NUMBER}-([0-9a-f]{{64}})\.journal")
+
+
+class Segment(NamedTuple):
+    """A complete segment. `first` is the number of moves before it, `digest` that of the chain up to its end."""
+
+    number: int
+    first: int
+    moves: int
+    events: int
+    digest: str
+
+    @property
+    def name(self) -> str:
+        """The name of its file."""
+        return f"{self.number:08}-{self.moves}-{self.events}-{self.digest}{_SUFFIX}"
+
+    @property
+    def end(self) -> int:
+        """The number of moves up to its end."""
+        return self.first + self.moves
+
+    def following(self, moves: int, events: int, text: memoryview) -> "Segment":
+        """Return the segment that comes next, with this text."""
+        bare = Segment(self.number + 1, self.end, moves, events, "")
+        digest = begun_digest(bare, self.digest, len(text))
+        digest.update(text)
+        return bare._replace(digest=digest.hexdigest())
+
+
+# The end of a run that has no segment yet.
+START = Segment(-1, 0, 0, 0, NO_DIGEST)
+
+
+def begun_digest(segment: Segment, previous: str, length: int) -> "hashlib._Hash":
+    """Return the digest of all that comes before the text of a segment."""
+    line = f"{previous} {segment.number} {segment.first} {segment.moves} {segment.events} {length}\n"
+    return hashlib.sha256(line.encode())
+
+
+class RunFolder:
+    """A run's folder, to read: also while another process writes there."""
+
+    def __init__(self, path: str | os.PathLike[str]) -> None:
+        self.path = pathlib.Path(os.path.realpath(path))
+        self._fd = _opened(self.path)
+
+    def segments(self) -> list[Segment]:
+        """Return the segments that are there now.
+
+        Raises:
+            FileNotFoundError: there is none.
+            Damaged: the names aren't those of a run.
+        """
+        found = [it for it in os.listdir(self._fd) if it.endswith(_SUFFIX)]
+        segments, last = [], START
+        for name in sorted(found):
+            told = _NAME.fullmatch(name)
+            if told is None:
+                raise Damaged(last.number + 1, f"{name!r} is no name of a segment")
+            number, moves, events = map(int, told.groups()[:3])
+            if number != last.number + 1:
+                said = f"another file has this number too: {name}" if number == last.number else "its file is missing"
+                raise Damaged(min(number, last.number + 1), said)
+            if number == 0 and moves + events > 0:
+                raise Damaged(0, "the opening segment has no event")
+            last = Segment(number, last.end, moves, events, told[4])
+            segments.append(last)
+        if not segments:
+            raise FileNotFoundError(errno.ENOENT, "the folder has no run", str(self.path))
+        return segments
+
+    def text(self, segment: Segment, previous: str) -> Iterator[bytes]:
+        """Yield the text of a segment, behind the one with the previous digest.
+
+        Raises:
+            Damaged: the text isn't the one that was saved, at its end at the latest.
+        """
+        try:
+            fd = os.open(segment.name, os.O_RDONLY | os.O_CLOEXEC | os.O_NOFOLLOW, dir_fd=self._fd)
+        except FileNotFoundError:
+            raise Damaged(segment.number, "its file is gone") from None
+        with open(fd, "rb", buffering=0) as file:
+            length = os.fstat(fd).st_size
+            digest = begun_digest(segment, previous, length)
+            while chunk := file.read(CHUNK):
+                digest.update(chunk)
+                yield chunk
+        if digest.hexdigest() != segment.digest:
+            raise Damaged(segment.number, "its text isn't the one that was saved")
+
+    def close(self) -> None:
+        """Close the folder; it may be called again."""
+        if self._fd >= 0:
+            fd, self._fd = self._fd, -1
+            os.close(fd)
+
+    def __enter__(self) -> "RunFolder":
+        return self
+
+    def __exit__(self, *_: object) -> None:
+        self.close()
+
+
+class RunWriter(RunFolder):
+    """A run's folder that this process alone writes to."""
+
+    def __init__(self, path: pathlib.Path) -> None:
+        super().__init__(path)
+        self._lock, self._size, self.last = -1, 0, START
+        try:
+            self._lock = os.open(_LOCK, os.O_RDWR | os.O_CREAT | os.O_CLOEXEC | os.O_NOFOLLOW, 0o600, dir_fd=self._fd)
+            fcntl.flock(self._lock, fcntl.LOCK_EX | fcntl.LOCK_NB)
+            self._expect_there()
+            # What an earlier, killed run has renamed is flushed before it is reported.
+            os.fsync(self._fd)
+            sync_folder(self.path.parent)
+        except BaseException as error:
+            self.close()
+            if isinstance(error, BlockingIOError):
+                raise BlockingIOError(error.errno, "another run is at work in the folder", str(path)) from None
+            raise
+
+    @classmethod
+    def created(cls, path: str | os.PathLike[str], opening: memoryview) -> "RunWriter":
+        """Create a run with an opening segment.
+
+        Raises:
+            FileExistsError: the path leads to a run, or to something else than an empty folder.
+            BlockingIOError: another process creates a run there.
+        """
+        real = pathlib.Path(os.path.realpath(path))
+        with contextlib.suppress(FileExistsError):
+            os.mkdir(real, 0o700)
+        _expect_empty(real)
+        writer = cls(real)
+        try:
+            _expect_empty(real)
+            writer.save(opening, 0, 0)
+        except BaseException:
+            writer.close()
+            raise
+        return writer
+
+    @classmethod
+    def resumed(cls, path: str | os.PathLike[str]) -> tuple["RunWriter", list[Segment]]:
+        """Open an earlier run to go on with it. Return it with its segments, of which no text was read.
+
+        Raises:
+            FileNotFoundError: there is no run.
+            BlockingIOError: another run is at work there.
+            Damaged: the names aren't those of a run.
+        """
+        with RunFolder(path) as folder:
+            folder.segments()  # nothing is created in a folder without a run
+        writer = cls(folder.path)
+        try:
+            segments = writer.segments()
+            writer.last = segments[-1]
+            writer._size = os.stat(writer.last.name, dir_fd=writer._fd).st_size
+            writer._drop_new()
+        except BaseException:
+            writer.close()
+            raise
+        return writer, segments
+
+    def save(self, text: memoryview, moves: int, events: int) -> None:
+        """Save the next segment; it is on the disk when this returns. After an error nothing more may be saved."""
+        now = self.last.following(moves, events, text)
+        if now.number >= 10**8:
+            raise OSError(errno.EFBIG, "a run has at most 100,000,000 segments", str(self.path))
+        self._expect_there()
+        self._write_new(text)
+        os.rename(_NEW, now.name, src_dir_fd=self._fd, dst_dir_fd=self._fd)
+        os.fsync(self._fd)
+        self.last, self._size = now, len(text)
+        self._expect_there()
+
+    def _write_new(self, text: memoryview) -> None:
+        flags = os.O_WRONLY | os.O_CREAT | os.O_EXCL | os.O_CLOEXEC
+        self._drop_new()
+        fd = os.open(_NEW, flags, 0o600, dir_fd=self._fd)
+        try:
+            at = 0
+            while at < len(text):
+                written = os.write(fd, text[at:])
+                if written == 0:
+                    raise OSError(errno.EIO, "a write took no byte", str(self.path / _NEW))
+                at += written
+            os.fsync(fd)
+        except BaseException:
+            # The disk may be full of it.
+            with contextlib.suppress(OSError):
+                self._drop_new()
+            raise
+        finally:
+            os.close(fd)
+
+    def _drop_new(self) -> None:
+        with contextlib.suppress(FileNotFoundError):
+            os.unlink(_NEW, dir_fd=self._fd)
+
+    def _expect_there(self) -> None:
+        """Check that the path leads to this folder, with the lock and the last segment.
+
+        Raises:
+            Damaged: something was moved, removed, replaced or truncated.
+        """
+        number = self.last.number + 1
+        try:
+            if not _same(os.stat(self.path), os.fstat(self._fd)):
+                raise Damaged(number, f"{self.path} was moved or replaced")
+            if not _same(os.stat(_LOCK, dir_fd=self._fd, follow_symlinks=False), os.fstat(self._lock)):
+                raise Damaged(number, f"the lock in {self.path} was replaced")
+            if number > 0 and os.stat(self.last.name, dir_fd=self._fd, follow_symlinks=False).st_size != self._size:
+                raise Damaged(self.last.number, "its file has another size than it was written with")
+        except FileNotFoundError as error:
+            raise Damaged(number, f"{self.path}: what the run has written was removed") from error
+
+    def close(self) -> None:
+        """Let another run have the folder; it may be called again."""
+        if self._lock >= 0:
+            lock, self._lock = self._lock, -1
+            # A child of a fork may have a copy, by which it would be locked on.
+            fcntl.flock(lock, fcntl.LOCK_UN)
+            os.close(lock)
+        super().close()
+
+    def leave(self) -> None:
+        """Close the copies that the child of a fork has; the parent's run goes on."""
+        if self._lock >= 0:
+            lock, self._lock = self._lock, -1
+            os.close(lock)
+        super().close()
+
+
+def _same(one: os.stat_result, other: os.stat_result) -> bool:
+    return (one.st_dev, one.st_ino) == (other.st_dev, other.st_ino)
+
+
+def _opened(path: pathlib.Path) -> int:
+    try:
+        return os.open(path, os.O_RDONLY | os.O_DIRECTORY | os.O_CLOEXEC)
+    except NotADirectoryError as error:
+        said = "a run is a folder; a run of version 0.2, one file, is imported by: python -m folugben import"
+        raise NotADirectoryError(error.errno, said, str(path)) from None
+
+
+def _expect_empty(path: pathlib.Path) -> None:
+    """Expect a folder without anything but what a run leaves that was killed while it was created."""
+    if not stat.S_ISDIR(os.stat(path).st_mode):
+        raise FileExistsError(errno.EEXIST, "there is a file", str(path))
+    names = set(os.listdir(path)) - {_NEW, _LOCK}
+    if any(name.endswith(_SUFFIX) for name in names):
+        raise FileExistsError(errno.EEXIST, "there is a run, with which Run.resume goes on", str(path))
+    if names:
+        raise FileExistsError(errno.EEXIST, "the folder isn't empty", str(path))
+
+
+def sync_folder(folder: pathlib.Path) -> None:
+    """Flush the names in a folder."""
+    fd = os.open(folder, os.O_RDONLY | os.O_DIRECTORY | os.O_CLOEXEC)
+    try:
+        os.fsync(fd)
+    finally:
+        os.close(fd)

@@ -1,0 +1,88 @@
+"""Runs of version 0.2, which are one file, and their import into a folder."""
+import errno
+import os
+import pathlib
+import secrets
+import shutil
+from collections.abc import Iterator
+from typing import BinaryIO
+
+from ._auditor import Auditor, Counts
+from ._errors import BadJournal
+from ._folder import CHUNK, RunWriter, sync_folder
+from ._library import CUT, NOT_JSON, SHAPE
+from ._reading import HEADER
+from ._storage import Storage
+from ._texts import decoded
+
+
+def import_run(file: str | os.PathLike[str], folder: str | os.PathLike[str]) -> tuple[Counts, int]:
+    """Import a run of version 0.2, which is one file, into a new folder.
+
+    Return the counts of its complete parts, and how many bytes of an incomplete last part were left out. The file isn't
+    changed. The folder is there as a whole, or not at all.
+
+    Raises:
+        BadJournal: a part isn't legal, or none is complete.
+        FileExistsError: there is something at the folder's path.
+    """
+    path = pathlib.Path(os.path.realpath(folder))
+    if path.exists():
+        raise FileExistsError(errno.EEXIST, "there is something already", str(path))
+    made = path.with_name(f".{path.name}.{secrets.token_hex(4)}")
+    try:
+        with open(file, "rb") as source:
+            told = _imported(source, made)
+        os.rename(made, path)
+        sync_folder(path.parent)
+    finally:
+        shutil.rmtree(made, ignore_errors=True)
+    return told
+
+
+def _imported(source: BinaryIO, made: pathlib.Path) -> tuple[Counts, int]:
+    writer, counts, complete = None, Counts(0, 0, 0), 0
+    try:
+        for text, now in _parts(source):
+            moves, events = now.moves - counts.moves, now.calls - counts.calls
+            if writer is None:
+                writer = RunWriter.created(made, memoryview(_opening(text)))
+            # What opens the run is there by now.
+            if events > 0 or counts.parts > 0:
+                writer.save(memoryview(text), moves, events)
+            counts, complete = now, complete + len(text)
+    except BadJournal as bad:
+        if not complete or bad.code not in (CUT, NOT_JSON, SHAPE) or _has_header(source, complete + 1):
+            raise
+    finally:
+        if writer is not None:
+            writer.close()
+    return counts, os.fstat(source.fileno()).st_size - complete
+
+
+def _parts(source: BinaryIO) -> Iterator[tuple[bytes, Counts]]:
+    """Yield each complete part with what was counted up to its end."""
+    with Auditor() as auditor:
+        lines: list[bytes] = []
+        parts = 0
+        while line := source.readline(CHUNK):
+            lines.append(line)
+            counts = auditor.feed(line)
+            if counts.parts > parts:
+                yield b"".join(lines), counts
+                lines, parts = [], counts.parts
+        auditor.end()
+
+
+def _opening(text: bytes) -> bytes:
+    """The journal without a call that opens as this one does."""
+    header = decoded(text.split(b"\n", 1)[0])
+    with Storage(header["init"], header["capacity"]) as storage:
+        return storage.close_journal()
+
+
+def _has_header(source: BinaryIO, start: int) -> bool:
+    """Whether a line behind this place begins as the header of a part does."""
+    source.seek(start)
+    source.readline()
+    return any(line.startswith(HEADER) for line in source)

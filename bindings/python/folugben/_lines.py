@@ -1,0 +1,43 @@
+"""How long the lines of a run's journals may be, so that an audit reads each of them."""
+from typing import TYPE_CHECKING, Any
+
+from ._errors import TooLong
+from ._library import LARGE
+from ._texts import decoded, encoded
+
+# How many bytes a line may have, its line feed apart: what an audit reads, and what is written.
+LINE_LIMIT = 16_777_216
+# What a line has at most besides its call and the location of its reply, or besides its state.
+ROOM = 120
+# A call of fewer bytes is never written longer than a line may be, whatever its characters are escaped to.
+SHORT = LINE_LIMIT // 16
+
+
+def too_long(what: str, length: int) -> TooLong:
+    """Return the error of something that would be too long."""
+    return TooLong(LARGE, said=f"{what} would make a line of about {length:,} bytes, and an audit reads {LINE_LIMIT:,}")
+
+
+def expect_call(call: bytes) -> None:
+    """Expect that the line of a fire is short enough, whatever its reply is; `TooLong` otherwise."""
+    if 2 * len(call) + ROOM <= LINE_LIMIT:
+        return
+    told: dict[str, Any] = decoded(call)
+    places = [it[1] for it in told["fire"]] + [it[0] for it in told["reads"]]
+    length = len(call) + max((len(encoded(place, "place")) for place in places), default=0) + ROOM
+    if length > LINE_LIMIT:
+        raise too_long("the move", length)
+
+
+def expect_state(length: int) -> None:
+    """Expect that a journal may open with a state whose text is so long; `TooLong` otherwise."""
+    if length + ROOM > LINE_LIMIT:
+        raise too_long("the state", length + ROOM)
+
+
+def expect_lines(journal: memoryview) -> None:
+    """Expect that all lines of a journal are short enough; `TooLong` otherwise."""
+    if len(journal) > LINE_LIMIT:
+        longest = max(map(len, bytes(journal).split(b"\n")))
+        if longest > LINE_LIMIT:
+            raise too_long("what was done", longest)

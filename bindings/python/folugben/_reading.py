@@ -1,0 +1,207 @@
+"""Runs that are stored, to read: audits, one part, and what they store as one file."""
+import contextlib
+import os
+import time
+from collections.abc import Callable, Iterator
+from typing import BinaryIO, Protocol
+
+from ._auditor import Auditor, Counts
+from ._errors import BadJournal, Damaged
+from ._folder import CHUNK, START, RunFolder, Segment
+
+# How the header of a part begins, which no line of an event does.
+HEADER = b'{"agents":'
+# How often `follow` looks for a further segment.
+_LOOK = 0.2
+
+
+class Readable(Protocol):
+    """A file."""
+
+    def read(self, size: int, /) -> bytes | str | None: ...
+
+
+class Store(Protocol):
+    """The segments of a run, in a folder or in a database."""
+
+    def segments(self) -> list[Segment]:
+        """Return the segments that are there now."""
+
+    def text(self, segment: Segment, previous: str) -> Iterator[bytes]:
+        """Yield the text of a segment; `Damaged` where it isn't the one that was saved."""
+
+    def close(self) -> None:
+        """Close it; it may be called again."""
+
+
+def opened(target: str | os.PathLike[str]) -> Store:
+    """Open a stored run to read."""
+    return RunFolder(target)
+
+
+def is_stored(target: object) -> bool:
+    """Whether a target is a stored run, and not one file that tells a run."""
+    return isinstance(target, (str, os.PathLike)) and os.path.isdir(target)
+
+
+class Reading:
+    """Reads a stored run segment by segment, and audits it."""
+
+    def __init__(self, store: Store, progress: Callable[[int], None] | None = None) -> None:
+        self._store, self._progress = store, progress
+        self._auditor, self._fed = Auditor(), 0
+        # The last segment that was read.
+        self.last = START
+
+    def audit(self, segments: list[Segment]) -> Counts:
+        """Audit the segments behind those that were audited.
+
+        Raises:
+            Damaged: a text isn't the one that was saved, or tells other numbers than its segment.
+            BadJournal: a text isn't legal.
+        """
+        for segment in segments[self.last.number + 1 :]:
+            self._audit(segment)
+        return self._auditor.end()
+
+    def audit_last(self, segments: list[Segment]) -> Counts:
+        """Audit the last segment alone; what stands before it is taken from its chain."""
+        if len(segments) > 1:
+            self.last = segments[-2]
+        self._audit(segments[-1])
+        return self._auditor.end()
+
+    def state(self) -> bytes:
+        """Return the text of the state after what was audited."""
+        return self._auditor._state()
+
+    def __enter__(self) -> "Reading":
+        return self
+
+    def __exit__(self, *_: object) -> None:
+        self._auditor.free()
+
+    def _audit(self, segment: Segment) -> None:
+        for _ in self._store.text(segment, self.last.digest):
+            pass  # the digest comes first
+        before = self._auditor.counts
+        try:
+            for chunk in self._store.text(segment, self.last.digest):
+                self._auditor.feed(chunk)
+                self._fed += len(chunk)
+                if self._progress is not None:
+                    self._progress(self._fed)
+            calls, moves, parts = self._auditor.end()
+        except BadJournal as bad:
+            bad.part = segment.number
+            raise
+        if (calls - before.calls, moves - before.moves, parts - before.parts) != (segment.events, segment.moves, 1):
+            raise Damaged(segment.number, "its text has other numbers of moves or events than its name")
+        self.last = segment
+
+
+def audit(run: str | os.PathLike[str] | Readable, progress: Callable[[int], None] | None = None) -> Counts:
+    """Check a run: return the numbers of its calls, moves and parts.
+
+    The run is a folder, a file of any length with its journals one behind the other, or a path to either. With `progress`,
+    that is called with the number of bytes now and then.
+
+    Raises:
+        BadJournal: it isn't legal, or isn't complete, as soon as that is read.
+        Damaged: a segment of a folder isn't the one that was saved.
+    """
+    if isinstance(run, (str, os.PathLike)):
+        if is_stored(run):
+            with contextlib.closing(opened(run)) as store, Reading(store, progress) as reading:
+                return reading.audit(store.segments())
+        with open(run, "rb", buffering=0) as file:
+            return _audited(file, progress)
+    if not hasattr(run, "read"):
+        raise TypeError(f"audit takes a path or a file, and not {type(run).__name__!r}: feed bytes to an Auditor")
+    return _audited(run, progress)
+
+
+def _audited(file: Readable, progress: Callable[[int], None] | None) -> Counts:
+    # Of a pipe what is there is taken, so that a wrong answer is told when it comes.
+    read, fed = getattr(file, "read1", file.read), 0
+    with Auditor() as auditor:
+        while chunk := read(CHUNK):
+            auditor.feed(chunk)
+            fed += len(chunk)
+            if progress is not None:
+                progress(fed)
+        return auditor.end()
+
+
+def verify(target: str | os.PathLike[str]) -> Segment:
+    """Check the digests of all segments of a run: return the last segment, which has the digest of all.
+
+    Raises:
+        Damaged: a text isn't the one that was saved.
+    """
+    return save(target, None)
+
+
+def save(target: str | os.PathLike[str], output: BinaryIO | None) -> Segment:
+    """Write a stored run as one file, which `audit` reads: return its last segment."""
+    last = START
+    with contextlib.closing(opened(target)) as store:
+        for segment in store.segments():
+            for chunk in store.text(segment, last.digest):
+                if output is not None:
+                    output.write(chunk)
+            last = segment
+    return last
+
+
+def follow(target: str | os.PathLike[str]) -> Iterator[Counts]:
+    """Audit a run while it goes on: yield the counts after what is there, and after each look that found more."""
+    with contextlib.closing(opened(target)) as store, Reading(store) as reading:
+        while True:
+            segments = store.segments()
+            if len(segments) > reading.last.number + 1:
+                yield reading.audit(segments)
+            time.sleep(_LOOK)
+
+
+def texts(target: str | os.PathLike[str]) -> Iterator[bytes]:
+    """Yield the journal of each segment of a stored run."""
+    previous = START.digest
+    with contextlib.closing(opened(target)) as store:
+        for segment in store.segments():
+            yield b"".join(store.text(segment, previous))
+            previous = segment.digest
+
+
+def part(run: str | os.PathLike[str] | BinaryIO, number: int) -> bytes:
+    """Return the journal of one part of a run, counted from 0, of a folder, a file, or a path to either.
+
+    Raises:
+        IndexError: there are fewer parts.
+    """
+    if isinstance(run, (str, os.PathLike)):
+        if is_stored(run):
+            with contextlib.closing(opened(run)) as store:
+                return _part_of(store, number)
+        with open(run, "rb") as file:
+            return part(file, number)
+    lines: list[bytes] = []
+    at = -1
+    for line in run:
+        if line.startswith(HEADER):
+            at += 1
+        if at > number:
+            break
+        if at == number:
+            lines.append(line)
+    if at < number or number < 0:
+        raise IndexError(f"there is no part {number}, as the run has {at + 1}")
+    return b"".join(lines)
+
+
+def _part_of(store: Store, number: int) -> bytes:
+    segments = store.segments()
+    if not 0 <= number < len(segments):
+        raise IndexError(f"there is no part {number}, as the run has {len(segments)}")
+    previous = segments[number - 1].digest if number else START.digest
+    return b"".join(store.text(segments[number], previous))

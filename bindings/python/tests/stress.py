@@ -1,0 +1,58 @@
+"""Runs that are stressed for longer than a test may take.
+
+usage: stress.py threads SECONDS | kills N | failures N | flips N
+
+`threads` has 4 agents in threads raise one number, in parts of 200 moves; `kills` kills a process so often and resumes its run;
+`failures` resumes from so many states that a power failure may leave; `flips` alters so many bits and lengths of files.
+"""
+import pathlib
+import sys
+import tempfile
+import time
+
+sys.path[:0] = [str(pathlib.Path(__file__).resolve().parents[1]), str(pathlib.Path(__file__).resolve().parent)]
+from folugben import Run, audit  # noqa: E402
+from rooms import INIT, raised  # noqa: E402
+from test_damage import Folders, PowerFailures  # noqa: E402
+from test_folders import Folders as Killed  # noqa: E402
+from threads import in_threads  # noqa: E402
+
+
+def threads(seconds):
+    with tempfile.TemporaryDirectory() as room:
+        path, end = pathlib.Path(room, "run"), time.monotonic() + seconds
+
+        def work(own):
+            with run.agent(own) as agent:
+                while time.monotonic() < end:
+                    agent.play(raised)
+                    counts[own] += 1
+
+        counts = [0] * 4
+        with Run(path, INIT, 200) as run:
+            errors, is_over = in_threads(work, 4, seconds + 60)
+        told = audit(path)
+        assert (errors, is_over, told.moves) == ([], True, sum(counts)), (errors, is_over, told, counts)
+        return told
+
+
+def tried(case, name, method, times):
+    """What a method of a test case returns, in a room of its own."""
+    it = case(name)
+    it.setUp()
+    try:
+        return getattr(it, method)(times)
+    finally:
+        it.doCleanups()
+
+
+WORKS = {
+    "threads": threads,
+    "kills": lambda times: tried(Killed, "test_what_is_killed_is_resumed", "assert_resumed", times),
+    "failures": lambda times: tried(PowerFailures, "test_nothing_is_lost", "fail", times),
+    "flips": lambda times: tried(Folders, "test_flipped_bits_and_cut_files_are_found", "flip", times),
+}
+
+if __name__ == "__main__":
+    begun = time.monotonic()
+    print(*sys.argv[1:], WORKS[sys.argv[1]](int(sys.argv[2])), f"{time.monotonic() - begun:.0f} s", flush=True)

@@ -1,0 +1,274 @@
+"""Runs that were damaged, or cut off by a power failure, or whose lines would be too long."""
+import contextlib
+import random
+import shutil
+import unittest
+from unittest import mock
+
+import crashes
+from folugben import BadJournal, Broken, Damaged, Location, Move, Run, TooLong, _lines, _part, _run_agent, audit, part, states
+from folugben._folder import RunWriter
+from folugben._reading import save, verify
+from rooms import COUNT, INIT, Rooms, raised, segments, text_of, until
+
+
+class Folders(Rooms):
+    def setUp(self):
+        super().setUp()
+        with Run(self.path, INIT, 4) as run, run.agent(0) as agent:
+            for _ in range(14):
+                agent.play(raised)
+
+    def assert_refused(self, number, is_last=True):
+        """All that read refuse the run, and nothing in it is changed."""
+        before = {it.name: it.read_bytes() for it in self.path.iterdir()}
+        for call in (audit, verify, Run.resume, *[lambda path: Run.resume(path, check="last")] * is_last):
+            with self.assertRaises(Damaged) as caught:
+                call(self.path)
+            self.assertEqual(caught.exception.segment, number)
+            self.assertIn(f"segment {number}: ", str(caught.exception))
+        self.assertEqual({it.name: it.read_bytes() for it in self.path.iterdir()}, before)
+
+    def test_flipped_bits_and_cut_files_are_found(self):
+        self.flip(60)
+
+    def flip(self, times):
+        rng = random.Random(5)
+        for _ in range(times):
+            number = rng.randrange(5)
+            file = segments(self.path)[number]
+            whole = file.read_bytes()
+            altered = bytearray(whole)
+            if rng.random() < 0.6:
+                altered[rng.randrange(len(altered))] ^= 1 << rng.randrange(8)
+            elif rng.random() < 0.8:
+                del altered[rng.randrange(len(altered)) :]
+            else:
+                altered += whole[: rng.randrange(1, len(whole))]
+            file.write_bytes(altered)
+            self.assert_refused(number, number == 4)
+            file.write_bytes(whole)
+        self.assertEqual(audit(self.path), (14, 14, 5))
+
+    def test_another_legal_text_is_found(self):
+        file = segments(self.path)[2]
+        file.write_bytes(file.read_bytes().replace(b'["put",["count"],6]', b'["put",["count"],9]'))
+        self.assert_refused(2, False)
+        # A name that fits the text doesn't fit the next one.
+        with Run(self.room / "other", [[COUNT, 1]], 4) as run, run.agent(0) as agent:
+            for _ in range(14):
+                agent.play(raised)
+        file.unlink()
+        shutil.copy(segments(self.room / "other")[2], self.path)
+        self.assert_refused(2, False)
+
+    def test_names_are_checked(self):
+        names = [it.name for it in segments(self.path)]
+        for number, altered in [
+            (2, lambda: (self.path / names[2]).unlink()),
+            (2, lambda: (self.path / names[2]).rename(self.path / "00000009-4-4-00.journal")),
+            (0, lambda: (self.path / names[0]).unlink()),
+            (1, lambda: shutil.copy(self.path / names[1], self.path / names[1].replace("-4-4-", "-4-5-"))),
+            (0, lambda: (self.path / names[0]).rename(self.path / names[0].replace("-0-0-", "-1-1-"))),
+            (5, lambda: (self.path / "0005.journal").touch()),
+        ]:
+            copy = self.room / "copy"
+            shutil.copytree(self.path, copy)
+            altered()
+            self.assert_refused(number)
+            shutil.rmtree(self.path)
+            copy.rename(self.path)
+        # What a copy or an editor leaves beside them doesn't matter, nor that the last segments were removed.
+        (self.path / "notes").touch()
+        (self.path / names[4]).unlink()
+        self.assertEqual(audit(self.path), (12, 12, 4))
+
+    def replace_last(self, text, moves, events):
+        """Has a text of these numbers, with a right digest, in the place of the last segment."""
+        segments(self.path)[4].unlink()
+        writer, _ = RunWriter.resumed(self.path)
+        writer.save(memoryview(text), moves, events)
+        writer.close()
+
+    def test_numbers_of_a_name_are_those_of_its_text(self):
+        text = part(self.path, 4)
+        for text, moves, events in [(text, 1, 2), (text, 2, 3), (2 * text, 4, 4)]:
+            self.replace_last(text, moves, events)
+            for check in "all", "last":
+                with self.assertRaises((Damaged, BadJournal)) as caught:
+                    Run.resume(self.path, check=check)
+                self.assertRegex(str(caught.exception), "segment 4: its text has other numbers|part 4: ")
+
+    def test_an_illegal_segment_is_told_with_its_number(self):
+        self.replace_last(part(self.path, 4).replace(b'{"fired":1}', b'{"fired":9}'), 2, 2)
+        for check in "all", "last":
+            with self.assertRaises(BadJournal) as caught:
+                Run.resume(self.path, check=check)
+            self.assertEqual((caught.exception.part, caught.exception.call), (4, 0))
+
+    def test_one_file_has_all(self):
+        with (self.room / "file").open("wb") as file:
+            self.assertEqual(save(self.path, file).end, 14)
+        self.assertEqual((self.room / "file").read_bytes(), text_of(self.path))
+        self.assertEqual(audit(self.room / "file"), audit(self.path))
+        self.assertEqual(part(self.room / "file", 3), part(self.path, 3))
+        for number in (-1, 5):
+            self.assertRaises(IndexError, part, self.path, number)
+        self.assertEqual([(number, dict(values)) for number, values in states(self.path)],
+                         [(number, {'["count"]': number}) for number in range(15)])
+
+
+class AtWork(Rooms):
+    def assert_noticed(self, alter, said):
+        with contextlib.suppress(Broken), Run(self.path, INIT, 4) as run, run.agent(0) as agent:
+            for _ in range(6):
+                agent.play(raised)
+            until(lambda: run.saved == 4)
+            alter()
+            with self.assertRaises(Broken) as caught:
+                run.flush()
+            self.assertRegex(str(caught.exception), said)
+            self.assertIsInstance(caught.exception.__cause__, Damaged)
+            self.assertEqual((run.saved, caught.exception.part), (4, 2))
+
+    def test_a_folder_that_is_moved_removed_or_replaced(self):
+        moved = self.room / "moved"
+        self.assert_noticed(lambda: self.path.rename(moved), "was removed")
+        self.assertEqual(audit(moved), (4, 4, 2))
+        self.assert_noticed(lambda: shutil.rmtree(self.path), "was removed")
+        self.assert_noticed(lambda: (shutil.copytree(self.path, self.room / "c"), shutil.rmtree(self.path),
+                                     (self.room / "c").rename(self.path)), "moved or replaced")
+        self.assertEqual(audit(self.path), (4, 4, 2))
+
+    def test_a_file_that_is_removed_or_truncated(self):
+        self.assert_noticed(lambda: segments(self.path)[1].unlink(), "was removed")
+        shutil.rmtree(self.path)
+        self.assert_noticed(lambda: segments(self.path)[1].write_bytes(b"x"), "another size")
+
+    def test_a_lock_that_is_replaced(self):
+        self.assert_noticed(lambda: ((self.path / "lock").unlink(), (self.path / "lock").touch()), "lock in .* was replaced")
+
+
+class PowerFailures(Rooms):
+    """A run whose machine fails at a random moment has all that was reported as saved."""
+
+    def fail(self, times, notes_folder=True):
+        rng, lost = random.Random(times), 0
+        for _ in range(max(1, times // 60)):
+            shutil.rmtree(self.path, ignore_errors=True)
+            log = crashes.Log(self.path, notes_folder)
+            with log.noting():
+                self.write(rng)
+            saves = [place for place, call in enumerate(log.calls) if call[0] == "saved"]
+            for _ in range(min(times, 60)):
+                end = rng.choice((rng.randint(0, len(log.calls)), min(len(log.calls), rng.choice(saves) + rng.randint(0, 4))))
+                lost += not self.goes_on(*crashes.crashed(log.calls[:end], rng), rng)
+        return lost
+
+    def write(self, rng):
+        for times in range(3):
+            with (Run.resume(self.path, 3, check="last") if times else Run(self.path, INIT, 3)) as run, run.agent(0) as agent:
+                for _ in range(rng.randrange(1, 12)):
+                    agent.play(raised)
+                    if rng.random() < 0.2:
+                        run.flush()
+
+    def goes_on(self, files, saved, rng):
+        """Whether a run goes on with what a failure has left, with all that was saved."""
+        path = self.room / "left"
+        shutil.rmtree(path, ignore_errors=True)
+        if files is not None:
+            path.mkdir()
+            for name, text in files.items():
+                (path / name).write_bytes(text)
+        try:
+            run = Run.resume(path, 3, check=rng.choice(["all", "last"]))
+        except FileNotFoundError:
+            run = Run(path, INIT, 3)
+            if saved:
+                run.close()
+                return False
+        with run, run.agent(0) as agent:
+            if run.parts < saved:
+                return False
+            number = run.saved
+            self.assertEqual(agent.play(raised), (number + 1, None))
+        self.assertEqual(audit(path)[1], number + 1)
+        return True
+
+    def test_nothing_is_lost(self):
+        self.assertEqual(self.fail(60), 0)
+
+    def test_without_the_flush_of_the_folder_segments_are_lost(self):
+        self.assertGreater(self.fail(60, notes_folder=False), 0)
+
+
+class Lines(Rooms):
+    """Nothing is written that an audit can't read."""
+
+    def setUp(self):
+        super().setUp()
+        big = 20_000
+        for name, value in [("LINE_LIMIT", big), ("SHORT", big // 16)]:
+            for module in _lines, _part, _run_agent:
+                if hasattr(module, name):
+                    self.enterContext(mock.patch.object(module, name, value))
+
+    def test_a_state_that_is_too_long(self):
+        with self.assertRaisesRegex(TooLong, "the state would make a line"):
+            Run(self.path, [[["x", i], i] for i in range(2_000)])
+        self.assertFalse(self.path.exists())
+        with Run(self.path, [], 10) as run, run.agent(0) as agent:
+            for own in range(10):
+                agent.play(lambda step: step.push([["put", ["x", own], "x" * 2_500]]))
+            for _ in range(3):
+                with self.assertRaisesRegex(TooLong, "the state would make a line"):
+                    agent.play(lambda step: step.push([["put", ["x", 0], None]]))
+        self.assertEqual(audit(self.path), (10, 10, 2))
+        with self.assertRaises(TooLong):
+            Run.resume(self.path)
+
+    def test_a_flush_of_a_state_that_is_too_long(self):
+        with Run(self.path, [], 100, every=0.01) as run, run.agent(0) as agent:
+            for own in range(10):
+                agent.play(lambda step: step.push([["put", ["x", own], "x" * 2_500]]))
+            with self.assertRaises(TooLong):
+                run.flush()
+            agent.play(lambda step: step.push([["put", ["x", 0], None], ["put", ["x", 1], None], ["put", ["x", 2], None]]))
+            run.flush()
+            self.assertEqual(run.saved, 11)
+        self.assertEqual(audit(self.path)[1], 11)
+
+    def test_moves_that_are_too_long(self):
+        at, move, text = Location(["y"]), Move(), "\x01" * 4_000  # six bytes each in a line
+        with Run(self.path, [], 100) as run, run.agent(0) as agent:
+            for rule in (
+                lambda step: step.push([["put", ["x"], "x" * 20_000]]),
+                lambda step: [step.push([["put", ["x", i], "x" * 3_000]]) for i in range(7)],
+                lambda step: step.push(move.clear().put(at, text)),
+                lambda step: (step.push(move.clear().put(at, text)), step.push(step.pop_move())),
+                lambda step: (step.get([["y", "z" * 10_000]]), step.push([["put", ["x"], 1]])),
+                lambda step: (step.get(Location(["y", "z" * 10_000])), step.push([["put", ["x"], 1]])),
+            ):
+                with self.assertRaisesRegex(TooLong, "the move would make a line"):
+                    agent.play(rule)
+            with self.assertRaises(TooLong):
+                agent.fire([["put", ["x"], "x" * 20_000]])
+            self.assertEqual(run.state(), (0, []))
+            agent.play(lambda step: step.push([["put", ["x"], "x" * 19_000]]))
+            agent.fire([["put", ["y"], "x" * 9_000]])
+            with self.assertRaisesRegex(TooLong, "the read would make a line"):
+                agent.read([["x"], ["y"]])
+        self.assertEqual(audit(self.path), (2, 2, 2))
+
+    def test_what_the_checks_let_pass_is_not_written(self):
+        """The writer looks at what it writes."""
+        with mock.patch("folugben._run_agent.SHORT", 10**9), self.assertRaises(Broken) as caught:
+            with Run(self.path, [], 100) as run, run.agent(0) as agent:
+                agent.fire([["put", ["x"], "x" * 20_000]])
+        self.assertIsInstance(caught.exception.__cause__, TooLong)
+        self.assertEqual(audit(self.path), (0, 0, 1))
+
+
+if __name__ == "__main__":
+    unittest.main()

@@ -1,0 +1,306 @@
+"""When the moves of a run are on the disk: flushes, time, signals; and what looks at a run from outside."""
+import contextlib
+import io
+import itertools
+import random
+import signal
+import subprocess
+import sys
+import threading
+import time
+import unittest
+from unittest import mock
+
+from folugben import BadJournal, Error, Past, Run, Storage, __main__, _part, audit, import_run, interleave, states
+from folugben._held import Held
+from rooms import AT, BANK, COUNT, INIT, Rooms, called, environment, raised, segments, text_of, transfer, until
+from threads import in_threads
+
+
+class Races(Rooms):
+    """What the writer sees of an agent while that is in the midst of a call."""
+
+    def test_a_step_that_has_not_begun_is_none(self):
+        real, looked = Held._hold, []
+
+        def between(step):
+            if isinstance(step, _part.PartStep):
+                with agent._in._lock:
+                    looked.append(agent._in.is_at_rest())
+            real(step)
+
+        with Run(self.path, INIT, 3) as run, run.agent(0) as agent, mock.patch.object(Held, "_hold", between):
+            for number in range(1, 10):
+                self.assertEqual(agent.play(raised), (number, None))
+        self.assertEqual(set(looked), {True})
+
+    def test_an_agent_that_is_in_a_call_is_not_given_back(self):
+        real, inside, go = _part.lib.asm_state, threading.Event(), threading.Event()
+
+        def slow(slot, *words):
+            # A slot looks empty while the library has taken it.
+            slot.full = False
+            inside.set()
+            go.wait(10)
+            slot.full = True
+            return real(slot, *words)
+
+        with Run(self.path, INIT, 3) as run, run.agent(0) as agent, run.agent(1) as other:
+            agent.play(raised)
+            with mock.patch.object(_part.lib, "asm_state", slow):
+                thread = threading.Thread(target=agent.state)
+                thread.start()
+                inside.wait()
+                for _ in range(3):
+                    part = agent._in.part
+                    self.assertFalse(all([it._slot.full for it in part.agents.values()]))
+                    looked = []
+                    looking = threading.Thread(target=lambda: looked.append(run._chain._is_left(part)))
+                    looking.start()
+                    looking.join(0.05)
+                    self.assertEqual(looked, [])  # it waits for the call
+                go.set()
+                thread.join()
+                looking.join()
+            for _ in range(10):
+                other.play(raised)
+        self.assertEqual(audit(self.path).moves, 11)
+
+    def test_a_storage_that_is_in_a_call_is_open(self):
+        with Run(self.path, INIT, 2) as run, run.agent(0) as agent, run.agent(1) as slow:
+            with slow.step() as step:
+                for _ in range(3):
+                    agent.play(raised)
+                storage = run._chain.newest().storage
+                storage._slot.full = False
+                try:
+                    self.assertTrue(slow._in.part.has_ended())
+                    self.assertIs(run._chain.newest().storage, storage)
+                finally:
+                    storage._slot.full = True
+                step.free()
+
+
+class Saving(Rooms):
+    def test_a_flush_saves_all_moves_up_to_now(self):
+        with Run(self.path, INIT) as run, run.agent(0) as agent, run.agent(1) as other:
+            run.flush()
+            self.assertEqual((run.saved, run.parts), (0, 1))
+            for number in range(1, 6):
+                agent.play(raised)
+                other.follow()
+                run.flush()
+                self.assertEqual((run.saved, audit(self.path)[1:]), (number, (number, number + 1)))
+            run.flush()
+            self.assertEqual(run.parts, 6)
+        with self.assertRaisesRegex(Error, "the run was closed"):
+            run.flush()
+
+    def test_a_flush_waits_for_no_step_for_long(self):
+        with Run(self.path, INIT) as run, run.agent(0) as agent, run.agent(1) as slow, slow.step() as step:
+            agent.play(raised)
+            begun = time.monotonic()
+            run.flush()
+            self.assertEqual((run.saved, step.try_fire()), (1, 0))
+            self.assertTrue(0.05 < time.monotonic() - begun < 5)
+            self.assertRaises(Past, step.fire)
+            with slow.step() as step:
+                step.push([["inc", COUNT, 1]])
+                self.assertEqual(step.fire(), 2)
+
+    def test_flushes_while_threads_are_at_work(self):
+        def work(own):
+            rng = random.Random(own)
+            with run.agent(own) as agent:
+                for _ in range(60):
+                    number, _ = transfer(agent, rng)
+                    if rng.random() < 0.2:
+                        run.flush()
+                        self.assertGreaterEqual(run.saved, number)
+
+        with Run(self.path, BANK, 50) as run:
+            self.assertEqual(in_threads(work, 4), ([], True))
+        self.assertEqual(audit(self.path).moves, 240)
+        for _, values in states(run):
+            self.assertEqual(sum(values.values()), 600)
+
+    def test_a_flush_by_turns(self):
+        with Run(self.path, BANK, 50) as run:
+            agents = [run.agent(own) for own in range(3)]
+
+            def work(agent):
+                rng = random.Random(agent.number)
+                for _ in range(5):
+                    number, _ = transfer(agent, rng)
+                    run.flush()
+                    self.assertGreaterEqual(run.saved, number)
+
+            interleave(agents, [work] * 3, 1)
+        self.assertEqual(audit(self.path).moves, 15)
+
+    def test_a_part_ends_by_time(self):
+        with Run(self.path, INIT, every=0.1) as run, run.agent(0) as agent:
+            time.sleep(0.3)
+            self.assertEqual(run.parts, 1)
+            for number in range(1, 4):
+                agent.play(raised)
+                until(lambda: run.saved == number)
+                self.assertEqual(audit(self.path).moves, number)
+
+    def test_sigterm_ends_the_with(self):
+        code = """
+import sys, time
+from concurrent.futures import ThreadPoolExecutor
+from folugben import Error, Run
+def work(own):
+    with run.agent(own) as agent:
+        while True:
+            agent.play(lambda step: step.push([["inc", ["count"], 1]]))
+with Run(sys.argv[1], [[["count"], 0]]) as run, ThreadPoolExecutor() as pool:
+    lives = [pool.submit(work, own) for own in range(2)]
+    while run.state()[0] < 100:
+        time.sleep(0.01)
+    print("begun", flush=True)
+    if sys.argv[2] == "wait":
+        [life.result() for life in lives]
+    while True:
+        time.sleep(100)
+"""
+        for how in "wait", "sleep":
+            path = self.room / how
+            with subprocess.Popen([sys.executable, "-c", code, path, how], env=environment(), stdout=subprocess.PIPE) as child:
+                self.assertEqual(child.stdout.readline(), b"begun\n")
+                child.send_signal(signal.SIGTERM)
+                self.assertEqual(child.wait(30), 128 + signal.SIGTERM)
+            self.assertGreaterEqual(audit(path).moves, 100)
+
+    def test_the_handler_of_a_program_stays(self):
+        was = signal.signal(signal.SIGTERM, lambda *_: None)
+        self.addCleanup(signal.signal, signal.SIGTERM, was)
+        own = signal.getsignal(signal.SIGTERM)
+        with Run(self.path, INIT):
+            self.assertIs(signal.getsignal(signal.SIGTERM), own)
+        signal.signal(signal.SIGTERM, signal.SIG_DFL)
+        with Run(self.room / "1", INIT), Run(self.room / "2", INIT):
+            self.assertNotIn(signal.getsignal(signal.SIGTERM), (own, signal.SIG_DFL))
+        self.assertIs(signal.getsignal(signal.SIGTERM), signal.SIG_DFL)
+
+    def test_the_state_of_a_run(self):
+        with Run(self.path, INIT, 4) as run:
+            self.assertEqual(run.state(), (0, INIT))
+            with run.agent(0) as agent, run.agent(1) as other:
+                for number in range(1, 10):
+                    agent.play(raised)
+                    self.assertEqual(run.state(), (number, [[COUNT, number]]))
+                    other.follow()
+            self.assertEqual(run.state(), (9, [[COUNT, 9]]))
+            agents = [run.agent(own) for own in range(5)]
+            for agent in agents:
+                agent.play(raised)
+            self.assertEqual(run.state(), (14, [[COUNT, 14]]))
+        self.assertEqual(audit(self.path)[1], 14)
+        with self.assertRaisesRegex(Error, "the run was closed"):
+            run.state()
+
+    def test_states_while_it_goes_on(self):
+        with Run(self.path, INIT, 4) as run, run.agent(0) as agent:
+            for _ in range(9):
+                agent.play(raised)
+            until(lambda: run.saved == 8)
+            for it in run, self.path:
+                self.assertEqual([number for number, _ in states(it)], list(range(9)))
+
+
+class Commands(Rooms):
+    def setUp(self):
+        super().setUp()
+        with Run(self.path, INIT, 4) as run, run.agent(0) as agent:
+            for _ in range(6):
+                agent.play(raised)
+
+    def told(self, *words):
+        with contextlib.redirect_stdout(io.StringIO()) as out, contextlib.redirect_stderr(io.StringIO()) as error:
+            status = __main__.main([str(word) for word in words])
+        return status, out.getvalue(), error.getvalue()
+
+    def test_commands_on_a_folder(self):
+        self.assertEqual(self.told("audit", self.path), (0, "legal 6 6 3\n", ""))
+        self.assertRegex(self.told("verify", self.path)[1], "^3 segments, 6 moves, digest [0-9a-f]{64}\n$")
+        out = self.room / "one"
+        self.assertEqual(self.told("save", self.path, "-o", out), (0, "", ""))
+        self.assertEqual(out.read_bytes(), text_of(self.path))
+        for command in "check", "replay", "trace", "csv", "itf", "perfetto", "view":
+            status, _, said = self.told(command, self.path)
+            self.assertEqual(status, 2)
+            self.assertIn("one part: --part 0 and so on", said)
+            self.assertEqual(self.told(command, self.path, "--part", "1", "-o", out), (0, "", ""), command)
+        self.assertEqual(self.told("check", self.path, "--part", "1")[1], "legal 4 4\n")
+        segments(self.path)[1].write_bytes(b"")
+        for command in "audit", "verify", "save":
+            words = ["-o", out] if command == "save" else []
+            self.assertEqual(self.told(command, self.path, *words)[::2],
+                             (1, f"folugben: {self.path}: segment 1: its text isn't the one that was saved\n"))
+        self.assertEqual(self.told("verify", self.room / "absent")[0], 2)
+
+    def test_an_audit_that_follows(self):
+        command = [sys.executable, "-m", "folugben", "follow", self.path]
+        with subprocess.Popen(command, env=environment(), stdout=subprocess.PIPE, text=True) as child:
+            self.assertEqual(child.stdout.readline(), "legal so far 6 6 3\n")
+            with Run.resume(self.path, 4) as run, run.agent(0) as agent:
+                agent.play(raised)
+                run.flush()
+                self.assertEqual(child.stdout.readline(), "legal so far 7 7 4\n")
+            child.send_signal(signal.SIGINT)
+            self.assertEqual(child.wait(10), 0)
+
+
+class Imports(Rooms):
+    """Runs of version 0.2, which are one file."""
+
+    def setUp(self):
+        super().setUp()
+        with Run(self.room / "made", INIT, 4) as run, run.agent(0) as agent:
+            for _ in range(10):
+                agent.play(raised)
+        self.whole = text_of(self.room / "made")
+        self.file = self.room / "file"
+
+    def test_a_file_is_imported(self):
+        self.file.write_bytes(self.whole)
+        self.assertEqual(import_run(self.file, self.path), ((10, 10, 4), 0))
+        self.assertEqual([it.name for it in segments(self.path)], [it.name for it in segments(self.room / "made")])
+        with Run.resume(self.path) as run, run.agent(0) as agent:
+            self.assertEqual(agent.play(raised), (11, None))
+        self.assertRaises(FileExistsError, import_run, self.file, self.path)
+        self.assertEqual(self.file.read_bytes(), self.whole)
+        told = called("import sys; from folugben.__main__ import main; sys.exit(main(['import', *sys.argv[1:]]))", self.file, self.room / "2")
+        self.assertEqual((told.stdout, told.stderr, told.returncode), ("10 moves in 4 parts\n", "", 0))
+
+    def test_an_incomplete_last_part_is_left_out(self):
+        last = len(self.whole) - segments(self.room / "made")[3].stat().st_size
+        for number, more in enumerate([b"", bytes(100), *(self.whole[last:end] for end in (last + 1, last + 50, -1))]):
+            self.file.write_bytes(self.whole[:last] + more)
+            path = self.room / str(number)
+            self.assertEqual(import_run(self.file, path), ((8, 8, 3), len(more)))
+            self.assertEqual(audit(path), (8, 8, 3))
+
+    def test_other_faults_are_refused(self):
+        middle = len(self.whole) // 2
+        for text in (b"", b"{", self.whole[:30], self.whole[:middle] + self.whole[middle + 1 :],
+                     self.whole.replace(b'{"fired":3}', b'{"fired":7}', 1), self.whole[:-4] + b"7}}\n"):
+            self.file.write_bytes(text)
+            with self.assertRaises(BadJournal):
+                import_run(self.file, self.path)
+            self.assertEqual(sorted(it.name for it in self.room.iterdir()), ["file", "made"])
+
+    def test_a_journal_with_calls_has_an_opening_segment(self):
+        with Storage(INIT, 10) as storage:
+            with storage.agent(0) as agent:
+                agent.play(raised)
+            self.file.write_bytes(storage.close_journal())
+        self.assertEqual(import_run(self.file, self.path), ((1, 1, 1), 0))
+        self.assertEqual(audit(self.path), (1, 1, 2))
+
+
+if __name__ == "__main__":
+    unittest.main()
