@@ -180,7 +180,7 @@ class Page(Rooms):
             self.assertEqual(calls.sub("legal", told.stdout), calls.sub("legal", printed.replace("    ", "")), command)
             self.assertEqual((told.returncode, told.stderr), (0, ""), command)
         self.assertEqual(out.getvalue(), "20000 moves on the disk\n20001\n")
-        self.assertEqual(len(samples), 7)
+        self.assertEqual(len(samples), 5)
 
 
 if __name__ == "__main__":
