@@ -1,13 +1,19 @@
 /* A storage with as many moves as one can hold, and states of many locations. What walks all that is
- * there, where it is to look at a little, doesn't end within the limit of processor time. */
+ * there, where it has to look at a little, doesn't end within the limit of processor time. */
 #include "tests.h"
 
 #include <sys/resource.h>
 
 enum { SECONDS = 120, MOST = 1048576, FIRST = 600000, READS = 1000 };
-enum { NAMES = 100000, AT_ONCE = 4000, TIMES = 100000 };
+enum { NAMES = 100000, AT_ONCE = 4000, TIMES = 100000, TWICE = 128, LARGEST_STEP = 2048 };
 
-static const char *const nothing = "{\"fire\":[],\"reads\":[]}";
+static const char nothing[] = "{\"fire\":[],\"reads\":[]}";
+
+/* What is written of a name and a number. */
+static const char place[] = ",[\"%s\",%zu]";
+static const char pair[] = ",[[\"%s\",%zu],1]";
+static const char put[] = ",[\"put\",[\"%s\",%zu],1]";
+static const char inc[] = ",[\"inc\",[\"%s\",%zu],1]";
 
 /* A text that grows. */
 typedef struct text {
@@ -15,13 +21,29 @@ typedef struct text {
     size_t length, room;
 } text;
 
+/* Appends the format, without its comma behind a bracket. */
 static void append(text *it, const char *format, const char *name, size_t number) {
     if (it->room - it->length < 100) {
         it->room = 2 * it->room + 100;
         it->at = realloc(it->at, it->room);
         REQUIRE(it->at != NULL);
     }
-    it->length += (size_t)snprintf(it->at + it->length, 100, format, name, number);
+    bool is_first = it->length > 0 && it->at[it->length - 1] == '[' && *format == ',';
+    it->length += (size_t)snprintf(it->at + it->length, 100, format + is_first, name, number);
+}
+
+static void append_all(text *it, const char *format, const char *name, size_t first, size_t end) {
+    for (size_t i = first; i < end; i++)
+        append(it, format, name, i);
+}
+
+/* The text of a list, which is to be freed. */
+static text list_of(const char *format, const char *name, size_t count) {
+    text it = {0};
+    append(&it, "[", "", 0);
+    append_all(&it, format, name, 0, count);
+    append(&it, "]", "", 0);
+    return it;
 }
 
 static void fire_all(asm_slot *agent, size_t times) {
@@ -36,7 +58,7 @@ static uint32_t followed(asm_slot *agent) {
     return number;
 }
 
-/* Two agents fill the row, each many moves in a row, and see all of it. */
+/* Two agents fill the row, each with many moves, and see all of them. */
 static void fill(asm_slot *storage, asm_slot *agents) {
     asm_numbers numbers;
     uint32_t moves;
@@ -48,7 +70,7 @@ static void fill(asm_slot *storage, asm_slot *agents) {
     REQUIRE(asm_moves(storage, &moves) == ASM_DONE && moves == MOST);
 }
 
-/* The journal of a full row and of some reads is written whole. */
+/* The journal of a full row and of some reads is complete. */
 static void full_row(void) {
     asm_slot storage = {0}, agents[2] = {{0}, {0}};
     open_with("[]", MOST, &storage);
@@ -64,19 +86,13 @@ static void full_row(void) {
     asm_free(&storage);
 }
 
-/* The pairs of so many locations with this name, with or without a comma in front of the first. */
-static void append_pairs(text *it, const char *name, size_t count, bool is_first) {
-    for (size_t i = 0; i < count; i++)
-        append(it, &",[[\"%s\",%zu],1]"[is_first && i == 0], name, i);
-}
-
 /* A storage that opens with many locations before and behind the three of the function m. */
 static void open_many(asm_slot *storage) {
     text it = {0};
     append(&it, "[", "", 0);
-    append_pairs(&it, "a", NAMES, true);
-    append_pairs(&it, "m", 3, false);
-    append_pairs(&it, "z", NAMES, false);
+    append_all(&it, pair, "a", 0, NAMES);
+    append_all(&it, pair, "m", 0, 3);
+    append_all(&it, pair, "z", 0, NAMES);
     append(&it, "]", "", 0);
     REQUIRE(asm_open(bytes(it.at), it.length, MOST, storage) == ASM_DONE);
     free(it.at);
@@ -84,13 +100,11 @@ static void open_many(asm_slot *storage) {
 
 /* Moves put a value at so many locations with this name. */
 static void write_all(asm_slot *agent, const char *name, size_t count) {
-    static const char put[] = ",[\"put\",[\"%s\",%zu],1]";
     asm_numbers numbers;
     for (size_t first = 0; first < count; first += AT_ONCE) {
         text it = {0};
         append(&it, "{\"fire\":[", "", 0);
-        for (size_t i = first; i < first + AT_ONCE && i < count; i++)
-            append(&it, &put[i == first], name, i);
+        append_all(&it, put, name, first, first + AT_ONCE < count ? first + AT_ONCE : count);
         append(&it, "],\"reads\":[]}", "", 0);
         REQUIRE(asm_try_fire(agent, bytes(it.at), it.length, &numbers) == ASM_DONE);
         free(it.at);
@@ -125,22 +139,18 @@ static void small_function(void) {
     asm_free(&storage);
 }
 
-/* The length of the values of so many locations with the name f, each of which is 1. */
+/* The values at so many locations with the name f, each of one digit, are peeked at once. */
 static void peek_all(asm_slot *agent, size_t count) {
-    text it = {0};
-    char wanted[64];
+    text it = list_of(place, "f", count);
+    char empty[64];
     size_t length;
-    append(&it, "[", "", 0);
-    for (size_t i = 0; i < count; i++)
-        append(&it, &",[\"%s\",%zu]"[i == 0], "f", i);
-    append(&it, "]", "", 0);
-    snprintf(wanted, sizeof wanted, "{'number':%" PRIu32 ",'values':[]}", asm_seen(agent));
+    snprintf(empty, sizeof empty, "{'number':%" PRIu32 ",'values':[]}", asm_seen(agent));
     REQUIRE(asm_peek(agent, bytes(it.at), it.length, NULL, 0, &length) == ASM_SMALL);
-    REQUIRE(length == strlen(wanted) + (count ? 2 * count - 1 : 0));
+    REQUIRE(length == strlen(empty) + (count ? 2 * count - 1 : 0));
     free(it.at);
 }
 
-/* The agent's own state has two functions of so many locations, whose pairs have this length. */
+/* The agent's own state has the functions f and g, whose pairs have this length each. */
 static void tell_all(asm_slot *agent, size_t count, size_t length) {
     uint32_t number;
     size_t both;
@@ -150,30 +160,75 @@ static void tell_all(asm_slot *agent, size_t count, size_t length) {
     peek_all(agent, count);
 }
 
-/* Functions of any size are told whole, be their values of the opening state or of moves. */
+/* A storage where f has so many locations, and two agents; the length of their pairs. */
+static size_t open_function(asm_slot *storage, asm_slot *agents, size_t count) {
+    text it = list_of(pair, "f", count);
+    REQUIRE(asm_open(bytes(it.at), it.length, 64, storage) == ASM_DONE);
+    REQUIRE(asm_agents(storage, agents, 2) == ASM_DONE);
+    free(it.at);
+    return it.length;
+}
+
+/* The functions of a state are told, be their values of the opening state or of moves. */
 static void tell_functions(size_t count) {
     asm_slot storage = {0}, agents[2] = {{0}, {0}};
-    text it = {0};
-    append(&it, "[", "", 0);
-    append_pairs(&it, "f", count, true);
-    append(&it, "]", "", 0);
-    REQUIRE(asm_open(bytes(it.at), it.length, 64, &storage) == ASM_DONE);
-    REQUIRE(asm_agents(&storage, agents, 2) == ASM_DONE);
+    size_t length = open_function(&storage, agents, count);
     write_all(&agents[0], "g", count);
     write_all(&agents[0], "f", count / 2);
     REQUIRE(followed(&agents[1]) == followed(&agents[0]));
-    tell_all(&agents[1], count, it.length);
+    tell_all(&agents[1], count, length);
     for (size_t i = 0; i < 2; i++)
         asm_free(&agents[i]);
     asm_free(&storage);
+}
+
+/* The first of the two pushes the move, the second joins it to the pushed one. */
+static void grow(asm_slot *agent, asm_slot *step, bool is_push, const char *format, const char *name,
+                 size_t count) {
+    text it = list_of(format, name, count);
+    size_t written;
+    REQUIRE((is_push ? asm_push : asm_extend)(agent, step, bytes(it.at), it.length, NULL, 0,
+                                              &written) == ASM_DONE);
     free(it.at);
 }
 
+/* The length of the text of the function, as it is seen through the step. */
+static size_t got(asm_slot *agent, asm_slot *step, const char *name) {
+    size_t length;
+    REQUIRE(asm_get_all(agent, step, bytes(name), strlen(name), NULL, 0, &length) == ASM_SMALL);
+    return length;
+}
+
+/* A step puts each location of g, increments each of f, some of these twice, and rests on the latter. */
+static void play_step(size_t count) {
+    asm_slot storage = {0}, agents[2] = {{0}, {0}}, step = {0}, move = {0};
+    size_t length = open_function(&storage, agents, count), written;
+    asm_numbers numbers;
+    uint32_t number;
+    REQUIRE(asm_begin(&agents[0], &step, &number) == ASM_DONE);
+    grow(&agents[0], &step, true, put, "g", count);
+    grow(&agents[0], &step, false, inc, "f", count);
+    grow(&agents[0], &step, false, inc, "f", count < TWICE ? count : TWICE);
+    REQUIRE(got(&agents[0], &step, "f") == length && got(&agents[0], &step, "g") == length);
+    REQUIRE(asm_pop_move(&step, &move) == ASM_DONE && asm_depth(&step) == 0);
+    REQUIRE(asm_push_move(&agents[0], &step, &move, NULL, 0, &written) == ASM_DONE);
+    REQUIRE(asm_commit(&agents[0], &step, &numbers) == ASM_DONE && numbers.fired == 1);
+    REQUIRE(followed(&agents[1]) == 1);
+    tell_all(&agents[1], count, length);
+    asm_free(&move);
+    for (size_t i = 0; i < 2; i++)
+        asm_free(&agents[i]);
+    asm_free(&storage);
+}
+
 static void functions_of_each_size(void) {
-    static const size_t sizes[] = {0, 1, 2, 15, 16, 17, 63, 64, 65, 255, 256, 257, 1023, 1024, 1025,
-                                   2048, 4095, 4096, 4097, 65536, 100000};
-    for (size_t i = 0; i < sizeof sizes / sizeof *sizes; i++)
+    static const size_t sizes[] = {0,    1,    2,    15,   16,   17,   63,   64,   65,    255,   256,
+                                   257, 1023, 1024, 1025, 2047, 2048, 4095, 4096, 4097, 65536, 100000};
+    for (size_t i = 0; i < sizeof sizes / sizeof *sizes; i++) {
         tell_functions(sizes[i]);
+        if (sizes[i] <= LARGEST_STEP)
+            play_step(sizes[i]);
+    }
 }
 
 int main(void) {
