@@ -1,6 +1,7 @@
 //! Whether a text reads as a form, and a sentence that says where and why it doesn't.
 ghost use Rattle.std.specs.Prelude.{◌≡◌, ◌≢◌, ◌⊎◌, [], true, false, string_bytes};
 ghost use Rattle.std.specs.Prelude.{IfOk, IfNone, IfSome};
+ghost use Rattle.asm_journal.specs.Reading.{HasNoLineFeed};
 ghost use Rattle.asm_explain.specs.Bytes.{IsNoJson, IsOtherJson, ReadAs};
 ghost use Rattle.asm_explain.specs.Forms.{IsOfForm, IsOfNoForm};
 ghost use Rattle.asm_explain.specs.declared.explaining.Form.TheVariants as forms;
@@ -97,7 +98,8 @@ fn said_of(alloc: Global, form: Form, text: &[u8], json: &Json) -> Result<String
 
 // The sentence on a text that has another form.
 fn sentence(alloc: Global, form: Form, text: &[u8]) -> Result<String, AllocError>
-    ensures { IfOk result (λ s. string_bytes s ≢ []) }
+    ensures some { IfOk result (λ s. string_bytes s ≢ []) }
+    ensures one_line { IfOk result (λ s. HasNoLineFeed (string_bytes s)) }
 {
     let said = match Json::from_slice(alloc, text) {
         Ok(json) => said_of(alloc, form, text, &json)?,
@@ -107,7 +109,7 @@ fn sentence(alloc: Global, form: Form, text: &[u8]) -> Result<String, AllocError
     told(alloc, said)
 }
 
-/// Where and why a text isn't of this form, in a sentence that isn't empty; `None` where it is.
+/// Where and why a text isn't of this form, in a sentence that isn't empty and has no line feed; `None` where it is.
 ///
 /// It tells what the readers of these forms accept, and nothing that another call is refused for: more than 256
 /// locations are locations. A script is accepted where `parse_script` reads it, within its limits. Agents, steps,
@@ -117,6 +119,7 @@ pub fn explain(alloc: Global, form: Form, text: &[u8]) -> Result<Option<String>,
     ensures accepted { IfOk result (λ said. IfNone said (IsOfForm form text.now)) }
     ensures refused { IfOk result (λ said. IfSome said (λ s. IsOfNoForm form text.now)) }
     ensures tells { IfOk result (λ said. IfSome said (λ s. string_bytes s ≢ [])) }
+    ensures one_line { IfOk result (λ said. IfSome said (λ s. HasNoLineFeed (string_bytes s))) }
 {
     if accepts(alloc, form, text)? {
         return Ok(None);

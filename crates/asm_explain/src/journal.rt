@@ -2,7 +2,8 @@
 ghost use Rattle.std.specs.Prelude.{◌≡◌, IfOk, IfNone, IfSome, string_bytes};
 ghost use Rattle.asm_storage.specs.declared.history.History.{History};
 ghost use Rattle.asm_journal.specs.Reading.{ReadsAs};
-ghost use Rattle.asm_explain.specs.Lines.{line_sentence as sentence_of, TellsFault, TellsOfLine, TellsRefusal};
+ghost use Rattle.asm_explain.specs.Lines.{last_line as last_of, line_sentence as sentence_of};
+ghost use Rattle.asm_explain.specs.Lines.{TellsFault, TellsOfLine, TellsRefusal};
 
 use crate::faults::{fault_of_event, is_of};
 use crate::script::wrong_init;
@@ -175,7 +176,9 @@ fn why_not_json(alloc: Global, text: &[u8], number: u64) -> Result<String, Alloc
 }
 
 // The number of the last line, which has no line feed or isn't there.
-fn last_line(text: &[u8]) -> u64 {
+fn last_line(text: &[u8]) -> u64
+    ensures { result ≡ last_of text.now }
+{
     let feeds = text.iter().filter(|byte| **byte == b'\n').count();
     (feeds as u64).saturating_add(1)
 }
@@ -214,7 +217,7 @@ fn at_line(alloc: Global, line: u64, said: String) -> Result<String, AllocError>
 
 // The sentence that tells of this fault of the text.
 fn sentence(alloc: Global, text: &[u8], fault: JournalError) -> Result<String, AllocError>
-    ensures { IfOk result (λ s. TellsFault fault (string_bytes s)) }
+    ensures { IfOk result (λ s. TellsFault text.now fault (string_bytes s)) }
 {
     match fault {
         JournalError::NotJson(line) => at_line(alloc, line, why_not_json(alloc, text, line)?),
@@ -231,8 +234,8 @@ fn sentence(alloc: Global, text: &[u8], fault: JournalError) -> Result<String, A
 /// Where and why a text is no journal, in a sentence that begins with the line: `journal line 12: an empty line`.
 ///
 /// `None` where `from_text` reads the text; else the sentence names the line of the first fault, and of a journal that
-/// is cut the line that is missing or has no line feed. What it says of the line is tested. `AllocError` comes only
-/// where memory was refused.
+/// is cut the last line, which is missing or has no line feed. The sentence has no line feed. What it says of the line
+/// is tested. `AllocError` comes only where memory was refused.
 pub fn explain_journal(alloc: Global, text: &[u8]) -> Result<Option<String>, AllocError>
     ensures accepted { IfOk result (λ said. IfNone said ((h : History) × ReadsAs text.now h)) }
     ensures refused { IfOk result (λ said. IfSome said (λ s. TellsRefusal text.now (string_bytes s))) }

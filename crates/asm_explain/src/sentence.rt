@@ -1,5 +1,6 @@
 //! Sentences on what is wrong in a text.
-ghost use Rattle.std.specs.Prelude.{◌≢◌, [], IfOk, string_bytes};
+ghost use Rattle.std.specs.Prelude.{◌≢◌, ◌↔◌, [], IfOk, IsTrue, string_bytes};
+ghost use Rattle.asm_journal.specs.Reading.{HasNoLineFeed};
 
 use std::alloc::{AllocError, Global};
 
@@ -74,11 +75,18 @@ pub(crate) fn grouped(alloc: Global, number: usize) -> Result<String, AllocError
     Ok(text)
 }
 
-/// What is said, in any case with a text.
-pub(crate) fn told(alloc: Global, said: String) -> Result<String, AllocError>
-    ensures { IfOk result (λ s. string_bytes s ≢ []) }
+fn has_no_line_feed(text: &[u8]) -> bool
+    ensures { IsTrue result ↔ HasNoLineFeed text.now }
 {
-    if said.is_empty() {
+    text.iter().all(|byte| *byte != b'\n')
+}
+
+/// What is said, which has to be one line and not empty; else that the text has another shape.
+pub(crate) fn told(alloc: Global, said: String) -> Result<String, AllocError>
+    ensures some { IfOk result (λ s. string_bytes s ≢ []) }
+    ensures one_line { IfOk result (λ s. HasNoLineFeed (string_bytes s)) }
+{
+    if said.is_empty() || !has_no_line_feed(said.as_bytes()) {
         return String::from_str(alloc, "JSON of another shape");
     }
     Ok(said)
