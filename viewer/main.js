@@ -155,12 +155,12 @@ function showFacts() {
   $("facts").replaceChildren(place, fact(run.agents, "agent"), fact(run.events.length, "event"), fact(run.moves.length, "move"), fact(run.sorted.length, "location"), ...verdict(run));
 }
 // Whether the run is legal, and who has checked that; the page has checked every trace.
-const CHECKERS = { asm_driver: "asm_driver", folugben: "libfolugben" };
+const CHECKERS = ["asm_driver", "libfolugben"];
 function verdict(run) {
   const to = (list, text, title) => make("button", { class: "fact illegal", type: "button", title, onclick: () => act.choose(list[0] + 1) }, `${text}, the first at event ${run.events[list[0]].ordinal}`);
   if (run.doubted.length) return [to(run.doubted, `doesn't agree with itself: ${plural(run.doubted.length, "event")}`, "Go to the first event that doesn't agree with the trace")];
   if (run.wrong.length) return [to(run.wrong, `not legal: ${plural(run.wrong.length, "wrong answer")}`, "Go to the first wrong answer")];
-  const by = Object.hasOwn(CHECKERS, run.by) ? CHECKERS[run.by] : null, word = run.events.length === run.told ? "legal" : "legal so far";
+  const by = CHECKERS.includes(run.by) ? run.by : null, word = run.events.length === run.told ? "legal" : "legal so far";
   return by ? [make("span", { class: "fact legal", title: `The trace was made of a journal by ${by}, which has checked each answer.` }, `${word}, checked by ${by}`)]
     : [make("span", { class: "fact legal", title: "Each answer agrees with the state that the trace's changes leave. This page alone has checked that: a proved check reads the journal." }, `${word}, checked by this page`)];
 }

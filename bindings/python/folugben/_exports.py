@@ -1,45 +1,51 @@
-"""What a journal tells, in the forms of other tools: a table, the Informal Trace Format, Chrome's trace events, and the page."""
+"""Journals in the forms of other tools: a table, the Informal Trace Format, Chrome's trace events, and the page."""
 import csv
+import html
 import json
 import pathlib
 import re
+import subprocess
+import sys
 from collections.abc import Iterator
 from typing import Any, TextIO
 
 from ._functions import check, trace
 from ._errors import BadJournal
-from ._runs import _changed, states
 from ._texts import encoded
 
-# The page that shows a run, in a package that is installed, and in a checkout.
-PAGES = [pathlib.Path(__file__).with_name("run.html"), pathlib.Path(__file__).parents[3] / "viewer" / "index.html"]
+# The page that shows a run, in a package that is installed, and what makes it in a checkout.
+PAGE = pathlib.Path(__file__).with_name("run.html")
+JOIN = pathlib.Path(__file__).parents[3] / "viewer" / "join"
 
 
 def _text(value: Any) -> str:
     return encoded(value, "value").decode()
 
 
+def _cell(value: Any) -> str:
+    """The value as JSON without a semicolon, at which some tables part cells; it is only in texts, where JSON can escape it."""
+    return _text(value).replace(";", "\\u003b")
+
+
 def write_csv(journal: bytes, out: TextIO) -> None:
-    """A line for each change: the number of the move, its agent, the function, its arguments, and the old and the new value as
-    JSON. The opening state stands first, as move 0 of no agent."""
+    """Write a table with a row for each change of each move.
+
+    A row has the move's number, its agent, the function, its arguments, and the old and the new value as JSON. Of a set or a
+    bag that stays one, the new value is what changes, as a trace has it (`added` and `removed`, or `counts`), and the old one
+    is left out. The opening state comes first, as move 0 of no agent.
+    """
     table = csv.writer(out, lineterminator="\n")
     table.writerow(["move", "agent", "function", "arguments", "old", "new"])
     lines = trace(journal)
-    values: dict[str, Any] = {}
-
-    def write(move: int, agent: object, at: list[Any], new: Any) -> None:
-        place = _text(at)
-        table.writerow([move, agent, at[0], _text(at[1:]), _text(values.get(place)), _text(new)])
-        values[place] = new
-
     for at, value in next(lines)["init"]:
-        write(0, "", at, value)
+        table.writerow([0, "", at[0], _cell(at[1:]), _cell(None), _cell(value)])
     move = 0
     for event in lines:
         if "updates" in event:
             move += 1
-            for change in event["updates"]:
-                write(move, event["agent"], change[0], _changed(values.get(_text(change[0])), change))
+            for at, *told in event["updates"]:
+                old, new = map(_cell, told) if len(told) == 2 else ("", _cell(told[0]))
+                table.writerow([move, event["agent"], at[0], _cell(at[1:]), old, new])
 
 
 def _itf(value: Any) -> Any:
@@ -58,21 +64,73 @@ def _itf(value: Any) -> Any:
     return {"#map": [[_itf(element), _itf(count)] for element, count in members]}
 
 
+class _Held:
+    """What a location holds in the Informal Trace Format. Of a set or a bag each member is kept as a text, so that a change
+    costs what it changes."""
+
+    def __init__(self, at: list[Any], value: Any) -> None:
+        self._at, self._value = _text({"#tup": list(map(_itf, at[1:]))}), value
+        self._members: dict[str, str] = {}
+        if isinstance(value, dict) and "list" not in value:
+            (_, members), = value.items()
+            for it in members:
+                self._put(it, 1) if "set" in value else self._put(*it)
+
+    def _put(self, element: Any, count: int) -> None:
+        key = _text(element)
+        self._members.pop(key, None)
+        if count:
+            self._members[key] = _text(_itf(element) if "set" in self._value else [_itf(element), _itf(count)])
+
+    def change(self, told: dict[str, Any]) -> None:
+        for element, _, count in told.get("counts", ()):
+            self._put(element, count)
+        for count, side in enumerate(("removed", "added")):
+            for element in told.get(side, ()):
+                self._put(element, count)
+
+    def entry(self) -> str:
+        if not isinstance(self._value, dict) or "list" in self._value:
+            return f"[{self._at},{_text(_itf(self._value))}]"
+        return f'[{self._at},{{"#{"set" if "set" in self._value else "map"}":[{",".join(self._members.values())}]}}]'
+
+
+def _moments(journal: bytes) -> Iterator[tuple[dict[str, Any], dict[str, dict[str, _Held]]]]:
+    """The meta data of each state, and what it holds by function and location; it is one dict, which each move changes."""
+    lines = trace(journal)
+    held: dict[str, dict[str, _Held]] = {}
+
+    def put(at: list[Any], value: Any) -> None:
+        places = held.setdefault(at[0], {})
+        places.pop(_text(at), None)
+        if value is not None:
+            places[_text(at)] = _Held(at, value)
+
+    for at, value in next(lines)["init"]:
+        put(at, value)
+    yield {"index": 0}, held
+    index = 0
+    for event in lines:
+        if "updates" in event:
+            index += 1
+            for at, *told in event["updates"]:
+                put(at, told[1]) if len(told) == 2 else held[at[0]][_text(at)].change(told[0])
+            yield {"index": index, "agent": event["agent"]}, held
+
+
 def write_itf(journal: bytes, out: TextIO, source: str = "") -> None:
-    """The run in the Informal Trace Format of Apalache and Quint: a state for each move, in which each function is a map from
-    the tuples of its arguments to its values."""
-    names = sorted({json.loads(at)[0] for _, values in states(journal) for at in values})
-    movers = [event["agent"] for event in trace(journal) if "updates" in event]
+    """Write the run in the Informal Trace Format of Apalache and Quint: a state for each move.
+
+    In a state each function is a map from the tuples of its arguments to its values. Each state is complete, as the format has
+    no other, so the output grows with the moves times the size of the state: `part` and a window of it are smaller.
+    """
+    names = sorted({at[0] for line in trace(journal) for at, *_ in line.get("init", line.get("updates", ()))})
     meta = {"format": "ITF", "format-description": "https://apalache-mc.org/docs/adr/015adr-trace.html", "source": source}
     out.write(f'{{"#meta":{_text(meta)},"vars":{_text(names)},"states":[')
-    for index, values in states(journal):
-        functions: dict[str, list[Any]] = {name: [] for name in names}
-        for place, value in values.items():
-            name, *arguments = json.loads(place)
-            functions[name].append([{"#tup": list(map(_itf, arguments))}, _itf(value)])
-        told: dict[str, Any] = {"#meta": {"index": index, **({"agent": movers[index - 1]} if index else {})}}
-        told.update((name, {"#map": entries}) for name, entries in functions.items())
-        out.write(",\n" * (index > 0) + _text(told))
+    for told, held in _moments(journal):
+        entries = (",".join(it.entry() for it in held.get(name, {}).values()) for name in names)
+        members = [f'"#meta":{_text(told)}', *(f'{_text(name)}:{{"#map":[{it}]}}' for name, it in zip(names, entries))]
+        out.write(",\n" * (told["index"] > 0) + "{" + ",".join(members) + "}")
     out.write("]}\n")
 
 
@@ -106,23 +164,25 @@ def write_perfetto(journal: bytes, out: TextIO) -> None:
     out.write("\n]}\n")
 
 
-def write_page(journal: bytes, out: TextIO, name: str = "run") -> None:
-    """The page that shows the run in a browser: one file, which loads nothing."""
-    page = next((it for it in PAGES if it.is_file()), None)
-    if page is None:
+def _page() -> str:
+    """The page without a run."""
+    if PAGE.is_file():
+        return PAGE.read_text(encoding="utf-8")
+    if not JOIN.is_file():
         raise FileNotFoundError("this package has no page that shows runs")
+    return subprocess.run([sys.executable, str(JOIN), "-"], stdout=subprocess.PIPE, check=True).stdout.decode()
+
+
+def write_page(journal: bytes, out: TextIO, name: str = "run") -> None:
+    """Write the page that shows the run in a browser: one file, which loads nothing."""
+    page = _page()
     lines = "".join(_text(it) + "\n" for it in trace(journal))
-    # In JSON a < stands in texts alone, where \u003c means the same; so nothing in a trace ends the element that holds it.
-    told = f'<script id="trace" type="application/jsonl" data-name="{_attribute(name)}">\n' + lines.replace("<", "\\u003c")
-    text = page.read_text(encoding="utf-8")
-    found = re.search(r'^<script id="trace"[^>]*>', text, re.M)
+    # In JSON a < is only in texts, where \u003c means the same; so nothing in a trace ends the element that holds it.
+    told = f'<script id="trace" type="application/jsonl" data-name="{html.escape(name)}" data-by="libfolugben">\n' + lines.replace("<", "\\u003c")
+    found = re.search(r'^<script id="trace"[^>]*>', page, re.M)
     if found is None:
-        raise ValueError(f"{page} has no place for a trace")
-    out.write(text[: found.start()] + told + text[found.end() :])
-
-
-def _attribute(text: str) -> str:
-    return text.replace("&", "&amp;").replace('"', "&quot;").replace("<", "&lt;")
+        raise ValueError("the page has no place for a trace")
+    out.write(page[: found.start()] + told + page[found.end() :])
 
 
 def judged(journal: bytes) -> tuple[bool, str]:

@@ -125,6 +125,46 @@ class Exports(unittest.TestCase):
         last = dict(enumerate(states(self.journal)))
         self.assertEqual(values, {f"[{i}]": last[len(last) - 1][1][f'["account",{i}]'] for i in range(4)})
 
+    def test_a_table_has_what_changes_of_sets_and_bags(self):
+        with Storage([[["s"], {"set": [1]}], [["b", "a;b"], {"bag": []}]], 10) as storage:
+            with storage.agent(0) as agent:
+                agent.fire([["add", ["s"], 2], ["bagadd", ["b", "a;b"], "e", 2]])
+                agent.fire([["put", ["s"], None]])
+            out = io.StringIO()
+            _exports.write_csv(storage.close_journal(), out)
+        self.assertEqual(list(csv.reader(io.StringIO(out.getvalue())))[3:], [
+            ["1", "0", "b", '["a\\u003bb"]', "", '{"counts":[["e",0,2]]}'],
+            ["1", "0", "s", "[]", "", '{"added":[2],"removed":[]}'],
+            ["2", "0", "s", "[]", '{"set":[1,2]}', "null"],
+        ])
+        self.assertNotIn(";", out.getvalue())
+
+    def test_a_set_that_grows_gives_a_table_in_step_with_its_journal(self):
+        with Storage([[["s"], {"set": []}]], 3000) as storage:
+            with storage.agent(0) as agent:
+                for i in range(3000):
+                    agent.fire([["add", ["s"], i]])
+            journal = storage.close_journal()
+        out = io.StringIO()
+        _exports.write_csv(journal, out)
+        self.assertLess(len(out.getvalue()), len(journal))
+        out = io.StringIO()
+        _exports.write_itf(journal, out)
+        last = json.loads(out.getvalue())["states"][-1]["s"]["#map"][0][1]["#set"]
+        self.assertEqual(sorted(int(it["#bigint"]) for it in last), list(range(3000)))
+
+    def test_the_informal_trace_format_has_the_values_of_each_state(self):
+        with Storage([[["s"], {"set": [2]}], [["b"], {"bag": [["e", 1]]}], [["n"], 1]], 10) as storage:
+            with storage.agent(0) as agent:
+                agent.fire([["add", ["s"], "a"], ["remove", ["s"], 2], ["bagadd", ["b"], "e", 2], ["put", ["n"], None]])
+                agent.fire([["put", ["s"], {"bag": []}], ["put", ["b"], {"list": [1]}]])
+            journal = storage.close_journal()
+        out = io.StringIO()
+        _exports.write_itf(journal, out)
+        for (_, values), state in zip(states(journal), json.loads(out.getvalue())["states"], strict=True):
+            found = {name: entries["#map"] for name, entries in state.items() if name != "#meta" and entries["#map"]}
+            self.assertEqual(found, {json.loads(at)[0]: [[{"#tup": []}, _exports._itf(value)]] for at, value in values.items()})
+
     def test_the_informal_trace_format_has_a_state_for_each_move(self):
         told = json.loads(self.written(_exports.write_itf))
         self.assertEqual((told["#meta"]["format"], told["vars"]), ("ITF", ["account"]))
