@@ -4,6 +4,8 @@ The library is the one that lies in the package, as packaging/pack puts it there
 FOLUGBEN_PLATFORM is the platform's tag, which packaging/pack finds out; a wheel without it is for the machine that it is made on.
 """
 import os
+import subprocess
+import sys
 import sysconfig
 from pathlib import Path
 
@@ -34,10 +36,10 @@ class WithLibrary(build_py):
         if not found:
             raise SystemExit(f"there is no {places[1]}; ./build_c proves and builds it")
         self.copy_file(str(found), str(Path(self.build_lib) / "folugben" / LIBRARY))
-        # The page that shows runs lies in the package where packaging/pack has put it; in a clone it is the viewer's.
-        page = HERE.parents[1] / "viewer" / "index.html"
-        if not (HERE / "folugben" / PAGE).is_file() and page.is_file():
-            self.copy_file(str(page), str(Path(self.build_lib) / "folugben" / PAGE))
+        # packaging/pack puts the page that shows runs into the package; in a clone viewer/join makes it.
+        join = HERE.parents[1] / "viewer" / "join"
+        if not (HERE / "folugben" / PAGE).is_file() and join.is_file():
+            subprocess.run([sys.executable, str(join), str(Path(self.build_lib) / "folugben" / PAGE)], check=True)
 
 
 class Tagged(bdist_wheel):
