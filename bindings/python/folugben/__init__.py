@@ -56,8 +56,8 @@ here, has two. Likewise ["f", True] and ["f", 1] are two locations, and a value 
 """
 from ._agent import Agent
 from ._auditor import Auditor, Counts
-from ._errors import BadJournal, Broken, Busy, Clash, Damaged, Deep, Error, Full, Large, Many, Missing, Moved, Over, Past
-from ._errors import Retry, Stale, TooLong, error_text, explain
+from ._errors import BadJournal, Broken, Busy, Clash, Damaged, Deep, Error, Full, Large, Many, Mismatch, Missing, Moved, Over
+from ._errors import Past, Retry, Stale, TooLong, Unknown, error_text, explain
 from ._functions import aggregate, check, compose, replay, trace, version
 from ._held import Forked, Nested
 from ._import import import_run
@@ -69,6 +69,7 @@ from ._reading import audit, part
 from ._run import Run
 from ._run_agent import RunAgent
 from ._runs import interleave, states
+from ._shared import SharedAgent, SharedRun
 from ._step import Step
 from ._storage import Storage
 from ._types import Element, Place, Update, Value
@@ -77,8 +78,8 @@ __version__ = "0.2.0"
 
 __all__ = [
     "Agent", "Auditor", "BadJournal", "Broken", "Busy", "Clash", "Counts", "Damaged", "Deep", "Element", "Error", "Forked",
-    "Full", "Large", "Location", "Many", "Missing", "Move", "Moved", "Nested", "Over", "Past", "Place", "Retry", "Run",
-    "RunAgent", "Stale", "Step", "Storage", "TooLong", "Update", "Value",
+    "Full", "Large", "Location", "Many", "Mismatch", "Missing", "Move", "Moved", "Nested", "Over", "Past", "Place", "Retry",
+    "Run", "RunAgent", "SharedAgent", "SharedRun", "Stale", "Step", "Storage", "TooLong", "Unknown", "Update", "Value",
     "aggregate", "audit", "check", "compose", "error_text", "explain", "import_run", "interleave", "part", "replay", "states",
     "trace", "version",
     "EVENT", "LOCATIONS", "MOVE", "SCRIPT", "STATE",

@@ -130,6 +130,17 @@ class Damaged(RuntimeError):
         return f"segment {self.segment}: {self.said}"
 
 
+class Mismatch(ValueError):
+    """A shared run has another opening state than it was told, or tables of another version."""
+
+
+class Unknown(RuntimeError):
+    """Whether a move of a shared run was fired isn't known: the process was away while others saved several segments."""
+
+    def __str__(self) -> str:
+        return "whether the move was fired isn't known, as this process was away while others saved several segments"
+
+
 class TooLong(Error):
     """A line of the journal would be longer than an audit reads, `LINE_LIMIT` bytes; nothing was done."""
 

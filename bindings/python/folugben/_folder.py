@@ -109,6 +109,10 @@ class RunFolder:
         if digest.hexdigest() != segment.digest:
             raise Damaged(segment.number, "its text isn't the one that was saved")
 
+    def rest(self, last: Segment) -> list[bytes]:
+        """Return what is behind the last segment: nothing is."""
+        return []
+
     def close(self) -> None:
         """Close the folder; it may be called again."""
         if self._fd >= 0:

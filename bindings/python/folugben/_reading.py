@@ -6,8 +6,11 @@ from collections.abc import Callable, Iterator
 from typing import BinaryIO, Protocol
 
 from ._auditor import Auditor, Counts
+from ._database import is_database, is_server
 from ._errors import BadJournal, Damaged
 from ._folder import CHUNK, START, RunFolder, Segment
+from ._log import Behind, Log
+from ._replica import rest
 
 # How the header of a part begins, which no line of an event does.
 HEADER = b'{"agents":'
@@ -30,18 +33,36 @@ class Store(Protocol):
     def text(self, segment: Segment, previous: str) -> Iterator[bytes]:
         """Yield the text of a segment; `Damaged` where it isn't the one that was saved."""
 
+    def rest(self, last: Segment) -> list[bytes]:
+        """Return the journals of what is behind a segment, and isn't saved as one; `Behind` where further ones were saved."""
+
     def close(self) -> None:
         """Close it; it may be called again."""
 
 
 def opened(target: str | os.PathLike[str]) -> Store:
-    """Open a stored run to read."""
+    """Open a stored run to read: a folder, a file of SQLite, or a schema of a PostgreSQL server."""
+    if is_server(target) or os.path.isfile(target):
+        return LogStore(target)
     return RunFolder(target)
 
 
 def is_stored(target: object) -> bool:
     """Whether a target is a stored run, and not one file that tells a run."""
-    return isinstance(target, (str, os.PathLike)) and os.path.isdir(target)
+    if is_server(target):
+        return True
+    return isinstance(target, (str, os.PathLike)) and (os.path.isdir(target) or os.path.isfile(target) and is_database(target))
+
+
+class LogStore:
+    """A shared run, to read."""
+
+    def __init__(self, target: str | os.PathLike[str]) -> None:
+        self._log = Log.reading(target)
+        self.segments, self.text, self.close = self._log.segments, self._log.text, self._log.close
+
+    def rest(self, last: Segment) -> list[bytes]:
+        return rest(self._log, last)
 
 
 class Reading:
@@ -63,6 +84,15 @@ class Reading:
         for segment in segments[self.last.number + 1 :]:
             self._audit(segment)
         return self._auditor.end()
+
+    def audit_all(self) -> Counts:
+        """Audit all that is stored."""
+        while True:
+            counts = self.audit(self._store.segments())
+            with contextlib.suppress(Behind):
+                for journal in self._store.rest(self.last):
+                    counts = self._auditor.feed(journal)
+                return counts
 
     def audit_last(self, segments: list[Segment]) -> Counts:
         """Audit the last segment alone; what stands before it is taken from its chain."""
@@ -113,7 +143,7 @@ def audit(run: str | os.PathLike[str] | Readable, progress: Callable[[int], None
     if isinstance(run, (str, os.PathLike)):
         if is_stored(run):
             with contextlib.closing(opened(run)) as store, Reading(store, progress) as reading:
-                return reading.audit(store.segments())
+                return reading.audit_all()
         with open(run, "rb", buffering=0) as file:
             return _audited(file, progress)
     if not hasattr(run, "read"):
@@ -139,19 +169,19 @@ def verify(target: str | os.PathLike[str]) -> Segment:
     Raises:
         Damaged: a text isn't the one that was saved.
     """
-    return save(target, None)
-
-
-def save(target: str | os.PathLike[str], output: BinaryIO | None) -> Segment:
-    """Write a stored run as one file, which `audit` reads: return its last segment."""
     last = START
     with contextlib.closing(opened(target)) as store:
         for segment in store.segments():
-            for chunk in store.text(segment, last.digest):
-                if output is not None:
-                    output.write(chunk)
+            for _ in store.text(segment, last.digest):
+                pass
             last = segment
     return last
+
+
+def save(target: str | os.PathLike[str], output: BinaryIO) -> None:
+    """Write a stored run as one file, which `audit` reads."""
+    for journal in texts(target):
+        output.write(journal)
 
 
 def follow(target: str | os.PathLike[str]) -> Iterator[Counts]:
@@ -165,12 +195,16 @@ def follow(target: str | os.PathLike[str]) -> Iterator[Counts]:
 
 
 def texts(target: str | os.PathLike[str]) -> Iterator[bytes]:
-    """Yield the journal of each segment of a stored run."""
-    previous = START.digest
+    """Yield the journal of each segment of a stored run, and of what is behind the last one."""
+    last = START
     with contextlib.closing(opened(target)) as store:
-        for segment in store.segments():
-            yield b"".join(store.text(segment, previous))
-            previous = segment.digest
+        while True:
+            for segment in store.segments()[last.number + 1 :]:
+                yield b"".join(store.text(segment, last.digest))
+                last = segment
+            with contextlib.suppress(Behind):
+                yield from store.rest(last)
+                return
 
 
 def part(run: str | os.PathLike[str] | BinaryIO, number: int) -> bytes:

@@ -1,0 +1,262 @@
+"""The databases that shared runs are kept in: a file of SQLite, or a schema of a PostgreSQL server."""
+import contextlib
+import ctypes
+import errno
+import fcntl
+import importlib
+import os
+import pathlib
+import sqlite3
+import struct
+from collections.abc import Iterator, Sequence
+from typing import Any, Protocol
+
+from ._errors import Damaged
+from ._folder import sync_folder
+
+# What a file of SQLite has in its header that is a run.
+_APPLICATION = 0x466F6C75
+# How long a transaction waits for those of other processes.
+_SECONDS = 60.0
+# A lock of one byte of a file that belongs to the open file, as those of Java's FileChannel belong to the process.
+_OFD_SETLK = 37
+
+
+class Database(Protocol):
+    """A connection for one thread at a time; its statements have ? for each value."""
+
+    # The type of bytes, and the errors after which a new connection may do.
+    blob: str
+    lost: tuple[type[Exception], ...]
+
+    def run(self, sql: str, values: Sequence[Any] = ()) -> list[Any]:
+        """Run one statement and return its rows."""
+
+    def insert(self, table: str, rows: Sequence[Sequence[Any]], more: str = "") -> None:
+        """Insert rows by as few statements as possible."""
+
+    def transaction(self) -> contextlib.AbstractContextManager[None]:
+        """Run what is done within as one transaction, alone, that is on the disk at the end."""
+
+    def has_run(self) -> bool:
+        """Return whether the tables of a run are there; `Damaged` where others are."""
+
+    def make(self) -> None:
+        """Make what has to be there before the tables, in a transaction."""
+
+    def hold(self, agent: int) -> bool:
+        """Take the number of an agent for this process, as long as it lives. Return whether nobody else has it."""
+
+    def let(self, agent: int) -> None:
+        """Let others have the number."""
+
+    def close(self) -> None:
+        """Close the connection; it may be called again."""
+
+    def leave(self) -> None:
+        """Drop it in the child of a fork: to close it would end what the parent does."""
+
+
+def connect(target: str | os.PathLike[str], writes: bool = True, makes: bool = False) -> Database:
+    """Connect to postgresql://.. or to a file of SQLite, which is made where `makes` is told.
+
+    Raises:
+        ConnectionError: the server doesn't answer.
+        FileNotFoundError: there is no file.
+        OSError: the file can't be opened, or not be written.
+        Damaged: the file is another one.
+    """
+    if is_server(target):
+        return Postgres(str(target))
+    return Sqlite(pathlib.Path(os.path.realpath(target)), writes, makes)
+
+
+def is_server(target: object) -> bool:
+    """Whether a target is the name of a PostgreSQL server."""
+    return isinstance(target, str) and target.startswith(("postgresql:", "postgres:"))
+
+
+def is_database(path: str | os.PathLike[str]) -> bool:
+    """Whether a file is one of SQLite. Only SQLite opens it: another close in this process would drop SQLite's locks."""
+    try:
+        connection = sqlite3.connect(f"{pathlib.Path(path).resolve().as_uri()}?mode=ro", uri=True)
+        try:
+            return bool(connection.execute("pragma application_id").fetchone() == (_APPLICATION,))
+        finally:
+            connection.close()
+    except sqlite3.Error:
+        return False
+
+
+def _keep(connection: object) -> None:
+    """Has an object never be finalized."""
+    ctypes.pythonapi.Py_IncRef(ctypes.py_object(connection))
+
+
+class Sqlite:
+    """A file, with a write-ahead log that is flushed at the end of each transaction. Beside it is one for agents' numbers."""
+
+    blob = "blob"
+    lost: tuple[type[Exception], ...] = ()
+
+    def __init__(self, path: pathlib.Path, writes: bool, makes: bool) -> None:
+        self._path, self._agents = path, -1
+        if makes:
+            with contextlib.suppress(FileExistsError):
+                os.close(os.open(path, os.O_RDWR | os.O_CREAT | os.O_EXCL | os.O_CLOEXEC, 0o600))
+                sync_folder(path.parent)
+        self._file = os.stat(path)
+        try:
+            self._db = self._connected()
+            if self.has_run() or makes:
+                self._db.execute("pragma journal_mode = wal")
+            self._db.execute("pragma synchronous = full")
+            if not writes:
+                self._db.execute("pragma query_only = on")
+        except sqlite3.Error as error:
+            raise _as_os_error(error, path) from error
+        if writes:
+            flags = os.O_RDWR | os.O_CREAT | os.O_CLOEXEC | os.O_NOFOLLOW
+            self._agents = os.open(path.with_name(path.name + "-agents"), flags, 0o600)
+
+    def _connected(self) -> sqlite3.Connection:
+        uri = f"{self._path.as_uri()}?mode=rw"
+        return sqlite3.connect(uri, _SECONDS, isolation_level=None, check_same_thread=False, uri=True)
+
+    def run(self, sql: str, values: Sequence[Any] = ()) -> list[Any]:
+        return self._db.execute(sql, values).fetchall()
+
+    def insert(self, table: str, rows: Sequence[Sequence[Any]], more: str = "") -> None:
+        places = ", ".join("?" * len(rows[0]))
+        self._db.executemany(f"insert into {table} values ({places}) {more}", rows)
+
+    @contextlib.contextmanager
+    def transaction(self) -> Iterator[None]:
+        # Neither SQLite nor a new connection notices a file that was removed.
+        if not os.path.samestat(os.stat(self._path), self._file):
+            raise Damaged(0, f"{self._path} was removed or replaced")
+        self._db.execute("begin immediate")
+        try:
+            yield
+            self._db.execute("commit")
+        except BaseException:
+            if self._db.in_transaction:
+                self._db.execute("rollback")
+            raise
+
+    def has_run(self) -> bool:
+        tables = self.run("select count(*) from sqlite_schema")[0][0]
+        if tables and self.run("pragma application_id") != [(_APPLICATION,)]:
+            raise Damaged(0, f"{self._path} is another database than a run's")
+        return bool(tables)
+
+    def make(self) -> None:
+        self.run(f"pragma application_id = {_APPLICATION}")
+
+    def hold(self, agent: int) -> bool:
+        return self._lock(fcntl.F_WRLCK, agent)
+
+    def let(self, agent: int) -> None:
+        self._lock(fcntl.F_UNLCK, agent)
+
+    def _lock(self, kind: int, agent: int) -> bool:
+        try:
+            fcntl.fcntl(self._agents, _OFD_SETLK, struct.pack("hhxxxxqqixxxx", kind, os.SEEK_SET, agent, 1, 0))
+        except OSError as error:
+            if error.errno not in (errno.EAGAIN, errno.EACCES):
+                raise
+            return False
+        return True
+
+    def close(self) -> None:
+        self._db.close()
+        if self._agents >= 0:
+            os.close(self._agents)
+            self._agents = -1
+
+    def leave(self) -> None:
+        _keep(self._db)
+        if self._agents >= 0:
+            os.close(self._agents)
+            self._agents = -1
+
+
+def _as_os_error(error: sqlite3.Error, path: pathlib.Path) -> OSError | Damaged:
+    """The error of a file that SQLite can't open or write."""
+    code = getattr(error, "sqlite_errorcode", 0) & 0xFF
+    if code == sqlite3.SQLITE_NOTADB:
+        return Damaged(0, f"{path} is no database")
+    number = {sqlite3.SQLITE_FULL: errno.ENOSPC, sqlite3.SQLITE_READONLY: errno.EROFS, sqlite3.SQLITE_PERM: errno.EACCES}
+    return OSError(number.get(code, errno.EIO), f"SQLite: {error}", str(path))
+
+
+class Postgres:
+    """A schema of a PostgreSQL database, as in postgresql://host/base#schema, which is folugben where none is told."""
+
+    blob = "bytea"
+
+    def __init__(self, target: str) -> None:
+        server, _, schema = target.partition("#")
+        self._schema = schema or "folugben"
+        driver = _driver()
+        self.lost: tuple[type[Exception], ...] = driver.OperationalError, driver.InterfaceError
+        try:
+            self._db = driver.connect(server)
+        except driver.OperationalError as error:
+            raise ConnectionError(errno.ECONNREFUSED, f"the server doesn't answer: {error}", server) from None
+        self._db.autocommit = True
+        self._cursor = self._db.cursor()
+        self.run("select set_config('search_path', quote_ident(?), false), set_config('synchronous_commit', 'on', false)",
+                 (self._schema,))
+
+    def run(self, sql: str, values: Sequence[Any] = ()) -> list[Any]:
+        self._cursor.execute(sql.replace("?", "%s"), values)
+        return list(self._cursor.fetchall()) if self._cursor.description else []
+
+    def insert(self, table: str, rows: Sequence[Sequence[Any]], more: str = "") -> None:
+        places = f"({', '.join('?' * len(rows[0]))})"
+        for at in range(0, len(rows), 500):
+            some = rows[at : at + 500]
+            self.run(f"insert into {table} values {', '.join([places] * len(some))} {more}", [it for row in some for it in row])
+
+    @contextlib.contextmanager
+    def transaction(self) -> Iterator[None]:
+        self.run("begin")
+        try:
+            # A serial number wouldn't do: a lower one may become visible after a higher one.
+            self.run("select pg_advisory_xact_lock(hashtext('folugben'), hashtext(?))", (self._schema,))
+            yield
+            self.run("commit")
+        except BaseException:
+            with contextlib.suppress(*self.lost):
+                self.run("rollback")
+            raise
+
+    def has_run(self) -> bool:
+        return self.run("select to_regclass(quote_ident(?) || '.run')", (self._schema,)) != [(None,)]
+
+    def make(self) -> None:
+        name = '"{}"'.format(self._schema.replace('"', '""'))
+        self.run(f"create schema if not exists {name}")
+
+    def hold(self, agent: int) -> bool:
+        held = self.run("select pg_try_advisory_lock(hashtext('folugben agent ' || ?), ?)", (self._schema, agent))
+        return bool(held[0][0])
+
+    def let(self, agent: int) -> None:
+        self.run("select pg_advisory_unlock(hashtext('folugben agent ' || ?), ?)", (self._schema, agent))
+
+    def close(self) -> None:
+        with contextlib.suppress(*self.lost):
+            self._db.close()
+
+    def leave(self) -> None:
+        _keep(self._db)
+
+
+def _driver() -> Any:
+    """The module by which Python connects to PostgreSQL: psycopg 3 or 2."""
+    for name in "psycopg", "psycopg2":
+        with contextlib.suppress(ImportError):
+            return importlib.import_module(name)
+    raise ImportError("a run in PostgreSQL needs psycopg: pip install psycopg, or Debian's python3-psycopg2")

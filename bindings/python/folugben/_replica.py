@@ -1,0 +1,147 @@
+"""A replica of a shared run: a storage to which one agent fires the calls of the log, in their order."""
+import re
+from typing import NamedTuple
+
+from ._agent import AGENTS, Agent
+from ._auditor import Auditor
+from ._errors import Clash, Error, Many, Stale, TooLong, expect, expect_read
+from ._folder import Segment
+from ._library import MANY, STATE, Buffer, lib
+from ._lines import expect_state
+from ._log import Call, Log
+from ._storage import Storage, unopened
+
+_OWN = re.compile(rb'^\{"agent":0,', re.MULTILINE)
+# A segment ends after so many calls for each of its moves, as stale ones are kept too.
+_CALLS = 2
+
+
+class Answer(NamedTuple):
+    """The answer to a call: the number of its move, or the error that it was answered with."""
+
+    fired: int
+    error: Error | None
+
+
+class Ended(NamedTuple):
+    """A segment that has ended, with its text and the place of its last call."""
+
+    segment: Segment
+    text: bytes
+    last_place: int
+
+
+class Era:
+    """A storage of a replica, with its number among the segments and the number of moves before it."""
+
+    def __init__(self, state: bytes, number: int, base: int, moves: int) -> None:
+        self.number, self.base = number, base
+        # The numbers that agents of this process may have in the storage.
+        self._free, self._used = list(range(AGENTS - 1, 0, -1)), set[int]()
+        self.storage = unopened()
+        expect_read(lib.asm_open(state, len(state), moves, self.storage._slot), STATE, state)
+        self.applier = Agent(self.storage, 0)
+        # The agents of the calls, as the log has them.
+        self.agents: list[int] = []
+
+    def agent(self) -> Agent:
+        """An agent of this process, to begin steps with; it fires nothing."""
+        if not self._free:
+            raise Many(MANY, said=f"one process has at most {AGENTS - 1} agents of a shared run")
+        number = self._free.pop()
+        if number in self._used:
+            return self.storage.take(number)
+        self._used.add(number)
+        return self.storage.agent(number)
+
+    def leave(self, agent: Agent) -> None:
+        """Take back an agent of this process."""
+        if agent._slot.full:
+            self.storage.give(agent)
+            self._free.append(agent.number)
+
+    def journal(self) -> bytes:
+        """Close it and return its journal, with the agents' numbers of the log."""
+        self.storage.give(self.applier)
+        journal = self.storage.close_journal()
+        if not self.agents:
+            return journal
+        numbers = iter(self.agents)
+        renumbered = _OWN.sub(lambda _: b'{"agent":%d,' % next(numbers), journal)
+        return renumbered.replace(b'{"agents":1,', b'{"agents":%d,' % (max(self.agents) + 1), 1)
+
+
+class Replica:
+    """The state of a shared run up to a place of its log. Equal calls in equal order have equal answers, so all replicas of a
+    run agree on each answer, and on where a segment ends."""
+
+    def __init__(self, log: Log, last: Segment | None = None) -> None:
+        self._moves = log.moves
+        self.segment, previous, self.applied = log.ended(last)
+        with Auditor() as auditor:
+            for chunk in log.text(self.segment, previous.digest):
+                auditor.feed(chunk)
+            auditor.end()
+            state = auditor._state()
+        self.era = Era(state, self.segment.number + 1, self.segment.end, self._moves)
+        self._fired = 0
+
+    def apply(self, place: int, call: Call) -> tuple[Answer | None, Ended | None]:
+        """Fire the call at the next place. Return its answer, None where its segment had ended, and what it has ended."""
+        era, answer = self.era, None
+        if call.segment == era.number:
+            answer = self._fire(era, call)
+        self.applied = place
+        if self._fired < self._moves and len(era.agents) < _CALLS * self._moves:
+            return answer, None
+        return answer, self._end(era, place)
+
+    def _fire(self, era: Era, call: Call) -> Answer:
+        while True:
+            try:
+                fired = era.applier._fire(call.call.encode(), call.scans.encode())
+                self._fired = fired
+                answer = Answer(era.base + fired, None)
+            except MemoryError:
+                continue
+            except Error as error:
+                answer = Answer(0, error)
+                if not isinstance(error, (Stale, Clash)):
+                    return answer  # of which there is no receipt
+            era.agents.append(call.agent)
+            return answer
+
+    def _end(self, era: Era, place: int) -> Ended:
+        state = self.state_text()[1]
+        expect_state(len(state))
+        following = Era(state, era.number + 1, era.base + self._fired, self._moves)
+        text = era.journal()
+        self.segment = self.segment.following(self._fired, len(era.agents), memoryview(text))
+        self.era, self._fired = following, 0
+        return Ended(self.segment, text, place)
+
+    def state_text(self) -> tuple[int, bytes]:
+        """The number of moves of the run up to its place, and the text of the state after them."""
+        era = self.era
+        number = era.applier.follow()
+        code, text = Buffer().text(lib.asm_state, era.applier._slot, era.applier._number)
+        expect(code)
+        return era.base + number, text
+
+
+def rest(log: Log, last: Segment) -> list[bytes]:
+    """Return the journals of what the log has behind a saved segment.
+
+    Raises:
+        Behind: further segments were saved meanwhile, and these calls dropped.
+    """
+    replica, journals = Replica(log, last), list[bytes]()
+    try:
+        while placed := log.exchange([], replica.applied):
+            for place, call in placed:
+                _, ended = replica.apply(place, call)
+                if ended is not None:
+                    journals.append(ended.text)
+    except TooLong:
+        pass  # it is the last one
+    return [*journals, replica.era.journal()] if replica.era.agents else journals

@@ -1,0 +1,292 @@
+"""Shared runs: agents of one run in many processes, on many machines, over a database."""
+import os
+import weakref
+from collections.abc import Callable, Iterable, Sequence
+from types import TracebackType
+from typing import Any, NoReturn, Self, TypeVar, overload
+
+from ._agent import Agent, back_off, own_number
+from ._errors import Error, Past, expect
+from ._held import is_in_call, one_call
+from ._library import CLASH, EMPTY, NUMBER, STALE, lib
+from ._lines import expect_call, expect_state
+from ._location import Location
+from ._log import Log
+from ._replica import Era
+from ._step import Step
+from ._storage import Storage, capacity_of
+from ._texts import Form, decoded, encoded
+from ._worker import Worker
+
+_R = TypeVar("_R")
+
+
+class SharedStep(Step):
+    """A step of an agent of a shared run, whose numbers are those of the run."""
+
+    def __init__(self, shared: "SharedAgent", agent: Agent, era: Era) -> None:
+        self._shared, self._era = shared, era
+        # The functions that it has scanned.
+        self._scans: dict[str, None] = {}
+        super().__init__(agent)
+
+    @property
+    def number(self) -> int:
+        return self._era.base + self._number
+
+    @property
+    def fired(self) -> int:
+        return self._fired and self._era.base + self._fired
+
+    def scan(self, name: str) -> list[list[Any]]:
+        """The same as of any step."""
+        found = super().scan(name)
+        self._scans[name] = None
+        return found
+
+    def offer(self) -> dict[str, Any]:
+        """The same, with numbers of the run."""
+        offer, base = super().offer(), self._era.base
+        return {"fire": offer["fire"], "reads": [[at, base + number] for at, number in offer["reads"]]}
+
+    def fire(self) -> int:
+        """Fire one move that does what the pushed moves do in turn. Return its number, once the move is durable.
+
+        Raises:
+            Stale, Clash, Many: as of any step.
+            Past: its segment had ended when the call came into the log.
+            TooLong: the move's line would be longer than an audit reads.
+            Broken: the run has ended; whether the move was fired may not be known.
+            Unknown: whether the move was fired isn't known.
+        """
+        return self._era.base + self._fire(())
+
+    def try_fire(self) -> int:
+        """The same, but 0 where the step is to be begun again, for `Stale`, `Clash` or `Past`."""
+        try:
+            fired = self._fire((STALE, CLASH))
+        except Past:
+            self._is_tried = True
+            return 0
+        return fired and self._era.base + fired
+
+    def _fire(self, vain: tuple[int, ...]) -> int:
+        call, scans = self._call()
+        answer = self._shared._worker.answer(self._era.number, self._shared.number, call, scans)
+        if answer is None:
+            raise Past(EMPTY, said="the segment of the run has ended, so begin another step")
+        if answer.error is None:
+            self._fired, self._is_fired = answer.fired - self._era.base, True
+            self._shared._won += 1
+            self.free()
+            return self._fired
+        self._is_tried = True
+        if answer.error.code in vain:
+            return 0
+        raise answer.error
+
+    @one_call
+    def _call(self) -> tuple[bytes, bytes]:
+        """What the fire offers, and the scans that it rests on."""
+        with self._agent._lock:
+            code, call = self._agent._buffer.text(lib.asm_offer, self._slot)
+            self._expect_on(code)
+        expect(code)
+        expect_call(call)
+        return call, encoded([[name, self._number] for name in self._scans], "scans")
+
+
+class SharedRun:
+    """A run whose moves are kept in a database, and whose agents may be in many processes, on many machines.
+
+        with SharedRun("bank.db", init=[[["balance"], 0]]) as run, run.agent(0) as anna:
+            anna.play(deposit)
+
+    The target is a file of SQLite, for the processes of one machine, or postgresql://host/base, for those of many; a name behind
+    a # is the schema, one for each run. The first process opens the run, with its opening state and the number of moves of a
+    segment; others join it. Without `init` a run has to be there.
+
+    An answer is returned when its move is durable in the database. No answered move is lost or done twice, whichever process,
+    connection or server dies. All processes have the same states in the same order.
+
+    Raises:
+        FileNotFoundError: there is no run, and no `init`.
+        Mismatch: the run has another opening state, or tables of another version.
+        ConnectionError: the server doesn't answer.
+        OSError: the file can't be opened, or not be written.
+        Damaged: there is something else than a run.
+    """
+
+    def __init__(self, target: str | os.PathLike[str], init: Iterable[Form] | None = None, moves: int = 10_000) -> None:
+        self._target, capacity = os.fspath(target), capacity_of(moves)
+        state = None if init is None else list(init)
+
+        def opening(moves: int) -> bytes:
+            with Storage(state or (), moves) as storage:
+                journal = storage.close_journal()
+            expect_state(len(journal))
+            return journal
+
+        self._worker = Worker(Log.opened(self._target, None if state is None else opening, capacity))
+        self._agents: weakref.WeakValueDictionary[int, SharedAgent] = weakref.WeakValueDictionary()
+
+    @property
+    def target(self) -> str:
+        """Where it is kept."""
+        return self._target
+
+    def agent(self, number: int) -> "SharedAgent":
+        """Return an agent with this number, below 256, that no other process has.
+
+        Raises:
+            Error: the number is in use, here or in another process that lives, with the code NUMBER.
+        """
+        own = own_number(number)
+        self._worker.expect_going()
+        one = self._agents.get(own)
+        if one is not None and not one._is_gone:
+            raise Error(NUMBER, said=f"agent {own}")
+        if not self._worker.hold(own):
+            raise Error(NUMBER, said=f"agent {own} is in use by another process")
+        agent = self._agents[own] = SharedAgent(self, own)
+        return agent
+
+    def state(self) -> tuple[int, list[Any]]:
+        """Return the number of moves by now, of all processes, and the state after them: pairs of a location and its value."""
+        self._worker.follow()
+        number, text = self._worker.state_text()
+        return number, decoded(text)
+
+    def close(self) -> None:
+        """Leave the run, which goes on in other processes; it may be called again.
+
+        `Broken` where the run has ended for this process by a fault.
+        """
+        self._worker.close()
+
+    def __enter__(self) -> Self:
+        return self
+
+    def __exit__(self, kind: type[BaseException] | None, error: BaseException | None, traced: TracebackType | None) -> None:
+        self.close()
+
+    def __repr__(self) -> str:
+        return f"<SharedRun {self._target!r}>"
+
+    def __reduce__(self) -> NoReturn:
+        raise TypeError("cannot copy or pickle 'SharedRun' object")
+
+
+class SharedAgent:
+    """An agent of a shared run, for one thread. It is given back at the end of a `with`.
+
+    It begins its steps on a replica in its own process, so that to get and to push takes no round trip. A fire waits for the
+    database. Numbers of moves are those of the run.
+    """
+
+    def __init__(self, run: SharedRun, own: int) -> None:
+        self._run, self._worker, self._own = run, run._worker, own
+        self._in: tuple[Era, Agent] | None = None
+        self._won, self._is_gone = 0, False
+
+    def step(self) -> SharedStep:
+        """Begin a step on the state of this process's replica."""
+        era, agent = self._now()
+        return SharedStep(self, agent, era)
+
+    def play(self, rule: Callable[[Step], _R]) -> tuple[int, _R]:
+        """Begin a step, play the rule on it and fire it, and begin again where other agents were quicker.
+
+        Return the number of the move, once that is durable, and what the rule returned. What the rule raises ends it, and nothing
+        is fired.
+        """
+        tries = 0
+        while True:
+            with self.step() as step:
+                told = rule(step)
+                number = step.try_fire()
+            if number:
+                return number, told
+            back_off(tries)
+            tries += 1
+
+    def follow(self) -> int:
+        """Wait until the replica has all that is in the log now, and follow it. Return the number of moves seen."""
+        self._worker.follow()
+        era, agent = self._now()
+        return era.base + agent.follow()
+
+    @overload
+    def peek(self, places: Location) -> tuple[int, Any]: ...
+
+    @overload
+    def peek(self, places: Sequence[Form]) -> tuple[int, list[Any]]: ...
+
+    def peek(self, places: Location | Sequence[Form]) -> tuple[int, Any]:
+        """Return the number of moves at which its own state stands, and the values of the locations there."""
+        era, agent = self._now()
+        number, values = agent.peek(places)
+        return era.base + number, values
+
+    def state(self) -> tuple[int, list[Any]]:
+        """Return the number of moves at which its own state stands, and that state."""
+        era, agent = self._now()
+        number, state = agent.state()
+        return era.base + number, state
+
+    def scan(self, name: str) -> tuple[int, list[Any]]:
+        """The same with the locations of one function name alone."""
+        era, agent = self._now()
+        number, pairs = agent.scan(name)
+        return era.base + number, pairs
+
+    @property
+    def number(self) -> int:
+        """Its number among the agents of the run."""
+        return self._own
+
+    @property
+    def won(self) -> int:
+        """How many moves it fired."""
+        return self._won
+
+    @property
+    def seen(self) -> int:
+        """How many moves of the run it has seen."""
+        era, agent = self._now()
+        return era.base + agent.seen
+
+    def give(self) -> None:
+        """Give it back; it may be called again."""
+        if not self._is_gone:
+            self._is_gone = True
+            self._leave()
+            self._worker.let(self._own)
+
+    def _now(self) -> tuple[Era, Agent]:
+        """The newest segment, and its agent there."""
+        if self._is_gone:
+            raise Error(EMPTY, said="the agent was given back")
+        self._worker.expect_going()
+        if self._in is None or self._in[0] is not self._worker.replica.era:
+            self._leave()
+            self._in = self._worker.come()
+        return self._in
+
+    def _leave(self) -> None:
+        if self._in is not None:
+            (era, agent), self._in = self._in, None
+            self._worker.leave(era, agent)
+
+    def __enter__(self) -> Self:
+        return self
+
+    def __exit__(self, kind: type[BaseException] | None, error: BaseException | None, traced: TracebackType | None) -> None:
+        if not is_in_call():
+            self.give()
+
+    def __repr__(self) -> str:
+        return f"<SharedAgent {self._own}{', given back' if self._is_gone else ''}>"
+
+    def __reduce__(self) -> NoReturn:
+        raise TypeError("cannot copy or pickle 'SharedAgent' object")

@@ -1,0 +1,252 @@
+"""The thread of a shared run: it appends the calls of this process to the log, and applies the log to the replica."""
+import atexit
+import secrets
+import threading
+import time
+import weakref
+
+from ._agent import Agent
+from ._errors import Broken, Error, Unknown
+from ._held import Locked
+from ._library import EMPTY
+from ._log import BATCH, READ, Behind, Call, Log, Placed
+from ._replica import Answer, Ended, Era, Replica
+
+# How often it looks for calls of other processes.
+_PAUSE = 0.01
+# How long it tries to reach a server again.
+_PATIENCE = 60.0
+_workers: "weakref.WeakSet[Worker]" = weakref.WeakSet()
+
+
+class Waiter:
+    """An agent that waits for the answer to its call."""
+
+    __slots__ = ("call", "is_sent", "answer", "fault", "_done")
+
+    def __init__(self, call: Call) -> None:
+        # Whether the call may be in the log.
+        self.call, self.is_sent = call, False
+        self.answer: Answer | None = None
+        self.fault: BaseException | None = None
+        self._done = threading.Event()
+
+    def end(self, answer: Answer | None, fault: BaseException | None = None) -> None:
+        self.answer, self.fault = answer, fault
+        self._done.set()
+
+    def wait(self) -> Answer | None:
+        """Return the answer, None where its segment had ended before its place."""
+        self._done.wait()
+        if self.fault is not None:
+            raise self.fault
+        return self.answer
+
+
+class Worker(Locked):
+    """Appends and applies. An answer is returned once its call is durable in the log, and applied."""
+
+    def __init__(self, log: Log) -> None:
+        self._log, self.replica = log, Replica(log)
+        self._changed = threading.Condition(threading.RLock())
+        self._locked_by(self._changed)
+        # Who has one thread use the connection at a time.
+        self._using = threading.RLock()
+        # Calls that are to be appended; those that may be in the log, by their tokens.
+        self._waiting: list[Waiter] = []
+        self._sent: dict[bytes, Waiter] = {}
+        # How often all that is in the log was asked for, and applied.
+        self._asked = self._applied = 0
+        # The numbers of this process's agents.
+        self._held: set[int] = set()
+        self._fault: BaseException | None = None
+        self._is_closing = self._is_over = False
+        self._thread = threading.Thread(target=self._work, name=f"worker of {log.target}", daemon=True)
+        self._thread.start()
+        _workers.add(self)
+
+    def _is_copied(self) -> None:
+        super()._is_copied()
+        self._log.database.leave()
+
+    def expect_going(self) -> None:
+        """Expect that the run goes on."""
+        if self._fault is not None:
+            raise Broken(self.replica.era.number, self._fault)
+        if self._is_closing:
+            raise Error(EMPTY, said="the run was closed")
+
+    # What agents do.
+
+    def answer(self, segment: int, agent: int, call: bytes, scans: bytes) -> Answer | None:
+        """Append a call, and return its answer, None where its segment had ended."""
+        waiter = Waiter(Call(secrets.token_bytes(16), segment, agent, call.decode(), scans.decode()))
+        with self._lock:
+            self.expect_going()
+            self._waiting.append(waiter)
+            self._changed.notify_all()
+        return waiter.wait()
+
+    def follow(self) -> None:
+        """Wait until all is applied that is in the log now."""
+        with self._lock:
+            self.expect_going()
+            self._asked += 1
+            asked = self._asked
+            self._changed.notify_all()
+            while self._applied < asked:
+                self.expect_going()
+                self._changed.wait()
+
+    def come(self) -> tuple[Era, Agent]:
+        """Have an agent of the newest segment, to begin steps with."""
+        with self._lock:
+            era = self.replica.era
+            return era, era.agent()
+
+    def leave(self, era: Era, agent: Agent) -> None:
+        """Give it back."""
+        with self._lock:
+            era.leave(agent)
+
+    def state_text(self) -> tuple[int, bytes]:
+        """The number of moves that are applied, and the text of the state after them."""
+        with self._lock:
+            return self.replica.state_text()
+
+    def hold(self, agent: int) -> bool:
+        """Take an agent's number, unless another process has it."""
+        with self._using:
+            is_held = self._log.database.hold(agent)
+            self._held |= {agent} if is_held else set()
+            return is_held
+
+    def let(self, agent: int) -> None:
+        """Let others have it."""
+        with self._using:
+            self._held.discard(agent)
+            if not self._is_over:
+                self._log.database.let(agent)
+
+    def close(self) -> None:
+        """End it, once all calls that wait are answered."""
+        with self._lock:
+            self._is_closing = True
+            self._changed.notify_all()
+        self._thread.join()
+        if self._fault is not None:
+            raise Broken(self.replica.era.number, self._fault)
+
+    # What the thread does.
+
+    def _work(self) -> None:
+        try:
+            while self._is_going():
+                self._turn()
+        except BaseException as error:
+            self._fault = error
+        finally:
+            self._end()
+
+    def _is_going(self) -> bool:
+        with self._changed:
+            if not self._waiting and not self._is_closing and self._asked == self._applied:
+                self._changed.wait(_PAUSE)
+            return not self._is_closing or bool(self._waiting or self._sent)
+
+    def _turn(self) -> None:
+        with self._changed:
+            batch, self._waiting = self._waiting[:BATCH], self._waiting[BATCH:]
+            asked = self._asked
+            self._sent.update((waiter.call.token, waiter) for waiter in batch)
+        try:
+            placed = self._exchange(batch)
+        except Behind:
+            self._rejoin()
+            return
+        for place, call in placed:
+            with self._changed:
+                answer, ended = self.replica.apply(place, call)
+            if (waiter := self._sent.pop(call.token, None)) is not None:
+                waiter.end(answer)
+            if ended is not None:
+                self._save(ended)
+        if len(placed) < READ:
+            with self._changed:
+                self._applied = asked
+                self._changed.notify_all()
+
+    def _exchange(self, batch: list[Waiter]) -> list[Placed]:
+        with self._using:
+            while True:
+                try:
+                    placed = self._log.exchange([waiter.call for waiter in batch], self.replica.applied)
+                except self._log.database.lost as error:
+                    _note_sent(batch)
+                    self._reconnect(error)
+                    # Those that are in the log stay there once.
+                    batch = list(self._sent.values())
+                else:
+                    _note_sent(batch)
+                    return placed
+
+    def _save(self, ended: Ended) -> None:
+        with self._using:
+            while True:
+                try:
+                    return self._log.save(*ended)
+                except self._log.database.lost as error:
+                    self._reconnect(error)
+
+    def _reconnect(self, error: Exception) -> None:
+        """Connect again, and take the numbers of the agents again."""
+        pause, end = 0.01, time.monotonic() + _PATIENCE
+        while True:
+            try:
+                self._log.reconnect()
+                if not all(map(self._log.database.hold, self._held)):
+                    raise Error(EMPTY, said="another process has taken an agent's number while the server was away")
+                return
+            except Exception as again:
+                if not isinstance(again, (ConnectionError, *self._log.database.lost)):
+                    raise
+                if time.monotonic() > end:
+                    raise error from None
+                time.sleep(pause)
+                pause = min(1.0, 2 * pause)
+
+    def _rejoin(self) -> None:
+        """Goes on from the last segment, where the calls before it were dropped from the log."""
+        with self._using:
+            replica = Replica(self._log)
+        with self._changed:
+            self.replica = replica
+        for waiter in self._sent.values():
+            # What was sent just now was rolled back.
+            waiter.end(None, Unknown() if waiter.is_sent else None)
+        self._sent = {}
+
+    def _end(self) -> None:
+        with self._changed:
+            self._is_over = True
+            fault = self._fault
+            for waiter in [*self._waiting, *self._sent.values()]:
+                waiter.end(None, Broken(self.replica.era.number, fault) if fault else Error(EMPTY, said="the run was closed"))
+            self._waiting, self._sent = [], {}
+            self._changed.notify_all()
+        with self._using:
+            self._log.close()
+        _workers.discard(self)
+
+
+def _note_sent(waiters: list[Waiter]) -> None:
+    for waiter in waiters:
+        waiter.is_sent = True
+
+
+def _close_all() -> None:
+    for worker in list(_workers):
+        worker.close()
+
+
+atexit.register(_close_all)
