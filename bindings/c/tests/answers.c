@@ -37,6 +37,11 @@ static void reads(void) {
     end_all();
 }
 
+#define PUT "{'fire':[['put',['y'],1]],'reads':[[['x'],0]]}"
+#define CLASHES "{'fire':[['put',['y'],1],['put',['y'],2]],'reads':[]}"
+#define PHANTOM "{'fire':[['put',['t',1],5]],'reads':[]}"
+#define STALE "{'stale':['t',1]}"
+
 /* A fire of an agent, over scans where there are some: its code and number, and the agent's last
  * answer then, if it has one. */
 static const struct fires {
@@ -46,10 +51,6 @@ static const struct fires {
     uint32_t number;
     const char *answer;
 } fires[] = {
-#define PUT "{'fire':[['put',['y'],1]],'reads':[[['x'],0]]}"
-#define CLASHES "{'fire':[['put',['y'],1],['put',['y'],2]],'reads':[]}"
-#define PHANTOM "{'fire':[['put',['t',1],5]],'reads':[]}"
-#define STALE "{'stale':['t',1]}"
     {0, PUT, "[['x',0]]", ASM_DONE, 1, "{'fired':1}"},
     /* A scan at a number that is yet to come is refused before a look. */
     {1, PHANTOM, "[['t',1]]", ASM_RANGE, 0, NULL},
