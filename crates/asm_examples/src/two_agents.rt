@@ -69,7 +69,8 @@ fn a_stale_fire_is_read_and_fired_again(rt: HostRuntime) -> Result<(), Fail> {
     let mut second = storage.agent_at(alloc, 1)?;
     assert!(rt; raise_in_turn(alloc, &mut first, &mut second)?);
 
-    let history = storage.close(alloc, &[first, second])?;
+    let agents = [first, second];
+    let history = storage.close(alloc, &agents)?;
     let legality = check(alloc, &standard(), &history)?;
     assert_eq!(rt; legality, Legality::Legal { calls: 6, moves: 2 });
     Ok(())
