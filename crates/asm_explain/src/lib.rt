@@ -14,4 +14,4 @@ mod term;
 
 pub use explaining::{Form, explain};
 pub use journal::explain_journal;
-pub use reading::{Fire, TextError, fire_of, read_as};
+pub use reading::{Fire, TextError, fire_of, read_as, read_quickly};

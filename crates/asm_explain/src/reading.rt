@@ -1,11 +1,12 @@
 //! What bytes read as.
-ghost use Rattle.std.specs.Prelude.{IfOk, IfErr};
+ghost use Rattle.std.specs.Prelude.{◌≤◌, IfOk, IfErr};
+ghost use Rattle.serde_json.specs.Read.{max_depth};
 ghost use Rattle.serde_json.specs.View.{view};
 ghost use Rattle.asm_journal.specs.Reading.{IsJson};
 ghost use Rattle.asm_explain.specs.Bytes.{IsFireForm, IsMisread, IsUnread, ReadAs, ReadAsFire};
 
 use asm_element::Items;
-use asm_journal::FromJson;
+use asm_journal::{FromFront, FromJson, read_compact};
 use asm_state::Named;
 use asm_storage::Call;
 use asm_update::Instructions;
@@ -23,6 +24,8 @@ pub enum TextError {
     Memory,
 }
 
+// In a stack frame of its own, as `serde_json` reads with 16 KiB of the stack.
+#[inline(never)]
 fn json_of(alloc: Global, bytes: &[u8]) -> Result<Json, TextError>
     ensures ok { IfOk result (λ v. IsJson bytes.now (view v)) }
     ensures err { IfErr result (IsUnread bytes.now) }
@@ -53,6 +56,18 @@ pub fn read_as<T: FromJson>(alloc: Global, bytes: &[u8]) -> Result<T, TextError>
     }
 }
 
+/// Reads the value whose JSON the bytes are, as `read_as` does; bytes in compact JSON make no value of `serde_json`.
+pub fn read_quickly<T: FromFront>(alloc: Global, bytes: &[u8]) -> Result<T, TextError>
+    requires { T.nests ≤ max_depth }
+    ensures ok { IfOk result (ReadAs T.is_form bytes.now) }
+    ensures err { IfErr result (IsMisread T.is_form bytes.now) }
+{
+    match read_compact::<T>(alloc, bytes) {
+        Some(read) => Ok(read),
+        None => read_as::<T>(alloc, bytes),
+    }
+}
+
 /// A move with its named reads.
 #[derive(Drop)]
 pub struct Fire {
@@ -69,7 +84,7 @@ pub fn fire_of(alloc: Global, bytes: &[u8]) -> Result<Fire, TextError>
     ensures ok { IfOk result (λ f. ReadAsFire bytes.now f.reads f.instrs) }
     ensures err { IfErr result (IsMisread IsFireForm bytes.now) }
 {
-    match read_as::<Call>(alloc, bytes) {
+    match read_quickly::<Call>(alloc, bytes) {
         Ok(Call::Fire { reads, instrs }) => Ok(Fire { reads, instrs }),
         Ok(Call::Read(_)) => Err(TextError::Shape),
         Err(error) => Err(error),

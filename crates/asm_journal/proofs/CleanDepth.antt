@@ -52,149 +52,9 @@ use Rattle.asm_journal.specs.Text.{state_json_of, header_of}
 use Rattle.asm_row.specs.Limits.{capacity_limit}
 use Rattle.asm_storage.specs.Limits.{agents_limit, events_limit}
 use Rattle.asm_storage.specs.Proper.{IsProperNamed, IsProperCall, IsProperReply, IsProperAnswer, IsProperEvent}
-use Rattle.asm_journal.proofs.Clean.{IsClean, AreCleanItems, AreCleanMembers, put_all}
+use Rattle.asm_journal.specs.readback.CleanDepth.{AreItemsCleanTo, no_item, more_items, array_clean, all_clean, pair_clean, no_member, more_members, object_clean, one_clean, small_clean, word_clean, integer_clean, element_clean, elements_clean, location_clean, two_clean}
+pub use Rattle.asm_journal.specs.readback.CleanDepth.{IsCleanTo, deeper}
 use Rattle.asm_journal.proofs.EntriesKept.{pairs_kept}
-
--- clean, and nested at most to this depth
-pub record IsCleanTo (n : ℕ) (d : Data) : Type 0 where
-  pub clean : IsClean d
-  pub shallow : depth d ≤ n
-
-record AreItemsCleanTo (n : ℕ) (ds : Items) : Type 0 where
-  clean : AreCleanItems ds
-  shallow : items_depth ds ≤ n
-
-record AreMembersCleanTo (n : ℕ) (ms : Members) : Type 0 where
-  clean : AreCleanMembers ms
-  shallow : members_depth ms ≤ n
-
-both_below : (a b n : ℕ) → a ≤ n → b ≤ n → max a b ≤ n
-both_below a b n h k = omega (arith, h, k)
-
--- what is clean to one depth is clean to any greater one
-pub deeper : (m n : ℕ) (d : Data) → m ≤ n → IsCleanTo m d → IsCleanTo n d
-deeper m n d h g = record { clean = g.clean; shallow = omega (arith, h, g.shallow) }
-
--- ---- arrays and objects
-
-no_item : (n : ℕ) → AreItemsCleanTo n no_items
-no_item n = record { clean = tt; shallow = omega arith }
-
-more_items : (n : ℕ) (d : Data) (ds : Items) → IsCleanTo n d → AreItemsCleanTo n ds → AreItemsCleanTo n (item d ds)
-more_items n d ds g gs = record { clean = (g.clean, gs.clean); shallow = both_below _ _ n g.shallow gs.shallow }
-
-array_clean : (n : ℕ) (ds : Items) → AreItemsCleanTo n ds → IsCleanTo (suc n) (array ds)
-array_clean n ds gs = record { clean = gs.clean; shallow = omega (arith, gs.shallow) }
-
-items_clean : {X : Type 0} {P : X → Type 0} (n : ℕ) (f : X → Data) → ((x : X) → P x → IsCleanTo n (f x)) → (xs : List X)
-    → AllByRecursion P xs → AreItemsCleanTo n (items_of (map f xs))
-items_clean n f each [] h = no_item n
-items_clean n f each (x ∷ xs) h = more_items n (f x) _ (each x h.0) (items_clean n f each xs h.1)
-
-all_clean : {X : Type 0} {P : X → Type 0} (n : ℕ) (f : X → Data) → ((x : X) → P x → IsCleanTo n (f x)) → (xs : List X)
-    → AllByRecursion P xs → IsCleanTo (suc n) (list_of (map f xs))
-all_clean n f each xs h = array_clean n _ (items_clean n f each xs h)
-
-pair_clean : (n : ℕ) (a b : Data) → IsCleanTo n a → IsCleanTo n b → IsCleanTo (suc n) (pair_of a b)
-pair_clean n a b g h = array_clean n _ (more_items n a _ g (more_items n b _ h (no_item n)))
-
-no_member : (n : ℕ) → AreMembersCleanTo n no_members
-no_member n = record { clean = tt; shallow = omega arith }
-
-more_members : (n : ℕ) (key : List ℕ) (d : Data) (ms : Members) → are_ascii key ≡ true → IsCleanTo n d
-    → AreMembersCleanTo n ms → AreMembersCleanTo n (member key d ms)
-more_members n key d ms plain g gs =
-    record { clean = (IsUtf8-are_ascii key plain, g.clean, gs.clean); shallow = both_below _ _ n g.shallow gs.shallow }
-
-object_clean : (n : ℕ) (ms : Members) → AreMembersCleanTo n ms → put_all no_members ms ≡ ms → IsCleanTo (suc n) (object ms)
-object_clean n ms gs ordered = record { clean = (gs.clean, ordered); shallow = omega (arith, gs.shallow) }
-
-one_clean : (n : ℕ) (key : List ℕ) (d : Data) → are_ascii key ≡ true → IsCleanTo n d → IsCleanTo (suc n) (one_of key d)
-one_clean n key d plain g = object_clean n _ (more_members n key d _ plain g (no_member n)) refl
-
--- ---- elements, locations and values
-
-number_clean : (n : ℕ) → n < 2 ^ 64 → IsCleanTo 0 (number_json_of n)
-number_clean n h = record { clean = h; shallow = omega arith }
-
-small_clean : (n : ℕ) → n < 2 ^ 32 → IsCleanTo 0 (number_json_of n)
-small_clean n h = number_clean n (omega (arith, h))
-
-string_clean : (s : List ℕ) → IsUtf8 s → IsCleanTo 0 (string s)
-string_clean s h = record { clean = h; shallow = omega arith }
-
-word_clean : (s : List ℕ) → are_ascii s ≡ true → IsCleanTo 0 (string s)
-word_clean s plain = string_clean s (IsUtf8-are_ascii s plain)
-
-integer_clean : (z : ℤ) → FitsSigned w64 z → IsCleanTo 0 (number (of_integer z))
-integer_clean (pos n) h = record { clean = omega (arith, h); shallow = omega arith }
-integer_clean (negsuc n) h = record { clean = omega (arith, h); shallow = omega arith }
-
-left_below : (a b n : ℕ) → max a b ≤ n → a ≤ n
-left_below a b n h = omega (arith, h)
-
-right_below : (a b n : ℕ) → max a b ≤ n → b ≤ n
-right_below a b n h = omega (arith, h)
-
--- an array in an object for each level of lists
-mutual
-  datum_clean : (n : ℕ) (d : Datum) → datum.depth d ≤ n → IsProperDatum d → IsCleanTo (2 * n) (datum_json_of d)
-  datum_clean n datum.undef below h = record { clean = tt; shallow = omega arith }
-  datum_clean n (datum.truth b) below h = record { clean = tt; shallow = omega arith }
-  datum_clean n (datum.number z) below h = deeper 0 (2 * n) _ (omega arith) (integer_clean z h)
-  datum_clean n (datum.text s) below h = deeper 0 (2 * n) _ (omega arith) (string_clean s h)
-  datum_clean zero (datum.list ds) below h = absurd (omega (arith, below))
-  datum_clean (suc n) (datum.list ds) below h =
-      let items = sequence_clean n ds (omega (arith, below)) h.1.1 in
-      deeper (suc (suc (2 * n))) (2 * suc n) _ (omega arith)
-      (one_clean (suc (2 * n)) (codes "list") _ refl (array_clean (2 * n) _ items))
-
-  sequence_clean : (n : ℕ) (ds : Sequence) → datum.items_depth ds ≤ n → AreProperItems ds → AreItemsCleanTo (2 * n) (items_json_of ds)
-  sequence_clean n datum.nothing below h = no_item (2 * n)
-  sequence_clean n (datum.item d ds) below h =
-      more_items (2 * n) _ _ (datum_clean n d (left_below _ _ n below) h.0) (sequence_clean n ds (right_below _ _ n below) h.1)
-
-element_clean : (x : Element) → element.IsProper x → IsCleanTo 16 (element_json_of x)
-element_clean elements.Undef h = record { clean = tt; shallow = omega arith }
-element_clean (elements.Bool b) h = record { clean = tt; shallow = omega arith }
-element_clean (elements.Num z) h = deeper 0 16 _ (omega arith) (integer_clean z h)
-element_clean (elements.Text s) h = deeper 0 16 _ (omega arith) (string_clean s h)
-element_clean (elements.List ds) h = datum_clean 8 (datum.list ds) h.1.0 h
-
--- a test that refuses each byte from 128 on takes bytes below 128 alone
-below_128 : (test : ℕ → Bool) → ((b : ℕ) → 128 ≤ b → test b ≡ false) → (b : ℕ) → test b ≡ true → nat_lt b 128 ≡ true
-below_128 test high b e = elim (cases_lt b 128) [
-  | inl low ↦ lt-ltb b 128 low
-  | inr past ↦ absurd (true≢false (sym e ∙ high b past))
-]
-
-high_byte : (b : ℕ) → 128 ≤ b → is_name_byte b ≡ false
-high_byte b h = grind (arith, nat_tests)
-
-high_start : (b : ℕ) → 128 ≤ b → is_name_start b ≡ false
-high_start b h = grind (arith, nat_tests)
-
-all_low : (bs : List ℕ) → list_all is_name_byte bs ≡ true → are_ascii bs ≡ true
-all_low [] e = refl
-all_low (b ∷ bs) e =
-    let parts = and_parts (is_name_byte b) (list_all is_name_byte bs) e in
-    ap (λ x. x && are_ascii bs) (below_128 is_name_byte high_byte b parts.0) ∙ all_low bs parts.1
-
--- a name is ASCII
-name_ascii : (bs : List ℕ) → IsTrue (is_name bs) → are_ascii bs ≡ true
-name_ascii [] h = absurd cc
-name_ascii (b ∷ bs) h =
-    let parts = and_parts (nat_le (length (b ∷ bs)) 64) (is_name_start b && list_all is_name_byte bs) h in
-    let bytes = and_parts (is_name_start b) (list_all is_name_byte bs) parts.1 in
-    ap (λ x. x && are_ascii bs) (below_128 is_name_start high_start b bytes.0) ∙ all_low bs bytes.1
-
-elements_clean : (xs : List Element) → All element.IsProper xs → AreItemsCleanTo 16 (items_of (map element_json_of xs))
-elements_clean xs h = items_clean 16 element_json_of element_clean xs (recursion_from_All element.IsProper xs h)
-
-pub location_clean : (p : Place) → place.IsProper p → IsCleanTo 17 (location_json_of p)
-location_clean p h =
-    array_clean 16 _ (more_items 16 _ _ (deeper 0 16 _ (omega arith) (word_clean p.name (name_ascii p.name h.0)))
-    (elements_clean p.args h.2))
 
 count_clean : (p : Element × ℕ) → element.IsProper p.0 × bag.IsCount p.1 → IsCleanTo 17 (count_json_of p)
 count_clean p h = pair_clean 16 _ _ (element_clean p.0 h.0) (deeper 0 16 _ (omega arith) (small_clean p.1 h.1.1))
@@ -242,12 +102,6 @@ instruction_clean i h = action_clean i.at i.action h.0 h.1
 
 named_clean : (r : Named) → IsProperNamed r → IsCleanTo 18 (named_json_of r)
 named_clean r h = pair_clean 17 _ _ (location_clean r.at h.0) (deeper 0 17 _ (omega arith) (small_clean r.number h.1))
-
-two_clean : (n : ℕ) (k l : List ℕ) (a b : Data) → are_ascii k ≡ true → are_ascii l ≡ true
-    → put_all no_members (member k a (member l b no_members)) ≡ member k a (member l b no_members)
-    → IsCleanTo n a → IsCleanTo n b → IsCleanTo (suc n) (two_of k a l b)
-two_clean n k l a b plain clear ordered g h =
-    object_clean n _ (more_members n k a _ plain g (more_members n l b _ clear h (no_member n))) ordered
 
 call_clean : (c : Call) → IsProperCall c → IsCleanTo 22 (call_json_of c)
 call_clean (call.Read places) h =

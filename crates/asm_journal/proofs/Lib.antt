@@ -25,3 +25,8 @@ pub mod CleanDepth
 pub mod WrittenForms
 pub mod RoundTrip
 pub mod GoesOn
+pub mod Fronts
+pub mod Compact
+pub mod Whole
+pub mod FrontInstructions
+pub mod FrontObjects

@@ -12,3 +12,5 @@ pub mod Fault
 pub mod Laws
 pub mod Next
 pub mod Output
+pub mod Front
+pub mod readback

@@ -21,13 +21,16 @@ mod value;
 
 pub use answer::word_of_cause;
 pub use array::{Listed, read_one, two_items};
+pub(crate) use call::instructions_of;
 pub use element::{location_json, read_location};
 pub use instruction::{instruction_json, instruction_parts, read_instruction};
 pub(crate) use number::read_number;
 pub(crate) use object::five_members;
 pub use object::{one_member, two_members};
 pub use set::read_amount;
+pub(crate) use set::{Counted, bag_of, set_of};
 pub use state::pair_json;
+pub(crate) use state::{StatePair, state_from};
 pub use value::{read_value, value_json};
 
 /// A value that is read from JSON.

@@ -7,6 +7,7 @@
 mod checking;
 mod error;
 mod form;
+mod front;
 pub mod laws;
 mod line;
 mod output;
@@ -23,6 +24,7 @@ pub use form::{
     pair_json, read_amount, read_instruction, read_location, read_one, read_value, two_items,
     two_members, value_json, word_of_cause,
 };
+pub use front::{FromFront, read_compact};
 pub use output::write_text;
 pub use parsing::{Header, Limits, from_text, read_event, read_header};
 pub use replaying::{next_storage, replay, replay_closing, replay_over};

@@ -18,7 +18,8 @@ fn split_line(text: &[u8]) -> Option<(&[u8], &[u8])>
     Some((&text[..end], &text[end + 1..]))
 }
 
-/// Parses the line with this number.
+/// Parses the line with this number. In a stack frame of its own, as `serde_json` reads with 16 KiB of the stack.
+#[inline(never)]
 fn parse(alloc: Global, line: &[u8], number: u64) -> Result<Json, JournalError>
     ensures ok { IfOk result (λ v. IsJson line.now (view v)) }
     ensures err { IfErr result (λ e. (e ≡ JournalError.Memory)

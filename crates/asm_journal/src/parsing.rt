@@ -16,6 +16,9 @@ ghost use Rattle.asm_journal.specs.Fault.{HasOtherVersion, BreaksHeader, BreaksE
 
 use crate::error::JournalError;
 use crate::form::{FromJson, five_members, read_number};
+use crate::front::FromFront;
+use crate::front::number::number;
+use crate::front::scalars::behind;
 use crate::line::json_line;
 use crate::version::{is_of_version, is_version};
 use asm_element::Items;
@@ -110,6 +113,51 @@ fn header_from(alloc: Global, json: &Json) -> Result<Option<Header>, AllocError>
     }
 }
 
+/// Reads a header of version 2 from a first line in compact JSON, and returns the text behind that line too.
+///
+/// `None` says nothing about the text.
+fn compact_header(alloc: Global, text: &[u8]) -> Option<(Header, &[u8])>
+    ensures { IfSome result (λ p. (d : Data) × HasLine text.now d p.1.now
+        × IsHeader p.0.limits.version p.0.limits.agents p.0.limits.capacity p.0.limits.events p.0.init d) }
+{
+    let first = behind(text, b"{\"agents\":")?;
+    let (agents, left) = number(first)?;
+    let second = behind(left, b",\"capacity\":")?;
+    let (capacity, next) = number(second)?;
+    let third = behind(next, b",\"events\":")?;
+    let (events, later) = number(third)?;
+    let fourth = behind(later, b",\"init\":")?;
+    let (init, end) = PlainState::from_front(alloc, fourth)?;
+    let rest = behind(end, b",\"version\":2}\n")?;
+    if !are_taken(2, agents, capacity) {
+        return None;
+    }
+    let limits = Limits {
+        agents,
+        capacity,
+        events,
+        version: 2,
+    };
+    Some((Header { limits, init }, rest))
+}
+
+/// Reads a header as `read_header` does, by way of a value of `serde_json`, in a stack frame of its own.
+#[inline(never)]
+fn whole_header(alloc: Global, text: &[u8]) -> Result<(Header, &[u8]), JournalError>
+    ensures ok { IfOk result (λ p. (d : Data) × HasLine text.now d p.1.now
+        × IsHeader p.0.limits.version p.0.limits.agents p.0.limits.capacity p.0.limits.events p.0.init d) }
+    ensures err { IfErr result (BreaksHeader text.now) }
+{
+    let (json, rest) = json_line(alloc, text, 1)?;
+    if has_other_version(&json) {
+        return Err(JournalError::Version);
+    }
+    match header_from(alloc, &json)? {
+        Some(header) => Ok((header, rest)),
+        None => Err(JournalError::Shape(1)),
+    }
+}
+
 /// Reads a header from the first line of a text, and gives the text behind that line too.
 ///
 /// `Cut`: the text is empty, or its first line is JSON that no line feed ends. `NotJson(1)`: the first line isn't JSON.
@@ -122,13 +170,52 @@ pub fn read_header(alloc: Global, text: &[u8]) -> Result<(Header, &[u8]), Journa
         × IsHeader p.0.limits.version p.0.limits.agents p.0.limits.capacity p.0.limits.events p.0.init d) }
     ensures err { IfErr result (BreaksHeader text.now) }
 {
-    let (json, rest) = json_line(alloc, text, 1)?;
-    if has_other_version(&json) {
-        return Err(JournalError::Version);
+    match compact_header(alloc, text) {
+        Some(read) => Ok(read),
+        None => whole_header(alloc, text),
     }
-    match header_from(alloc, &json)? {
-        Some(header) => Ok((header, rest)),
-        None => Err(JournalError::Shape(1)),
+}
+
+/// Reads the event of a journal of version 2 from a first line in compact JSON, and returns the text behind that line too.
+///
+/// `None` says nothing about the text.
+fn compact_event(alloc: Global, text: &[u8], limits: Limits) -> Option<(Event, &[u8])>
+    ensures { IfSome result (λ p. (d : Data) × HasLine text.now d p.1.now
+        × IsEventBelow limits.version limits.agents p.0 d) }
+{
+    if limits.version != 2 {
+        return None;
+    }
+    let (event, left) = Event::from_front(alloc, text)?;
+    let (byte, rest) = left.split_first()?;
+    if *byte != b'\n' {
+        return None;
+    }
+    if !event.fits(limits.agents) {
+        return None;
+    }
+    Some((event, rest))
+}
+
+/// Reads an event as `read_event` does, by way of a value of `serde_json`, in a stack frame of its own.
+#[inline(never)]
+fn whole_event(
+    alloc: Global,
+    text: &[u8],
+    number: u64,
+    limits: Limits,
+) -> Result<(Event, &[u8]), JournalError>
+    ensures ok { IfOk result (λ p. (d : Data) × HasLine text.now d p.1.now
+        × IsEventBelow limits.version limits.agents p.0 d) }
+    ensures err { IfErr result (BreaksEvent limits.version limits.agents number text.now) }
+{
+    let (json, rest) = json_line(alloc, text, number)?;
+    if !is_of_version(&json, limits.version) {
+        return Err(JournalError::Shape(number));
+    }
+    match Event::from_json(alloc, &json)? {
+        Some(event) if event.fits(limits.agents) => Ok((event, rest)),
+        _ => Err(JournalError::Shape(number)),
     }
 }
 
@@ -151,13 +238,9 @@ pub fn read_event(
         × IsEventBelow limits.version limits.agents p.0 d) }
     ensures err { IfErr result (BreaksEvent limits.version limits.agents number text.now) }
 {
-    let (json, rest) = json_line(alloc, text, number)?;
-    if !is_of_version(&json, limits.version) {
-        return Err(JournalError::Shape(number));
-    }
-    match Event::from_json(alloc, &json)? {
-        Some(event) if event.fits(limits.agents) => Ok((event, rest)),
-        _ => Err(JournalError::Shape(number)),
+    match compact_event(alloc, text, limits) {
+        Some(read) => Ok(read),
+        None => whole_event(alloc, text, number, limits),
     }
 }
 

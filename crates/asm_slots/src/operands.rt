@@ -13,7 +13,7 @@ use crate::codes::{MEMORY, RANGE, SHAPE};
 use crate::parsing::code_of_text_error;
 use crate::value_head::{BAG, BOOL, LIST, NUM, SET, TEXT, UNDEF, ValueHead};
 use asm_element::{ElemText, Element, Value};
-use asm_explain::read_as;
+use asm_explain::read_quickly;
 use asm_update::{Action, Amount};
 use std::alloc::Global;
 
@@ -114,7 +114,7 @@ fn read_value(alloc: Global, kind: i32, number: i64, bytes: &[u8]) -> Result<Val
     if number != 0 {
         return Err(RANGE);
     }
-    let value = match read_as::<Value>(alloc, bytes) {
+    let value = match read_quickly::<Value>(alloc, bytes) {
         Ok(value) => value,
         Err(error) => return Err(code_of_text_error(error)),
     };

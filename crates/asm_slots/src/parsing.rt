@@ -10,7 +10,7 @@ ghost use Rattle.asm_slots.specs.Codes.{IsOneOf, ASM_MEMORY, ASM_NOT_JSON, ASM_S
 
 use crate::codes::{MEMORY, NOT_JSON, SHAPE};
 use asm_element::Location;
-use asm_explain::{TextError, read_as};
+use asm_explain::{TextError, read_as, read_quickly};
 use asm_journal::{FromJson, Listed};
 use asm_state::Named;
 use asm_update::{Instructions, PlainState};
@@ -35,7 +35,7 @@ pub(crate) fn locations_of(alloc: Global, bytes: &[u8]) -> Result<Vec<Location>,
     ensures ok { IfOk result (λ locations. ReadAsLocations bytes.now locations.items) }
     ensures err { IfErr result (IsMisread AreLocations bytes.now) }
 {
-    match read_as::<Listed<Location>>(alloc, bytes) {
+    match read_quickly::<Listed<Location>>(alloc, bytes) {
         Ok(locations) => Ok(locations.into_vec()),
         Err(error) => Err(error),
     }
@@ -46,7 +46,7 @@ pub(crate) fn reads_of(alloc: Global, bytes: &[u8]) -> Result<Vec<Named>, TextEr
     ensures ok { IfOk result (λ reads. ReadAsReads bytes.now reads.items) }
     ensures err { IfErr result (IsMisread AreReads bytes.now) }
 {
-    match read_as::<Listed<Named>>(alloc, bytes) {
+    match read_quickly::<Listed<Named>>(alloc, bytes) {
         Ok(reads) => Ok(reads.into_vec()),
         Err(error) => Err(error),
     }
@@ -57,7 +57,7 @@ pub(crate) fn move_of(alloc: Global, bytes: &[u8]) -> Result<Instructions, TextE
     ensures ok { IfOk result (ReadAsMove bytes.now) }
     ensures err { IfErr result (IsMisread IsMoveForm bytes.now) }
 {
-    read_as::<Instructions>(alloc, bytes)
+    read_quickly::<Instructions>(alloc, bytes)
 }
 
 /// The values of two texts, or the fault of the first of them that has one.

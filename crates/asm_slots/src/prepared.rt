@@ -11,7 +11,7 @@ use crate::codes::MEMORY;
 use crate::content::Content;
 use crate::parsing::code_of_text_error;
 use asm_element::Location;
-use asm_explain::read_as;
+use asm_explain::read_quickly;
 use asm_update::Instructions;
 use std::alloc::Global;
 
@@ -44,7 +44,7 @@ pub fn prepared(alloc: Global, location: &[u8]) -> Result<Box<Content>, i32>
     ensures not_json { IfErr result (λ code. code ≡ ASM_NOT_JSON → IsNoJson location.now) }
     ensures shape { IfErr result (λ code. code ≡ ASM_SHAPE → IsOtherJson IsLocationForm location.now) }
 {
-    let at = match read_as::<Location>(alloc, location) {
+    let at = match read_quickly::<Location>(alloc, location) {
         Ok(at) => at,
         Err(error) => return Err(code_of_text_error(error)),
     };

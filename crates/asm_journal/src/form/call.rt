@@ -50,7 +50,7 @@ impl ToJson for Instructions {
 }
 
 /// Makes a move of the instructions, unless there are more than 4,096.
-fn instructions_of(
+pub(crate) fn instructions_of(
     alloc: Global,
     list: Vec<Instruction>,
 ) -> Result<Option<Instructions>, AllocError>

@@ -27,7 +27,10 @@ impl ToJson for ElemSet {
 }
 
 /// Makes a set of the elements, unless one stands twice.
-fn set_of(alloc: Global, mut elements: Vec<Element>) -> Result<Option<ElemSet>, AllocError>
+pub(crate) fn set_of(
+    alloc: Global,
+    mut elements: Vec<Element>,
+) -> Result<Option<ElemSet>, AllocError>
     ensures { IfOk result (IsParsed IsSetOf elements.items) }
 {
     let mut set = ElemSet::new(alloc);
@@ -109,7 +112,7 @@ impl FromJson for Counted {
 }
 
 /// Makes a bag of the counts, unless an element stands twice.
-fn bag_of(alloc: Global, mut counts: Vec<Counted>) -> Result<Option<ElemBag>, AllocError>
+pub(crate) fn bag_of(alloc: Global, mut counts: Vec<Counted>) -> Result<Option<ElemBag>, AllocError>
     ensures { IfOk result (IsParsed IsBagOf (map (λ c. (c.0, c.1)) counts.items)) }
 {
     let mut bag = ElemBag::new(alloc);

@@ -18,7 +18,7 @@ use std::collections::btree_map::Iter;
 
 /// A location with its value.
 #[derive(Drop)]
-pub(crate) struct StatePair(Location, Value);
+pub(crate) struct StatePair(pub(crate) Location, pub(crate) Value);
 
 impl FromJson for StatePair {
     ghost is_form = { λ p. IsPairForm (p.0, p.1) };
@@ -61,7 +61,10 @@ fn note_undef(
 }
 
 /// Makes a state of the pairs, unless a location stands twice.
-fn state_from(alloc: Global, mut pairs: Vec<StatePair>) -> Result<Option<PlainState>, AllocError>
+pub(crate) fn state_from(
+    alloc: Global,
+    mut pairs: Vec<StatePair>,
+) -> Result<Option<PlainState>, AllocError>
     ensures { IfOk result (IsParsed IsStateOf (list.map (λ p. (p.0, p.1)) pairs.items)) }
 {
     let mut state = PlainState::new(alloc);

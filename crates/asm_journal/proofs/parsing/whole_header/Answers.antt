@@ -4,7 +4,7 @@ use Rattle.serde_json.specs.View.{view}
 use Rattle.asm_journal.specs.declared.parsing.Header.{Header}
 use Rattle.asm_journal.specs.Reading.{IsHeader}
 use Rattle.asm_journal.proofs.Parsed.{IsParsed-some, IsParsed-none}
-use Rattle.asm_journal.proofs.parsing.read_header.Goals as goal
+use Rattle.asm_journal.proofs.parsing.whole_header.Goals as goal
 
 abbrev IsHeaderForm : Header → Data → Type 0
 IsHeaderForm h d = IsHeader h.limits.version h.limits.agents h.limits.capacity h.limits.events h.init d

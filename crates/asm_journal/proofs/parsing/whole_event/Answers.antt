@@ -4,8 +4,8 @@ use Rattle.asm_storage.specs.History.{EventFits}
 use Rattle.asm_journal.specs.Event.{IsEventForm}
 use Rattle.asm_journal.proofs.Parsed.{IsParsed-some, IsParsed-none, true_and_false}
 use Rattle.asm_journal.proofs.Events.{event_once}
-use Rattle.asm_journal.proofs.parsing.read_event.Goals as goal
-use Rattle.asm_journal.proofs.parsing.read_event.Goals.{in_default-via-in-Some+else-fits, in_default-via-in_default}
+use Rattle.asm_journal.proofs.parsing.whole_event.Goals as goal
+use Rattle.asm_journal.proofs.parsing.whole_event.Goals.{in_default-via-in-Some+else-fits, in_default-via-in_default}
 
 pub returns-in-Some-clause-ok : goal.returns-in-Some-clause-ok
 returns-in-Some-clause-ok c =

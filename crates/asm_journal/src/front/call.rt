@@ -1,0 +1,88 @@
+//! Calls: reads, and fires with their named reads.
+ghost use Rattle.std.specs.Prelude.{IfSome};
+ghost use Rattle.asm_journal.specs.Event.{IsMoveOf, IsCallForm};
+ghost use Rattle.asm_journal.specs.readback.FormsClean.{named_form_clean, move_form_clean, call_form_clean};
+ghost use Rattle.asm_journal.specs.Front.{BeginsAs};
+
+use crate::form::{Listed, instructions_of};
+use crate::front::FromFront;
+use crate::front::number::number;
+use crate::front::scalars::behind;
+use asm_element::{Items, Location};
+use asm_state::Named;
+use asm_storage::Call;
+use asm_update::{Instruction, Instructions};
+use std::alloc::Global;
+
+impl FromFront for Named {
+    ghost nests = { 18 };
+
+    ghost clean = { named_form_clean };
+
+    fn from_front(alloc: Global, text: &[u8]) -> Option<(Named, &[u8])> {
+        let inside = behind(text, b"[")?;
+        let (at, left) = Location::from_front(alloc, inside)?;
+        let second = behind(left, b",")?;
+        let (number, end) = number(second)?;
+        let rest = behind(end, b"]")?;
+        Some((Named { at, number }, rest))
+    }
+}
+
+/// The move of the instructions, unless there are too many.
+fn move_from(alloc: Global, list: Vec<Instruction>) -> Option<Instructions>
+    ensures { IfSome result (λ m. IsMoveOf m list.items) }
+{
+    match instructions_of(alloc, list) {
+        Ok(instrs) => instrs,
+        Err(_) => None,
+    }
+}
+
+impl FromFront for Instructions {
+    ghost nests = { 21 };
+
+    ghost clean = { move_form_clean };
+
+    fn from_front(alloc: Global, text: &[u8]) -> Option<(Instructions, &[u8])> {
+        let (list, rest) = Listed::<Instruction>::from_front(alloc, text)?;
+        let instrs = move_from(alloc, list.into_vec())?;
+        Some((instrs, rest))
+    }
+}
+
+/// The read.
+fn front_read(alloc: Global, text: &[u8]) -> Option<(Call, &[u8])>
+    ensures { IfSome result (λ p. BeginsAs IsCallForm text.now p.0 p.1.now) }
+{
+    let inside = behind(text, b"{\"read\":")?;
+    let (locations, left) = Listed::<Location>::from_front(alloc, inside)?;
+    let rest = behind(left, b"}")?;
+    Some((Call::Read(Items::new(locations.into_vec())), rest))
+}
+
+/// The fire.
+fn front_fire(alloc: Global, text: &[u8]) -> Option<(Call, &[u8])>
+    ensures { IfSome result (λ p. BeginsAs IsCallForm text.now p.0 p.1.now) }
+{
+    let inside = behind(text, b"{\"fire\":")?;
+    let (instrs, left) = Instructions::from_front(alloc, inside)?;
+    let second = behind(left, b",\"reads\":")?;
+    let (listed, end) = Listed::<Named>::from_front(alloc, second)?;
+    let rest = behind(end, b"}")?;
+    let reads = Items::new(listed.into_vec());
+    Some((Call::Fire { reads, instrs }, rest))
+}
+
+impl FromFront for Call {
+    ghost nests = { 22 };
+
+    ghost clean = { call_form_clean };
+
+    fn from_front(alloc: Global, text: &[u8]) -> Option<(Call, &[u8])> {
+        match text.get(2) {
+            Some(b'f') => front_fire(alloc, text),
+            _ => front_read(alloc, text),
+        }
+    }
+}
