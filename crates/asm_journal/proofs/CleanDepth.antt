@@ -1,20 +1,11 @@
 -- What is written is clean, and nests less deep than JSON may.
-use Rattle.std.proofs.Common.{codes, zero, ◌*◌, ◌≡◌, ◌<◌, ◌≤◌, ◌^◌, ◌&&◌, ℕ, suc, max, Bool, ℤ, pos, negsuc, List, [], ◌∷◌, length, map, true}
-use Rattle.std.proofs.Common.{false, IsUtf8, refl, sym, ap, ◌∙◌, true≢false, inl, inr, nat_lt, arith}
-use Rattle.std.specs.Prelude.{FitsSigned, All, IsTrue, nat_le}
-use Rattle.std.specs.Int.{w64}
+use Rattle.std.proofs.Common.{◌≡◌, ◌<◌, ◌≤◌, ◌^◌, ℕ, List, [], ◌∷◌, true}
+use Rattle.std.proofs.Common.{refl, arith}
 use Rattle.std.specs.FinMap as finite
-use Rattle.std.specs.List.{AllByRecursion, list_all}
-use Rattle.std.proofs.lemmas.Bool.{and_parts, cases_lt, lt-ltb}
-use Rattle.std.proofs.lemmas.Bool.Decides.{nat_tests}
 use Rattle.std.proofs.lemmas.List.Elements.{recursion_from_All}
-use Rattle.json.proofs.Printed.Utf8.{are_ascii, IsUtf8-are_ascii}
-use Rattle.serde_json.specs.Data.{Data, number, string, array, object, Items, item, no_items, Members, member}
-use Rattle.serde_json.specs.Data.{no_members, depth, items_depth, members_depth}
-use Rattle.serde_json.specs.Find.{of_integer}
+use Rattle.json.proofs.Printed.Utf8.{are_ascii}
+use Rattle.serde_json.specs.Data.{Data, string, Items}
 use Rattle.serde_json.specs.View.{items_of}
-use Rattle.asm_element.specs.Datum as datum
-use Rattle.asm_element.specs.Datum.{Datum, Sequence, IsProperDatum, AreProperItems}
 use Rattle.asm_element.specs.Element as element
 use Rattle.asm_element.specs.Place as place
 use Rattle.asm_element.specs.Place.{Place, is_name, is_name_start, is_name_byte}
@@ -22,7 +13,6 @@ use Rattle.asm_element.specs.Value as value
 use Rattle.asm_element.specs.Set as set
 use Rattle.asm_element.specs.Bag as bag
 use Rattle.asm_element.specs.declared.element.Element.{Element}
-use Rattle.asm_element.specs.declared.element.Element.TheVariants as elements
 use Rattle.asm_element.specs.declared.value.Value.{Value}
 use Rattle.asm_element.specs.declared.value.Value.TheVariants as values
 use Rattle.asm_update.specs.Action.{IsProper as IsProperAction, IsProperInstruction}
@@ -41,8 +31,8 @@ use Rattle.asm_storage.specs.declared.call.Reply.TheVariants as reply
 use Rattle.asm_storage.specs.declared.call.Answer.{Answer}
 use Rattle.asm_storage.specs.declared.call.Answer.TheVariants as answer
 use Rattle.asm_storage.specs.declared.history.Event.{Event}
-use Rattle.asm_journal.specs.Shape.{list_of, pair_of, one_of, two_of, number_json_of}
-use Rattle.asm_journal.specs.Element.{datum_json_of, items_json_of, element_json_of, location_json_of}
+use Rattle.asm_journal.specs.Shape.{number_json_of}
+use Rattle.asm_journal.specs.Element.{element_json_of, location_json_of}
 use Rattle.asm_journal.specs.Set.{count_json_of}
 use Rattle.asm_journal.specs.Value.{value_json_of, pair_json_of}
 use Rattle.asm_journal.specs.Instruction.{word_of, operands_of, instruction_of, instruction_json_of}

@@ -1,5 +1,5 @@
 -- What a compact text is made of.
-use Rattle.std.proofs.Common.{◌≡◌, ◌<◌, ◌+◌, ℕ, List, [], ◌∷◌, ◌++◌, length, true, false, refl, sym, ap, ◌∙◌, append_assoc, append-nil, arith, codes}
+use Rattle.std.proofs.Common.{◌≡◌, ◌<◌, ℕ, List, [], ◌∷◌, ◌++◌, length, true, false, refl, sym, ap, ◌∙◌, append_assoc, append-nil, arith, codes}
 use Rattle.std.specs.Prelude.{drop, Bool, Option, Some, None, IfSome}
 use Rattle.std.proofs.lemmas.List.{length-append}
 use Rattle.json.specs.Print.{quoted, escape_byte}

@@ -27,7 +27,6 @@ use Rattle.asm_storage.specs.declared.call.Reply.TheVariants as reply
 use Rattle.asm_storage.specs.declared.call.Answer.{Answer}
 use Rattle.asm_storage.specs.declared.call.Answer.TheVariants as answer
 use Rattle.asm_storage.specs.declared.history.Event.{Event}
-use Rattle.asm_storage.specs.declared.history.History.{History}
 use Rattle.asm_journal.specs.Element.{datum_json_of, items_json_of, element_json_of, location_json_of}
 use Rattle.asm_journal.specs.Set.{count_json_of}
 use Rattle.asm_journal.specs.Value.{value_json_of, pair_json_of}

@@ -7,7 +7,6 @@ use Rattle.serde_json.specs.Written.{compact_text, items_text}
 use Rattle.asm_element.specs.Place.{Place}
 use Rattle.asm_element.specs.declared.element.Element.{Element}
 use Rattle.asm_update.specs.declared.action.Action.{Action}
-use Rattle.asm_update.specs.declared.action.Instruction.{Instruction}
 use Rattle.asm_journal.specs.Shape.{IsNumberForm, number_json_of}
 use Rattle.asm_journal.specs.Element.{IsElementForm, IsLocationForm}
 use Rattle.asm_journal.specs.Set.{IsCounted}

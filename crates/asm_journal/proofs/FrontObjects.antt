@@ -17,12 +17,10 @@ use Rattle.asm_update.specs.declared.clash.Clash.{Clash}
 use Rattle.asm_state.specs.declared.named.Named.{Named}
 use Rattle.asm_storage.specs.declared.call.Call.{Call}
 use Rattle.asm_storage.specs.declared.call.Call.TheVariants as call
-use Rattle.asm_storage.specs.declared.call.Reply.{Reply}
 use Rattle.asm_storage.specs.declared.call.Reply.TheVariants as reply
 use Rattle.asm_storage.specs.declared.call.Answer.{Answer}
 use Rattle.asm_storage.specs.declared.call.Answer.TheVariants as answer
-use Rattle.asm_storage.specs.declared.history.Event.{Event}
-use Rattle.asm_journal.specs.Shape.{AreForms, IsListForm, IsMadeForm, IsNumberForm, number_json_of, pair_of, one_of, two_of}
+use Rattle.asm_journal.specs.Shape.{IsListForm, IsMadeForm, IsNumberForm, number_json_of, pair_of, one_of, two_of}
 use Rattle.asm_journal.specs.Text.{header_with}
 use Rattle.asm_journal.specs.Element.{IsLocationForm}
 use Rattle.asm_journal.specs.Set.{IsCounted, IsCountForm, IsSetForm, IsBagForm}

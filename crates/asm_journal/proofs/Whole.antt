@@ -9,7 +9,7 @@ use Rattle.asm_storage.specs.declared.history.Event.{Event}
 use Rattle.asm_journal.specs.Event.{IsEventForm, IsEventBelow}
 use Rattle.asm_row.specs.Limits.{capacity_limit}
 use Rattle.asm_update.specs.State.{State}
-use Rattle.asm_storage.specs.Limits.{agents_limit, events_limit}
+use Rattle.asm_storage.specs.Limits.{agents_limit}
 use Rattle.asm_journal.specs.Shape.{IsNumberForm, number_json_of}
 use Rattle.asm_journal.specs.Text.{header_with}
 use Rattle.asm_journal.specs.Value.{IsStateForm}

@@ -17,22 +17,10 @@ use Rattle.asm_element.specs.Datum.{Datum, Sequence, IsProperDatum, AreProperIte
 use Rattle.asm_element.specs.Element as element
 use Rattle.asm_element.specs.Place as place
 use Rattle.asm_element.specs.Place.{Place, is_name, is_name_start, is_name_byte}
-use Rattle.asm_element.specs.Value as value
-use Rattle.asm_element.specs.Set as set
-use Rattle.asm_element.specs.Bag as bag
 use Rattle.asm_element.specs.declared.element.Element.{Element}
 use Rattle.asm_element.specs.declared.element.Element.TheVariants as elements
-use Rattle.asm_element.specs.declared.value.Value.{Value}
-use Rattle.asm_element.specs.declared.value.Value.TheVariants as values
-use Rattle.asm_update.specs.Action.{IsProper as IsProperAction, IsProperInstruction}
-use Rattle.asm_update.specs.declared.action.Action.{Action}
-use Rattle.asm_update.specs.declared.action.Action.TheVariants.{Regular, SetAdd, SetRemove, BagAdd, BagRemove, Increment}
-use Rattle.asm_update.specs.declared.action.Instruction.{Instruction}
 use Rattle.asm_journal.specs.Shape.{list_of, pair_of, one_of, two_of, number_json_of}
 use Rattle.asm_journal.specs.Element.{datum_json_of, items_json_of, element_json_of, location_json_of}
-use Rattle.asm_journal.specs.Set.{count_json_of}
-use Rattle.asm_journal.specs.Value.{value_json_of, pair_json_of}
-use Rattle.asm_journal.specs.Instruction.{word_of, operands_of, instruction_of, instruction_json_of}
 use Rattle.asm_journal.specs.readback.Clean.{IsClean, AreCleanItems, AreCleanMembers, put_all}
 
 -- clean, and nested at most to this depth

@@ -1,7 +1,7 @@
 -- What is read as a value is clean, and nests no deeper than that.
 use Rattle.std.proofs.Common.{◌≡◌, ◌≤◌, ℕ, ℤ, suc, List, [], ◌∷◌, true, refl, sym, subst, ◌∙◌, ap, arith}
 use Rattle.json.proofs.Printed.Utf8.{are_ascii}
-use Rattle.serde_json.specs.Data.{Data, string, array, Items, no_items, item}
+use Rattle.serde_json.specs.Data.{Data, string, Items, no_items, item}
 use Rattle.asm_element.specs.declared.element.Element.{Element}
 use Rattle.asm_element.specs.declared.value.Value.{Value}
 use Rattle.asm_element.specs.declared.value.Value.TheVariants as values

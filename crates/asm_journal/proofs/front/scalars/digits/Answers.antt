@@ -1,4 +1,4 @@
-use Rattle.std.proofs.Common.{◌≡◌, ◌<◌, ◌+◌, ◌*◌, ◌-◌, ◌++◌, ◌^◌, ◌≤◌, decimal, sym, ap, subst, ◌∙◌, arith}
+use Rattle.std.proofs.Common.{◌<◌, ◌+◌, ◌*◌, ◌++◌, ◌^◌, ◌≤◌, decimal, sym, ap, subst, ◌∙◌, arith}
 use Rattle.asm_journal.proofs.Fronts.{one_digit, zero_digit, first_digit, next_small}
 use Rattle.asm_journal.proofs.front.scalars.digits.Goals as goal
 
