@@ -39,7 +39,7 @@ fn takes_over(
         asks(alloc, a, Act::Fire(&[Put("x", 1)], &[]), Want::Fired(1))?
             && asks(alloc, a, Act::Read(&["x"]), Want::Read(1, &[Some(1)]))?
             && takes(b, a, 1, 0)
-            && counts(b, 1, 0, 0)
+            && counts(b, (1, 0, 0, 0))
             && asks(
                 alloc,
                 b,
@@ -80,6 +80,6 @@ fn agents_that_take_states_by_turns_are_answered_as_before(rt: HostRuntime) -> R
     let mut b = storage.agent_at(alloc, 1)?;
     assert!(rt; takes_over(alloc, &mut a, &mut b)?);
     assert!(rt; catches_up(alloc, &mut a, &mut b)?);
-    assert!(rt; counts(&a, 2, 1, 4) && counts(&b, 2, 1, 2));
+    assert!(rt; counts(&a, (2, 1, 4, 4)) && counts(&b, (2, 1, 2, 2)));
     Ok(())
 }
