@@ -149,7 +149,7 @@ class Maker:
         self.strange, self.heavy, self.lines = 0.0, 0.9, [1, 1, 2]
         steps: list[Json] = []
         for _ in range(self.random.randint(1, 6)):
-            steps.append([self.block() for _ in range(self.random.randint(2, 4))])
+            steps.append([self.block() for _ in range(self.random.randint(1, 5))])
         return {"init": self.init(), "agents": [steps]}
 
     def blocks(self) -> Json:
@@ -195,6 +195,7 @@ class Maker:
                 [[many]],
                 [[many[: 2048 + near], [["add", ["s", it], it] for it in range(2048)]]],
                 [[many, [["put", ["n", 0], 9]]]],
+                [self.near_the_limit(4096 + near)],
                 [[reads], [[["put", ["x"], 1]]]],
                 [[self.block() for _ in range(65 + near)]],
                 [self.step() for _ in range(40)],
@@ -203,6 +204,13 @@ class Maker:
         )
         idle: list[Json] = [[] for _ in range(self.random.choice([0, 0, 0, 255 + near]))]
         return {"init": self.init(), "agents": [steps, *idle]}
+
+    def near_the_limit(self, count: int) -> list[Json]:
+        """Makes a step with so many equal instructions in one of its blocks."""
+        blocks: list[Json] = [self.repeated() for _ in range(self.random.randint(1, 4))]
+        most = min(count, 4096)
+        at = self.random.randrange(len(blocks) + 1)
+        return [*blocks[:at], [self.instruction()] * self.random.choice([most, most - 1, most // 2]), *blocks[at:]]
 
     def contending(self) -> Json:
         """Makes a script of several agents that touch three locations."""

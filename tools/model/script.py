@@ -31,6 +31,11 @@ from values import (
 MAX_AGENTS = 256
 MAX_BLOCKS = 65
 MAX_READS = 256
+# The characters that a terminal obeys, or changes the direction for, in place of showing them.
+OBEYED = [
+    *[range(0x20), range(0x7F, 0xA0), range(0x61C, 0x61D), range(0x200E, 0x2010)],
+    *[range(0x2028, 0x202F), range(0x2066, 0x206A)],
+]
 
 
 class Val(NamedTuple):
@@ -191,5 +196,15 @@ def _number(term: Term, seen: State) -> int:
 
 
 def _named(term: Term, value: Value) -> str:
-    text = jsontext.write(value_json(value))
-    return f"{jsontext.write(location_json(term.at))} holds {text}, which" if isinstance(term, Val) else text
+    text = _shown(value_json(value))
+    return f"{_shown(location_json(term.at))} holds {text}, which" if isinstance(term, Val) else text
+
+
+def _shown(value: Json) -> str:
+    """Answers the JSON of the value as a message shows it: its first 200 bytes, and escaped what a terminal would obey."""
+    shown = ""
+    for character in jsontext.write(value):
+        if len(shown.encode()) >= 200:
+            return shown + "..."
+        shown += f"\\u{ord(character):04x}" if any(ord(character) in it for it in OBEYED) else character
+    return shown

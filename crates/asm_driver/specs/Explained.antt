@@ -3,6 +3,7 @@ use Rattle.std.specs.Prelude.{◌≡◌, ◌≢◌, ◌⊎◌, ℕ, List, []}
 use Rattle.asm_storage.specs.declared.history.History.{History}
 use Rattle.asm_journal.specs.Reading as journal
 use Rattle.asm_explain.specs.Forms.{IsOfForm, IsOfNoForm}
+use Rattle.asm_journal.specs.Reading.{HasNoLineFeed}
 use Rattle.asm_explain.specs.Lines.{TellsRefusal}
 use Rattle.asm_explain.specs.declared.explaining.Form.TheVariants as form
 use Rattle.asm_driver.specs.Report.{line}
@@ -14,9 +15,9 @@ abbrev pub IsAccepted : TextKind → List ℕ → Type 0
 IsAccepted Script bytes = IsOfForm form.Script bytes
 IsAccepted Journal bytes = (h : History) × journal.ReadsAs bytes h
 
--- the bytes are none, and the sentence tells something of it; of a journal, first the line of its first fault
+-- the bytes are none, and the sentence tells something of it, in one line; of a journal, first the line of its first fault
 abbrev pub IsRefused : TextKind → List ℕ → List ℕ → Type 0
-IsRefused Script bytes sentence = IsOfNoForm form.Script bytes × (sentence ≢ [])
+IsRefused Script bytes sentence = IsOfNoForm form.Script bytes × (sentence ≢ []) × HasNoLineFeed sentence
 IsRefused Journal bytes sentence = TellsRefusal bytes sentence
 
 -- nothing with status 0 where the bytes are accepted, and a line with status 1 where they are refused

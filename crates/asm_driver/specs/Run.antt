@@ -91,6 +91,7 @@ IsNoInput i r = ⊥
 abbrev pub AsksForWhole : Words → Type 0
 AsksForWhole words =
     (request : Request) × AsksFor words request × (request ≢ Audit) × ((w : Window) → request ≢ Show w)
+    × ((every : ℕ) → request ≢ Watch every)
 
 -- why there is no answer: the words, before anything is read; then the input, where all of it is asked for; then what it
 -- holds; or why there is no audit, or no trace of a window

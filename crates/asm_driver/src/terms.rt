@@ -2,6 +2,7 @@
 
 mod cut;
 mod read;
+mod shown;
 mod tries;
 mod why;
 

@@ -1,5 +1,6 @@
 //! Why a term has no value.
 use crate::terms::cut::{Move, move_of};
+use crate::terms::shown::shown;
 use asm_element::{Element, Value};
 use asm_journal::{instruction_parts, one_member, two_items, value_json};
 use asm_update::{Action, Instruction, PlainState};
@@ -49,12 +50,18 @@ fn value_of(alloc: Global, round: &Round<'_>, term: &Json) -> Result<Option<Valu
     }
 }
 
+// The JSON as it is shown.
+fn shown_json(alloc: Global, json: &Json) -> Result<String, AllocError> {
+    let text = json.to_string(alloc)?;
+    shown(alloc, text.as_str())
+}
+
 // The value in words: `LOC holds VALUE` where the term is the value of a location, and else the value alone.
 fn named(alloc: Global, term: &Json, value: &Value) -> Result<String, AllocError> {
-    let value = value_json(alloc, value)?.to_string(alloc)?;
+    let value = shown_json(alloc, &value_json(alloc, value)?)?;
     match one_member(term, "val") {
         Some(at) => {
-            let at = at.to_string(alloc)?;
+            let at = shown_json(alloc, at)?;
             format!(in alloc; "{at} holds {value}, which")
         }
         None => Ok(value),
