@@ -1,21 +1,37 @@
-// A condition on what a location holds, and the stretches of a run in which it holds.
+// A condition on the state, or an expression with a number, as it is written: what it is about, and what it asks.
 import { Fault, readJson } from "./exact.js";
-import { isNumber, keyOf, shortText } from "./terms.js";
+import { elementText, isNumber, itemKey, shortText } from "./terms.js";
 
 const TOKEN = /\s*(?:("(?:[^"\\]|\\.)*")|(-?\d+)|([A-Za-z_][A-Za-z0-9_]*)|(<=|>=|!=|==|[<>=≤≥≠(),*{}[\]]))/y;
 const SAME = { "==": "=", is: "=", "≤": "<=", "≥": ">=", "≠": "!=" };
-const ORDERS = { "<": apart => apart < 0, "<=": apart => apart <= 0, ">": apart => apart > 0, ">=": apart => apart >= 0 };
+const ORDERS = ["=", "!=", "<", "<=", ">", ">=", "has", "lacks", "changes"];
 const NAMED = { undef: null, null: null, true: true, false: false };
-const TESTS = ["changes", "has", "lacks", "size", "is"];
-const ANY = Symbol("any");
-const MOST_LETTERS = 1000;
-const EXAMPLES = "write it as stock(\"rice\") < 0, door = \"open\", open has 3, open size > 9 or stock(*) changes";
+const PARTS = ["size", "count"], TESTS = ["has", "lacks", "changes", ...PARTS];
+export const TOTALS = ["sum", "min", "max", "count"];
+export const KEYWORDS = ["and", "or", "not", "has", "lacks", "size", "count", "changes", "undef", "true", "false", "sum", "min", "max"];
+export const ANY = Symbol("any");
+const MOST_LETTERS = 1000, MOST_DEPTH = 40;
+const EXAMPLES = "write it as stock(\"rice\") < 0, door = \"open\" and not open has 3, open size > 9, sum(account(*)) != 500 or stock(*) changes";
 
-// Reads a condition: the pattern of its locations, null where none is named, and what tests a content.
+// Reads a condition, or an operand alone. A condition is {or}, {and}, {not}, or {left, order, right}; an operand {value}, {pattern},
+// with `part` {size} or {count} of an element, or {total, pattern}. A pattern of null is the chosen location.
 export function readCondition(text) {
   if (text.length > MOST_LETTERS) throw new Fault(`a condition has at most ${MOST_LETTERS} letters`);
-  const reading = new Tokens(text), pattern = reading.isWord() ? reading.location() : null;
-  return { pattern, ...reading.test() };
+  const reading = new Tokens(text), found = reading.any();
+  if (reading.at < reading.list.length) reading.fail("the condition ends here");
+  return found;
+}
+export const isOperand = it => !("order" in it || "or" in it || "and" in it || "not" in it);
+// The comparisons of a condition.
+export const comparisonsOf = it => it.or ?? it.and ? (it.or ?? it.and).flatMap(comparisonsOf) : it.not ? comparisonsOf(it.not) : "order" in it ? [it] : [];
+export const operandsOf = it => isOperand(it) ? [it] : comparisonsOf(it).flatMap(({ left, right }) => right ? [left, right] : [left]);
+export const isAny = operand => !operand.total && !!operand.pattern?.includes(ANY);
+
+// A location's pattern, and an operand, as they are written.
+export const patternText = ([name, ...rest]) => rest.length ? `${name}(${rest.map(it => it === ANY ? "*" : elementText(it)).join(", ")})` : name;
+export function operandText({ pattern, part, element, total }, here) {
+  const place = pattern ? patternText(pattern) : here?.label ?? "";
+  return total ? `${total}(${place})` : part ? `${place} ${part}${part === "count" ? ` ${elementText(element)}` : ""}` : place;
 }
 
 class Tokens {
@@ -25,12 +41,16 @@ class Tokens {
     for (let at = 0; at < text.trimEnd().length; at = TOKEN.lastIndex) {
       const found = TOKEN.exec(text);
       if (!found) throw new Fault(`${shortText(text.slice(at).trim().slice(0, 12))} can't be read; ${EXAMPLES}`);
-      this.list.push({ text: found[0].trim(), isText: !!found[1], isNumber: !!found[2], isWord: !!found[3] });
+      const token = found[0].trim();
+      this.list.push({ text: SAME[token] ?? token, isText: !!found[1], isNumber: !!found[2], isWord: !!found[3] });
     }
-    this.at = 0;
+    this.at = this.depth = 0;
   }
   get next() {
     return this.list[this.at]?.text ?? "";
+  }
+  after(by) {
+    return this.list[this.at + by]?.text ?? "";
   }
   fail(what) {
     throw new Fault(`${what}${this.next ? ` and not ${this.next}` : ""}; ${EXAMPLES}`);
@@ -43,10 +63,11 @@ class Tokens {
   need(text) {
     if (!this.take(text)) this.fail(`${text} is missing,`);
   }
-  // Whether a location begins here: a name that is no word of a test, or one behind which a location goes on or a test begins.
-  isWord() {
-    const it = this.list[this.at], after = this.list[this.at + 1]?.text;
-    return !!it?.isWord && (!TESTS.includes(it.text) || after === "(" || TESTS.includes(after));
+  within(read) {
+    if (++this.depth > MOST_DEPTH) throw new Fault(`a condition is nested at most ${MOST_DEPTH} deep`);
+    const found = read();
+    this.depth--;
+    return found;
   }
   // What stands between an opening token, which is taken, and this one.
   items(close, item) {
@@ -57,12 +78,70 @@ class Tokens {
     this.need(close);
     return out;
   }
+  any() {
+    return this.joinedBy("or", () => this.joinedBy("and", () => this.one()));
+  }
+  joinedBy(word, read) {
+    const out = [read()];
+    while (this.take(word)) out.push(read());
+    if (out.length > 1 && out.some(isOperand)) throw new Fault(`${word} stands between two conditions`);
+    return out.length > 1 ? { [word]: out } : out[0];
+  }
+  one() {
+    return this.within(() => {
+      if (this.next === "not" && !this.isPlace()) {
+        this.at++;
+        const of = this.one();
+        return isOperand(of) ? this.fail("a condition is missing behind not,") : { not: of };
+      }
+      if (!this.take("(")) return this.comparison();
+      const found = this.any();
+      this.need(")");
+      return found;
+    });
+  }
+  comparison() {
+    const left = this.operand(true), order = ORDERS.includes(this.next) ? this.list[this.at++].text : null;
+    if (!order) return left.pattern === null && !left.part ? this.fail("a location or a condition is missing") : left;
+    if (order === "changes") return { left, order };
+    const right = ["has", "lacks"].includes(order) ? { value: this.element() } : this.operand(false);
+    if (!["has", "lacks", "=", "!="].includes(order) && "value" in right && !isNumber(right.value)) throw new Fault(`a number has to stand behind ${order}; ${EXAMPLES}`);
+    return isAny(right) ? this.fail("a * stands on the left side alone") : { left, order, right };
+  }
+  // Whether a location begins here: a name that is no word of a condition, or one with arguments, or with such a word behind it.
+  isPlace() {
+    const it = this.list[this.at], after = this.after(1);
+    if (!it?.isWord || Object.hasOwn(NAMED, it.text) || this.isTotal()) return false;
+    return !KEYWORDS.includes(it.text) || (!["and", "or", "not"].includes(it.text) && (after === "(" || TESTS.includes(after)));
+  }
+  isTotal() {
+    const of = this.list[this.at + 2];
+    return TOTALS.includes(this.next) && this.after(1) === "(" && !!of?.isWord && !Object.hasOwn(NAMED, of.text);
+  }
+  operand(isLeft) {
+    if (this.isTotal()) return this.total();
+    if (!this.isPlace() && !isLeft) return this.isValue() ? { value: this.value() } : this.fail("a value or a location is missing");
+    if (!this.isPlace() && this.isValue()) return { value: this.value() };
+    const pattern = this.isPlace() ? this.location() : null, part = PARTS.includes(this.next) ? this.list[this.at++].text : null;
+    return part ? { pattern, part, ...part === "count" ? { element: this.element() } : {} } : { pattern };
+  }
+  total() {
+    const total = this.list[this.at++].text;
+    this.need("(");
+    const pattern = this.isPlace() ? this.location() : this.fail("a location is missing");
+    this.need(")");
+    return { total, pattern };
+  }
   location() {
     const name = this.list[this.at++].text;
     return [name, ...this.take("(") ? this.items(")", () => this.take("*") ? ANY : this.element()) : []];
   }
+  isValue() {
+    const it = this.list[this.at];
+    return !!it && (it.isText || it.isNumber || Object.hasOwn(NAMED, it.text) || it.text === "[" || it.text === "{");
+  }
   element() {
-    if (this.take("[")) return { list: this.items("]", () => this.element()) };
+    if (this.take("[")) return { list: this.within(() => this.items("]", () => this.element())) };
     const it = this.list[this.at] ?? this.fail("a value is missing");
     if (!it.isText && !it.isNumber && !Object.hasOwn(NAMED, it.text)) this.fail("a value has to stand here");
     this.at++;
@@ -70,64 +149,7 @@ class Tokens {
   }
   value() {
     if (!this.take("{")) return this.element();
-    const items = new Map(this.items("}", () => this.element()).map(it => [keyOf(it), it]));
+    const items = new Map(this.items("}", () => this.element()).map(it => [itemKey(it), it]));
     return { set: [...items.values()] };
   }
-  test() {
-    const test = this.testOf();
-    if (this.at < this.list.length) this.fail("the condition ends here");
-    return test;
-  }
-  testOf() {
-    if (this.take("changes")) return { isChange: true };
-    if (this.take("has")) return has(this.element(), true);
-    if (this.take("lacks")) return has(this.element(), false);
-    const isSize = this.take("size"), word = SAME[this.next] ?? this.next;
-    if (word !== "=" && word !== "!=" && !ORDERS[word]) this.fail("one of <, =, !=, >, has, lacks, size and changes has to stand here");
-    this.at++;
-    return compare(isSize, word, this.value(), what => this.fail(what));
-  }
-}
-const has = (element, isThere) => ({ test: it => !!it.items && (it.countOf(element) > 0) === isThere });
-function compare(isSize, word, value, fail) {
-  const order = ORDERS[word], isSame = word === "=";
-  if ((isSize || order) && !isNumber(value)) fail(`a number has to stand behind ${isSize ? "size" : word}`);
-  // (A BigInt may be equal to a number.)
-  const holds = number => order ? order(number < value ? -1 : number > value ? 1 : 0) : (number == value) === isSame;
-  if (isSize) return { test: it => !!it.items && holds(it.size) };
-  return { test: order ? it => isNumber(it.value) && holds(it.value) : it => it.equals(value) === isSame };
-}
-
-// The locations of the run that a condition is about; `here` is the chosen one.
-export function placesOf(run, { pattern }, here) {
-  if (!pattern) return here ? [here] : [];
-  if (!pattern.includes(ANY)) return [run.locations.get(keyOf(pattern))].filter(Boolean);
-  return run.sorted.filter(({ at }) => at.length === pattern.length && pattern.every((it, i) => it === ANY || keyOf(it) === keyOf(at[i])));
-}
-// The stretches in which the condition holds at one of the places: pairs of counts of events, from the one on and before the other.
-export function stretchesOf(run, { test, isChange }, places) {
-  const end = run.events.length + 1, out = [];
-  for (const place of places) {
-    let from = -1;
-    place.walk((content, write) => {
-      const at = write ? write.event + 1 : 0;
-      if (isChange) return void (write && isChanged(write) && out.push([at, at + 1]));
-      const isHeld = test(content);
-      if (!isHeld && from >= 0) out.push([from, at]);
-      from = !isHeld ? -1 : from < 0 ? at : from;
-    });
-    if (from >= 0) out.push([from, end]);
-  }
-  return places.length > 1 ? joined(out, isChange) : out;
-}
-const isChanged = write => write.items ? write.items.length > 0 : keyOf(write.old) !== keyOf(write.value);
-// The stretches in ascending order, those in one that meet; changes stay apart.
-function joined(stretches, isChange) {
-  const out = [];
-  for (const [from, to] of stretches.sort((a, b) => a[0] - b[0])) {
-    const last = out.at(-1);
-    if (last && (isChange ? from < last[1] : from <= last[1])) last[1] = Math.max(last[1], to);
-    else out.push([from, to]);
-  }
-  return out;
 }

@@ -1,9 +1,10 @@
 // The chosen event: what was asked and answered, what changed, what it rested on, how it hangs together with others, and why a
 // move wasn't fired.
+import { changeNode } from "./change.js";
 import { madeStale, nearFire, ownRead, ownReads, retryOf, staledBy, tryBefore } from "./chains.js";
 import { clashNodes } from "./clash.js";
 import { kindOf } from "./run.js";
-import { answerText, button, changeNode, elementNode, glyph, locationNode, make, moveLink, span, valueNode, writerNodes } from "./nodes.js";
+import { answerText, button, elementNode, glyph, locationNode, make, moveLink, runName, span, valueNode, writerNodes } from "./nodes.js";
 import { act, shown } from "./shown.js";
 import { afterMoves, grouped, keyOf, plural } from "./terms.js";
 import { apartNode, doubtNote, isOther, wrongNote } from "./wrong.js";
@@ -48,7 +49,7 @@ const note = (kind, ...children) => make("div", { class: `note ${kind}` }, ...ch
 // What the fire names at that number: a read of the agent's own, or what no read of the run tells.
 function seenNodes(event, named) {
   const read = ownRead(ownReads(event), named);
-  return read ? [" was read ", afterMoves(named.number), ", in ", eventLink(read), "."] : [` is named as it stood ${afterMoves(named.number)}; the ${shown.run.part === null ? "run" : "window"} has no read of it by agent ${event.agent}.`];
+  return read ? [" was read ", afterMoves(named.number), ", in ", eventLink(read), "."] : [` is named as it stood ${afterMoves(named.number)}; the ${runName()} has no read of it by agent ${event.agent}.`];
 }
 function whyStale(event, location) {
   const named = event.named.filter(it => it.location === location).sort((a, b) => a.number - b.number)[0], write = staledBy(event);
@@ -106,7 +107,7 @@ function grounds(event) {
     return [
       locationNode(location),
       [number && isThere ? button("link", `Go to move ${number}`, () => act.choose(run.eventsTo(number)), `move ${number}`) : number ? `move ${number}, ${number <= event.before ? "before the window" : "which is still to come"}` : "opening state",
-        make("div", { class: "faint" }, ...read ? ["read in ", eventLink(read)] : ["not read"])],
+        make("div", { class: "faint" }, ...read ? ["read in ", eventLink(read)] : [run.isTold(number) ? "not read" : "not read in the window"])],
       isUnput ? span("unput", "nothing yet put") : isThere ? valueNode(run.valueAt(location, run.eventsTo(number)), 8) : "unknown",
       since ? span("since", moveLink(since.first), " wrote it") : run.isTold(number) ? "not written" : "unknown",
     ];

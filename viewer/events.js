@@ -1,11 +1,12 @@
 // The list of events, and what is asked of it.
+import { changeText } from "./change.js";
 import { faultText } from "./event.js";
 import { filter, forgetTexts, isFiltered, isListed, LABELS, listIndex, listItem, listLength, nextListed, ofKind, setFilter } from "./filter.js";
 import { List, ROW } from "./lists.js";
-import { $, changeText, glyph, make, span } from "./nodes.js";
+import { $, glyph, make, span } from "./nodes.js";
 import { isBad } from "./run.js";
 import { act, shown } from "./shown.js";
-import { grouped, keyOf, locationText, shortText } from "./terms.js";
+import { grouped, isSame, locationText, shortText } from "./terms.js";
 
 const MOST_TOLD = 4;
 
@@ -23,7 +24,7 @@ function staleNodes(event, location) {
   if (run.lastWrite(location, event.number)?.items) return [" ", span("name", location.label)];
   const numbers = event.named.filter(it => it.location === location && it.number <= event.before && run.isTold(it.number)).map(it => it.number);
   const values = numbers.length ? [run.valueAt(location, run.eventsTo(Math.min(...numbers))), run.valueAt(location, event.number)] : [];
-  return [" ", span("name", location.label), values.length && keyOf(values[0]) !== keyOf(values[1]) ? ` ${values.map(shortText).join(" → ")}` : ""];
+  return [" ", span("name", location.label), values.length && !isSame(...values) ? ` ${changeText({ old: values[0], value: values[1] })}` : ""];
 }
 const labelOf = (event, what) => `Event ${event.ordinal}, agent ${event.agent}: ${what}${faultText(event)}`;
 function eventRow(i) {

@@ -13,8 +13,24 @@ let listed = null; // the numbers of the events in the list; null for all
 let texts = null, textsOf = null; // what is searched of each event, and at which location
 const CAUSE = /^(Two|Mixed|Kind|Both|Against|Short|Large)$/;
 
-export const wordsOf = text => withoutIsolates(text).toLowerCase().split(/\s+/).filter(Boolean);
-export const hasAll = (text, words) => words.every(it => text.includes(it));
+// What is asked for in words: each has to be there, a number as a whole one, what stands between quotes as a phrase, and `agent 3`,
+// `event 3` and `move 3` of the event itself.
+const TERM = /"([^"]*)"?|(agent|event|move)\s+(\d+)(?!\S)|(\S+)/g;
+const MARKS = /[.*+?^${}()|[\]\\]/g;
+const wholly = text => new RegExp(`(?<![\\p{L}\\p{N}_${/^-?\d/.test(text) ? "-" : ""}])${text.replace(MARKS, "\\$&")}(?![\\p{L}\\p{N}_])`, "u");
+export function termsOf(text, isOfEvents = false) {
+  const out = [];
+  for (const [all, phrase, name, number, word] of withoutIsolates(text).toLowerCase().matchAll(TERM)) {
+    if (name && isOfEvents) out.push({ name, number: +number });
+    else if (name) out.push({ word: name }, { pattern: wholly(number) });
+    else if (phrase !== undefined) out.push(phrase ? { pattern: wholly(phrase) } : { word: all });
+    else out.push(/^-?\d+$/.test(word) ? { pattern: wholly(word) } : { word });
+  }
+  return out;
+}
+const OF_EVENT = { agent: it => it.agent, event: it => it.ordinal, move: it => it.move };
+const isMet = (term, text, event) => term.name ? OF_EVENT[term.name](event) === term.number : term.pattern ? term.pattern.test(text) : text.includes(term.word);
+export const hasAll = (text, terms, event = null) => terms.every(it => isMet(it, text, event));
 export const isFiltered = () => listed !== null;
 export const listLength = () => listed ? listed.length : shown.run.events.length;
 export const listItem = i => listed ? listed[i] : i;
@@ -53,7 +69,7 @@ export function ofKind(kind) {
   return run.byKind[kind];
 }
 function listEvents() {
-  const { run } = shown, { kind, agent, cause } = filter, words = wordsOf(filter.text), place = run.locations.get(filter.place);
+  const { run } = shown, { kind, agent, cause } = filter, terms = termsOf(filter.text, true), place = run.locations.get(filter.place);
   let list = ofKind(kind);
   const keep = test => {
     list = list ? list.filter(it => test(run.events[it])) : run.events.filter(test).map(it => it.number);
@@ -61,9 +77,9 @@ function listEvents() {
   if (agent !== "all") list = list ? list.filter(it => run.events[it].agent === +agent) : run.byAgent[+agent];
   if (cause) keep(it => (it.right ?? it.reply).clash?.[1] === cause);
   if (place) keep(it => isAbout(it, place));
-  if (words.length) {
+  if (terms.length) {
     if (!texts || textsOf !== place) [texts, textsOf] = [new Array(run.events.length), place];
-    keep(it => hasAll(texts[it.number] ??= searchText(it, place), words));
+    keep(it => hasAll(texts[it.number] ??= searchText(it, place), terms, it));
   }
   listed = list;
 }
@@ -75,9 +91,9 @@ function isAbout(event, place) {
 }
 // All that is asked, answered and changed, in small letters; of one location its values alone.
 function searchText(event, place) {
-  const parts = place ? [] : [event.kind, `agent ${event.agent}`, `event ${event.ordinal}`], isOf = it => !place || it === place;
+  const parts = place ? [] : [event.kind, `agent ${event.agent}`], isOf = it => !place || it === place;
   const tell = (location, ...values) => isOf(location) && parts.push(...place ? [] : [location.label], ...values);
-  if (!place && event.move) parts.push(`move ${event.move}`);
+  if (!place && event.move) parts.push("move");
   if (!place && event.isWrong) parts.push("wrong");
   if (!place && event.doubt) parts.push("doubtful");
   if (!place && (event.reply.clash || event.reply.stale)) parts.push(answerText(event.reply));

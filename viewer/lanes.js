@@ -6,6 +6,7 @@ import { isBad } from "./run.js";
 import { act, chosen, shown } from "./shown.js";
 import { AXIS, clamp, colors, Columns, GUTTER, lanesHigh, prepared, renewSight, seen, view, width, xOf, yOf, zoomAbout } from "./sight.js";
 import { drawStretches, drawStrip } from "./strip.js";
+import { drawTrack } from "./track.js";
 import { firstFrom, grouped } from "./terms.js";
 
 // From this width of an event on each is drawn; below it several share a column, this wide.
@@ -32,6 +33,7 @@ export function draw() {
     asked = 0;
     if (!shown.run) return;
     drawLanes();
+    drawTrack();
     drawStrip();
   });
 }

@@ -3,7 +3,8 @@ import { addressed, beforeChange, changed, onAddress } from "./address.js";
 import { eventNode, eventText } from "./event.js";
 import { events, relist, renewEvents, showEvents, showHere } from "./events.js";
 import { draw, renewLanes, resized } from "./lanes.js";
-import { $, beginningText, make, span } from "./nodes.js";
+import { $, beginningText, make, runName, span } from "./nodes.js";
+import "./complete.js";
 import { openTrace } from "./opening.js";
 import { fitLanes } from "./room.js";
 import { act, chosen, shown } from "./shown.js";
@@ -89,10 +90,10 @@ function showNow() {
   showSteps();
   $("detail").replaceChildren(event ? eventNode(event) : openingNode());
   $("detail").scrollTop = 0;
+  showWatch();
   showWrites(); // first, as it takes its room from the state
   showState();
   showEvents();
-  showWatch();
   draw();
   if (text === spoken) return;
   spoken = text;
@@ -120,13 +121,15 @@ act.showRun = run => {
   const { name } = run;
   const start = isFirst ? addressed(run) : { count: 0, mark: null, at: null, condition: "", filter: {} };
   isFirst = false;
-  Object.assign(shown, { run, count: 0, location: null, mark: null, holds: [] });
+  Object.assign(shown, { run, count: 0, location: null, mark: null, holds: [], onsets: [], onset: null, plot: null });
   $("busy").hidden = $("start").hidden = true;
   $("main").hidden = $("help-open").hidden = false;
+  $("refused").hidden = true;
   $("name").textContent = name;
   document.title = `${name} – Folugben`;
   $("warning").hidden = run.events.length === run.told;
   $("warning").textContent = `This trace is cut off: it has ${plural(run.events.length, "event")} of ${grouped(run.told)}. What is there is shown.`;
+  $("fit").textContent = `Whole ${runName()}`;
   $("of").textContent = `of ${grouped(run.movesIn(run.events.length))}`;
   $("slider").max = run.events.length;
   showFacts();

@@ -1,7 +1,7 @@
 // Nodes of the page for values, locations and changes. Whatever a trace holds is put in as text, never as markup.
 import { itemsOf } from "./content.js";
 import { act, shown } from "./shown.js";
-import { afterMoves, byElement, cut, elementText, grouped, isBag, isNumber, isSet, keyOf, locationText, plural, sharedLength, shortText } from "./terms.js";
+import { afterMoves, cut, elementText, grouped, isBag, isNumber, isSet, locationText, plural } from "./terms.js";
 
 export const $ = id => document.getElementById(id);
 
@@ -76,8 +76,8 @@ export function locationNode(location) {
 export const itemNode = (kind, element, count) => [span(`item ${kind}`, span("", elementNode(element)), count), " "];
 export const times = n => span("count", ` ×${n}`);
 // Stands for what is left out; a press shows more in the place of what holds it.
-const MORE = 2000;
-function restNode(kind, text, more) {
+export const MORE = 2000;
+export function restNode(kind, text, more) {
   return button("item rest", "Show more", event => event.currentTarget.closest(`.${kind}`).replaceWith(more()), text);
 }
 // What a set or a bag is and how large, in a tag.
@@ -100,53 +100,8 @@ export function valueNode(value, most = Infinity, from = 0) {
   return out;
 }
 
-// What a write made of its location: the items of a set or a bag that changed among the others, else the old value and the new.
-export function changeNode(write, most = Infinity, isInRow = false) {
-  if (!write.items) return replacedNode(write.old, write.value, most);
-  const out = span("value", sizeNode(write.isBag, write.size), " "), more = () => changeNode(write, most + MORE);
-  const removed = write.items.filter(it => it[2] === 0).length, same = write.size + removed - write.items.length;
-  if (write.size + removed === 0) out.append(span("undef", "empty"));
-  if (write.size + removed <= most) out.append(...allItems(write, isInRow).flatMap(it => changedNode(write, it)));
-  else {
-    out.append(...write.items.slice(0, most).flatMap(it => changedNode(write, it)));
-    if (write.items.length > most) out.append(restNode("value", `${grouped(write.items.length - most)} more changed`, more));
-    if (same) out.append(restNode("value", `${grouped(same)} unchanged`, more));
-    return out;
-  }
-  if (!write.items.length) out.append(span("same", " unchanged"));
-  return out;
-}
-// Every item that the location holds before or after the write, with its counts before and after; in a row, which may be cut off,
-// those that changed come first.
-function allItems(write, isInRow) {
-  const changed = new Set(write.items.map(it => keyOf(it[0])));
-  const same = itemsOf(write.location.after(write.index)).filter(it => !changed.has(keyOf(it[0])));
-  const unchanged = same.map(([it, count]) => [it, count, count]);
-  return isInRow ? [...write.items, ...unchanged] : [...unchanged, ...write.items].sort((a, b) => byElement(a[0], b[0]));
-}
-function changedNode(write, [element, was, now]) {
-  const kind = was === now ? "" : was === 0 ? "added" : now === 0 ? "removed" : "";
-  if (!write.isBag) return itemNode(kind, element, null);
-  return itemNode(kind, element, was && now && was !== now ? span(`count ${now > was ? "up" : "down"}`, ` ×${was}→${now}`) : times(now || was));
-}
-function replacedNode(old, value, most) {
-  if (keyOf(old) === keyOf(value)) return span("value", valueNode(value, most), span("same", " unchanged"));
-  const both = isNumber(old) && isNumber(value), by = both ? BigInt(value) - BigInt(old) : 0n;
-  const apart = both ? span("apart", by > 0n ? ` (+${by})` : ` (\u2212${-by})`) : null;
-  const from = typeof old === "string" && typeof value === "string" ? sharedLength(old, value) : 0;
-  return span("value change", span(old === null ? "old none" : "old", valueNode(old, most, from)), span("arrow", " → "), span("new", valueNode(value, most, from)), apart);
-}
-// What a write did, in a few letters.
-export function changeText(write) {
-  if (!write.items) return keyOf(write.old) === keyOf(write.value) ? `${shortText(write.value)} unchanged` : `${shortText(write.old)} → ${shortText(write.value)}`;
-  const size = `${write.isBag ? "bag" : "set"} of ${grouped(write.size)}`, added = write.items.filter(it => it[1] === 0), removed = write.items.filter(it => it[2] === 0);
-  if (!write.items.length) return `unchanged, ${size}`;
-  const told = (list, what) => list.length === 0 ? [] : [list.length === 1 ? `${shortText(list[0][0])} ${what}` : `${grouped(list.length)} ${what}`];
-  const counted = write.items.length - added.length - removed.length, [element, was, now] = write.items.find(it => it[1] && it[2]) ?? [];
-  const recounted = counted === 0 ? [] : [counted === 1 ? `${shortText(element)} ×${was} → ×${now}` : `${grouped(counted)} counts changed`];
-  return [...told(added, "added"), ...told(removed, "removed"), ...recounted, size].join(", ");
-}
-
+// What a trace has: a run, or a window of a part.
+export const runName = () => shown.run.part === null ? "run" : "window";
 // What stands before the first event: the opening state of a part, or what the events before a window leave.
 export const beginningText = () => shown.run.from ? `Before event ${grouped(shown.run.from)}` : "Opening state";
 

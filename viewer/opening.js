@@ -3,36 +3,38 @@ import { Fault } from "./exact.js";
 import { $ } from "./nodes.js";
 import { play } from "./play.js";
 import { readRun } from "./run.js";
-import { act, shown } from "./shown.js";
+import { act } from "./shown.js";
 import { plainText } from "./terms.js";
 
 let opening = 0;
+// Reads a trace and shows its run. Until that is read, and where it is refused, the run that was shown before stays.
 export async function openTrace(source, fileName, by = "") {
-  const name = plainText(fileName);
-  const turn = ++opening;
+  const turn = ++opening, name = plainText(fileName);
   play(false);
-  shown.run = null;
-  $("main").hidden = $("help-open").hidden = $("fault").hidden = $("warning").hidden = true;
-  $("start").hidden = $("busy").hidden = false;
-  $("busy").value = 0;
-  $("facts").replaceChildren();
-  $("name").textContent = "";
+  $("fault").hidden = true;
+  $("busy").hidden = $("busy-here").hidden = false;
+  $("busy").value = $("busy-here").value = 0;
   $("hint").textContent = `Reading ${name} …`;
   try {
     const run = await readRun(source, part => {
-      $("busy").value = part;
+      $("busy").value = $("busy-here").value = part;
     });
     if (turn === opening) act.showRun(Object.assign(run, { name, by }));
   } catch (fault) {
-    if (turn === opening) refuse(fault instanceof Fault ? fault.message : `${name} could not be read: ${fault.message}`, name);
+    if (turn === opening) refuse(fault instanceof Fault ? fault.message : `It could not be read: ${plainText(fault.message)}`, name);
+  } finally {
+    if (turn === opening) $("busy").hidden = $("busy-here").hidden = true;
   }
 }
 function refuse(text, name) {
-  $("busy").hidden = true;
-  $("fault").hidden = false;
+  $("fault").hidden = $("refused").hidden = false;
   $("fault").textContent = text;
+  $("refused-told").textContent = `${name} isn't shown. ${text}`;
   $("hint").textContent = `${name} isn't shown. Drop another file here, or choose one.`;
 }
+$("refused-close").addEventListener("click", () => {
+  $("refused").hidden = true;
+});
 
 const openFile = file => file && openTrace(file, file.name);
 for (const id of ["open", "open-big"]) $(id).addEventListener("click", () => $("file").click());

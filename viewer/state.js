@@ -1,7 +1,8 @@
 // The state after the chosen event, or what differs from it at another moment.
-import { hasAll, wordsOf } from "./filter.js";
+import { changeNode } from "./change.js";
+import { hasAll, termsOf } from "./filter.js";
 import { List, ROW } from "./lists.js";
-import { $, beginningText, changeNode, locationNode, make, moveLink, valueNode } from "./nodes.js";
+import { $, beginningText, locationNode, make, moveLink, valueNode } from "./nodes.js";
 import { itemsApart } from "./content.js";
 import { act, chosen, shown } from "./shown.js";
 import { grouped, keyOf, valueText, withoutIsolates } from "./terms.js";
@@ -14,12 +15,12 @@ const isComparing = () => shown.mark !== null;
 const ends = () => [Math.min(shown.mark, shown.count), Math.max(shown.mark, shown.count)];
 
 function findRows() {
-  const { run, count, location } = shown, words = wordsOf($("state-find").value), which = $("state-which").value;
+  const { run, count, location } = shown, terms = termsOf($("state-find").value), which = $("state-which").value;
   const isHere = {
     put: it => it.isPutIn(count), held: it => !run.isUndefAt(it, count), all: () => true,
-  }[words.length ? "all" : which];
-  const isShown = isComparing() ? isDifferent : it => isHere(it) || marks.has(it) || it === location;
-  rows = run.sorted.filter(it => (!words.length || hasAll(withoutIsolates(it.label).toLowerCase(), words)) && isShown(it));
+  }[terms.length ? "all" : which];
+  const isShown = isComparing() ? isDifferent : it => isHere(it) || marks.has(it) || it === location || it === shown.onset;
+  rows = run.sorted.filter(it => (!terms.length || hasAll(withoutIsolates(it.label).toLowerCase(), terms)) && isShown(it));
 }
 function findMarks() {
   const event = isComparing() ? null : chosen(), answer = event?.right ?? event?.reply;
@@ -49,14 +50,14 @@ function stateRow(i) {
   const { run, count } = shown, location = rows[i], mark = marks.get(location), at = isComparing() ? ends()[1] : count, write = run.lastWrite(location, at), value = run.valueAt(location, at);
   const kind = mark ? mark.kind : value === null ? "nothing" : "", isChosen = location === shown.location;
   const told = isComparing() ? changeNode(differenceAt(location), 4, true) : mark?.write ? changeNode(mark.write, 4, true) : valueNode(value, 8);
-  return make("div", { class: `row place ${kind}`, id: `place-${i}`, role: "row", "aria-rowindex": i + 2, "aria-selected": String(isChosen), onclick: () => act.chooseLocation(location) },
+  return make("div", { class: `row place ${kind} ${location === shown.onset ? "onset" : ""}`, id: `place-${i}`, role: "row", "aria-rowindex": i + 2, "aria-selected": String(isChosen), onclick: () => act.chooseLocation(location) },
     make("span", { role: "gridcell", title: location.label }, locationNode(location)),
     make("span", { role: "gridcell", title: valueText(value).slice(0, 600) }, told),
     make("span", { role: "gridcell", class: "by" }, write ? [moveLink(write), ` a${write.agent}`] : value !== null || run.from ? beginningText().toLowerCase() : "not yet written"));
 }
 export const state = new List($("state"), ROW, {
   count: () => rows.length,
-  sign: i => `${rows[i].key} ${shown.run.lastWrite(rows[i], shown.count)?.event} ${marks.get(rows[i])?.kind} ${rows[i] === shown.location} ${shown.mark} ${isComparing() && shown.count}`,
+  sign: i => `${rows[i].key} ${shown.run.lastWrite(rows[i], shown.count)?.event} ${marks.get(rows[i])?.kind} ${rows[i] === shown.location} ${rows[i] === shown.onset} ${shown.mark} ${isComparing() && shown.count}`,
   make: stateRow,
   empty: () => isComparing() ? "Nothing differs between the two." : !shown.run.sorted.length ? "No location is written or read in this run."
     : $("state-find").value ? "No location is called so." : $("state-which").value === "held" ? "No location holds a value." : "Nothing is put yet.",
@@ -80,11 +81,14 @@ export function showState() {
   state.show(isSeen ? -1 : first);
   state.tell(location ? `place-${rows.indexOf(location)}` : null);
 }
-// Brings the chosen location into sight, where it is listed.
-export function revealPlace() {
+// Brings a location into sight, where it is listed.
+export function revealAt(place) {
+  if (!place) return;
   showState();
-  state.show(rows.indexOf(shown.location));
+  state.show(rows.indexOf(place));
 }
+// Brings the chosen location into sight, where it is listed.
+export const revealPlace = () => revealAt(shown.location);
 $("state-find").addEventListener("input", showState);
 // Enter goes along what is found.
 $("state-find").addEventListener("keydown", event => {

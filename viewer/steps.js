@@ -2,7 +2,7 @@
 import { ownReads, retryOf, tryBefore } from "./chains.js";
 import { isFiltered, listItem, listLength, nextListed, nextOf, ofKind } from "./filter.js";
 import { fit, zoom } from "./lanes.js";
-import { $ } from "./nodes.js";
+import { $, runName } from "./nodes.js";
 import { isPlaying, play } from "./play.js";
 import { foldLanes } from "./room.js";
 import { act, chosen, shown } from "./shown.js";
@@ -84,8 +84,11 @@ $("speed").addEventListener("change", () => {
 $("slider").addEventListener("input", () => act.choose(+$("slider").value, { isStep: true }));
 $("move").addEventListener("change", () => {
   const number = Number.parseInt($("move").value.replaceAll(/\D/g, ""), 10);
+  const { run } = shown, last = run.movesIn(run.events.length);
   $("move").blur();
-  if (number >= 0) act.choose(shown.run.eventsTo(number));
+  if (number > last) act.speak(last ? `The last move is move ${last}` : `The ${runName()} has no move`);
+  else if (number < run.movesBefore) act.speak(`Move ${number} is before the window, which begins after move ${run.movesBefore}`);
+  else if (number >= 0) act.choose(run.eventsTo(number));
   $("move").value = shown.run.movesIn(shown.count);
 });
 
@@ -109,7 +112,9 @@ document.addEventListener("keydown", event => {
   if (!shown.run || event.ctrlKey || event.metaKey || event.altKey || event.defaultPrevented || $("help").open) return;
   const { target, key } = event;
   if (target.matches("input:not([type=range], [type=checkbox]), select")) {
-    if (key === "Escape" && !target.value) target.blur();
+    if (key !== "Escape") return;
+    event.preventDefault(); // it would empty the field
+    target.blur();
     return;
   }
   if (key === " " && target.matches("button, input")) return; // it presses that

@@ -1,5 +1,5 @@
 // The whole run in a strip: the shares of its answers, where the chosen location is written, and where the condition holds.
-import { $ } from "./nodes.js";
+import { $, runName } from "./nodes.js";
 import { act, shown } from "./shown.js";
 import { clamp, colors, Columns, GUTTER, prepared, seen, view } from "./sight.js";
 
@@ -16,7 +16,7 @@ function picture(wide) {
   pen.font = `11.5px ${view.font}`;
   pen.textBaseline = "middle";
   pen.fillStyle = colors.soft;
-  pen.fillText("whole run", 12, STRIP / 2);
+  pen.fillText(`whole ${runName()}`, 12, STRIP / 2);
   const count = Math.max(1, Math.min(run.events.length, Math.floor(room / STRIP_COLUMN))), columns = new Columns(count), step = room / count;
   for (const event of run.events) columns.put(Math.floor(event.number * count / run.events.length), event);
   for (let i = 0; i < count; i++) columns.draw(pen, i, GUTTER + i * step + (step > MOST_WIDE ? (step - MOST_WIDE) / 2 : 0), 5, Math.max(1, Math.min(MOST_WIDE, step - (step > 4 ? 1 : 0))), STRIP - 10);

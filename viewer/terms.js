@@ -32,6 +32,7 @@ export function isSame(a, b) {
 
 export const isSet = v => v !== null && typeof v === "object" && "set" in v;
 export const isBag = v => v !== null && typeof v === "object" && "bag" in v;
+export const isList = v => v !== null && typeof v === "object" && "list" in v;
 export const isNumber = v => typeof v === "number" || typeof v === "bigint";
 
 // The order of elements: undef, false, true, numbers, texts, lists.
@@ -112,6 +113,21 @@ export function sharedLength(a, b) {
   let i = 0;
   while (i < a.length && i < b.length && a[i] === b[i]) i++;
   return i;
+}
+
+// Of some words the one that is nearest to a text, where few letters of it are others.
+export function nearestOf(text, words) {
+  const least = Math.max(2, Math.floor(text.length / 3)) + 1;
+  return [...words].map(it => [lettersApart(text.toLowerCase(), it.toLowerCase()), it]).filter(it => it[0] < least).sort((a, b) => a[0] - b[0])[0]?.[1] ?? null;
+}
+function lettersApart(a, b) {
+  let row = Array.from({ length: b.length + 1 }, (_, i) => i);
+  for (let i = 1; i <= a.length; i++) {
+    const next = [i];
+    for (let j = 1; j <= b.length; j++) next.push(Math.min(row[j] + 1, next[j - 1] + 1, row[j - 1] + (a[i - 1] === b[j - 1] ? 0 : 1)));
+    row = next;
+  }
+  return row[b.length];
 }
 
 export const grouped = n => n.toLocaleString("en");

@@ -1,12 +1,15 @@
-// The condition that is asked for: where it holds, and the way to these moments.
-import { placesOf, readCondition, stretchesOf } from "./condition.js";
+// The condition or the expression that is asked for: where it holds, what it is, and the way to these moments.
+import { isOperand, operandsOf, operandText, patternText, readCondition } from "./condition.js";
 import { Fault } from "./exact.js";
+import { isByPlace, momentsOf, placesOf, plotted, rangeOf, seriesOf } from "./moments.js";
 import { $ } from "./nodes.js";
 import { act, shown } from "./shown.js";
-import { firstFrom, grouped, plural } from "./terms.js";
+import { revealAt } from "./state.js";
+import { firstFrom, grouped, isNumber, nearestOf, plural, shortText } from "./terms.js";
 
-let condition = null; // the condition that stands, with its text and its locations
-let fault = "";
+let condition = null; // the condition that stands, with its text and the chosen location at that time
+let fault = "", isTold = true; // what is wrong with it, and whether that is told yet
+let range = null, at = -1; // from where to where its numbers go, and the moment of it that was gone to
 
 export const conditionText = () => condition?.text ?? "";
 // Takes in what is asked for, and finds where it holds.
@@ -15,72 +18,132 @@ export function watch(text) {
   fault = "";
   if (text.trim()) {
     try {
-      condition = { text: text.trim(), ...readCondition(text) };
+      condition = { text: text.trim(), told: readCondition(text) };
     } catch (found) {
       if (!(found instanceof Fault)) throw found;
       fault = found.message;
     }
   }
-  findHolds();
+  findMoments();
 }
-function findHolds() {
+function findMoments() {
   const { run, location } = shown;
-  shown.holds = [];
-  if (!condition) return;
-  condition.of = location;
-  const places = placesOf(run, condition, location);
-  fault = places.length ? "" : condition.pattern ? "no location of this run is called so" : "choose a location, or name one before it";
-  shown.holds = stretchesOf(run, condition, places);
+  Object.assign(shown, { holds: [], onsets: [], onset: null, plot: null });
+  at = -1;
+  range = null;
+  if (condition) {
+    condition.of = location;
+    fault = lackOf(condition.told);
+    if (!fault) take(condition.told);
+  }
+  if (!shown.plot && location && (location.writes.some(it => isNumber(it.value)) || isNumber(location.opening))) plot({ pattern: null });
+  function take(told) {
+    const operand = plotted(told);
+    if (!isOperand(told)) {
+      const { stretches, onsets } = momentsOf(run, told, location);
+      Object.assign(shown, { holds: stretches, onsets });
+    }
+    if (operand) plot(operand);
+    range = isOperand(told) || operandsOf(told).length ? rangeOf(run, operandsOf(told)[0], location) : null;
+  }
 }
-// A condition that names no location is about the chosen one.
+function plot(operand) {
+  const series = seriesOf(shown.run, operand, shown.location), numbers = series.map(it => it[1]).filter(it => it !== null);
+  if (numbers.length) shown.plot = { text: operandText(operand, shown.location), series, least: Math.min(...extremes(numbers)), most: Math.max(...extremes(numbers)) };
+}
+const extremes = numbers => numbers.reduce(([least, most], it) => [Math.min(least, it), Math.max(most, it)], [Infinity, -Infinity]);
+// What a condition names that isn't there, in words.
+function lackOf(told) {
+  for (const operand of operandsOf(told)) {
+    if ("value" in operand || placesOf(shown.run, operand.pattern, shown.location).length) continue;
+    if (!operand.pattern) return "choose a location, or name one before it";
+    const near = nearestOf(operand.pattern[0], new Set(shown.run.sorted.map(it => it.at[0])));
+    return `no location of this run is called ${patternText(operand.pattern)}${near && near !== operand.pattern[0] ? `; did you mean ${near}?` : ""}`;
+  }
+  return "";
+}
+// A condition that names no location is about the chosen one, and so is the picture where no condition has one.
 export function followLocation() {
-  if (condition && !condition.pattern && condition.of !== shown.location) findHolds();
+  findMoments();
 }
+
+// ---- what is told
 export function showWatch() {
-  const told = toldText();
+  const told = fault && !isTold ? "" : toldText(), isWrong = !!fault && isTold;
   $("watch-told").textContent = told;
   $("watch-told").title = told;
-  $("watch-told").classList.toggle("wrong-words", !!fault);
-  $("watch").setAttribute("aria-invalid", String(!!fault));
-  for (const id of ["watch-back", "watch-on"]) $(id).disabled = !shown.holds.length;
+  $("watch-told").classList.toggle("wrong-words", isWrong);
+  $("watch").setAttribute("aria-invalid", String(isWrong));
+  for (const id of ["watch-back", "watch-on"]) $(id).disabled = !shown.onsets.length;
 }
 function toldText() {
-  if (fault) return `${fault[0].toUpperCase()}${fault.slice(1)}.`;
+  if (fault) return `${fault[0].toUpperCase()}${fault.slice(1)}${/[.?]$/.test(fault) ? "" : "."}`;
   if (!condition) return "";
-  const { holds, count, run } = shown, i = firstFrom(holds, count + 1, it => it[0]) - 1, isNow = i >= 0 && count < holds[i][1];
-  if (!holds.length) return "Never.";
-  if (condition.isChange) return `${plural(holds.length, "time")}${isNow ? `, now the ${ordinal(i + 1)}` : ""}.`;
-  const which = isNow && holds.length > 1 ? `${ordinal(i + 1)} of ` : "";
-  return `${isNow ? "Holds now" : "Doesn't hold now"}: ${which}${plural(holds.length, "stretch", "stretches")}, after ${grouped(lengthOf(holds))} of ${grouped(run.events.length)} events.`;
+  const { onsets, holds, count, run } = shown, i = firstFrom(holds, count + 1, it => it[0]) - 1, isNow = i >= 0 && count < holds[i][1];
+  const was = range ? `it was ${String(range[0]) === String(range[1]) ? grouped(range[0]) : `${grouped(range[0])} to ${grouped(range[1])}`}` : "";
+  if (isOperand(condition.told)) return was ? `${was[0].toUpperCase()}${was.slice(1)}.` : "It was no number.";
+  if (!holds.length) return was ? `Never: ${was}.` : "Never.";
+  const here = hereText(), times = timesText();
+  if (here) return `${here} (${times}).`;
+  return isNow ? `Holds now (${times}), after ${grouped(lengthOf(holds))} of ${grouped(run.events.length)} events.` : `Doesn't hold now (${times}), after ${grouped(lengthOf(holds))} of ${grouped(run.events.length)} events.`;
+  function timesText() {
+    const places = new Set(onsets.map(it => it.place)).size, which = here ? `${grouped(at + 1)} of ${grouped(onsets.length)}` : plural(onsets.length, "time");
+    return isByPlace(condition.told) && places > 1 ? `${which}, at ${plural(places, "location")}` : which;
+  }
+}
+// What came to hold at the chosen moment, where that is one.
+function hereText() {
+  const { onsets, count } = shown;
+  if (onsets[at]?.count !== count) at = firstFrom(onsets, count, it => it.count);
+  const here = onsets[at]?.count === count ? onsets[at] : null;
+  shown.onset = here?.place ?? null;
+  if (!here) return "";
+  if (!here.place || !isByPlace(condition.told)) return "Comes to hold here";
+  return `${here.place.label} ${condition.told.order === "changes" ? "changes to" : count ? "becomes" : "is"} ${shortText(shown.run.valueAt(here.place, count))}`;
 }
 // (The opening state is a moment and no event.)
 const lengthOf = holds => holds.reduce((all, [from, to]) => all + to - Math.max(1, from), 0);
-const ordinal = n => `${grouped(n)}${n % 100 > 10 && n % 100 < 14 ? "th" : ["th", "st", "nd", "rd"][n % 10] ?? "th"}`;
 
-// Goes to the next moment at which the condition comes to hold, or to the one before.
+// ---- the way
+// Goes to the next moment at which the condition comes to hold, or to the one before; several of one event are several moments.
 export function goToHold(by) {
-  const { holds, count } = shown, i = by > 0 ? firstFrom(holds, count + 1, it => it[0]) : firstFrom(holds, count, it => it[0]) - 1;
-  if (!condition) act.speak("No condition is asked for");
-  else if (!holds[i]) act.speak(`The condition comes to hold at no ${by > 0 ? "later" : "earlier"} event`);
-  else act.choose(holds[i][0]);
+  const { onsets, count } = shown, isHere = onsets[at]?.count === count;
+  const to = isHere ? at + by : by > 0 ? firstFrom(onsets, count + 1, it => it.count) : firstFrom(onsets, count, it => it.count) - 1;
+  if (!condition) return act.speak("No condition is asked for");
+  if (!onsets[to]) return act.speak(`The condition comes to hold at no ${by > 0 ? "later" : "earlier"} event`);
+  at = to;
+  if (onsets[to].count === count) act.show();
+  else act.choose(onsets[to].count);
+  revealAt(onsets[to].place);
 }
 let waiting = 0;
-function take() {
+function takeText() {
   clearTimeout(waiting);
   if ($("watch").value.trim() === conditionText() && !fault) return;
   watch($("watch").value);
   act.show();
   act.changed(false);
 }
+function tellFault() {
+  isTold = true;
+  if (fault) showWatch();
+}
 $("watch").addEventListener("input", () => {
+  isTold = false;
   clearTimeout(waiting);
-  waiting = setTimeout(() => shown.run && take(), 250);
+  waiting = setTimeout(() => shown.run && takeText(), 250);
 });
 $("watch").addEventListener("keydown", event => {
-  if (event.key !== "Enter") return;
+  if (event.key !== "Enter" || event.defaultPrevented) return;
   event.preventDefault();
-  take();
-  if (!fault && condition) goToHold(event.shiftKey ? -1 : 1);
+  takeText();
+  tellFault();
+  if (!fault && condition && shown.onsets.length) goToHold(event.shiftKey ? -1 : 1);
+});
+$("watch").addEventListener("blur", () => {
+  if (!shown.run) return;
+  takeText();
+  tellFault();
 });
 $("watch-back").addEventListener("click", () => goToHold(-1));
 $("watch-on").addEventListener("click", () => goToHold(1));
@@ -89,5 +152,6 @@ $("watch-on").addEventListener("click", () => goToHold(1));
 export function renewWatch(text) {
   clearTimeout(waiting);
   $("watch").value = text;
+  isTold = true;
   watch(text);
 }

@@ -1,6 +1,7 @@
 // The writes of one location.
+import { changeNode } from "./change.js";
 import { List, ROW } from "./lists.js";
-import { $, changeNode, glyph, make, span, valueNode } from "./nodes.js";
+import { $, glyph, make, span, valueNode } from "./nodes.js";
 import { isBad } from "./run.js";
 import { act, shown } from "./shown.js";
 import { firstFrom, plural } from "./terms.js";

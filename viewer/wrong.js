@@ -1,4 +1,5 @@
 // A wrong answer beside the right one, and in what they differ.
+import { listsApart, ownPartNode } from "./change.js";
 import { itemsApart } from "./content.js";
 import { kindOf } from "./run.js";
 import { answerText, glyph, itemNode, locationNode, make, span, times, valueNode } from "./nodes.js";
@@ -38,6 +39,8 @@ export const isOther = (event, i) => event.isWrong && !isSame(event.reply.values
 // What one of two values has and the other hasn't: of sets and bags the items, else the value.
 export function apartNode(value, other) {
   const items = itemsApart(other, value);
+  const lists = listsApart(other, value);
+  if (lists) return ownPartNode(lists);
   if (!items) return valueNode(value, MOST_APART);
   const out = span("value"), isBags = isBag(value), here = items.filter(it => it[2]), lacking = items.filter(it => !it[2]);
   const tell = (word, kind, list, at) => {

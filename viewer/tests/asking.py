@@ -1,6 +1,7 @@
 """Tries what answers questions: conditions, the search in a location's values, and the summary."""
 
 import json
+import re
 from collections import Counter
 from collections.abc import Callable
 from typing import Any
@@ -82,8 +83,8 @@ def try_conditions(tries: Tries, browser: Browser) -> None:
     }.items():
         tries.same(f"{text} holds where the model says so", browser.run(holding, text), stretches(BUSY, test))
     states = moments(BUSY)
-    changed = [[it, it + 1] for it in range(1, len(states)) if states[it].get(RICE) != states[it - 1].get(RICE)]
-    tries.same('stock("rice") changes where it does', browser.run(holding, 'stock("rice") changes'), changed)
+    changed = [it for it in range(1, len(states)) if states[it].get(RICE) != states[it - 1].get(RICE)]
+    tries.same('stock("rice") changes where it does', browser.run("watch(arguments[0]); return shown.onsets.map(it => it.count)", 'stock("rice") changes'), changed)
     for text, told in {'stock("rice" < 1': "is missing", "door <": "a value is missing", 'door < "a"': "a number has to stand behind <", "nosuch = 1": "no location of this run", "= 1": "choose a location", "door = 1 2": "the condition ends", "door ~ 1": "can't be read"}.items():
         browser.run("renewWatch(arguments[0]); showWatch()", text)
         tries.claim(f"what {text} lacks is said", told in browser.text("watch-told").lower() and browser.find("watch").get_attribute("aria-invalid") == "true", browser.text("watch-told"))
@@ -99,7 +100,7 @@ def try_condition_ways(tries: Tries, browser: Browser) -> None:
     browser.press("v")
     browser.press(f"open size = {size}", Keys.ENTER)
     tries.has("Enter goes to where it comes to hold", browser.title(), f"Event {starts[0] - 1} ")
-    tries.has("that is said", browser.text("watch-told"), "Holds now: ")
+    tries.has("that is said", browser.text("watch-told"), "open becomes set of")
     browser.press(Keys.ENTER)
     tries.has("and on", browser.title(), f"Event {starts[1] - 1} ")
     browser.press(Keys.ENTER, shift=True)
@@ -115,7 +116,7 @@ def try_condition_ways(tries: Tries, browser: Browser) -> None:
     browser.run("act.chooseLocation(shown.run.locations.get('[\"stock\",\"rice\"]'))")
     browser.write("watch", "changes")
     browser.press(Keys.ENTER)
-    tries.same("a condition without a location is about the chosen one", browser.run("return shown.holds.length"), browser.run("return shown.location.writes.length"))
+    tries.same("a condition without a location is about the chosen one", browser.run("return shown.onsets.length"), browser.run("return shown.location.writes.length"))
 
 
 def told_of(place: str) -> list[tuple[int, str]]:
@@ -143,7 +144,7 @@ def try_location_search(tries: Tries, browser: Browser) -> None:
     tries.same("then the events of that location are listed", browser.run(listed), [it for it, _ in about])
     value = str(moments(HISTORY)[-1][RICE])
     browser.write("events-find", value)
-    tries.same("and the search finds in its values alone", browser.run(listed), [it for it, text in about if value in text])
+    tries.same("and the search finds in its values alone", browser.run(listed), [it for it, text in about if re.search(rf"(?<![\w-]){value}(?!\w)", text)])
     browser.write("events-find", "sold")
     tries.same("not in those of others", browser.run(listed), [])
     browser.write("events-find", "")

@@ -66,7 +66,7 @@ class Browser:
     def choose_file(self, trace: Path) -> float:
         start = time.monotonic()
         self.find("file").send_keys(str(trace))
-        self.until("return !document.getElementById('main').hidden || !document.getElementById('fault').hidden")
+        self.until("return opening > 0 && document.getElementById('busy').hidden")
         took = time.monotonic() - start
         self.frame()
         return took

@@ -23,7 +23,7 @@ const state = (run, count) => run.sorted.map(it => [it.key, keyOf(run.valueAt(it
     const run = await readRun(text, () => {}), counts = [...Array(run.events.length + 1).keys()];
     const forth = counts.map(it => state(run, it)), back = counts.reverse().map(it => state(run, it)).reverse();
     const since = run.events.map(it => (it.named ?? []).map(({ location, number }) => run.writesSince(location, number, it)?.first.move ?? 0));
-    out.push({ states: forth, since, isSame: keyOf(forth) === keyOf(back) });
+    out.push({ states: forth, since, isSame: keyOf(forth) === keyOf(back) && !run.doubted.length });
   }
   done(out);
 })().catch(fault => done(String(fault)));

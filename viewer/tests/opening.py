@@ -78,7 +78,7 @@ def refused_texts(good: str) -> dict[str, tuple[str | bytes, str]]:
         "a line that is missing": ("\n".join([*lines[:3], *lines[4:]]) + "\n", "Line 4 doesn't fit a trace: its `event` isn't 2"),
         "a line too many": (good + lines[-1].replace('"event":9', '"event":10') + "\n", "the header tells of 10 events, and this is one more"),
         "an agent that isn't there": (altered('"agent":1', '"agent":2'), "its `agent` isn't one of the 2 of the header"),
-        "a further member": (altered('"agent":1', '"also":0,"agent":1'), "it has a further member `also`"),
+        "a further member": (altered('"agent":1', '"also":0,"agent":1'), "it has a further member \"also\""),
         "a fired move without updates": (altered('"reply":{"fired":1},"updates"', '"reply":"full","updates"'), "it isn't fired and has `updates`"),
         "a number with a point": (altered('["put",["x"],2]', '["put",["x"],2.0]'), "can't be read: no plain whole number at column 41"),
         "a minus zero": (altered('["put",["x"],2]', '["put",["x"],-0]'), "no plain whole number at column 41"),

@@ -1,0 +1,188 @@
+// Where a condition holds along a run, at which locations it comes to hold, and the values of an expression.
+import { ANY, comparisonsOf, isAny, operandsOf } from "./condition.js";
+import { Content } from "./content.js";
+import { isNumber, isSame, keyOf } from "./terms.js";
+
+const COMPARED = {
+  "<": (a, b) => a < b, "<=": (a, b) => a <= b, ">": (a, b) => a > b, ">=": (a, b) => a >= b,
+};
+
+// The locations of the run that a pattern is about; `here` is the chosen one.
+export function placesOf(run, pattern, here) {
+  if (!pattern) return here ? [here] : [];
+  if (!pattern.includes(ANY)) return [run.locations.get(keyOf(pattern))].filter(Boolean);
+  return run.sorted.filter(({ at }) => at.length === pattern.length && pattern.every((it, i) => it === ANY || isSame(it, at[i])));
+}
+// Whether a condition is one comparison at locations, which comes to hold at each of them for itself.
+export const isByPlace = ({ order, left }) => !!order && !left.total && !("value" in left);
+
+// What follows the state of some locations along the run.
+class Follower {
+  constructor(run, operands, here) {
+    this.run = run;
+    this.contents = new Map();
+    this.operands = new Map(operands.map(it => [it, new Operand(it, "value" in it ? [] : placesOf(run, it.pattern, here), this.contents)]));
+    for (const { places } of this.operands.values()) for (const it of places) if (!this.contents.has(it)) this.contents.set(it, new Content(it.opening));
+    for (const it of this.operands.values()) it.begin();
+  }
+  // Calls back for the opening state, and then for each event that writes one of the locations, with these writes.
+  walk(visit) {
+    visit(0, []);
+    const places = [...this.contents.keys()], writes = places.length === 1 ? places[0].writes : places.flatMap(it => it.writes).sort((a, b) => a.event - b.event);
+    for (let i = 0; i < writes.length;) {
+      const from = i, { event } = writes[i];
+      while (i < writes.length && writes[i].event === event) this.follow(writes[i++]);
+      visit(event + 1, writes.slice(from, i));
+    }
+  }
+  follow(write) {
+    const content = this.contents.get(write.location);
+    if (write.items) content.follow(write.items);
+    else this.contents.set(write.location, new Content(write.value));
+    for (const it of this.operands.values()) if (it.of.has(write.location)) it.change(write.location);
+  }
+}
+
+// An operand along the run: of one location its content, or a number that is made of several.
+class Operand {
+  constructor(told, places, contents) {
+    Object.assign(this, { told, places, contents, of: new Set(places), numbers: new Map(), held: new Set(), sum: 0n, end: null });
+  }
+  begin() {
+    if (this.told.total) for (const it of this.places) this.change(it);
+  }
+  change(place) {
+    if (!this.told.total) return;
+    const { value, kind } = this.contents.get(place), old = this.numbers.get(place) ?? null, now = kind === "element" && isNumber(value) ? BigInt(value) : null;
+    if (kind !== "element" || value !== null) this.held.add(place);
+    else this.held.delete(place);
+    this.sum += (now ?? 0n) - (old ?? 0n);
+    if (now === null) this.numbers.delete(place);
+    else this.numbers.set(place, now);
+    if (old !== null && old === this.end) this.end = null; // it is looked for when it is asked for
+    else if (now !== null && this.end !== null && this.isBeyond(now, this.end)) this.end = now;
+  }
+  isBeyond(a, b) {
+    return this.told.total === "min" ? a < b : a > b;
+  }
+  // A number, or null where there is none.
+  total() {
+    const { total } = this.told;
+    if (total === "sum") return plainNumber(this.sum);
+    if (total === "count") return this.held.size;
+    if (!this.numbers.size) return null;
+    if (this.end === null) for (const it of this.numbers.values()) if (this.end === null || this.isBeyond(it, this.end)) this.end = it;
+    return plainNumber(this.end);
+  }
+  // The number of a part or a total, or of a location of which it is given; undefined where the location's content is meant itself.
+  numberAt(place) {
+    const { told } = this;
+    if ("value" in told) return isNumber(told.value) ? told.value : null;
+    if (told.total) return this.total();
+    const content = this.contents.get(place ?? this.places[0]);
+    if (!content) return null;
+    if (told.part === "size") return content.items?.size ?? null;
+    if (told.part === "count") return content.kind === "bag" ? content.countOf(told.element) : null;
+    return content.kind === "element" && isNumber(content.value) ? content.value : null;
+  }
+  contentAt(place) {
+    return this.contents.get(place ?? this.places[0]) ?? null;
+  }
+  get isContent() {
+    return !this.told.total && !this.told.part && !("value" in this.told);
+  }
+}
+const plainNumber = big => big >= -9007199254740991n && big <= 9007199254740991n ? Number(big) : big;
+
+// Whether a comparison holds now, of one of the locations of its left side.
+function holdsAt({ left, order, right }, operands, place, changed) {
+  const a = operands.get(left), b = operands.get(right);
+  if (order === "changes") return changed.some(it => it.location === (place ?? a.places[0]) && isChange(it));
+  if (order === "has" || order === "lacks") {
+    const content = a.contentAt(place);
+    return !!content?.items && (content.countOf(right.value) > 0) === (order === "has");
+  }
+  if (order === "=" || order === "!=") return isEqual(a, b, place) === (order === "=");
+  const [x, y] = [a.numberAt(place), b.numberAt()];
+  return x !== null && y !== null && COMPARED[order](x, y);
+}
+const isChange = write => write.items ? write.items.length > 0 : !isSame(write.old, write.value);
+function isEqual(a, b, place) {
+  if (!a.isContent) return b.isContent ? isNumberIn(b.contentAt(), a.numberAt(place)) : "value" in a.told ? isSame(a.told.value, b.told.value) : isSame(a.numberAt(place), b.numberAt());
+  const content = a.contentAt(place);
+  if (!content) return false;
+  return "value" in b.told ? content.equals(b.told.value) : b.isContent ? !!b.contentAt() && content.equals(b.contentAt().whole()) : isNumberIn(content, b.numberAt());
+}
+const isNumberIn = (content, number) => number !== null && content?.kind === "element" && content.value === number;
+
+// Whether a condition holds now, of which `many` has how often each comparison over many locations does.
+function holds(condition, operands, many, changed) {
+  if (condition.or) return condition.or.some(it => holds(it, operands, many, changed));
+  if (condition.and) return condition.and.every(it => holds(it, operands, many, changed));
+  if (condition.not) return !holds(condition.not, operands, many, changed);
+  return many.has(condition) ? many.get(condition).size > 0 : holdsAt(condition, operands, null, changed);
+}
+
+// The stretches in which the condition holds, as pairs of counts of events, from the one on and before the other; and the moments
+// at which it comes to hold, each with the location where it does: of a condition on many locations for each of these its own.
+export function momentsOf(run, condition, here) {
+  const follower = new Follower(run, operandsOf(condition), here), { operands } = follower, stretches = [], onsets = [];
+  const all = comparisonsOf(condition), many = new Map(all.filter(it => isAny(it.left) || (it === condition && isByPlace(it))).map(it => [it, new Set()])), hasChange = all.some(it => it.order === "changes");
+  const isOwn = isByPlace(condition);
+  let since = -1;
+  const settle = (count, isHeld) => {
+    if (isHeld && since < 0) since = count;
+    else if (!isHeld && since >= 0) {
+      stretches.push([since, count]);
+      since = -1;
+    }
+  };
+  let last = -1;
+  follower.walk((count, writes) => {
+    if (hasChange && last >= 0 && last + 1 < count) {
+      for (const [it, places] of many) if (it.order === "changes") places.clear();
+      settle(last + 1, holds(condition, operands, many, []));
+    }
+    const before = since;
+    for (const [it, places] of many) renewMany(it, places, operands, count, writes, isOwn ? onsets : null);
+    settle(count, holds(condition, operands, many, writes));
+    if (!isOwn && since === count && since !== before) onsets.push({ count, place: writes[0]?.location ?? null });
+    last = count;
+  });
+  if (since >= 0 && hasChange && last + 1 <= run.events.length) {
+    for (const [it, places] of many) if (it.order === "changes") places.clear();
+    settle(last + 1, holds(condition, operands, many, []));
+  }
+  if (since >= 0) stretches.push([since, run.events.length + 1]);
+  return { stretches, onsets };
+}
+// Finds anew at which of many locations a comparison holds, those that were written or all where its right side has changed.
+function renewMany(comparison, places, operands, count, writes, onsets) {
+  const left = operands.get(comparison.left), right = operands.get(comparison.right), isFresh = count === 0 || comparison.order === "changes" || writes.some(it => right?.of.has(it.location));
+  if (comparison.order === "changes") places.clear();
+  const written = isFresh && comparison.order !== "changes" ? left.places : writes.map(it => it.location).filter(it => left.of.has(it));
+  for (const place of written) {
+    const isHeld = holdsAt(comparison, operands, place, writes);
+    if (isHeld && !places.has(place)) onsets?.push({ count, place });
+    if (isHeld) places.add(place);
+    else places.delete(place);
+  }
+}
+
+// The values of an operand along the run: pairs of a count of events and the number from there on, null where there is none.
+export function seriesOf(run, operand, here) {
+  const follower = new Follower(run, [operand], here), it = follower.operands.get(operand), out = [];
+  follower.walk(count => {
+    const number = it.numberAt();
+    if (!out.length || out.at(-1)[1] !== number) out.push([count, number === null ? null : Number(number)]);
+  });
+  return out;
+}
+// What the picture of a condition shows: its first operand that is one number.
+export const plotted = condition => operandsOf(condition).find(it => !isAny(it) && !("value" in it)) ?? null;
+// From which number to which an operand goes, of all its locations; null where it is none.
+export function rangeOf(run, operand, here) {
+  const numbers = isAny(operand) && !operand.part ? placesOf(run, operand.pattern, here).flatMap(it => [it.opening, ...it.writes.map(at => at.items ? null : at.value)]).filter(isNumber)
+    : isAny(operand) ? [] : seriesOf(run, operand, here).map(it => it[1]).filter(it => it !== null);
+  return numbers.length ? numbers.reduce(([least, most], it) => [it < least ? it : least, it > most ? it : most], [numbers[0], numbers[0]]) : null;
+}
