@@ -1,6 +1,6 @@
 // How the calls of a run hang together: the read that a fire rests on, its tries, and what a move made stale.
 import { shown } from "./shown.js";
-import { firstFrom } from "./terms.js";
+import { firstFrom, grouped } from "./terms.js";
 
 // The agent's own reads that the fire names, by location and number as a key: the last one before it for each.
 export function ownReads(event) {
@@ -43,6 +43,34 @@ export function retryOf(event) {
 export function tryBefore(event) {
   const before = event.fire ? nearFire(event, -1) : null;
   return before && isStale(before) && writesSame(before, event) ? before : null;
+}
+
+// The tries of each fire that was tried again, in order, by the number of each of them; and the longest of these chains.
+export function chainsOf(run) {
+  if (run.chains) return run.chains;
+  const of = new Map();
+  let longest = null;
+  for (const list of run.byAgent) {
+    let before = null;
+    for (const number of list) {
+      const event = run.events[number];
+      if (!event.fire) continue;
+      if (before && isStale(before) && writesSame(before, event)) {
+        const chain = of.get(before.number) ?? [before];
+        chain.push(event);
+        of.set(before.number, chain).set(number, chain);
+        if (!longest || chain.length > longest.length) longest = chain;
+      }
+      before = event;
+    }
+  }
+  return run.chains = { of, longest };
+}
+export const chainOf = event => chainsOf(shown.run).of.get(event.number) ?? null;
+// Which try of which it is, in words: nodes and texts, of which `link` makes those that lead to an event.
+export function chainText(chain, event, link) {
+  const last = chain.at(-1), end = last.kind === "fired" ? ["fired in ", link(last)] : last.kind === "stale" ? ["never fired: last tried in ", link(last)] : ["ended in ", link(last), `, ${last.kind}`];
+  return [`Try ${grouped(chain.indexOf(event) + 1)} of ${grouped(chain.length)}: first `, link(chain[0]), ", ", ...end, "."];
 }
 
 // The write that made a stale fire stale: the first since it read the location that is told.

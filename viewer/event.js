@@ -1,7 +1,7 @@
 // The chosen event: what was asked and answered, what changed, what it rested on, how it hangs together with others, and why a
 // move wasn't fired.
 import { changeNode } from "./change.js";
-import { madeStale, nearFire, ownRead, ownReads, retryOf, staledBy, tryBefore } from "./chains.js";
+import { chainOf, chainText, madeStale, nearFire, ownRead, ownReads, retryOf, staledBy, tryBefore } from "./chains.js";
 import { clashNodes } from "./clash.js";
 import { kindOf } from "./run.js";
 import { answerText, button, elementNode, glyph, locationNode, make, moveLink, runName, span, valueNode, writerNodes } from "./nodes.js";
@@ -72,7 +72,9 @@ function whyClash(event, location, cause) {
 function chain(event) {
   const before = tryBefore(event), next = retryOf(event), later = event.kind === "stale" && !next ? nearFire(event, 1) : null, staled = madeStale(event), left = staled.length - MOST_STALED;
   const outcome = it => it.kind === "fired" ? `fired as move ${it.move}` : answerText(it.reply);
+  const tries = chainOf(event);
   const lines = [
+    tries ? chainText(tries, event, it => eventLink(it)) : null,
     before ? ["Tries ", eventLink(before), ` again, which was ${answerText(before.reply)}.`] : null,
     next ? ["Tried again in ", eventLink(next), `: ${outcome(next)}.`] : later ? ["Not tried again: the agent's next fire, ", eventLink(later), ", writes elsewhere."] : event.kind === "stale" ? "Not tried again: the agent fires no more." : null,
     staled.length ? [`Made ${plural(staled.length, "fire")} stale: `, staled.slice(0, MOST_STALED).flatMap((it, i) => [i ? ", " : "", eventLink(it), ` of agent ${it.agent}`]), left > 0 ? `, and ${grouped(left)} more` : "", "."] : null,
@@ -97,18 +99,20 @@ function readings(event) {
   ])));
 }
 
+// What the read of the step was answered for the location, where the run has that read.
+const readNode = (read, location) => read && valueNode(read.reply.values[read.read.indexOf(location)], 8);
 // What a fire names, each with the value there was at its number, the agent's own read, and the move that wrote it since.
 function grounds(event) {
   const { run } = shown, reads = ownReads(event);
   if (!event.named.length) return block("What it rests on", make("p", { class: "soft" }, "Nothing: the move names no read."));
-  return block("What it rests on", table(["Location", "As of", "Value then", "Since then"], event.named.map(it => {
+  return block("What it rests on", table(["Location", "As of", "Value read", "Since then"], event.named.map(it => {
     const { location, number } = it, since = run.writesSince(location, number, event), isThere = number <= event.before && run.isTold(number), read = ownRead(reads, it);
     const isUnput = isThere && !location.isPutIn(run.eventsTo(number));
     return [
       locationNode(location),
       [number && isThere ? button("link", `Go to move ${number}`, () => act.choose(run.eventsTo(number)), `move ${number}`) : number ? `move ${number}, ${number <= event.before ? "before the window" : "which is still to come"}` : "opening state",
         make("div", { class: "faint" }, ...read ? ["read in ", eventLink(read)] : [run.isTold(number) ? "not read" : "not read in the window"])],
-      isUnput ? span("unput", "nothing yet put") : isThere ? valueNode(run.valueAt(location, run.eventsTo(number)), 8) : "unknown",
+      readNode(read, location) ?? (isUnput ? span("unput", "nothing yet put") : isThere ? valueNode(run.valueAt(location, run.eventsTo(number)), 8) : "unknown"),
       since ? span("since", moveLink(since.first), " wrote it") : run.isTold(number) ? "not written" : "unknown",
     ];
   })));

@@ -58,6 +58,7 @@ export function relist(asked) {
   showHere();
   showKinds();
   showEvents();
+  act.draw();
 }
 const ask = change => act.list({ ...filter, ...change });
 function showKinds() {

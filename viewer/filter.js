@@ -9,7 +9,7 @@ import { elementText, firstFrom, keyOf, valueText, withoutIsolates } from "./ter
 export const LABELS = { all: "All events", fired: "Moves", read: "Reads", stale: "Stale fires", clash: "Clashes", full: "Full", wrong: "Wrong answers", doubt: "Events that don't agree with the trace", unput: "Moves that rest on what was not yet put" };
 const NONE = { kind: "all", agent: "all", place: null, cause: null, text: "" };
 export const filter = { ...NONE };
-let listed = null; // the numbers of the events in the list; null for all
+let listed = null, mask = null, version = 0; // the numbers of the events in the list, and for each event whether it is there; null for all
 let texts = null, textsOf = null; // what is searched of each event, and at which location
 const CAUSE = /^(Two|Mixed|Kind|Both|Against|Short|Large)$/;
 
@@ -36,7 +36,8 @@ export const listLength = () => listed ? listed.length : shown.run.events.length
 export const listItem = i => listed ? listed[i] : i;
 // The index in the list of the event, or of the next one that is there.
 export const listIndex = number => listed ? firstFrom(listed, number) : number;
-export const isListed = number => number >= 0 && listItem(listIndex(number)) === number;
+export const isListed = number => number >= 0 && (!mask || mask[number] === 1);
+export const listVersion = () => version;
 // The events of an ascending list that are listed, from this one on, or before it: the first of them.
 export function nextOf(list, number, by) {
   for (let i = by > 0 ? firstFrom(list, number + 1) : firstFrom(list, number) - 1; list[i] !== undefined; i += by) if (isListed(list[i])) return list[i];
@@ -82,6 +83,9 @@ function listEvents() {
     keep(it => hasAll(texts[it.number] ??= searchText(it, place), terms, it));
   }
   listed = list;
+  version++;
+  mask = list && new Uint8Array(run.events.length);
+  for (const it of list ?? []) mask[it] = 1;
 }
 // Whether the event is one of that location: where its kind tells one, it is that which it tells.
 function isAbout(event, place) {

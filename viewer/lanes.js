@@ -1,17 +1,23 @@
 // A lane for each agent over the events.
-import { madeStale } from "./chains.js";
-import { eventText } from "./event.js";
+import { chainOf, madeStale } from "./chains.js";
+import { isFiltered, isListed } from "./filter.js";
 import { $ } from "./nodes.js";
 import { isBad } from "./run.js";
-import { act, chosen, shown } from "./shown.js";
-import { AXIS, clamp, colors, Columns, GUTTER, lanesHigh, prepared, renewSight, seen, view, width, xOf, yOf, zoomAbout } from "./sight.js";
+import { chosen, shown } from "./shown.js";
+import { AXIS, AXIS_ROW, clamp, colors, Columns, DIM, drawShares, GUTTER, lanesHigh, prepared, renewSight, seen, view, xOf, yOf, zoomAbout } from "./sight.js";
 import { drawStretches, drawStrip } from "./strip.js";
 import { drawTrack } from "./track.js";
 import { firstFrom, grouped } from "./terms.js";
 
 // From this width of an event on each is drawn; below it several share a column, this wide.
-const ENOUGH = 6, COLUMN = 3, MOST_ARCS = 40;
+export const ENOUGH = 6;
+const COLUMN = 3, MOST_ARCS = 40;
 let hovered = -1;
+export function hover(number) {
+  if (number === hovered) return;
+  hovered = number;
+  draw();
+}
 
 const radius = () => Math.max(2.2, Math.min(view.scale / 2 - 1, view.lane / 2 - 3.5, 9));
 export function renewLanes() {
@@ -44,13 +50,19 @@ export function resized() {
 
 function drawLanes() {
   if ($("lanes-box").hidden) return;
-  const { run, mark } = shown, high = lanesHigh(), [pen, wide] = prepared($("lanes"), high);
+  const high = lanesHigh();
+  paintLanes(...prepared($("lanes"), high), high, $("lanes-box").scrollTop);
+}
+// Draws the lanes with a pen, of a canvas or of a picture that is kept; `top` is where the axis is.
+export function paintLanes(pen, wide, high, top) {
+  const { run, mark } = shown;
   const from = Math.max(0, Math.floor(view.from)), to = Math.min(run.events.length, Math.ceil(view.from + seen()) + 1);
   drawAgents(pen, wide);
   pen.save();
   pen.beginPath();
   pen.rect(GUTTER, 0, wide - GUTTER, high);
   pen.clip();
+  drawRange(pen, high);
   drawHolds(pen, from, to, high);
   if (hovered >= 0) drawColumn(pen, hovered, high, 0.55);
   if (mark !== null) drawMoment(pen, mark, high);
@@ -58,40 +70,33 @@ function drawLanes() {
     drawColumn(pen, shown.count - 1, high, 1);
     pen.fillStyle = colors.accent;
     pen.fillRect(xOf(shown.count - 1) - 0.75, AXIS - 6, 1.5, high);
+    drawChain(pen, chosen());
     for (const [from, to, isStale] of arcsOf(chosen())) drawArc(pen, from, to, isStale);
   }
   if (view.scale >= ENOUGH) drawEvents(pen, from, to);
   else drawDense(pen, from, to, Math.ceil(wide - GUTTER));
   pen.restore();
-  drawAxis(pen, from, to, wide);
+  drawAxis(pen, from, to, wide, top);
 }
 function drawAgents(pen, wide) {
   pen.font = `11.5px ${view.font}`;
   pen.textBaseline = "middle";
   pen.textAlign = "left";
-  const each = Math.ceil(14 / view.lane);
   for (let agent = 0; agent < shown.run.agents; agent++) {
     pen.fillStyle = colors.line;
     pen.fillRect(GUTTER, Math.round(yOf(agent)), wide - GUTTER, 1);
     pen.fillStyle = colors.soft;
-    if (agent % each === 0) pen.fillText(`agent ${agent}`, 12, yOf(agent));
+    pen.fillText(`agent ${agent}`, 12, yOf(agent));
   }
 }
-// The numbers of events, and where the chosen location is written; they stay at the top where the lanes are scrolled.
-function drawAxis(pen, from, to, wide) {
-  const top = $("lanes-box").scrollTop, { location, count } = shown;
+// The numbers of events and of moves, and where the chosen location is written; they stay at the top where the lanes are scrolled.
+function drawAxis(pen, from, to, wide, top) {
+  const { location, count } = shown;
   pen.fillStyle = colors.raised;
   pen.fillRect(0, top, wide, AXIS - 6);
-  let each = 1;
-  while (each * view.scale < 64) each *= String(each)[0] === "1" ? 5 : 2;
-  pen.textAlign = "center";
-  pen.fillStyle = colors.faint;
-  pen.font = `11px ${view.font}`;
-  for (let number = Math.ceil(from / each) * each; number < to; number += each) {
-    if (xOf(number) < GUTTER) continue;
-    pen.fillRect(xOf(number) - 0.5, top + AXIS - 6, 1, 4);
-    pen.fillText(grouped(shown.run.from + number), xOf(number), top + 9);
-  }
+  drawNumbers(pen, top, "event", from, to, it => it, it => grouped(shown.run.from + it));
+  const { moves, movesBefore } = shown.run, first = firstFrom(moves, from);
+  drawNumbers(pen, top + AXIS_ROW, "move", first, firstFrom(moves, to), it => moves[it], it => grouped(movesBefore + it + 1), movesBefore + 1);
   pen.fillStyle = colors.place;
   for (let i = location ? firstFrom(location.times, from) : 0; location?.times[i] < to; i++) {
     const x = xOf(location.times[i]);
@@ -99,6 +104,42 @@ function drawAxis(pen, from, to, wide) {
   }
   pen.fillStyle = colors.accent;
   if (count && xOf(count - 1) >= GUTTER) pen.fillRect(xOf(count - 1) - 0.75, top + AXIS - 6, 1.5, 6);
+}
+// A row of the axis: round numbers, as many as there is room for.
+function drawNumbers(pen, top, name, first, end, eventOf, textOf, offset = 0) {
+  pen.font = `11px ${view.font}`;
+  pen.textBaseline = "middle";
+  pen.textAlign = "left";
+  pen.fillStyle = colors.faint;
+  pen.fillText(name, 12, top + 8);
+  pen.textAlign = "center";
+  let each = 1;
+  while (end - first > 0 && each * (xOf(eventOf(end - 1)) - xOf(eventOf(first))) / (end - first) < 64 && each < end - first) each *= String(each)[0] === "1" ? 5 : 2;
+  for (let i = Math.ceil((first + offset) / each) * each - offset, last = -Infinity; i < end; i += each) {
+    const x = xOf(eventOf(i));
+    if (i < first || x < GUTTER || x - last < 48) continue;
+    pen.fillRect(x - 0.5, top + AXIS_ROW - 2, 1, 3);
+    pen.fillText(textOf(i), x, top + 8);
+    last = x;
+  }
+}
+// The range that is measured.
+function drawRange(pen, high) {
+  if (!shown.range) return;
+  const [from, to] = shown.range;
+  pen.globalAlpha = 0.14;
+  pen.fillStyle = colors.accent;
+  pen.fillRect(xOf(from - 0.5), 0, (to - from) * view.scale, high);
+  pen.globalAlpha = 1;
+}
+// The tries of the chosen fire, along its agent's lane.
+function drawChain(pen, event) {
+  const chain = chainOf(event);
+  if (!chain) return;
+  const y = yOf(event.agent), last = chain.at(-1);
+  pen.fillStyle = colors.stale;
+  pen.fillRect(xOf(chain[0].number), y - 1.5, xOf(last.number) - xOf(chain[0].number), 3);
+  for (const it of chain) pen.fillRect(xOf(it.number) - 1, y - view.lane / 2 + 1, 2, view.lane - 2);
 }
 function drawColumn(pen, number, high, alpha) {
   const wide = Math.max(view.scale, 3);
@@ -148,6 +189,7 @@ function drawEvents(pen, from, to) {
   const r = radius(), { run, location } = shown;
   for (let number = from; number < to; number++) {
     const event = run.events[number], x = xOf(number), y = yOf(event.agent);
+    pen.globalAlpha = isListed(number) ? 1 : DIM;
     if (event.kind === "fired") drawMove(pen, event, x, y, r);
     else drawMark(pen, event.kind, x, y, r);
     if (isBad(event)) ring(pen, x, y, r + 2.6, colors.wrong, 1.8);
@@ -159,6 +201,7 @@ function drawEvents(pen, from, to) {
       pen.stroke();
     }
   }
+  pen.globalAlpha = 1;
   if (!location) return;
   pen.fillStyle = colors.place;
   for (let i = firstFrom(location.times, from); location.times[i] < to; i++) {
@@ -172,17 +215,20 @@ function ring(pen, x, y, r, color, wide) {
   pen.arc(x, y, r, 0, 7);
   pen.stroke();
 }
-// The shares of what several events in a column did, lane by lane.
+// The shares of what several events in a column did, lane by lane; those that aren't listed are dim.
 function drawDense(pen, from, to, room) {
-  const { run } = shown, count = Math.ceil(room / COLUMN) + 1, columns = new Columns(count * run.agents), high = Math.max(2, view.lane - Math.min(6, view.lane / 4));
+  const { run } = shown, count = Math.ceil(room / COLUMN) + 1, all = new Columns(count * run.agents), listed = isFiltered() ? new Columns(count * run.agents) : all;
+  const high = Math.max(2, view.lane - Math.min(6, view.lane / 4));
   // columns begin at a whole number of their widths, so that they stay as they are when the view moves
   const shift = Math.floor(view.from * view.scale / COLUMN), apart = shift * COLUMN - view.from * view.scale;
   for (let number = from; number < to; number++) {
     const column = Math.floor((number + 0.5) * view.scale / COLUMN) - shift, event = run.events[number];
-    if (column >= 0 && column < count) columns.put(event.agent * count + column, event);
+    if (column < 0 || column >= count) continue;
+    all.put(event.agent * count + column, event);
+    if (listed !== all && isListed(number)) listed.put(event.agent * count + column, event);
   }
   const wide = view.scale >= COLUMN ? COLUMN - 0.5 : COLUMN;
-  for (let i = 0; i < count * run.agents; i++) columns.draw(pen, i, GUTTER + i % count * COLUMN + apart, yOf(Math.floor(i / count)) - high / 2, wide, high);
+  for (let i = 0; i < count * run.agents; i++) drawShares(pen, all, listed, i, GUTTER + i % count * COLUMN + apart, yOf(Math.floor(i / count)) - high / 2, wide, high);
 }
 // From the last writes of what the event read or rests on, from those that made it stale, and to what it made stale.
 function arcsOf(event) {
@@ -227,61 +273,3 @@ function drawMoment(pen, count, high) {
   pen.stroke();
   pen.setLineDash([]);
 }
-
-// ---- what a person does there
-function eventAt(pointer) {
-  const { run } = shown, box = $("lanes").getBoundingClientRect(), x = pointer.clientX - box.left - GUTTER;
-  if (x < 0) return -1;
-  const exact = view.from + x / view.scale, agent = Math.floor((pointer.clientY - box.top - AXIS) / view.lane);
-  let number = Math.floor(exact);
-  if (view.scale < ENOUGH && run.byAgent[agent]?.length) { // the nearest event of the lane, if it is near
-    const list = run.byAgent[agent], i = firstFrom(list, exact), apart = it => Math.abs(it + 0.5 - exact);
-    const near = [list[i - 1], list[i]].filter(it => it !== undefined).sort((a, b) => apart(a) - apart(b))[0];
-    if (apart(near) * view.scale < 6) number = near;
-  }
-  return number >= 0 && number < run.events.length ? number : -1;
-}
-$("lanes-box").addEventListener("scroll", draw, { passive: true });
-let drag = null;
-$("lanes").addEventListener("pointerdown", pointer => {
-  drag = { x: pointer.clientX, from: view.from, isMoved: false };
-  $("lanes").setPointerCapture(pointer.pointerId);
-});
-$("lanes").addEventListener("pointermove", pointer => {
-  if (drag) {
-    drag.isMoved ||= Math.abs(pointer.clientX - drag.x) > 4;
-    if (drag.isMoved) view.from = drag.from - (pointer.clientX - drag.x) / view.scale;
-    return resized();
-  }
-  const number = eventAt(pointer), tip = $("tip");
-  if (number !== hovered) {
-    hovered = number;
-    draw();
-  }
-  tip.hidden = number < 0;
-  if (number < 0) return;
-  tip.textContent = eventText(shown.run.events[number]);
-  tip.style.left = `${Math.max(4, Math.min(pointer.clientX + 14, innerWidth - tip.offsetWidth - 8))}px`;
-  tip.style.top = `${Math.min(pointer.clientY + 16, innerHeight - tip.offsetHeight - 8)}px`;
-});
-$("lanes").addEventListener("pointerup", pointer => {
-  const number = drag && !drag.isMoved ? eventAt(pointer) : -1;
-  drag = null;
-  if (number >= 0) act.choose(number + 1, { keepsView: true });
-});
-$("lanes").addEventListener("pointercancel", () => {
-  drag = null;
-});
-$("lanes").addEventListener("pointerleave", () => {
-  hovered = -1;
-  $("tip").hidden = true;
-  draw();
-});
-$("lanes").addEventListener("wheel", event => {
-  const isSideways = event.shiftKey || Math.abs(event.deltaX) > Math.abs(event.deltaY);
-  if (!isSideways && !event.ctrlKey && !event.altKey) return; // the page scrolls
-  event.preventDefault();
-  if (!isSideways) return zoom(Math.exp(-event.deltaY * 0.002), event.clientX - $("lanes").getBoundingClientRect().left);
-  view.from += (event.deltaX || event.deltaY) / view.scale;
-  resized();
-}, { passive: false });

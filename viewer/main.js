@@ -5,8 +5,10 @@ import { events, relist, renewEvents, showEvents, showHere } from "./events.js";
 import { draw, renewLanes, resized } from "./lanes.js";
 import { $, beginningText, make, runName, span } from "./nodes.js";
 import "./complete.js";
+import "./picture.js";
 import { openTrace } from "./opening.js";
 import { fitLanes } from "./room.js";
+import { showRange } from "./pointing.js";
 import { act, chosen, shown } from "./shown.js";
 import { reveal } from "./sight.js";
 import { renewState, revealPlace, showState, state } from "./state.js";
@@ -121,7 +123,7 @@ act.showRun = run => {
   const { name } = run;
   const start = isFirst ? addressed(run) : { count: 0, mark: null, at: null, condition: "", filter: {} };
   isFirst = false;
-  Object.assign(shown, { run, count: 0, location: null, mark: null, holds: [], onsets: [], onset: null, plot: null });
+  Object.assign(shown, { run, count: 0, location: null, mark: null, holds: [], onsets: [], onset: null, plot: null, range: null });
   $("busy").hidden = $("start").hidden = true;
   $("main").hidden = $("help-open").hidden = false;
   $("refused").hidden = true;
@@ -148,6 +150,7 @@ function goTo({ count, mark, at, condition, filter }) {
   Object.assign(shown, { count: within(count), mark: mark === null ? null : within(mark), location: run.locations.get(at) ?? null });
   renewWatch(condition);
   relist(filter);
+  showRange();
   reveal();
   showNow();
 }

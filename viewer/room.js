@@ -2,9 +2,9 @@
 import { draw } from "./lanes.js";
 import { $ } from "./nodes.js";
 import { shown } from "./shown.js";
-import { AXIS, reveal, setHeight } from "./sight.js";
+import { AXIS, LANES_REST, reveal, setHeight, USUAL_LANE } from "./sight.js";
 
-const LEAST_HIGH = AXIS + 24, MOST_HIGH = 640, STEP = 24, KEPT = "folugben-lanes";
+const LEAST_HIGH = AXIS + 24, MOST_HIGH = 640, STEP = 24, MOST_PART = 0.35, KEPT = "folugben-lanes";
 // What the person chose: a height, 0 where the lanes are folded; null is the usual height.
 let wanted = null, unfolded = null; // and what it is when they are unfolded
 try {
@@ -14,7 +14,8 @@ try {
   // some browsers keep nothing for a file
 }
 
-const usual = () => Math.max(LEAST_HIGH, Math.min(290, Math.round(innerHeight * 0.17)));
+// Each agent has a lane in which its name can be read, up to a part of the window.
+const usual = () => Math.max(LEAST_HIGH, Math.min(Math.round(innerHeight * MOST_PART), LANES_REST + Math.max(3, shown.run.agents) * USUAL_LANE));
 // Gives the lanes their height; true where it is another one than before.
 export function fitLanes() {
   const high = wanted ?? usual(), isFolded = high === 0, box = $("lanes-box"), before = `${box.hidden} ${box.style.maxHeight}`;

@@ -3,8 +3,9 @@ import { $ } from "./nodes.js";
 import { isBad, KINDS } from "./run.js";
 import { chosen, shown } from "./shown.js";
 
-export const GUTTER = 72, AXIS = 22;
-const MOST_SCALE = 72, LEAST_LANE = 6, MOST_LANE = 30;
+// The axis has a row of events and one of moves.
+export const GUTTER = 72, AXIS_ROW = 16, AXIS = 2 * AXIS_ROW + 6, USUAL_LANE = 18, LANES_REST = AXIS + 8;
+const MOST_SCALE = 72, MOST_LANE = 30;
 const COLORS = ["fired", "read", "stale", "clash", "full", "wrong", "ink", "soft", "faint", "line", "accent", "wash", "place", "holds", "on-accent", "raised"];
 export const colors = {};
 // The first event in sight, the width of an event, the height of a lane, and the version of the colors.
@@ -34,7 +35,7 @@ export function renewSight() {
 }
 // The lanes share that height as far as they can.
 export function setHeight(high) {
-  view.lane = Math.max(LEAST_LANE, Math.min(MOST_LANE, Math.floor((high - AXIS - 8) / Math.max(1, shown.run.agents))));
+  view.lane = Math.max(USUAL_LANE, Math.min(MOST_LANE, Math.floor((high - LANES_REST) / Math.max(1, shown.run.agents))));
   $("lanes").style.height = `${lanesHigh()}px`; // at once, so that the lanes can be scrolled to the chosen event
 }
 export const lanesHigh = () => AXIS + Math.max(1, shown.run.agents) * view.lane + 6;
@@ -82,6 +83,11 @@ export class Columns {
     this.counts[at + SLOT[event.kind]]++;
     if (isBad(event)) this.counts[at + WRONG]++;
   }
+  sum(column) {
+    let out = 0;
+    for (let i = 0; i < WRONG; i++) out += this.counts[column * (WRONG + 1) + i];
+    return out;
+  }
   // Draws the shares of the kinds upon each other; a small one is still seen.
   draw(pen, column, x, top, wide, high) {
     const at = column * (WRONG + 1);
@@ -103,4 +109,14 @@ export class Columns {
     pen.fillStyle = colors.wrong;
     pen.fillRect(x - 0.5, top - 2, Math.max(2, wide + 1), 4);
   }
+}
+export const DIM = 0.2;
+// Draws a column's shares: where only some of its events are listed these in full, and all of them dim.
+export function drawShares(pen, all, listed, column, x, top, wide, high) {
+  if (listed === all) return all.draw(pen, column, x, top, wide, high);
+  pen.globalAlpha = DIM;
+  all.draw(pen, column, x, top, wide, high);
+  pen.globalAlpha = 1;
+  const count = listed.sum(column), part = count ? Math.max(2, high * count / all.sum(column)) : 0;
+  if (count) listed.draw(pen, column, x, top + high - part, wide, part);
 }

@@ -4,6 +4,7 @@ import { isFiltered, listItem, listLength, nextListed, nextOf, ofKind } from "./
 import { fit, zoom } from "./lanes.js";
 import { $, runName } from "./nodes.js";
 import { isPlaying, play } from "./play.js";
+import { endRange } from "./pointing.js";
 import { foldLanes } from "./room.js";
 import { act, chosen, shown } from "./shown.js";
 import { firstFrom } from "./terms.js";
@@ -97,7 +98,8 @@ function find(id) {
   $(id).select();
 }
 function escape() {
-  if (shown.location) act.chooseLocation(null);
+  if (shown.range) endRange();
+  else if (shown.location) act.chooseLocation(null);
   else if (shown.mark !== null) act.mark(null);
 }
 const keys = {

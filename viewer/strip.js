@@ -1,33 +1,52 @@
 // The whole run in a strip: the shares of its answers, where the chosen location is written, and where the condition holds.
+import { isFiltered, isListed, listVersion } from "./filter.js";
 import { $, runName } from "./nodes.js";
 import { act, shown } from "./shown.js";
-import { clamp, colors, Columns, GUTTER, prepared, seen, view } from "./sight.js";
+import { clamp, colors, Columns, drawShares, GUTTER, prepared, seen, view } from "./sight.js";
 
-const STRIP = 28, STRIP_COLUMN = 3, MOST_WIDE = 9;
-let kept = null; // the picture of the shares, until the run, the size or the colors change
+export const STRIP = 28;
+const STRIP_COLUMN = 3, MOST_WIDE = 9;
+let kept = null; // the picture of the shares, until the run, the size, the list or the colors change
 const stripX = (number, wide) => GUTTER + number / Math.max(1, shown.run.events.length) * (wide - GUTTER);
 
-function picture(wide) {
-  const ratio = window.devicePixelRatio || 1, sign = `${wide} ${ratio} ${view.painted}`, { run } = shown;
-  if (kept?.run === run && kept.sign === sign) return kept.canvas;
-  const canvas = document.createElement("canvas"), pen = canvas.getContext("2d"), room = wide - GUTTER;
-  [canvas.width, canvas.height] = [Math.round(wide * ratio), Math.round(STRIP * ratio)];
-  pen.setTransform(ratio, 0, 0, ratio, 0, 0);
+function paintShares(pen, wide) {
+  const { run } = shown, room = wide - GUTTER, count = Math.max(1, Math.min(run.events.length, Math.floor(room / STRIP_COLUMN))), columns = new Columns(count), listed = isFiltered() ? new Columns(count) : columns, step = room / count;
   pen.font = `11.5px ${view.font}`;
   pen.textBaseline = "middle";
+  pen.textAlign = "left";
   pen.fillStyle = colors.soft;
   pen.fillText(`whole ${runName()}`, 12, STRIP / 2);
-  const count = Math.max(1, Math.min(run.events.length, Math.floor(room / STRIP_COLUMN))), columns = new Columns(count), step = room / count;
-  for (const event of run.events) columns.put(Math.floor(event.number * count / run.events.length), event);
-  for (let i = 0; i < count; i++) columns.draw(pen, i, GUTTER + i * step + (step > MOST_WIDE ? (step - MOST_WIDE) / 2 : 0), 5, Math.max(1, Math.min(MOST_WIDE, step - (step > 4 ? 1 : 0))), STRIP - 10);
+  for (const event of run.events) {
+    const column = Math.floor(event.number * count / run.events.length);
+    columns.put(column, event);
+    if (listed !== columns && isListed(event.number)) listed.put(column, event);
+  }
+  for (let i = 0; i < count; i++) drawShares(pen, columns, listed, i, GUTTER + i * step + (step > MOST_WIDE ? (step - MOST_WIDE) / 2 : 0), 5, Math.max(1, Math.min(MOST_WIDE, step - (step > 4 ? 1 : 0))), STRIP - 10);
+}
+function picture(wide) {
+  const ratio = window.devicePixelRatio || 1, sign = `${wide} ${ratio} ${view.painted} ${listVersion()}`, { run } = shown;
+  if (kept?.run === run && kept.sign === sign) return kept.canvas;
+  const canvas = document.createElement("canvas"), pen = canvas.getContext("2d");
+  [canvas.width, canvas.height] = [Math.round(wide * ratio), Math.round(STRIP * ratio)];
+  pen.setTransform(ratio, 0, 0, ratio, 0, 0);
+  paintShares(pen, wide);
   kept = { run, sign, canvas };
   return canvas;
 }
 export function drawStrip() {
-  const [pen, wide] = prepared($("strip"), STRIP), { run, location, count, mark, holds } = shown;
-  if (!run.events.length || wide <= GUTTER) return;
+  const [pen, wide] = prepared($("strip"), STRIP);
+  if (!shown.run.events.length || wide <= GUTTER) return;
   pen.drawImage(picture(wide), 0, 0, wide, STRIP);
-  const from = stripX(view.from, wide), to = stripX(Math.min(run.events.length, view.from + seen()), wide);
+  paintPlaces(pen, wide);
+}
+// Draws the strip with a pen of a picture that is kept.
+export function paintStrip(pen, wide) {
+  paintShares(pen, wide);
+  paintPlaces(pen, wide);
+}
+// What is in sight, where the condition holds and the location is written, the moment that is kept, and the chosen one.
+function paintPlaces(pen, wide) {
+  const { run, location, count, mark, holds } = shown, from = stripX(view.from, wide), to = stripX(Math.min(run.events.length, view.from + seen()), wide);
   pen.globalAlpha = 0.1;
   pen.fillStyle = colors.accent;
   pen.fillRect(from, 0, to - from, STRIP);

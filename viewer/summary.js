@@ -1,10 +1,10 @@
 // The summary of a run, beside its opening state: what to look at first, each line of which lists the events it counts.
-import { unputIn } from "./chains.js";
+import { chainsOf, unputIn } from "./chains.js";
 import { block } from "./event.js";
 import { ofKind } from "./filter.js";
 import { beginningText, button, glyph, make, span } from "./nodes.js";
 import { act, shown } from "./shown.js";
-import { grouped, keyOf, locationText } from "./terms.js";
+import { grouped, keyOf, locationText, plural } from "./terms.js";
 
 const MOST_LINES = 6;
 
@@ -15,7 +15,7 @@ export function openingNode() {
     make("p", { class: "soft" }, hasEvents
       ? ["This is what stood before the first event. Step on with ", make("kbd", {}, "→"), ", play with ", make("kbd", {}, "Space"), ", or press a line to list its events."]
       : run.part === null ? "No call was made in this run, so the opening state is all there is." : "The window has no event, so this state is all there is."),
-    hasEvents ? make("div", { class: "summary" }, shares(), ...blocksOf(run)) : null, facts(), hasEvents ? marksNode() : null);
+    hasEvents ? make("div", { class: "summary" }, shares(), longestChain(run), ...blocksOf(run)) : null, facts(), hasEvents ? marksNode() : null);
 }
 function facts() {
   const { run } = shown, place = run.part === null ? [] : [["Part", run.part], ["Events before", run.from], ["Moves before", run.movesBefore]];
@@ -29,6 +29,14 @@ function shares() {
   if (run.wrong.length) lines.push({ count: run.wrong.length, label: [glyph("read", true), " Wrong answers"], asked: { kind: "wrong" } });
   if (run.doubted.length) lines.push({ count: run.doubted.length, label: [glyph("read", true), " Doubtful"], asked: { kind: "doubt" } });
   return linesBlock("Answers", lines.filter(it => it.count), all);
+}
+
+// The fire that was tried most often.
+function longestChain(run) {
+  const { longest } = chainsOf(run);
+  if (!longest) return null;
+  const [first] = longest, last = longest.at(-1), end = last.kind === "fired" ? `fired in event ${last.ordinal}` : last.kind === "stale" ? "never fired" : `ended with ${last.kind} in event ${last.ordinal}`;
+  return block("Longest chain of tries", make("p", {}, button("link", "Go to its first try", () => act.choose(first.number + 1), `${plural(longest.length, "try", "tries")} of agent ${first.agent}`), ` from event ${first.ordinal} on, ${end}.`));
 }
 
 // ---- what is counted, once for each run

@@ -5,12 +5,13 @@ import { colors, GUTTER, prepared, seen, view, xOf } from "./sight.js";
 import { drawStretches } from "./strip.js";
 import { cut, firstFrom, grouped } from "./terms.js";
 
-const HIGH = 56, EDGE = 7;
+export const TRACK = 56;
+const EDGE = 7;
 let pointed = null; // the count of events below the pointer
 const numberAt = count => shown.plot.series[firstFrom(shown.plot.series, count + 1, it => it[0]) - 1]?.[1] ?? null;
 const yOfNumber = number => {
   const { least, most } = shown.plot;
-  return most === least ? HIGH / 2 : HIGH - EDGE - (number - least) / (most - least) * (HIGH - 2 * EDGE);
+  return most === least ? TRACK / 2 : TRACK - EDGE - (number - least) / (most - least) * (TRACK - 2 * EDGE);
 };
 const short = number => Math.abs(number) < 1e7 ? grouped(number) : number.toExponential(2);
 
@@ -18,13 +19,17 @@ export function drawTrack() {
   const { plot } = shown;
   $("track").hidden = !plot || $("lanes-box").hidden;
   if ($("track").hidden) return;
-  const [pen, wide] = prepared($("track"), HIGH), from = Math.max(0, Math.floor(view.from)), to = Math.min(shown.run.events.length, Math.ceil(view.from + seen()) + 1);
+  paintTrack(...prepared($("track"), TRACK));
+}
+// Draws the line with a pen, of a canvas or of a picture that is kept.
+export function paintTrack(pen, wide) {
+  const from = Math.max(0, Math.floor(view.from)), to = Math.min(shown.run.events.length, Math.ceil(view.from + seen()) + 1);
   pen.save();
   pen.beginPath();
-  pen.rect(GUTTER, 0, wide - GUTTER, HIGH);
+  pen.rect(GUTTER, 0, wide - GUTTER, TRACK);
   pen.clip();
   pen.globalAlpha = 0.22;
-  drawStretches(pen, shown.holds, it => it ? xOf(it - 1) : GUTTER, 0, HIGH, firstFrom(shown.holds, from, it => it[1]), firstFrom(shown.holds, to + 2, it => it[0]));
+  drawStretches(pen, shown.holds, it => it ? xOf(it - 1) : GUTTER, 0, TRACK, firstFrom(shown.holds, from, it => it[1]), firstFrom(shown.holds, to + 2, it => it[0]));
   pen.globalAlpha = 1;
   drawZero(pen, wide);
   drawLine(pen, from, to, wide);
@@ -57,7 +62,7 @@ function drawScale(pen) {
   pen.textAlign = "right";
   pen.fillStyle = colors.faint;
   pen.fillText(short(most), GUTTER - 6, EDGE);
-  if (most !== least) pen.fillText(short(least), GUTTER - 6, HIGH - EDGE);
+  if (most !== least) pen.fillText(short(least), GUTTER - 6, TRACK - EDGE);
   pen.textAlign = "left";
   pen.fillStyle = colors.soft;
   pen.fillText(text.length > 60 ? `${cut(text, 0, 60)}…` : text, GUTTER + 6, EDGE + 1);
@@ -67,7 +72,7 @@ function drawValue(pen, wide) {
   const count = pointed ?? shown.count, number = numberAt(count), x = count ? xOf(count - 1) : GUTTER;
   if (x < GUTTER || x > wide) return;
   pen.fillStyle = pointed === null ? colors.accent : colors.soft;
-  pen.fillRect(x - 0.5, 0, 1, HIGH);
+  pen.fillRect(x - 0.5, 0, 1, TRACK);
   if (number === null) return;
   const y = yOfNumber(number), told = grouped(number), isLeft = x > wide - 90;
   pen.beginPath();
@@ -76,7 +81,7 @@ function drawValue(pen, wide) {
   pen.textAlign = isLeft ? "right" : "left";
   pen.font = `600 11px ${view.font}`;
   pen.fillStyle = colors.ink;
-  pen.fillText(told, x + (isLeft ? -7 : 7), Math.min(HIGH - EDGE, Math.max(EDGE + (y < HIGH / 2 ? 13 : 0), y)));
+  pen.fillText(told, x + (isLeft ? -7 : 7), Math.min(TRACK - EDGE, Math.max(EDGE + (y < TRACK / 2 ? 13 : 0), y)));
 }
 
 const countAt = pointer => Math.max(0, Math.min(shown.run.events.length, Math.floor(view.from + (pointer.clientX - $("track").getBoundingClientRect().left - GUTTER) / view.scale) + 1));

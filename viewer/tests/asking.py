@@ -85,7 +85,7 @@ def try_conditions(tries: Tries, browser: Browser) -> None:
     states = moments(BUSY)
     changed = [it for it in range(1, len(states)) if states[it].get(RICE) != states[it - 1].get(RICE)]
     tries.same('stock("rice") changes where it does', browser.run("watch(arguments[0]); return shown.onsets.map(it => it.count)", 'stock("rice") changes'), changed)
-    for text, told in {'stock("rice" < 1': "is missing", "door <": "a value is missing", 'door < "a"': "a number has to stand behind <", "nosuch = 1": "no location of this run", "= 1": "choose a location", "door = 1 2": "the condition ends", "door ~ 1": "can't be read"}.items():
+    for text, told in {'stock("rice" < 1': "is missing", "door <": "a value or a location is missing", 'door < "a"': "a number has to stand behind <", "nosuch = 1": "no location of this run", "= 1": "choose a location", "door = 1 2": "the condition ends", "door ~ 1": "can't be read"}.items():
         browser.run("renewWatch(arguments[0]); showWatch()", text)
         tries.claim(f"what {text} lacks is said", told in browser.text("watch-told").lower() and browser.find("watch").get_attribute("aria-invalid") == "true", browser.text("watch-told"))
     browser.load(tries.trace("strange", strange()))
@@ -100,7 +100,7 @@ def try_condition_ways(tries: Tries, browser: Browser) -> None:
     browser.press("v")
     browser.press(f"open size = {size}", Keys.ENTER)
     tries.has("Enter goes to where it comes to hold", browser.title(), f"Event {starts[0] - 1} ")
-    tries.has("that is said", browser.text("watch-told"), "open becomes set of")
+    tries.has("that is said", browser.text("watch-told"), "open becomes {")
     browser.press(Keys.ENTER)
     tries.has("and on", browser.title(), f"Event {starts[1] - 1} ")
     browser.press(Keys.ENTER, shift=True)

@@ -20,8 +20,10 @@ def try_onsets(tries: Tries, browser: Browser) -> None:
     """A condition on several locations comes to hold at each of them for itself."""
     browser.load(tries.trace("busy", BUSY))
     places = [it for it in moments(BUSY)[0] if it.startswith('["stock"')]
-    wanted = sorted((since, place) for place in places for since, _ in stretches(BUSY, at(place, lambda it: it < 190)))
-    found = browser.run("renewWatch('stock(*) < 190'); return shown.onsets.map(it => [it.count, it.place.key])")
+    below = lambda most: sorted((since, place) for place in places for since, _ in stretches(BUSY, at(place, lambda it: it < most)))
+    most = next(it for it in range(150, 200) if len(below(it)) > 3)
+    wanted = below(most)
+    found = browser.run("renewWatch(arguments[0]); return shown.onsets.map(it => [it.count, it.place.key])", f"stock(*) < {most}")
     tries.same("the moments are those of each location", sorted(map(tuple, found)), wanted)
     browser.press(Keys.HOME)
     visited = []
