@@ -11,7 +11,7 @@ from ._lines import expect_state
 from ._log import Call, Log
 from ._storage import Storage, unopened
 
-_OWN = re.compile(rb'^\{"agent":0,', re.MULTILINE)
+_OWN, _HEADER = re.compile(rb'^\{"agent":0,', re.MULTILINE), re.compile(rb'\{"agents":\d+,')
 # A segment ends after so many calls for each of its moves, as stale ones are kept too.
 _CALLS = 2
 
@@ -63,12 +63,10 @@ class Era:
     def journal(self) -> bytes:
         """Close it and return its journal, with the agents' numbers of the log."""
         self.storage.give(self.applier)
-        journal = self.storage.close_journal()
-        if not self.agents:
-            return journal
         numbers = iter(self.agents)
-        renumbered = _OWN.sub(lambda _: b'{"agent":%d,' % next(numbers), journal)
-        return renumbered.replace(b'{"agents":1,', b'{"agents":%d,' % (max(self.agents) + 1), 1)
+        journal = _OWN.sub(lambda _: b'{"agent":%d,' % next(numbers), self.storage.close_journal())
+        # Agents that have only begun steps count there too.
+        return _HEADER.sub(b'{"agents":%d,' % (max(self.agents, default=-1) + 1), journal, 1)
 
 
 class Replica:

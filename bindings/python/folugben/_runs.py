@@ -9,6 +9,7 @@ from ._errors import Text
 from ._functions import trace
 from ._held import here
 from ._reading import texts
+from ._shared import SharedRun
 from ._texts import encoded
 
 if TYPE_CHECKING:
@@ -43,10 +44,10 @@ def _changed(old: Any, change: list[Any]) -> Any:
     return {"set": sorted(members.values(), key=_ordered)}
 
 
-def states(run: "Text | os.PathLike[str] | Run") -> Iterator[tuple[int, dict[str, Any]]]:
+def states(run: "Text | os.PathLike[str] | Run | SharedRun") -> Iterator[tuple[int, dict[str, Any]]]:
     """Yield the number and the values of each state of a run, the opening state first, as number 0.
 
-    The run is a journal, a stored run by a path that is no str, or a `Run`, of which it is what is saved. The values are those
+    The run is a journal, a stored run by a path that is no str, or a `Run` or a `SharedRun`, of which it is what is saved. The values are those
     of the locations that have one, by the location's JSON, such as '["count"]'. It is one dict, which each further move
     changes: copy what you keep.
 
@@ -55,7 +56,7 @@ def states(run: "Text | os.PathLike[str] | Run") -> Iterator[tuple[int, dict[str
     """
     if isinstance(run, (bytes, bytearray, memoryview, str)):
         return _states(run)
-    return _states_of(texts(run if isinstance(run, os.PathLike) else run.path))
+    return _states_of(texts(run if isinstance(run, os.PathLike) else run.target if isinstance(run, SharedRun) else run.path))
 
 
 def _states_of(journals: Iterator[bytes]) -> Iterator[tuple[int, dict[str, Any]]]:

@@ -77,7 +77,7 @@ class SharedStep(Step):
             raise Past(EMPTY, said="the segment of the run has ended, so begin another step")
         if answer.error is None:
             self._fired, self._is_fired = answer.fired - self._era.base, True
-            self._shared._won += 1
+            self._shared._won, self._shared._fired = self._shared._won + 1, answer.fired
             self.free()
             return self._fired
         self._is_tried = True
@@ -187,7 +187,7 @@ class SharedAgent:
     def __init__(self, run: SharedRun, own: int) -> None:
         self._run, self._worker, self._own = run, run._worker, own
         self._in: tuple[Era, Agent] | None = None
-        self._won, self._is_gone = 0, False
+        self._won, self._fired, self._is_gone = 0, 0, False
 
     def step(self) -> SharedStep:
         """Begin a step on the state of this process's replica."""
@@ -254,7 +254,7 @@ class SharedAgent:
     def seen(self) -> int:
         """How many moves of the run it has seen."""
         era, agent = self._now()
-        return era.base + agent.seen
+        return max(self._fired, era.base + agent.seen)
 
     def give(self) -> None:
         """Give it back; it may be called again."""

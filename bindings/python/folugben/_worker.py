@@ -14,6 +14,8 @@ from ._replica import Answer, Ended, Era, Replica
 
 # How often it looks for calls of other processes.
 _PAUSE = 0.01
+# How long it waits for further calls at most, a quarter of what a transaction takes otherwise.
+_MOMENT = 0.002
 # How long it tries to reach a server again.
 _PATIENCE = 60.0
 _workers: "weakref.WeakSet[Worker]" = weakref.WeakSet()
@@ -55,6 +57,8 @@ class Worker(Locked):
         # Calls that are to be appended; those that may be in the log, by their tokens.
         self._waiting: list[Waiter] = []
         self._sent: dict[bytes, Waiter] = {}
+        # How many calls are expected to come at once, as so many were answered last, and how long it waits for them.
+        self._expected, self._moment = 1, 0.0
         # How often all that is in the log was asked for, and applied.
         self._asked = self._applied = 0
         # The numbers of this process's agents.
@@ -84,7 +88,8 @@ class Worker(Locked):
         with self._lock:
             self.expect_going()
             self._waiting.append(waiter)
-            self._changed.notify_all()
+            if len(self._waiting) >= self._expected:
+                self._changed.notify_all()
         return waiter.wait()
 
     def follow(self) -> None:
@@ -150,11 +155,18 @@ class Worker(Locked):
 
     def _is_going(self) -> bool:
         with self._changed:
-            if not self._waiting and not self._is_closing and self._asked == self._applied:
+            if self._expected > 1 and not self._is_due():
+                self._changed.wait(self._moment)
+            self._expected = 1
+            if not self._is_due():
                 self._changed.wait(_PAUSE)
             return not self._is_closing or bool(self._waiting or self._sent)
 
+    def _is_due(self) -> bool:
+        return len(self._waiting) >= self._expected or self._is_closing or self._asked != self._applied
+
     def _turn(self) -> None:
+        begun = time.monotonic()
         with self._changed:
             batch, self._waiting = self._waiting[:BATCH], self._waiting[BATCH:]
             asked = self._asked
@@ -164,15 +176,18 @@ class Worker(Locked):
         except Behind:
             self._rejoin()
             return
+        self._moment, answered = min(_MOMENT, (time.monotonic() - begun) / 4), 0
         for place, call in placed:
             with self._changed:
                 answer, ended = self.replica.apply(place, call)
             if (waiter := self._sent.pop(call.token, None)) is not None:
                 waiter.end(answer)
+                answered += 1
             if ended is not None:
                 self._save(ended)
-        if len(placed) < READ:
-            with self._changed:
+        with self._changed:
+            self._expected = max(1, answered)
+            if len(placed) < READ:
                 self._applied = asked
                 self._changed.notify_all()
 

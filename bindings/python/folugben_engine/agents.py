@@ -7,12 +7,12 @@ from contextlib import suppress
 from threading import Event
 from typing import Any
 
-from folugben import Agent, Past, Run, Storage
+from folugben import Agent, Past, Run, SharedRun, Storage
 
 from .rules import Program
 
 
-def live(storage: Storage | Run, number: int, program: Program, stop: Event) -> None:
+def live(storage: Storage | Run | SharedRun, number: int, program: Program, stop: Event) -> None:
     rule, is_over = program
     with storage.agent(number) as agent:
         while not (stop.is_set() or is_over(agent)):
@@ -23,12 +23,15 @@ def live(storage: Storage | Run, number: int, program: Program, stop: Event) -> 
                     time.sleep(0.001)  # nothing to do until others have fired
 
 
-def live_all(storage: Storage | Run, programs: list[Program], seconds: float | None = None) -> None:
-    """Plays all programs until they are over, or for so many seconds. An error of one, as a clash, ends all and is raised."""
+def live_all(
+    storage: Storage | Run | SharedRun, programs: list[Program], seconds: float | None = None, first: int = 0
+) -> None:
+    """Plays all programs, by agents from a first number on, until they are over, or for so many seconds. An error of one, as a
+    clash, ends all and is raised."""
     stop = Event()
     with ThreadPoolExecutor(len(programs)) as pool:
         try:
-            lives = [pool.submit(live, storage, number, program, stop) for number, program in enumerate(programs)]
+            lives = [pool.submit(live, storage, number, program, stop) for number, program in enumerate(programs, first)]
             wait(lives, seconds, FIRST_EXCEPTION)
         finally:
             stop.set()

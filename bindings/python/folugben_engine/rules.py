@@ -8,7 +8,7 @@ from dataclasses import dataclass
 from functools import partial, reduce
 from typing import Any
 
-from folugben import Agent, RunAgent, Step, compose
+from folugben import Agent, RunAgent, SharedAgent, Step, compose
 
 Location = list[Any]
 Move = list[list[Any]]
@@ -105,4 +105,4 @@ def Forall(name: str, where: Callable[..., object], body: Callable[..., Rule]) -
 
 
 # A rule that is played in step after step, and what tells when its agent is done with it.
-Program = tuple[Rule, Callable[[Agent | RunAgent], bool]]
+Program = tuple[Rule, Callable[[Agent | RunAgent | SharedAgent], bool]]
