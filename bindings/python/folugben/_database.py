@@ -88,6 +88,15 @@ def is_database(path: str | os.PathLike[str]) -> bool:
         return False
 
 
+@contextlib.contextmanager
+def answering(database: Database) -> Iterator[None]:
+    """Raises a `ConnectionError` where the connection is lost."""
+    try:
+        yield
+    except database.lost as error:
+        raise ConnectionError(errno.ECONNREFUSED, f"the server doesn't answer: {error}") from error
+
+
 def _keep(connection: object) -> None:
     """Has an object never be finalized."""
     ctypes.pythonapi.Py_IncRef(ctypes.py_object(connection))
@@ -200,14 +209,12 @@ class Postgres:
         self._schema = schema or "folugben"
         driver = _driver()
         self.lost: tuple[type[Exception], ...] = driver.OperationalError, driver.InterfaceError
-        try:
+        with answering(self):
             self._db = driver.connect(server)
-        except driver.OperationalError as error:
-            raise ConnectionError(errno.ECONNREFUSED, f"the server doesn't answer: {error}", server) from None
-        self._db.autocommit = True
-        self._cursor = self._db.cursor()
-        self.run("select set_config('search_path', quote_ident(?), false), set_config('synchronous_commit', 'on', false)",
-                 (self._schema,))
+            self._db.autocommit = True
+            self._cursor = self._db.cursor()
+            self.run("select set_config('search_path', quote_ident(?), false), set_config('synchronous_commit', 'on', false)",
+                     (self._schema,))
 
     def run(self, sql: str, values: Sequence[Any] = ()) -> list[Any]:
         self._cursor.execute(sql.replace("?", "%s"), values)
@@ -233,7 +240,8 @@ class Postgres:
             raise
 
     def has_run(self) -> bool:
-        return self.run("select to_regclass(quote_ident(?) || '.run')", (self._schema,)) != [(None,)]
+        # What to_regclass tells may be kept from before a lock was waited for.
+        return self.run("select count(*) from pg_tables where schemaname = ? and tablename = 'run'", (self._schema,)) != [(0,)]
 
     def make(self) -> None:
         name = '"{}"'.format(self._schema.replace('"', '""'))

@@ -5,7 +5,7 @@ import zlib
 from collections.abc import Callable, Iterator
 from typing import NamedTuple
 
-from ._database import Database, connect
+from ._database import Database, answering, connect
 from ._errors import Damaged, Mismatch
 from ._folder import START, Segment, begun_digest
 
@@ -66,7 +66,8 @@ class Log:
         """
         log = cls(target, connect(target, makes=opening is not None))
         try:
-            log._join(opening, moves)
+            with answering(log.database):
+                log._join(opening, moves)
         except BaseException:
             log.database.close()
             raise

@@ -4,13 +4,18 @@ import secrets
 import threading
 import time
 import weakref
+from collections.abc import Callable
+from typing import TypeVar
 
 from ._agent import Agent
+from ._database import answering
 from ._errors import Broken, Error, Unknown
 from ._held import Locked
 from ._library import EMPTY
 from ._log import BATCH, READ, Behind, Call, Log, Placed
 from ._replica import Answer, Ended, Era, Replica
+
+_R = TypeVar("_R")
 
 # How often it looks for calls of other processes.
 _PAUSE = 0.01
@@ -49,7 +54,13 @@ class Worker(Locked):
     """Appends and applies. An answer is returned once its call is durable in the log, and applied."""
 
     def __init__(self, log: Log) -> None:
-        self._log, self.replica = log, Replica(log)
+        self._log = log
+        try:
+            with answering(log.database):
+                self.replica = Replica(log)
+        except BaseException:
+            log.close()
+            raise
         self._changed = threading.Condition(threading.RLock())
         self._locked_by(self._changed)
         # Who has one thread use the connection at a time.
@@ -122,8 +133,9 @@ class Worker(Locked):
     def hold(self, agent: int) -> bool:
         """Take an agent's number, unless another process has it."""
         with self._using:
-            is_held = self._log.database.hold(agent)
-            self._held |= {agent} if is_held else set()
+            is_held = self._reaching(lambda: self._log.database.hold(agent))
+            if is_held:
+                self._held.add(agent)
             return is_held
 
     def let(self, agent: int) -> None:
@@ -131,7 +143,7 @@ class Worker(Locked):
         with self._using:
             self._held.discard(agent)
             if not self._is_over:
-                self._log.database.let(agent)
+                self._reaching(lambda: self._log.database.let(agent))
 
     def close(self) -> None:
         """End it, once all calls that wait are answered."""
@@ -207,11 +219,15 @@ class Worker(Locked):
 
     def _save(self, ended: Ended) -> None:
         with self._using:
-            while True:
-                try:
-                    return self._log.save(*ended)
-                except self._log.database.lost as error:
-                    self._reconnect(error)
+            self._reaching(lambda: self._log.save(*ended))
+
+    def _reaching(self, work: Callable[[], _R]) -> _R:
+        """Does what may be done again, over a new connection where one is lost."""
+        while True:
+            try:
+                return work()
+            except self._log.database.lost as error:
+                self._reconnect(error)
 
     def _reconnect(self, error: Exception) -> None:
         """Connect again, and take the numbers of the agents again."""
@@ -233,7 +249,7 @@ class Worker(Locked):
     def _rejoin(self) -> None:
         """Goes on from the last segment, where the calls before it were dropped from the log."""
         with self._using:
-            replica = Replica(self._log)
+            replica = self._reaching(lambda: Replica(self._log))
         with self._changed:
             self.replica = replica
         for waiter in self._sent.values():

@@ -3,6 +3,7 @@ import json
 import random
 import sys
 import threading
+import time
 
 from folugben import SharedRun
 
@@ -34,7 +35,14 @@ def live(target, first, agents, times):
                 with lock:
                     print(json.dumps([number, mark]), flush=True)
 
-    with SharedRun(target, BANK, 50) as run:
+    def opened():
+        while True:
+            try:
+                return SharedRun(target, BANK, 50)
+            except ConnectionError:
+                time.sleep(0.1)  # the server is started again
+
+    with opened() as run:
         threads = [threading.Thread(target=work, args=(first + own,)) for own in range(agents)]
         for thread in threads:
             thread.start()
