@@ -44,32 +44,19 @@ fn raise<A: Aggregator + Sync + Drop>(
     Ok(matches!(reply, Reply::Fired(_)))
 }
 
-/// Both raise the count; the second one has to look again. Whether each fire is answered so.
-fn raise_in_turn<A: Aggregator + Sync + Drop>(
-    alloc: Global,
-    first: &mut Agent<'_, A>,
-    second: &mut Agent<'_, A>,
-) -> Result<bool, Fail>
-    ensures first { IsSameAgent first.old first.new }
-    ensures second { IsSameAgent second.old second.new }
-{
-    let one = look(alloc, first)?;
-    let other = look(alloc, second)?;
-    let is_fired = raise(alloc, first, one)?;
-    let is_stale = !raise(alloc, second, other)?;
-    let again = look(alloc, second)?;
-    Ok(is_fired && is_stale && raise(alloc, second, again)?)
-}
-
 #[test]
 fn a_stale_fire_is_read_and_fired_again(rt: HostRuntime) -> Result<(), Fail> {
     let alloc = rt.alloc();
     let storage = Storage::new(alloc, standard(), PlainState::new(alloc), 8)?;
-    let mut first = storage.agent_at(alloc, 0)?;
-    let mut second = storage.agent_at(alloc, 1)?;
-    assert!(rt; raise_in_turn(alloc, &mut first, &mut second)?);
+    let mut agents = storage.agents(alloc, 2)?;
 
-    let agents = [first, second];
+    let first = look(alloc, &mut agents[0])?;
+    let second = look(alloc, &mut agents[1])?;
+    assert!(rt; raise(alloc, &mut agents[0], first)?);
+    assert!(rt; !raise(alloc, &mut agents[1], second)?);
+    let again = look(alloc, &mut agents[1])?;
+    assert!(rt; raise(alloc, &mut agents[1], again)?);
+
     let history = storage.close(alloc, &agents)?;
     let legality = check(alloc, &standard(), &history)?;
     assert_eq!(rt; legality, Legality::Legal { calls: 6, moves: 2 });
