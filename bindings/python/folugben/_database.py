@@ -8,6 +8,7 @@ import os
 import pathlib
 import sqlite3
 import struct
+import time
 from collections.abc import Iterator, Sequence
 from typing import Any, Protocol
 
@@ -22,6 +23,10 @@ _SECONDS = 60.0
 _OFD_SETLK = 37
 
 
+# The calls behind a place.
+_SINCE = "select place, token, segment, agent, call, scans from call where place > ? order by place limit ?"
+
+
 class Database(Protocol):
     """A connection for one thread at a time; its statements have ? for each value."""
 
@@ -34,6 +39,10 @@ class Database(Protocol):
 
     def insert(self, table: str, rows: Sequence[Sequence[Any]], more: str = "") -> None:
         """Insert rows by as few statements as possible."""
+
+    def append(self, calls: Sequence[Sequence[Any]], since: int, most: int) -> list[Any]:
+        """Append calls to the log, but those whose token is there; return up to so many rows behind a place, once all is on the
+        disk."""
 
     def transaction(self) -> contextlib.AbstractContextManager[None]:
         """Run what is done within as one transaction, alone, that is on the disk at the end."""
@@ -79,7 +88,7 @@ def is_server(target: object) -> bool:
 def is_database(path: str | os.PathLike[str]) -> bool:
     """Whether a file is one of SQLite. Only SQLite opens it: another close in this process would drop SQLite's locks."""
     try:
-        connection = sqlite3.connect(f"{pathlib.Path(path).resolve().as_uri()}?mode=ro", uri=True)
+        connection = sqlite3.connect(f"{pathlib.Path(path).resolve().as_uri()}?mode=rw", uri=True)
         try:
             return bool(connection.execute("pragma application_id").fetchone() == (_APPLICATION,))
         finally:
@@ -89,12 +98,14 @@ def is_database(path: str | os.PathLike[str]) -> bool:
 
 
 @contextlib.contextmanager
-def answering(database: Database) -> Iterator[None]:
-    """Raises a `ConnectionError` where the connection is lost."""
+def reaching(database: Database) -> Iterator[None]:
+    """Raises a `ConnectionError` where the connection is lost, and an `OSError` or `Damaged` for a file that is no good."""
     try:
         yield
     except database.lost as error:
         raise ConnectionError(errno.ECONNREFUSED, f"the server doesn't answer: {error}") from error
+    except sqlite3.Error as error:
+        raise _as_os_error(error) from error
 
 
 def _keep(connection: object) -> None:
@@ -115,15 +126,13 @@ class Sqlite:
                 os.close(os.open(path, os.O_RDWR | os.O_CREAT | os.O_EXCL | os.O_CLOEXEC, 0o600))
                 sync_folder(path.parent)
         self._file = os.stat(path)
-        try:
+        with reaching(self):
             self._db = self._connected()
             if self.has_run() or makes:
-                self._db.execute("pragma journal_mode = wal")
+                self._set_log()
             self._db.execute("pragma synchronous = full")
             if not writes:
                 self._db.execute("pragma query_only = on")
-        except sqlite3.Error as error:
-            raise _as_os_error(error, path) from error
         if writes:
             flags = os.O_RDWR | os.O_CREAT | os.O_CLOEXEC | os.O_NOFOLLOW
             self._agents = os.open(path.with_name(path.name + "-agents"), flags, 0o600)
@@ -132,12 +141,32 @@ class Sqlite:
         uri = f"{self._path.as_uri()}?mode=rw"
         return sqlite3.connect(uri, _SECONDS, isolation_level=None, check_same_thread=False, uri=True)
 
+    def _set_log(self) -> None:
+        """Has it write ahead; SQLite doesn't wait for another process that is about to do so too."""
+        end = time.monotonic() + _SECONDS
+        while True:
+            try:
+                self._db.execute("pragma journal_mode = wal")
+                return
+            except sqlite3.OperationalError as error:
+                if error.sqlite_errorcode & 0xFF != sqlite3.SQLITE_BUSY or time.monotonic() > end:
+                    raise
+                time.sleep(0.01)
+
     def run(self, sql: str, values: Sequence[Any] = ()) -> list[Any]:
         return self._db.execute(sql, values).fetchall()
 
     def insert(self, table: str, rows: Sequence[Sequence[Any]], more: str = "") -> None:
         places = ", ".join("?" * len(rows[0]))
         self._db.executemany(f"insert into {table} values ({places}) {more}", rows)
+
+    def append(self, calls: Sequence[Sequence[Any]], since: int, most: int) -> list[Any]:
+        if not calls:
+            return self.run(_SINCE, (since, most))
+        with self.transaction():
+            ((last,),) = self.run("select coalesce(max(place), 0) from call")
+            self.insert("call", [(last + at, *call) for at, call in enumerate(calls, 1)], "on conflict (token) do nothing")
+            return self.run(_SINCE, (since, most))
 
     @contextlib.contextmanager
     def transaction(self) -> Iterator[None]:
@@ -190,13 +219,14 @@ class Sqlite:
             self._agents = -1
 
 
-def _as_os_error(error: sqlite3.Error, path: pathlib.Path) -> OSError | Damaged:
+def _as_os_error(error: sqlite3.Error) -> OSError | Damaged:
     """The error of a file that SQLite can't open or write."""
     code = getattr(error, "sqlite_errorcode", 0) & 0xFF
-    if code == sqlite3.SQLITE_NOTADB:
-        return Damaged(0, f"{path} is no database")
-    number = {sqlite3.SQLITE_FULL: errno.ENOSPC, sqlite3.SQLITE_READONLY: errno.EROFS, sqlite3.SQLITE_PERM: errno.EACCES}
-    return OSError(number.get(code, errno.EIO), f"SQLite: {error}", str(path))
+    if code in (sqlite3.SQLITE_NOTADB, sqlite3.SQLITE_CORRUPT):
+        return Damaged(0, str(error))
+    number = {sqlite3.SQLITE_FULL: errno.ENOSPC, sqlite3.SQLITE_READONLY: errno.EROFS, sqlite3.SQLITE_PERM: errno.EACCES,
+              sqlite3.SQLITE_BUSY: errno.EBUSY, sqlite3.SQLITE_CANTOPEN: errno.EACCES}
+    return OSError(number.get(code, errno.EIO), f"SQLite: {error}")
 
 
 class Postgres:
@@ -209,15 +239,19 @@ class Postgres:
         self._schema = schema or "folugben"
         driver = _driver()
         self.lost: tuple[type[Exception], ...] = driver.OperationalError, driver.InterfaceError
-        with answering(self):
+        with reaching(self):
             self._db = driver.connect(server)
             self._db.autocommit = True
-            self._cursor = self._db.cursor()
+            # In psycopg 3 this one takes several statements at once, as those of psycopg 2 do.
+            self._cursor = driver.ClientCursor(self._db) if hasattr(driver, "ClientCursor") else self._db.cursor()
             self.run("select set_config('search_path', quote_ident(?), false), set_config('synchronous_commit', 'on', false)",
                      (self._schema,))
 
     def run(self, sql: str, values: Sequence[Any] = ()) -> list[Any]:
         self._cursor.execute(sql.replace("?", "%s"), values)
+        # psycopg 3 is at the first result then, psycopg 2 at the last.
+        while hasattr(self._cursor, "pgresult") and self._cursor.nextset():
+            pass
         return list(self._cursor.fetchall()) if self._cursor.description else []
 
     def insert(self, table: str, rows: Sequence[Sequence[Any]], more: str = "") -> None:
@@ -225,6 +259,22 @@ class Postgres:
         for at in range(0, len(rows), 500):
             some = rows[at : at + 500]
             self.run(f"insert into {table} values {', '.join([places] * len(some))} {more}", [it for row in some for it in row])
+
+    def append(self, calls: Sequence[Sequence[Any]], since: int, most: int) -> list[Any]:
+        if not calls:
+            return self.run(_SINCE, (since, most))
+        # All is sent at once, as a round trip may take longer than a flush. The rows are read behind the commit.
+        rows = ", ".join(["(?, ?, ?, ?, ?, ?)"] * len(calls))
+        values = [it for at, call in enumerate(calls, 1) for it in (at, *call)]
+        sql = f"""begin; select pg_advisory_xact_lock(hashtext('folugben'), hashtext(?));
+            insert into call select (select coalesce(max(place), 0) from call) + own.at, token, segment, agent, call, scans
+            from (values {rows}) as own(at, token, segment, agent, call, scans) on conflict (token) do nothing; commit; {_SINCE}"""
+        try:
+            return self.run(sql, (self._schema, *values, since, most))
+        except BaseException:
+            with contextlib.suppress(*self.lost):
+                self.run("rollback")
+            raise
 
     @contextlib.contextmanager
     def transaction(self) -> Iterator[None]:

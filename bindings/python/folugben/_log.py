@@ -5,7 +5,7 @@ import zlib
 from collections.abc import Callable, Iterator
 from typing import NamedTuple
 
-from ._database import Database, answering, connect
+from ._database import Database, connect, reaching
 from ._errors import Damaged, Mismatch
 from ._folder import START, Segment, begun_digest
 
@@ -66,7 +66,7 @@ class Log:
         """
         log = cls(target, connect(target, makes=opening is not None))
         try:
-            with answering(log.database):
+            with reaching(log.database):
                 log._join(opening, moves)
         except BaseException:
             log.database.close()
@@ -124,18 +124,7 @@ class Log:
         Raises:
             Behind: the log doesn't have the next one any more.
         """
-        if not calls:
-            return self._since(applied)
-        with self.database.transaction():
-            (last,) = self.database.run("select coalesce(max(place), 0) from call")[0]
-            rows = [(last + 1 + at, *call) for at, call in enumerate(calls)]
-            self.database.insert("call", rows, "on conflict (token) do nothing")
-            found = self._since(applied)
-        return found
-
-    def _since(self, applied: int) -> list[Placed]:
-        sql = "select place, token, segment, agent, call, scans from call where place > ? order by place limit ?"
-        found = [Placed(row[0], Call(bytes(row[1]), *row[2:])) for row in self.database.run(sql, (applied, READ))]
+        found = [Placed(row[0], Call(bytes(row[1]), *row[2:])) for row in self.database.append(calls, applied, READ)]
         # Of calls that were appended twice the later place stays empty.
         if found and found[0].place > applied + 1:
             self._expect_not_behind(applied)

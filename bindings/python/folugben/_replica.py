@@ -4,9 +4,9 @@ from typing import NamedTuple
 
 from ._agent import AGENTS, Agent
 from ._auditor import Auditor
-from ._errors import Clash, Error, Many, Stale, TooLong, expect, expect_read
+from ._errors import Error, Many, TooLong, expect, expect_read
 from ._folder import Segment
-from ._library import MANY, STATE, Buffer, lib
+from ._library import CLASH, DONE, MANY, MEMORY, STALE, STATE, Buffer, lib, quick
 from ._lines import expect_state
 from ._log import Call, Log
 from ._storage import Storage, unopened
@@ -16,8 +16,13 @@ _OWN, _HEADER = re.compile(rb'^\{"agent":0,', re.MULTILINE), re.compile(rb'\{"ag
 _CALLS = 2
 
 
+# As calls of a log are short and many, they keep the interpreter's lock, but for long ones.
+_fire_at_once, _LONG = quick.asm_try_fire_over, 1 << 16
+_fire_at_once.argtypes = lib.asm_try_fire_over.argtypes
+
+
 class Answer(NamedTuple):
-    """The answer to a call: the number of its move, or the error that it was answered with."""
+    """The answer to a call of this process: the number of its move, or the error that it was answered with."""
 
     fired: int
     error: Error | None
@@ -84,30 +89,30 @@ class Replica:
         self.era = Era(state, self.segment.number + 1, self.segment.end, self._moves)
         self._fired = 0
 
-    def apply(self, place: int, call: Call) -> tuple[Answer | None, Ended | None]:
-        """Fire the call at the next place. Return its answer, None where its segment had ended, and what it has ended."""
+    def apply(self, place: int, call: Call, is_own: bool = False) -> tuple[Answer | None, Ended | None]:
+        """Fire the call at the next place.
+
+        Return its answer where it is this process's own and its segment hadn't ended, and what it has ended.
+        """
         era, answer = self.era, None
         if call.segment == era.number:
-            answer = self._fire(era, call)
+            answer = self._fire(era, call, is_own)
         self.applied = place
         if self._fired < self._moves and len(era.agents) < _CALLS * self._moves:
             return answer, None
         return answer, self._end(era, place)
 
-    def _fire(self, era: Era, call: Call) -> Answer:
-        while True:
-            try:
-                fired = era.applier._fire(call.call.encode(), call.scans.encode())
-                self._fired = fired
-                answer = Answer(era.base + fired, None)
-            except MemoryError:
-                continue
-            except Error as error:
-                answer = Answer(0, error)
-                if not isinstance(error, (Stale, Clash)):
-                    return answer  # of which there is no receipt
+    def _fire(self, era: Era, call: Call, is_own: bool) -> Answer | None:
+        text, scans, numbers = call.call.encode(), call.scans.encode(), era.applier._numbers
+        fire = _fire_at_once if len(text) < _LONG else lib.asm_try_fire_over
+        while (code := fire(era.applier._slot, text, len(text), scans, len(scans), numbers)) == MEMORY:
+            pass
+        if code in (DONE, STALE, CLASH):
             era.agents.append(call.agent)
-            return answer
+        if code == DONE:
+            self._fired = numbers.fired
+            return Answer(era.base + numbers.fired, None) if is_own else None
+        return Answer(0, _error(era.applier, code, text, scans)) if is_own else None
 
     def _end(self, era: Era, place: int) -> Ended:
         state = self.state_text()[1]
@@ -125,6 +130,15 @@ class Replica:
         code, text = Buffer().text(lib.asm_state, era.applier._slot, era.applier._number)
         expect(code)
         return era.base + number, text
+
+
+def _error(applier: Agent, code: int, text: bytes, scans: bytes) -> Error:
+    """The error of a code of a fire."""
+    try:
+        applier._fired(code, applier._numbers, text, scans)
+    except Error as error:
+        return error
+    return Error(code)
 
 
 def rest(log: Log, last: Segment) -> list[bytes]:

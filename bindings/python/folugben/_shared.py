@@ -6,8 +6,8 @@ from types import TracebackType
 from typing import Any, NoReturn, Self, TypeVar, overload
 
 from ._agent import Agent, back_off, own_number
-from ._errors import Error, Past, expect
-from ._held import is_in_call, one_call
+from ._errors import Broken, Error, Past, expect
+from ._held import Forked, is_in_call, one_call
 from ._library import CLASH, EMPTY, NUMBER, STALE, lib
 from ._lines import expect_call, expect_state
 from ._location import Location
@@ -84,6 +84,11 @@ class SharedStep(Step):
         if answer.error.code in vain:
             return 0
         raise answer.error
+
+    def _expect_on(self, code: int) -> None:
+        if code == EMPTY and self._slot.full and not self._agent._slot.full and not self._shared._is_gone:
+            raise Past(EMPTY, said="the agent has gone on to another segment, so begin another step")
+        super()._expect_on(code)
 
     @one_call
     def _call(self) -> tuple[bytes, bytes]:
@@ -168,7 +173,11 @@ class SharedRun:
         return self
 
     def __exit__(self, kind: type[BaseException] | None, error: BaseException | None, traced: TracebackType | None) -> None:
-        self.close()
+        try:
+            self.close()
+        except (Broken, Forked):
+            if error is None:
+                raise
 
     def __repr__(self) -> str:
         return f"<SharedRun {self._target!r}>"

@@ -4,11 +4,11 @@ import secrets
 import threading
 import time
 import weakref
-from collections.abc import Callable
+from collections.abc import Callable, Iterable
 from typing import TypeVar
 
 from ._agent import Agent
-from ._database import answering
+from ._database import reaching
 from ._errors import Broken, Error, Unknown
 from ._held import Locked
 from ._library import EMPTY
@@ -36,15 +36,17 @@ class Waiter:
         self.call, self.is_sent = call, False
         self.answer: Answer | None = None
         self.fault: BaseException | None = None
-        self._done = threading.Event()
+        # It is released when all is known.
+        self._done = threading.Lock()
+        self._done.acquire()
 
     def end(self, answer: Answer | None, fault: BaseException | None = None) -> None:
         self.answer, self.fault = answer, fault
-        self._done.set()
+        self._done.release()
 
     def wait(self) -> Answer | None:
         """Return the answer, None where its segment had ended before its place."""
-        self._done.wait()
+        self._done.acquire()
         if self.fault is not None:
             raise self.fault
         return self.answer
@@ -56,7 +58,7 @@ class Worker(Locked):
     def __init__(self, log: Log) -> None:
         self._log = log
         try:
-            with answering(log.database):
+            with reaching(log.database):
                 self.replica = Replica(log)
         except BaseException:
             log.close()
@@ -188,20 +190,31 @@ class Worker(Locked):
         except Behind:
             self._rejoin()
             return
-        self._moment, answered = min(_MOMENT, (time.monotonic() - begun) / 4), 0
-        for place, call in placed:
+        self._moment, answered = min(_MOMENT, (time.monotonic() - begun) / 4), list[tuple[Waiter, Answer | None]]()
+        try:
+            self._apply(placed, answered)
+        finally:
             with self._changed:
-                answer, ended = self.replica.apply(place, call)
-            if (waiter := self._sent.pop(call.token, None)) is not None:
+                self._expected = max(1, len(answered))
+            # Agents are woken when all is done, as they would only hinder that.
+            for waiter, answer in answered:
                 waiter.end(answer)
-                answered += 1
-            if ended is not None:
-                self._save(ended)
-        with self._changed:
-            self._expected = max(1, answered)
-            if len(placed) < READ:
+        if len(placed) < READ:
+            with self._changed:
                 self._applied = asked
                 self._changed.notify_all()
+
+    def _apply(self, placed: list[Placed], answered: list[tuple[Waiter, Answer | None]]) -> None:
+        """Apply calls to the replica, and note the answers to those of this process."""
+        for place, call in placed:
+            waiter = self._sent.get(call.token)
+            with self._changed:
+                answer, ended = self.replica.apply(place, call, waiter is not None)
+            if waiter is not None:
+                del self._sent[call.token]
+                answered.append((waiter, answer))
+            if ended is not None:
+                self._save(ended)
 
     def _exchange(self, batch: list[Waiter]) -> list[Placed]:
         with self._using:
@@ -252,10 +265,12 @@ class Worker(Locked):
             replica = self._reaching(lambda: Replica(self._log))
         with self._changed:
             self.replica = replica
-        for waiter in self._sent.values():
-            # What was sent just now was rolled back.
-            waiter.end(None, Unknown() if waiter.is_sent else None)
-        self._sent = {}
+        # What was sent just now is behind that. Of what was sent before, the answer may have been dropped with the call.
+        for waiter in list(self._sent.values()):
+            if waiter.is_sent:
+                del self._sent[waiter.call.token]
+                waiter.end(None, Unknown())
+        _note_sent(self._sent.values())
 
     def _end(self) -> None:
         with self._changed:
@@ -270,7 +285,7 @@ class Worker(Locked):
         _workers.discard(self)
 
 
-def _note_sent(waiters: list[Waiter]) -> None:
+def _note_sent(waiters: Iterable[Waiter]) -> None:
     for waiter in waiters:
         waiter.is_sent = True
 

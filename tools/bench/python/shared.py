@@ -1,0 +1,70 @@
+"""Moves of a SharedRun beside a bare loop of transactions in the same database, for 1, 4 and 16 agents that wait at once.
+
+usage: shared.py TARGET [SECONDS]
+
+TARGET is a new file of SQLite, or postgresql://.. with a new schema. The bare loop inserts as many rows of the size of a call in each
+transaction as there are agents. Each side has so many seconds (2) in each of three rounds, in turn.
+"""
+import contextlib
+import secrets
+import sys
+import threading
+import time
+from pathlib import Path
+
+sys.path.insert(0, str(Path(__file__).resolve().parents[3] / "bindings" / "python"))
+from folugben import Location, SharedRun, audit  # noqa: E402
+from folugben._database import connect  # noqa: E402
+
+ROUNDS, CALL = 3, '{"fire":[["put",["own",10],1000]],"reads":[[["own",10],1000]]}'
+
+
+def bare(database, size, seconds):
+    """How many rows a second are inserted, so many by each transaction."""
+    count, end = 0, time.perf_counter() + seconds
+    while time.perf_counter() < end:
+        database.run("begin")
+        rows = [(count + at, secrets.token_bytes(16), 1, 10, CALL, "[]") for at in range(size)]
+        database.insert("bare", rows)
+        database.run("commit")
+        count += size
+    database.run("delete from bare")
+    return count / seconds
+
+
+def shared(run, agents, seconds):
+    """How many moves a second the agents fire, each at a location of its own."""
+    counts, end = [0] * agents, time.perf_counter() + seconds
+
+    def work(own):
+        at = Location(["own", own])
+
+        def rule(step):
+            step.push([["put", ["own", own], (step.get(at) or 0) + 1]])
+
+        with run.agent(own) as agent:
+            while time.perf_counter() < end:
+                agent.play(rule)
+                counts[own] += 1
+
+    threads = [threading.Thread(target=work, args=(own,)) for own in range(agents)]
+    for thread in threads:
+        thread.start()
+    for thread in threads:
+        thread.join()
+    return sum(counts) / seconds
+
+
+def main(target, seconds=2.0):
+    with SharedRun(target, init=[]) as run, contextlib.closing(connect(target)) as database:
+        blob = database.blob
+        database.run(f"create table if not exists bare(place bigint primary key, token {blob} not null unique, segment bigint, "
+                     "agent integer, call text, scans text)")
+        for agents in 1, 4, 16:
+            rates = [(bare(database, agents, seconds), shared(run, agents, seconds)) for _ in range(ROUNDS)]
+            most, reached = (sum(it) / ROUNDS for it in zip(*rates))
+            print(f"{agents:2} agents: {reached:,.0f} moves a second, bare {most:,.0f}, ratio {reached / most:.2f}", flush=True)
+    print(audit(target))
+
+
+main(sys.argv[1], *map(float, sys.argv[2:]))
