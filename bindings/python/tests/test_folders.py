@@ -159,16 +159,17 @@ class Folders(Rooms):
         return checked, leftovers
 
 
-class Page(Rooms):
-    def test_the_page_does_what_it_shows(self):
-        """Each sample of the page in turn, in one folder, with what it prints and writes."""
-        page = (ROOT / "docs" / "RUNS.md").read_text()
-        names, out = {}, io.StringIO()
+class Pages(Rooms):
+    """Each sample of a page in turn, in one folder, with what it prints and writes."""
+
+    def samples(self, name):
+        page = (ROOT / "docs" / name).read_text()
+        names, out, count = {}, io.StringIO(), 0
         was = os.getcwd()
         self.addCleanup(os.chdir, was)
         os.chdir(self.room)
-        samples = re.findall(r"```python\n([\s\S]*?)```|^    \$ (.*)\n((?:    [^$\n].*\n)*)", page, re.MULTILINE)
-        for code, command, printed in samples:
+        for code, command, printed in re.findall(r"```python\n([\s\S]*?)```|^    \$ (.*)\n((?:    [^$\n].*\n)*)", page, re.MULTILINE):
+            count += 1
             if code:
                 with contextlib.redirect_stdout(out):
                     exec(code, names)
@@ -179,8 +180,13 @@ class Page(Rooms):
             calls = re.compile(r"legal \d+")
             self.assertEqual(calls.sub("legal", told.stdout), calls.sub("legal", printed.replace("    ", "")), command)
             self.assertEqual((told.returncode, told.stderr), (0, ""), command)
-        self.assertEqual(out.getvalue(), "20000 moves on the disk\n20001\n")
-        self.assertEqual(len(samples), 5)
+        return count, out.getvalue()
+
+    def test_the_page_of_runs_does_what_it_shows(self):
+        self.assertEqual(self.samples("RUNS.md"), (5, "20000 moves on the disk\n20001\n"))
+
+    def test_the_page_of_shared_runs_does_what_it_shows(self):
+        self.assertEqual(self.samples("SHARED.md"), (4, "1 bank.db\n"))
 
 
 if __name__ == "__main__":
