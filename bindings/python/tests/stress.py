@@ -1,9 +1,11 @@
 """Runs that are stressed for longer than a test may take.
 
-usage: stress.py threads SECONDS | kills N | failures N | flips N
+usage: stress.py threads SECONDS | kills N | failures N | flips N | processes N | servers N
 
 `threads` has 4 agents in threads raise one number, in parts of 200 moves; `kills` kills a process so often and resumes its run;
-`failures` resumes from so many states that a power failure may leave; `flips` alters so many bits and lengths of files.
+`failures` resumes from so many states that a power failure may leave; `flips` alters so many bits and lengths of files. `processes`
+has 8 processes of 4 agents on a shared run over SQLite, of which it kills so many; `servers` does so over PostgreSQL, and kills and
+starts the server after about each third.
 """
 import pathlib
 import sys
@@ -15,6 +17,7 @@ from folugben import Run, audit  # noqa: E402
 from rooms import INIT, raised  # noqa: E402
 from test_damage import Folders, PowerFailures  # noqa: E402
 from test_folders import Folders as Killed  # noqa: E402
+from test_shared import OnPostgres, OnSqlite  # noqa: E402
 from threads import in_threads  # noqa: E402
 
 
@@ -46,10 +49,20 @@ def tried(case, name, method, times):
         it.doCleanups()
 
 
+def servers(kills):
+    OnPostgres.setUpClass()
+    try:
+        return tried(OnPostgres, "test_processes_that_are_killed", "kill_many", kills)
+    finally:
+        OnPostgres.tearDownClass()
+
+
 WORKS = {
     "threads": threads,
     "kills": lambda times: tried(Killed, "test_what_is_killed_is_resumed", "assert_resumed", times),
     "failures": lambda times: tried(PowerFailures, "test_nothing_is_lost", "fail", times),
+    "processes": lambda kills: tried(OnSqlite, "test_processes_that_are_killed", "kill_many", kills),
+    "servers": servers,
     "flips": lambda times: tried(Folders, "test_flipped_bits_and_cut_files_are_found", "flip", times),
 }
 

@@ -279,7 +279,13 @@ class Plays(Shared):
     def test_processes_that_are_killed(self):
         self.kill(3, 2, 4, 6)
 
-    def kill(self, processes, agents, times, kills, disturb=None):
+    # What else is done now and then.
+    disturb = None
+
+    def kill_many(self, kills):
+        return self.kill(8, 4, 20, kills)
+
+    def kill(self, processes, agents, times, kills):
         """Has so many processes go on with one run, of which some are killed; nothing that was answered is lost or done twice."""
         rng, told = random.Random(), []
 
@@ -291,8 +297,8 @@ class Plays(Shared):
         alive = [start(place) for place in range(processes)]
         while kills:
             time.sleep(rng.random() * 0.4)
-            if disturb is not None and rng.random() < 0.3:
-                disturb()
+            if self.disturb is not None and rng.random() < 0.3:
+                self.disturb()
             place = rng.randrange(processes)
             alive[place].send_signal(signal.SIGKILL)
             told += alive[place].communicate()[0].splitlines()
@@ -301,7 +307,7 @@ class Plays(Shared):
         for child in alive:
             told += child.communicate(timeout=300)[0].splitlines()
             self.assertEqual(child.returncode, 0)
-        self.assert_kept([json.loads(line) for line in told if line.endswith("]")])
+        return self.assert_kept([json.loads(line) for line in told if line.endswith("]")])
 
     def assert_kept(self, told):
         """Each answered move is in the run once, with its number, and each state has the sum."""
@@ -422,7 +428,12 @@ class OnPostgres(Plays):
         self.assert_is_run(120)
 
     def test_a_server_that_is_killed_and_started(self):
-        self.kill(2, 2, 10, 3, self.restart)
+        self.disturb = self.restart
+        self.kill(2, 2, 10, 3)
+
+    def kill_many(self, kills):
+        self.disturb = self.restart
+        return super().kill_many(kills)
 
     def restart(self):
         self.server.stop()
