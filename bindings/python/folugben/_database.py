@@ -27,12 +27,15 @@ _OFD_SETLK = 37
 _SINCE = "select place, token, segment, agent, call, scans from call where place > ? order by place limit ?"
 
 
-class Database(Protocol):
-    """A connection for one thread at a time; its statements have ? for each value."""
+class Lost(Exception):
+    """The connection to a server is lost; whether what was sent is done isn't known."""
 
-    # The type of bytes, and the errors after which a new connection may do.
+
+class Database(Protocol):
+    """A connection for one thread at a time; its statements have ? for each value. Each call raises `Lost` where it is lost."""
+
+    # The type of bytes.
     blob: str
-    lost: tuple[type[Exception], ...]
 
     def run(self, sql: str, values: Sequence[Any] = ()) -> list[Any]:
         """Run one statement and return its rows."""
@@ -98,11 +101,11 @@ def is_database(path: str | os.PathLike[str]) -> bool:
 
 
 @contextlib.contextmanager
-def reaching(database: Database) -> Iterator[None]:
+def reaching() -> Iterator[None]:
     """Raises a `ConnectionError` where the connection is lost, and an `OSError` or `Damaged` for a file that is no good."""
     try:
         yield
-    except database.lost as error:
+    except Lost as error:
         raise ConnectionError(errno.ECONNREFUSED, f"the server doesn't answer: {error}") from error
     except sqlite3.Error as error:
         raise _as_os_error(error) from error
@@ -117,7 +120,6 @@ class Sqlite:
     """A file, with a write-ahead log that is flushed at the end of each transaction. Beside it is one for agents' numbers."""
 
     blob = "blob"
-    lost: tuple[type[Exception], ...] = ()
 
     def __init__(self, path: pathlib.Path, writes: bool, makes: bool) -> None:
         self._path, self._agents = path, -1
@@ -126,7 +128,7 @@ class Sqlite:
                 os.close(os.open(path, os.O_RDWR | os.O_CREAT | os.O_EXCL | os.O_CLOEXEC, 0o600))
                 sync_folder(path.parent)
         self._file = os.stat(path)
-        with reaching(self):
+        with reaching():
             self._db = self._connected()
             if self.has_run() or makes:
                 self._set_log()
@@ -237,10 +239,12 @@ class Postgres:
     def __init__(self, target: str) -> None:
         server, _, schema = target.partition("#")
         self._schema = schema or "folugben"
-        driver = _driver()
-        self.lost: tuple[type[Exception], ...] = driver.OperationalError, driver.InterfaceError
-        with reaching(self):
-            self._db = driver.connect(server)
+        self._driver = driver = _driver()
+        with reaching():
+            try:
+                self._db = driver.connect(server)
+            except driver.OperationalError as error:
+                raise Lost(str(error)) from error
             self._db.autocommit = True
             # In psycopg 3 this one takes several statements at once, as those of psycopg 2 do.
             self._cursor = driver.ClientCursor(self._db) if hasattr(driver, "ClientCursor") else self._db.cursor()
@@ -248,11 +252,17 @@ class Postgres:
                      (self._schema,))
 
     def run(self, sql: str, values: Sequence[Any] = ()) -> list[Any]:
-        self._cursor.execute(sql.replace("?", "%s"), values)
-        # psycopg 3 is at the first result then, psycopg 2 at the last.
-        while hasattr(self._cursor, "pgresult") and self._cursor.nextset():
-            pass
-        return list(self._cursor.fetchall()) if self._cursor.description else []
+        try:
+            self._cursor.execute(sql.replace("?", "%s"), values)
+            # psycopg 3 is at the first result then, psycopg 2 at the last.
+            while hasattr(self._cursor, "pgresult") and self._cursor.nextset():
+                pass
+            return list(self._cursor.fetchall()) if self._cursor.description else []
+        except self._driver.Error as error:
+            # psycopg 2 has no class of its own for a server that is gone.
+            if self._db.closed or isinstance(error, (self._driver.OperationalError, self._driver.InterfaceError)):
+                raise Lost(str(error)) from error
+            raise
 
     def insert(self, table: str, rows: Sequence[Sequence[Any]], more: str = "") -> None:
         places = f"({', '.join('?' * len(rows[0]))})"
@@ -272,7 +282,7 @@ class Postgres:
         try:
             return self.run(sql, (self._schema, *values, since, most))
         except BaseException:
-            with contextlib.suppress(*self.lost):
+            with contextlib.suppress(Lost):
                 self.run("rollback")
             raise
 
@@ -285,7 +295,7 @@ class Postgres:
             yield
             self.run("commit")
         except BaseException:
-            with contextlib.suppress(*self.lost):
+            with contextlib.suppress(Lost):
                 self.run("rollback")
             raise
 
@@ -305,7 +315,7 @@ class Postgres:
         self.run("select pg_advisory_unlock(hashtext('folugben agent ' || ?), ?)", (self._schema, agent))
 
     def close(self) -> None:
-        with contextlib.suppress(*self.lost):
+        with contextlib.suppress(self._driver.Error):
             self._db.close()
 
     def leave(self) -> None:

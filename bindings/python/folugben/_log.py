@@ -66,7 +66,7 @@ class Log:
         """
         log = cls(target, connect(target, makes=opening is not None))
         try:
-            with reaching(log.database):
+            with reaching():
                 log._join(opening, moves)
         except BaseException:
             log.database.close()

@@ -8,7 +8,7 @@ from collections.abc import Callable, Iterable
 from typing import TypeVar
 
 from ._agent import Agent
-from ._database import reaching
+from ._database import Lost, reaching
 from ._errors import Broken, Error, Unknown
 from ._held import Locked
 from ._library import EMPTY
@@ -58,7 +58,7 @@ class Worker(Locked):
     def __init__(self, log: Log) -> None:
         self._log = log
         try:
-            with reaching(log.database):
+            with reaching():
                 self.replica = Replica(log)
         except BaseException:
             log.close()
@@ -221,7 +221,7 @@ class Worker(Locked):
             while True:
                 try:
                     placed = self._log.exchange([waiter.call for waiter in batch], self.replica.applied)
-                except self._log.database.lost as error:
+                except Lost as error:
                     _note_sent(batch)
                     self._reconnect(error)
                     # Those that are in the log stay there once.
@@ -239,7 +239,7 @@ class Worker(Locked):
         while True:
             try:
                 return work()
-            except self._log.database.lost as error:
+            except Lost as error:
                 self._reconnect(error)
 
     def _reconnect(self, error: Exception) -> None:
@@ -251,9 +251,7 @@ class Worker(Locked):
                 if not all(map(self._log.database.hold, self._held)):
                     raise Error(EMPTY, said="another process has taken an agent's number while the server was away")
                 return
-            except Exception as again:
-                if not isinstance(again, (ConnectionError, *self._log.database.lost)):
-                    raise
+            except (ConnectionError, Lost):
                 if time.monotonic() > end:
                     raise error from None
                 time.sleep(pause)
