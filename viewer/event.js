@@ -27,10 +27,10 @@ export function eventNode(event) {
 
 export const block = (title, ...children) => make("section", { class: "block" }, make("h3", {}, title), ...children);
 const printedLeft = count => count > MOST_PRINTED ? make("p", { class: "soft printed" }, `and ${grouped(count - MOST_PRINTED)} more`) : null;
-function table(heads, rows) {
+function table(name, heads, rows) {
   const shownRows = rows.slice(0, MOST_ROWS).map((cells, n) => make("tr", { class: n < MOST_PRINTED ? null : "far" }, cells.map((it, i) => make("td", { class: i ? null : "at" }, it))));
   return [
-    make("table", {}, make("thead", {}, make("tr", {}, heads.map(it => make("th", { scope: "col" }, it)))), make("tbody", {}, shownRows)),
+    make("table", { "aria-label": name }, make("thead", {}, make("tr", {}, heads.map(it => make("th", { scope: "col" }, it)))), make("tbody", {}, shownRows)),
     rows.length > MOST_ROWS ? make("p", { class: "soft far" }, `and ${grouped(rows.length - MOST_ROWS)} more`) : null,
     printedLeft(rows.length),
   ];
@@ -84,14 +84,14 @@ function chain(event) {
 
 function changes(event) {
   if (!event.writes.length) return block("What it changed", make("p", { class: "soft" }, event.fire.length ? "Nothing: the move clashes." : "Nothing: the move has no instruction."));
-  return block("What it changed", table(["Location", "Old → new"], event.writes.map(it => [locationNode(it.location), changeNode(it, MOST_ITEMS)])));
+  return block("What it changed", table("What it changed", ["Location", "Old → new"], event.writes.map(it => [locationNode(it.location), changeNode(it, MOST_ITEMS)])));
 }
 
 function readings(event) {
   if (!event.read.length) return block("What was read", make("p", { class: "soft" }, "No location."));
   const { run } = shown, value = (answer, i) => valueNode(answer.values[i], MOST_ITEMS);
   const heads = event.isWrong ? ["Location", "In the journal", "Right", "Last written by"] : ["Location", "Value", "Last written by"];
-  return block("What was read", table(heads, event.read.map((location, i) => [
+  return block("What was read", table("What was read", heads, event.read.map((location, i) => [
     locationNode(location),
     ...(isOther(event, i) ? [span("told", apartNode(event.reply.values[i], event.right.values[i])), apartNode(event.right.values[i], event.reply.values[i])]
       : event.isWrong ? [value(event.reply, i), "the same"] : [value(event.reply, i)]),
@@ -105,7 +105,7 @@ const readNode = (read, location) => read && valueNode(read.reply.values[read.re
 function grounds(event) {
   const { run } = shown, reads = ownReads(event);
   if (!event.named.length) return block("What it rests on", make("p", { class: "soft" }, "Nothing: the move names no read."));
-  return block("What it rests on", table(["Location", "As of", "Value read", "Since then"], event.named.map(it => {
+  return block("What it rests on", table("What it rests on", ["Location", "As of", "Value read", "Since then"], event.named.map(it => {
     const { location, number } = it, since = run.writesSince(location, number, event), isThere = number <= event.before && run.isTold(number), read = ownRead(reads, it);
     const isUnput = isThere && !location.isPutIn(run.eventsTo(number));
     return [

@@ -75,7 +75,7 @@ function showKinds() {
   const place = run.locations.get(filter.place);
   $("kinds").replaceChildren(...Object.keys(LABELS).filter(isThere).map(kind => {
     const title = `${LABELS[kind]}: ${grouped(countOf(kind))}`;
-    return chip("", title, filter.kind === kind, press(kind), kind === "all" ? "All" : kind === "wrong" ? "Wrong" : kind === "doubt" ? "Doubtful" : kind === "unput" ? "On nothing put" : glyph(kind), make("b", {}, grouped(countOf(kind))));
+    return chip("", title, filter.kind === kind, press(kind), kind === "all" ? "All" : kind === "wrong" ? "Wrong" : kind === "doubt" ? "Doubtful" : kind === "unput" ? "On nothing put" : [glyph(kind), span("word-of", LABELS[kind])], make("b", {}, grouped(countOf(kind))));
   }), filter.cause ? off(filter.cause, { cause: null }) : "", place ? off(place.label, { place: null }) : "");
 }
 // The chosen location, to the values of which the search can be limited.

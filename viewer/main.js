@@ -2,11 +2,13 @@
 import { addressed, beforeChange, changed, onAddress } from "./address.js";
 import { eventNode, eventText } from "./event.js";
 import { events, relist, renewEvents, showEvents, showHere } from "./events.js";
+import { filter } from "./filter.js";
 import { draw, renewLanes, resized } from "./lanes.js";
 import { $, beginningText, make, runName, span } from "./nodes.js";
 import "./complete.js";
 import "./picture.js";
 import { openTrace } from "./opening.js";
+import { goesOn, tellGrowth, whereItWas } from "./beside.js";
 import { fitLanes } from "./room.js";
 import { showRange } from "./pointing.js";
 import { act, chosen, shown } from "./shown.js";
@@ -16,7 +18,7 @@ import { showSteps } from "./steps.js";
 import { marksNode, openingNode } from "./summary.js";
 import { grouped, plural } from "./terms.js";
 import { paint } from "./theme.js";
-import { followLocation, renewWatch, showWatch } from "./watch.js";
+import { conditionText, followLocation, renewWatch, showWatch } from "./watch.js";
 import { renewWrites, showWrites, writes } from "./writes.js";
 
 // ---- choosing
@@ -120,12 +122,13 @@ act.speak = text => {
 // ---- another run
 let isFirst = true;
 act.showRun = run => {
-  const { name } = run;
+  const { name } = run, old = shown.run, isGrown = old !== null && goesOn(run, old), was = isGrown ? whereItWas(old) : null;
   const start = isFirst ? addressed(run) : { count: 0, mark: null, at: null, condition: "", filter: {} };
   isFirst = false;
   Object.assign(shown, { run, count: 0, location: null, mark: null, holds: [], onsets: [], onset: null, plot: null, range: null });
   $("busy").hidden = $("start").hidden = true;
-  $("main").hidden = $("help-open").hidden = false;
+  $("main").hidden = $("help-open").hidden = $("link").hidden = $("beside-open").hidden = false;
+  $("beside").hidden = true;
   $("refused").hidden = true;
   $("name").textContent = name;
   document.title = `${name} – Folugben`;
@@ -141,9 +144,17 @@ act.showRun = run => {
   renewWrites();
   fitLanes();
   renewLanes();
-  goTo(start);
+  if (isGrown) goOn(was, old);
+  else goTo(start);
   changed(false, true);
 };
+// A run that goes on is shown where it was.
+function goOn({ count, mark, at, range }, old) {
+  goTo({ count, mark, at, condition: conditionText(), filter: { ...filter } });
+  shown.range = range;
+  showRange();
+  tellGrowth(shown.run, old);
+}
 // Shows what an address tells.
 function goTo({ count, mark, at, condition, filter }) {
   const { run } = shown;
@@ -156,9 +167,9 @@ function goTo({ count, mark, at, condition, filter }) {
 }
 onAddress(goTo);
 function showFacts() {
-  const { run } = shown, fact = (number, one, many) => span("fact", make("b", {}, grouped(number)), ` ${number === 1 ? one : many ?? `${one}s`}`);
+  const { run } = shown, fact = (number, one, title) => make("span", { class: "fact", title }, make("b", {}, grouped(number)), ` ${number === 1 ? one : `${one}s`}`);
   const place = run.part === null ? "" : span("fact", `part ${grouped(run.part)} from event ${grouped(run.from)} on`);
-  $("facts").replaceChildren(place, fact(run.agents, "agent"), fact(run.events.length, "event"), fact(run.moves.length, "move"), fact(run.sorted.length, "location"), ...verdict(run));
+  $("facts").replaceChildren(place, fact(run.agents, "agent", "Agents that call the storage, counted from 0"), fact(run.events.length, "event", "Answered calls: reads and fires, in the order of their answers"), fact(run.moves.length, "move", "Fires that were fired, and so changed the state"), fact(run.sorted.length, "location", "Locations that the run reads, writes or begins with"), ...verdict(run));
 }
 // Whether the run is legal, and who has checked that; the page has checked every trace.
 const CHECKERS = ["asm_driver", "libfolugben"];

@@ -205,10 +205,15 @@ export class Run {
   }
 }
 
+// The bytes of a file, which gzip may have made smaller.
+async function bytesOf(file) {
+  const [first, second] = new Uint8Array(await file.slice(0, 2).arrayBuffer());
+  return first === 0x1f && second === 0x8b ? file.stream().pipeThrough(new DecompressionStream("gzip")) : file.stream();
+}
 // Reads a trace from a text or a file, line by line and in turns, so that the page stays alive.
 export async function readRun(source, progress) {
   const reading = new Lines(), isText = typeof source === "string";
-  const reader = isText ? null : source.stream().getReader(), decoder = new TextDecoder("utf-8", { fatal: true });
+  const reader = isText ? null : (await bytesOf(source)).getReader(), decoder = new TextDecoder("utf-8", { fatal: true });
   let done = 0, since = performance.now();
   for (;;) {
     const from = done, part = isText ? { done: from >= source.length, value: source.slice(from, from + 2 ** 20) } : await reader.read();
@@ -225,7 +230,7 @@ export async function readRun(source, progress) {
     for (const line of reading.of(text)) {
       reading.take(line);
       if (performance.now() - since < 30) continue;
-      progress(done / (isText ? source.length : source.size));
+      progress(Math.min(0.99, done / (isText ? source.length : source.size)));
       await new Promise(go => setTimeout(go));
       since = performance.now();
     }
@@ -233,6 +238,8 @@ export async function readRun(source, progress) {
   return reading.finish();
 }
 
+// No line of a trace is longer: one event of a journal has at most 16 MiB, and its trace tells each value at most twice more.
+const MOST_LINE = 2 ** 27;
 class Lines {
   constructor() {
     this.rest = "";
@@ -243,6 +250,7 @@ class Lines {
   of(text) {
     const lines = (this.rest + text).split("\n");
     this.rest = lines.pop();
+    if (this.rest.length > MOST_LINE) throw new Fault("This is no trace: one of its lines has no end.");
     return lines;
   }
   take(line) {

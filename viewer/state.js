@@ -43,7 +43,8 @@ function differenceAt(location) {
   if (!items) return { location, old, value };
   return { location, items, isBag: "bag" in value, size: (value.set ?? value.bag).length, index: location.indexBefore(to) };
 }
-const momentText = count => count ? `Event ${shown.run.events[count - 1].ordinal}` : beginningText();
+const moveAt = count => count ? shown.run.events[count - 1].move : null;
+const momentText = count => moveAt(count) ? `Move ${moveAt(count)}` : count ? `Event ${shown.run.events[count - 1].ordinal}` : beginningText();
 $("state-compare").addEventListener("click", () => act.mark(isComparing() ? null : shown.count));
 
 function stateRow(i) {
@@ -64,7 +65,7 @@ export const state = new List($("state"), ROW, {
 });
 function titleText() {
   const { count, run } = shown, moves = run.movesIn(count);
-  if (isComparing()) return `${momentText(ends()[0])} → ${momentText(ends()[1])}`;
+  if (isComparing()) return ends().every(moveAt) ? `Move ${moveAt(ends()[0])} → ${moveAt(ends()[1])}` : `${momentText(ends()[0])} → ${momentText(ends()[1])}`;
   return !count ? beginningText() : moves ? `After move ${moves}` : "Before any move";
 }
 export function showState() {

@@ -1,0 +1,88 @@
+// Another run beside the one that is shown: whether it goes on with it, where they part, and what their states differ in there.
+import { Fault } from "./exact.js";
+import { eventLink, eventText } from "./event.js";
+import { $, button, make, span, valueNode } from "./nodes.js";
+import { readRun } from "./run.js";
+import { act, shown } from "./shown.js";
+import { grouped, isSame, plainText, plural, withoutIsolates } from "./terms.js";
+
+const MOST_APART_PLACES = 8;
+const askedOf = event => event.read ? event.read.map(it => it.at) : [event.fire, event.named.map(it => [it.location.at, it.number])];
+const isSameEvent = (a, b) => a.agent === b.agent && !a.read === !b.read && isSame(a.reply, b.reply) && isSame(askedOf(a), askedOf(b));
+const openingOf = run => run.sorted.filter(it => it.opening !== null).map(it => [it.at, it.opening]);
+// Whether both begin in one state, at one place of a part.
+const isSameBeginning = (a, b) => a.part === b.part && a.from === b.from && isSame(openingOf(a), openingOf(b));
+// The number of the first event in which two runs differ, where one may have no more.
+function firstApart(a, b) {
+  const least = Math.min(a.events.length, b.events.length);
+  let i = 0;
+  while (i < least && isSameEvent(a.events[i], b.events[i])) i++;
+  return i;
+}
+// Whether a run is another one that goes on.
+export const goesOn = (run, old) => run.agents >= old.agents && isSameBeginning(run, old) && run.events.length >= old.events.length && firstApart(run, old) === old.events.length;
+
+const valueIn = (run, key, count) => run.locations.has(key) ? run.valueAt(run.locations.get(key), count) : null;
+// The locations that hold another value after so many events of each.
+function placesApart(a, b, countA, countB) {
+  const keys = new Set([...a.sorted, ...b.sorted].map(it => it.key));
+  return [...keys].filter(key => !isSame(valueIn(a, key, countA), valueIn(b, key, countB)));
+}
+// The first number of moves, from one on, after which the states differ, and where; null where they differ nowhere.
+function firstStates(a, b, from) {
+  const last = Math.max(a.movesIn(a.events.length), b.movesIn(b.events.length)), most = Math.min(a.movesIn(a.events.length), b.movesIn(b.events.length));
+  for (let move = from; move <= most; move++) {
+    const writes = move > from || from > 0 ? [a, b].flatMap(it => it.events[it.eventsTo(move) - 1]?.writes ?? []) : [];
+    const keys = move === from ? placesApart(a, b, a.eventsTo(move), b.eventsTo(move)) : [...new Set(writes.map(it => it.location.key))].filter(key => !isSame(valueIn(a, key, a.eventsTo(move)), valueIn(b, key, b.eventsTo(move))));
+    if (keys.length) return { move, keys };
+  }
+  return last > most ? { move: most + 1, keys: placesApart(a, b, a.eventsTo(most + 1), b.eventsTo(most + 1)) } : null;
+}
+
+// ---- what is told
+function partingNodes(other, name) {
+  const { run } = shown, at = firstApart(run, other), isSameStart = isSameBeginning(run, other);
+  if (isSameStart && at === run.events.length && at === other.events.length) return [`${name} is the same run: all ${plural(at, "event")} are the same.`];
+  const states = firstStates(run, other, isSameStart ? run.movesIn(at) : run.movesBefore), here = run.events[at], there = other.events[at];
+  const eventWords = event => withoutIsolates(eventText(event)).replace(/^Event [\d,]+, /, "");
+  return [
+    isSameStart ? `${name} parts from this run at event ${grouped(run.from + at)}, after ${plural(run.movesIn(at), "move")}.` : `${name} begins in another state.`,
+    span("", make("b", {}, "Here: "), here ? [eventLink(here, eventWords(here)), "."] : "no more event."), span("", make("b", {}, "There: "), there ? `${eventWords(there)}.` : "no more event."),
+    states && states.keys.length ? span("", `The states differ first after move ${grouped(states.move)}, at ${plural(states.keys.length, "location")}.`) : "The states differ nowhere.",
+    states && states.keys.length ? placesNode(other, states) : null,
+  ];
+}
+function placesNode(other, { move, keys }) {
+  const { run } = shown, rows = keys.slice(0, MOST_APART_PLACES).map(key => {
+    const place = run.locations.get(key) ?? other.locations.get(key), value = it => valueNode(valueIn(it, key, it.eventsTo(move)), 6);
+    return make("tr", {}, make("td", { class: "at" }, span("location", place.label)), make("td", {}, value(run)), make("td", {}, value(other)));
+  });
+  const heads = ["Location", "Here", "There"].map(it => make("th", { scope: "col" }, it));
+  return [make("table", { "aria-label": "What the states differ in" }, make("thead", {}, make("tr", {}, heads)), make("tbody", {}, rows)), keys.length > MOST_APART_PLACES ? make("p", { class: "soft" }, `and ${grouped(keys.length - MOST_APART_PLACES)} more`) : null];
+}
+async function openBeside(file) {
+  const name = plainText(file.name), close = button("button small", "Show this run alone", () => {
+    $("beside").hidden = true;
+  }, "Close");
+  const show = nodes => $("beside").replaceChildren(...nodes.flat().filter(it => it !== null), close);
+  $("beside").hidden = false;
+  show([`Reading ${name} …`]);
+  try {
+    const other = await readRun(file, () => {});
+    show(partingNodes(other, name));
+  } catch (fault) {
+    show([`${name} could not be compared. ${fault instanceof Fault ? fault.message : plainText(fault.message)}`]);
+  }
+}
+$("beside-open").addEventListener("click", () => $("beside-file").click());
+$("beside-file").addEventListener("change", () => {
+  if ($("beside-file").files[0]) openBeside($("beside-file").files[0]);
+  $("beside-file").value = "";
+});
+
+// What is kept where a run goes on: all that is shown, and where the last event was chosen the last one again.
+export function whereItWas(old) {
+  const { count, location, mark, range } = shown;
+  return { count: count && count === old.events.length ? Infinity : count, mark, at: location?.key ?? null, range };
+}
+export const tellGrowth = (run, old) => act.speak(run.events.length > old.events.length ? `The run goes on: ${plural(run.events.length - old.events.length, "further event")}` : "The run is the same");
