@@ -11,7 +11,8 @@ async function askAgain() {
     const answer = await fetch(follow, { headers: served ? { "If-None-Match": served } : {}, cache: "no-store" });
     if (answer.status === 200) {
       served = answer.headers.get("ETag") ?? "";
-      await openTrace(await answer.text(), name, by);
+      const ends = (answer.headers.get("Folugben-Ends") ?? "").split(" ").filter(Boolean).map(Number);
+      await openTrace(await answer.text(), name, by, ends);
     } else if (answer.status !== 304) throw new Error(await answer.text());
   } catch (fault) {
     return act.speak(`The run is no longer followed: ${fault.message}`);

@@ -30,6 +30,7 @@ function rightFire(event, answer, run) {
   if (stale) return { stale: stale.at };
   const clash = event.effects?.isClash ? clashOf(event.effects) : null;
   if (clash) return answer.clash && isSame(answer.clash, clash) ? null : { clash };
+  if (answer === "full" && run.ends.has(event.before)) return null;
   if (event.before >= run.capacity) return answer === "full" ? null : "full";
   return answer.fired === event.before + 1 ? null : { fired: event.before + 1 };
 }

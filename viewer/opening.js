@@ -8,7 +8,7 @@ import { plainText } from "./terms.js";
 
 let opening = 0;
 // Reads a trace and shows its run. Until that is read, and where it is refused, the run that was shown before stays.
-export async function openTrace(source, fileName, by = "") {
+export async function openTrace(source, fileName, by = "", ends = []) {
   const turn = ++opening, name = plainText(fileName);
   play(false);
   $("fault").hidden = true;
@@ -18,7 +18,7 @@ export async function openTrace(source, fileName, by = "") {
   try {
     const run = await readRun(source, part => {
       $("busy").value = $("busy-here").value = part;
-    });
+    }, ends);
     if (turn === opening) act.showRun(Object.assign(run, { name, by }));
   } catch (fault) {
     if (turn === opening) refuse(fault instanceof Fault ? fault.message : `It could not be read: ${plainText(fault.message)}`, name);

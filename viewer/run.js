@@ -93,8 +93,10 @@ class Place {
 }
 
 export class Run {
-  constructor(header) {
+  // `ends` are the numbers of moves at which a segment was full, of a run that goes on.
+  constructor(header, ends = []) {
     checkHeader(header);
+    this.ends = new Set(ends);
     const { agents, capacity, events, part = null, from = 0, moves = 0 } = header;
     // Of a window of a part, `from` events with `moves` moves stand before it, of which nothing is told; its events are counted from
     // 0 here, and told with the numbers that they have in the part, as its moves are.
@@ -211,8 +213,8 @@ async function bytesOf(file) {
   return first === 0x1f && second === 0x8b ? file.stream().pipeThrough(new DecompressionStream("gzip")) : file.stream();
 }
 // Reads a trace from a text or a file, line by line and in turns, so that the page stays alive.
-export async function readRun(source, progress) {
-  const reading = new Lines(), isText = typeof source === "string";
+export async function readRun(source, progress, ends = []) {
+  const reading = new Lines(ends), isText = typeof source === "string";
   const reader = isText ? null : (await bytesOf(source)).getReader(), decoder = new TextDecoder("utf-8", { fatal: true });
   let done = 0, since = performance.now();
   for (;;) {
@@ -241,7 +243,8 @@ export async function readRun(source, progress) {
 // No line of a trace is longer: one event of a journal has at most 16 MiB, and its trace tells each value at most twice more.
 const MOST_LINE = 2 ** 27;
 class Lines {
-  constructor() {
+  constructor(ends) {
+    this.ends = ends;
     this.rest = "";
     this.number = 0;
     this.run = null;
@@ -263,7 +266,7 @@ class Lines {
     }
     try {
       if (this.run) this.run.add(value);
-      else this.run = new Run(value);
+      else this.run = new Run(value, this.ends);
     } catch (fault) {
       if (!(fault instanceof Fault)) throw fault;
       throw new Fault(fault.message.startsWith("This ") ? fault.message : `Line ${this.number} doesn't fit a trace: ${fault.message}.`);

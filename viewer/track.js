@@ -64,8 +64,11 @@ function drawScale(pen) {
   pen.fillText(short(most), GUTTER - 6, EDGE);
   if (most !== least) pen.fillText(short(least), GUTTER - 6, TRACK - EDGE);
   pen.textAlign = "left";
+  const label = text.length > 60 ? `${cut(text, 0, 60)}…` : text;
+  pen.fillStyle = colors.raised;
+  pen.fillRect(GUTTER + 3, TRACK - 2 * EDGE - 1, label.length * 6.4 + 6, 2 * EDGE);
   pen.fillStyle = colors.soft;
-  pen.fillText(text.length > 60 ? `${cut(text, 0, 60)}…` : text, GUTTER + 6, EDGE + 1);
+  pen.fillText(label, GUTTER + 6, TRACK - EDGE - 1);
 }
 // The number below the pointer, or else at the chosen moment.
 function drawValue(pen, wide) {

@@ -4,11 +4,15 @@ import json
 import os
 import shutil
 import subprocess
+import urllib.error
+import urllib.request
 from pathlib import Path
 
 from browser import Browser
-from samples import ROOT, example, strange, warehouse, write_journal, write_trace, wrong
+from journal import Event, Fired, event_json, reply_json
+from samples import ROOT, example, journal_of, strange, warehouse, write_journal, write_trace, wrong
 from tries import Tries
+from values import pairs_json
 
 DROP = """
 const files = new DataTransfer();
@@ -153,6 +157,70 @@ def try_view(tries: Tries, browser: Browser) -> None:
     tries.same("what is no journal is refused as the program does", (ran.returncode, ran.stderr, (tries.room / "none.html").exists()), (2, b"journal line 1: not JSON\n", False))
     ran = view("--pages", "x", text=b"")
     tries.same("other words are refused", (ran.returncode, b"unrecognized arguments: --pages" in ran.stderr, b"usage:" in ran.stderr), (2, True, True))
+
+
+def try_follow(tries: Tries, browser: Browser) -> None:
+    """A run that grows is served on the loopback address, at an address that has to be known, and is shown where it was."""
+    view, run = View(tries.room / "follow"), tries.room / "bank.run"
+    run.mkdir()
+    put = lambda number, of, read: (0, {"fire": [["put", ["x"], number]], "reads": [[["x"], read]]}, of)
+    first = journal_of((0, {"read": [["x"]]}, {"number": 0, "values": [1]}), put(2, {"fired": 1}, 0), put(3, "full", 1), capacity=1, init=[[["x"], 1]])
+    second = journal_of(put(3, {"fired": 1}, 0), put(4, {"stale": ["x"]}, 0), agents=3, init=[[["x"], 2]])
+    (run / "00000000-1-3-a.journal").write_bytes(write_journal(first))
+    server = subprocess.Popen([view.root / "view", "--follow", run], stdout=subprocess.PIPE, stderr=subprocess.PIPE, env=os.environ | {"PATH": poor_path(tries.room / "follow")})
+    try:
+        assert server.stdout
+        address = server.stdout.readline().decode().strip()
+        host, token = address.removesuffix("/").rsplit("/", 1)
+        tries.claim("the address is this computer's alone, and has a token", address.startswith("http://127.0.0.1:") and len(token) >= 32, address)
+        tries.same("without the token nothing is served", [status(it) for it in (host + "/", f"{host}/{'x' * len(token)}/", f"{host}/{token}/../view", f"{host}/{token}/run")], [404] * 4)
+        browser.driver.get(address)
+        browser.until("return !document.getElementById('main').hidden")
+        tries.same("the page shows what there is", browser.texts("#facts .fact")[1:3] + browser.texts("#facts .legal"), ["3 events", "1 move", "legal, checked by asm_driver"])
+        browser.slide(2)
+        browser.run("act.chooseLocation(shown.run.locations.get('[\"x\"]'))")
+        (run / "00000001-1-2-b.journal").write_bytes(write_journal(second))
+        browser.until("return shown.run.events.length === 5", 30)
+        browser.frame()
+        tries.same("what the run gains is added, and the place stays", (browser.title()[:8], browser.text("writes-title"), browser.texts("#facts .fact")[2]), ("Event 1 ", "x 2 writes", "2 moves"))
+        tries.same("moves and events go on from those before", browser.run("return [shown.run.events[4].named[0].number, shown.run.events[3].move, shown.run.doubted.length]"), [1, 2, 0])
+        tries.same("the console tells of no problem", [it for it in browser.problems() if "favicon" not in it], [])
+    finally:
+        server.terminate()
+        server.wait(20)
+
+
+def status(address: str) -> int:
+    try:
+        with urllib.request.urlopen(address, timeout=60) as answer:
+            return int(answer.status)
+    except urllib.error.HTTPError as error:
+        return error.code
+
+
+def try_beside(tries: Tries, browser: Browser) -> None:
+    history = warehouse(5, 16, 3)
+    other = journal_of(*[(it.agent, call_of(it), reply_json(it.reply)) for it in history.events[:60]], agents=5, capacity=history.capacity, init=pairs_json(history.init))
+    browser.load(tries.trace("whole", history), "#event=46")
+    choose = lambda path: (browser.find("beside-file").send_keys(str(path)), browser.until("return !document.getElementById('beside').innerText.startsWith('Reading')"))
+    choose(tries.trace("same", history))
+    tries.same("the same run is called so", browser.text("beside"), f"same.trace is the same run: all {len(history.events)} events are the same. Close")
+    choose(tries.trace("short", other))
+    moves = sum(isinstance(it.reply, Fired) for it in history.events[:60])
+    told = browser.text("beside")
+    tries.claim(f"where two runs part is told: {told}", f"short.trace parts from this run at event 60, after {moves} moves." in told and "There: no more event." in told and f"The states differ first after move {moves + 1}, at" in told)
+    tries.claim("the states' difference has each side", len(browser.all("#beside td")) >= 3)
+    tries.shot(browser, "beside")
+    browser.run("document.querySelector('#beside .link').click()")
+    browser.frame()
+    tries.has("and the way there", browser.title(), "Event 60 ")
+    browser.load(tries.trace("short", other), "#event=46")
+    browser.choose_file(tries.trace("whole", history))
+    tries.same("a further file of the same run is shown where the one before was", (browser.title()[:9], browser.text("said")), ("Event 46 ", f"The run goes on: {len(history.events) - 60} further events"))
+
+
+def call_of(event: Event) -> object:
+    return event_json(event)["call"]
 
 
 def poor_path(room: Path) -> str:
