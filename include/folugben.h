@@ -53,12 +53,14 @@
  *    So do asm_try_fire_over and asm_commit. Any other code of these four means that no receipt was
  *    added; the agent may have seen more moves. No other call adds one.
  *  - After asm_follow, asm_stands and asm_begin the agent may have seen more moves, with ASM_MEMORY
- *    too. asm_audit takes bytes with each code but ASM_TAKEN. After any other call, each code but
- *    ASM_DONE means that the slots are as they were.
+ *    too. asm_audit takes bytes with each code but ASM_TAKEN. A push or an extension that is refused
+ *    (ASM_CLASH, ASM_MANY, ASM_LARGE, ASM_SMALL) leaves what is pushed as it was, and may track
+ *    locations. After any other call, each code but ASM_DONE means that the slots are as they were.
  *  - A number that a call writes is 0 unless its code is said to set it. `*written` is set with
  *    ASM_DONE and with each code that is said to come with a text, to the length of the text, and
  *    with ASM_SMALL.
- *  - ASM_MEMORY: nothing was fired or lost, and the call may be made again.
+ *  - ASM_MEMORY: nothing was fired or lost, and the call may be made again; asm_audit with the bytes
+ *    that it didn't take.
  *  - ASM_SMALL: nothing was written to the buffer; `*written` is the room that is needed. The call
  *    may be made again: nothing is read, fired or closed by it.
  *
@@ -135,7 +137,8 @@ extern "C" {
 /* What calls answer. */
 enum asm_code {
     ASM_DONE = 0,      /* done; of asm_try_fire: fired; of asm_check: legal */
-    ASM_STALE = 1,     /* a location that the move names was written since; nothing was fired */
+    ASM_STALE = 1,     /* a location was written since that the move names, or of a function that it
+                          scans; nothing was fired */
     ASM_CLASH = 2,     /* the updates of the move clash; nothing was fired */
     ASM_MEMORY = 3,    /* out of memory; nothing was fired or lost */
     ASM_FULL = 4,      /* as many moves were fired as the capacity; nothing was fired */
@@ -146,9 +149,9 @@ enum asm_code {
     ASM_BUSY = 8,      /* 64 offers were lost to other agents; nothing was fired */
     ASM_MANY = 9,      /* more than 256 locations, or locations and scanned functions; or a move of
                           more than 4,096 instructions */
-    ASM_NONE = 10,     /* no call was answered yet; no journal since an agent was given back; no move
-                          is pushed; no agent with the number was given back; no part has begun; or
-                          the storage isn't full */
+    ASM_NONE = 10,     /* no call was answered yet; no journal since an agent was given back or taken;
+                          no move is pushed; no agent with the number was given back; no part has
+                          begun; or the storage isn't full */
     ASM_TAKEN = 11,    /* a slot that was to be filled holds something else */
     ASM_NUMBER = 12,   /* an agent of the storage with this number was made before */
     ASM_MISSING = 13,  /* a move has no receipt among the agents that were given back */
@@ -274,20 +277,30 @@ FOLUGBEN_NODISCARD int32_t asm_stands(asm_slot *agent, const uint8_t *reads, siz
     uint8_t *out, size_t room, size_t *written);
 
 /* A STEP is what an engine does between a look and a fire. Its slot keeps the number of moves at
- * which it began, the moves that were pushed, the locations that were got and the functions that were
- * scanned. asm_free abandons it.
+ * which it began, the moves that were pushed, the locations that are tracked and the functions that
+ * were scanned. asm_free abandons it.
  *
  * A location is got where what is told of it is made from the state at the step's number: where no
  * pushed move writes it, or the first that does has partial updates alone there (it adds, removes or
- * increments). Where that one puts a value, what is told is the step's own. A step rests on what was
- * got, and on each location where the first of its moves that writes has partial updates alone and
- * another one writes too; asm_commit names these, and no others. So steps that each add to one set
- * don't make each other stale; what one move alone adds, removes or increments is judged when it is
- * fired.
+ * increments). Where that one puts a value, what is told is the step's own. Locations that are got are
+ * tracked: the step rests on them. So are, where a get would get them:
+ *  - of a push or an extension that is refused, the location of the refusal, and the smaller ones at
+ *    which its move has partial updates: that it comes there tells that these fit. Of one that has too
+ *    many instructions, each at which it has partial updates.
+ *  - of moves that asm_pop takes away, each location at which they have partial updates: that they
+ *    were taken tells that these fit.
+ *  - of moves that asm_pop_move takes away, each location where the first of them that writes has
+ *    partial updates alone and another of them writes too: their one move may come to less there.
+ *    Else it tells nothing that isn't judged again once the move is pushed. A popped move which is
+ *    neither pushed again nor judged by the caller's own gets leaves no trace.
+ * A step rests on what is tracked, and on each location where the first of its moves that writes has
+ * partial updates alone and another one writes too; asm_commit names these, and no others. So steps
+ * that each add to one set don't make each other stale; what one move alone adds, removes or
+ * increments is judged when it is fired.
  *
  * A function is scanned by asm_get_all. The step then rests on all its locations, those that have a
  * value and those that have none, so that a value which comes to a further one makes the commit
- * stale. What was got and scanned takes at most 256 places: one for each location, and one for each
+ * stale. What is tracked and scanned takes at most 256 places: one for each location, and one for each
  * function, however many locations it has. A location that is told by a scan alone isn't got.
  *
  * ASM_MOVED: the agent's own state has moved on since the step began, which is to be begun again; or
@@ -318,9 +331,10 @@ FOLUGBEN_NODISCARD int32_t asm_get_all(asm_slot *agent, asm_slot *step, const ui
     size_t len, uint8_t *out, size_t room, size_t *written);
 
 /* Pushes the move [INSTR, ..]: what is got and pushed later is seen through what it leaves. A push
- * that is refused, or is popped, is a dry run. ASM_CLASH, with the text {"clash":[LOC,CAUSE]}: its
- * updates clash on what is seen. ASM_DEEP. ASM_MANY: the one move of all would have more than 4,096
- * instructions. ASM_LARGE, with {"large":LOC}: never for a step of the agent's storage. ASM_MOVED,
+ * that is refused, or is popped, is a dry run, on which the step rests. ASM_CLASH, with the text
+ * {"clash":[LOC,CAUSE]}: its updates clash on what is seen. ASM_DEEP. ASM_MANY: the one move of all
+ * would have more than 4,096 instructions; or the move is refused, and what that tells would take more
+ * than 256 places, so that nothing is tracked. ASM_LARGE, with {"large":LOC}: never for a step of the agent's storage. ASM_MOVED,
  * ASM_EMPTY (one of the slots), ASM_SMALL (for the text of a refusal), ASM_NOT_JSON, ASM_SHAPE,
  * ASM_MEMORY. It costs by the move's own instructions, however many others are pushed. */
 FOLUGBEN_NODISCARD int32_t asm_push(asm_slot *agent, asm_slot *step, const uint8_t *move,
@@ -332,23 +346,28 @@ FOLUGBEN_NODISCARD int32_t asm_push(asm_slot *agent, asm_slot *step, const uint8
 FOLUGBEN_NODISCARD int32_t asm_extend(asm_slot *agent, asm_slot *step, const uint8_t *move,
     size_t len, uint8_t *out, size_t room, size_t *written);
 
-/* Takes away the move that was pushed last, with those that joined it. What was got and scanned stays
- * so; the step no longer rests on what these changed. ASM_NONE, ASM_EMPTY. */
+/* Takes away the move that was pushed last, with those that joined it, and tracks the locations where
+ * these have partial updates that were judged on the state. What was got and scanned stays so.
+ * ASM_NONE, ASM_EMPTY, ASM_MANY (more than 256 places would be taken), ASM_MEMORY. */
 FOLUGBEN_NODISCARD int32_t asm_pop(asm_slot *step);
 
-/* The same, and puts the one move that does what the popped ones do in turn into a slot that is empty
+/* Takes these away too, and puts the one move that does what they do in turn into a slot that is empty
  * or holds a move, which is then dropped: asm_push_move and asm_extend_move take it, on this step or
- * on another. A move that none joined is put as it was pushed. ASM_TAKEN (`move` holds something
- * else), before all others; ASM_EMPTY (`step`), ASM_NONE; ASM_MANY: the one move would have more than
- * 4,096 instructions; ASM_CLASH, ASM_LARGE: never for a step of the agent's storage; ASM_MEMORY. */
+ * on another. A move that none joined is put as it was pushed, and tracks nothing; of others the
+ * locations are tracked that two of them change, where the first has partial updates alone that were
+ * judged on the state. ASM_TAKEN (`move` holds something else), before all others; ASM_EMPTY (`step`),
+ * ASM_NONE; ASM_MANY: the first of the moves come to more than 4,096 instructions, though all might
+ * come to fewer; or more than 256 places would be taken; ASM_CLASH, ASM_LARGE: never for a step of the
+ * agent's storage; ASM_MEMORY. */
 FOLUGBEN_NODISCARD int32_t asm_pop_move(asm_slot *step, asm_slot *move);
 
 /* How many moves are pushed; 0 for a slot without a step. */
 uint32_t asm_depth(asm_slot *step);
 
-/* Writes {"fire":[INSTR, ..],"reads":[NAMED, ..]}, which asm_try_fire takes: the one move that
- * asm_commit would offer, and the locations that it would name, as the step stands. The functions
- * that were scanned aren't in it; a commit rests on them too. ASM_EMPTY, ASM_SMALL, ASM_MEMORY. */
+/* Writes {"fire":[INSTR, ..],"reads":[NAMED, ..]}: the one move that asm_commit would offer, and the
+ * locations that it would name, as the step stands; asm_try_fire takes it, where these are at most
+ * 256. The functions that were scanned aren't in it; a commit rests on them too. ASM_EMPTY, ASM_SMALL,
+ * ASM_MEMORY. */
 FOLUGBEN_NODISCARD int32_t asm_offer(asm_slot *step, uint8_t *out, size_t room, size_t *written);
 
 /* Fires one move that does what the pushed moves do in turn, with each location named, at the step's

@@ -51,7 +51,10 @@ static void offers(void) {
     refused(ASM_STALE, "{'stale':['c']}");
     TELLS(ASM_DONE, offer, asm_offer(&step, OUT));
     pop();
-    TELLS(ASM_DONE, "{'fire':[['inc',['c'],1]],'reads':[[['none'],0]]}", asm_offer(&step, OUT));
+    TELLS(ASM_DONE, "{'fire':[['inc',['c'],1]],'reads':[[['c'],0],[['none'],0]]}",
+          asm_offer(&step, OUT));
+    refused(ASM_STALE, "{'stale':['c']}");
+    begins_at(1);
     fired(2);
     ANSWERS(ASM_EMPTY, asm_offer(&step, OUT));
     end_all();
@@ -89,35 +92,16 @@ static void stale_reads(void) {
     end_all();
 }
 
-/* A pop forgets what the popped move rests on, and not what was got. */
-static void popped_moves(void) {
+/* A step that is begun again drops what was got, pushed and popped. */
+static void begun_again(void) {
     begin_with(8);
+    gets("['x']", 0, "7");
     push("[['add',['s'],2]]");
     push("[['inc',['c'],1]]");
-    ANSWERS(ASM_DONE, asm_extend(&agents[0], &step, TEXT("[['inc',['x'],1]]"), OUT));
     pop();
-    fire(&agents[1], "[['inc',['c'],1],['inc',['x'],1]]");
-    fired(2);
-    begins_at(2);
-    push("[['inc',['c'],1]]");
-    gets("['x']", 2, "8");
-    pop();
-    fire(&agents[1], "[['inc',['x'],1]]");
-    refused(ASM_STALE, "{'stale':['x']}");
-    /* Where the second of two moves is popped, the first is alone. */
-    begins_at(3);
-    push("[['inc',['c'],1]]");
-    push("[['inc',['c'],1]]");
-    pop();
-    fire(&agents[1], "[['inc',['c'],1]]");
-    fired(5);
-    /* With the step that is begun anew, what was got and pushed is dropped. */
-    begins_at(5);
-    gets("['x']", 5, "9");
-    push("[['inc',['c'],1]]");
-    begins_at(5);
+    begins_at(0);
     fire(&agents[1], "[['inc',['x'],1],['inc',['c'],1]]");
-    fired(7);
+    fired(2);
     end_all();
 }
 
@@ -351,7 +335,7 @@ int main(void) {
     offers();
     empty_steps();
     stale_reads();
-    popped_moves();
+    begun_again();
     moved_agents();
     full_storages();
     shared_steps();

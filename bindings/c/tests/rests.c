@@ -197,6 +197,7 @@ static void clashes_at_the_commit(void) {
     begins_at(1);
     TELLS(ASM_CLASH, "{'clash':[['b'],'Short']}",
           asm_push(&agents[0], &step, TEXT("[['bagremove',['b'],'e',1]]"), OUT));
+    begins_at(1);
     push("[['inc',['c'],1]]");
     fire(&agents[1], "[['put',['c'],'none'],['bagadd',['b'],'e',1]]");
     refused(ASM_CLASH, "{'clash':[['c'],'Kind']}");
@@ -252,6 +253,7 @@ static void raises_each(bool is_push, int count) {
 
 /* More than 256 locations would be named: 256 that were got, and one that two moves change. */
 static void many_named(void) {
+    asm_slot move = {0};
     begin_with(8);
     gets_each(256);
     push("[['put',['w',0],1]]");
@@ -260,7 +262,8 @@ static void many_named(void) {
     push("[['inc',['c'],1]]");
     refused(ASM_MANY, NULL);
     ANSWERS(ASM_NONE, asm_answer(&agents[0], OUT));
-    pop();
+    REQUIRE(asm_pop_move(&step, &move) == ASM_DONE);
+    asm_free(&move);
     fired(1);
     end_all();
 }

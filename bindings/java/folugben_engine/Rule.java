@@ -1,10 +1,8 @@
 package folugben_engine;
 
 import folugben.Instruction;
-import folugben.Location;
 import folugben.Moves;
 import folugben.Step;
-import java.util.ArrayList;
 import java.util.List;
 
 /**
@@ -20,16 +18,8 @@ public interface Rule {
         int depth = step.depth();
         List<List<Instruction>> moves = play(step);
         while (step.depth() > depth) step.pop();
-        // The fire names what two pushed moves change. These are popped, so it has to be got.
-        List<Location> changed = new ArrayList<>();
         List<Instruction> all = List.of();
-        for (List<Instruction> move : moves) {
-            for (Instruction it : move)
-                if (!(it instanceof Instruction.Put))
-                    changed.add(it.location());
-            all = Moves.compose(all, move);
-        }
-        step.get(changed);
+        for (List<Instruction> move : moves) all = Moves.compose(all, move);
         return all;
     }
 

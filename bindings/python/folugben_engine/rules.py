@@ -29,8 +29,6 @@ class Rule:
         depth, moves = step.depth, self.play(step)
         while step.depth > depth:
             step.pop()
-        # The fire names what two pushed moves change. These are popped, so it has to be got.
-        step.get([at for move in moves for word, at, *_ in move if word != "put"])
         return reduce(compose, moves, [])
 
     def play(self, step: Step) -> list[Move]:

@@ -187,7 +187,9 @@ impl fmt::Display for Error {
             Error::PartFull => f.write_str("the part of the run is full"),
             Error::NotFull => f.write_str("the agent hasn't looked on to the end of a full storage"),
             Error::Memory => f.write_str("out of memory"),
-            Error::Many => f.write_str("more than 256 locations, or more than 4,096 instructions"),
+            Error::Many => {
+                f.write_str("more than 256 locations and scanned functions, or more than 4,096 instructions")
+            }
             Error::Deep => f.write_str("64 moves are pushed already"),
             Error::Large(at) => write!(f, "too large an amount or sum at {at}"),
             Error::NoMove => f.write_str("no move is pushed"),

@@ -52,8 +52,8 @@ pub extern "C" fn asm_commit(
     code
 }
 
-/// Writes `{"fire":[INSTR, ..],"reads":[NAMED, ..]}`, which `asm_try_fire` takes: the one move that does what the pushed moves
-/// do in turn, and each location that a commit of the step would name, with the step's number.
+/// Writes `{"fire":[INSTR, ..],"reads":[NAMED, ..]}`: the one move that does what the pushed moves do in turn, and each location
+/// that a commit of the step would name, with the step's number. `asm_try_fire` takes it, where these are at most 256.
 ///
 /// It tells what the step rests on by now, but for the functions that were scanned, on which its commit rests too. It makes
 /// no look and no receipt, and the slot stays as it was. `ASM_SMALL`: `written` is the room that it needs. `ASM_EMPTY`:

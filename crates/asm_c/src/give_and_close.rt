@@ -109,7 +109,7 @@ pub extern "C" fn asm_close(alloc: Global, store: &mut Slot, number: &mut u32) -
 /// Writes the journal that the storage keeps, as often as it is asked for.
 ///
 /// `ASM_SMALL`: `written` is the room that it needs. `ASM_NONE`: the storage wasn't closed since an agent
-/// was given back. `ASM_EMPTY`: the slot has no storage. The slot stays as it was.
+/// was given back or taken. `ASM_EMPTY`: the slot has no storage. The slot stays as it was.
 #[unsafe(no_mangle)]
 pub extern "C" fn asm_journal(
     alloc: Global,

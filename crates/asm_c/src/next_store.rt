@@ -16,7 +16,7 @@ use std::alloc::Global;
 ///
 /// The first storage's slot stays as it was. The journals of both, one after the other, tell one run.
 /// `ASM_TAKEN`: the second slot is full. `ASM_EMPTY`: the first has no storage. `ASM_NONE`: the storage wasn't
-/// closed since an agent was given back. `ASM_RANGE`: the capacity isn't 1 to 1,048,576. `ASM_MEMORY`. After
+/// closed since an agent was given back or taken. `ASM_RANGE`: the capacity isn't 1 to 1,048,576. `ASM_MEMORY`. After
 /// each of these both slots are as they were.
 #[unsafe(no_mangle)]
 pub extern "C" fn asm_next(alloc: Global, store: &mut Slot, capacity: u32, next: &mut Slot) -> i32

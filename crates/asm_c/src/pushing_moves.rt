@@ -12,8 +12,7 @@ use std::alloc::Global;
 /// Pushes the move in the slot: what is got or pushed later is seen through what it leaves.
 ///
 /// The codes are those of `asm_push` but `ASM_NOT_JSON` and `ASM_SHAPE`. `ASM_EMPTY`: the first slot has no agent, the
-/// second no step, the third no move, or two of them are one. The slots of the agent and the move stay as they were,
-/// and with any code but `ASM_DONE` that of the step too.
+/// second no step, the third no move, or two of them are one. The slots of the agent and the move stay as they were.
 #[unsafe(no_mangle)]
 pub extern "C" fn asm_push_move(
     alloc: Global,

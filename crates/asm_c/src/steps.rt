@@ -4,13 +4,14 @@ ghost use Rattle.asm_slots.specs.Codes.{IsOneOf, ASM_CLASH, ASM_DONE, ASM_EMPTY,
 ghost use Rattle.asm_slots.specs.Codes.{ASM_MEMORY, ASM_NONE, ASM_TAKEN};
 ghost use Rattle.asm_slots.specs.GetByText.{Gets, Sees};
 ghost use Rattle.asm_slots.specs.Looks.{Begins};
-ghost use Rattle.asm_slots.specs.Popping.{IsComposedLast, IsUncomposedLast};
+ghost use Rattle.asm_slots.specs.Popping.{IsComposedLast, IsNotPoppedLast};
 ghost use Rattle.asm_slots.specs.Slots.{GoesStep, HasRoomForMove, HoldsMove, HoldsNoStep, HoldsStep, IfHoldsStep};
 ghost use Rattle.asm_slots.specs.Slots.{content_of};
-ghost use Rattle.asm_slots.specs.StepCalls.{HasPopped};
+ghost use Rattle.asm_slots.specs.StepCalls.{HasPoppedOver, WouldTakeMany};
+ghost use Rattle.asm_slots.specs.Tracked.{judged_last, resting_last};
 
-use asm_slots::codes::{DONE, EMPTY, MEMORY, NONE, TAKEN};
-use asm_slots::popping::{has_room_for_move, pop_into};
+use asm_slots::codes::{DONE, EMPTY, MEMORY, TAKEN};
+use asm_slots::popping::{has_room_for_move, pop_in, pop_into};
 use asm_slots::steps::{get_in, has_room, put_begun, see_in};
 use asm_slots::take_and_put::{put_shell, take_shell};
 use asm_slots::{Content, Slot, in_agent, in_both};
@@ -19,7 +20,7 @@ use std::alloc::{AllocError, Global};
 /// Begins a step of the agent in a slot that is empty or holds a step, which is then dropped: the agent looks on
 /// until it finds nothing more, its own state follows, and `number` is how many moves it has then seen.
 ///
-/// Until the agent's next call that looks on, fires or learns, all that is got and pushed is seen at this number.
+/// Until the agent's next call that looks on, reads or fires, all that is got and pushed is seen at this number.
 /// `ASM_TAKEN`: the second slot holds something else. `ASM_EMPTY`: the first has no agent. `ASM_MEMORY`: the
 /// agent may have seen more. After these the step's slot is as it was, and `number` is 0.
 #[unsafe(no_mangle)]
@@ -117,13 +118,16 @@ pub extern "C" fn asm_see(
 
 /// Takes away the move that was pushed last, with those that extended it.
 ///
-/// What was got stays got, and what was scanned stays scanned. `ASM_NONE`: none is pushed. `ASM_EMPTY`: the slot has no
-/// step. After these the slot is as it was.
+/// The locations where these have partial updates are got, where what is seen is made from the state below: that they were
+/// taken tells of it. What was got stays got, and what was scanned stays scanned. `ASM_NONE`: none is pushed. `ASM_MANY`: more
+/// than 256 places would be taken. `ASM_EMPTY`: the slot has no step. `ASM_MEMORY`. After each of these the slot is as it was.
 #[unsafe(no_mangle)]
 pub extern "C" fn asm_pop(alloc: Global, step: &mut Slot) -> i32
-    ensures codes { IsOneOf (ASM_DONE ∷ ASM_EMPTY ∷ ASM_NONE ∷ []) result }
-    ensures popped { result ≡ ASM_DONE → GoesStep (content_of step.old) (content_of step.new) HasPopped }
+    ensures codes { IsOneOf (ASM_DONE ∷ ASM_MEMORY ∷ ASM_EMPTY ∷ ASM_MANY ∷ ASM_NONE ∷ []) result }
+    ensures popped { result ≡ ASM_DONE →
+        GoesStep (content_of step.old) (content_of step.new) (λ s. HasPoppedOver (judged_last s) s) }
     ensures none { result ≡ ASM_NONE → HoldsStep (content_of step.old) (λ s. s.layers ≡ []) }
+    ensures many { result ≡ ASM_MANY → HoldsStep (content_of step.old) (λ s. WouldTakeMany (judged_last s) s) }
     ensures empty { result ≡ ASM_EMPTY → HoldsNoStep (content_of step.old) }
     ensures kept { result ≢ ASM_DONE → content_of step.new ≡ content_of step.old }
 {
@@ -131,10 +135,7 @@ pub extern "C" fn asm_pop(alloc: Global, step: &mut Slot) -> i32
         return EMPTY;
     };
     let code = match &mut *shell {
-        Content::Step(taken) => match taken.pop() {
-            Some(_popped) => DONE,
-            None => NONE,
-        },
+        Content::Step(taken) => pop_in(alloc, taken),
         _ => EMPTY,
     };
     put_shell(step, shell);
@@ -144,22 +145,26 @@ pub extern "C" fn asm_pop(alloc: Global, step: &mut Slot) -> i32
 /// Takes away the move that was pushed last, with those that extended it, and puts the one move that does what they did in
 /// turn into a slot that is empty or holds a move, which is then dropped.
 ///
-/// A move that nothing extended is put as it was pushed; others are what they compose to. What was got stays got.
+/// A move that nothing extended is put as it was pushed; others are what they compose to. Where the first of these that writes a
+/// location has partial updates alone there, and another one writes there too, it is got, if what is seen is made from the
+/// state below: the one move may come to less there. What was got stays got.
+///
 /// `ASM_TAKEN`: the second slot holds something else than a move. `ASM_EMPTY`: the first has no step. `ASM_NONE`: none is
-/// pushed. `ASM_MANY`: the one move would have more than 4,096 instructions. `ASM_CLASH`, `ASM_LARGE`: the moves fire in turn
-/// on no state, which doesn't come of moves that were pushed over an agent's. `ASM_MEMORY`. After each of these both slots
-/// are as they were.
+/// pushed. `ASM_MANY`: the first of the moves come to more than 4,096 instructions, or more than 256 places would be taken.
+/// `ASM_CLASH`, `ASM_LARGE`: the moves fire in turn on no state, which doesn't come of moves that were pushed over an agent's.
+/// `ASM_MEMORY`. After each of these both slots are as they were.
 #[unsafe(no_mangle)]
 pub extern "C" fn asm_pop_move(alloc: Global, step: &mut Slot, instrs: &mut Slot) -> i32
     ensures codes { IsOneOf (ASM_DONE ∷ ASM_CLASH ∷ ASM_MEMORY ∷ ASM_EMPTY ∷ ASM_MANY ∷ ASM_TAKEN ∷ ASM_LARGE ∷ ASM_NONE ∷ []) result }
-    ensures popped { result ≡ ASM_DONE → GoesStep (content_of step.old) (content_of step.new) HasPopped }
+    ensures popped { result ≡ ASM_DONE →
+        GoesStep (content_of step.old) (content_of step.new) (λ s. HasPoppedOver (resting_last s) s) }
     ensures done { result ≡ ASM_DONE →
         HoldsStep (content_of step.old) (λ s. HoldsMove (content_of instrs.new) (λ M. IsComposedLast s (Ok M))) }
     ensures taken { (result ≡ ASM_TAKEN) ↔ ¬ HasRoomForMove (content_of instrs.old) }
     ensures empty { result ≡ ASM_EMPTY → HoldsNoStep (content_of step.old) }
     ensures none { result ≡ ASM_NONE → HoldsStep (content_of step.old) (λ s. s.layers ≡ []) }
     ensures refused { IsOneOf (ASM_CLASH ∷ ASM_MANY ∷ ASM_LARGE ∷ []) result →
-        HoldsStep (content_of step.old) (λ s. IsUncomposedLast s result) }
+        HoldsStep (content_of step.old) (λ s. IsNotPoppedLast s result) }
     ensures kept { result ≢ ASM_DONE → content_of step.new ≡ content_of step.old }
     ensures held { result ≢ ASM_DONE → content_of instrs.new ≡ content_of instrs.old }
 {

@@ -44,3 +44,32 @@ retold IsText bytes text out after written code same is codes told =
   where
     kind : (t : List ℕ) → t ≡ bytes → IsText t
     kind t e = subst IsText (sym (e ∙ same)) is
+
+-- where these bytes are told by a code that is one of the first, a text of the kind that goes with it is told
+pub told_by : (first : List ℤ) (P : ℤ → List ℕ → Type 0) (c : ℤ) (bytes out after : List ℕ) (written : ℕ) (code : ℤ) →
+    IsOneOf first c → ¬ IsOneOf first ASM_SMALL → P c bytes → IsOneOf (c ∷ ASM_SMALL ∷ []) code →
+    Tells (c ∷ []) (λ k t. t ≡ bytes) (λ t. t ≡ bytes) out after written code → TellsOneOf first P out after written code
+told_by first P c bytes out after written code among other is codes told = record {
+  told = λ one. by_code one codes;
+  small = λ small. by_long (told.small small);
+  no_text = λ none. absurd (neither none codes);
+  unwritten = λ none. told.unwritten (λ k. none (moved k));
+} where
+  moved : IsOneOf (c ∷ []) code → IsOneOf first code
+  moved (inl e) = subst (IsOneOf first) (sym e) among
+  moved (inr h) = absurd h
+
+  by_code : IsOneOf first code → IsOneOf (c ∷ ASM_SMALL ∷ []) code → IsTextWritten (P code) after written
+  by_code one (inl e) =
+      let text = told.told (inl e) in
+      (subst (P code) (sym text.0) (subst (λ (k : ℤ). P k bytes) (sym e) is), text.1)
+  by_code one (inr (inl e)) = absurd (other (subst (IsOneOf first) e one))
+  by_code one (inr (inr h)) = absurd h
+
+  by_long : IsTextTooLong (λ t. t ≡ bytes) (length out) written → IsTextTooLong (λ t. (k : ℤ) × P k t) (length out) written
+  by_long (text, same, size, less) = (text, (c, subst (P c) (sym same) is), size, less)
+
+  neither : ¬ IsOneOf (ASM_SMALL ∷ first) code → IsOneOf (c ∷ ASM_SMALL ∷ []) code → ⊥
+  neither none (inl e) = none (inr (subst (IsOneOf first) (sym e) among))
+  neither none (inr (inl e)) = none (inl e)
+  neither none (inr (inr h)) = h

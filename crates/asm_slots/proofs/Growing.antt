@@ -1,5 +1,5 @@
 -- A step that grows or shrinks over the state at its number.
-use Rattle.std.proofs.Common.{ℕ, ℤ, ◌≡◌, ◌≤◌, length, List, [], ◌∷◌, ◌++◌, Result, Ok, Err, Option, None, Some, unwrap_or, refl, ap, subst, sym}
+use Rattle.std.proofs.Common.{ℕ, ℤ, ◌≡◌, ◌≤◌, ◌+◌, inl, inr, length, List, [], ◌∷◌, ◌++◌, Result, Ok, Err, Option, None, Some, unwrap_or, refl, ap, subst, sym}
 use Rattle.std.specs.Prelude.{IfSome}
 use Rattle.asm_update.specs.Fire.{Part, Old}
 use Rattle.asm_update.specs.Move.{Move}
@@ -13,12 +13,16 @@ use Rattle.asm_step.specs.declared.error.StepError.{StepError}
 use Rattle.asm_step.specs.declared.error.StepError.TheVariants.{Deep}
 use Rattle.asm_storage.specs.Storage.{AgentAt}
 use Rattle.asm_slots.specs.Bytes.{ReadAsMove}
+use Rattle.asm_element.specs.Place.{Place}
+use Rattle.asm_step.specs.Places.{AreEach}
+use Rattle.asm_storage.specs.Limits.{reads_limit}
+use Rattle.asm_slots.specs.Codes.{IsOneOf, ASM_SMALL}
 use Rattle.asm_slots.specs.WrittenText.{TellsOneOf}
 use Rattle.asm_slots.specs.StepPush.{refusals}
 use Rattle.asm_slots.specs.OwnState.{state_at}
 use Rattle.asm_slots.specs.Standard.{Standard, standard, part}
 use Rattle.asm_slots.specs.StepView.{StepView}
-use Rattle.asm_slots.specs.StepCalls.{AreLastOf, HasPopped, HasReached, IsPushAnswerBelow, IsGrown, IsLayered, IsNotGrown, IsPushError, IsRefused, TellsRefusal, below, grown}
+use Rattle.asm_slots.specs.StepCalls.{AreLastOf, HasGotEach, HasPopped, HasReached, IsPushAnswerBelow, IsGrown, IsLayered, IsNotGrown, IsPushError, IsRefused, TellsTracked, below, from_below, grown}
 use Rattle.asm_slots.specs.declared.owned_step.Way.{Way}
 use Rattle.asm_slots.specs.declared.owned_step.Way.TheVariants as ways
 use Rattle.asm_slots.proofs.CopiedTexts.{tells_one_too}
@@ -95,32 +99,51 @@ is_grown_of way a s t inside ls M view own same layers answer on step =
 
 -- a move that wasn't taken changes no layer, and is told by its text
 module _ (way : Way) (a : AgentAt Standard) (s : StateView) (t inside : StepView) (ls : List Layer) (M : Move) (e : StepError) where
-  told_of : (code : ℤ) (text : List ℕ) → inside ≡ t → IsOwn a s → s.number ≡ inside.number →
+  told_of : (after : StepView) (code : ℤ) (text : List ℕ) → inside ≡ t → IsOwn a s → s.number ≡ inside.number →
       (way ≡ ways.Extend → ¬ (e ≡ Deep)) → ls ≡ inside.layers →
       IsPushAnswer standard (value_at s) inside.layers ls M (Err e) → AnswersOn (value_at s) inside.layers ls M (Err e) →
-      TellsRefusal e code text → IsRefused way M a t code text
-  told_of code text view own same deep kept answer on told =
+      TellsTracked M (record inside { layers = ls }) after e code text → IsRefused way M a t after code text
+  told_of after code text view own same deep kept answer on told =
       let error = is_push_error way a s inside M e own same deep
       (subst (λ (x : List Layer). IsPushAnswer standard (value_at s) inside.layers x M (Err e)) kept answer)
       (subst (λ (x : List Layer). AnswersOn (value_at s) inside.layers x M (Err e)) kept on) in
-      (e, subst (λ (x : StepView). IsPushError way M a x e) view error, told)
+      let tracked = subst (λ (x : List Layer). TellsTracked M (record inside { layers = x }) after e code text) kept told in (
+        e,
+        subst (λ (x : StepView). IsPushError way M a x e) view error,
+        subst (λ (x : StepView). TellsTracked M x after e code text) view tracked,
+      )
 
-  pub is_refused : (out after : List ℕ) (written : ℕ) (code : ℤ) → inside ≡ t → IsOwn a s → s.number ≡ inside.number →
-      (way ≡ ways.Extend → ¬ (e ≡ Deep)) → ls ≡ inside.layers →
+  pub is_refused : (new : StepView) (out after : List ℕ) (written : ℕ) (code : ℤ) → inside ≡ t → IsOwn a s →
+      s.number ≡ inside.number → (way ≡ ways.Extend → ¬ (e ≡ Deep)) → ls ≡ inside.layers →
       IsPushAnswer standard (value_at s) inside.layers ls M (Err e) → AnswersOn (value_at s) inside.layers ls M (Err e) →
-      TellsOneOf refusals (TellsRefusal e) out after written code →
-      TellsOneOf refusals (IsRefused way M a t) out after written code
-  is_refused out after written code view own same deep kept answer on =
-      tells_one_too refusals (TellsRefusal e) (IsRefused way M a t) out after written code
-      (λ c text told. told_of c text view own same deep kept answer on told)
+      TellsOneOf refusals (TellsTracked M (record inside { layers = ls }) new e) out after written code →
+      TellsOneOf refusals (IsRefused way M a t new) out after written code
+  is_refused new out after written code view own same deep kept answer on =
+      tells_one_too refusals (TellsTracked M (record inside { layers = ls }) new e) (IsRefused way M a t new)
+      out after written code (λ c text told. told_of new c text view own same deep kept answer on told)
 
 -- the same of a move that the bytes are JSON of
-pub not_grown : (way : Way) (bytes : List ℕ) (M : Move) (a : AgentAt Standard) (t : StepView) → ReadAsMove bytes M →
-    (out after : List ℕ) (written : ℕ) (code : ℤ) → TellsOneOf refusals (IsRefused way M a t) out after written code →
-    TellsOneOf refusals (IsNotGrown way bytes a t) out after written code
-not_grown way bytes M a t reads out after written code =
-    tells_one_too refusals (IsRefused way M a t) (IsNotGrown way bytes a t) out after written code
+pub not_grown : (way : Way) (bytes : List ℕ) (M : Move) (a : AgentAt Standard) (t new : StepView) → ReadAsMove bytes M →
+    (out after : List ℕ) (written : ℕ) (code : ℤ) → TellsOneOf refusals (IsRefused way M a t new) out after written code →
+    TellsOneOf refusals (IsNotGrown way bytes a t new) out after written code
+not_grown way bytes M a t new reads out after written code =
+    tells_one_too refusals (IsRefused way M a t new) (IsNotGrown way bytes a t new) out after written code
     (λ c text refused. (M, reads, refused))
+
+-- ASM_SMALL is no refusal
+pub not_small : ¬ IsOneOf refusals ASM_SMALL
+not_small (inl e) = cc
+not_small (inr (inl e)) = cc
+not_small (inr (inr (inl e))) = cc
+not_small (inr (inr (inr (inl e)))) = cc
+not_small (inr (inr (inr (inr h)))) = h
+
+-- the locations are got, in a step whose contents were these
+pub got_with : (locations : List Place) (inside old : StepView) (got : List Place) → inside ≡ old →
+    AreEach (old.got ++ from_below old locations) got → length got + length old.scanned ≤ reads_limit →
+    HasGotEach locations old (record inside { got = got })
+got_with locations inside old got view each few =
+    subst (λ (x : StepView). HasGotEach locations old (record x { got = got })) (sym view) (refl, each, few)
 
 -- what isn't an extension is a push
 pub pushes : (way : Way) → ¬ (way ≡ ways.Extend) → way ≡ ways.Push

@@ -38,24 +38,35 @@ hold_both : (agent step : Option Content) (a : AgentAt Standard) (s : StepView) 
 hold_both agent step a s P e f p =
     subst (λ (x : Option Content). HoldBoth x step P) (sym e) (subst (λ (x : Option Content). HoldsStep x (P a)) (sym f) p)
 
-module _ (first : List ℤ) (agent step : Option Content) (a : AgentAt Standard) (s : StepView) (out after : List ℕ) (written : ℕ)
-    (code : ℤ) (e : agent ≡ Some (content.Agent a)) (f : step ≡ Some (content.Step s)) where
-  -- what is told of an agent and a step is told of both slots
-  pub both_told : (P : AgentAt Standard → StepView → ℤ → List ℕ → Type 0) → TellsOneOf first (P a s) out after written code →
-      TellsOneOf first (λ c t. HoldBoth agent step (λ b r. P b r c t)) out after written code
+-- what is so of an agent and a step, before and after, is so of the slots
+pub hold_three : (agent step after : Option Content) (a : AgentAt Standard) (s t : StepView)
+    (P : AgentAt Standard → StepView → StepView → Type 0) → agent ≡ Some (content.Agent a) → step ≡ Some (content.Step s) →
+    after ≡ Some (content.Step t) → P a s t → HoldBoth agent step (λ b r. HoldsStep after (P b r))
+hold_three agent step after a s t P e f g p =
+    hold_both agent step a s (λ b r. HoldsStep after (P b r)) e f (subst (λ (x : Option Content). HoldsStep x (P a s)) (sym g) p)
+
+module _ (first : List ℤ) (agent step after_step : Option Content) (a : AgentAt Standard) (s t : StepView) (out after : List ℕ)
+    (written : ℕ) (code : ℤ) (e : agent ≡ Some (content.Agent a)) (f : step ≡ Some (content.Step s))
+    (g : after_step ≡ Some (content.Step t)) where
+  -- what is told of an agent and a step, before and after, is told of their slots
+  pub both_told : (P : AgentAt Standard → StepView → StepView → ℤ → List ℕ → Type 0) →
+      TellsOneOf first (P a s t) out after written code →
+      TellsOneOf first (λ c text. HoldBoth agent step (λ b r. HoldsStep after_step (λ q. P b r q c text))) out after written code
   both_told P =
-      tells_one_too first (P a s) (λ c t. HoldBoth agent step (λ b r. P b r c t)) out after written code
-      (λ c t is. hold_both agent step a s (λ b r. P b r c t) e f is)
+      tells_one_too first (P a s t) (λ c text. HoldBoth agent step (λ b r. HoldsStep after_step (λ q. P b r q c text)))
+      out after written code (λ c text is. hold_three agent step after_step a s t (λ b r q. P b r q c text) e f g is)
 
   -- and of the move in a box
-  pub move_told : (P : Move → AgentAt Standard → StepView → ℤ → List ℕ → Type 0) (held : Content) (M : Move) →
-      held ≡ content.Move M → TellsOneOf first (P M a s) out after written code →
-      TellsOneOf first (λ c t. HoldsMove (Some held) (λ N. HoldBoth agent step (λ b r. P N b r c t))) out after written code
-  move_told P held M is =
-      tells_one_too first (P M a s) (λ c t. HoldsMove (Some held) (λ N. HoldBoth agent step (λ b r. P N b r c t)))
+  pub move_told : (P : Move → AgentAt Standard → StepView → StepView → ℤ → List ℕ → Type 0) (held : Content) (M : Move) →
+      held ≡ content.Move M → TellsOneOf first (P M a s t) out after written code →
+      TellsOneOf first (λ c text. HoldsMove (Some held) (λ N. HoldBoth agent step (λ b r. HoldsStep after_step (λ q. P N b r q c text))))
       out after written code
-      (λ c t so. subst (λ (x : Content). HoldsMove (Some x) (λ N. HoldBoth agent step (λ b r. P N b r c t))) (sym is)
-      (hold_both agent step a s (λ b r. P M b r c t) e f so))
+  move_told P held M is =
+      tells_one_too first (P M a s t)
+      (λ c text. HoldsMove (Some held) (λ N. HoldBoth agent step (λ b r. HoldsStep after_step (λ q. P N b r q c text))))
+      out after written code
+      (λ c text so. subst (λ (x : Content). HoldsMove (Some x) (λ N. HoldBoth agent step (λ b r. HoldsStep after_step
+      (λ q. P N b r q c text)))) (sym is) (hold_three agent step after_step a s t (λ b r q. P M b r q c text) e f g so))
 
 -- the same of a text of one kind
 pub both_text_told : (agent step : Option Content) (a : AgentAt Standard) (s : StepView) (out after : List ℕ) (written : ℕ) (code : ℤ) →

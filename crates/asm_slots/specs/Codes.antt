@@ -6,7 +6,7 @@ use Rattle.std.specs.Ordering.{int_eq}
 abbrev pub ASM_DONE : ℤ
 ASM_DONE = pos 0
 
--- a location that the move names was written since
+-- a location that the move names, or of a function that it scans, was written since
 abbrev pub ASM_STALE : ℤ
 ASM_STALE = pos 1
 
@@ -42,8 +42,8 @@ ASM_BUSY = pos 8
 abbrev pub ASM_MANY : ℤ
 ASM_MANY = pos 9
 
--- no call was answered yet; no journal since an agent was given back; no move is pushed; no agent with the number was given
--- back; no part has begun; or the storage has room for a further move
+-- no call was answered yet; no journal since an agent was given back or taken; no move is pushed; no agent with the number was
+-- given back; no part has begun; or the storage has room for a further move
 abbrev pub ASM_NONE : ℤ
 ASM_NONE = pos 10
 
@@ -87,7 +87,7 @@ ASM_CUT = pos 19
 abbrev pub ASM_LARGE : ℤ
 ASM_LARGE = pos 20
 
--- the agent's own state stands no longer at the number of the step
+-- the agent's own state stands at another number than the step
 abbrev pub ASM_MOVED : ℤ
 ASM_MOVED = pos 21
 
@@ -108,7 +108,7 @@ IsOneOf (c ∷ cs) code = (code ≡ c) ⊎ IsOneOf cs code
 abbrev pub texts : List (List ℕ)
 texts =
     codes "done" ∷
-    codes "a location that was named was written since it was read" ∷
+    codes "a location that was named, or of a function that was scanned, was written since" ∷
     codes "the updates of the move clash" ∷
     codes "out of memory" ∷
     codes "as many moves were fired as the capacity" ∷
@@ -116,7 +116,7 @@ texts =
     codes "a capacity, a number, a count, a form, a verb, a kind or an amount is out of range" ∷
     codes "the buffer is too small" ∷
     codes "64 offers were lost" ∷
-    codes "more than 256 locations, or more than 4,096 instructions" ∷
+    codes "more than 256 locations and scanned functions, or more than 4,096 instructions" ∷
     codes "there is no answer, journal, pushed move, agent or part, or there is room still" ∷
     codes "the slot that was to be filled holds something else" ∷
     codes "an agent with this number was made before" ∷
@@ -128,7 +128,7 @@ texts =
     codes "a journal of another version" ∷
     codes "the journal is cut off" ∷
     codes "too many calls for a journal, too long a line, or too large an amount" ∷
-    codes "the state of the agent has moved on since the step began" ∷
+    codes "the state of the agent is at another number of moves than the step" ∷
     codes "64 moves are pushed already" ∷ []
 
 -- the text of a code but ASM_APART

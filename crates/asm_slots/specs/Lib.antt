@@ -24,6 +24,7 @@ pub mod Looks
 pub mod ReadAndFire
 pub mod FireOver
 pub mod MadeAgents
+pub mod Tracked
 pub mod StepCalls
 pub mod StepPush
 pub mod PreparedLooks

@@ -4,7 +4,7 @@ use Rattle.asm_slots.specs.Codes.{IsOneOf, ASM_DONE, ASM_MEMORY, ASM_EMPTY, ASM_
 use Rattle.asm_slots.specs.Kinds.{IsTold, bytes_of}
 use Rattle.asm_slots.specs.OwnState.{HasBytesAt, IsToldAt}
 use Rattle.asm_slots.specs.Slots.{GoesStep, HoldBoth, Holds, HoldsLocation, HoldsNoAgent, HoldsNoLocation, HoldsStep, LacksOne}
-use Rattle.asm_slots.specs.StepCalls.{HasGotOne, HasReached, WouldGetOneMore, seen}
+use Rattle.asm_slots.specs.StepCalls.{HasGotOne, HasReached, IsElsewhere, WouldGetOneMore, seen}
 use Rattle.asm_element.specs.declared.value.Value.{Value}
 use Rattle.asm_slots.specs.WrittenText.{Tells}
 use Rattle.asm_slots.specs.declared.content.Content.{Content}
@@ -34,6 +34,7 @@ pub record GetsAt (at agent step after : Option Content) (value : ValueHead) (ou
       (λ a s. IsTold (seen a s l) value.kind value.number bytes)))
       (λ bytes. HoldsLocation at (λ l. HoldBoth agent step (λ a s. bytes ≡ bytes_of (seen a s l)))) out out_after written code
   pub got : code ≡ ASM_DONE → HoldsLocation at (λ l. GoesStep step after (HasGotOne l))
+  pub moved : code ≡ ASM_MOVED → HoldBoth agent step IsElsewhere
   pub reached : IsOneOf (ASM_DONE ∷ ASM_SMALL ∷ ASM_MANY ∷ []) code → HoldBoth agent step HasReached
   pub many : code ≡ ASM_MANY → HoldsLocation at (λ l. HoldsStep step (WouldGetOneMore l))
   pub empty : code ≡ ASM_EMPTY → HoldsNoLocation at ⊎ LacksOne agent step

@@ -24,6 +24,7 @@ use Rattle.asm_slots.specs.Composing.{clash_text, large_text}
 use Rattle.asm_slots.specs.OwnState.{IsTextOfState, of_name, state_at, values_text}
 use Rattle.asm_slots.specs.Standard.{Standard, standard, part}
 use Rattle.asm_slots.specs.StepView.{StepView, names_of}
+use Rattle.asm_slots.specs.Tracked.{judged}
 use Rattle.asm_slots.specs.declared.owned_step.Way.{Way}
 use Rattle.asm_slots.specs.declared.owned_step.Way.TheVariants as ways
 
@@ -40,6 +41,10 @@ seen a s = seen_through (frames_of s.layers) (below a s)
 -- those that extend it
 abbrev pub IsStepOn : AgentAt Standard → StepView → List (List Move) → Type 0
 IsStepOn a s groups = (s.number ≤ length a.account.seen) × IsStepOf part (below a s) s.layers groups
+
+-- the agent's own state stands at another number than the step
+abbrev pub IsElsewhere : AgentAt Standard → StepView → Type 0
+IsElsewhere a s = a.number ≢ s.number
 
 -- the agent has seen as many moves as the step's number says
 abbrev pub HasReached : AgentAt Standard → StepView → Type 0
@@ -82,11 +87,14 @@ abbrev pub IsCopyFor : ℕ → List Place → Place → Option Place → Type 0
 IsCopyFor limit got l None = Contains got l
 IsCopyFor limit got l (Some copy) = (copy ≡ l) × (length got < limit)
 
--- more than 256 places would be taken, with the locations of these bytes
+-- more than 256 places would be taken, with the locations
+abbrev pub WouldTakeMany : List Place → StepView → Type 0
+WouldTakeMany locations s =
+    (ls : List Place) × AreEach (s.got ++ from_below s locations) ls × (reads_limit < length ls + length s.scanned)
+
+-- so it would be with the locations of these bytes
 abbrev pub WouldGetMany : List ℕ → StepView → Type 0
-WouldGetMany bytes s =
-    (locations ls : List Place) × ReadAsLocations bytes locations × AreEach (s.got ++ from_below s locations) ls
-    × (reads_limit < length ls + length s.scanned)
+WouldGetMany bytes s = (locations : List Place) × ReadAsLocations bytes locations × WouldTakeMany locations s
 
 -- the text tells what is seen at the locations with this function name
 abbrev pub IsFoundText : List ℕ → AgentAt Standard → StepView → List ℕ → Type 0
@@ -173,13 +181,20 @@ TellsRefusal Many code text = (code ≡ ASM_MANY) × (text ≡ [])
 TellsRefusal Deep code text = (code ≡ ASM_DEEP) × (text ≡ [])
 TellsRefusal Memory code text = ⊥
 
--- code and text tell why the move is neither pushed nor extends the last one
-abbrev pub IsRefused : Way → Move → AgentAt Standard → StepView → ℤ → List ℕ → Type 0
-IsRefused way M a s code text = (e : StepError) × IsPushError way M a s e × TellsRefusal e code text
+-- code and text tell the refusal of a move, and the locations that it tells of are got; or these take more than 256 places, and
+-- nothing but that is told
+abbrev pub TellsTracked : Move → StepView → StepView → StepError → ℤ → List ℕ → Type 0
+TellsTracked M old new e code text =
+    (TellsRefusal e code text × HasGotEach (judged M e) old new)
+    ⊎ ((code ≡ ASM_MANY) × (text ≡ []) × (new ≡ old) × WouldTakeMany (judged M e) old)
 
--- the bytes are JSON of a move, and code and text tell why it is neither pushed nor extends the last one
-abbrev pub IsNotGrown : Way → List ℕ → AgentAt Standard → StepView → ℤ → List ℕ → Type 0
-IsNotGrown way bytes a s code text = (M : Move) × ReadAsMove bytes M × IsRefused way M a s code text
+-- code and text tell why the move is neither pushed nor extends the last one, and what they tell of the state below is got
+abbrev pub IsRefused : Way → Move → AgentAt Standard → StepView → StepView → ℤ → List ℕ → Type 0
+IsRefused way M a old new code text = (e : StepError) × IsPushError way M a old e × TellsTracked M old new e code text
+
+-- the bytes are JSON of a move, of which it is so
+abbrev pub IsNotGrown : Way → List ℕ → AgentAt Standard → StepView → StepView → ℤ → List ℕ → Type 0
+IsNotGrown way bytes a old new code text = (M : Move) × ReadAsMove bytes M × IsRefused way M a old new code text
 
 -- ---- popping
 
@@ -189,6 +204,10 @@ pub record HasPopped (old new : StepView) : Type 0 where
   pub less : (y : Layer) × (old.layers ≡ new.layers ++ y ∷ [])
   pub step : (a : AgentAt Standard) (groups : List (List Move)) (group : List Move) →
       IsStepOn a old (groups ++ group ∷ []) → IsStepOn a new groups
+
+-- the locations are got where what is seen rests on the state below, and then the move that was pushed last is gone
+abbrev pub HasPoppedOver : List Place → StepView → StepView → Type 0
+HasPoppedOver locations old new = (mid : StepView) × HasGotEach locations old mid × HasPopped mid new
 
 -- these are the moves of the step's last group
 abbrev pub AreLastOf : StepView → List Move → Type 0

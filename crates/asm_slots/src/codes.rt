@@ -101,7 +101,7 @@ fn text_but_apart(code: i32) -> &'static str
 {
     match code {
         DONE => "done",
-        STALE => "a location that was named was written since it was read",
+        STALE => "a location that was named, or of a function that was scanned, was written since",
         CLASH => "the updates of the move clash",
         MEMORY => "out of memory",
         FULL => "as many moves were fired as the capacity",
@@ -110,7 +110,7 @@ fn text_but_apart(code: i32) -> &'static str
             "a capacity, a number, a count, a form, a verb, a kind or an amount is out of range",
         SMALL => "the buffer is too small",
         BUSY => "64 offers were lost",
-        MANY => "more than 256 locations, or more than 4,096 instructions",
+        MANY => "more than 256 locations and scanned functions, or more than 4,096 instructions",
         NONE => "there is no answer, journal, pushed move, agent or part, or there is room still",
         TAKEN => "the slot that was to be filled holds something else",
         NUMBER => "an agent with this number was made before",
@@ -122,7 +122,7 @@ fn text_but_apart(code: i32) -> &'static str
         VERSION => "a journal of another version",
         CUT => "the journal is cut off",
         LARGE => "too many calls for a journal, too long a line, or too large an amount",
-        MOVED => "the state of the agent has moved on since the step began",
+        MOVED => "the state of the agent is at another number of moves than the step",
         DEEP => "64 moves are pushed already",
         _ => "no code of this library",
     }

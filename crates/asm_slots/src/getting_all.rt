@@ -4,7 +4,7 @@ ghost use Rattle.std.specs.Prelude.{IfErr, IfOk, IfNone, IfSome, IsSome, OnOk};
 ghost use Rattle.std.specs.Vec.{vec_capacity};
 ghost use Rattle.asm_slots.specs.Codes.{IsOneOf, ASM_DONE, ASM_MEMORY, ASM_SMALL, ASM_MANY};
 ghost use Rattle.asm_slots.specs.Codes.{ASM_SHAPE, ASM_MOVED};
-ghost use Rattle.asm_slots.specs.StepCalls.{HasGotAll, HasReached, IsFound, IsFoundText, IsScanFor};
+ghost use Rattle.asm_slots.specs.StepCalls.{HasGotAll, HasReached, IsElsewhere, IsFound, IsFoundText, IsScanFor};
 ghost use Rattle.asm_slots.specs.StepCalls.{WouldGetManyMore, has_scan};
 ghost use Rattle.asm_slots.specs.StepView.{names_of};
 ghost use Rattle.asm_slots.specs.WrittenText.{TellsText};
@@ -29,6 +29,7 @@ fn found_in(
 ) -> Result<PlainState, GetError>
     ensures found { IfOk result (IsFound name.now agent.now step.now) }
     ensures reached { OnOk result (HasReached agent.now step.now) }
+    ensures moved { IfErr result (λ e. e ≡ GetError.Moved → IsElsewhere agent.now step.now) }
 {
     let state = agent.state();
     if state.number() != step.number {
@@ -50,6 +51,7 @@ fn found_text(
 ) -> Result<String, GetError>
     ensures text { IfOk result (λ text. IsFoundText name.now agent.now step.now (string_bytes text)) }
     ensures reached { OnOk result (HasReached agent.now step.now) }
+    ensures moved { IfErr result (λ e. e ≡ GetError.Moved → IsElsewhere agent.now step.now) }
 {
     let found = found_in(alloc, agent, step, name)?;
     Ok(state_text(alloc, &found)?)
@@ -112,6 +114,7 @@ fn get_all_of_name(
     ensures codes { IsOneOf (ASM_DONE ∷ ASM_MEMORY ∷ ASM_SMALL ∷ ASM_MANY ∷ ASM_MOVED ∷ []) result }
     ensures text { TellsText (IsFoundText name.now agent.now step.old) out.old out.new written.new result }
     ensures got { result ≡ ASM_DONE → HasGotAll name.now step.old step.new }
+    ensures moved { result ≡ ASM_MOVED → IsElsewhere agent.now step.old }
     ensures reached { IsOneOf (ASM_DONE ∷ ASM_SMALL ∷ ASM_MANY ∷ []) result → HasReached agent.now step.old }
     ensures many { result ≡ ASM_MANY → WouldGetManyMore name.now step.old }
     ensures stays { result ≢ ASM_DONE → step.new ≡ step.old }
@@ -148,6 +151,7 @@ pub fn get_all_in(
     ensures codes { IsOneOf (ASM_DONE ∷ ASM_MEMORY ∷ ASM_SMALL ∷ ASM_MANY ∷ ASM_SHAPE ∷ ASM_MOVED ∷ []) result }
     ensures text { TellsText (IsFoundText name.now agent.now step.old) out.old out.new written.new result }
     ensures got { result ≡ ASM_DONE → HasGotAll name.now step.old step.new }
+    ensures moved { result ≡ ASM_MOVED → IsElsewhere agent.now step.old }
     ensures reached { IsOneOf (ASM_DONE ∷ ASM_SMALL ∷ ASM_MANY ∷ []) result → HasReached agent.now step.old }
     ensures many { result ≡ ASM_MANY → WouldGetManyMore name.now step.old }
     ensures shape { result ≡ ASM_SHAPE → ¬ IsUtf8 name.now }

@@ -8,7 +8,7 @@ ghost use Rattle.asm_step.specs.Places.{AreEach};
 ghost use Rattle.asm_storage.specs.Limits.{reads_limit};
 ghost use Rattle.asm_slots.specs.Codes.{IsOneOf, ASM_DONE, ASM_MEMORY, ASM_SMALL, ASM_MANY, ASM_MOVED};
 ghost use Rattle.asm_slots.specs.Slots.{content_of};
-ghost use Rattle.asm_slots.specs.StepCalls.{HasGotOne, HasReached, IsCopyFor, WouldGetOneMore, seen};
+ghost use Rattle.asm_slots.specs.StepCalls.{HasGotOne, HasReached, IsCopyFor, IsElsewhere, WouldGetOneMore, seen};
 ghost use Rattle.asm_slots.specs.PreparedLooks.{GetsAt, IsNoValue, TellsValue};
 
 use crate::codes::{DONE, EMPTY, MANY, MEMORY, MOVED};
@@ -79,6 +79,7 @@ fn get_one(
     ensures codes { IsOneOf (ASM_DONE ∷ ASM_MEMORY ∷ ASM_SMALL ∷ ASM_MANY ∷ ASM_MOVED ∷ []) result }
     ensures text { TellsValue (seen agent.now step.old at.now) value.new out.old out.new written.new result }
     ensures got { result ≡ ASM_DONE → HasGotOne at.now step.old step.new }
+    ensures moved { result ≡ ASM_MOVED → IsElsewhere agent.now step.old }
     ensures reached { IsOneOf (ASM_DONE ∷ ASM_SMALL ∷ ASM_MANY ∷ []) result → HasReached agent.now step.old }
     ensures many { result ≡ ASM_MANY → WouldGetOneMore at.now step.old }
     ensures stays { result ≢ ASM_DONE → step.new ≡ step.old }

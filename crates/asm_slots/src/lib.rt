@@ -46,6 +46,7 @@ mod store_close;
 mod store_give;
 mod store_take;
 pub mod take_and_put;
+mod tracking;
 mod value_head;
 
 pub use audit::{Audit, AuditNumbers};

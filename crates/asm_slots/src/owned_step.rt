@@ -173,7 +173,7 @@ impl OwnedStep {
     }
 
     /// Takes the move that was pushed last away, with those that extend it, and hands them back; None where there is none.
-    pub fn pop(&mut self) -> Option<Popped>
+    pub(crate) fn pop(&mut self) -> Option<Popped>
         ensures popped { IfSome result (λ popped. HasPopped self.old self.new) }
         ensures moves { IfSome result (AreLastOf self.old) }
         ensures none { IsNone result → self.old.layers ≡ [] }

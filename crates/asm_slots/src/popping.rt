@@ -2,19 +2,25 @@
 #![tactic(auto, unfolding(asm_aggregate::specs::Standard::standard_meaning))]
 
 ghost use Rattle.std.specs.Bool.{OnFalse, OnTrue};
-ghost use Rattle.std.specs.Prelude.{◌≡◌, ◌≢◌, ◌∷◌, [], Err, IfErr, IfOk, IfSome, IsNone, Ok};
+ghost use Rattle.std.specs.Prelude.{◌≡◌, ◌≢◌, ◌≤◌, ◌+◌, ◌∷◌, ◌++◌, [], Err, IfErr, IfOk, IfSome, IsNone, Ok, length};
+ghost use Rattle.asm_step.specs.Places.{AreEach};
+ghost use Rattle.asm_storage.specs.Limits.{reads_limit};
 ghost use Rattle.asm_slots.specs.Codes.{IsOneOf, ASM_CLASH, ASM_DONE, ASM_LARGE, ASM_MANY, ASM_MEMORY, ASM_NONE};
-ghost use Rattle.asm_slots.specs.Popping.{IsComposedLast, IsUncomposedLast, TellsUncomposed};
+ghost use Rattle.asm_slots.specs.Popping.{IsComposedLast, IsNotPoppedLast, TellsUncomposed};
 ghost use Rattle.asm_slots.specs.Slots.{HasRoomForMove, HoldsMove, content_of};
-ghost use Rattle.asm_slots.specs.StepCalls.{HasPopped};
+ghost use Rattle.asm_slots.specs.StepCalls.{HasPoppedOver, WouldTakeMany, from_below};
+ghost use Rattle.asm_slots.specs.Tracked.{judged_last, resting_last};
 
 use crate::codes::{CLASH, DONE, LARGE, MANY, MEMORY, NONE};
 use crate::content::Content;
 use crate::instructing::hold;
 use crate::owned_step::OwnedStep;
 use crate::slot::Slot;
+use crate::steps::GetError;
 use crate::take_and_put::{put_shell, take_shell};
+use crate::tracking::tracked;
 use asm_aggregate::{ComposeError, standard};
+use asm_element::Location;
 use asm_update::Instructions;
 use std::alloc::{AllocError, Global};
 
@@ -57,16 +63,50 @@ impl OwnedStep {
             None => Ok(None),
         }
     }
+
+    // All that is got once these moves are popped as one.
+    fn got_at_rest(&self, alloc: Global) -> Result<Vec<Location>, GetError>
+        ensures all { IfOk result (λ all. AreEach (self.now.got ++ from_below self.now (resting_last self.now)) all.items) }
+        ensures few { IfOk result (λ all. length all.items + length self.now.scanned ≤ reads_limit) }
+        ensures many { IfErr result (λ e. e ≡ GetError.Many → WouldTakeMany (resting_last self.now) self.now) }
+    {
+        tracked(alloc, self, self.resting_last(alloc)?)
+    }
+}
+
+/// Takes the move that was pushed last away, with those that extend it. Where these have partial updates that were judged on
+/// the state below, that is got.
+pub fn pop_in(alloc: Global, step: &mut OwnedStep) -> i32
+    ensures codes { IsOneOf (ASM_DONE ∷ ASM_MEMORY ∷ ASM_MANY ∷ ASM_NONE ∷ []) result }
+    ensures popped { result ≡ ASM_DONE → HasPoppedOver (judged_last step.old) step.old step.new }
+    ensures none { result ≡ ASM_NONE → step.old.layers ≡ [] }
+    ensures many { result ≡ ASM_MANY → WouldTakeMany (judged_last step.old) step.old }
+    ensures kept { result ≢ ASM_DONE → step.new ≡ step.old }
+{
+    let judged = match step.judged_last(alloc) {
+        Ok(Some(judged)) => judged,
+        Ok(None) => return NONE,
+        Err(AllocError) => return MEMORY,
+    };
+    match tracked(alloc, step, judged) {
+        Ok(all) => {
+            step.got = all;
+            let _popped = step.pop();
+            DONE
+        }
+        Err(GetError::Many) => MANY,
+        Err(_) => MEMORY,
+    }
 }
 
 /// Takes the move that was pushed last away, with those that extend it, and puts the one that does what they do into the
-/// slot.
+/// slot. Where these rest by themselves on the state below, that is got.
 pub fn pop_into(alloc: Global, step: &mut OwnedStep, instrs: &mut Slot) -> i32
     ensures codes { IsOneOf (ASM_DONE ∷ ASM_CLASH ∷ ASM_MEMORY ∷ ASM_MANY ∷ ASM_LARGE ∷ ASM_NONE ∷ []) result }
-    ensures popped { result ≡ ASM_DONE → HasPopped step.old step.new }
+    ensures popped { result ≡ ASM_DONE → HasPoppedOver (resting_last step.old) step.old step.new }
     ensures done { result ≡ ASM_DONE → HoldsMove (content_of instrs.new) (λ M. IsComposedLast step.old (Ok M)) }
     ensures none { result ≡ ASM_NONE → step.old.layers ≡ [] }
-    ensures refused { IsOneOf (ASM_CLASH ∷ ASM_MANY ∷ ASM_LARGE ∷ []) result → IsUncomposedLast step.old result }
+    ensures refused { IsOneOf (ASM_CLASH ∷ ASM_MANY ∷ ASM_LARGE ∷ []) result → IsNotPoppedLast step.old result }
     ensures kept { result ≢ ASM_DONE → step.new ≡ step.old }
     ensures held { result ≢ ASM_DONE → content_of instrs.new ≡ content_of instrs.old }
 {
@@ -75,8 +115,14 @@ pub fn pop_into(alloc: Global, step: &mut OwnedStep, instrs: &mut Slot) -> i32
         Ok(None) => return NONE,
         Err(error) => return code_of_compose_error(&error),
     };
+    let got = match step.got_at_rest(alloc) {
+        Ok(got) => got,
+        Err(GetError::Many) => return MANY,
+        Err(_) => return MEMORY,
+    };
     match hold(alloc, instrs, one) {
         Ok(()) => {
+            step.got = got;
             step.pop();
             DONE
         }

@@ -1,12 +1,16 @@
 //! Pushing moves onto a step, and extending the one that was pushed last.
-ghost use Rattle.std.specs.Prelude.{◌≡◌, ◌≢◌, ◌∷◌, [], string_bytes, IfOk};
+ghost use Rattle.std.specs.Prelude.{◌≡◌, ◌≤◌, ◌+◌, ◌∷◌, ◌++◌, [], length, string_bytes, IfErr, IfOk};
 ghost use Rattle.asm_journal.specs.Event.{IsMoveForm};
+ghost use Rattle.asm_step.specs.Places.{AreEach};
+ghost use Rattle.asm_storage.specs.Limits.{reads_limit};
 ghost use Rattle.asm_explain.specs.Bytes.{IsNoJson, IsOtherJson};
 ghost use Rattle.asm_slots.specs.Codes.{IsOneOf, ASM_DONE, ASM_CLASH, ASM_MEMORY, ASM_SMALL};
 ghost use Rattle.asm_slots.specs.Codes.{ASM_MANY, ASM_NOT_JSON, ASM_SHAPE, ASM_LARGE, ASM_MOVED, ASM_DEEP};
-ghost use Rattle.asm_slots.specs.StepPush.{Grows, refusals};
+ghost use Rattle.asm_slots.specs.StepPush.{Grows, changes, refusals};
 ghost use Rattle.asm_slots.specs.Slots.{content_of};
-ghost use Rattle.asm_slots.specs.StepCalls.{HasGrown, IsGrown, IsNotGrown, IsRefused, TellsRefusal};
+ghost use Rattle.asm_slots.specs.StepCalls.{HasGrown, IsElsewhere, IsGrown, IsNotGrown, IsRefused, TellsRefusal};
+ghost use Rattle.asm_slots.specs.StepCalls.{TellsTracked, WouldTakeMany, from_below};
+ghost use Rattle.asm_slots.specs.Tracked.{judged};
 ghost use Rattle.asm_slots.specs.WrittenText.{TellsOneOf};
 ghost use Rattle.asm_slots.specs.declared.owned_step.Way.TheVariants as ways;
 
@@ -17,6 +21,9 @@ use crate::owned_agent::OwnedAgent;
 use crate::owned_step::{OwnedStep, Way, grow};
 use crate::parsing::{code_of_text_error, move_of};
 use crate::slot::Slot;
+use crate::steps::GetError;
+use crate::tracking::{judged, tracked};
+use asm_element::Location;
 use asm_step::StepError;
 use asm_update::Instructions;
 use std::alloc::{AllocError, Global};
@@ -47,16 +54,53 @@ fn told_refusal(alloc: Global, error: StepError) -> Result<Told, AllocError>
     }
 }
 
-// Tells why a move isn't pushed.
-fn tell_refusal(alloc: Global, error: StepError, out: &mut [u8], written: &mut usize) -> i32
+// Why the move isn't pushed, and all that is got once that is told.
+#[derive(Drop)]
+struct Refused {
+    told: Told,
+    got: Vec<Location>,
+}
+
+fn refusal_of(
+    alloc: Global,
+    step: &OwnedStep,
+    instrs: &Instructions,
+    error: StepError,
+) -> Result<Refused, GetError>
+    ensures told { IfOk result (λ r. TellsRefusal error r.told.code (string_bytes r.told.text)) }
+    ensures codes { IfOk result (λ r. IsOneOf (ASM_CLASH ∷ ASM_MANY ∷ ASM_LARGE ∷ ASM_DEEP ∷ []) r.told.code) }
+    ensures deep { IfOk result (λ r. r.told.code ≡ ASM_DEEP → error ≡ StepError.Deep) }
+    ensures got { IfOk result (λ r. AreEach (step.now.got ++ from_below step.now (judged instrs.now error)) r.got.items) }
+    ensures few { IfOk result (λ r. length r.got.items + length step.now.scanned ≤ reads_limit) }
+    ensures many { IfErr result (λ e. e ≡ GetError.Many → WouldTakeMany (judged instrs.now error) step.now) }
+{
+    let got = tracked(alloc, step, judged(alloc, instrs, &error)?)?;
+    let told = told_refusal(alloc, error)?;
+    Ok(Refused { told, got })
+}
+
+// Tells why the move isn't pushed, and has what that tells of got.
+fn refuse(
+    alloc: Global,
+    step: &mut OwnedStep,
+    instrs: &Instructions,
+    error: StepError,
+    out: &mut [u8],
+    written: &mut usize,
+) -> i32
     requires { written.old ≡ 0 }
     ensures codes { IsOneOf (ASM_CLASH ∷ ASM_MEMORY ∷ ASM_SMALL ∷ ASM_MANY ∷ ASM_LARGE ∷ ASM_DEEP ∷ []) result }
-    ensures text { TellsOneOf refusals (TellsRefusal error) out.old out.new written.new result }
+    ensures text { TellsOneOf refusals (TellsTracked instrs.now step.old step.new error) out.old out.new written.new result }
     ensures deep { result ≡ ASM_DEEP → error ≡ StepError.Deep }
+    ensures stays { result ≡ ASM_MEMORY → step.new ≡ step.old }
 {
-    match told_refusal(alloc, error) {
-        Ok(told) => written_as(&told, out, written),
-        Err(AllocError) => MEMORY,
+    match refusal_of(alloc, step, instrs, error) {
+        Ok(refused) => {
+            step.got = refused.got;
+            written_as(&refused.told, out, written)
+        }
+        Err(GetError::Many) => MANY,
+        Err(_) => MEMORY,
     }
 }
 
@@ -74,9 +118,10 @@ pub(crate) fn grow_by(
     ensures codes { IsOneOf (ASM_DONE ∷ ASM_CLASH ∷ ASM_MEMORY ∷ ASM_SMALL ∷ ASM_MANY
         ∷ ASM_LARGE ∷ ASM_MOVED ∷ ASM_DEEP ∷ []) result }
     ensures grown { result ≡ ASM_DONE → IsGrown way instrs.now agent.now step.old step.new }
-    ensures text { TellsOneOf refusals (IsRefused way instrs.now agent.now step.old) out.old out.new written.new result }
+    ensures text { TellsOneOf refusals (IsRefused way instrs.now agent.now step.old step.new) out.old out.new written.new result }
+    ensures moved { result ≡ ASM_MOVED → IsElsewhere agent.now step.old }
     ensures deep { result ≡ ASM_DEEP → way ≡ ways.Push }
-    ensures stays { result ≢ ASM_DONE → step.new ≡ step.old }
+    ensures stays { ¬ IsOneOf changes result → step.new ≡ step.old }
 {
     let state = agent.state();
     if state.number() != step.number {
@@ -86,7 +131,7 @@ pub(crate) fn grow_by(
         Ok(()) => return DONE,
         Err(error) => error,
     };
-    tell_refusal(alloc, error, out, written)
+    refuse(alloc, step, instrs, error, out, written)
 }
 
 fn grow_in(
@@ -102,11 +147,12 @@ fn grow_in(
     ensures codes { IsOneOf (ASM_DONE ∷ ASM_CLASH ∷ ASM_MEMORY ∷ ASM_SMALL ∷ ASM_MANY
         ∷ ASM_NOT_JSON ∷ ASM_SHAPE ∷ ASM_LARGE ∷ ASM_MOVED ∷ ASM_DEEP ∷ []) result }
     ensures grown { result ≡ ASM_DONE → HasGrown way instrs.now agent.now step.old step.new }
-    ensures text { TellsOneOf refusals (IsNotGrown way instrs.now agent.now step.old) out.old out.new written.new result }
+    ensures text { TellsOneOf refusals (IsNotGrown way instrs.now agent.now step.old step.new) out.old out.new written.new result }
+    ensures moved { result ≡ ASM_MOVED → IsElsewhere agent.now step.old }
     ensures deep { result ≡ ASM_DEEP → way ≡ ways.Push }
     ensures not_json { result ≡ ASM_NOT_JSON → IsNoJson instrs.now }
     ensures shape { result ≡ ASM_SHAPE → IsOtherJson IsMoveForm instrs.now }
-    ensures stays { result ≢ ASM_DONE → step.new ≡ step.old }
+    ensures stays { ¬ IsOneOf changes result → step.new ≡ step.old }
 {
     match move_of(alloc, instrs) {
         Ok(instrs) => grow_by(alloc, agent, step, way, &instrs, out, written),

@@ -9,7 +9,8 @@ ghost use Rattle.asm_slots.specs.Codes.{IsOneOf, ASM_DONE, ASM_MEMORY, ASM_SMALL
 ghost use Rattle.asm_slots.specs.Codes.{ASM_NOT_JSON, ASM_SHAPE, ASM_MOVED};
 ghost use Rattle.asm_slots.specs.OwnState.{values_text};
 ghost use Rattle.asm_slots.specs.Slots.{HasRoomForStep, HoldsStep, content_of};
-ghost use Rattle.asm_slots.specs.StepCalls.{HasGot, HasReached, IsGotText, WouldGetMany, from_below, seen};
+ghost use Rattle.asm_slots.specs.StepCalls.{HasGot, HasReached, IsElsewhere, IsGotText, WouldGetMany, WouldTakeMany};
+ghost use Rattle.asm_slots.specs.StepCalls.{from_below, seen};
 ghost use Rattle.asm_slots.specs.StepView.{begun};
 ghost use Rattle.asm_slots.specs.WrittenText.{TellsText};
 
@@ -17,12 +18,12 @@ use crate::codes::{DONE, MANY, MEMORY, MOVED, SHAPE, copied};
 use crate::content::Content;
 use crate::looking::text_of_values;
 use crate::owned_agent::OwnedAgent;
-use crate::owned_step::{OwnedStep, each_of, from_below};
+use crate::owned_step::OwnedStep;
 use crate::parsing::{code_of_text_error, locations_of};
 use crate::slot::Slot;
 use crate::take_and_put::{put_shell, take_shell};
+use crate::tracking::tracked;
 use asm_element::Location;
-use asm_storage::READS_LIMIT;
 use std::alloc::{AllocError, Global};
 
 /// Whether the slot is empty or holds a step.
@@ -87,6 +88,7 @@ fn text_seen(
         ≡ values_text step.now.number (seen agent.now step.now) locations.now) }
     ensures reached { OnOk result (HasReached agent.now step.now) }
     ensures err { IfErr result (λ e. ¬ (e ≡ GetError.Many) × ¬ (e ≡ GetError.Shape)) }
+    ensures moved { IfErr result (λ e. e ≡ GetError.Moved → IsElsewhere agent.now step.now) }
 {
     let state = agent.state();
     if state.number() != step.number {
@@ -107,18 +109,13 @@ fn got_at(
     ensures reached { OnOk result (HasReached agent.now step.now) }
     ensures all { IfOk result (λ g. AreEach (step.now.got ++ from_below step.now locations.items) g.all.items) }
     ensures few { IfOk result (λ g. length g.all.items + length step.now.scanned ≤ reads_limit) }
-    ensures many { IfErr result (λ e. e ≡ GetError.Many → (ls : List Place)
-        × AreEach (step.now.got ++ from_below step.now locations.items) ls
-        × (reads_limit < length ls + length step.now.scanned)) }
+    ensures many { IfErr result (λ e. e ≡ GetError.Many → WouldTakeMany locations.items step.now) }
+    ensures moved { IfErr result (λ e. e ≡ GetError.Moved → IsElsewhere agent.now step.now) }
     ensures many_reached { IfErr result (λ e. e ≡ GetError.Many → HasReached agent.now step.now) }
     ensures shape { IfErr result (λ e. ¬ (e ≡ GetError.Shape)) }
 {
     let text = text_seen(alloc, agent, step, &locations)?;
-    let below = from_below(alloc, &step.step, locations)?;
-    let all = each_of(alloc, &step.got, below)?;
-    if all.len() > READS_LIMIT - step.scanned.len() {
-        return Err(GetError::Many);
-    }
+    let all = tracked(alloc, step, locations)?;
     Ok(Got { text, all })
 }
 
@@ -134,6 +131,7 @@ pub fn see_in(
     requires { written.old ≡ 0 }
     ensures codes { IsOneOf (ASM_DONE ∷ ASM_MEMORY ∷ ASM_SMALL ∷ ASM_NOT_JSON ∷ ASM_SHAPE ∷ ASM_MOVED ∷ []) result }
     ensures text { TellsText (IsGotText locations.now agent.now step.now) out.old out.new written.new result }
+    ensures moved { result ≡ ASM_MOVED → IsElsewhere agent.now step.now }
     ensures reached { IsOneOf (ASM_DONE ∷ ASM_SMALL ∷ []) result → HasReached agent.now step.now }
     ensures not_json { result ≡ ASM_NOT_JSON → IsNoJson locations.now }
     ensures shape { result ≡ ASM_SHAPE → IsOtherJson AreLocations locations.now }
@@ -163,6 +161,7 @@ pub fn get_in(
         ∷ ASM_NOT_JSON ∷ ASM_SHAPE ∷ ASM_MOVED ∷ []) result }
     ensures text { TellsText (IsGotText locations.now agent.now step.old) out.old out.new written.new result }
     ensures got { result ≡ ASM_DONE → HasGot locations.now step.old step.new }
+    ensures moved { result ≡ ASM_MOVED → IsElsewhere agent.now step.old }
     ensures reached { IsOneOf (ASM_DONE ∷ ASM_SMALL ∷ ASM_MANY ∷ []) result → HasReached agent.now step.old }
     ensures many { result ≡ ASM_MANY → WouldGetMany locations.now step.old }
     ensures not_json { result ≡ ASM_NOT_JSON → IsNoJson locations.now }

@@ -20,6 +20,7 @@ returns-clause-gets c =
           (both_text_told _ _ c.in-Some-in_both-agent.field-0.now c.in-Step-in_both.field-0 _ c.get_in.new.out c.get_in.new.written
           c.get_in.result agent step (IsGotText c.args.locations.now) c.get_in.ensures.text);
       got = search rules;
+      moved = search rules;
       reached = search rules;
       many = search rules;
       not_json = search rules;

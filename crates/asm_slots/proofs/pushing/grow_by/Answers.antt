@@ -17,14 +17,14 @@ returns-in-Ok-clause-grown c _ =
 pub returns-clause-text : goal.returns-clause-text
 returns-clause-text c =
     let inside : StepView = record { number = c.step.inside.number; layers = c.step.inside.step; got = c.step.inside.got.items; scanned = names_of c.step.inside.scanned.items } in
-    subst (TellsOneOf refusals (IsRefused c.args.way c.args.instrs.now c.args.agent.now c.args.step.now) c.args.out.now
-    c.tell_refusal.new.out c.tell_refusal.new.written) (sym (to_z-of_z {w = w32} (record { sfits = c.tell_refusal.type_inv })))
+    subst (TellsOneOf refusals (IsRefused c.args.way c.args.instrs.now c.args.agent.now c.args.step.now c.refuse.new.step) c.args.out.now
+    c.refuse.new.out c.refuse.new.written) (sym (to_z-of_z {w = w32} (record { sfits = c.refuse.type_inv })))
     (is_refused c.args.way c.args.agent.now c.state-state.result.now c.args.step.now inside c.grow.new.step c.args.instrs.now
-    c.in-Err.error _ c.tell_refusal.new.out c.tell_refusal.new.written c.tell_refusal.result c.step.view_is
+    c.in-Err.error c.refuse.new.step _ c.refuse.new.out c.refuse.new.written c.refuse.result c.step.view_is
     c.state-state.ensures.following (sym c.number.ensures ∙ c.if-number-step.false) c.in-Err.ensures.deep c.in-Err.ensures.err
-    c.in-Err.ensures.answer c.in-Err.ensures.answer_on c.tell_refusal.ensures.text)
+    c.in-Err.ensures.answer c.in-Err.ensures.answer_on c.refuse.ensures.text)
 
 pub returns-clause-deep : goal.returns-clause-deep
 returns-clause-deep c is =
-    let same = to_z-of_z {w = w32} (record { sfits = c.tell_refusal.type_inv }) in
-    pushes c.args.way (λ extends. c.in-Err.ensures.deep extends (c.tell_refusal.ensures.deep (sym same ∙ is)))
+    let same = to_z-of_z {w = w32} (record { sfits = c.refuse.type_inv }) in
+    pushes c.args.way (λ extends. c.in-Err.ensures.deep extends (c.refuse.ensures.deep (sym same ∙ is)))

@@ -1,0 +1,245 @@
+/* What a step was told by a refusal, or by a move that it popped, belongs to its read set. */
+#include "commits.h"
+
+static const char *const shelf = "[[['b'],{'bag':[['e',1]]}],[['c'],0],[['s'],{'set':[1]}]]";
+
+static asm_slot move;
+
+static void begin_at_shelf(void) {
+    open_with(shelf, 16, &storage);
+    REQUIRE(asm_agents(&storage, agents, 2) == ASM_DONE);
+    begins_at(0);
+}
+
+static void end_at_shelf(void) {
+    asm_free(&move);
+    end_all();
+}
+
+/* The locations that a commit would name by now, of a step at 0 moves. */
+static void tracks(const char *fire, const char *reads) {
+    char offer[256];
+    snprintf(offer, sizeof offer, "{'fire':%s,'reads':%s}", fire, reads);
+    TELLS(ASM_DONE, offer, asm_offer(&step, OUT));
+}
+
+/* A move of one instruction at a location, in the slot. */
+static void gathers(const char *location, int32_t verb, int32_t kind, int64_t number,
+                    const char *text, uint32_t amount) {
+    asm_slot at = {0};
+    REQUIRE(asm_location(TEXT(location), &at) == ASM_DONE);
+    REQUIRE(asm_instruct(&move, &at, verb, kind, number, *text ? bytes(text) : NULL, strlen(text),
+                         amount) == ASM_DONE);
+    asm_free(&at);
+}
+
+/* Each call that puts a move onto a step; it takes two of the bag's one element. */
+static int32_t takes_two(int way, uint8_t *out, size_t room, size_t *written) {
+    const char *text = "[['bagremove',['b'],'e',2]]";
+    asm_free(&move);
+    gathers("['b']", ASM_BAGREMOVE, ASM_KIND_TEXT, 0, "e", 2);
+    switch (way) {
+    case 0:
+        return asm_push(&agents[0], &step, TEXT(text), out, room, written);
+    case 1:
+        return asm_extend(&agents[0], &step, TEXT(text), out, room, written);
+    case 2:
+        return asm_push_move(&agents[0], &step, &move, out, room, written);
+    default:
+        return asm_extend_move(&agents[0], &step, &move, out, room, written);
+    }
+}
+
+/* The step does otherwise where a push is refused: it is stale once the push would be taken. So it
+ * is where the text of the refusal has no room. */
+static void refused_moves(void) {
+    for (int way = 0; way < 8; way++) {
+        size_t written;
+        begin_at_shelf();
+        if (way < 4)
+            TELLS(ASM_CLASH, "{'clash':[['b'],'Short']}", takes_two(way, OUT));
+        else
+            REQUIRE(takes_two(way - 4, NULL, 0, &written) == ASM_SMALL && written > 0);
+        tracks("[]", "[[['b'],0]]");
+        push("[['put',['soldOut'],true]]");
+        fire(&agents[1], "[['bagadd',['b'],'e',1]]");
+        refused(ASM_STALE, "{'stale':['b']}");
+        begins_at(1);
+        fired(2);
+        end_at_shelf();
+    }
+}
+
+/* A refusal tells that the smaller locations fit, and nothing of the greater ones. */
+static void smaller_locations(void) {
+    begin_at_shelf();
+    TELLS(ASM_CLASH, "{'clash':[['c'],'Kind']}",
+          asm_push(&agents[0], &step,
+                   TEXT("[['add',['s'],2],['add',['c'],1],['bagremove',['b'],'e',1],"
+                        "['put',['a'],1]]"), OUT));
+    tracks("[]", "[[['b'],0],[['c'],0]]");
+    fire(&agents[1], "[['add',['s'],3],['put',['a'],2]]");
+    fired(2);
+    end_at_shelf();
+}
+
+/* What the step put itself tells nothing of the state below; an updated value does. */
+static void refused_by_own_puts(void) {
+    begin_at_shelf();
+    push("[['bagadd',['b'],'f',1],['put',['c'],'none']]");
+    TELLS(ASM_CLASH, "{'clash':[['c'],'Kind']}",
+          asm_push(&agents[0], &step, TEXT("[['inc',['c'],1]]"), OUT));
+    tracks("[['bagadd',['b'],'f',1],['put',['c'],'none']]", "[]");
+    TELLS(ASM_CLASH, "{'clash':[['b'],'Short']}",
+          asm_extend(&agents[0], &step, TEXT("[['bagremove',['b'],'f',2]]"), OUT));
+    tracks("[['bagadd',['b'],'f',1],['put',['c'],'none']]", "[[['b'],0]]");
+    end_at_shelf();
+}
+
+/* A text of so many instructions or locations, each with its number. */
+static const char *each(const char *format, int count) {
+    static char text[32 * LONGEST];
+    char *at = text + sprintf(text, "[");
+    for (int i = 0; i < count; i++) {
+        at += sprintf(at, "%s", i ? "," : "");
+        at += sprintf(at, format, i);
+    }
+    sprintf(at, "]");
+    return text;
+}
+
+/* That only the number of instructions is too great tells that all locations fit. */
+static void too_many_instructions(void) {
+    const char *puts = each("[\"put\",[\"w\",%d],1]", 4096);
+    begin_at_shelf();
+    ANSWERS(ASM_DONE, asm_push(&agents[0], &step, bytes(puts), strlen(puts), OUT));
+    ANSWERS(ASM_MANY, asm_push(&agents[0], &step, TEXT("[['bagremove',['b'],'e',1]]"), OUT));
+    fire(&agents[1], "[['bagremove',['b'],'e',1]]");
+    refused(ASM_STALE, "{'stale':['b']}");
+    end_at_shelf();
+}
+
+/* Has so many places taken. */
+static void takes_places(int count) {
+    static uint8_t out[2 * LONGEST];
+    const char *text = each("[\"w\",%d]", count);
+    size_t written;
+    REQUIRE(asm_get(&agents[0], &step, bytes(text), strlen(text), out, sizeof out, &written) ==
+            ASM_DONE);
+}
+
+/* Where a refusal or a pop has no place, it is ASM_MANY, and the step stays as it was. */
+static void no_place(void) {
+    begin_at_shelf();
+    push("[['inc',['c'],1]]");
+    takes_places(256);
+    for (int way = 0; way < 4; way++)
+        ANSWERS(ASM_MANY, takes_two(way, OUT));
+    REQUIRE(asm_pop(&step) == ASM_MANY && asm_depth(&step) == 1);
+    ANSWERS(ASM_DONE, asm_extend(&agents[0], &step, TEXT("[['inc',['c'],-1]]"), OUT));
+    asm_slot was = move;
+    REQUIRE(asm_pop_move(&step, &move) == ASM_MANY && asm_depth(&step) == 1);
+    REQUIRE(is_same(move, was));
+    begins_at(0);
+    takes_places(255);
+    TELLS(ASM_CLASH, "{'clash':[['b'],'Short']}", takes_two(0, OUT));
+    fire(&agents[1], "[['bagadd',['b'],'e',1]]");
+    refused(ASM_STALE, "{'stale':['b']}");
+    end_at_shelf();
+}
+
+/* A move that was taken and is popped told what it looked at below. */
+static void popped_moves(void) {
+    for (int is_extended = 0; is_extended < 2; is_extended++) {
+        begin_at_shelf();
+        push(is_extended ? "[['put',['a'],1]]" : "[['bagremove',['b'],'e',1],['put',['a'],1]]");
+        if (is_extended)
+            ANSWERS(ASM_DONE, asm_extend(&agents[0], &step,
+                                         TEXT("[['bagremove',['b'],'e',1]]"), OUT));
+        tracks(is_extended ? "[['put',['a'],1],['bagremove',['b'],'e',1]]"
+                           : "[['bagremove',['b'],'e',1],['put',['a'],1]]", "[]");
+        pop();
+        tracks("[]", "[[['b'],0]]");
+        push("[['put',['inStock'],true]]");
+        fire(&agents[1], "[['bagremove',['b'],'e',1]]");
+        refused(ASM_STALE, "{'stale':['b']}");
+        end_at_shelf();
+    }
+    /* Not where the step put the value, and where it only puts. */
+    begin_at_shelf();
+    push("[['put',['c'],5]]");
+    push("[['inc',['c'],1],['put',['a'],1]]");
+    ANSWERS(ASM_DONE, asm_extend(&agents[0], &step, TEXT("[['inc',['a'],1]]"), OUT));
+    pop();
+    tracks("[['put',['c'],5]]", "[]");
+    fire(&agents[1], "[['put',['c'],'none'],['put',['a'],'none']]");
+    fired(2);
+    end_at_shelf();
+}
+
+/* A move that is popped into a slot is judged by the commit once it is pushed again: two agents that
+ * raise one counter don't hinder each other. */
+static void pushed_again(void) {
+    begin_at_shelf();
+    push("[['inc',['c'],1]]");
+    push("[['inc',['c'],1],['add',['s'],2]]");
+    REQUIRE(asm_pop_move(&step, &move) == ASM_DONE);
+    tracks("[['inc',['c'],1]]", "[]");
+    asm_free(&move);
+    REQUIRE(asm_pop_move(&step, &move) == ASM_DONE);
+    tracks("[]", "[]");
+    ANSWERS(ASM_DONE, asm_push_move(&agents[0], &step, &move, OUT));
+    fire(&agents[1], "[['inc',['c'],1]]");
+    fired(2);
+    begins_at(2);
+    gets("['c']", 2, "2");
+    end_at_shelf();
+}
+
+/* What two moves of the group changed may come to nothing, and needs its value all the same. */
+static void resting_groups(void) {
+    begin_at_shelf();
+    push("[['inc',['c'],1],['put',['a'],1]]");
+    ANSWERS(ASM_DONE, asm_extend(&agents[0], &step,
+                                 TEXT("[['inc',['c'],-1],['inc',['a'],1],['add',['s'],2]]"), OUT));
+    REQUIRE(asm_pop_move(&step, &move) == ASM_DONE);
+    tracks("[]", "[[['c'],0]]");
+    ANSWERS(ASM_DONE, asm_push_move(&agents[0], &step, &move, OUT));
+    tracks("[['put',['a'],2],['add',['s'],2]]", "[[['c'],0]]");
+    fire(&agents[1], "[['put',['c'],'none']]");
+    refused(ASM_STALE, "{'stale':['c']}");
+    /* Not on what the step put below the group. */
+    begins_at(1);
+    push("[['put',['c'],5]]");
+    push("[['inc',['c'],1]]");
+    ANSWERS(ASM_DONE, asm_extend(&agents[0], &step, TEXT("[['inc',['c'],-1]]"), OUT));
+    asm_free(&move);
+    REQUIRE(asm_pop_move(&step, &move) == ASM_DONE);
+    fire(&agents[1], "[['put',['c'],0]]");
+    fired(3);
+    end_at_shelf();
+}
+
+/* A popped move that is neither pushed again nor judged by gets leaves no trace. */
+static void no_trace(void) {
+    begin_at_shelf();
+    push("[['bagremove',['b'],'e',1]]");
+    REQUIRE(asm_pop_move(&step, &move) == ASM_DONE);
+    fire(&agents[1], "[['bagremove',['b'],'e',1]]");
+    fired(2);
+    end_at_shelf();
+}
+
+int main(void) {
+    refused_moves();
+    smaller_locations();
+    refused_by_own_puts();
+    too_many_instructions();
+    no_place();
+    popped_moves();
+    pushed_again();
+    resting_groups();
+    no_trace();
+    puts("passed");
+    return 0;
+}

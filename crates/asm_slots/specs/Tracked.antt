@@ -1,0 +1,32 @@
+-- Where a push or a pop tells of what is below a step, so that it is got.
+use Rattle.std.specs.Prelude.{List, [], ◌∷◌, filter}
+use Rattle.std.specs.Ordering.{is_le}
+use Rattle.asm_element.specs.Place.{Place, location_cmp}
+use Rattle.asm_update.specs.Move.{Move}
+use Rattle.asm_step.specs.Layers.{moves_of, resting_of}
+use Rattle.asm_step.specs.Places.{all_partial_places, partial_places}
+use Rattle.asm_step.specs.Resting.{rests}
+use Rattle.asm_step.specs.declared.error.StepError.{StepError}
+use Rattle.asm_step.specs.declared.error.StepError.TheVariants.{Clash, Large, Many, Deep, Memory}
+use Rattle.asm_slots.specs.StepView.{StepView}
+
+-- the location, and those up to it at which the move has partial updates
+abbrev pub judged_to : Place → Move → List Place
+judged_to l M = l ∷ filter (λ k. is_le (location_cmp k l)) (partial_places M)
+
+-- the locations that a refusal tells of: its own with the smaller ones at which the move has partial updates, which fit there;
+-- all of these, where the move alone isn't to blame
+abbrev pub judged : Move → StepError → List Place
+judged M (Clash c) = judged_to c.at M
+judged M (Large l) = judged_to l M
+judged M Many = partial_places M
+judged M Deep = []
+judged M Memory = []
+
+-- the locations at which the moves that were pushed last have partial updates
+abbrev pub judged_last : StepView → List Place
+judged_last s = all_partial_places (moves_of s.layers)
+
+-- the locations on which the moves that were pushed last rest by themselves
+abbrev pub resting_last : StepView → List Place
+resting_last s = filter (rests (moves_of s.layers)) (resting_of s.layers)
