@@ -113,15 +113,17 @@ void moves_are_popped_seen_and_offered() {
     step.extend(folugben::instructions().inc(count, 2));
     WANTED(step.see_json(R"([["count"]])") == R"({"number":0,"values":[10]})");
     folugben::instructions move = step.pop_move();
-    WANTED(move.size() == 1 && step.depth() == 0 && step.offer_json() == R"({"fire":[],"reads":[]})");
-    step.push(move);
-    WANTED(step.offer_json() == R"({"fire":[["inc",["count"],3]],"reads":[]})");
-    step.pop();
-    step.push(move.inc(count, 10));
-    WANTED(move.size() == 2 && step.depth() == 1);
-    WANTED(REFUSED(folugben::error, step.see_json("[")).code() == ASM_NOT_JSON);
-    // What was seen isn't named.
-    WANTED(other.fire_json(R"({"fire":[["put",["count"],100]],"reads":[]})") == 1 && step.fire() == 2);
+    // Two of the popped moves change it.
+    WANTED(move.size() == 1 && step.depth() == 0 && step.offer_json() == R"({"fire":[],"reads":[[["count"],0]]})");
+    folugben::step again = agent.begin();
+    again.push(move);
+    WANTED(again.offer_json() == R"({"fire":[["inc",["count"],3]],"reads":[]})");
+    WANTED(again.pop_move().size() == 1);
+    again.push(move.inc(count, 10));
+    WANTED(move.size() == 2 && again.depth() == 1);
+    WANTED(REFUSED(folugben::error, again.see_json("[")).code() == ASM_NOT_JSON);
+    // What was seen isn't named, nor a move of one instruction that was popped.
+    WANTED(other.fire_json(R"({"fire":[["put",["count"],100]],"reads":[]})") == 1 && again.fire() == 2);
     WANTED(other.play([&](folugben::step &it) { it.push(move); }) == 3);
     WANTED(other.follow() == 3 && other.peek(count).number() == 126);
 }

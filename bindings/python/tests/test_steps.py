@@ -163,7 +163,8 @@ class Steps(unittest.TestCase):
             offer = step.offer()
             step.pop()
             step.pop()
-            self.assertEqual(step.offer(), {"fire": [], "reads": [[["f", 2], 0]]})
+            # That both were taken told that there is a number.
+            self.assertEqual(step.offer(), {"fire": [], "reads": [[["count"], 0], [["f", 2], 0]]})
         self.assertEqual(sorted(map(repr, offer["fire"])), sorted(map(repr, put("a", "g") + [["inc", ["count"], 3]])))
         self.assertEqual(offer["reads"], [[["count"], 0], [["f", 2], 0]])
         self.assertEqual(self.agent.fire(offer["fire"], offer["reads"]), 1)
@@ -269,7 +270,8 @@ class Steps(unittest.TestCase):
             step.push([["inc", ["count"], 1]])
             step.extend([["inc", ["count"], 1]])
             self.assertRaises(Many, step.fire)
-            step.pop()
+            self.assertRaises(Many, step.pop)
+        with self.agent.step() as step:
             step.push([["put", ["y", k], k] for k in range(4096)])
             for grow in (step.push, step.extend):
                 self.assertRaises(Many, grow, put(1, "z"))
