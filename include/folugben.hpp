@@ -1,11 +1,12 @@
 // folugben.hpp: the abstract storage of a CoreASM engine, for C++20, over folugben.h.
 //
-// Each class owns a slot on the heap, which is released with it; it can be moved, and not copied. An agent is given back to its
-// storage when it is destroyed, so that its moves are in the next journal. What folugben.h says of threads holds: an object is
-// used in one thread at a time, but for a storage, which has a lock of its own.
+// Each class owns a slot on the heap, which is released with it; it can be moved, and not copied. What was moved from is empty:
+// each further call on it answers or throws ASM_EMPTY. An agent is given back to its storage when it is destroyed, so that its
+// moves are in the next journal. What folugben.h says of threads holds: an object is used in one thread at a time, but for a
+// storage, which has a lock of its own. A storage that is copied is one storage, which two objects share.
 //
 // Each call comes twice: `fire` throws an error of its own kind, and `try_fire`, which is noexcept, answers the code of
-// folugben.h. A step belongs to its agent, which has to outlive it.
+// folugben.h. A step goes on with its agent wherever that moves, and is refused with ASM_EMPTY once that is given back.
 //
 //    folugben::storage storage(R"([[["count"],0]])", 1000);
 //    folugben::agent agent = storage.make_agent(0);
@@ -25,7 +26,6 @@
 #include <memory>
 #include <mutex>
 #include <new>
-#include <optional>
 #include <span>
 #include <stdexcept>
 #include <string>
@@ -121,11 +121,19 @@ inline const std::uint8_t *bytes(std::string_view text) noexcept { return reinte
     }
 }
 
+// The slot of what was moved from, which is empty: calls that would fill it aren't made.
+inline asm_slot *nothing() noexcept {
+    thread_local asm_slot empty{};
+    return &empty;
+}
+
 // A slot that never moves, and is released with its owner.
 class held {
   public:
     held() : at_(new asm_slot{}) {}
-    asm_slot *get() const noexcept { return at_.get(); }
+    asm_slot *get() const noexcept { return at_ ? at_.get() : nothing(); }
+    // Whether it wasn't moved from.
+    explicit operator bool() const noexcept { return bool(at_); }
 
   private:
     struct release {
@@ -249,6 +257,7 @@ class operand {
 class instructions {
   public:
     std::int32_t try_instruct(asm_verb verb, const location &at, const operand &what, std::uint32_t amount = 0) noexcept {
+        if (!slot_) return ASM_EMPTY;
         std::int32_t code = what.into(slot_.get(), at, verb, amount);
         size_ += code == ASM_DONE;
         return code;
@@ -280,6 +289,53 @@ class instructions {
 
 class agent;
 class storage;
+
+namespace detail {
+
+struct shared {
+    held storage;
+    std::mutex lock;
+    std::vector<held> waiting; // agents that were let go when there was no memory to give them back
+
+    shared() { waiting.reserve(256); }
+    void give(held agent) noexcept {
+        std::lock_guard<std::mutex> guard(lock);
+        if (asm_give(storage.get(), agent.get()) != ASM_DONE) waiting.push_back(std::move(agent));
+    }
+    std::int32_t give_waiting() noexcept {
+        while (!waiting.empty()) {
+            std::int32_t code = asm_give(storage.get(), waiting.back().get());
+            if (code != ASM_DONE) return code;
+            waiting.pop_back();
+        }
+        return ASM_DONE;
+    }
+};
+
+// An agent's slot and its storage, which its steps share wherever the agent moves.
+struct seat {
+    explicit seat(std::shared_ptr<shared> storage) : of(std::move(storage)) {}
+    ~seat() { give(); }
+    seat(const seat &) = delete;
+    seat &operator=(const seat &) = delete;
+
+    void give() noexcept {
+        held last = std::move(slot); // what its steps find from now on is empty
+        if (of && last.get()->full) of->give(std::move(last));
+        of.reset();
+    }
+    held slot;
+    std::shared_ptr<shared> of;
+};
+
+// What the last answered call of an agent was answered.
+inline std::string answer(asm_slot *agent) {
+    std::string text;
+    done(told([&](auto *out, auto room, auto *written) { return asm_answer(agent, out, room, written); }, text));
+    return text;
+}
+
+} // namespace detail
 
 // All that a step gets is of one state; what it pushes is seen by what comes after, and is fired as one move.
 class step {
@@ -316,6 +372,7 @@ class step {
     void pop() { detail::done(try_pop()); }
     // The same, and the one move that does what the popped ones do in turn, in the place of what `move` has.
     std::int32_t try_pop_move(instructions &move) noexcept {
+        if (!move.slot_) return ASM_EMPTY;
         std::int32_t code = asm_pop_move(slot_.get(), move.get());
         if (code == ASM_DONE) move.size_ = 1;
         return code;
@@ -338,38 +395,15 @@ class step {
 
   private:
     friend class agent;
-    explicit step(agent &of) : agent_(&of) {}
+    explicit step(std::shared_ptr<detail::seat> seat) : seat_(std::move(seat)) {}
+    asm_slot *get_agent() const noexcept { return seat_ ? seat_->slot.get() : detail::nothing(); }
     template <class Call, class ByText> std::int32_t grow(Call call, ByText by_text, const instructions &move, std::string &text);
     template <class Call> void grow_json(Call call, std::string_view move);
     template <class Call> std::string tell_json(Call call, std::string_view locations);
-    agent *agent_;
+    std::shared_ptr<detail::seat> seat_;
     detail::held slot_;
     std::uint32_t number_ = 0;
 };
-
-namespace detail {
-
-struct shared {
-    held storage;
-    std::mutex lock;
-    std::vector<held> waiting; // agents that were let go when there was no memory to give them back
-
-    shared() { waiting.reserve(256); }
-    void give(held agent) noexcept {
-        std::lock_guard<std::mutex> guard(lock);
-        if (asm_give(storage.get(), agent.get()) != ASM_DONE) waiting.push_back(std::move(agent));
-    }
-    std::int32_t give_waiting() noexcept {
-        while (!waiting.empty()) {
-            std::int32_t code = asm_give(storage.get(), waiting.back().get());
-            if (code != ASM_DONE) return code;
-            waiting.pop_back();
-        }
-        return ASM_DONE;
-    }
-};
-
-} // namespace detail
 
 // Reads the state and fires moves on it, in one thread at a time.
 class agent {
@@ -378,8 +412,7 @@ class agent {
     agent &operator=(agent &&other) noexcept {
         if (this != &other) {
             give();
-            slot_ = std::move(other.slot_);
-            of_ = std::move(other.of_);
+            seat_ = std::move(other.seat_);
         }
         return *this;
     }
@@ -389,9 +422,14 @@ class agent {
     std::uint32_t won() const noexcept { return asm_won(get()); }
     std::uint64_t misses() const noexcept { return asm_misses(get()); }
 
-    std::int32_t try_begin(step &it) noexcept { return asm_begin(get(), it.slot_.get(), &it.number_); }
+    std::int32_t try_begin(step &it) noexcept {
+        if (!it.slot_) return ASM_EMPTY;
+        std::int32_t code = asm_begin(get(), it.slot_.get(), &it.number_);
+        if (code == ASM_DONE) it.seat_ = seat_;
+        return code;
+    }
     step begin() {
-        step it(*this);
+        step it(seat_);
         detail::done(try_begin(it));
         return it;
     }
@@ -474,14 +512,10 @@ class agent {
         return numbers.fired;
     }
     // What the last answered call was answered.
-    std::string answer() {
-        std::string text;
-        detail::done(detail::told([&](auto *out, auto room, auto *written) { return asm_answer(get(), out, room, written); }, text));
-        return text;
-    }
+    std::string answer() { return detail::answer(get()); }
 
     // Takes in what the other agent of the same storage has seen.
-    void learn(agent &other) { detail::done(of_ == other.of_ ? asm_learn(get(), other.get()) : ASM_OTHER); }
+    void learn(agent &other) { detail::done(get_of() == other.get_of() ? asm_learn(get(), other.get()) : ASM_OTHER); }
 
     // A storage for 1 to 1,048,576 moves that goes on where the agent's own is full and the agent has looked on to its end, as
     // `follow` does: it opens with what all moves leave, and its agents and numbers begin anew. No other agent waits. Else it is
@@ -489,19 +523,18 @@ class agent {
     storage go_on(std::uint32_t capacity);
 
     // Lets the agent go without giving it back: what it fired is missing in each journal.
-    void abandon() noexcept {
-        if (slot_) asm_free(get());
-    }
-    asm_slot *get() const noexcept { return slot_->get(); }
+    void abandon() noexcept { asm_free(get()); }
+    asm_slot *get() const noexcept { return seat_ ? seat_->slot.get() : detail::nothing(); }
 
   private:
     friend class storage;
     friend class step;
-    agent(detail::held slot, std::shared_ptr<detail::shared> of) : slot_(std::move(slot)), of_(std::move(of)) {}
+    explicit agent(std::shared_ptr<detail::seat> seat) : seat_(std::move(seat)) {}
 
+    const detail::shared *get_of() const noexcept { return seat_ ? seat_->of.get() : nullptr; }
     void give() noexcept {
-        if (slot_ && of_ && slot_->get() && slot_->get()->full) of_->give(std::move(*slot_));
-        slot_.reset();
+        if (seat_) seat_->give();
+        seat_.reset();
     }
     template <class Call> static std::int32_t told_value(Call call, value &what) noexcept try {
         std::string bytes;
@@ -518,14 +551,13 @@ class agent {
         std::this_thread::sleep_for(std::chrono::microseconds(1u << (tries < 18 ? tries - 8 : 10)));
     }
 
-    std::optional<detail::held> slot_;
-    std::shared_ptr<detail::shared> of_;
+    std::shared_ptr<detail::seat> seat_;
 };
 
 inline std::int32_t step::try_get(const location &at, value &what) noexcept {
     return agent::told_value(
         [&](asm_value *head, auto *out, auto room, auto *written) {
-            return asm_get_at(agent_->get(), slot_.get(), at.get(), head, out, room, written);
+            return asm_get_at(get_agent(), slot_.get(), at.get(), head, out, room, written);
         },
         what);
 }
@@ -540,7 +572,7 @@ template <class Call> std::string step::tell_json(Call call, std::string_view lo
     std::string text;
     std::int32_t code = detail::told(
         [&](auto *out, auto room, auto *written) {
-            return call(agent_->get(), slot_.get(), detail::bytes(locations), locations.size(), out, room, written);
+            return call(get_agent(), slot_.get(), detail::bytes(locations), locations.size(), out, room, written);
         },
         text);
     if (code == ASM_NOT_JSON || code == ASM_SHAPE) detail::fail(code, detail::explained(ASM_FORM_LOCATIONS, locations));
@@ -562,7 +594,7 @@ inline std::string step::get_all_json(std::string_view name) {
     std::string text;
     detail::done(detail::told(
         [&](auto *out, auto room, auto *written) {
-            return asm_get_all(agent_->get(), slot_.get(), detail::bytes(name), name.size(), out, room, written);
+            return asm_get_all(get_agent(), slot_.get(), detail::bytes(name), name.size(), out, room, written);
         },
         text));
     return text;
@@ -575,8 +607,8 @@ std::int32_t step::grow(Call call, ByText by_text, const instructions &move, std
     return detail::told(
         [&](auto *out, auto room, auto *written) {
             return move.size() == 0
-                       ? by_text(agent_->get(), slot_.get(), detail::bytes(none), none.size(), out, room, written)
-                       : call(agent_->get(), slot_.get(), move.get(), out, room, written);
+                       ? by_text(get_agent(), slot_.get(), detail::bytes(none), none.size(), out, room, written)
+                       : call(get_agent(), slot_.get(), move.get(), out, room, written);
         },
         text);
 }
@@ -590,7 +622,7 @@ template <class Call> void step::grow_json(Call call, std::string_view move) {
     std::string text;
     std::int32_t code = detail::told(
         [&](auto *out, auto room, auto *written) {
-            return call(agent_->get(), slot_.get(), detail::bytes(move), move.size(), out, room, written);
+            return call(get_agent(), slot_.get(), detail::bytes(move), move.size(), out, room, written);
         },
         text);
     if (code == ASM_NOT_JSON || code == ASM_SHAPE)
@@ -602,13 +634,13 @@ inline void step::push_json(std::string_view move) { grow_json(asm_push, move); 
 inline void step::extend_json(std::string_view move) { grow_json(asm_extend, move); }
 
 inline std::int32_t step::try_fire(asm_numbers &numbers) noexcept {
-    return asm_commit(agent_->get(), slot_.get(), &numbers);
+    return asm_commit(get_agent(), slot_.get(), &numbers);
 }
 
 inline std::uint32_t step::fire() {
     asm_numbers numbers{};
     std::int32_t code = try_fire(numbers);
-    if (code == ASM_STALE || code == ASM_CLASH) detail::fail(code, agent_->answer());
+    if (code == ASM_STALE || code == ASM_CLASH) detail::fail(code, detail::answer(get_agent()));
     detail::done(code);
     return numbers.fired;
 }
@@ -641,26 +673,26 @@ class storage {
 
     // A storage makes one agent of each number, 0 to 255.
     agent make_agent(std::uint32_t number) {
-        detail::held slot;
-        std::lock_guard<std::mutex> guard(shared_->lock);
-        detail::done(asm_agent(shared_->storage.get(), number, slot.get()));
-        return agent(std::move(slot), shared_);
+        auto seat = std::make_shared<detail::seat>(shared_);
+        std::lock_guard<std::mutex> guard(own().lock);
+        detail::done(asm_agent(own().storage.get(), number, seat->slot.get()));
+        return agent(std::move(seat));
     }
 
     // The agent with this number that was given back, to go on where it was; ASM_NONE where none was, or it was taken since. The
     // journal of an earlier `close` is discarded.
     agent take(std::uint32_t number) {
-        detail::held slot;
-        std::lock_guard<std::mutex> guard(shared_->lock);
-        detail::done(shared_->give_waiting());
-        detail::done(asm_take(shared_->storage.get(), number, slot.get()));
-        return agent(std::move(slot), shared_);
+        auto seat = std::make_shared<detail::seat>(shared_);
+        std::lock_guard<std::mutex> guard(own().lock);
+        detail::done(own().give_waiting());
+        detail::done(asm_take(own().storage.get(), number, seat->slot.get()));
+        return agent(std::move(seat));
     }
 
     std::uint32_t moves() const {
         std::uint32_t moves = 0;
-        std::lock_guard<std::mutex> guard(shared_->lock);
-        detail::done(asm_moves(shared_->storage.get(), &moves));
+        std::lock_guard<std::mutex> guard(own().lock);
+        detail::done(asm_moves(own().storage.get(), &moves));
         return moves;
     }
 
@@ -668,26 +700,30 @@ class storage {
     std::string close() {
         std::uint32_t number = 0;
         std::string text;
-        std::lock_guard<std::mutex> guard(shared_->lock);
-        detail::done(shared_->give_waiting());
-        std::int32_t code = asm_close(shared_->storage.get(), &number);
+        std::lock_guard<std::mutex> guard(own().lock);
+        detail::done(own().give_waiting());
+        std::int32_t code = asm_close(own().storage.get(), &number);
         if (code == ASM_MISSING) throw missing(number);
         detail::done(code);
         detail::done(detail::told(
-            [&](auto *out, auto room, auto *written) { return asm_journal(shared_->storage.get(), out, room, written); }, text));
+            [&](auto *out, auto room, auto *written) { return asm_journal(own().storage.get(), out, room, written); }, text));
         return text;
     }
 
     // A storage that opens with what the moves of the closed journal leave; its agents and numbers begin anew.
     storage next(std::uint32_t capacity) {
         storage it;
-        std::lock_guard<std::mutex> guard(shared_->lock);
-        detail::done(asm_next(shared_->storage.get(), capacity, it.shared_->storage.get()));
+        std::lock_guard<std::mutex> guard(own().lock);
+        detail::done(asm_next(own().storage.get(), capacity, it.shared_->storage.get()));
         return it;
     }
 
   private:
     friend class agent;
+    detail::shared &own() const {
+        if (!shared_) detail::fail(ASM_EMPTY, {});
+        return *shared_;
+    }
     storage() : shared_(std::make_shared<detail::shared>()) {}
     std::shared_ptr<detail::shared> shared_;
 };
@@ -707,6 +743,7 @@ class auditor {
     // the fault. After ASM_MEMORY the bytes that weren't taken may be passed again.
     [[nodiscard]] std::int32_t try_feed(std::span<const std::uint8_t> bytes, std::size_t &taken, asm_audit_numbers &told) noexcept {
         taken = 0;
+        if (!slot_) return ASM_EMPTY;
         if (fault_ == ASM_DONE) {
             std::int32_t code = asm_audit(slot_.get(), bytes.data(), bytes.size(), &taken, &told);
             if (code == ASM_DONE || code == ASM_MEMORY) return code;
@@ -727,6 +764,7 @@ class auditor {
 
     // How many parts are whole, how many calls were judged right, and how many moves they fired, in front of a fault too.
     asm_audit_numbers counts() {
+        if (!slot_) detail::fail(ASM_EMPTY, {});
         std::size_t taken = 0;
         asm_audit_numbers told{};
         detail::done(asm_audit(slot_.get(), nullptr, 0, &taken, &told));
@@ -735,6 +773,7 @@ class auditor {
     // The same of a run that ends here; throws `audit_error` where its last part or line isn't whole. More may be fed.
     asm_audit_numbers end() {
         asm_audit_numbers told{};
+        if (!slot_) detail::fail(ASM_EMPTY, {});
         if (fault_ != ASM_DONE) judge(fault_, at_);
         std::int32_t code = asm_audited(slot_.get(), &told);
         judge(code == ASM_EMPTY ? std::int32_t(ASM_CUT) : code, told);
@@ -742,6 +781,7 @@ class auditor {
     }
     // The state [PAIR, ..] that the moves so far leave; ASM_NONE before a part has begun.
     std::string state_json() {
+        if (!slot_) detail::fail(ASM_EMPTY, {});
         std::string text;
         auto call = [&](auto *out, auto room, auto *written) { return asm_audit_state(slot_.get(), out, room, written); };
         std::int32_t code = detail::told(call, text);

@@ -314,6 +314,87 @@ void the_first_fault_of_a_run_is_told_with_its_place() {
     WANTED(auditor.try_feed({}, taken, told) == ASM_SHAPE && taken == 0 && auditor.counts().calls == 3);
 }
 
+// A step goes on with its agent's slot, wherever the agent is.
+void steps_go_on_where_their_agents_move() {
+    folugben::storage storage(COUNT, 10), other(R"([[["count"],100]])", 10);
+    folugben::location count(R"(["count"])");
+    const std::string up = R"([["inc",["count"],1]])";
+    std::vector<folugben::agent> agents;
+    agents.push_back(storage.make_agent(0));
+    folugben::step grown = agents[0].begin();
+    for (std::uint32_t i = 1; i < 50; ++i) agents.push_back(storage.make_agent(i));
+    grown.push_json(up);
+    WANTED(grown.get(count).number() == 8 && grown.fire() == 1);
+
+    folugben::agent stranger = other.make_agent(0);
+    folugben::step swapped = agents[0].begin();
+    std::swap(agents[0], stranger);
+    swapped.push_json(up);
+    WANTED(swapped.get(count).number() == 9 && swapped.fire() == 2 && other.moves() == 0 && storage.moves() == 2);
+    WANTED(agents[0].try_begin(swapped) == ASM_DONE && swapped.get(count).number() == 100);
+
+    folugben::step late = stranger.begin();
+    late.push_json(up);
+    { folugben::agent ends = std::move(stranger); }
+    asm_numbers numbers{};
+    WANTED(late.try_fire(numbers) == ASM_EMPTY && REFUSED(folugben::error, late.get(count)).code() == ASM_EMPTY);
+    WANTED(REFUSED(folugben::error, late.fire()).code() == ASM_EMPTY && storage.moves() == 2);
+    agents.clear();
+    WANTED(folugben::check(storage.close()).moves == 2);
+}
+
+// What was moved from refuses each call, and may be assigned to.
+void moved_objects_are_empty() {
+    auto is_empty = [](auto call) { WANTED(refused<folugben::error>(call, __LINE__).code() == ASM_EMPTY); };
+    folugben::storage storage(COUNT, 10), next(COUNT, 5), gone = std::move(next);
+    is_empty([&] { next.make_agent(0); });
+    is_empty([&] { next.take(0); });
+    is_empty([&] { next.moves(); });
+    is_empty([&] { next.close(); });
+    is_empty([&] { next.next(5); });
+
+    folugben::agent agent = storage.make_agent(0), left = std::move(agent);
+    folugben::location count(R"(["count"])"), other = std::move(count);
+    is_empty([&] { agent.begin(); });
+    is_empty([&] { agent.play([](folugben::step &) {}); });
+    is_empty([&] { agent.follow(); });
+    is_empty([&] { agent.peek(other); });
+    is_empty([&] { agent.state_json(); });
+    is_empty([&] { agent.read_json(R"([["count"]])"); });
+    is_empty([&] { agent.fire_json(R"({"fire":[],"reads":[]})"); });
+    is_empty([&] { agent.answer(); });
+    is_empty([&] { agent.go_on(5); });
+    is_empty([&] { left.peek(count); });
+    agent.abandon();
+    WANTED(agent.seen() == 0 && agent.won() == 0 && agent.misses() == 0);
+    WANTED(REFUSED(folugben::error, left.learn(agent)).code() == ASM_OTHER);
+
+    folugben::step step = left.begin(), moved = std::move(step);
+    folugben::instructions move, full;
+    full.put(other, 1);
+    folugben::instructions kept = std::move(full);
+    is_empty([&] { step.get(other); });
+    is_empty([&] { step.push(kept); });
+    is_empty([&] { step.pop(); });
+    is_empty([&] { step.offer_json(); });
+    is_empty([&] { step.fire(); });
+    WANTED(step.depth() == 0 && left.try_begin(step) == ASM_EMPTY);
+    is_empty([&] { full.put(other, 2); });
+    is_empty([&] { move.put(count, 1); });
+    moved.push(kept);
+    WANTED(moved.try_pop_move(full) == ASM_EMPTY && moved.depth() == 1);
+    step = left.begin();
+    full = moved.pop_move();
+    step.push(full);
+    WANTED(step.fire() == 1);
+
+    folugben::auditor auditor, last = std::move(auditor);
+    is_empty([&] { auditor.feed("{"); });
+    is_empty([&] { auditor.counts(); });
+    is_empty([&] { auditor.end(); });
+    is_empty([&] { auditor.state_json(); });
+}
+
 void threads_take_agents() {
     folugben::storage storage(R"([[["count"],0]])", 10000);
     std::vector<std::thread> threads;
@@ -347,6 +428,8 @@ int main() {
     agents_that_came_back_are_taken();
     runs_are_audited_as_their_bytes_come();
     the_first_fault_of_a_run_is_told_with_its_place();
+    steps_go_on_where_their_agents_move();
+    moved_objects_are_empty();
     threads_take_agents();
     std::puts("passed");
 }
