@@ -255,6 +255,18 @@ static void refused_nexts(void) {
     end_all();
 }
 
+/* Each fired move is counted, also those of an agent that was freed. */
+static void counted_moves(void) {
+    begin_all();
+    for (uint32_t count = 0, moves = 9; count <= 2; count++) {
+        REQUIRE(asm_moves(&storage, &moves) == ASM_DONE && moves == count);
+        if (count < 2)
+            fire(&agents[count], "[['put',['x'],1]]");
+        asm_free(&agents[count]);
+    }
+    end_all();
+}
+
 /* The journal's header has this opening state. */
 static bool opens_with(const char *journal, const char *state) {
     char wanted[LONGEST];
@@ -314,6 +326,7 @@ int main(void) {
     numbers_to_come();
     numbers_of_the_storage_before();
     refused_nexts();
+    counted_moves();
     a_run_goes_on();
     moves_after_the_journal();
     puts("passed");
