@@ -334,9 +334,10 @@ FOLUGBEN_NODISCARD int32_t asm_get_all(asm_slot *agent, asm_slot *step, const ui
  * that is refused, or is popped, is a dry run, on which the step rests. ASM_CLASH, with the text
  * {"clash":[LOC,CAUSE]}: its updates clash on what is seen. ASM_DEEP. ASM_MANY: the one move of all
  * would have more than 4,096 instructions; or the move is refused, and what that tells would take more
- * than 256 places, so that nothing is tracked. ASM_LARGE, with {"large":LOC}: never for a step of the agent's storage. ASM_MOVED,
- * ASM_EMPTY (one of the slots), ASM_SMALL (for the text of a refusal), ASM_NOT_JSON, ASM_SHAPE,
- * ASM_MEMORY. It costs by the move's own instructions, however many others are pushed. */
+ * than 256 places, so that nothing is tracked. ASM_LARGE, with {"large":LOC}: never for a step of the
+ * agent's storage. ASM_MOVED, ASM_EMPTY (one of the slots), ASM_SMALL (for the text of a refusal),
+ * ASM_NOT_JSON, ASM_SHAPE, ASM_MEMORY. It costs by the move's own instructions, however many others
+ * are pushed. */
 FOLUGBEN_NODISCARD int32_t asm_push(asm_slot *agent, asm_slot *step, const uint8_t *move,
     size_t len, uint8_t *out, size_t room, size_t *written);
 
