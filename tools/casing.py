@@ -4,15 +4,17 @@ import os
 import re
 import subprocess
 import sys
+import tomllib
 from concurrent.futures import ThreadPoolExecutor
 from dataclasses import dataclass
 from pathlib import Path
+from typing import Any
 
 ROOT = Path(__file__).resolve().parent.parent
 CASES, EXAMPLES = ROOT / "crates/asm_program/cases", ROOT / "examples"
 MOVES = re.compile(rb"^moves (\d+)$", re.M)
 LIMIT = 120
-ENDINGS = (".args", ".stdout", ".status")
+KEYS = {"words", "status", "input", "output"}
 
 
 @dataclass(frozen=True)
@@ -53,19 +55,23 @@ def ended(program: str, words: tuple[str, ...], given: bytes) -> tuple[int, byte
 
 
 def cases_of(folder: Path) -> list[Case]:
-    """The cases of a folder; a file that belongs to none, or is missing, ends the tool."""
-    names = {it.name for it in folder.iterdir()}
-    found = []
-    for name in sorted(it for it in names if not it.endswith(ENDINGS)):
-        lacking = [name + it for it in ENDINGS if name + it not in names]
-        if lacking:
-            sys.exit(f"{folder}: no {', no '.join(lacking)}")
-        args, wanted, status = ((folder / (name + it)).read_bytes() for it in ENDINGS)
-        found.append(Case(name, tuple(args.decode().splitlines()), (folder / name).read_bytes(), wanted, int(status)))
-    lone = names - {it.name + end for it in found for end in ("", *ENDINGS)}
-    if lone or not found:
-        sys.exit(f"{folder}: no case, or of none: {' '.join(sorted(lone))}")
-    return found
+    """The cases of the folder's tables; a file that is no table, or a case that lacks something, ends the tool."""
+    files = sorted(folder.iterdir())
+    strange = [it.name for it in files if it.suffix != ".toml"]
+    if strange or not files:
+        sys.exit(f"{folder}: no table, or files that are none: {' '.join(strange)}")
+    return [case_of(file, name, row) for file in files for name, row in tomllib.loads(file.read_text(encoding="utf-8")).items()]
+
+
+def case_of(file: Path, name: str, row: dict[str, Any]) -> Case:
+    if row.keys() != KEYS:
+        sys.exit(f"{file}: {name} has {', '.join(row)}, and not {', '.join(sorted(KEYS))}")
+    return Case(name, tuple(row["words"]), raw(row["input"]), raw(row["output"]), row["status"])
+
+
+def raw(text: str | dict[str, str]) -> bytes:
+    """The bytes of a text, or those of {hex = ".."}."""
+    return bytes.fromhex(text["hex"]) if isinstance(text, dict) else text.encode()
 
 
 def examples() -> list[Case]:
@@ -75,7 +81,7 @@ def examples() -> list[Case]:
 
 
 def write(cases: list[Case], folder: Path, status: bool = True) -> None:
-    """Writes the cases as files, as `cases_of` reads them, or without the status, as `rt try --cases` does."""
+    """Writes each case as files, as `rt try --cases` reads them, which takes no status."""
     for it in cases:
         (folder / it.name).write_bytes(it.given)
         (folder / f"{it.name}.args").write_text("".join(f"{word}\n" for word in it.words), encoding="utf-8")

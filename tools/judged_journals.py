@@ -3,14 +3,15 @@ read, and told as legal, or with the first call that has another answer."""
 
 from collections.abc import Iterator
 
-from casing import CASES, Case
+from casing import CASES, Case, cases_of
 from formed_journals import rewritten
 
 # Cases of legal journals, each of which is written as it was read, too: moves of two agents, a read that is stale after a
 # write of the same value, increments with each cause of a clash that these have, lists in each place, and a clash of each
 # cause before a move that fires, one that is stale and would clash too, and one on the full storage.
+CHECKED = {it.name: it.given.decode() for it in cases_of(CASES)}
 AGENTS, SAME, INCREMENTS, LISTS, CLASHES = (
-    (CASES / f"check_legal_{name}").read_text(encoding="utf-8")
+    CHECKED[f"check_legal_{name}"]
     for name in (
         "moves_of_two_agents",
         "a_write_of_the_same_value",
