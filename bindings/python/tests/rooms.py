@@ -36,7 +36,7 @@ def transfer(agent, rng):
     return agent.play(rule)
 
 
-def until(is_so, seconds=20):
+def until(is_so, seconds=60):
     end = time.monotonic() + seconds
     while not is_so():
         if time.monotonic() > end:

@@ -212,8 +212,10 @@ class Plays(Shared):
                 era.agents[0] = 7
                 for _ in range(5):
                     agent.play(raised)
-                until(lambda: other._worker._fault is not None)
+                # Whoever comes second to save it finds the other's.
+                until(lambda: other._worker._fault is not None or run._worker._fault is not None)
                 ben.follow()
+                agent.follow()
         self.assertRegex(str(caught.exception.__cause__), "segment 1: another process has saved another text")
 
     def test_a_process_that_is_behind_rejoins(self):
