@@ -108,7 +108,7 @@ class Folders(Rooms):
 
     def test_one_file_has_all(self):
         with (self.room / "file").open("wb") as file:
-            self.assertEqual(save(self.path, file).end, 14)
+            save(self.path, file)
         self.assertEqual((self.room / "file").read_bytes(), text_of(self.path))
         self.assertEqual(audit(self.room / "file"), audit(self.path))
         self.assertEqual(part(self.room / "file", 3), part(self.path, 3))
