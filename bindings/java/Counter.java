@@ -7,7 +7,7 @@ import java.nio.file.Files;
 import java.nio.file.Path;
 import java.util.Map;
 
-/** A run without end: each time that this is started it counts on in the file that is named. */
+/** A run without end: each time that this is started it counts on in the folder that is named. */
 public final class Counter {
     private static final Location COUNT = Location.of("count");
 

@@ -46,10 +46,11 @@ public final class Auditor implements AutoCloseable {
     public record Counts(long parts, long calls, long moves) {}
 
     /**
-     * The numbers of the run in a file, which is whole and legal.
+     * The numbers of a stored run, a folder or one file, which is whole and legal.
      *
      * @throws AuditException if it isn't
-     * @throws UncheckedIOException if the file can't be read
+     * @throws DamagedException if a segment of the folder isn't the one that was saved
+     * @throws UncheckedIOException if it can't be read
      */
     public static Counts audit(Path run) {
         try (Auditor auditor = new Auditor()) {
@@ -132,12 +133,29 @@ public final class Auditor implements AutoCloseable {
         return counts();
     }
 
-    /** Takes the bytes of a file, as feed of a stream does. */
-    public Counts feed(Path file) {
-        try (InputStream stream = Files.newInputStream(file)) {
-            return feed(stream);
+    /**
+     * Takes the bytes of a file, as feed of a stream does, or all segments of a run's folder.
+     *
+     * @throws DamagedException if a segment isn't the one that was saved
+     */
+    public Counts feed(Path run) {
+        try {
+            if (!Files.isDirectory(run))
+                return feedFile(run);
+            Segment before = Segment.START;
+            for (Segment segment : Segment.of(run)) {
+                segment.audit(run, before, this);
+                before = segment;
+            }
+            return counts();
         } catch (IOException fault) {
             throw new UncheckedIOException(fault);
+        }
+    }
+
+    private Counts feedFile(Path file) throws IOException {
+        try (InputStream stream = Files.newInputStream(file)) {
+            return feed(stream);
         }
     }
 

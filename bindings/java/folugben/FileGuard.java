@@ -6,43 +6,62 @@ import com.sun.jna.NativeLibrary;
 import java.io.IOException;
 import java.nio.charset.Charset;
 import java.nio.file.FileSystemException;
+import java.nio.file.Files;
+import java.nio.file.LinkOption;
 import java.nio.file.NoSuchFileException;
 import java.nio.file.Path;
+import java.nio.file.StandardOpenOption;
+import java.nio.file.attribute.BasicFileAttributes;
+import java.nio.file.attribute.FileAttribute;
+import java.nio.file.attribute.PosixFilePermissions;
 import java.util.Arrays;
+import java.util.Set;
 
 /**
- * The lock that a run has on its file, by the system's flock, as the runs of other languages have
- * it. It lasts until it is closed or the process ends; Java's own lock of a file would end as the
- * process closes the file anywhere else.
+ * The lock that a run has on its folder, by the system's flock of a file in it, as the runs of other
+ * languages have it. It lasts until it is closed or the process ends; Java's own lock of a file
+ * would end as the process closes the file anywhere else.
  */
 final class FileGuard implements AutoCloseable {
+    /** How files are made, which their owner alone reads and writes. */
+    static final FileAttribute<?> OWN =
+            PosixFilePermissions.asFileAttribute(PosixFilePermissions.fromString("rw-------"));
+
     private static final int READ_AND_WRITE_CLOSED_BY_EXEC = 0x80002;
     private static final int EXCLUSIVE_AT_ONCE = 6;
     private static final int IS_NOT_THERE = 2;
     private static final int WOULD_WAIT = 11;
 
     private final Path path;
+    private final Object key;
     private int descriptor;
 
     /**
-     * Takes the lock.
+     * Takes the lock, and makes its file where there is none.
      *
      * @throws IOException if another run has it, of this process or another one, or the file can't
      *         be opened
      */
     FileGuard(Path path) throws IOException {
         this.path = path;
+        Files.newByteChannel(path, Set.of(StandardOpenOption.WRITE, StandardOpenOption.CREATE,
+                                           LinkOption.NOFOLLOW_LINKS), OWN).close();
         byte[] name = path.toAbsolutePath().toString().getBytes(
                 Charset.forName(System.getProperty("sun.jnu.encoding", "UTF-8")));
         byte[] ended = Arrays.copyOf(name, name.length + 1);
         descriptor = call("open", ended, READ_AND_WRITE_CLOSED_BY_EXEC);
         if (descriptor < 0)
             throw fault();
-        if (call("flock", descriptor, EXCLUSIVE_AT_ONCE) == 0)
-            return;
-        IOException fault = fault();
-        close();
-        throw fault;
+        try {
+            if (call("flock", descriptor, EXCLUSIVE_AT_ONCE) != 0)
+                throw fault();
+            // That of the open file, whatever its name leads to by now.
+            key = Files.readAttributes(Path.of("/proc/self/fd/" + descriptor),
+                    BasicFileAttributes.class).fileKey();
+        } catch (IOException | RuntimeException | Error fault) {
+            close();
+            throw fault;
+        }
     }
 
     private static int call(String name, Object... words) {
@@ -54,10 +73,15 @@ final class FileGuard implements AutoCloseable {
         return switch (number) {
             case IS_NOT_THERE -> new NoSuchFileException(path.toString());
             case WOULD_WAIT -> new FileSystemException(
-                    path.toString(), null, "another run has this file");
+                    path.getParent().toString(), null, "another run is at work in the folder");
             default -> new FileSystemException(
                     path.toString(), null, "it can't be locked (errno " + number + ")");
         };
+    }
+
+    /** What tells the locked file from all others. */
+    Object key() {
+        return key;
     }
 
     @Override

@@ -84,22 +84,6 @@ final class JsonReader {
         });
     }
 
-    /** How many events the header of a journal tells. */
-    static long events(String header) {
-        return parsed(header, "header", reader -> {
-            long events = 0;
-            reader.expect(reader.in.currentToken() == JsonToken.START_OBJECT, "no header");
-            while (reader.in.nextToken() != JsonToken.END_OBJECT) {
-                boolean isTold = reader.in.currentName().equals("events");
-                reader.in.nextToken();
-                if (isTold)
-                    events = reader.number();
-                reader.in.skipChildren();
-            }
-            return events;
-        });
-    }
-
     static List<Instruction> move(String move) {
         return parsed(move, "move", reader -> reader.list(JsonReader::instruction));
     }

@@ -2,7 +2,8 @@ package folugben;
 
 /**
  * An amount or a sum of composed updates is too large; or there are more calls than the
- * 4,294,967,295 that a journal holds.
+ * 4,294,967,295 that a journal holds; or what a run does would make a line of its journal that is
+ * longer than the 16,777,216 bytes that an audit reads.
  */
 public final class LargeException extends FolugbenException {
     private static final long serialVersionUID = 1;
@@ -11,7 +12,13 @@ public final class LargeException extends FolugbenException {
         super(LARGE, 0, said, "", answer);
     }
 
-    /** The location of the updates; null of a journal. */
+    /** Of a line of so many bytes. */
+    static LargeException line(long length) {
+        return new LargeException(
+                "a line of " + length + " bytes, and an audit reads 16,777,216", null);
+    }
+
+    /** The location of the updates; null of a journal or a line. */
     public Location at() {
         return answer() == null ? null : JsonReader.objection(answer()).at();
     }

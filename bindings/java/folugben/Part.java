@@ -8,7 +8,7 @@ package folugben;
  * <p>Its lock is taken after that of an agent of the run, and before those of slots.
  */
 final class Part {
-    /** Its number in the file, from 0. */
+    /** Its number among the segments, from 0. */
     final long number;
     /** How many moves the parts before it have. */
     final long before;

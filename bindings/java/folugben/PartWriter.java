@@ -5,18 +5,19 @@ import java.io.UncheckedIOException;
 import java.nio.ByteBuffer;
 
 /**
- * A thread that closes the parts of a run, one after the other, writes their journals to its file,
+ * A thread that closes the parts of a run, one after the other, saves their journals in its folder,
  * and releases them. Its lock is taken last of all, and it holds none while it asks for another.
  */
 final class PartWriter {
     /** How many parts are over and not written before agents wait, but the one that is next. */
     private static final int BEHIND = 1;
     /** How long an agent may stay, in ms, in a step of a part that is full, or ends at rest. */
-    private static final long FULL = 100;
-    private static final long AT_REST = 1000;
+    private static final long PATIENCE = 100;
+    /** How many bytes a line may have, its line feed apart: what an audit reads. */
+    private static final int LINE = 16_777_216;
 
     private final Run run;
-    private final RunFile file;
+    private final RunFolder folder;
     private final Room room = new Room();
     private final FreeMemory free = new FreeMemory();
     private final Thread thread = new Thread(this::work, "folugben run");
@@ -24,18 +25,18 @@ final class PartWriter {
     /** The oldest part that isn't written, which this thread alone changes. */
     private volatile Part head;
     private volatile long parts;
-    private volatile long moves;
+    private volatile long saved;
     /** All below with the lock of this. How often something has changed that may be waited for. */
     private long changes;
     private boolean isClosing;
     private boolean isDone;
 
-    PartWriter(Run run, RunFile file, Part first) {
+    PartWriter(Run run, RunFolder folder, Part first) {
         this.run = run;
-        this.file = file;
+        this.folder = folder;
         head = first;
         parts = first.number;
-        moves = first.before;
+        saved = first.before;
         thread.setDaemon(true);
     }
 
@@ -43,14 +44,14 @@ final class PartWriter {
         thread.start();
     }
 
-    /** How many parts the file has. */
+    /** How many parts are on the disk. */
     long parts() {
         return parts;
     }
 
     /** How many moves these have. */
-    long moves() {
-        return moves;
+    long saved() {
+        return saved;
     }
 
     /** Has this thread, and all who wait for it, look again. */
@@ -129,8 +130,7 @@ final class PartWriter {
                 head.end();
             if (head.isOver() && begin == 0)
                 begin = System.nanoTime();
-            long patience = head.next() != null ? FULL : AT_REST;
-            long left = patience - (System.nanoTime() - begin) / 1_000_000;
+            long left = PATIENCE - (System.nanoTime() - begin) / 1_000_000;
             if (head.isOver())
                 run.takeBack(head, isClosing(), left <= 0);
             if (head.isWhole())
@@ -155,9 +155,10 @@ final class PartWriter {
         boolean isLast = whole.next() == null && isClosing();
         if (whole.next() == null && !isLast)
             whole.goOnAtRest();
+        long events = events(journal);
         try {
-            if (!isLast || hasEvents(journal))
-                add(whole, journal);
+            if (!isLast || events > 0)
+                add(whole, journal, events);
         } catch (IOException fault) {
             throw new UncheckedIOException(fault);
         }
@@ -170,18 +171,27 @@ final class PartWriter {
         return true;
     }
 
-    private void add(Part whole, ByteBuffer journal) throws IOException {
-        file.add(journal);
+    private void add(Part whole, ByteBuffer journal, long events) throws IOException {
         Part next = whole.next();
-        moves = next == null ? whole.before + whole.storage.moves() : next.before;
+        long end = next == null ? whole.before + whole.storage.moves() : next.before;
+        folder.save(journal.duplicate(), end - whole.before, events);
+        saved = end;
         parts++;
     }
 
-    private static boolean hasEvents(ByteBuffer journal) {
-        for (int at = 0; at < journal.limit() - 1; at++)
-            if (journal.get(at) == '\n')
-                return true;
-        return false;
+    /** How many events a journal has: the lines behind its header, of which none is too long. */
+    static long events(ByteBuffer journal) {
+        long lines = 0;
+        int begin = 0;
+        for (int at = 0; at < journal.limit(); at++) {
+            if (journal.get(at) != '\n')
+                continue;
+            if (at - begin > LINE)
+                throw LargeException.line(at - begin);
+            begin = at + 1;
+            lines++;
+        }
+        return lines - 1;
     }
 
     /** Releases all that is left, of which nothing is written any more. */
@@ -191,6 +201,6 @@ final class PartWriter {
             run.drop(left);
             left.storage.close();
         }
-        file.close();
+        folder.close();
     }
 }

@@ -2,16 +2,19 @@ package folugben;
 
 import java.io.IOException;
 import java.io.UncheckedIOException;
+import java.nio.ByteBuffer;
 import java.nio.file.Path;
+import java.util.List;
 import java.util.Map;
 import java.util.Objects;
 
 /**
- * A run without end: a chain of storages, its parts, whose journals stand one behind the other in a
- * file. Its agents go on by themselves from part to part, and none waits for another one, but where
- * a part ends at rest; a thread of the run closes the parts, writes their journals and forces them
- * to the disk, one after the other. An {@link Auditor} checks such a file, while the run goes on
- * too. Call close(): what isn't written by the end of the process is lost, as by a crash.
+ * A run without end: a chain of storages, its parts, whose journals are the files of a folder, one
+ * text file a segment. Its agents go on by themselves from part to part, and none waits for another
+ * one, but where a part ends at rest; a thread of the run closes the parts, writes their journals
+ * and forces them to the disk, one after the other. An {@link Auditor} checks such a folder, while
+ * the run goes on too. Call close(): what isn't saved by the end of the process is lost, as by a
+ * crash.
  *
  * <p>What holds, and what rests on it:
  *
@@ -24,13 +27,12 @@ import java.util.Objects;
  *   <li>A part is over before any agent is in the next one. An agent that is told something by one
  *       of the next part finds its own part over, so it reads nothing that is behind what it knows.
  *   <li>An agent comes back between two steps: it gives itself back as it begins one, and where it
- *       begins none, the thread takes it. One that stays in a step of a full part is taken too, in
- *       a tenth of a second, as nothing can be fired there; in a part that ends at rest its step
- *       may still fire, so it has a second. So a part that is over becomes whole.
+ *       begins none, the thread takes it. One that stays in a step of a part that is full, or ends
+ *       at rest, is taken too, in a tenth of a second. So a part that is over becomes whole.
  *   <li>A part is whole once it is over and no agent is out in it. Then nothing more happens in it,
  *       and the thread alone has it: it writes the part and releases it, and then the next one.
- *   <li>The file has whole parts alone, but while one is added. So a crash leaves whole parts and
- *       at most one that is cut off, and a write that fails is taken back.
+ *   <li>A file has the name of a segment once it is whole and on the disk, and is never changed. So
+ *       a crash leaves whole segments, and nothing of a run is ever cut off or removed.
  *   <li>Agents wait for the thread, holding no lock, where two parts are over and not written yet,
  *       so that no more than three are in memory. The thread waits for no agent that waits for it.
  * </ul>
@@ -39,32 +41,42 @@ public final class Run implements AutoCloseable {
     /** How many moves a part has, where nothing else is said. */
     public static final int MOVES = 100_000;
 
+    /** What of an earlier run is checked before it goes on. */
+    public enum Check {
+        /** All segments are audited. */
+        ALL,
+        /** The last segment alone is audited; of the others the names are looked at. */
+        LAST
+    }
+
     /** How many answered calls a part keeps, for each move, before it ends at rest. */
     private static final int RECEIPTS = 2;
 
     private final RunAgent[] agents = new RunAgent[Storage.AGENTS];
+    private final Path folder;
     private final PartWriter writer;
     private final long receipts;
-    private final long cutOff;
     private volatile Part newest;
     private volatile RunException failure;
     private volatile boolean isClosed;
 
-    private Run(RunFile file, Storage storage, int moves, long receipts, WholeParts before) {
+    private Run(RunFolder folder, Storage storage, int moves, long receipts) {
         this.receipts = receipts;
-        cutOff = before.cutOff();
-        newest = new Part(
-                this, storage, moves, before.counts().parts(), before.counts().moves());
-        writer = new PartWriter(this, file, newest);
+        this.folder = folder.path();
+        Segment last = folder.last();
+        newest = new Part(this, storage, moves, last.number() + 1, last.end());
+        writer = new PartWriter(this, folder, newest);
     }
 
     /**
-     * A run with the opening state, whose values are such as {@link Value#of} takes, in a file that
-     * isn't there yet. That begins with a part of no calls, so that it may be resumed from then on.
-     * Each further part has 100,000 moves.
+     * A run with the opening state, whose values are such as {@link Value#of} takes, in a folder
+     * that isn't there yet, or is empty. That begins with a segment of no calls, so that the run may
+     * be resumed from then on. Each further part has 100,000 moves.
      *
-     * @throws UncheckedIOException if the file is there or can't be written
+     * @throws UncheckedIOException if there is a run or anything else, if another run is made there,
+     *         or if the folder can't be written
      * @throws IllegalArgumentException as Value.of
+     * @throws LargeException if the opening state is too long for a line
      */
     public static Run open(Map<Location, ?> init, Path path) {
         return open(init, path, MOVES);
@@ -77,7 +89,7 @@ public final class Run implements AutoCloseable {
 
     /**
      * The same; a part in which more calls than this were answered ends before it is full, once no
-     * agent is in a step, while all that begin one wait for that, a second at most. Stale tries are
+     * agent is in a step, while all that begin one wait for that, a tenth of a second at most. Stale tries are
      * answered too, and each takes memory and a line of the journal, as a move does. Where it isn't
      * said, it is twice the number of moves.
      */
@@ -89,48 +101,57 @@ public final class Run implements AutoCloseable {
     public static Run open(String init, Path path, int moves, long receipts) {
         Objects.requireNonNull(path, "path");
         Storage storage = new Storage(init, moves);
-        RunFile file = null;
+        RunFolder folder = null;
         try {
-            file = RunFile.create(path, storage.closeJournal(new Room()));
+            ByteBuffer opening = storage.closeJournal(new Room());
+            PartWriter.events(opening); // the line of the state isn't too long
+            folder = RunFolder.create(path, opening);
         } catch (IOException fault) {
             throw new UncheckedIOException(fault);
         } finally {
-            if (file == null)
+            if (folder == null)
                 storage.close();
         }
-        return begun(file, storage, moves, receipts, WholeParts.FIRST);
+        return begun(folder, storage, moves, receipts);
     }
 
     /**
-     * The run of a file, which goes on from what its whole parts leave. They are audited first. A
-     * last part that isn't whole, as a crash leaves it, is cut off, which {@link #cutOff} tells. A
-     * part has 100,000 moves.
+     * The run of a folder, which goes on from what its last segment leaves, also where its process
+     * was killed. All segments are audited first. Nothing is changed or removed. A part has 100,000
+     * moves.
      *
-     * @throws AuditException if the file has no run that is legal up to there; it stays as it is
-     * @throws UncheckedIOException if the file isn't there, can't be read or written, or is that of
-     *         a run of this or another process
+     * @throws DamagedException if a segment is missing, or isn't the one that was saved
+     * @throws AuditException if a segment isn't legal
+     * @throws UncheckedIOException if there is no run, if it can't be read or written, if another
+     *         run of this or another process is at work there, or if it is one file, as version 0.2
+     *         wrote runs
      */
     public static Run resume(Path path) {
         return resume(path, MOVES);
     }
 
+    /** The same, which audits no more than is said. */
+    public static Run resume(Path path, Check check) {
+        return resume(path, MOVES, (long) RECEIPTS * MOVES, check);
+    }
+
     /** The same with so many moves in each further part. */
     public static Run resume(Path path, int moves) {
-        return resume(path, moves, (long) RECEIPTS * moves);
+        return resume(path, moves, (long) RECEIPTS * moves, Check.ALL);
     }
 
     /** The same; a part ends at rest as that of {@link #open} does. */
-    public static Run resume(Path path, int moves, long receipts) {
+    public static Run resume(Path path, int moves, long receipts, Check check) {
         Objects.requireNonNull(path, "path");
+        Objects.requireNonNull(check, "check");
         Storage.expectCapacity(moves);
         try {
-            RunFile file = RunFile.reopen(path);
-            try {
-                WholeParts whole = WholeParts.of(file.channel());
-                file.cut(whole.length());
-                return begun(file, new Storage(whole.state(), moves), moves, receipts, whole);
+            RunFolder folder = RunFolder.reopen(path);
+            try (Auditor auditor = new Auditor()) {
+                audit(folder.path(), check, auditor);
+                return begun(folder, new Storage(auditor.state(), moves), moves, receipts);
             } catch (IOException | RuntimeException | Error fault) {
-                file.close();
+                folder.close();
                 throw fault;
             }
         } catch (IOException fault) {
@@ -138,9 +159,18 @@ public final class Run implements AutoCloseable {
         }
     }
 
-    private static Run begun(
-            RunFile file, Storage storage, int moves, long receipts, WholeParts before) {
-        Run run = new Run(file, storage, moves, receipts, before);
+    private static void audit(Path folder, Check check, Auditor auditor) throws IOException {
+        if (check == Check.ALL) {
+            auditor.feed(folder);
+            return;
+        }
+        List<Segment> segments = Segment.of(folder);
+        int last = segments.size() - 1;
+        segments.get(last).audit(folder, last == 0 ? Segment.START : segments.get(last - 1), auditor);
+    }
+
+    private static Run begun(RunFolder folder, Storage storage, int moves, long receipts) {
+        Run run = new Run(folder, storage, moves, receipts);
         run.writer.start();
         return run;
     }
@@ -162,19 +192,19 @@ public final class Run implements AutoCloseable {
         }
     }
 
-    /** How many bytes of a last part that wasn't whole were cut off as the run was resumed. */
-    public long cutOff() {
-        return cutOff;
+    /** Its folder. */
+    public Path path() {
+        return folder;
     }
 
-    /** How many parts the file has. */
+    /** How many parts are on the disk. */
     public long parts() {
         return writer.parts();
     }
 
-    /** How many moves these have. */
-    public long moves() {
-        return writer.moves();
+    /** How many moves of the run are on the disk. */
+    public long saved() {
+        return writer.saved();
     }
 
     /** Throws what has ended the run. */
@@ -258,8 +288,8 @@ public final class Run implements AutoCloseable {
     }
 
     /**
-     * Takes back all agents, whose steps end, writes what was fired, and closes the file. It may be
-     * called again.
+     * Takes back all agents, whose steps end, saves what was fired, and lets another run have the
+     * folder. It may be called again.
      *
      * @throws RunException if a part couldn't be written
      */

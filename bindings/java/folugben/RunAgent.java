@@ -83,8 +83,8 @@ public final class RunAgent implements AutoCloseable {
      * Begins a step on all moves that are found, in the part that isn't over. A fire that finds the
      * part full by then replies FULL, which asks to begin another step ({@link
      * Agent.Reply#shouldRetry}), and which fire throws as a {@link PartException}. So do the
-     * step's other calls, once the part has been full for a tenth of a second, or has had too many
-     * receipts for a second.
+     * step's other calls, once the part has been full, or has had too many receipts, for a tenth
+     * of a second.
      *
      * @throws RunException if a part of the run couldn't be written
      */

@@ -7,6 +7,7 @@ import java.io.IOException;
 import java.nio.file.Files;
 import java.nio.file.Path;
 import java.util.List;
+import java.util.stream.Stream;
 
 /** Runs both machines, each on a run whose file is audited, and looks at each of its states. */
 public final class Main {
@@ -16,12 +17,11 @@ public final class Main {
     public static void main(String[] words) throws IOException {
         for (Machine machine : List.of(new Bank(8, 50, 1), new Universe(8, 100, 2))) {
             Path folder = Files.createTempDirectory("engine");
-            Path path = folder.resolve("run.journal");
+            Path path = folder.resolve("engine.run");
             try {
                 System.out.println(machine.getClass().getSimpleName() + ": " + told(machine, path));
             } finally {
-                Files.deleteIfExists(path);
-                Files.delete(folder);
+                drop(folder);
             }
         }
     }
@@ -31,13 +31,31 @@ public final class Main {
             Engine.onRun(run, machine);
         }
         Auditor.Counts counts = Auditor.audit(path);
-        try (BufferedReader journals = Files.newBufferedReader(path)) {
-            States.each(journals, state -> {
+        for (Path file : sorted(path))
+            if (file.toString().endsWith(".journal"))
+                expectEach(machine, file);
+        return counts.moves() + " moves in " + counts.parts() + " parts are legal, and "
+                + machine.claim();
+    }
+
+    private static void expectEach(Machine machine, Path file) throws IOException {
+        try (BufferedReader journal = Files.newBufferedReader(file)) {
+            States.each(journal, state -> {
                 if (!machine.holds(state))
                     throw new IllegalStateException("not so: " + machine.claim());
             });
         }
-        return counts.moves() + " moves in " + counts.parts() + " parts are legal, and "
-                + machine.claim();
+    }
+
+    /** A folder and all that is in it, in order. */
+    private static List<Path> sorted(Path folder) throws IOException {
+        try (Stream<Path> all = Files.walk(folder)) {
+            return all.sorted().toList();
+        }
+    }
+
+    private static void drop(Path folder) throws IOException {
+        List<Path> all = sorted(folder);
+        for (int i = all.size(); i-- > 0;) Files.delete(all.get(i));
     }
 }

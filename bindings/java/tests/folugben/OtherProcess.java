@@ -30,13 +30,13 @@ final class OtherProcess {
         }
     }
 
-    /** Its first word says what is done, the second is the file. */
+    /** Its first word says what is done, the second is the folder. */
     public static void main(String[] words) throws Exception {
         Path path = Path.of(words[1]);
         switch (words[0]) {
             case "resume" -> {
                 Throwable told = ResumeTests.faultOf(() -> Run.resume(path));
-                System.exit(told.getMessage().endsWith("another run has this file") ? 3 : 4);
+                System.exit(told.getMessage().endsWith("another run is at work in the folder") ? 3 : 4);
             }
             case "fill" -> RunEndTests.fill(path);
             default -> play(path);

@@ -1,24 +1,23 @@
 package folugben;
 
 import static folugben.Checks.equal;
-import static folugben.Checks.refused;
 
 import java.io.IOException;
 import java.io.UncheckedIOException;
+import java.nio.ByteBuffer;
 import java.nio.charset.StandardCharsets;
 import java.nio.file.FileAlreadyExistsException;
 import java.nio.file.FileSystemException;
 import java.nio.file.Files;
 import java.nio.file.NoSuchFileException;
 import java.nio.file.Path;
-import java.util.ArrayList;
 import java.util.Arrays;
 import java.util.List;
 import java.util.Map;
 import java.util.Random;
 import java.util.TreeMap;
 
-/** Tests of the files of runs: who has one, and how a run is resumed. */
+/** Tests of the folders of runs: who has one, and how a run is resumed. */
 final class ResumeTests {
     private static final int ACCOUNTS = 6;
 
@@ -49,7 +48,7 @@ final class ResumeTests {
             transfer(agent, i + agent.number(), 3 * i + 1, 1 + i % 70);
     }
 
-    /** The numbers of the run in a file, whose accounts have the sum that they had. */
+    /** The numbers of the run in a folder, whose accounts have the sum that they had. */
     private static Auditor.Counts audited(Path path) {
         try (Auditor auditor = new Auditor()) {
             auditor.feed(path);
@@ -65,35 +64,31 @@ final class ResumeTests {
         } catch (UncheckedIOException fault) {
             return fault.getCause();
         }
-        throw new IllegalStateException("the file is opened");
+        throw new IllegalStateException("the run is opened");
     }
 
-    private static void isRefused(Path path) {
-        Throwable told = faultOf(() -> Run.resume(path));
+    private static void isRefused(Path path, Path link) {
+        Throwable told = faultOf(() -> Run.resume(link));
         equal(told.getClass(), FileSystemException.class);
-        equal(told.getMessage(), path + ": another run has this file");
-        Throwable there = faultOf(() -> Run.open(opening(), path));
+        equal(told.getMessage(), path + ": another run is at work in the folder");
+        Throwable there = faultOf(() -> Run.open(opening(), link));
         equal(there.getClass(), FileAlreadyExistsException.class);
-        equal(there.getMessage(), path + ": a run that is there may be resumed");
+        equal(there.getMessage(), path + ": there is a run, with which Run.resume goes on");
     }
 
     private static void onePathIsOneRun(Path path) throws Exception {
         Path link = path.resolveSibling("link");
-        Path hard = path.resolveSibling("hard");
         try (Run run = Run.open(opening(), path, 5)) {
-            isRefused(path);
+            isRefused(path, path);
             Files.createSymbolicLink(link, path);
-            Files.createLink(hard, path);
-            isRefused(link);
-            isRefused(hard);
-            Files.readAllBytes(path); // the file is closed here, and stays locked
+            isRefused(path, link);
+            Files.readAllBytes(path.resolve("lock")); // it is closed here, and stays locked
             equal(OtherProcess.start("exec ", "resume", path).waitFor(), 3);
             try (RunAgent agent = run.agent(0)) {
                 work(agent, 7);
             }
         } finally {
             Files.deleteIfExists(link);
-            Files.deleteIfExists(hard);
         }
         Run.resume(path).close();
         equal(audited(path), new Auditor.Counts(3, 7, 7));
@@ -106,7 +101,6 @@ final class ResumeTests {
             work(agent, 10);
         }
         try (Run run = Run.resume(path, 6); RunAgent agent = run.agent(0)) {
-            equal(run.cutOff(), 0L);
             equal(run.parts(), 4L);
             equal(agent.follow(), 10L);
             work(agent, 13);
@@ -115,145 +109,193 @@ final class ResumeTests {
         equal(audited(path), new Auditor.Counts(7, 23, 23));
         try (Run run = Run.resume(path)) {
             equal(run.parts(), 7L);
-            equal(run.moves(), 23L);
+            equal(run.saved(), 23L);
         }
         equal(audited(path), new Auditor.Counts(7, 23, 23));
     }
 
-    /** Where the parts of a file end, the first one at 0. */
-    private static List<Integer> ends(byte[] run) {
-        List<Integer> ends = new ArrayList<>(List.of(0));
-        for (int at = 1; at < run.length; at++)
-            if (run[at - 1] == '\n' && run[at + 2] == 'a' && run[at + 7] == 's')
-                ends.add(at); // {"agents": begins a header, and {"agent": an event
-        ends.add(run.length);
-        return ends;
-    }
-
-    private static byte[] small(Path path) throws IOException {
+    private static void small(Path path) {
         try (Run run = Run.open(opening(), path, 2); RunAgent agent = run.agent(0)) {
             work(agent, 5);
         }
-        return Files.readAllBytes(path);
     }
 
-    private static int line(byte[] run) {
-        int end = 0;
-        while (run[end] != '\n') end++;
-        return end + 1;
-    }
-
-    private static boolean isNearFeed(byte[] run, int length) {
-        for (int at = Math.max(0, length - 3); at < Math.min(run.length, length + 2); at++)
-            if (run[at] == '\n')
-                return true;
-        return false;
-    }
-
-    /** Of each beginning of a file the whole parts stay, and it is gone on from there. */
-    private static void filesAreCutAnywhere(Path path) throws IOException {
-        byte[] run = small(path);
-        List<Integer> ends = ends(run);
-        equal(ends.size(), 5);
-        for (int length = 0; length <= run.length; length++) {
-            if (length % 5 != 0 && !isNearFeed(run, length))
-                continue;
-            byte[] cut = Arrays.copyOf(run, length);
-            Files.write(path, cut);
-            if (length < line(run)) {
-                boolean isCut = length == 0 || length == line(run) - 1;
-                refused(isCut ? FolugbenException.CUT : FolugbenException.NOT_JSON,
-                        () -> Run.resume(path));
-                equal(Arrays.equals(Files.readAllBytes(path), cut), true);
-                continue;
-            }
-            int whole = 0;
-            while (whole < 4 && ends.get(whole + 1) <= length) whole++;
-            resumes(path, whole, length - ends.get(whole));
-        }
-    }
-
-    /** Resumes the file, which has so many whole parts and so many bytes behind them. */
-    private static void resumes(Path path, int whole, int behind) {
-        try (Run again = Run.resume(path, 2); RunAgent agent = again.agent(0)) {
-            equal(again.cutOff(), (long) behind);
-            equal(again.parts(), (long) whole);
-            work(agent, 1);
-        }
-        long moves = whole == 0 ? 0 : whole == 4 ? 5 : 2L * (whole - 1);
-        equal(audited(path), new Auditor.Counts(whole + 1, moves + 1, moves + 1));
-    }
-
-    /** Zeros that stand in the last part, as a disk may have them after a crash. */
-    private static void zerosAreCutOff(Path path) throws IOException {
-        byte[] run = small(path);
-        int begin = ends(run).get(3);
-        for (int from = begin; from < run.length; from += 9)
-            for (int to : new int[] {from + 20, run.length}) {
-                byte[] zeros = run.clone();
-                Arrays.fill(zeros, from, Math.min(to, run.length), (byte) 0);
-                Files.write(path, zeros);
-                resumes(path, 3, run.length - begin);
-            }
-    }
-
-    private static void isFault(Path path, Code code, long part, String run) throws IOException {
-        Files.writeString(path, run);
+    /** Resuming tells that the segment is at fault, and leaves each file as it is. */
+    private static void isDamaged(Path path, long segment, Run.Check check) throws IOException {
+        List<Path> files = RunTests.files(path);
         try {
-            Run.resume(path).close();
-        } catch (AuditException fault) {
-            equal(fault.kind(), code);
-            equal(fault.part(), part);
-            equal(Files.readString(path), run);
+            Run.resume(path, check).close();
+        } catch (DamagedException fault) {
+            equal(fault.segment(), segment);
+            equal(RunTests.files(path), files);
             return;
         }
         throw new IllegalStateException("a run with a fault is resumed");
     }
 
-    /** What no crash leaves is told, and the file stays as it is. */
-    private static void otherFaultsAreTold(Path path) throws IOException {
-        byte[] bytes = small(path);
-        String run = new String(bytes, StandardCharsets.UTF_8);
-        int second = ends(bytes).get(2);
-        int third = ends(bytes).get(3);
-        isFault(path, Code.NOT_JSON, 1, run.substring(0, second - 20) + run.substring(second));
-        isFault(path, Code.NOT_JSON, 2, run.substring(0, second) + "\0" + run.substring(second + 1));
-        isFault(path, Code.SHAPE, 4, run + "7\n");
-        isFault(path, Code.APART, 4, run + run.substring(third));
-        isFault(path, Code.ILLEGAL, 3,
-                run.substring(0, third) + run.substring(third).replace("fired\":1", "fired\":2"));
+    /** One flipped bit, or a lost end, in any segment. */
+    private static void changedTextsAreRefused(Path path) throws IOException {
+        small(path);
+        List<Path> files = RunTests.files(path);
+        equal(files.size(), 4);
+        for (int segment = 0; segment < files.size(); segment++) {
+            Path file = files.get(segment);
+            byte[] text = Files.readAllBytes(file);
+            for (int at = segment; at < text.length; at += 41) {
+                byte[] flipped = text.clone();
+                flipped[at] ^= (byte) (1 << at % 8);
+                Files.write(file, flipped);
+                isDamaged(path, segment, Run.Check.ALL);
+                Files.write(file, Arrays.copyOf(text, at));
+                isDamaged(path, segment, Run.Check.ALL);
+            }
+            Run.Check last = Run.Check.LAST;
+            if (segment == files.size() - 1)
+                isDamaged(path, segment, last);
+            else
+                Run.resume(path, last).close();
+            Files.write(file, text);
+        }
+        equal(audited(path), new Auditor.Counts(4, 5, 5));
     }
 
-    /** A process that is killed leaves whole parts and perhaps a cut one. */
+    private static void changedNamesAreRefused(Path path) throws IOException {
+        small(path);
+        List<Path> files = RunTests.files(path);
+        Path second = files.get(1);
+        String name = second.getFileName().toString();
+        for (String bad : List.of(name.replace("-2-2-", "-1-2-"), name.replace("-2-2-", "-2-3-"),
+                     name.replace("-2-2-", "-02-2-"), name.replace("00000001", "00000009"),
+                     name.replace("00000001", "1"), name + ".journal")) {
+            Files.move(second, path.resolve(bad));
+            isDamaged(path, 1, Run.Check.ALL);
+            Files.move(path.resolve(bad), second);
+        }
+        Path twice = path.resolve(name.replace("-2-2-", "-2-1-"));
+        Files.copy(second, twice);
+        isDamaged(path, 1, Run.Check.LAST);
+        Files.delete(twice);
+        for (String other : List.of("new", "notes.txt")) Files.writeString(path.resolve(other), "{");
+        try (Run run = Run.resume(path, Run.Check.LAST)) {
+            equal(run.saved(), 5L);
+        }
+        equal(Files.exists(path.resolve("new")), false);
+        Files.delete(files.get(3));
+        try (Run run = Run.resume(path)) { // an earlier, legal run
+            equal(run.saved(), 4L);
+        }
+        Files.delete(files.get(0));
+        isDamaged(path, 0, Run.Check.LAST);
+    }
+
+    /** A text that isn't legal is refused though its digest is right. */
+    private static void illegalSegmentsAreRefused(Path path) throws IOException {
+        small(path);
+        List<Segment> segments = Segment.of(path);
+        Path last = RunTests.files(path).get(3);
+        byte[] text = Files.readString(last).replace("fired\":1", "fired\":2")
+                .getBytes(StandardCharsets.UTF_8);
+        Files.delete(last);
+        Segment wrong = segments.get(2).following(1, 1, ByteBuffer.wrap(text));
+        Files.write(path.resolve(wrong.name()), text);
+        for (Run.Check check : Run.Check.values())
+            try {
+                Run.resume(path, check).close();
+                throw new IllegalStateException("a run that isn't legal is resumed");
+            } catch (AuditException fault) {
+                equal(fault.kind(), Code.ILLEGAL);
+                equal(fault.part(), 3L);
+            }
+    }
+
+    /** What is no run: a folder of a run that was killed as it was made, another one, and a file. */
+    private static void otherPathsAreRefused(Path path) throws IOException {
+        Files.createDirectory(path);
+        Files.createFile(path.resolve("lock"));
+        Files.writeString(path.resolve("new"), "{\"agents\":");
+        equal(faultOf(() -> Run.resume(path)).getClass(), NoSuchFileException.class);
+        Path other = Files.createFile(path.resolve("notes.txt"));
+        equal(faultOf(() -> Run.open(opening(), path)).getMessage(),
+                path + ": the folder isn't empty");
+        Files.delete(other);
+        small(path);
+        equal(audited(path), new Auditor.Counts(4, 5, 5));
+        RunTests.drop(path);
+        Files.writeString(path, "{\"agents\":");
+        String told = faultOf(() -> Run.resume(path)).getMessage();
+        equal(told.endsWith("is imported by: python -m folugben import"), true);
+        equal(Files.size(path), 10L);
+    }
+
+    /** A process that is killed leaves whole segments. */
     private static void killedRunsAreResumed(Path path) throws Exception {
         Random random = new Random();
         for (int times = Integer.getInteger("folugben.kills", 3); times > 0; times--) {
             Process process = OtherProcess.start("exec ", "play", path);
-            while (!Files.exists(path)) Thread.sleep(1);
+            while (!Files.exists(path) || RunTests.files(path).isEmpty()) Thread.sleep(1);
             Thread.sleep(random.nextInt(200));
             process.destroyForcibly().waitFor();
-            long length = Files.size(path);
+            int segments = RunTests.files(path).size();
             try (Run run = Run.resume(path, 20)) {
-                equal(run.cutOff() < length, true);
+                equal(run.parts(), (long) segments);
                 RunTests.inThreads(run, 3, agent -> work(agent, 50));
             }
             audited(path);
-            Files.delete(path);
+            RunTests.drop(path);
         }
+    }
+
+    private static final String PYTHON = """
+            import folugben, sys
+            path, steps = sys.argv[1], int(sys.argv[2])
+            with folugben.Run.resume(path, 3) if steps < 9 else folugben.Run(
+                path, init=[[["count"], 0]], moves=3
+            ) as run, run.agent(0) as agent:
+                for _ in range(steps):
+                    agent.play(lambda step: step.push([["inc", ["count"], 1]]))
+            print(*folugben.audit(path))
+            """;
+
+    private static String python(Path path, int steps) throws IOException {
+        ProcessBuilder builder = new ProcessBuilder(
+                "python3", "-c", PYTHON, path.toString(), String.valueOf(steps));
+        builder.environment().put("PYTHONPATH", System.getProperty("folugben.python"));
+        builder.environment().put("FOLUGBEN_LIBRARY",
+                Path.of(System.getProperty("jna.library.path"), "libfolugben.so").toString());
+        Process process = builder.redirectError(ProcessBuilder.Redirect.INHERIT).start();
+        return new String(process.getInputStream().readAllBytes(), StandardCharsets.UTF_8);
+    }
+
+    /** Runs of the Python package are gone on with, and it goes on with those of this one. */
+    private static void pythonReadsAndWritesTheSame(Path path) throws IOException {
+        if (System.getProperty("folugben.python") == null) {
+            System.out.println("left out: runs of Python (no -Dfolugben.python=FOLDER)");
+            return;
+        }
+        equal(python(path, 10), "10 10 5\n");
+        try (Run run = Run.resume(path, 4); RunAgent agent = run.agent(1)) {
+            equal(run.saved(), 10L);
+            for (int i = 0; i < 6; i++) RunTests.count(agent);
+        }
+        equal(RunTests.counted(path, 16), new Auditor.Counts(7, 16, 16));
+        equal(python(path, 4), "20 20 9\n");
+        equal(RunTests.counted(path, 20).moves(), 20L);
     }
 
     static void all() {
         try {
             for (RunTests.OnFile test : List.<RunTests.OnFile>of(ResumeTests::onePathIsOneRun,
-                         ResumeTests::runsAreResumed, ResumeTests::filesAreCutAnywhere,
-                         ResumeTests::zerosAreCutOff, ResumeTests::otherFaultsAreTold,
-                         ResumeTests::killedRunsAreResumed))
+                         ResumeTests::runsAreResumed, ResumeTests::changedTextsAreRefused,
+                         ResumeTests::changedNamesAreRefused,
+                         ResumeTests::illegalSegmentsAreRefused, ResumeTests::otherPathsAreRefused,
+                         ResumeTests::killedRunsAreResumed,
+                         ResumeTests::pythonReadsAndWritesTheSame))
                 RunTests.withFile(test);
         } catch (IOException fault) {
             throw new UncheckedIOException(fault);
         } catch (Exception fault) {
             throw fault instanceof RuntimeException told ? told : new IllegalStateException(fault);
         }
-        System.out.println("files of runs");
+        System.out.println("folders of runs");
     }
 }

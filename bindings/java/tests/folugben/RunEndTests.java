@@ -5,10 +5,9 @@ import static folugben.Checks.refused;
 
 import java.io.IOException;
 import java.io.UncheckedIOException;
-import java.nio.charset.StandardCharsets;
 import java.nio.file.Files;
 import java.nio.file.Path;
-import java.nio.file.StandardOpenOption;
+import java.util.Arrays;
 import java.util.List;
 
 /** Tests of how runs end: as they are closed, and where a part can't be written. */
@@ -102,41 +101,80 @@ final class RunEndTests {
     /** The run of a process whose files can't grow beyond 64 blocks, as on a full disk. */
     private static void fullDisksEndTheRun(Path path) throws Exception {
         equal(OtherProcess.start("ulimit -f 64 && exec ", "fill", path).waitFor(), 0);
-        long length = Files.size(path);
-        equal(length > 30_000 && length <= 65_536, true); // a block has 512 bytes, or 1,024
-        Auditor.Counts told = Auditor.audit(path);
-        equal(told.moves(), 10 * (told.parts() - 1));
+        equal(RunTests.counted(path, 50), new Auditor.Counts(6, 50, 50));
+        equal(Files.exists(path.resolve("new")), false);
     }
 
     /** What that process does. */
     static void fill(Path path) {
-        Run run = RunTests.open(path, 10);
+        try (Run run = RunTests.open(path, 10); RunAgent agent = run.agent(0)) {
+            for (int i = 0; i < 50; i++) RunTests.count(agent);
+        }
+        Run run = Run.resume(path, 1000);
         List<RunAgent> agents = List.of(run.agent(0), run.agent(1));
         RunTests.count(agents.get(1));
         RunException told = failsInTime(agents.get(0));
+        equal(told.part(), 6L);
         equal(told.part(), run.parts());
         equal(told.getCause() instanceof IOException, true);
         toldByAll(run, told, agents);
     }
 
-    /** A step that is under way as the run ends tells it too. */
-    private static void writesThatFailEndTheRun(Path path) throws Exception {
-        Run run = RunTests.open(path, 2);
-        RunAgent agent = run.agent(0);
-        RunAgent other = run.agent(1);
-        for (int i = 0; i < 3; i++) RunTests.count(agent);
-        while (run.parts() < 2) Thread.sleep(1);
-        byte[] whole = Files.readAllBytes(path);
-        Files.writeString(path, "{", StandardOpenOption.APPEND);
-        Step step = other.step();
-        RunException told = failsInTime(agent);
-        equal(told.part(), 2L);
-        equal(told.getCause().getMessage(), path + ": the file was changed by someone else");
-        equal(fails(() -> step.get(COUNT)).part(), 2L);
-        equal(fails(step::fire).part(), 2L);
-        step.close();
-        toldByAll(run, told, List.of(agent, other));
-        equal(Files.readString(path), new String(whole, StandardCharsets.UTF_8) + "{");
+    /** What someone else does to the folder of a run. */
+    private interface Harm {
+        void on(Path path) throws IOException;
+    }
+
+    private static void truncate(Path path) throws IOException {
+        Path last = RunTests.files(path).get(1);
+        Files.write(last, Arrays.copyOf(Files.readAllBytes(last), 20));
+    }
+
+    private static void move(Path path) throws IOException {
+        Files.move(path, path.resolveSibling("moved"));
+    }
+
+    private static void replace(Path path) throws IOException {
+        move(path);
+        Files.createDirectory(path);
+    }
+
+    private static void replaceLock(Path path) throws IOException {
+        Files.move(path.resolve("lock"), path.resolve("old"));
+        Files.createFile(path.resolve("lock"));
+    }
+
+    /** Each is noticed before a further segment is written, and by a step that is under way. */
+    private static void harmEndsTheRun(Path path) throws Exception {
+        for (Harm harm : List.<Harm>of(RunEndTests::truncate, RunEndTests::move,
+                     RunEndTests::replace, RunEndTests::replaceLock)) {
+            Run run = RunTests.open(path, 2);
+            RunAgent agent = run.agent(0);
+            RunAgent other = run.agent(1);
+            for (int i = 0; i < 3; i++) RunTests.count(agent);
+            while (run.parts() < 2) Thread.sleep(1);
+            harm.on(path);
+            Step step = other.step();
+            RunException told = failsInTime(agent);
+            equal(told.part(), 2L);
+            equal(told.getCause().getClass(), DamagedException.class);
+            equal(fails(() -> step.get(COUNT)).part(), 2L);
+            equal(fails(step::fire).part(), 2L);
+            step.close();
+            toldByAll(run, told, List.of(agent, other));
+            for (Path left : List.of(path, path.resolveSibling("moved"))) {
+                equal(!Files.exists(left) || RunTests.files(left).size() % 2 == 0, true);
+                RunTests.drop(left);
+            }
+        }
+    }
+
+    /** A state of more bytes than a line may have is refused before anything is made. */
+    private static void linesAreShort(Path path) throws IOException {
+        String state = "[[[\"a\"],\"" + "x".repeat(16_777_216) + "\"]]";
+        equal(refused(FolugbenException.LARGE, () -> Run.open(state, path, 5, 9)).getClass(),
+                LargeException.class);
+        equal(Files.exists(path), false);
     }
 
     static void all() {
@@ -144,7 +182,8 @@ final class RunEndTests {
             for (RunTests.OnFile test : List.<RunTests.OnFile>of(RunEndTests::closedRunsSaySo,
                          RunEndTests::lostAgentsEndTheRun,
                          RunEndTests::lostAgentsThatFiredNothingAreMissedByNone,
-                         RunEndTests::fullDisksEndTheRun, RunEndTests::writesThatFailEndTheRun))
+                         RunEndTests::fullDisksEndTheRun, RunEndTests::harmEndsTheRun,
+                         RunEndTests::linesAreShort))
                 RunTests.withFile(test);
         } catch (IOException fault) {
             throw new UncheckedIOException(fault);

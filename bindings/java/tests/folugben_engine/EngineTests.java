@@ -31,11 +31,13 @@ import java.nio.file.Files;
 import java.nio.file.Path;
 import java.util.ArrayList;
 import java.util.Collections;
+import java.util.Comparator;
 import java.util.List;
 import java.util.Map;
 import java.util.Random;
 import java.util.function.BiFunction;
 import java.util.function.BiPredicate;
+import java.util.stream.Stream;
 
 /** Tests of the engine: each prints its name, and the first that fails ends the program. */
 public final class EngineTests {
@@ -200,10 +202,18 @@ public final class EngineTests {
             Auditor.Counts told = Auditor.audit(path);
             equal(told.moves(), 320L);
             equal(told.parts() >= 8, true);
-            try (BufferedReader journals = Files.newBufferedReader(path)) {
-                holdsInEachState(machine, journals, 320 + (int) told.parts());
+            StringBuilder journals = new StringBuilder();
+            try (Stream<Path> all = Files.list(path)) {
+                for (Path file : all.sorted().toList()) {
+                    if (file.toString().endsWith(".journal"))
+                        journals.append(Files.readString(file));
+                }
             }
-            Files.delete(path);
+            holdsInEachState(machine, new BufferedReader(new StringReader(journals.toString())),
+                    320 + (int) told.parts());
+            try (Stream<Path> all = Files.walk(path)) {
+                for (Path left : all.sorted(Comparator.reverseOrder()).toList()) Files.delete(left);
+            }
         }
         Files.delete(folder);
     }

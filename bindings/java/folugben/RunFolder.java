@@ -1,0 +1,202 @@
+package folugben;
+
+import java.io.IOException;
+import java.nio.ByteBuffer;
+import java.nio.channels.FileChannel;
+import java.nio.file.FileAlreadyExistsException;
+import java.nio.file.FileSystemException;
+import java.nio.file.Files;
+import java.nio.file.LinkOption;
+import java.nio.file.NoSuchFileException;
+import java.nio.file.Path;
+import java.nio.file.StandardCopyOption;
+import java.nio.file.StandardOpenOption;
+import java.nio.file.attribute.BasicFileAttributes;
+import java.nio.file.attribute.PosixFilePermissions;
+import java.util.List;
+import java.util.Set;
+import java.util.stream.Stream;
+
+/**
+ * The folder of a run, to which this run alone writes: one text file a segment, whose names hold a
+ * chain of digests. No file with a segment's name is truncated, removed or changed.
+ */
+final class RunFolder implements AutoCloseable {
+    private static final String NEW = "new";
+    private static final String LOCK = "lock";
+    private static final long MOST = 100_000_000;
+
+    private final Path path;
+    private final FileChannel folder;
+    private final Object key;
+    private final FileGuard lock;
+    private Segment last = Segment.START;
+    /** How many bytes the file of the last segment has. */
+    private long size;
+
+    private RunFolder(Path path) throws IOException {
+        this.path = path;
+        folder = FileChannel.open(path, StandardOpenOption.READ);
+        FileGuard taken = null;
+        try {
+            key = key(path);
+            taken = lock = new FileGuard(path.resolve(LOCK));
+            expectThere();
+            // What an earlier, killed run has renamed is flushed before it is reported.
+            folder.force(true);
+            force(path.getParent());
+        } catch (IOException | RuntimeException | Error fault) {
+            if (taken != null)
+                taken.close();
+            folder.close();
+            throw fault;
+        }
+    }
+
+    /** A folder with an opening segment; the path leads to an empty one or to nothing. */
+    static RunFolder create(Path path, ByteBuffer opening) throws IOException {
+        Path real = real(path);
+        try {
+            Files.createDirectory(real,
+                    PosixFilePermissions.asFileAttribute(PosixFilePermissions.fromString("rwx------")));
+        } catch (FileAlreadyExistsException there) {
+            expectEmpty(real);
+        }
+        RunFolder made = new RunFolder(real);
+        try {
+            expectEmpty(real);
+            made.save(opening, 0, 0);
+            return made;
+        } catch (IOException | RuntimeException | Error fault) {
+            made.close();
+            throw fault;
+        }
+    }
+
+    /** The folder of an earlier run, of which no text is read. */
+    static RunFolder reopen(Path path) throws IOException {
+        Path real = real(path);
+        Segment.of(real); // nothing is created in a folder without a run
+        RunFolder there = new RunFolder(real);
+        try {
+            List<Segment> segments = Segment.of(real);
+            there.last = segments.get(segments.size() - 1);
+            there.size = size(real.resolve(there.last.name()));
+            Files.deleteIfExists(real.resolve(NEW));
+            return there;
+        } catch (IOException | RuntimeException | Error fault) {
+            there.close();
+            throw fault;
+        }
+    }
+
+    /** Where a path leads to, be it there or not. */
+    static Path real(Path path) throws IOException {
+        if (Files.isRegularFile(path))
+            throw new FileSystemException(path.toString(), null,
+                    "a run is a folder; a run of version 0.2, one file, is imported by: python -m"
+                            + " folugben import");
+        if (Files.exists(path))
+            return path.toRealPath();
+        Path whole = path.toAbsolutePath();
+        return whole.getParent().toRealPath().resolve(whole.getFileName());
+    }
+
+    private static void expectEmpty(Path path) throws IOException {
+        if (!Files.isDirectory(path))
+            throw new FileAlreadyExistsException(path.toString(), null, "there is a file");
+        try (Stream<Path> all = Files.list(path)) {
+            List<String> names = all.map(it -> it.getFileName().toString())
+                    .filter(it -> !it.equals(NEW) && !it.equals(LOCK)).toList();
+            if (names.stream().anyMatch(it -> it.endsWith(Segment.SUFFIX)))
+                throw new FileAlreadyExistsException(
+                        path.toString(), null, "there is a run, with which Run.resume goes on");
+            if (!names.isEmpty())
+                throw new FileAlreadyExistsException(path.toString(), null, "the folder isn't empty");
+        }
+    }
+
+    private static void force(Path folder) throws IOException {
+        try (FileChannel opened = FileChannel.open(folder, StandardOpenOption.READ)) {
+            opened.force(true);
+        }
+    }
+
+    private static Object key(Path path, LinkOption... links) throws IOException {
+        return Files.readAttributes(path, BasicFileAttributes.class, links).fileKey();
+    }
+
+    private static long size(Path path) throws IOException {
+        return Files.readAttributes(path, BasicFileAttributes.class, LinkOption.NOFOLLOW_LINKS).size();
+    }
+
+    Path path() {
+        return path;
+    }
+
+    /** The last segment. */
+    Segment last() {
+        return last;
+    }
+
+    /** Saves the next segment: it is on the disk then. After a fault nothing more may be saved. */
+    void save(ByteBuffer text, long moves, long events) throws IOException {
+        Segment now = last.following(moves, events, text);
+        if (now.number() >= MOST)
+            throw new FileSystemException(
+                    path.toString(), null, "a run has at most 100,000,000 segments");
+        long length = text.remaining();
+        expectThere();
+        writeNew(text);
+        Files.move(path.resolve(NEW), path.resolve(now.name()), StandardCopyOption.ATOMIC_MOVE);
+        folder.force(true);
+        last = now;
+        size = length;
+        expectThere();
+    }
+
+    private void writeNew(ByteBuffer text) throws IOException {
+        Path made = path.resolve(NEW);
+        Files.deleteIfExists(made);
+        try (FileChannel file = FileChannel.open(made,
+                     Set.of(StandardOpenOption.WRITE, StandardOpenOption.CREATE_NEW), FileGuard.OWN)) {
+            while (text.hasRemaining())
+                if (file.write(text) == 0)
+                    throw new FileSystemException(made.toString(), null, "a write took no byte");
+            file.force(true);
+        } catch (IOException | RuntimeException | Error fault) {
+            try {
+                Files.deleteIfExists(made); // the disk may be full of it
+            } catch (IOException further) {
+                fault.addSuppressed(further);
+            }
+            throw fault;
+        }
+    }
+
+    /** Expects that the path leads to this folder, with the lock and the last segment. */
+    private void expectThere() throws IOException {
+        long next = last.number() + 1;
+        try {
+            if (!key(path).equals(key))
+                throw new DamagedException(next, path + " was moved or replaced");
+            if (!key(path.resolve(LOCK), LinkOption.NOFOLLOW_LINKS).equals(lock.key()))
+                throw new DamagedException(next, "the lock in " + path + " was replaced");
+            if (next > 0 && size(path.resolve(last.name())) != size)
+                throw new DamagedException(
+                        last.number(), "its file has another size than it was written with");
+        } catch (NoSuchFileException gone) {
+            throw new DamagedException(next, path + ": what the run has written was removed");
+        }
+    }
+
+    /** Closes the folder, which another run may then have. */
+    @Override
+    public void close() throws IOException {
+        try {
+            folder.close();
+        } finally {
+            lock.close();
+        }
+    }
+}

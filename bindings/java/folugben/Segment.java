@@ -1,0 +1,148 @@
+package folugben;
+
+import java.io.IOException;
+import java.nio.ByteBuffer;
+import java.nio.channels.SeekableByteChannel;
+import java.nio.charset.StandardCharsets;
+import java.nio.file.Files;
+import java.nio.file.LinkOption;
+import java.nio.file.NoSuchFileException;
+import java.nio.file.Path;
+import java.nio.file.StandardOpenOption;
+import java.security.MessageDigest;
+import java.security.NoSuchAlgorithmException;
+import java.util.ArrayList;
+import java.util.HexFormat;
+import java.util.List;
+import java.util.Locale;
+import java.util.Set;
+import java.util.regex.Matcher;
+import java.util.regex.Pattern;
+import java.util.stream.Stream;
+
+/**
+ * A complete segment of a run, which is a file of its folder. {@code first} is the number of moves
+ * before it, {@code digest} that of the chain up to its end.
+ */
+record Segment(long number, long first, long moves, long events, String digest) {
+    /** The end of a run that has no segment yet. */
+    static final Segment START = new Segment(-1, 0, 0, 0, "0".repeat(64));
+    static final String SUFFIX = ".journal";
+
+    private static final int PIECE = 1 << 16;
+    private static final Pattern NAME = Pattern.compile(
+            "([0-9]{8})-(0|[1-9][0-9]{0,17})-(0|[1-9][0-9]{0,17})-([0-9a-f]{64})\\.journal");
+
+    /** Takes a piece of a text. */
+    private interface Sink {
+        void take(byte[] piece, int length);
+    }
+
+    /** The name of its file. */
+    String name() {
+        return String.format(Locale.ROOT, "%08d-%d-%d-%s%s", number, moves, events, digest, SUFFIX);
+    }
+
+    /** The number of moves up to its end. */
+    long end() {
+        return first + moves;
+    }
+
+    /** The segment that comes next, with this text. */
+    Segment following(long moves, long events, ByteBuffer text) {
+        Segment bare = new Segment(number + 1, end(), moves, events, "");
+        MessageDigest all = bare.begun(digest, text.remaining());
+        all.update(text.duplicate());
+        return new Segment(bare.number, bare.first, moves, events, hex(all));
+    }
+
+    /** The digest of all that comes before its text. */
+    private MessageDigest begun(String previous, long length) {
+        String line = previous + " " + number + " " + first + " " + moves + " " + events + " " + length;
+        try {
+            MessageDigest digest = MessageDigest.getInstance("SHA-256");
+            digest.update((line + "\n").getBytes(StandardCharsets.US_ASCII));
+            return digest;
+        } catch (NoSuchAlgorithmException error) {
+            throw new AssertionError("each Java has SHA-256", error);
+        }
+    }
+
+    private static String hex(MessageDigest digest) {
+        return HexFormat.of().formatHex(digest.digest());
+    }
+
+    /**
+     * The segments that are in the folder now, of which no text is read.
+     *
+     * @throws NoSuchFileException if there is none
+     * @throws DamagedException if the names aren't those of a run
+     */
+    static List<Segment> of(Path folder) throws IOException {
+        List<Segment> segments = new ArrayList<>();
+        Segment last = START;
+        try (Stream<Path> all = Files.list(folder)) {
+            List<String> names = all.map(it -> it.getFileName().toString())
+                    .filter(it -> it.endsWith(SUFFIX)).sorted().toList();
+            for (String name : names) segments.add(last = last.named(name));
+        }
+        if (segments.isEmpty())
+            throw new NoSuchFileException(folder.toString(), null, "the folder has no run");
+        return segments;
+    }
+
+    /** The segment behind this one, whose file has the name. */
+    private Segment named(String name) {
+        Matcher told = NAME.matcher(name);
+        if (!told.matches())
+            throw new DamagedException(number + 1, "\"" + name + "\" is no name of a segment");
+        long found = Long.parseLong(told.group(1));
+        if (found == number)
+            throw new DamagedException(number, "another file has this number too: " + name);
+        if (found != number + 1)
+            throw new DamagedException(number + 1, "its file is missing");
+        Segment next = new Segment(found, end(), Long.parseLong(told.group(2)),
+                Long.parseLong(told.group(3)), told.group(4));
+        if (found == 0 && (next.moves > 0 || next.events > 0))
+            throw new DamagedException(0, "the opening segment has no event");
+        return next;
+    }
+
+    /**
+     * Audits the segment, which stands in the folder behind another one.
+     *
+     * @throws DamagedException if its text isn't the one that was saved
+     * @throws AuditException if its text isn't legal
+     */
+    void audit(Path folder, Segment before, Auditor auditor) throws IOException {
+        read(folder, before.digest, (piece, length) -> {}); // the digest comes first
+        Auditor.Counts all = auditor.counts();
+        Auditor.Counts told;
+        try {
+            read(folder, before.digest, (piece, length) -> auditor.feed(piece, 0, length));
+            told = auditor.end();
+        } catch (AuditException fault) {
+            throw new AuditException(fault.code(), number, fault.number());
+        }
+        if (!told.equals(new Auditor.Counts(
+                    all.parts() + 1, all.calls() + events, all.moves() + moves)))
+            throw new DamagedException(
+                    number, "its text has other numbers of moves or events than its name");
+    }
+
+    private void read(Path folder, String previous, Sink sink) throws IOException {
+        byte[] piece = new byte[PIECE];
+        try (SeekableByteChannel file = Files.newByteChannel(folder.resolve(name()),
+                     Set.of(StandardOpenOption.READ, LinkOption.NOFOLLOW_LINKS))) {
+            MessageDigest all = begun(previous, file.size());
+            for (int length; (length = file.read(ByteBuffer.wrap(piece))) >= 0;) {
+                all.update(piece, 0, length);
+                sink.take(piece, length);
+            }
+            if (!hex(all).equals(digest))
+                throw new DamagedException(number, "its text isn't the one that was saved");
+        } catch (NoSuchFileException gone) {
+            throw new DamagedException(number, "its file is gone");
+        }
+    }
+}
