@@ -45,7 +45,8 @@ pub(crate) fn told(mut call: impl FnMut(*mut u8, usize, *mut usize) -> i32) -> (
     thread_local! {
         static KEPT: Cell<Vec<u8>> = const { Cell::new(Vec::new()) };
     }
-    let mut text = KEPT.take();
+    // In the destructors of a thread's locals nothing is kept any more.
+    let mut text = KEPT.try_with(Cell::take).unwrap_or_default();
     if text.is_empty() {
         text.resize(FIRST_ROOM, 0);
     }
@@ -58,7 +59,7 @@ pub(crate) fn told(mut call: impl FnMut(*mut u8, usize, *mut usize) -> i32) -> (
                 return (code, text);
             }
             let answer = text[..written].to_vec();
-            KEPT.set(text);
+            let _ = KEPT.try_with(|kept| kept.set(text));
             return (code, answer);
         }
         text.resize(written, 0);

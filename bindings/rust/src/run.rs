@@ -45,6 +45,7 @@ use crate::step::{Holder, Step};
 use crate::storage::Storage;
 use crate::value::{Location, Value};
 use std::fmt;
+use std::marker::PhantomData;
 use std::ops::{Deref, DerefMut};
 use std::path::Path;
 use std::sync::Arc;
@@ -219,7 +220,8 @@ impl RunAgent {
             if number == self.core.moves() {
                 self.core.go_on(&lent)?;
             } else if lent.stays() {
-                return Ok(RunStep { step: Step { agent: Holder::Lent(lent), number } });
+                let step = Step { agent: Holder::Lent(lent), number };
+                return Ok(RunStep { step, stays: PhantomData });
             }
         }
     }
@@ -273,9 +275,26 @@ impl fmt::Debug for RunAgent {
 }
 
 /// A [`Step`] of a run's agent: its calls are those of a step, and rules take both.
+///
+/// It stays in the thread that began it, so that [`Run::close`] tells a step of its own thread, for which it can't wait:
+///
+/// ```compile_fail
+/// fn goes_to_threads<T: Send>() {}
+/// goes_to_threads::<folugben::RunStep<'static>>();
+/// ```
+///
+/// Agents go from thread to thread:
+///
+/// ```
+/// fn goes_to_threads<T: Send>() {}
+/// goes_to_threads::<folugben::RunAgent>();
+/// goes_to_threads::<folugben::Step<'static>>();
+/// ```
 #[must_use = "a step does nothing until it is fired"]
 pub struct RunStep<'a> {
     step: Step<'a>,
+    /// Of a type that isn't Send.
+    stays: PhantomData<*const ()>,
 }
 
 impl RunStep<'_> {
@@ -293,7 +312,7 @@ impl RunStep<'_> {
     /// was fired.
     #[must_use = "a stale step has fired nothing"]
     pub fn fire(self) -> Result<u64, Error> {
-        let RunStep { step } = self;
+        let RunStep { step, .. } = self;
         let before = match &step.agent {
             Holder::Lent(lent) => lent.before_fire()?,
             Holder::Own(_) => 0,

@@ -20,6 +20,8 @@ pub(crate) struct Shared {
 
 struct Slots {
     storage: Held,
+    /// The numbers of which an agent was made.
+    made: [bool; AGENTS],
     /// Agents that were let go when there was no memory to give them back.
     waiting: Vec<Held>,
 }
@@ -40,6 +42,18 @@ impl Shared {
 }
 
 impl Slots {
+    fn make(&mut self, number: u32) -> Result<Held, Error> {
+        let agent = Held::empty();
+        match unsafe { sys::asm_agent(self.storage.at(), number, agent.at()) } {
+            sys::DONE => {
+                self.made[number as usize] = true;
+                Ok(agent)
+            }
+            sys::NUMBER => Err(Error::NumberTaken(number)),
+            code => Err(plain(code)),
+        }
+    }
+
     fn give_waiting(&mut self) -> Result<(), Error> {
         while let Some(agent) = self.waiting.last() {
             done(unsafe { sys::asm_give(self.storage.at(), agent.at()) })?;
@@ -102,19 +116,16 @@ impl Storage {
         let mut waiting = Vec::new();
         // Letting an agent go can't be refused memory.
         waiting.try_reserve_exact(AGENTS).map_err(|_| Error::Memory)?;
-        Ok(Storage { shared: Arc::new(Shared { slots: Mutex::new(Slots { storage, waiting }) }) })
+        Ok(Storage {
+            shared: Arc::new(Shared { slots: Mutex::new(Slots { storage, made: [false; AGENTS], waiting }) }),
+        })
     }
 
     /// Makes an agent with this number, below 256 (else [`Error::Range`]). A storage has one agent of each number for its
     /// whole life, so a second one is [`Error::NumberTaken`].
     pub fn agent(&self, number: u32) -> Result<Agent, Error> {
-        let agent = Held::empty();
-        let slots = self.shared.slots();
-        match unsafe { sys::asm_agent(slots.storage.at(), number, agent.at()) } {
-            sys::DONE => Ok(self.holder(agent, number)),
-            sys::NUMBER => Err(Error::NumberTaken(number)),
-            code => Err(plain(code)),
-        }
+        let agent = self.shared.slots().make(number)?;
+        Ok(self.holder(agent, number))
     }
 
     fn holder(&self, agent: Held, number: u32) -> Agent {
@@ -137,9 +148,19 @@ impl Storage {
         }
     }
 
-    /// Makes agents with the numbers from 0 up; after an error some of them were made.
+    /// Makes agents with the numbers from 0 up.
+    ///
+    /// [`Error::Range`]: more than 256. [`Error::NumberTaken`]: an agent with one of the numbers was made before. None is made
+    /// then. [`Error::Memory`]: some of them were made.
     pub fn agents(&self, count: u32) -> Result<Vec<Agent>, Error> {
-        (0..count).map(|number| self.agent(number)).collect()
+        let mut slots = self.shared.slots();
+        let wanted = slots.made.get(..count as usize).ok_or(Error::Range)?;
+        if let Some(taken) = (0..count).zip(wanted).find_map(|(number, is_made)| is_made.then_some(number)) {
+            return Err(Error::NumberTaken(taken));
+        }
+        let made = (0..count).map(|number| slots.make(number)).collect::<Result<Vec<_>, _>>()?;
+        drop(slots);
+        Ok((0..count).zip(made).map(|(number, agent)| self.holder(agent, number)).collect())
     }
 
     /// How many moves were fired. It looks along all of them.

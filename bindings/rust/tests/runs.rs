@@ -2,7 +2,7 @@
 mod common;
 
 use common::{Room, add_one, count, numbers, open};
-use folugben::{EndCause, Ended, Error, Location, Move, Run, RunAgent, RunStep, Value};
+use folugben::{EndCause, Ended, Error, Location, Move, Run, RunAgent, Value};
 use std::thread;
 use std::time::{Duration, Instant};
 
@@ -26,7 +26,6 @@ fn agents_and_runs_go_between_threads() {
     is_send::<Run>();
     is_sync::<Run>();
     is_send::<RunAgent>();
-    is_send::<RunStep<'static>>();
 }
 
 #[test]

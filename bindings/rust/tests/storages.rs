@@ -1,5 +1,7 @@
 //! Storages: how agents come back, what is refused, and journals.
-use folugben::{Error, Journal, JournalError, Legality, Location, Move, Storage, Value, aggregate, compose};
+use folugben::{Agent, Error, Journal, JournalError, Legality, Location, Move, Storage, Value, aggregate, compose};
+use std::cell::RefCell;
+use std::thread;
 
 fn count() -> Location {
     Location::new("count")
@@ -156,4 +158,43 @@ fn an_agent_that_was_given_back_is_taken_and_goes_on() {
     let taken = storage.take(3).unwrap();
     assert!(storage.give(taken).is_ok());
     assert_eq!(storage.close().unwrap(), journal);
+}
+
+#[test]
+fn agents_are_all_made_or_none() {
+    let storage = Storage::open([], 10).unwrap();
+    let _third = storage.agent(2).unwrap();
+    assert_eq!(storage.agents(5).unwrap_err(), Error::NumberTaken(2));
+    assert_eq!(storage.agents(257).unwrap_err(), Error::Range);
+    assert_eq!(storage.agents(2).unwrap().len(), 2);
+    assert!(storage.agent(3).is_ok());
+    assert_eq!(storage.agents(2).unwrap_err(), Error::NumberTaken(0));
+}
+
+fn raise(agent: &mut Agent) {
+    agent.play(|step| step.put(&count(), step.get(&count())?.as_num().unwrap_or(0) + 1)).unwrap();
+}
+
+/// Calls are made in the destructors of a thread's locals too, in whichever order these are run.
+#[test]
+fn calls_are_made_as_a_thread_ends() {
+    struct Last(RefCell<Option<Agent>>);
+    impl Drop for Last {
+        fn drop(&mut self) {
+            self.0.take().iter_mut().for_each(raise);
+        }
+    }
+    thread_local! {
+        static BEFORE: Last = const { Last(RefCell::new(None)) };
+        static BEHIND: Last = const { Last(RefCell::new(None)) };
+    }
+    let storage = Storage::open([(count(), 5.into())], 10).unwrap();
+    let [mut one, other] = [0, 1].map(|number| storage.agent(number).unwrap());
+    let ends = thread::spawn(move || {
+        BEFORE.with(|last| *last.0.borrow_mut() = Some(other));
+        raise(&mut one);
+        BEHIND.with(|last| *last.0.borrow_mut() = Some(one));
+    });
+    ends.join().unwrap();
+    assert_eq!(storage.close().unwrap().replay().unwrap(), [(count(), 8.into())]);
 }
