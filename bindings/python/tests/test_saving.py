@@ -244,14 +244,19 @@ class Commands(Rooms):
 
     def test_an_audit_that_follows(self):
         command = [sys.executable, "-m", "folugben", "follow", self.path]
-        with subprocess.Popen(command, env=environment(), stdout=subprocess.PIPE, text=True) as child:
-            self.assertEqual(child.stdout.readline(), "legal so far 6 6 3\n")
-            with Run.resume(self.path, 4) as run, run.agent(0) as agent:
-                agent.play(raised)
-                run.flush()
-                self.assertEqual(child.stdout.readline(), "legal so far 7 7 4\n")
-            child.send_signal(signal.SIGINT)
-            self.assertEqual(child.wait(10), 0)
+        # A process in the background of a script ignores Ctrl-C, and so would its child.
+        heard = {"preexec_fn": lambda: signal.signal(signal.SIGINT, signal.SIG_DFL)}
+        with subprocess.Popen(command, env=environment(), stdout=subprocess.PIPE, text=True, **heard) as child:
+            try:
+                self.assertEqual(child.stdout.readline(), "legal so far 6 6 3\n")
+                with Run.resume(self.path, 4) as run, run.agent(0) as agent:
+                    agent.play(raised)
+                    run.flush()
+                    self.assertEqual(child.stdout.readline(), "legal so far 7 7 4\n")
+                child.send_signal(signal.SIGINT)
+                self.assertEqual(child.wait(30), 0)
+            finally:
+                child.kill()
 
 
 class Imports(Rooms):
