@@ -259,8 +259,9 @@ class Postgres:
                 pass
             return list(self._cursor.fetchall()) if self._cursor.description else []
         except self._driver.Error as error:
-            # psycopg 2 has no class of its own for a server that is gone.
-            if self._db.closed or isinstance(error, (self._driver.OperationalError, self._driver.InterfaceError)):
+            # psycopg 2 may raise the base class for a server that is gone, before it knows its connection as closed.
+            is_lost = isinstance(error, (self._driver.OperationalError, self._driver.InterfaceError))
+            if is_lost or type(error) is self._driver.DatabaseError or self._db.closed:
                 raise Lost(str(error)) from error
             raise
 
