@@ -72,7 +72,7 @@ function listChangeNode({ before, behind, old, now, size }, most) {
 // What a list has where it differs from another one.
 export function ownPartNode({ before, behind, now, size }) {
   const items = now.slice(0, FEW_ITEMS), left = now.length - items.length;
-  return span("value", span("kind", `list of ${grouped(size)}`), span("same", `${grouped(before)} same`), " ",
+  return span("value", span("kind", `list of ${grouped(size)}`), " ", span("same", `${grouped(before)} same`), " ",
     items.flatMap((it, i) => [span("mark", `[${before + i}]: `), elementNode(it), " "]), left > 0 ? span("same", `${grouped(left)} more`) : null, span("same", `${grouped(behind)} same`));
 }
 

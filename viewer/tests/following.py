@@ -96,7 +96,9 @@ def try_between(tries: Tries, browser: Browser) -> None:
     browser.slide(20)
     browser.click("state-compare")
     browser.slide(60)
-    tries.has("the moments are named", browser.text("state-title"), "Event 19 → Event 59")
+    name = lambda number: f"Move {BUSY.events[number].reply.number}" if isinstance(BUSY.events[number].reply, Fired) else f"Event {number}"
+    first, second = name(19), name(59)
+    tries.has("the moments are named", browser.text("state-title"), f"{first} → {second.removeprefix('Move ') if first[0] == 'M' == second[0] else second}")
     changed = browser.run("return [...document.querySelectorAll('#state .row')].map(it => it.children[1].innerText).filter(it => it.includes('→') || it.includes('new') || it.includes('gone'))")
     tries.claim("the rows tell the old value and the new", len(changed) > 3, changed)
     tries.shot(browser, "between")

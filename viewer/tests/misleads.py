@@ -90,7 +90,7 @@ def try_back(tries: Tries, browser: Browser) -> None:
                part, f"#event={stale[0] + 2}&at=%5B%22packed%22%5D&from=8&kind=clash&find=short&if=packed%20size%20%3E%201")
     browser.load(path, part)
     found = [browser.title()[:8], browser.text("writes-title")[:6], browser.find("events-find").get_attribute("value"), browser.find("watch").get_attribute("value"), browser.text("state-title")[:7]]
-    tries.same("and leads to them", found, [f"Event {stale[0] + 2}", "packed", "short", "packed size > 1", "Event 8"])
+    tries.same("and leads to them", found, [f"Event {stale[0] + 2}", "packed", "short", "packed size > 1", f"Move {HISTORY.events[8].reply.number} "[:7]])
     tries.same("the list is filtered by it", len(browser.all("#events .event")), sum(HISTORY.events[it].reply.cause == "Short" for it in clashes))
     browser.run("location.hash = '#event=5'")
     browser.rest()
