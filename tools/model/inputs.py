@@ -207,7 +207,7 @@ class Maker:
 
     def near_the_limit(self, count: int) -> list[Json]:
         """Makes a step with so many equal instructions in one of its blocks."""
-        blocks: list[Json] = [self.repeated() for _ in range(self.random.randint(1, 4))]
+        blocks: list[Json] = [self.block() for _ in range(self.random.randint(1, 4))]
         most = min(count, 4096)
         at = self.random.randrange(len(blocks) + 1)
         return [*blocks[:at], [self.instruction()] * self.random.choice([most, most - 1, most // 2]), *blocks[at:]]
