@@ -169,7 +169,11 @@ final class StepTests {
                 another.push(inc("x", 1));
                 another.push(inc("x", 1));
                 refused(FolugbenException.MANY, another::fire);
-                another.pop();
+                refused(FolugbenException.MANY, () -> another.pop());
+            }
+            try (Step another = agent.step()) {
+                another.get(many + "]");
+                another.push(inc("x", 1));
                 equal(another.tryFire().move(), 1);
             }
         }
