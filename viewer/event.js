@@ -100,7 +100,10 @@ function readings(event) {
 }
 
 // What the read of the step was answered for the location, where the run has that read.
-const readNode = (read, location) => read && valueNode(read.reply.values[read.read.indexOf(location)], 8);
+const readValue = (read, location) => read?.reply.values[read.read.indexOf(location)] ?? null;
+const readNode = (read, location) => read && valueNode(readValue(read, location), 8);
+// Whether a read at that number may stand before the window, of which the page knows nothing.
+const mayBeBefore = number => shown.run.from > 0 && number <= shown.run.movesBefore;
 // What a fire names, each with the value there was at its number, the agent's own read, and the move that wrote it since.
 function grounds(event) {
   const { run } = shown, reads = ownReads(event);
@@ -111,8 +114,8 @@ function grounds(event) {
     return [
       locationNode(location),
       [number && isThere ? button("link", `Go to move ${number}`, () => act.choose(run.eventsTo(number)), `move ${number}`) : number ? `move ${number}, ${number <= event.before ? "before the window" : "which is still to come"}` : "opening state",
-        make("div", { class: "faint" }, ...read ? ["read in ", eventLink(read)] : [run.isTold(number) ? "not read" : "not read in the window"])],
-      readNode(read, location) ?? (isUnput ? span("unput", "nothing yet put") : isThere ? valueNode(run.valueAt(location, run.eventsTo(number)), 8) : "unknown"),
+        make("div", { class: "faint" }, ...read ? ["read in ", eventLink(read)] : [mayBeBefore(number) ? "not read in the window" : "not read"])],
+      (!isUnput || readValue(read, location) ? readNode(read, location) : null) ?? (isUnput ? span("unput", "nothing yet put") : isThere ? valueNode(run.valueAt(location, run.eventsTo(number)), 8) : "unknown"),
       since ? span("since", moveLink(since.first), " wrote it") : run.isTold(number) ? "not written" : "unknown",
     ];
   })));

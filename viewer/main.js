@@ -9,7 +9,7 @@ import "./complete.js";
 import "./picture.js";
 import { openTrace } from "./opening.js";
 import { goesOn, tellGrowth, whereItWas } from "./beside.js";
-import { fitLanes } from "./room.js";
+import { fitLanes, refit } from "./room.js";
 import { showRange } from "./pointing.js";
 import { act, chosen, shown } from "./shown.js";
 import { reveal } from "./sight.js";
@@ -43,6 +43,7 @@ act.chooseLocation = (location, isStep = false) => {
   showHere();
   if (!location) bringBack(); // before the page gets shorter
   showWrites();
+  refit();
   if (location) {
     bring($("writes-pane"));
     revealPlace();
@@ -96,6 +97,7 @@ function showNow() {
   $("detail").scrollTop = 0;
   showWatch();
   showWrites(); // first, as it takes its room from the state
+  refit();
   showState();
   showEvents();
   draw();

@@ -3,6 +3,7 @@ import { draw } from "./lanes.js";
 import { $ } from "./nodes.js";
 import { shown } from "./shown.js";
 import { AXIS, LANES_REST, reveal, setHeight, USUAL_LANE } from "./sight.js";
+import { showTrack } from "./track.js";
 
 const LEAST_HIGH = AXIS + 24, MOST_HIGH = 640, STEP = 24, MOST_PART = 0.35, KEPT = "folugben-lanes";
 // What the person chose: a height, 0 where the lanes are folded; null is the usual height.
@@ -14,8 +15,15 @@ try {
   // some browsers keep nothing for a file
 }
 
-// Each agent has a lane in which its name can be read, up to a part of the window.
-const usual = () => Math.max(LEAST_HIGH, Math.min(Math.round(innerHeight * MOST_PART), LANES_REST + Math.max(3, shown.run.agents) * USUAL_LANE));
+// What eight rows of events take, and eight of the state beside two writes of a location.
+const LEAST_PANES = 326, LEAST_WITH_WRITES = 372;
+// What the lanes can have of the height that they share with the panes; where the page is longer than the window, they share none.
+function left() {
+  if (getComputedStyle($("main")).display !== "grid") return Infinity;
+  return $("lanes-box").offsetHeight + document.querySelector(".panes").offsetHeight - (shown.location ? LEAST_WITH_WRITES : LEAST_PANES);
+}
+// Each agent has a lane in which its name can be read, up to a part of the window, and as long as the panes have room.
+const usual = () => Math.max(LEAST_HIGH, Math.min(Math.round(innerHeight * MOST_PART), LANES_REST + Math.max(3, shown.run.agents) * USUAL_LANE, left()));
 // Gives the lanes their height; true where it is another one than before.
 export function fitLanes() {
   const high = wanted ?? usual(), isFolded = high === 0, box = $("lanes-box"), before = `${box.hidden} ${box.style.maxHeight}`;
@@ -26,6 +34,15 @@ export function fitLanes() {
   $("fold").setAttribute("aria-expanded", String(!isFolded));
   $("fold").classList.toggle("folded", isFolded);
   return before !== `${box.hidden} ${box.style.maxHeight}`;
+}
+// What shares the height has come or gone.
+let shared = "";
+export function refit() {
+  showTrack();
+  const now = ["track", "writes-pane", "range"].map(it => $(it).hidden).join();
+  if (now === shared) return;
+  shared = now;
+  if (fitLanes()) reveal();
 }
 function setRoom(high) {
   if (wanted !== 0) unfolded = wanted;

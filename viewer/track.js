@@ -15,9 +15,11 @@ const yOfNumber = number => {
 };
 const short = number => Math.abs(number) < 1e7 ? grouped(number) : number.toExponential(2);
 
+export function showTrack() {
+  $("track").hidden = !shown.plot || $("lanes-box").hidden;
+}
 export function drawTrack() {
-  const { plot } = shown;
-  $("track").hidden = !plot || $("lanes-box").hidden;
+  showTrack();
   if ($("track").hidden) return;
   paintTrack(...prepared($("track"), TRACK));
 }

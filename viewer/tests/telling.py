@@ -128,4 +128,4 @@ def try_examples(tries: Tries, browser: Browser) -> None:
         browser.load(tries.trace(name, history))
         browser.press(Keys.END)
         number = len(history.events) - 1
-        tries.claim(f"the example {name} is shown to its last event", browser.title().startswith(f"Event {number} ") and browser.texts("#facts .legal") == ["legal"], browser.title())
+        tries.claim(f"the example {name} is shown to its last event", browser.title().startswith(f"Event {number} ") and browser.texts("#facts .legal") == ["legal, checked by this page"], browser.title())
