@@ -23,7 +23,7 @@ function left() {
   return $("lanes-box").offsetHeight + document.querySelector(".panes").offsetHeight - (shown.location ? LEAST_WITH_WRITES : LEAST_PANES);
 }
 // Each agent has a lane in which its name can be read, up to a part of the window, and as long as the panes have room.
-const usual = () => Math.max(LEAST_HIGH, Math.min(Math.round(innerHeight * MOST_PART), LANES_REST + Math.max(3, shown.run.agents) * USUAL_LANE, left()));
+const usual = () => Math.max(LANES_REST + 2 * USUAL_LANE, Math.min(Math.round(innerHeight * MOST_PART), LANES_REST + Math.max(3, shown.run.agents) * USUAL_LANE, left()));
 // Gives the lanes their height; true where it is another one than before.
 export function fitLanes() {
   const high = wanted ?? usual(), isFolded = high === 0, box = $("lanes-box"), before = `${box.hidden} ${box.style.maxHeight}`;

@@ -2,7 +2,7 @@
 
 from asking import OPEN, RICE, moments
 from browser import Browser
-from samples import warehouse
+from samples import journal_of, warehouse
 from selenium.webdriver.common.action_chains import ActionChains
 from selenium.webdriver.common.keys import Keys
 from showing import HISTORY
@@ -27,6 +27,21 @@ def try_rows(tries: Tries, browser: Browser) -> None:
             least = (8 if "kind" not in part else 5, 8)
             tries.claim(f"at 1280x720 with {name} and {part or 'nothing chosen'}, rows of events and of state: {found}", found[0] >= least[0] and found[1] >= least[1], found)
     tries.shot(browser, "room")
+    browser.restore()
+
+
+def try_zoom(tries: Tries, browser: Browser) -> None:
+    """What a fire rests on is seen whole where the page is made twice as large."""
+    place = ["a_location_with_a_long_name", "and a long argument"]
+    fire = lambda value, number: {"fire": [["put", place, value]], "reads": [[place, number]]}
+    history = journal_of((0, fire("a text that is some words long", 0), {"fired": 1}), (1, {"read": [place]}, {"number": 1, "values": ["a text that is some words long"]}), (0, fire(2, 1), {"fired": 2}), (1, fire(3, 1), {"stale": place}))
+    for size in ((720, 450), (640, 360), (600, 400)):
+        browser.resize(*size, scale=2)
+        browser.load(tries.trace("zoomed", history), "#event=3")
+        tries.has("since then", browser.text("detail"), "move 2 wrote it")
+        cut = browser.run("const it = document.getElementById('detail'); return [it.scrollWidth - it.clientWidth, ...[...it.querySelectorAll('td, th')].map(cell => cell.scrollWidth - cell.clientWidth)]")
+        tries.claim(f"nothing is cut at 200 % in {2 * size[0]}x{2 * size[1]} pixels", max(cut) <= 0, cut)
+    tries.shot(browser, "zoom")
     browser.restore()
 
 
