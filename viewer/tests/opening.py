@@ -158,6 +158,12 @@ def try_view(tries: Tries, browser: Browser) -> None:
     tries.same("what is no journal is refused as the program does", (ran.returncode, ran.stderr, (tries.room / "none.html").exists()), (2, b"journal line 1: not JSON\n", False))
     ran = view("--pages", "x", text=b"")
     tries.same("other words are refused", (ran.returncode, b"unrecognized arguments: --pages" in ran.stderr, b"usage:" in ran.stderr), (2, True, True))
+    name = "a\x1b[31m\u202eb"
+    (tries.room / f"{name}.html").write_text("no page")
+    for words, text in (([f"{name}.journal"], b""), ([f"--{name}"], b""), (["--page", f"{name}/page.html"], write_trace(strange())), ([str(tries.file(f"{name}.trace", write_trace(strange())))], b"")):
+        ran = view(*words, text=text)
+        said = ran.stdout + ran.stderr
+        tries.same("of a name nothing is printed that a terminal obeys", (ran.returncode != 0, b"\x1b" in said, "\u202e".encode() in said, b"\\x1b[31m\\u202eb" in said), (True, False, False, True))
 
 
 def try_follow(tries: Tries, browser: Browser) -> None:
