@@ -58,6 +58,7 @@ from ._agent import Agent
 from ._auditor import Auditor, Counts
 from ._errors import BadJournal, Broken, Busy, Clash, Damaged, Deep, Error, Full, Large, Many, Mismatch, Missing, Moved, Over
 from ._errors import Past, Retry, Stale, TooLong, Unknown, error_text, explain
+from ._explore import Differs, Explored, explore
 from ._functions import aggregate, check, compose, replay, trace, version
 from ._held import Forked, Nested
 from ._import import import_run
@@ -68,19 +69,20 @@ from ._move import Move
 from ._reading import audit, part
 from ._run import Run
 from ._run_agent import RunAgent
-from ._runs import interleave, states
+from ._runs import states
 from ._shared import SharedAgent, SharedRun
 from ._step import Step
 from ._storage import Storage
+from ._turns import Endless, interleave
 from ._types import Element, Place, Update, Value
 
 __version__ = "0.2.0"
 
 __all__ = [
-    "Agent", "Auditor", "BadJournal", "Broken", "Busy", "Clash", "Counts", "Damaged", "Deep", "Element", "Error", "Forked",
-    "Full", "Large", "Location", "Many", "Mismatch", "Missing", "Move", "Moved", "Nested", "Over", "Past", "Place", "Retry",
+    "Agent", "Auditor", "BadJournal", "Broken", "Busy", "Clash", "Counts", "Damaged", "Deep", "Differs", "Element", "Endless",
+    "Error", "Explored", "Forked", "Full", "Large", "Location", "Many", "Mismatch", "Missing", "Move", "Moved", "Nested", "Over", "Past", "Place", "Retry",
     "Run", "RunAgent", "SharedAgent", "SharedRun", "Stale", "Step", "Storage", "TooLong", "Unknown", "Update", "Value",
-    "aggregate", "audit", "check", "compose", "error_text", "explain", "import_run", "interleave", "part", "replay", "states",
+    "aggregate", "audit", "check", "compose", "error_text", "explain", "explore", "import_run", "interleave", "part", "replay", "states",
     "trace", "version",
     "EVENT", "LOCATIONS", "MOVE", "SCRIPT", "STATE",
     "APART", "BUSY", "CLASH", "CUT", "DEEP", "DONE", "EMPTY", "FULL", "ILLEGAL", "LARGE", "MANY", "MEMORY", "MISSING", "MOVED",

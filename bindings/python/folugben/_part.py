@@ -7,13 +7,14 @@ from typing import TYPE_CHECKING, Any
 
 from ._agent import Agent
 from ._errors import Error, Full, Missing, Past, expect
-from ._held import Held, here, one_call
+from ._held import Held, one_call
 from ._library import BUSY, CLASH, EMPTY, FULL, LOCATIONS, MISSING, STALE, Buffer, lib
 from ._lines import LINE_LIMIT, SHORT, expect_call
 from ._location import Location
 from ._move import Move
 from ._step import Step
 from ._storage import unopened
+from ._turns import here
 
 if TYPE_CHECKING:
     from ._parts import Chain
@@ -33,7 +34,7 @@ class PartStep(Step):
         # How many bytes of text it has pushed and got, about.
         self._size = 0
         # It is known before it begins: who gives the agent back meanwhile, under its lock, comes before or after that.
-        agent.is_by_turns, agent._last = here.turn is not None, weakref.ref(self)
+        agent.is_by_turns, agent._last = here.is_by_turns, weakref.ref(self)
         super().__init__(agent)
 
     @property

@@ -34,11 +34,12 @@ import weakref
 
 from ._errors import Broken, Error, TooLong, expect
 from ._folder import RunWriter
-from ._held import Locked, here, one_call
+from ._held import Locked, one_call
 from ._library import EMPTY, MISSING, NONE, NUMBER, Buffer, lib
 from ._lines import expect_lines, expect_state
 from ._part import PATIENCE, Part, PartAgent
 from ._storage import Storage
+from ._turns import here
 
 # The chains of runs that go on, which the end of the program closes.
 _chains: "weakref.WeakSet[Chain]" = weakref.WeakSet()
@@ -144,7 +145,7 @@ class Chain(Locked):
         part, waiting = self._oldest, 0
         while part.next is not None and part.next.is_open():
             # By turns none comes to rest while another one waits, so nobody waits for such a part.
-            waiting += here.turn is None or self._is_left(part)
+            waiting += not here.is_by_turns or self._is_left(part)
             part = part.next
         return waiting >= _WAITING
 
@@ -224,7 +225,7 @@ class Chain(Locked):
                     raise
             return not part.is_last
         # Where agents are played by turns, none comes to rest while another one waits.
-        if here.turn is not None and not part.is_forced:
+        if here.is_by_turns and not part.is_forced:
             part.go_on()
             return True
         return False

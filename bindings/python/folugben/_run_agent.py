@@ -6,7 +6,7 @@ from typing import TYPE_CHECKING, Any, NoReturn, Self, TypeVar, overload
 
 from ._agent import back_off
 from ._errors import Error, Full, Past, ahead
-from ._held import here, is_in_call
+from ._held import is_in_call
 from ._library import EMPTY, RANGE
 from ._lines import LINE_LIMIT, SHORT, expect_call, too_long
 from ._location import Location
@@ -39,9 +39,6 @@ class RunAgent:
 
     def step(self) -> PartStep:
         """Begins a step, on its own state as that is after a look."""
-        turn = here.turn
-        if turn is not None:
-            turn()
         while True:
             agent = self._in
             if agent is not None:

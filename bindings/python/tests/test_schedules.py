@@ -1,24 +1,57 @@
-"""A schedule that breaks an invariant is made as short as it can be: by hypothesis, where that is there, and by a few lines."""
+"""Schedules: agents that are played by turns, and the search for the schedule that breaks an invariant."""
+import importlib.util
+import itertools
+import json
+import math
 import random
+import re
+import signal
+import subprocess
+import sys
 import unittest
 from unittest import mock
 
-from folugben import Storage, interleave, states
+from folugben import Clash, Differs, Endless, Stale, Storage, check, explore, interleave, states
+from folugben import _explore, _footprint
 from folugben_engine import bank, rules
+from checkout import ROOT
+from rooms import Rooms, environment
 
-try:
-    import hypothesis
-    from hypothesis import strategies
-except ImportError:
-    hypothesis = None
-
+COUNT = ["count"]
+PRINTS = """
+test_a_blind_transfer_is_found()
+test_a_transfer_keeps_the_sum()
+print(explore(make, [blind] * 3, sum_stays))
+"""
 # Each customer needs what two of these have.
 INIT = bank.INIT[:5]
-CUSTOMERS = 3
 
 
-def played(turns, is_guarded):
-    """The journal of a bank whose customers collect once each. Without the guard a fire rests on nothing that its step saw."""
+def lost(agent):
+    """An update that rests on nothing."""
+    _, (count,) = agent.read([COUNT])
+    agent.fire([["put", COUNT, count + 1]])
+
+
+def guarded(agent):
+    while True:
+        number, (count,) = agent.read([COUNT])
+        try:
+            return agent.fire([["put", COUNT, count + 1]], [[COUNT, number]])
+        except Stale:
+            pass
+
+
+def counting():
+    return Storage([[COUNT, 0]], 100)
+
+
+def counts_two(values):
+    return values['["count"]'] == 2
+
+
+def collect(is_guarded):
+    """A customer of the bank, who collects once. Without the guard the fire rests on nothing that its step saw."""
 
     def work(agent):
         rule, _ = bank.PROGRAMS[agent.number]
@@ -28,56 +61,29 @@ def played(turns, is_guarded):
             move = rule.updates(step)
         return agent.fire(move)
 
-    # What the rules choose is the same in each run.
-    with mock.patch.object(rules.random, "choice", lambda options: options[-1]), Storage(INIT, 100) as storage:
-        agents = [storage.agent(number) for number in range(CUSTOMERS)]
-        interleave(agents, [work] * CUSTOMERS, turns)
-        for agent in agents:
-            agent.give()
-        return storage.close_journal()
+    return work
 
 
-def breaks(turns, is_guarded=False):
-    """Whether money is lost or comes out of nothing."""
-    return any(sum(values.values()) != 500 for _, values in states(played(turns, is_guarded)))
+def has_all(values):
+    return sum(values.values()) == 500
 
 
-def smaller(turns):
-    """Lists that are shorter, or have lesser numbers: without a stretch, or with one number in the place of another."""
-    size = len(turns)
-    while size:
-        yield from (turns[:at] + turns[at + size :] for at in range(0, len(turns), size))
-        size //= 2
-    for most in set(turns):
-        yield from ([less if it == most else it for it in turns] for less in range(most))
-    yield from ([*turns[:at], less, *turns[at + 1 :]] for at, turn in enumerate(turns) for less in range(turn))
+class Interleaved(unittest.TestCase):
+    def left(self, works, turns, **more):
+        """The states that works leave by these turns."""
+        with counting() as storage:
+            agents = [storage.agent(number) for number in range(len(works))]
+            interleave(agents, works, turns, **more)
+            for agent in agents:
+                agent.give()
+            return [dict(values) for _, values in states(storage.close_journal())]
 
-
-def shrunk(turns, is_wrong):
-    """A list of which no smaller one is wrong."""
-    while (less := next(filter(is_wrong, smaller(turns)), None)) is not None:
-        turns = less
-    return turns
-
-
-class Schedules(unittest.TestCase):
-    # The first is given its turn, begins its step and looks; then the second plays to its end.
-    SHORTEST = [0, 0, 1]
-
-    def test_the_shortest_schedule_without_the_guard(self):
-        rng = random.Random(7)
-        turns = next(it for it in ([rng.randrange(3) for _ in range(40)] for _ in range(20)) if breaks(it))
-        found = shrunk(turns, breaks)
-        self.assertEqual(found, self.SHORTEST)
-        self.assertFalse(any(map(breaks, smaller(found))))
-        self.assertFalse(any(breaks(it, is_guarded=True) for it in ([], found, turns)))
-
-    @unittest.skipIf(hypothesis is None, "there is no hypothesis")
-    def test_hypothesis_finds_it(self):
-        few = hypothesis.settings(database=None, deadline=None, max_examples=300)
-        found = hypothesis.find(strategies.lists(strategies.integers(0, 2)), breaks, settings=few)
-        self.assertTrue(breaks(found))
-        self.assertLessEqual(len(found), 4)
+    def test_each_call_takes_a_turn(self):
+        lists = [list(it) for size in range(8) for it in itertools.product(range(2), repeat=size)]
+        self.assertEqual(len(lists), 255)
+        broken = [it for it in lists if not counts_two(self.left([lost, lost], it)[-1])]
+        self.assertIn([0, 0, 1], broken)
+        self.assertEqual([it for it in lists if not counts_two(self.left([guarded, guarded], it)[-1])], [])
 
     def test_a_list_is_counted_round_those_at_work(self):
         told = []
@@ -89,8 +95,7 @@ class Schedules(unittest.TestCase):
 
         def order(turns):
             told.clear()
-            with Storage([], 10) as storage:
-                interleave([storage.agent(number) for number in range(3)], [work] * 3, turns)
+            self.left([work] * 3, turns)
             return "".join(map(str, told))
 
         self.assertEqual(order([]), "001122")
@@ -98,6 +103,224 @@ class Schedules(unittest.TestCase):
         self.assertEqual(order([0, 1, 2, 0, 1, 2]), "012210"[:3] + order([0, 1, 2, 0, 1, 2])[3:])
         self.assertEqual(order([5, 5, 5, 0, 0]), "220011")
         self.assertEqual(order([1, 1, 4, 1, 0, 0]), order([1, 1, 1, 1, 0, 0]))
+
+    def test_one_that_waits_for_ever_is_told(self):
+        def waits(agent):
+            while agent.follow() == 0:
+                pass
+
+        self.left([waits, lost], 1)
+        with self.assertRaisesRegex(Endless, "agents 0, 1 are still at work after 500 turns"):
+            self.left([waits, lost], [], most=500)
+        with self.assertRaisesRegex(Endless, "agent 0 is still at work after 300 turns"):
+            explore(counting, [waits], turns=300)
+
+    def test_ctrl_c_ends_it(self):
+        code = """
+import sys
+from folugben import Storage, interleave
+def waits(agent):
+    print("begun", flush=True)
+    while True:
+        agent.peek([["count"]])
+with Storage([], 100) as storage:
+    interleave([storage.agent(0), storage.agent(1)], [waits, waits], 1, most=10**12)
+"""
+        command = [sys.executable, "-c", code]
+        with subprocess.Popen(command, env=environment(), stdout=subprocess.PIPE, stderr=subprocess.PIPE) as child:
+            self.assertEqual(child.stdout.readline(), b"begun\n")
+            child.send_signal(signal.SIGINT)
+            self.assertIn(b"KeyboardInterrupt", child.communicate(timeout=30)[1])
+            self.assertEqual(child.returncode, -signal.SIGINT)
+
+
+class Explored(unittest.TestCase):
+    def assert_breaks(self, explored, make, works, invariant):
+        """The turns are the schedule, and the journal is legal."""
+        check(explored.journal)
+        with make() as storage:
+            agents = [storage.agent(number) for number in range(len(works))]
+            interleave(agents, works, explored.turns)
+            for agent in agents:
+                agent.give()
+            self.assertEqual(storage.close_journal(), explored.journal)
+        self.assertFalse(all(invariant(values) for _, values in states(explored.journal)))
+
+    def test_the_plainest_lost_update(self):
+        explored = explore(counting, [lost, lost], at_end=counts_two)
+        self.assertEqual((explored.turns, explored.is_exhaustive), ([0, 0, 1], False))
+        self.assertEqual(explored.broken, "at the end it doesn't hold")
+        self.assertEqual([values['["count"]'] for _, values in states(explored.journal)], [0, 1, 1])
+        held = explore(counting, [guarded, guarded], at_end=counts_two)
+        self.assertTrue(held.is_exhaustive, held)
+        self.assertEqual((held.turns, held.journal), (None, None))
+
+    def test_the_bank_with_its_guard_and_without(self):
+        with mock.patch.object(rules.random, "choice", lambda options: options[-1]):
+            def make():
+                return Storage(INIT, 100)
+
+            explored = explore(make, [collect(False)] * 3, has_all)
+            self.assertEqual(explored.turns, [0, 0, 1], explored)
+            self.assert_breaks(explored, make, [collect(False)] * 3, has_all)
+            held = explore(make, [collect(True)] * 3, has_all, seconds=600)
+            self.assertTrue(held.is_exhaustive, held)
+
+    def test_a_state_of_another_order_of_moves_that_are_apart(self):
+        def puts(agent):
+            agent.fire([["put", ["x", agent.number], 1]])
+
+        def invariant(values):
+            assert values.get('["x",1]') is None or values.get('["x",0]') == 1, "1 came first"
+
+        explored = explore(counting, [puts, puts], invariant)
+        self.assertEqual((explored.turns, explored.schedules), ([1], 1))
+        self.assertEqual(explored.broken, "the invariant doesn't hold after move 1: 1 came first")
+
+    def test_what_a_program_raises_is_found(self):
+        def fails(agent):
+            if agent.read([COUNT])[1] == [1]:
+                raise KeyError("count")
+
+        explored = explore(counting, [fails, lost])
+        self.assertIsInstance(explored.error, KeyError)
+        self.assertEqual((explored.turns, explored.broken), ([1], "agent 0 raised KeyError('count')"))
+
+    def test_programs_that_draw_are_refused(self):
+        rng = random.Random(1)
+
+        def draws(agent):
+            agent.read([["x", rng.random() > 0.5]])
+            guarded(agent)
+
+        with self.assertRaisesRegex(Differs, "did something else in the same schedule"):
+            explore(counting, [draws, draws, draws], at_end=lambda values: True)
+
+    def test_it_is_bounded(self):
+        for bound in {"schedules": 2}, {"seconds": 0.0}:
+            told = explore(counting, [guarded] * 3, **bound)
+            self.assertEqual((told.is_exhaustive, told.turns, told.schedules), (False, None, bound.get("schedules", 0)))
+            self.assertIn("and there are more", str(told))
+
+
+def raising(at, times):
+    """A program that raises numbers by so many steps."""
+
+    def work(agent):
+        for count in range(times):
+            agent.play(lambda step: step.push([["put", at(agent.number, count), step.get([at(agent.number, count)])[0] + 1]]))
+
+    return work
+
+
+class Page(Rooms):
+    def test_the_page_does_what_it_shows(self):
+        page = (ROOT / "docs" / "SCHEDULES.md").read_text()
+        (code,) = re.findall(r"```python\n([\s\S]*?)```", page)
+        (self.room / "test_bank.py").write_text(code + PRINTS)
+        command = [sys.executable, "test_bank.py"]
+        told = subprocess.run(command, cwd=self.room, env=environment(), capture_output=True, text=True)
+        self.assertEqual((told.returncode, told.stderr), (0, ""))
+        self.assertIn(f"    {told.stdout}", page)
+        self.assertTrue(any(sum(values.values()) != 150 for _, values in states((self.room / "broken.journal").read_bytes())))
+
+    @unittest.skipIf(importlib.util.find_spec("pytest") is None, "there is no pytest")
+    def test_pytest_shows_the_turns(self):
+        code = re.findall(r"```python\n([\s\S]*?)```", (ROOT / "docs" / "SCHEDULES.md").read_text())[0]
+        (self.room / "test_bank.py").write_text(code.replace("[guarded]", "[blind]"))
+        command = [sys.executable, "-m", "pytest", "-q", "-p", "no:cacheprovider", "test_bank.py"]
+        told = subprocess.run(command, cwd=self.room, env=environment(), capture_output=True, text=True).stdout
+        self.assertIn("1 failed, 1 passed", told)
+        self.assertIn("AssertionError: <Explored: the invariant doesn't hold after move 2, by the turns [0, 0, 1]", told)
+
+
+class Counts(unittest.TestCase):
+    """How many schedules are played, beside a search that tries each order of looks and fires."""
+
+    def test_steps_at_mostly_different_locations(self):
+        work = raising(lambda own, count: ["x", "all" if own == count else own], 4)
+        init = [[["x", it], 0] for it in (0, 1, 2, "all")]
+        told = explore(lambda: Storage(init, 100), [work] * 3, at_end=lambda values: sum(values.values()) == 12, seconds=600)
+        self.assertTrue(told.is_exhaustive, told)
+        # Each step is a look and a fire, where none is stale.
+        self.assertLess(told.schedules * 100, math.factorial(24) // math.factorial(8) ** 3)
+
+    def test_a_naive_search_tries_each_order(self):
+        work = raising(lambda own, count: ["x", own], 2)
+        with mock.patch.object(_footprint.Footprint, "meets", lambda *_: True):
+            self.assertEqual(explore(lambda: Storage([[["x", it], 0] for it in range(2)]), [work] * 2).schedules, 70)
+        self.assertEqual(explore(lambda: Storage([[["x", it], 0] for it in range(2)]), [work] * 2).schedules, 1)
+
+
+class Random(unittest.TestCase):
+    """No outcome of a naive search is missed."""
+
+    INIT = [[["x", 0], 1], [["x", 1], 5], [["n"], 0]]
+    WORDS = ["read", "blind", "guarded", "step", "look", "scan", "inc", "if"]
+
+    def do(self, agent, word, x, y, by):
+        """What a word does, and is told."""
+        if word == "read":
+            return agent.read([x, y])[1]
+        if word == "blind":
+            return agent.fire([["put", x, by]]) > 0
+        if word == "look":
+            agent.follow()
+            return [agent.peek([x, y])[1], agent.scan("y")[1]]
+        if word == "guarded":
+            number, (value,) = agent.read([x])
+            return agent.fire([["put", y, (value or 0) + by]], [[x, number]]) > 0
+        with agent.step() as step:
+            if word == "inc":
+                step.push([["inc", ["n"], 1], ["put", x, by]])
+                return step.try_fire() > 0
+            told = step.scan("x") if word == "scan" else step.get([x])
+            if word == "if" and told != [by % 3]:
+                told += step.get([y])
+            step.push([["put", x if by % 2 else y, len(told) if word == "scan" else (told[0] or 0) + 1]])
+            return [told, step.try_fire() > 0]
+
+    def work(self, rng, told):
+        """A program of a few words."""
+        words = [(rng.choice(self.WORDS), ["x", rng.randrange(3)], ["y", rng.randrange(2)], rng.randrange(6))
+                 for _ in range(rng.randrange(1, 3))]
+
+        def play(agent):
+            heard = told[agent.number] = []
+            for word in words:
+                try:
+                    heard.append(self.do(agent, *word))
+                except (Clash, Stale) as error:
+                    heard.append(type(error).__name__)
+
+        return play
+
+    def outcomes(self, seed, is_naive):
+        """What the agents are told in all schedules with the last state of each, all states, and the number of schedules."""
+        rng, told, ends, moments = random.Random(seed), {}, set(), set()
+        works = [self.work(rng, told) for _ in range(3 if seed % 4 == 0 else 2)]
+
+        def at_end(values):
+            ends.add(json.dumps([sorted(told.items()), values], sort_keys=True))
+
+        def invariant(values):
+            moments.add(json.dumps(values, sort_keys=True))
+
+        meets = (lambda *_: True) if is_naive else _footprint.Footprint.meets
+        with mock.patch.object(_footprint.Footprint, "meets", meets):
+            explored = _explore.explore(lambda: Storage(self.INIT, 100), works, invariant, at_end=at_end, seconds=600)
+        self.assertTrue(explored.is_exhaustive, explored)
+        return ends, moments, explored.schedules
+
+    def test_nothing_is_missed(self):
+        played = naively = 0
+        for seed in range(12):
+            *told, count = self.outcomes(seed, False)
+            *needed, all_of_them = self.outcomes(seed, True)
+            self.assertEqual(told, needed, seed)
+            self.assertLessEqual(count, all_of_them)
+            played, naively = played + count, naively + all_of_them
+        self.assertLess(played * 2, naively)
 
 
 if __name__ == "__main__":

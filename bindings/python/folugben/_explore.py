@@ -1,0 +1,238 @@
+"""A search for the schedule that breaks an invariant: dynamic partial-order reduction by source sets, with sleep sets.
+
+Two events of two agents depend on each other where one writes what the other reads or writes. Schedules in which dependent
+events have the same order lead to the same answers and the same states, so one of them is played. What a schedule shows in
+the order of two dependent events is tried the other way round, unless that was or will be tried elsewhere.
+"""
+import time
+from collections.abc import Callable, Iterator, Sequence
+from contextlib import suppress
+from heapq import heappop, heappush
+from typing import TYPE_CHECKING, NamedTuple, TypeAlias
+
+from ._errors import Error
+from ._footprint import Footprint, Noted
+from ._found import Breach, Event, Holds, Invariant, listed
+from ._turns import Turns, interleave, play_all
+
+if TYPE_CHECKING:
+    from . import Agent, Storage
+
+Make: TypeAlias = "Callable[[], Storage]"
+Program: TypeAlias = "Callable[[Agent], object]"
+
+
+class Differs(RuntimeError):
+    """The programs did something else in the same schedule, as where they draw at random, or share more than the storage."""
+
+
+class Explored(NamedTuple):
+    """What a search has found: that all schedules hold (`is_exhaustive`), or the turns that break something, if not None.
+
+    `interleave` plays the turns again, and `journal` is what they leave; `broken` says what doesn't hold, and `error` is what
+    a program has raised.
+    """
+
+    schedules: int
+    is_exhaustive: bool
+    turns: list[int] | None = None
+    journal: bytes | None = None
+    broken: str = ""
+    error: BaseException | None = None
+
+    def __repr__(self) -> str:
+        return f"<Explored: {self}>"
+
+    def __str__(self) -> str:
+        if self.turns is not None:
+            return f"{self.broken}, by the turns {self.turns}; {self.schedules:,} schedules were played"
+        return f"{self.schedules:,} schedules hold, {'which are all' if self.is_exhaustive else 'and there are more'}"
+
+
+class _Node(NamedTuple):
+    """A state of the search, behind some events."""
+
+    # Agents whose next event, which has this footprint, is tried elsewhere in each schedule in which it comes first here.
+    asleep: dict[int, Footprint]
+    # Of each agent what it did here, the footprint of that, and the node behind it, in the order in which they were chosen.
+    after: "dict[int, tuple[tuple[bytes, Footprint], Footprint, _Node]]"
+    # Which agents were chosen, or are to be.
+    chosen: set[int]
+
+    def follow(self, player: Noted, footprint: Footprint) -> "_Node":
+        """Return the node behind the last event of a player."""
+        there, did = self.after.get(player.number), (player.key, player.now)
+        if there is None:
+            others = self.asleep | {it: own for it, (_, own, _) in self.after.items()}
+            asleep = {it: own for it, own in others.items() if it != player.number and not own.meets(footprint)}
+            there = self.after[player.number] = did, footprint, _Node(asleep, {}, set())
+        elif there[0] != did:
+            raise _differs(player.number)
+        return there[2]
+
+
+class _Tree:
+    """What a search knows. What an event reads may depend on what it has read before, so its footprint has all that the
+    events of its agent have read which were told the same before. Where that grows, the search begins again with it."""
+
+    def __init__(self, footprints: dict[tuple[int, bytes], Footprint]) -> None:
+        self.root, self.footprints, self.has_grown = _Node({}, {}, set()), footprints, False
+
+    def footprint(self, player: Noted) -> Footprint:
+        """Return the footprint of the last event of a player."""
+        key = player.number, player.key
+        known = self.footprints.get(key)
+        if known is None:
+            self.footprints[key] = player.now
+        else:
+            self.footprints[key] = known.joined(player.now)
+            self.has_grown |= self.footprints[key] != known
+        return self.footprints[key]
+
+
+def _differs(agent: int) -> Differs:
+    return Differs(f"agent {agent} did something else in the same schedule: the programs draw, or share more than the storage")
+
+
+class _Blocked(Exception):
+    """All agents are asleep: each further schedule is tried elsewhere."""
+
+
+class _Play:
+    """One schedule: the agents of a plan go on first, and then whoever was at work, unless it is asleep."""
+
+    def __init__(self, make: Make, programs: Sequence[Program], tree: _Tree, plan: list[int], turns: int) -> None:
+        self._plan, self._tree, self._node, self._begun, self._last = plan[::-1], tree, tree.root, 0, -1
+        self.events: list[Event] = []
+        # The nodes before the events, and the turns of each agent before its first event.
+        self._nodes, self.begins, self._is_open = [tree.root], [0] * len(programs), False
+        # The numbers of events before which an agent is to be tried, and that agent.
+        self._reversals: list[tuple[int, int]] = []
+        self._turns = Turns(len(programs), self._choose, turns)
+        self.players = [Noted(self._turns, number) for number in range(len(programs))]
+        with make() as storage:
+            agents = [storage.agent(number) for number in range(len(programs))]
+            _, self.errors = play_all(self._turns, agents, programs, self.players)
+            self.is_blocked = isinstance(self._turns.fault, _Blocked)
+            if self._turns.fault is not None and not self.is_blocked:
+                raise self._turns.fault
+            self._end_event()
+            for agent in agents:
+                with suppress(Error):
+                    agent.give()
+            self.journal = storage.close_journal()
+
+    def _choose(self, alive: list[int]) -> int:
+        # At first each agent goes on up to its first event.
+        if self._begun < len(self.players):
+            self._begun += 1
+            return self._begun - 1
+        self._end_event()
+        if self._plan:
+            self._last = self._plan.pop()
+            if self._last not in alive:
+                raise _differs(self._last)
+        else:
+            awake = [it for it in alive if it not in self._node.asleep]
+            if not awake:
+                raise _Blocked
+            self._last = self._last if self._last in awake else awake[0]
+        self._node.chosen.add(self._last)
+        self._is_open = True
+        return self._last
+
+    def _end_event(self) -> None:
+        """Notes the event of whoever was at work, all of which is known by now, and the races that it ends."""
+        if not self._is_open:
+            if not self.events:
+                self.begins = [it.calls for it in self.players]
+            return
+        agent, self._is_open = self._last, False
+        player, now = self.players[agent], len(self.events)
+        footprint = self._tree.footprint(player)
+        before = next((it.before | 1 << at for at, it in reversed(list(enumerate(self.events))) if it.agent == agent), 0)
+        races = list[int]()
+        for at in range(now - 1, -1, -1):
+            if not before >> at & 1 and footprint.meets(self.events[at].footprint):
+                before |= self.events[at].before | 1 << at
+                races.append(at)
+        self.events.append(Event(agent, footprint, player.calls, player.is_move, before))
+        self._node = self._node.follow(player, footprint)
+        self._nodes.append(self._node)
+        for at in races:
+            self._reverse(at, now)
+
+    def _reverse(self, at: int, now: int) -> None:
+        """Has an event, with what is behind it and doesn't depend on it, tried before another one, unless that is done."""
+        window = [it for it in range(at + 1, now + 1) if it == now or not self.events[it].before >> at & 1]
+        bits, firsts = sum(1 << it for it in window), dict[int, int]()
+        for it in window:
+            firsts.setdefault(self.events[it].agent, it)
+        initials = [agent for agent, it in firsts.items() if not self.events[it].before & bits]
+        node = self._nodes[at]
+        if not any(it in node.chosen or it in node.asleep for it in initials):
+            node.chosen.add(initials[0])
+            self._reversals.append((at, initials[0]))
+
+    def plans(self) -> Iterator[tuple[int, list[int]]]:
+        """Yield what is to be tried: how many turns come before it, and the plan by which an agent goes on then."""
+        for at, agent in self._reversals:
+            before = self.events[:at]
+            yield sum(it.calls for it in before), [*(it.agent for it in before), agent]
+
+
+def explore(
+    make: Make, programs: Sequence[Program], invariant: Invariant | None = None, *, at_end: Invariant | None = None,
+    schedules: int = 10_000, seconds: float = 60.0, turns: int = 10_000,
+) -> Explored:
+    """Search for a schedule of the programs that breaks the invariant, the shortest first.
+
+        explored = explore(lambda: Storage(INIT, 100), [collect] * 3, lambda values: sum(values.values()) == 300)
+        assert explored.is_exhaustive, explored
+
+    Each schedule plays on a new storage from `make`, and each program with the agent of its place. Of schedules that differ
+    only in the order of calls that don't depend on each other one is played. The invariant gets the values of each state, by
+    the location's JSON, as `states` yields them; `at_end` gets those of the last one. Each returns False or raises an
+    AssertionError where it doesn't hold. A program that raises is a finding too.
+
+    The programs may share nothing but the storage, and must do the same in the same schedule: a number of a move may be
+    named in a fire, and not be computed with.
+
+    The search ends at the first finding, after so many schedules or seconds, or when it has tried all.
+
+    Raises:
+        Endless: a schedule hasn't ended after so many turns, as where an agent waits for another one.
+        Differs: the programs did something else in the same schedule.
+    """
+    end, holds, played, pushed = time.monotonic() + seconds, Holds(invariant, at_end), 0, 0
+    tree, is_exact = _Tree({}), True
+    queue = [(0, 0, list[int]())]
+    while queue and played < schedules and time.monotonic() < end:
+        play = _Play(make, programs, tree, heappop(queue)[2], turns)
+        played += 1
+        is_exact = is_exact and all(it.is_exact for it in play.players)
+        for length, plan in play.plans():
+            pushed += 1
+            heappush(queue, (length, pushed, plan))
+        breach = None if play.is_blocked else holds.breach(play.events, play.errors, play.journal)
+        if breach is not None:
+            found = listed(breach.events, play.events, play.begins)
+            journal = _replayed(make, programs, found, turns)
+            if breach.error is None and not holds.is_broken(journal):
+                raise Differs(f"{breach.broken}, but not when it was played again by the turns {found}")
+            return Explored(played, False, found, journal, breach.broken, breach.error)
+        if not queue and tree.has_grown:
+            tree, queue = _Tree(tree.footprints), [(0, 0, [])]
+    return Explored(played, is_exact and not queue)
+
+
+def _replayed(make: Make, programs: Sequence[Program], turns: list[int], most: int) -> bytes:
+    """The journal of the programs, played by these turns."""
+    with make() as storage:
+        agents = [storage.agent(number) for number in range(len(programs))]
+        with suppress(Exception):
+            interleave(agents, programs, turns, most=most)
+        for agent in agents:
+            with suppress(Error):
+                agent.give()
+        return storage.close_journal()

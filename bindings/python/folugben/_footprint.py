@@ -1,0 +1,177 @@
+"""What the calls of an agent read and write, by which a search knows which of them depend on each other."""
+import hashlib
+from collections.abc import Iterable, Iterator
+from contextlib import contextmanager
+from typing import Any
+
+from ._errors import Clash, Error, Full
+from ._texts import encoded
+from ._turns import Played, Player, Turns
+
+# The calls that look at what other agents did, or write. All others stay within what their agent has looked at.
+_LOOKS = frozenset({"step", "read", "fire", "try_fire", "follow", "stands", "learn"})
+
+
+class Footprint:
+    """The locations that an event reads and writes, and the functions that it scans, as texts; it may read everything."""
+
+    def __init__(self) -> None:
+        self.reads, self.scans = set[str](), set[str]()
+        self.writes, self.written = set[str](), set[str]()
+        self.reads_all = False
+
+    def read(self, places: Iterable[Any]) -> None:
+        self.reads.update(map(text_of, places))
+
+    def write(self, places: Iterable[Any]) -> None:
+        for place in places:
+            self.writes.add(text_of(place))
+            self.written.add(place[0])
+
+    def meets(self, other: "Footprint") -> bool:
+        """Whether the order of the two matters: one writes what the other reads or writes."""
+        return self._disturbs(other) or other._disturbs(self) or not self.writes.isdisjoint(other.writes)
+
+    def _disturbs(self, other: "Footprint") -> bool:
+        is_read = not self.writes.isdisjoint(other.reads) or not self.written.isdisjoint(other.scans)
+        return is_read or other.reads_all and bool(self.writes)
+
+    def joined(self, other: "Footprint") -> "Footprint":
+        """Return what either of the two reads and writes."""
+        both = Footprint()
+        for name, own in vars(self).items():
+            setattr(both, name, own | vars(other)[name])
+        return both
+
+    def __eq__(self, other: object) -> bool:
+        return isinstance(other, Footprint) and vars(self) == vars(other)
+
+
+def text_of(place: Any) -> str:
+    """The text of a location, prepared or not."""
+    return encoded(getattr(place, "place", place), "place").decode()
+
+
+def _without_number(name: str, is_step: bool, told: Any) -> Any:
+    """What a call has told, but for numbers of moves."""
+    if name in ("read", "peek", "state") or name == "scan" and not is_step:
+        return told[1]
+    if name in ("fire", "try_fire"):
+        return told > 0
+    return told if name in ("get", "see", "scan", "stands") else None
+
+
+class Noted(Player):
+    """Takes a turn at each look and each fire only, and notes what is done from there to the next one, an event."""
+
+    def __init__(self, turns: Turns, number: int) -> None:
+        super().__init__(turns, number)
+        # The event at work, of how many calls it is, and whether it has fired; before the first one it is the beginning.
+        self.now, self.calls, self.is_move = Footprint(), 1, False
+        # A digest of all that the agent was told before this event, and by now: what the program does next depends on it.
+        self.key = self._told = b""
+        # Whether all that was noted of an event was noted within it.
+        self.is_exact = True
+        # The step that is open, and the functions that it scanned.
+        self._step: Played | None = None
+        self._scanned: list[str] = []
+
+    def call(self, it: Played, name: str, words: tuple[Any, ...], named: dict[str, Any]) -> Any:
+        is_step = type(it) is Played
+        if name not in _LOOKS:
+            self._turns.count()
+            self.calls += 1
+            if is_step and it is not self._step:
+                self._depend()
+        else:
+            # Whether a step goes on behind another look of its agent depends on all that others do.
+            is_mixed = self._step is not None and it is not self._step
+            self.now.reads_all |= is_mixed
+            self._turns.wait(self.number)
+            self.now, self.calls, self.is_move, self.key = Footprint(), 1, False, self._told
+            self.now.reads_all = is_mixed
+        with self._expecting():
+            told = self._step_call(it, name, words, named) if is_step else self._agent_call(it, name, *words, **named)
+            self._hear(_without_number(name, is_step, told))
+            return told
+
+    def _hear(self, told: Any) -> None:
+        self._told = hashlib.blake2b(self._told + encoded(told, "told")).digest()
+
+    def _depend(self) -> None:
+        self.now.reads_all, self.is_exact = True, False
+
+    @contextmanager
+    def _expecting(self) -> Iterator[None]:
+        """Notes what a refusal depends on."""
+        try:
+            yield
+        except Error as error:
+            if isinstance(error, Clash):
+                self.now.read([error.at])
+            self.now.reads_all |= isinstance(error, Full)
+            self._hear([type(error).__name__, getattr(error, "at", None)])
+            raise
+
+    def _agent_call(self, it: Played, name: str, *words: Any, **named: Any) -> Any:
+        call = getattr(it.own, name)
+        if name == "fire":
+            return self._fire(it, *words, **named)
+        if name in ("read", "peek"):
+            places = words[0] if words else named["places"]
+            self.now.read([places] if hasattr(places, "place") else places)
+        elif name == "stands":
+            reads = list(words[0] if words else named["reads"])
+            self.now.read(at for at, _ in reads)
+            return call(reads)
+        elif name == "scan":
+            self.now.scans.add(*words, **named)
+        elif name == "state":
+            self.now.reads_all = True
+        elif name == "learn":
+            self._depend()
+        told = call(*words, **named)
+        if name == "step":
+            told = self._step = Played(told, self)
+            self._scanned = []
+        return told
+
+    def _fire(self, it: Played, instructions: Any, reads: Iterable[Any] = (), scans: Iterable[Any] = ()) -> Any:
+        named, over = list(reads), list(scans)
+        self.now.read(at for at, _ in named)
+        self.now.scans.update(name for name, _ in over)
+        return self._fired([it[1] for it in instructions], lambda: it.own.fire(instructions, named, over))
+
+    def _fired(self, places: list[Any], fire: Any) -> Any:
+        # It counts as written also where the fire is refused: an event has to do the same wherever it comes.
+        self.now.write(places)
+        number = fire()
+        self.is_move = number > 0
+        return number
+
+    def _step_call(self, it: Played, name: str, words: tuple[Any, ...], named: dict[str, Any]) -> Any:
+        call = getattr(it.own, name)
+        if name in ("fire", "try_fire"):
+            self._step = None
+            offer = it.own.offer()
+            self.now.read(at for at, _ in offer["reads"])
+            self.now.scans.update(self._scanned)
+            return self._fired([it[1] for it in offer["fire"]], call)
+        if name in ("get", "see"):
+            places = words[0] if words else named["places"]
+            self.now.read([places] if hasattr(places, "place") else places)
+        elif name == "scan":
+            self._scanned += [*words, *named.values()]
+            self.now.scans.update(self._scanned)
+        told = call(*words, **named)
+        if name in ("push", "extend"):
+            # A partial update is taken or refused by the value that it changes.
+            self.now.read(at for word, at, *_ in it.own.offer()["fire"] if word != "put")
+        return told
+
+    def look(self, it: Played, name: str) -> None:
+        if it is self._step and name in ("free", "__exit__"):
+            self._step = None
+        if name in ("seen", "misses") or name == "number" and type(it) is Played:
+            # The number of all moves by now.
+            self.now.reads_all = True

@@ -1,0 +1,278 @@
+"""Agents that are played by turns: one at a time goes on, up to its next call."""
+import random
+import threading
+from collections.abc import Callable, Sequence
+from types import TracebackType
+from typing import Any, Self, TypeVar
+
+from ._errors import Past
+
+_A = TypeVar("_A")
+_R = TypeVar("_R")
+
+# The calls of agents and of steps that take a turn.
+CALLS = frozenset({
+    "step", "read", "fire", "try_fire", "follow", "stands", "peek", "state", "scan", "learn", "answer", "give", "get", "see",
+    "push", "extend", "pop", "pop_move", "offer",
+})
+# How long those that play are waited for after Ctrl-C.
+_GRACE = 5.0
+
+
+class Endless(RuntimeError):
+    """A schedule has not ended after as many turns as it may take, as where an agent waits for another one for ever."""
+
+
+class _Here(threading.local):
+    """Whether this thread plays by turns."""
+
+    is_by_turns = False
+
+
+here = _Here()
+
+
+class _Stopped(BaseException):
+    """Ends a work at its next turn."""
+
+
+class Turns:
+    """Threads of which one at a time goes on, until its next turn; `choose` says which, of those that have not ended."""
+
+    def __init__(self, count: int, choose: Callable[[list[int]], int], most: int) -> None:
+        self._choice, self._most, self._lock = choose, most, threading.Lock()
+        self._alive, self._waiting = set(range(count)), set[int]()
+        # A thread waits until its gate is released.
+        self._gates = [threading.Lock() for _ in range(count)]
+        for gate in self._gates:
+            gate.acquire()
+        self._now: int | None = None
+        self._taken, self._is_stopped = 0, False
+        # What ended all of them, unless it is one of their own errors.
+        self.fault: BaseException | None = None
+
+    def wait(self, number: int) -> None:
+        with self._lock:
+            self._leave(number)
+            self._waiting.add(number)
+            self._choose()
+        self._gates[number].acquire()
+        if self._is_stopped:
+            raise _Stopped
+
+    def count(self) -> None:
+        """Count a turn that whoever is at work takes without waiting."""
+        with self._lock:
+            self._taken += 1
+            if self._taken > self._most:
+                self._stop(self._endless(sorted(self._alive)))
+            if self._is_stopped:
+                raise _Stopped
+
+    def end(self, number: int) -> None:
+        with self._lock:
+            self._leave(number)
+            self._alive.discard(number)
+            self._choose()
+
+    def stop(self, fault: BaseException | None = None) -> None:
+        """Ends each work at its next turn."""
+        with self._lock:
+            self._stop(fault)
+
+    def _stop(self, fault: BaseException | None) -> None:
+        self.fault, self._is_stopped = self.fault or fault, True
+        for number in self._waiting:
+            self._gates[number].release()
+        self._waiting.clear()
+
+    def _leave(self, number: int) -> None:
+        if self._now == number:
+            self._now = None
+
+    def _choose(self) -> None:
+        # Whoever is at work comes to wait or ends before the next is chosen, so the order depends on the choice alone.
+        if self._is_stopped:
+            self._stop(None)
+        elif self._now is None and self._waiting == self._alive:
+            try:
+                chosen = self._next()
+            except BaseException as error:
+                self._stop(error)
+            else:
+                if chosen is not None:
+                    self._waiting.discard(chosen)
+                    self._now = chosen
+                    self._gates[chosen].release()
+
+    def _next(self) -> int | None:
+        alive = sorted(self._alive)
+        if self._taken >= self._most and alive:
+            raise self._endless(alive)
+        self._taken += 1
+        return self._choice(alive) if alive else None
+
+    def _endless(self, alive: list[int]) -> Endless:
+        who = f"agent {alive[0]} is" if len(alive) == 1 else f"agents {', '.join(map(str, alive))} are"
+        return Endless(f"{who} still at work after {self._most:,} turns: does one wait for another?")
+
+
+class Player:
+    """Who plays a work: each call waits for its turn."""
+
+    def __init__(self, turns: Turns, number: int) -> None:
+        self._turns, self.number = turns, number
+
+    def begin(self) -> None:
+        """Wait for the first turn, before anything is done."""
+        self._turns.wait(self.number)
+
+    def call(self, it: "Played", name: str, words: tuple[Any, ...], named: dict[str, Any]) -> Any:
+        """Do one call of an agent or a step."""
+        self._turns.wait(self.number)
+        told = getattr(it.own, name)(*words, **named)
+        return Played(told, self) if name == "step" else told
+
+    def look(self, it: "Played", name: str) -> None:
+        """What is no call is looked at."""
+
+
+class Played:
+    """A step, or an agent, whose calls take turns; it is otherwise what it stands for."""
+
+    def __init__(self, own: Any, player: Player) -> None:
+        self.own, self.player = own, player
+
+    @property  # type: ignore[misc]
+    def __class__(self) -> type[Any]:
+        return type(self.own)
+
+    def __getattr__(self, name: str) -> Any:
+        if name in ("own", "player"):
+            raise AttributeError(name)  # a copy is being made
+        found = getattr(self.own, name)
+        if name not in CALLS:
+            self.player.look(self, name)
+            return found
+        return lambda *words, **named: self.player.call(self, name, tuple(map(_bare, words)), named)
+
+    def __enter__(self) -> Self:
+        self.own.__enter__()
+        return self
+
+    def __exit__(self, kind: type[BaseException] | None, error: BaseException | None, traced: TracebackType | None) -> None:
+        self.player.look(self, "__exit__")
+        self.own.__exit__(kind, error, traced)
+
+    def __repr__(self) -> str:
+        return repr(self.own)
+
+
+class PlayedAgent(Played):
+    """An agent whose calls take turns, and those of its steps."""
+
+    def step(self) -> Played:
+        step: Played = self.player.call(self, "step", (), {})
+        return step
+
+    def play(self, rule: Callable[[Any], _R]) -> tuple[int, _R]:
+        while True:
+            step = self.step()
+            try:
+                with step:
+                    told = rule(step)
+                    number = step.try_fire()
+                if number:
+                    return number, told
+            except Past:
+                if not getattr(step.own, "is_taken", False):
+                    raise
+
+
+def _bare(word: Any) -> Any:
+    return word.own if type(word) in (Played, PlayedAgent) else word
+
+
+def play_all(
+    turns: Turns, agents: Sequence[_A], works: Sequence[Callable[[_A], _R]], players: Sequence[Player]
+) -> tuple[list[Any], dict[int, BaseException]]:
+    """Play each work on a thread of its own. Return what the works returned, and their errors."""
+    told: list[Any] = [None] * len(works)
+    errors = dict[int, BaseException]()
+
+    def play(number: int) -> None:
+        here.is_by_turns = True
+        agent: Any = PlayedAgent(agents[number], players[number])
+        try:
+            players[number].begin()
+            told[number] = works[number](agent)
+        except _Stopped:
+            pass
+        except BaseException as error:
+            errors[number] = error
+        finally:
+            turns.end(number)
+
+    threads = [threading.Thread(target=play, args=(number,), daemon=True) for number in range(len(works))]
+    try:
+        for thread in threads:
+            thread.start()
+        for thread in threads:
+            thread.join()
+    except BaseException:
+        # Ctrl-C comes here. A work that waits for something else than its turn can't be ended.
+        turns.stop()
+        for thread in threads:
+            if thread.ident is not None:
+                thread.join(_GRACE)
+        raise
+    return told, errors
+
+
+def _drawn(seed: int) -> Callable[[list[int]], int]:
+    """Who goes on, drawn by a seed."""
+    return random.Random(seed).choice
+
+
+def _listed(turns: Sequence[int]) -> Callable[[list[int]], int]:
+    """Who goes on, by a list: each number counts round those that haven't ended. Behind its end whoever was at work goes on."""
+    rest, last = list(turns)[::-1], -1
+
+    def choose(alive: list[int]) -> int:
+        nonlocal last
+        if rest:
+            last = alive[rest.pop() % len(alive)]
+        elif last not in alive:
+            last = alive[0]
+        return last
+
+    return choose
+
+
+def interleave(
+    agents: Sequence[_A], works: Sequence[Callable[[_A], _R]], seed: int | Sequence[int], *, most: int = 1_000_000
+) -> list[_R]:
+    """Play each work with its agent, one at a time up to its next call; the seed draws who goes on. Return what the works returned.
+
+    Each call of the agent that the work is passed, and of its steps, takes a turn; what only tells a number, as `won`, takes none.
+    The same seed gives the same journal, byte for byte, where the works themselves draw nothing else.
+
+    A list of numbers in the place of the seed tells who goes on at each turn, counted round those that haven't ended. Behind
+    its end whoever is at work goes on until it ends, and then the first of the others. So an empty list plays one after the
+    other. `explore` finds the list that breaks an invariant.
+
+    Ctrl-C ends each work at its next call.
+
+    Raises:
+        Endless: the works haven't ended after so many turns (`most`).
+        the first error of a work, by the number of its place, once all have ended.
+    """
+    if len(agents) != len(works):
+        raise ValueError(f"{len(agents)} agents for {len(works)} works")
+    turns = Turns(len(agents), _drawn(seed) if isinstance(seed, int) else _listed(seed), most)
+    told, errors = play_all(turns, agents, works, [Player(turns, number) for number in range(len(works))])
+    if turns.fault is not None:
+        raise turns.fault
+    for number in sorted(errors):
+        raise errors[number]
+    return told
