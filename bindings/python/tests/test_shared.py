@@ -232,15 +232,23 @@ class Plays(Shared):
                         except Unknown as unknown:
                             told.append(unknown)
 
-                    thread = threading.Thread(target=play)
-                    with other._worker._using:
+                    def exchanged(batch):
+                        if batch and not is_behind.is_set():
+                            has_batch.set()
+                            is_behind.wait(60)
+                        return exchange(batch)
+
+                    thread, has_batch, is_behind = threading.Thread(target=play), threading.Event(), threading.Event()
+                    exchange = other._worker._exchange
+                    with mock.patch.object(other._worker, "_exchange", exchanged):
                         thread.start()
-                        until(lambda: other._worker._sent)
+                        self.assertTrue(has_batch.wait(60))
                         for waiter in other._worker._sent.values():
                             waiter.is_sent = is_sent
                         for _ in range(20):
                             agent.play(raised)
-                    thread.join(20)
+                        is_behind.set()
+                        thread.join(60)
                     self.assertEqual(type(told[0]), Unknown if is_sent else tuple)
                     self.assertEqual(ben.follow(), other.state()[0])
                     self.assertGreater(ben.play(raised)[0], 21)
