@@ -182,7 +182,7 @@ def _work_on(asked: argparse.Namespace, out: TextIO) -> int:
             out.write(f"{file}: ")
         try:
             status = status if work(file, getattr(asked, "part", None), out) else 1
-        except (BadJournal, Damaged, Error, IndexError) as refused:
+        except (BadJournal, Damaged, Error, IndexError, ValueError) as refused:
             print(f"folugben: {file}: {refused}", file=sys.stderr)
             status = 1
     out.flush()

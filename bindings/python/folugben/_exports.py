@@ -37,9 +37,8 @@ def write_csv(journal: bytes, out: TextIO) -> None:
     bag that stays one, the new value is what changes, as a trace has it (`added` and `removed`, or `counts`), and the old one
     is left out. The opening state comes first, as move 0 of no agent.
     """
-    table = csv.writer(out, lineterminator="\n")
+    lines, table = trace(journal), csv.writer(out, lineterminator="\n")
     table.writerow(["move", "agent", "function", "arguments", "old", "new"])
-    lines = trace(journal)
     for at, value in next(lines)["init"]:
         table.writerow([0, "", at[0], _cell(at[1:]), _cell(None), _cell(value)])
     move = 0

@@ -58,7 +58,7 @@ class Worker(Locked):
     def __init__(self, log: Log) -> None:
         self._log = log
         try:
-            with reaching():
+            with reaching(log.target):
                 self.replica = Replica(log)
         except BaseException:
             log.close()

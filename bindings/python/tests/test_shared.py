@@ -345,6 +345,29 @@ class OnSqlite(Plays):
         with contextlib.closing(sqlite3.connect(self.target, isolation_level=None)) as connection:
             connection.execute(sql)
 
+    def test_what_is_refused_makes_no_file(self):
+        for error, words in (Error, {"init": [[["a"], 1.5]]}), (Error, {"init": [], "moves": 0}), (TypeError, {"init": [], "moves": "x"}):
+            with self.assertRaises(error):
+                SharedRun(self.target, **words)
+        self.assertEqual(os.listdir(self.room), [])
+        with self.assertRaisesRegex(IsADirectoryError, "a folder may be a Run: .*" + self.room.name):
+            SharedRun(self.room, init=[])
+        (self.room / "text").write_text("text")
+        with self.assertRaisesRegex(Damaged, "file is not a database: .*text"):
+            SharedRun(self.room / "text")
+        with self.assertRaisesRegex(ValueError, "is no name of a server"):
+            SharedRun("postgresql://[bad/base")
+
+    def test_a_step_of_an_agent_that_was_given_back(self):
+        with SharedRun(self.target, INIT) as run:
+            agent = run.agent(0)
+            with agent.step() as step:
+                step.push([["put", COUNT, 1]])
+                agent.give()
+                with self.assertRaisesRegex(Error, "the agent was given back"):
+                    step.fire()
+            self.assertEqual(run.state()[0], 0)
+
     def test_files_that_are_no_run(self):
         other = self.room / "other.db"
         with contextlib.closing(sqlite3.connect(other)) as connection:
