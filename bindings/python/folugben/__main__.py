@@ -5,6 +5,7 @@ import os
 import sys
 import time
 from collections.abc import Callable
+from functools import partial
 from pathlib import Path
 from typing import BinaryIO, TextIO
 
@@ -149,6 +150,9 @@ def _words() -> argparse.ArgumentParser:
         if name != "audit" and name not in ON_RUNS:
             only = "of a run of several parts the one with this number, from 0 up, alone"
             command.add_argument("-p", "--part", type=int, metavar="N", default=0 if name == "part" else None, help=only)
+        if name == "itf":
+            command.add_argument("--from", type=int, metavar="N", dest="first", default=0, help="the first state, 0 up")
+            command.add_argument("--to", type=int, metavar="N", dest="last", help="the last state")
         command.add_argument("-o", "--output", type=Path, metavar="FILE", help="where to write, in place of standard output")
     told = "imports a run of version 0.2, which is one file, into a new folder"
     command = commands.add_parser("import", help=told, description=told[0].upper() + told[1:] + ".")
@@ -171,16 +175,27 @@ def _import(file: str, folder: str) -> int:
 
 def _work_on(asked: argparse.Namespace, out: TextIO) -> int:
     work, status = COMMANDS[asked.command][0], 0
+    if asked.command == "itf":
+        work = _whole(_written(partial(write_itf, first=asked.first, last=asked.last)))
     for file in asked.files:
         if len(asked.files) > 1 and asked.command in ("audit", "check", "verify"):
             out.write(f"{file}: ")
         try:
             status = status if work(file, getattr(asked, "part", None), out) else 1
-        except (BadJournal, Damaged, Error, IndexError) as refused:
+        except (BadJournal, Damaged, Error, IndexError, ValueError) as refused:
             print(f"folugben: {file}: {refused}", file=sys.stderr)
             status = 1
     out.flush()
     return status
+
+
+def _expect_apart(output: Path, files: list[str]) -> None:
+    """Expect an output that is none of the inputs, and in none of the runs that are read."""
+    for file in files:
+        if output.exists() and os.path.exists(file) and output.samefile(file):
+            raise OSError(f"{file} is read, so it can't be written: name another output")
+        if os.path.isdir(file) and output.resolve().parent == Path(file).resolve():
+            raise OSError(f"{output} is in the folder of the run that is read: name another output")
 
 
 def main(words: list[str] | None = None) -> int:
@@ -191,6 +206,7 @@ def main(words: list[str] | None = None) -> int:
             return _import(asked.file, asked.folder)
         if asked.output is None:
             return _work_on(asked, sys.stdout)
+        _expect_apart(asked.output, asked.files)
         with asked.output.open("w", encoding="utf-8", newline="") as out:
             return _work_on(asked, out)
     except OSError as fault:

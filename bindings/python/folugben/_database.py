@@ -7,6 +7,7 @@ import importlib
 import os
 import pathlib
 import sqlite3
+import stat
 import struct
 import time
 from collections.abc import Iterator, Sequence
@@ -101,14 +102,14 @@ def is_database(path: str | os.PathLike[str]) -> bool:
 
 
 @contextlib.contextmanager
-def reaching() -> Iterator[None]:
+def reaching(target: object) -> Iterator[None]:
     """Raises a `ConnectionError` where the connection is lost, and an `OSError` or `Damaged` for a file that is no good."""
     try:
         yield
     except Lost as error:
         raise ConnectionError(errno.ECONNREFUSED, f"the server doesn't answer: {error}") from error
     except sqlite3.Error as error:
-        raise _as_os_error(error) from error
+        raise _as_os_error(error, target) from error
 
 
 def _keep(connection: object) -> None:
@@ -128,7 +129,9 @@ class Sqlite:
                 os.close(os.open(path, os.O_RDWR | os.O_CREAT | os.O_EXCL | os.O_CLOEXEC, 0o600))
                 sync_folder(path.parent)
         self._file = os.stat(path)
-        with reaching():
+        if stat.S_ISDIR(self._file.st_mode):
+            raise IsADirectoryError(errno.EISDIR, "a shared run is a file or a server, and a folder may be a Run", str(path))
+        with reaching(path):
             self._db = self._connected()
             if self.has_run() or makes:
                 self._set_log()
@@ -221,14 +224,14 @@ class Sqlite:
             self._agents = -1
 
 
-def _as_os_error(error: sqlite3.Error) -> OSError | Damaged:
+def _as_os_error(error: sqlite3.Error, target: object) -> OSError | Damaged:
     """The error of a file that SQLite can't open or write."""
     code = getattr(error, "sqlite_errorcode", 0) & 0xFF
     if code in (sqlite3.SQLITE_NOTADB, sqlite3.SQLITE_CORRUPT):
-        return Damaged(0, str(error))
+        return Damaged(0, f"{error}: {target}")
     number = {sqlite3.SQLITE_FULL: errno.ENOSPC, sqlite3.SQLITE_READONLY: errno.EROFS, sqlite3.SQLITE_PERM: errno.EACCES,
               sqlite3.SQLITE_BUSY: errno.EBUSY, sqlite3.SQLITE_CANTOPEN: errno.EACCES}
-    return OSError(number.get(code, errno.EIO), f"SQLite: {error}")
+    return OSError(number.get(code, errno.EIO), f"SQLite: {error}", str(target))
 
 
 class Postgres:
@@ -240,11 +243,13 @@ class Postgres:
         server, _, schema = target.partition("#")
         self._schema = schema or "folugben"
         self._driver = driver = _driver()
-        with reaching():
+        with reaching(target):
             try:
                 self._db = driver.connect(server)
             except driver.OperationalError as error:
                 raise Lost(str(error)) from error
+            except driver.ProgrammingError as error:
+                raise ValueError(f"{server} is no name of a server: {str(error).strip()}") from error
             self._db.autocommit = True
             # In psycopg 3 this one takes several statements at once, as those of psycopg 2 do.
             self._cursor = driver.ClientCursor(self._db) if hasattr(driver, "ClientCursor") else self._db.cursor()
@@ -324,8 +329,15 @@ class Postgres:
 
 
 def _driver() -> Any:
-    """The module by which Python connects to PostgreSQL: psycopg 3 or 2."""
+    """The module by which Python connects to PostgreSQL: psycopg 3 or 2.
+
+    Where psycopg 3 is written in Python alone, an append takes four times the processor time of psycopg 2.
+    """
+    found = []
     for name in "psycopg", "psycopg2":
         with contextlib.suppress(ImportError):
-            return importlib.import_module(name)
-    raise ImportError("a run in PostgreSQL needs psycopg: pip install psycopg, or Debian's python3-psycopg2")
+            found.append(importlib.import_module(name))
+    if not found:
+        raise ImportError("a run in PostgreSQL needs psycopg: pip install psycopg, or Debian's python3-psycopg2")
+    is_slow = getattr(getattr(found[0], "pq", None), "__impl__", "") == "python"
+    return found[-1 if is_slow else 0]

@@ -9,10 +9,13 @@ import sys
 from collections.abc import Iterator
 from typing import Any, TextIO
 
+from ._errors import BadJournal, TooLong
 from ._functions import check, trace
-from ._errors import BadJournal
+from ._library import LARGE
 from ._texts import encoded
 
+# How many characters the states in the Informal Trace Format may have.
+ITF_LIMIT = 1 << 30
 # The page that shows a run, in a package that is installed, and what makes it in a checkout.
 PAGE = pathlib.Path(__file__).with_name("run.html")
 JOIN = pathlib.Path(__file__).parents[3] / "viewer" / "join"
@@ -34,9 +37,8 @@ def write_csv(journal: bytes, out: TextIO) -> None:
     bag that stays one, the new value is what changes, as a trace has it (`added` and `removed`, or `counts`), and the old one
     is left out. The opening state comes first, as move 0 of no agent.
     """
-    table = csv.writer(out, lineterminator="\n")
+    lines, table = trace(journal), csv.writer(out, lineterminator="\n")
     table.writerow(["move", "agent", "function", "arguments", "old", "new"])
-    lines = trace(journal)
     for at, value in next(lines)["init"]:
         table.writerow([0, "", at[0], _cell(at[1:]), _cell(None), _cell(value)])
     move = 0
@@ -71,6 +73,8 @@ class _Held:
     def __init__(self, at: list[Any], value: Any) -> None:
         self._at, self._value = _text({"#tup": list(map(_itf, at[1:]))}), value
         self._members: dict[str, str] = {}
+        # Its text, until it changes.
+        self._entry = ""
         if isinstance(value, dict) and "list" not in value:
             (_, members), = value.items()
             for it in members:
@@ -83,6 +87,7 @@ class _Held:
             self._members[key] = _text(_itf(element) if "set" in self._value else [_itf(element), _itf(count)])
 
     def change(self, told: dict[str, Any]) -> None:
+        self._entry = ""
         for element, _, count in told.get("counts", ()):
             self._put(element, count)
         for count, side in enumerate(("removed", "added")):
@@ -90,9 +95,13 @@ class _Held:
                 self._put(element, count)
 
     def entry(self) -> str:
+        self._entry = self._entry or f"[{self._at},{self._written()}]"
+        return self._entry
+
+    def _written(self) -> str:
         if not isinstance(self._value, dict) or "list" in self._value:
-            return f"[{self._at},{_text(_itf(self._value))}]"
-        return f'[{self._at},{{"#{"set" if "set" in self._value else "map"}":[{",".join(self._members.values())}]}}]'
+            return _text(_itf(self._value))
+        return f'{{"#{"set" if "set" in self._value else "map"}":[{",".join(self._members.values())}]}}'
 
 
 def _moments(journal: bytes) -> Iterator[tuple[dict[str, Any], dict[str, dict[str, _Held]]]]:
@@ -118,19 +127,30 @@ def _moments(journal: bytes) -> Iterator[tuple[dict[str, Any], dict[str, dict[st
             yield {"index": index, "agent": event["agent"]}, held
 
 
-def write_itf(journal: bytes, out: TextIO, source: str = "") -> None:
-    """Write the run in the Informal Trace Format of Apalache and Quint: a state for each move.
+def write_itf(journal: bytes, out: TextIO, source: str = "", first: int = 0, last: int | None = None) -> None:
+    """Write the run in the Informal Trace Format of Apalache and Quint: a state for each move, from the first one to the last.
 
     In a state each function is a map from the tuples of its arguments to its values. Each state is complete, as the format has
-    no other, so the output grows with the moves times the size of the state: `part` and a window of it are smaller.
+    no other, so the output grows with the moves times the size of the state.
+
+    Raises:
+        TooLong: the states have more than 1,073,741,824 characters.
     """
     names = sorted({at[0] for line in trace(journal) for at, *_ in line.get("init", line.get("updates", ()))})
     meta = {"format": "ITF", "format-description": "https://apalache-mc.org/docs/adr/015adr-trace.html", "source": source}
     out.write(f'{{"#meta":{_text(meta)},"vars":{_text(names)},"states":[')
+    written = 0
     for told, held in _moments(journal):
+        if told["index"] < first or last is not None and told["index"] > last:
+            continue
         entries = (",".join(it.entry() for it in held.get(name, {}).values()) for name in names)
         members = [f'"#meta":{_text(told)}', *(f'{_text(name)}:{{"#map":[{it}]}}' for name, it in zip(names, entries))]
-        out.write(",\n" * (told["index"] > 0) + "{" + ",".join(members) + "}")
+        text = ",\n" * (written > 0) + "{" + ",".join(members) + "}"
+        written += len(text)
+        if written > ITF_LIMIT:
+            said = f"the states of moves {first} to {told['index']} have more than {ITF_LIMIT:,} characters"
+            raise TooLong(LARGE, said=f"{said}: take fewer by --from and --to")
+        out.write(text)
     out.write("]}\n")
 
 

@@ -66,7 +66,7 @@ class Log:
         """
         log = cls(target, connect(target, makes=opening is not None))
         try:
-            with reaching():
+            with reaching(log.target):
                 log._join(opening, moves)
         except BaseException:
             log.database.close()

@@ -8,11 +8,12 @@ What always holds, whichever thread goes on when:
   moves before it leave.
 - An agent is given back to its part before it comes into another one: it is never in two.
 - A step that has begun goes on in its part, with the state that it saw, until the part has ended and `PATIENCE` has passed.
-  Then its agent is given back, and the step raises `Past`; only agents that are played by turns are waited for.
+  Then its agent is given back, and the step raises `Past`. Agents that are played by turns are waited for, until two further
+  parts have ended.
 - An agent that is between two steps may be given back by another thread. Its own thread finds the slot empty, as any call looks
   there under the agent's lock, and comes into the newest part.
 - An agent waits for another thread only while that opens a part, while two ended parts wait for the writer, or while a part
-  comes to rest. So there are at most three parts in memory.
+  comes to rest. So there are at most three parts in memory, and by turns five.
 - Only the writer saves, the oldest part first, once that has ended and all its agents are given back. The storage is released
   when its journal is on the disk, and then the next part is the oldest.
 - After a fault nothing more is saved: no segment is behind one that is missing.
@@ -98,6 +99,7 @@ class Chain(Locked):
         while True:
             with self._lock:
                 agent = self._come_at_once(own, before)
+                self._take_by_turns()
             if agent is not None:
                 return agent
             # Neither is a wait on the condition.
@@ -123,6 +125,16 @@ class Chain(Locked):
         agent = self._into(self.newest(), own)
         agent.is_taken = False
         return agent
+
+    def _take_by_turns(self) -> None:
+        """Gives back who stays in a step, by turns, of a part that too many have come behind: time has no part in it."""
+        part, newest, ended = self._oldest, self.newest(), list[Part]()
+        while part is not newest and part.next is not None:
+            ended.append(part)
+            part = part.next
+        for part in ended[:-_WAITING] if here.is_by_turns else ():
+            part.is_forced, part.until = True, 0.0
+            self._is_left(part)
 
     def _is_at_end(self, agent: PartAgent) -> bool:
         """Looks on: whether it has seen as many moves as its part has room for."""

@@ -63,12 +63,11 @@ class Run:
         self, path: str | os.PathLike[str], init: Iterable[Form] = (), moves: int = 100_000, *, every: float | None = None,
         receipts: int | None = None,
     ) -> None:
-        self._prepare(path)
-        capacity = capacity_of(moves)
+        capacity = self._prepare(path, moves, every, receipts)
         with Storage(init, capacity) as opening:
             journal = memoryview(opening.close_journal())
             expect_state(len(journal))
-            self._begin(RunWriter.created(self._path, journal), lambda: opening.next(capacity), capacity, every, receipts)
+            self._begin(RunWriter.created(self._path, journal), lambda: opening.next(capacity), capacity)
 
     @classmethod
     def resume(
@@ -89,8 +88,7 @@ class Run:
         if check not in ("all", "last"):
             raise ValueError(f"check is 'all' or 'last', and not {check!r}")
         run = cls.__new__(cls)
-        run._prepare(path)
-        capacity = capacity_of(moves)
+        capacity = run._prepare(path, moves, every, receipts)
         folder, segments = RunWriter.resumed(run._path)
         try:
             with Reading(folder) as reading:
@@ -100,21 +98,23 @@ class Run:
         except BaseException:
             folder.close()
             raise
-        run._begin(folder, lambda: _opened(state, capacity), capacity, every, receipts)
+        run._begin(folder, lambda: _opened(state, capacity), capacity)
         return run
 
-    def _prepare(self, path: str | os.PathLike[str]) -> None:
-        self._path = pathlib.Path(path)
+    def _prepare(self, path: str | os.PathLike[str], moves: int, every: float | None, receipts: int | None) -> int:
+        """What the run goes by, before anything is made; the capacity of its parts."""
+        self._path, capacity = pathlib.Path(path), capacity_of(moves)
+        if every is not None and not (isinstance(every, (int, float)) and every > 0):
+            raise ValueError(f"every is a number of seconds above 0, and not {every!r}")
+        if receipts is not None and not (isinstance(receipts, int) and receipts >= 0):
+            raise ValueError(f"receipts is a whole number from 0, and not {receipts!r}")
+        self._every, self._receipts = every, 2 * capacity if receipts is None else receipts
         self._agents: weakref.WeakValueDictionary[int, RunAgent] = weakref.WeakValueDictionary()
+        return capacity
 
-    def _begin(
-        self, folder: RunWriter, opened: Callable[[], Storage], capacity: int, every: float | None, receipts: int | None
-    ) -> None:
+    def _begin(self, folder: RunWriter, opened: Callable[[], Storage], capacity: int) -> None:
         try:
-            most = 2 * capacity if receipts is None else int(receipts)
-            if every is not None and not every > 0:
-                raise ValueError(f"every is a number of seconds above 0, and not {every!r}")
-            self._chain = Chain(folder, opened(), capacity, most, every)
+            self._chain = Chain(folder, opened(), capacity, self._receipts, self._every)
         except BaseException:
             folder.close()
             raise

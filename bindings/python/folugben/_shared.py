@@ -71,6 +71,9 @@ class SharedStep(Step):
         return fired and self._era.base + fired
 
     def _fire(self, vain: tuple[int, ...]) -> int:
+        if self._shared._is_gone:
+            self._is_tried = True
+            raise Error(EMPTY, said="the agent was given back")
         call, scans = self._call()
         answer = self._shared._worker.answer(self._era.number, self._shared.number, call, scans)
         if answer is None:
@@ -132,6 +135,8 @@ class SharedRun:
             expect_state(len(journal))
             return journal
 
+        if state is not None:
+            opening(capacity)  # what is refused makes no file
         self._worker = Worker(Log.opened(self._target, None if state is None else opening, capacity))
         self._agents: weakref.WeakValueDictionary[int, SharedAgent] = weakref.WeakValueDictionary()
 

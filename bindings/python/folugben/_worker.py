@@ -1,10 +1,11 @@
 """The thread of a shared run: it appends the calls of this process to the log, and applies the log to the replica."""
 import atexit
+import itertools
 import secrets
 import threading
 import time
 import weakref
-from collections.abc import Callable, Iterable
+from collections.abc import Callable, Iterable, Iterator
 from typing import TypeVar
 
 from ._agent import Agent
@@ -58,7 +59,7 @@ class Worker(Locked):
     def __init__(self, log: Log) -> None:
         self._log = log
         try:
-            with reaching():
+            with reaching(log.target):
                 self.replica = Replica(log)
         except BaseException:
             log.close()
@@ -67,10 +68,12 @@ class Worker(Locked):
         self._locked_by(self._changed)
         # Who has one thread use the connection at a time.
         self._using = threading.RLock()
+        # Tokens that rise by one make the database write fewer pages than random ones.
+        self._prefix, self._count = secrets.token_bytes(10), itertools.count()
         # Calls that are to be appended; those that may be in the log, by their tokens.
         self._waiting: list[Waiter] = []
         self._sent: dict[bytes, Waiter] = {}
-        # How many calls are expected to come at once, as so many were answered last, and how long it waits for them.
+        # How many calls are expected to come at once, and how long it waits for them.
         self._expected, self._moment = 1, 0.0
         # How often all that is in the log was asked for, and applied.
         self._asked = self._applied = 0
@@ -97,7 +100,8 @@ class Worker(Locked):
 
     def answer(self, segment: int, agent: int, call: bytes, scans: bytes) -> Answer | None:
         """Append a call, and return its answer, None where its segment had ended."""
-        waiter = Waiter(Call(secrets.token_bytes(16), segment, agent, call.decode(), scans.decode()))
+        token = self._prefix + next(self._count).to_bytes(6, "big")
+        waiter = Waiter(Call(token, segment, agent, call.decode(), scans.decode()))
         with self._lock:
             self.expect_going()
             self._waiting.append(waiter)
@@ -169,7 +173,10 @@ class Worker(Locked):
 
     def _is_going(self) -> bool:
         with self._changed:
-            if self._expected > 1 and not self._is_due():
+            # As long as calls come, further ones may.
+            came, end = -1, time.monotonic() + 4 * self._moment
+            while self._expected > 1 and not self._is_due() and came < len(self._waiting) and time.monotonic() < end:
+                came = len(self._waiting)
                 self._changed.wait(self._moment)
             self._expected = 1
             if not self._is_due():
@@ -195,7 +202,8 @@ class Worker(Locked):
             self._apply(placed, answered)
         finally:
             with self._changed:
-                self._expected = max(1, len(answered))
+                # Those that are answered now may call again soon, beside those that wait by now.
+                self._expected = max(1, min(BATCH, len(answered) + len(self._waiting)))
             # Agents are woken when all is done, as they would only hinder that.
             for waiter, answer in answered:
                 waiter.end(answer)
@@ -206,15 +214,23 @@ class Worker(Locked):
 
     def _apply(self, placed: list[Placed], answered: list[tuple[Waiter, Answer | None]]) -> None:
         """Apply calls to the replica, and note the answers to those of this process."""
-        for place, call in placed:
-            waiter = self._sent.get(call.token)
-            with self._changed:
+        rest = iter(placed)
+        while (ended := self._apply_some(rest, answered)) is not None:
+            self._save(ended)
+
+    def _apply_some(self, placed: Iterator[Placed], answered: list[tuple[Waiter, Answer | None]]) -> Ended | None:
+        """Apply calls until one ends a segment."""
+        sent = self._sent
+        with self._changed:
+            for place, call in placed:
+                waiter = sent.get(call.token)
                 answer, ended = self.replica.apply(place, call, waiter is not None)
-            if waiter is not None:
-                del self._sent[call.token]
-                answered.append((waiter, answer))
-            if ended is not None:
-                self._save(ended)
+                if waiter is not None:
+                    del sent[call.token]
+                    answered.append((waiter, answer))
+                if ended is not None:
+                    return ended
+        return None
 
     def _exchange(self, batch: list[Waiter]) -> list[Placed]:
         with self._using:

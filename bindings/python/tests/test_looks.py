@@ -21,39 +21,15 @@ class Looks(unittest.TestCase):
             call(*arguments)
         return caught.exception.code
 
-    def test_the_own_state_moves_on_in_a_look(self):
-        self.rival.fire([["put", ["count"], 1]])
-        self.assertEqual(self.agent.peek(COUNT), (0, [0]))
-        self.assertEqual(self.agent.follow(), 1)
-        self.assertEqual(self.agent.peek([["count"], ["f", True], ["none"]]), (1, [1, {"set": [True, 1]}, None]))
-        self.rival.fire([["put", ["count"], 2]])
-        self.assertEqual(self.agent.peek([]), (1, []))
-        self.assertEqual(self.agent.read(COUNT), (2, [2]))
-        self.assertEqual(self.agent.peek(COUNT), (2, [2]))
-        self.assertEqual(self.agent.fire([["put", ["count"], 3]], [[["count"], 2]]), 3)
-        self.assertEqual((self.agent.seen, self.agent.follow()), (3, 3))
-        self.assertEqual(self.agent.peek(COUNT), (3, [3]))
-
     def test_the_whole_state_and_one_name(self):
         ascending = [[["count"], 0], [["f", True], {"set": [True, 1]}], [["f", 1], "one"], [["g"], "ü"]]
         number, pairs = self.agent.state()
         self.assertEqual((number, repr(pairs)), (0, repr(ascending)))
         self.assertEqual(repr(self.agent.scan("f")), repr((0, ascending[1:3])))
-        for name in ("none", "", "no name", "f\0", "ü"):
-            self.assertEqual(self.agent.scan(name), (0, []))
         self.rival.fire([["put", ["f", 1], None], ["put", ["f", 2], 2**63 - 1]])
         self.assertEqual(self.agent.follow(), 1)
         self.assertEqual(repr(self.agent.scan("f")), repr((1, [ascending[1], [["f", 2], 2**63 - 1]])))
         self.assertEqual(self.agent.state(), (1, [ascending[0], ascending[1], [["f", 2], 2**63 - 1], ascending[3]]))
-
-    def test_what_was_peeked_at_is_named(self):
-        number, (count,) = self.agent.peek(COUNT)
-        self.rival.fire([["put", ["g"], 1]])
-        self.assertEqual(self.agent.fire([["put", ["count"], count + 1]], [[["count"], number]]), 2)
-        self.rival.fire([["put", ["count"], 7]])
-        with self.assertRaises(Stale) as caught:
-            self.agent.fire([["put", ["g"], 2]], [[at, 2] for at, _ in self.agent.state()[1]])
-        self.assertEqual(caught.exception.at, ["count"])
 
     def test_a_fire_rests_on_the_whole_functions_of_its_scans(self):
         number, found = self.agent.scan("f")
@@ -83,15 +59,6 @@ class Looks(unittest.TestCase):
         with self.assertRaisesRegex(Error, "read 1: a read is an array"):
             self.agent.fire([], [["g"]], [["f"]])
         self.assertEqual((self.agent.seen, self.agent.misses), (0, 0))
-
-    def test_whether_reads_still_stand(self):
-        reads = [[["g"], 0], [["count"], 0], [["f", 1], 0]]
-        self.assertIsNone(self.agent.stands(reads))
-        self.assertIsNone(self.agent.stands([]))
-        self.rival.fire([["put", ["g"], 1], ["put", ["f", 1], 2]])
-        self.assertEqual(self.agent.stands(iter(reads)), ["f", 1])
-        self.assertEqual(self.agent.peek([["g"]]), (1, [1]))
-        self.assertIsNone(self.agent.stands([[["g"], 1], [["f", True], 0]]))
 
     def test_a_number_that_is_yet_to_come_is_refused(self):
         where = folugben.error_text(folugben.RANGE) + ": read 2: "

@@ -252,6 +252,38 @@ class Parts(Rooms):
             self.assertEqual(audit(self.room / f"{seed} a")[1:], (36, 7))
 
 
+    def test_who_stays_in_a_step_by_turns_holds_no_more_than_two_parts(self):
+        def played(name):
+            told, most = [], 0
+            with Run(self.room / name, INIT, 5) as run:
+                def stays(agent):
+                    with agent.step() as step:
+                        for _ in range(100):
+                            try:
+                                told.append(step.get(AT))
+                            except Past:
+                                return
+
+                def raises(agent):
+                    nonlocal most
+                    for _ in range(40):
+                        agent.play(raised)
+                        part, count = run._chain._oldest, 1
+                        while (part := part.next) is not None:
+                            count += 1
+                        most = max(most, count)
+
+                interleave([run.agent(0), run.agent(1)], [stays, raises], 3)
+            self.assertLessEqual(most, 5)
+            return told, text_of(self.room / name)
+
+        self.assertEqual(played("one"), played("other"))
+        told, text = played("a third")
+        self.assertEqual(set(told), {told[0]})
+        self.assertTrue(10 < len(told) < 60, told)
+        self.assertEqual(audit(self.room / "one").moves, 40)
+
+
 class Random(Rooms):
     """Agents that do whatever agents do, in small parts, each of which may end in any way."""
 

@@ -8,8 +8,9 @@ import subprocess
 import sys
 import tempfile
 import unittest
+from unittest import mock
 
-from folugben import BadJournal, Storage, check, interleave, replay, states
+from folugben import BadJournal, Storage, TooLong, check, interleave, replay, states
 from folugben import _exports
 from folugben_engine import bank
 from folugben_engine.turns import run_by_turns
@@ -174,6 +175,15 @@ class Exports(unittest.TestCase):
             found = {f'["account",{at["#tup"][0]["#bigint"]}]': int(value["#bigint"]) for at, value in state["account"]["#map"]}
             self.assertEqual(found, values)
 
+    def test_the_informal_trace_format_is_bounded(self):
+        whole = json.loads(self.written(_exports.write_itf))["states"]
+        out = io.StringIO()
+        _exports.write_itf(self.journal, out, first=3, last=5)
+        self.assertEqual(json.loads(out.getvalue())["states"], whole[3:6])
+        with mock.patch.object(_exports, "ITF_LIMIT", 1000):
+            with self.assertRaisesRegex(TooLong, "moves 0 to [0-9]+ have more than 1,000 characters: take fewer by --from and --to"):
+                self.written(_exports.write_itf)
+
     def test_the_informal_trace_format_has_each_kind_of_value(self):
         for value, wanted in [
             (None, {}), (True, True), (-7, {"#bigint": "-7"}), ("a", "a"), ({"list": [1]}, [{"#bigint": "1"}]),
@@ -216,6 +226,11 @@ class Exports(unittest.TestCase):
                 self.assertEqual(call(command, str(bad)).returncode, 1)
             self.assertIn('"trace":1', pathlib.Path(room, "view").read_text())
             self.assertEqual(call("csv", str(pathlib.Path(room, "absent"))).returncode, 2)
+            told = call("csv", str(good), "-o", str(good))
+            self.assertEqual((told.returncode, good.read_bytes()), (2, self.journal))
+            self.assertIn("is read, so it can't be written", told.stderr)
+            told = json.loads(call("itf", str(good), "--from", "2", "--to", "3").stdout)
+            self.assertEqual([it["#meta"]["index"] for it in told["states"]], [2, 3])
 
 
 if __name__ == "__main__":

@@ -138,6 +138,12 @@ class Saving(Rooms):
             interleave(agents, [work] * 3, 1)
         self.assertEqual(audit(self.path).moves, 15)
 
+    def test_what_is_refused_makes_no_folder(self):
+        for words in {"every": 0}, {"every": "x"}, {"receipts": -1}, {"receipts": "x"}:
+            with self.assertRaisesRegex(ValueError, f"{next(iter(words))} is a .*number .*, and not"):
+                Run(self.path, INIT, **words)
+        self.assertFalse(self.path.exists())
+
     def test_a_part_ends_by_time(self):
         with Run(self.path, INIT, every=0.1) as run, run.agent(0) as agent:
             time.sleep(0.3)

@@ -11,7 +11,7 @@ import sys
 import unittest
 from unittest import mock
 
-from folugben import Clash, Differs, Endless, Stale, Storage, check, explore, interleave, states
+from folugben import Agent, Clash, Differs, Endless, Stale, Step, Storage, check, explore, interleave, states
 from folugben import _explore, _footprint
 from folugben_engine import bank, rules
 from checkout import ROOT
@@ -103,6 +103,22 @@ class Interleaved(unittest.TestCase):
         self.assertEqual(order([0, 1, 2, 0, 1, 2]), "012210"[:3] + order([0, 1, 2, 0, 1, 2])[3:])
         self.assertEqual(order([5, 5, 5, 0, 0]), "220011")
         self.assertEqual(order([1, 1, 4, 1, 0, 0]), order([1, 1, 1, 1, 0, 0]))
+
+    def test_a_work_is_passed_what_stands_for_its_agent(self):
+        def work(agent):
+            other = agents[1 - agent.number]
+            agent.learn(other)
+            with agent.step() as step:
+                self.assertTrue(isinstance(agent, Agent) and isinstance(step, Step))
+                self.assertEqual((repr(step), step.depth, agent.won), (f"<Step at 0 of agent {agent.number}, 0 pushed>", 0, 0))
+                with self.assertRaisesRegex(AttributeError, "none"):
+                    step.none()
+
+        with counting() as storage:
+            agents = [storage.agent(0), storage.agent(1)]
+            interleave(agents, [work, work], 1)
+            interleave(agents, [lambda agent: agent.__enter__().give()] * 2, 1)
+            self.assertEqual(check(storage.close_journal()), (0, 0))
 
     def test_one_that_waits_for_ever_is_told(self):
         def waits(agent):

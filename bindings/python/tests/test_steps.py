@@ -59,22 +59,6 @@ class Steps(unittest.TestCase):
             self.assert_over(step)
         self.assertEqual(self.rival.read([["count"], ["f", 1], ["f", 3]]), (2, [9, None, True]))
 
-    def test_a_pop_takes_the_last_move_and_its_extensions_away(self):
-        with self.agent.step() as step:
-            step.extend(put(1))
-            step.push(put(2))
-            step.extend(put(3))
-            self.assertEqual((step.get(COUNT), step.depth), ([3], 2))
-            step.pop()
-            self.assertEqual((step.get(COUNT), step.depth), ([1], 1))
-            step.pop()
-            self.assertEqual((step.get(COUNT), step.depth), ([0], 0))
-            with self.assertRaises(Error) as caught:
-                step.pop()
-            self.assertEqual(caught.exception.code, folugben.NONE)
-            self.assertEqual(step.fire(), 1)
-        self.assertEqual(self.rival.read(COUNT), (1, [0]))
-
     def test_a_step_that_is_not_fired_leaves_nothing(self):
         with self.assertRaises(KeyError), self.agent.step() as step:
             step.get(COUNT)
@@ -122,18 +106,6 @@ class Steps(unittest.TestCase):
         step.free()
         self.assert_over(step)
 
-    def test_what_was_not_got_does_not_matter(self):
-        with self.agent.step() as step:
-            step.push(put(1))
-            # Of the state below it sees nothing through a put, and rests on nothing there.
-            self.assertEqual(step.get(COUNT), [1])
-            step.extend([["inc", ["count"], 1]])
-            step.get(COUNT)
-            step.pop()
-            step.push(put("g", "g"))
-            self.rival.fire([["put", ["g"], 1], ["put", ["f", 1], 7], ["put", ["count"], 9]])
-            self.assertEqual(step.fire(), 2)
-
     def test_what_is_seen_is_not_rested_on(self):
         with self.agent.step() as step:
             self.assertEqual((step.see(COUNT), step.see(Location(["f", 1])), step.see([])), ([0], 1, []))
@@ -170,24 +142,6 @@ class Steps(unittest.TestCase):
         self.assertEqual(self.agent.fire(offer["fire"], offer["reads"]), 1)
         self.assertRaises(Stale, self.agent.fire, offer["fire"], offer["reads"])
 
-    def test_what_one_move_adds_rests_on_nothing(self):
-        raise_, add = [["inc", ["count"], 1]], [["bagadd", ["bag"], "e", 1]]
-        with self.agent.step() as step, self.rival.step() as other:
-            for one in (step, other):
-                one.push(raise_)
-                one.push(add)
-            self.assertEqual((step.fire(), other.fire()), (1, 2))
-        # A get through it does rest on what is there.
-        for at, move in ((["count"], raise_), (["bag"], add)):
-            with self.agent.step() as step:
-                step.push(move)
-                step.get([at])
-                self.rival.fire(move)
-                with self.assertRaises(Stale) as caught:
-                    step.fire()
-                self.assertEqual(caught.exception.at, at)
-        self.assertEqual(self.rival.read([["count"], ["bag"]]), (4, [3, {"bag": [["e", 4]]}]))
-
     def test_a_fire_that_clashes_is_begun_anew(self):
         remove = [["bagremove", ["bag"], "e", 1]]
         with self.agent.step() as step:
@@ -201,53 +155,6 @@ class Steps(unittest.TestCase):
             self.assertRaises(Moved, step.get, COUNT)
         with self.agent.step() as step:
             self.assertRaises(Clash, step.push, remove)
-
-    def test_what_two_moves_change_is_named(self):
-        # In sequence they come to nothing, but on a bag and on a number alone.
-        for at, moves in [
-            (["bag"], [[["bagadd", ["bag"], "e", 1]], [["bagremove", ["bag"], "e", 1]]]),
-            (["count"], [[["inc", ["count"], 1]], [["inc", ["count"], -1]]]),
-        ]:
-            with self.agent.step() as step:
-                for move in moves:
-                    step.push(move)
-                self.rival.fire(put("text", *at))
-                with self.assertRaises(Stale) as caught:
-                    step.fire()
-                self.assertEqual(caught.exception.at, at)
-
-    def test_a_scanned_function_is_rested_on_whole(self):
-        for further in (3, "three"):
-            with self.agent.step() as step:
-                self.assertEqual(len(step.scan("f")), 2)
-                step.push(put(1))
-                self.rival.fire(put(None, "f", further))
-                with self.assertRaises(Stale) as caught:
-                    step.fire()
-                self.assertEqual(caught.exception.at, ["f", further])
-        with self.agent.step() as step:
-            self.assertEqual(step.scan("f"), [[["f", 1], 1], [["f", 2], 2]])
-            self.rival.fire(put(3, "g", 3) + put(3, "ff"))
-            self.assertEqual(step.fire(), 4)
-
-    def test_a_clash_leaves_the_step_as_it_was(self):
-        with self.agent.step() as step:
-            step.push(put("text"))
-            for grow in (step.push, step.extend):
-                with self.assertRaises(Clash) as caught:
-                    grow([["put", ["f", 1], 9], ["inc", ["count"], 1]])
-                self.assertEqual((caught.exception.at, caught.exception.cause), (["count"], "Kind"))
-            self.assertEqual((step.get([["count"], ["f", 1]]), step.depth), (["text", 1], 1))
-            self.assertEqual(step.fire(), 1)
-        self.assertEqual(self.rival.read([["count"], ["f", 1]]), (1, ["text", 1]))
-
-    def test_a_full_storage(self):
-        with Storage([], 1) as storage, storage.agent(0) as agent:
-            agent.fire([])
-            with agent.step() as step:
-                step.push(put(1))
-                self.assertRaises(Full, step.fire)
-                self.assertEqual(step.get(COUNT), [1])
 
     def test_64_moves_are_pushed_and_any_number_extends(self):
         with self.agent.step() as step:

@@ -1,0 +1,161 @@
+"""The table of calls and answers that every package gives: bindings/conformance has it, and says what its lines are."""
+import json
+import unittest
+
+import folugben
+from checkout import ROOT
+from folugben import Auditor, BadJournal, Clash, Error, Large, Stale, Storage
+
+TABLES = ROOT / "bindings" / "conformance"
+FORMS = ["LOCATIONS", "MOVE", "STATE", "EVENT", "SCRIPT"]
+
+
+class Replayer:
+    """Does the calls of a table's lines; each method returns the answer."""
+
+    def __init__(self):
+        self.case("")
+
+    def case(self, _name):
+        self.storage, self.agents, self.steps, self.text = None, {}, {}, b""
+
+    def open(self, state, capacity):
+        self.storage, self.agents = Storage(state, capacity), {}
+
+    def next(self, capacity):
+        self.storage, self.agents = self.storage.next(capacity), {}
+
+    def agent(self, own):
+        self.agents[own] = self.storage.agent(own)
+
+    def take(self, own):
+        self.agents[own] = self.storage.take(own)
+
+    def give(self, own):
+        self.agents[own].give()
+
+    def learn(self, own, other):
+        self.agents[own].learn(self.agents[other])
+
+    def read(self, own, places):
+        return dict(zip(("number", "values"), self.agents[own].read(places)))
+
+    def peek(self, own, places):
+        return dict(zip(("number", "values"), self.agents[own].peek(places)))
+
+    def fire(self, own, instructions, reads, scans):
+        return {"fired": self.agents[own].fire(instructions, reads, scans)}
+
+    def follow(self, own):
+        return self.agents[own].follow()
+
+    def stands(self, own, reads):
+        at = self.agents[own].stands(reads)
+        return at if at is None else {"stale": at}
+
+    def state(self, own, number):
+        assert self.agents[own].state()[0] == number
+        return self.agents[own].state()[1]
+
+    def scan(self, own, name, number):
+        assert self.agents[own].scan(name)[0] == number
+        return self.agents[own].scan(name)[1]
+
+    def counted(self, own, name):
+        return getattr(self.agents[own], name)
+
+    def seen(self, own):
+        return self.agents[own].seen
+
+    def won(self, own):
+        return self.agents[own].won
+
+    def misses(self, own):
+        return self.agents[own].misses
+
+    def moves(self):
+        return self.storage.moves()
+
+    def begin(self, own):
+        self.steps[own] = self.agents[own].step()
+        return self.steps[own].number
+
+    def end(self, own):
+        self.steps[own].free()
+
+    def on_step(self, name, own, *words):
+        return getattr(self.steps[own], name)(*words)
+
+    def depth(self, own):
+        return self.steps[own].depth
+
+    def commit(self, own):
+        return {"fired": self.steps[own].fire()}
+
+    def get_all(self, own, name):
+        return self.steps[own].scan(name)
+
+    def close(self):
+        self.text = self.storage.close_journal()
+
+    def journal(self):
+        return list(folugben.check(self.text))
+
+    def check(self, text):
+        return list(folugben.check(text))
+
+    def audit(self, text):
+        auditor = Auditor()
+        auditor.feed(text)
+        return list(auditor.end())
+
+    def explain(self, form, text):
+        return folugben.explain(FORMS.index(form), text)
+
+    def answer(self, name, *words):
+        """The answer to a call, in the words of the table."""
+        try:
+            if name in ("get", "see", "push", "extend", "pop", "offer"):
+                return self.on_step(name, *words)
+            return getattr(self if hasattr(self, name) else folugben, name)(*words)
+        except Stale as stale:
+            return {"stale": stale.at}
+        except Clash as clash:
+            return {"clash": [clash.at, clash.cause]}
+        except Large as large:
+            return {"large": large.at}
+        except Error as error:
+            return refused(error)
+
+
+def refused(error):
+    """What the table has of an error: its code, and where and why, and its numbers, with that of the part in an audit."""
+    (name,) = (it for it in dir(folugben) if it.isupper() and it not in FORMS and getattr(folugben, it) == error.code)
+    part = [error.part] if isinstance(error, BadJournal) and error.part is not None else []
+    return {"error": name, "said": error.said, "numbers": [*error.numbers, *part]}
+
+
+class Conformance(unittest.TestCase):
+    def assert_answered(self, told, wanted, where):
+        if isinstance(wanted, dict) and "error" in wanted and isinstance(told, dict) and "error" in told:
+            told = {key: value for key, value in told.items() if key in wanted}
+        # True is another value than 1.
+        self.assertEqual(json.dumps(told, sort_keys=True), json.dumps(wanted, sort_keys=True), where)
+
+    def test_each_line_is_answered_so(self):
+        for name in ("moves", "calls", "steps", "journals"):
+            replayer, case, count = Replayer(), "", 0
+            for number, line in enumerate((TABLES / f"{name}.jsonl").read_text().splitlines(), 1):
+                call, *words = json.loads(line)
+                if call == "case":
+                    (case,) = words
+                    replayer.case(case)
+                    continue
+                *words, wanted = [*words, None] if call == "end" else words
+                self.assert_answered(replayer.answer(call, *words), wanted, f"{name}.jsonl:{number}, {case}: {line[:200]}")
+                count += 1
+            self.assertGreater(count, 20, name)
+
+
+if __name__ == "__main__":
+    unittest.main()
