@@ -1,10 +1,10 @@
-//! A bank for as long as it is told, whose journal goes to a file; it goes on where an earlier run of the file has ended,
-//! also where that was killed: `cargo run --example run -- FILE [SECONDS]`
-use folugben::{Error, Location, Run, RunAgent};
+//! A bank for as long as it is told, whose journal goes to a folder; it goes on where an earlier run of the folder has ended,
+//! also where that was killed: `cargo run --example run -- FOLDER [SECONDS]`
+use folugben::{Check, Error, Location, RunAgent, RunOptions, audit_run};
+use std::env;
 use std::path::PathBuf;
 use std::thread;
 use std::time::{Duration, Instant};
-use std::{env, fs};
 
 const ACCOUNTS: i64 = 10;
 const AGENTS: u32 = 4;
@@ -32,13 +32,11 @@ fn main() -> Result<(), Error> {
     let mut words = env::args().skip(1);
     let path = PathBuf::from(words.next().unwrap_or_else(|| "bank.run".to_owned()));
     let seconds = words.next().and_then(|it| it.parse().ok()).unwrap_or(1);
+    let options = RunOptions::new().moves(MOVES);
     let run = match path.exists() {
-        true => Run::resume(&path)?,
-        false => Run::open((0..ACCOUNTS).map(|i| (account(i), 100.into())), &path, MOVES)?,
+        true => options.resume(&path, Check::Last)?,
+        false => options.open((0..ACCOUNTS).map(|i| (account(i), 100.into())), &path)?,
     };
-    if run.cut_off() > 0 {
-        println!("{} bytes of a part that wasn't whole are cut off", run.cut_off());
-    }
     let end = Instant::now() + Duration::from_secs(seconds);
     thread::scope(|threads| {
         let works = run.agents(AGENTS)?.into_iter().map(|mut agent| threads.spawn(move || work(&mut agent, end)));
@@ -46,7 +44,7 @@ fn main() -> Result<(), Error> {
         works.into_iter().try_for_each(|it| it.join().expect("no thread panics"))
     })?;
     let counts = run.close()?;
-    assert_eq!(folugben::audit(fs::File::open(&path)?)?, counts);
+    assert_eq!(audit_run(&path)?, counts);
     println!("{}: {counts}, legal", path.display());
     Ok(())
 }

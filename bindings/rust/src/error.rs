@@ -6,6 +6,8 @@ use crate::sys;
 use crate::value::Location;
 use std::{fmt, io};
 
+const TOO_LONG: &str = "a line would be longer than the 16,777,216 bytes that an audit reads";
+
 /// Why the updates of a location clash.
 #[derive(Clone, Copy, Debug, PartialEq, Eq, Hash)]
 #[non_exhaustive]
@@ -55,33 +57,40 @@ impl fmt::Display for Cause {
     }
 }
 
-/// Where and why a [`Run`](crate::Run) ended before it was closed. What the parts before this one have stands in the file.
+/// Where and why a [`Run`](crate::Run) ended before it was closed. What was saved before is complete.
 #[derive(Clone, Debug, PartialEq, Eq)]
 #[non_exhaustive]
 pub struct Ended {
-    /// The number of the part that couldn't be written, as an audit of the file counts parts.
+    /// The number of the part that couldn't be saved, which would be that of its segment.
     pub part: u64,
     /// Why it couldn't.
     pub cause: EndCause,
 }
 
-/// Why a part of a [`Run`](crate::Run) couldn't be written.
+/// Why a part of a [`Run`](crate::Run) couldn't be saved.
 #[derive(Clone, Debug, PartialEq, Eq)]
 #[non_exhaustive]
 pub enum EndCause {
     /// The part's move with this number was fired by an agent that is lost.
     Missing(u32),
-    /// The file couldn't be written to or flushed to the disk.
+    /// A file couldn't be written or flushed to the disk.
     Write {
         /// What kind of failure it was.
         kind: io::ErrorKind,
         /// What the system said.
         why: String,
     },
+    /// The folder, its lock or its last segment was removed, replaced or truncated meanwhile.
+    Damaged {
+        /// The number of the segment.
+        segment: u64,
+        /// What was found.
+        why: String,
+    },
     /// No memory for the part's journal.
     Memory,
-    /// The run was let go while a step was open in the same thread.
-    Dropped,
+    /// A line of the part's journal is longer than an audit reads.
+    TooLong,
 }
 
 impl fmt::Display for Ended {
@@ -90,8 +99,9 @@ impl fmt::Display for Ended {
         match &self.cause {
             EndCause::Missing(number) => write!(f, "the agent that fired its move {number} is lost"),
             EndCause::Write { why, .. } => f.write_str(why),
+            EndCause::Damaged { segment, why } => write!(f, "segment {segment}: {why}"),
             EndCause::Memory => f.write_str("out of memory"),
-            EndCause::Dropped => f.write_str("it was let go while a step was open"),
+            EndCause::TooLong => f.write_str(TOO_LONG),
         }
     }
 }
@@ -114,8 +124,10 @@ pub enum Error {
     Busy,
     /// As many moves were fired as the storage's capacity.
     Full,
-    /// The part of a run in which the step began is full: begin again, in the next one.
-    PartFull,
+    /// The part of a run in which the step began has ended: begin again, in the newest one.
+    Past,
+    /// A move or a state would make a line of a run's journal longer than the 16,777,216 bytes that an audit reads.
+    TooLong,
     /// The agent hasn't looked on to the end of a full storage.
     NotFull,
     /// Out of memory; the call may be made again.
@@ -142,22 +154,27 @@ pub enum Error {
     Missing(u32),
     /// The agent, or the mark of what it has seen, is of another storage.
     OtherStorage,
-    /// The run can't be closed, as a step of this agent is open in the same thread.
-    InStep(u32),
     /// The run was closed.
     Closed,
-    /// The run ended at a part that couldn't be written, and what this part and later ones have is lost.
+    /// The run ended at a part that couldn't be saved, and what this part and later ones have is lost.
     Ended(Ended),
-    /// Another run, of this process or another one, has the file.
+    /// Another run, of this process or another one, is at work in the folder.
     InUse,
-    /// The file couldn't be opened, read or written to.
+    /// A segment of a run is missing, or isn't the one that was saved.
+    Damaged {
+        /// The number of the segment.
+        segment: u64,
+        /// What was found.
+        why: String,
+    },
+    /// A file or a folder couldn't be opened, read or written to.
     File {
         /// What kind of failure it was.
         kind: io::ErrorKind,
         /// What the system said.
         why: String,
     },
-    /// The file isn't one legal run.
+    /// A run isn't legal.
     Audit(AuditError),
     /// What was passed is beyond the rules of names, sets, bags, lists or moves; the text says where and why.
     Refused(String),
@@ -168,7 +185,7 @@ pub enum Error {
 impl Error {
     /// Whether what was tried is to be begun again, on what other agents have written since.
     pub fn is_retry(&self) -> bool {
-        matches!(self, Error::Stale(_) | Error::Busy | Error::PartFull)
+        matches!(self, Error::Stale(_) | Error::Busy | Error::Past)
     }
 
     /// Whether a step that was refused so at its fire is to be begun anew, as a play does.
@@ -184,7 +201,8 @@ impl fmt::Display for Error {
             Error::Clash { at, cause } => write!(f, "the updates clash at {at}: {cause}"),
             Error::Busy => f.write_str("64 offers in a row were lost to other agents"),
             Error::Full => f.write_str("as many moves were fired as the storage has room for"),
-            Error::PartFull => f.write_str("the part of the run is full"),
+            Error::Past => f.write_str("the part of the run has ended, so begin another step"),
+            Error::TooLong => f.write_str(TOO_LONG),
             Error::NotFull => f.write_str("the agent hasn't looked on to the end of a full storage"),
             Error::Memory => f.write_str("out of memory"),
             Error::Many => {
@@ -199,10 +217,10 @@ impl fmt::Display for Error {
             Error::NotGiven(number) => write!(f, "agent {number} wasn't given back, or is in use"),
             Error::Missing(number) => write!(f, "move {number} was fired by an agent that wasn't given back"),
             Error::OtherStorage => f.write_str("the agent is of another storage"),
-            Error::InStep(number) => write!(f, "agent {number} is in a step of this thread"),
             Error::Closed => f.write_str("the run was closed"),
             Error::Ended(ended) => ended.fmt(f),
-            Error::InUse => f.write_str("another run has the file"),
+            Error::InUse => f.write_str("another run is at work in the folder"),
+            Error::Damaged { segment, why } => write!(f, "segment {segment}: {why}"),
             Error::File { why, .. } => f.write_str(why),
             Error::Audit(error) => error.fmt(f),
             Error::Refused(why) => f.write_str(why),

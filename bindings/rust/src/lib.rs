@@ -34,7 +34,7 @@
 //! ```
 //!
 //! A storage has room for so many moves, and its history is in memory. [`Run`] goes on from one to the next by itself, and
-//! writes the history to a file, of which [`audit`](fn@audit) and [`Auditor`] tell whether it is legal, however long it is.
+//! saves the history in a folder, of which [`audit_run`] tells whether it is legal, however long it is.
 //!
 //! A step that is moved, an empty slot and a foreign agent's step can't be written: a [`Step`] borrows its [`Agent`].
 //!
@@ -50,7 +50,7 @@
 //! # }
 //! ```
 //!
-//! But for the thread that writes the parts of a run, no thread is begun; a storage ends with its last agent, and nothing is
+//! But for the threads that write the files of a run, no thread is begun; a storage ends with its last agent, and nothing is
 //! kept elsewhere. Don't use any of this in the child of a fork of a process with threads.
 #![warn(clippy::all)]
 
@@ -74,7 +74,7 @@ pub use error::{Cause, EndCause, Ended, Error};
 pub use instruction::{Instruction, Move};
 pub use journal::{Journal, JournalError, Legality, aggregate, compose, version};
 pub use prepared::{Prepared, PreparedMove};
-pub use run::{Run, RunAgent, RunStep};
+pub use run::{Check, Run, RunAgent, RunOptions, RunStep, audit_run, import_run};
 pub use step::Step;
 pub use storage::Storage;
 pub use value::{Element, Location, Value};

@@ -2,6 +2,7 @@
 use crate::error::{Error, answer, done, done_with};
 use crate::held::Held;
 use crate::json::{Json, ToJson};
+use crate::run::SHORT;
 use crate::sys;
 use crate::value::{Element, Location, Value};
 use std::fmt;
@@ -9,6 +10,8 @@ use std::fmt;
 /// A location that the library has read once, for agents and steps of any storage.
 pub struct Prepared {
     location: Location,
+    /// How many bytes its text has.
+    pub(crate) size: usize,
     pub(crate) slot: Held,
 }
 
@@ -23,7 +26,7 @@ impl Prepared {
             }
             code => done(code)?,
         }
-        Ok(Prepared { location: location.clone(), slot })
+        Ok(Prepared { location: location.clone(), size: text.len(), slot })
     }
 
     /// The location.
@@ -54,20 +57,22 @@ pub(crate) fn value_of(head: &sys::Value, bytes: Vec<u8>) -> Result<Value, Error
 /// What [`Step::pop_move`](crate::Step::pop_move) answers counts as one instruction, and more can be gathered behind it.
 pub struct PreparedMove {
     len: usize,
+    /// How many bytes its text has, about; of a popped move nothing is known.
+    pub(crate) size: usize,
     pub(crate) slot: Held,
 }
 
 impl PreparedMove {
     /// The move without instructions.
     pub fn new() -> PreparedMove {
-        PreparedMove { len: 0, slot: Held::empty() }
+        PreparedMove { len: 0, size: 0, slot: Held::empty() }
     }
 
     /// The move that the call puts into the slot.
     pub(crate) fn put_by(call: impl FnOnce(*mut sys::Slot) -> Result<(), Error>) -> Result<PreparedMove, Error> {
         let slot = Held::empty();
         call(slot.at())?;
-        Ok(PreparedMove { len: 1, slot })
+        Ok(PreparedMove { len: 1, size: SHORT, slot })
     }
 
     /// How many instructions it has; what was popped into it is one of them.
@@ -83,7 +88,7 @@ impl PreparedMove {
     /// Leaves it without instructions.
     pub fn clear(&mut self) -> &mut PreparedMove {
         self.slot.free();
-        self.len = 0;
+        (self.len, self.size) = (0, 0);
         self
     }
 
@@ -109,6 +114,7 @@ impl PreparedMove {
             code => done(code)?,
         }
         self.len += 1;
+        self.size += at.size + bytes.len();
         Ok(self)
     }
 

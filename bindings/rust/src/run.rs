@@ -1,68 +1,184 @@
 //! Runs without end.
 //!
-//! A run is a chain of storages, its parts, of which the last one is played on. The journals of the others stand in a file,
-//! one behind the other, or are on the way there. What holds at each moment, whatever threads do:
+//! A run is a chain of storages, its parts, of which steps begin in the newest one. What holds at each moment, whatever threads
+//! do:
 //!
-//! 1. *One part is played on.* Under the lock of `State`, `parts` are those that aren't written, in their order. Agents are
-//!    made and taken in the last one alone, under that lock, and it counts them (`out`). Where the last one is over, no
-//!    agent is made in it, so its count only falls; at 0 all its agents came back, and it is never used again.
-//! 2. *Each agent is in one place.* Its `Seat` has it while no step is open; a step has it (`Lent`) and puts it back as it
-//!    ends, however it ends; or it was given back to its storage. To take and to put is one moment each, under the lock of
-//!    the seat.
-//! 3. *No agent stays behind in a part that is over.* Whoever says that a part is over then looks at each seat, and gives
-//!    back what it finds; an agent that a step puts back later finds that its part is over, under the lock of the seat, and
-//!    is given back at once. So a part waits for open steps alone, and never for an agent that is idle.
-//! 4. *Nothing is read behind what an agent knows.* A part goes on only from an agent that has looked on to its full end, or
-//!    where all its agents came back. So whoever learns of a move of the next part finds its own part full when it begins
-//!    its next step, or was given back, and begins that step in the next part.
-//! 5. *The file has whole parts, in order.* One thread writes, the first part each time, once it is over and all its agents
-//!    came back; it takes it off only behind the flush to the disk. After a failure it writes nothing any more, and cuts off
-//!    what it wrote of that part. A journal is made by one thread: by the writer, by an agent that would wait for the writer
-//!    else, by who closes the run, or under the lock of `State` where a part ends at rest.
-//! 6. *Nobody waits for an agent that can't come.* An agent waits for the writer only where the first part has all its
-//!    agents back; to come to rest for a while at most, and the part then goes on; to close the run waits for open steps of
-//!    other threads, and refuses where one is open in its own. A failure wakes all who wait.
+//! 1. *A part has ended* once a further one is open behind it, once it is to come to rest, or once the run ends. No agent
+//!    enters a part that has ended. One that came to rest goes on where its state is too long to open a further part.
+//! 2. *The next part is opened* by an agent that has seen all moves of a full part, or by the writer once a part that has ended
+//!    is at rest and its journal made. So it opens with what all moves of the part leave, and none is fired there later.
+//! 3. *A part has ended before any agent is in the next one.* Whoever learns of a move of that finds its own part ended when it
+//!    begins a step, and begins it in the newest part.
+//! 4. *An agent comes back* as its step ends, or as it begins one, where its part has ended; where it does neither, the writer
+//!    takes it: at once between two steps, after 0.1 s in a step. So a part that has ended comes to rest, whatever becomes of
+//!    its steps.
+//! 5. *Only the writer saves*, the oldest part first, once that has ended and all its agents came back. A file has the name
+//!    of a segment once it is whole and on the disk, and is never changed. After an error nothing more is saved.
+//! 6. *Nobody waits for an agent.* Agents wait for the writer alone, holding no lock: while two parts that have ended aren't
+//!    saved, and while a part comes to rest.
 //!
-//! The locks are taken in this order: that of `State`, that of one seat, that of a storage.
+//! The locks are taken in this order: that of one seat, that of `State`, that of a storage.
 
-mod file;
+mod agent;
+mod folder;
+mod import;
+mod lines;
 mod parts;
-mod resume;
 mod seat;
-mod shared;
-
+mod segment;
+mod sha256;
 mod writer;
 
+pub use agent::{RunAgent, RunStep};
+pub use import::import_run;
+pub(crate) use lines::SHORT;
 pub(crate) use seat::Lent;
+pub use segment::audit_run;
 
-use crate::agent::back_off;
-use crate::audit::Counts;
+use crate::audit::{Auditor, Counts};
 use crate::error::Error;
-use crate::run::file::RunFile;
-use crate::run::seat::Seat;
-use crate::run::shared::Core;
-use crate::step::{Holder, Step};
+use crate::run::folder::RunFolder;
+use crate::run::parts::{Core, Limits};
 use crate::storage::Storage;
 use crate::value::{Location, Value};
 use std::fmt;
-use std::marker::PhantomData;
-use std::ops::{Deref, DerefMut};
-use std::path::Path;
+use std::path::{Path, PathBuf};
 use std::sync::Arc;
 use std::thread::{Builder, JoinHandle};
+use std::time::Duration;
 
 /// How many agents a run has at most.
 const AGENTS: u32 = 256;
+/// How many moves a part has room for, where nothing else is said.
+const MOVES: u32 = 100_000;
 
-/// A run of any length, whose journal goes to a file as it grows.
+/// What of an earlier run is audited before it goes on.
+#[derive(Clone, Copy, Debug, Default, PartialEq, Eq)]
+pub enum Check {
+    /// All segments.
+    #[default]
+    All,
+    /// The last segment alone; of the others the names are looked at.
+    Last,
+}
+
+/// When the parts of a [`Run`] end.
 ///
-/// Its agents fire moves as those of a [`Storage`] do. Where so many moves were fired as a part of the run has room for, they
-/// go on in the next part by themselves, and a thread of the run's own writes the part's journal behind the earlier ones and
-/// flushes it to the disk. So some parts are in memory, however long the run is, and the file is one run, which
-/// [`audit`](crate::audit()) checks. Its first part has the opening state alone.
+/// ```no_run
+/// use folugben::{Check, RunOptions};
+/// use std::time::Duration;
+/// # fn main() -> Result<(), folugben::Error> {
+/// let options = RunOptions::new().moves(10_000).every(Duration::from_secs(5));
+/// let run = options.resume("bank.run", Check::Last)?;
+/// # run.close()?;
+/// # Ok(())
+/// # }
+/// ```
+#[derive(Clone, Copy, Debug)]
+#[must_use = "options do nothing until a run is opened or resumed"]
+pub struct RunOptions {
+    moves: u32,
+    receipts: Option<u64>,
+    every: Option<Duration>,
+}
+
+impl RunOptions {
+    /// Parts of 100,000 moves.
+    pub fn new() -> RunOptions {
+        RunOptions { moves: MOVES, receipts: None, every: None }
+    }
+
+    /// A part ends after so many moves, 1 to 1,048,576.
+    pub fn moves(self, moves: u32) -> RunOptions {
+        RunOptions { moves, ..self }
+    }
+
+    /// A part ends where its agents have fired more often than that, in vain too: twice the number of moves if it isn't told.
+    pub fn receipts(self, receipts: u64) -> RunOptions {
+        RunOptions { receipts: Some(receipts), ..self }
+    }
+
+    /// A part ends so long after its first move.
+    pub fn every(self, every: Duration) -> RunOptions {
+        RunOptions { every: Some(every), ..self }
+    }
+
+    /// Opens a run with this state in a folder that isn't there yet, or is empty. It begins with a segment without a move, so
+    /// that it may be resumed from then on.
+    ///
+    /// # Errors
+    ///
+    /// - [`Error::File`]: of the kind `AlreadyExists` where there is a run or anything else; or the folder can't be written.
+    /// - [`Error::InUse`]: another process makes a run there.
+    /// - [`Error::TooLong`]: the state is too long for a line.
+    /// - [`Error::Range`]: the number of moves is out of its range.
+    /// - [`Error::Refused`]: as of [`Storage::open`].
+    pub fn open(
+        self,
+        state: impl IntoIterator<Item = (Location, Value)>,
+        path: impl AsRef<Path>,
+    ) -> Result<Run, Error> {
+        let storage = Storage::open(state, self.moves)?;
+        let opening = storage.close()?;
+        lines::events(opening.as_bytes())?;
+        let path = path.as_ref();
+        let folder = writer::apart(|| RunFolder::create(path, opening.as_bytes()))?;
+        self.start(storage, folder)
+    }
+
+    /// Goes on with an earlier run from the end of its last segment, also where its process was killed. Nothing is cut or
+    /// removed.
+    ///
+    /// # Errors
+    ///
+    /// - [`Error::File`]: of the kind `NotFound` where there is no run, of the kind `NotADirectory` where the path leads to a
+    ///   file, which [`import_run`] may import; or the folder can't be read or written.
+    /// - [`Error::InUse`]: another run is at work in the folder.
+    /// - [`Error::Damaged`]: a segment is missing, or isn't the one that was saved.
+    /// - [`Error::Audit`]: a segment isn't legal.
+    /// - [`Error::Range`]: the number of moves is out of its range.
+    pub fn resume(self, path: impl AsRef<Path>, check: Check) -> Result<Run, Error> {
+        let path = path.as_ref();
+        let (folder, segments) = writer::apart(|| RunFolder::reopen(path))?;
+        let checked = match check {
+            Check::All => &segments[..],
+            Check::Last => &segments[segments.len() - 1..],
+        };
+        let mut auditor = Auditor::new();
+        for segment in checked {
+            segment.audit(folder.path(), &mut auditor)?;
+        }
+        let state = auditor.state_text()?.ok_or(Error::NoJournal)?;
+        let storage = Storage::open_text(&state, self.moves)?;
+        lines::expect_state(&storage)?;
+        self.start(storage, folder)
+    }
+
+    fn start(self, storage: Storage, folder: RunFolder) -> Result<Run, Error> {
+        let receipts = self.receipts.unwrap_or(2 * u64::from(self.moves));
+        let limits = Limits { moves: self.moves, receipts, every: self.every };
+        let core = Arc::new(Core::new(storage, limits, folder.counts()));
+        let (path, shared) = (folder.path().to_owned(), Arc::clone(&core));
+        let writer =
+            Builder::new().name("folugben run".to_owned()).spawn(move || writer::save_parts(&shared, folder))?;
+        Ok(Run { core, writer: Some(writer), path })
+    }
+}
+
+impl Default for RunOptions {
+    fn default() -> RunOptions {
+        RunOptions::new()
+    }
+}
+
+/// A run without end, in a folder: each part of it is saved as one text file, a segment.
+///
+/// Its agents fire moves as those of a [`Storage`] do. Where a part ends, as it is full or as [`RunOptions`] say, they go on in
+/// the next one by themselves, and a thread of the run saves the part before its memory is released. At most three parts are in
+/// memory, however long the run is. The runs of Python and Java have the same folder, and each goes on with the others'.
 ///
 /// ```
-/// use folugben::{Error, Location, Run};
+/// use folugben::{Check, Error, Location, Run, audit_run};
 /// # fn main() -> Result<(), Error> {
 /// # let path = std::env::temp_dir().join(format!("folugben-doc-{}", std::process::id()));
 /// let count = Location::new("count");
@@ -79,72 +195,58 @@ const AGENTS: u32 = 256;
 ///     }
 ///     Ok::<(), Error>(())
 /// })?;
-/// let counts = run.close()?;
-/// assert_eq!(counts.moves, 1_000);
-/// assert_eq!(folugben::audit(std::fs::File::open(&path)?)?, counts);
+/// let saved = run.close()?;
+/// assert_eq!(saved.moves, 1_000);
+/// assert_eq!(audit_run(&path)?, saved);
 ///
-/// let run = Run::resume(&path)?; // also after a crash
+/// let run = Run::resume(&path, Check::Last)?; // also after a crash
 /// let mut agent = run.agent(0)?;
 /// assert_eq!(agent.step()?.get(&count)?.as_num(), Some(1_000));
 /// # run.close()?;
-/// # std::fs::remove_file(&path)?;
+/// # std::fs::remove_dir_all(&path)?;
 /// # Ok(())
 /// # }
 /// ```
 ///
-/// Let it go, and it is closed, but nobody is told of an error: so [`Run::close`] it. Where a part can't be written, the run
-/// ends: the next call of each agent tells [`Error::Ended`] with the part's number, and what was written before stays.
+/// A run that is let go is closed, but nobody is told of an error: so [`Run::close`] it. Where a part can't be saved, the run
+/// ends: each further call on it and its agents is [`Error::Ended`] with the part. What was saved before is complete.
 #[must_use = "a run is closed when it is let go"]
 pub struct Run {
     core: Arc<Core>,
     writer: Option<JoinHandle<()>>,
-    cut: u64,
+    path: PathBuf,
 }
 
 impl Run {
-    /// Opens a run with this state, whose parts have room for `moves` moves, which is 1 to 1,048,576 (else
-    /// [`Error::Range`]).
+    /// Opens a run with parts of so many moves, as [`RunOptions::open`] does.
     ///
-    /// The file is made with a first part, or not at all. [`Error::File`] of the kind `AlreadyExists`: it is there already;
-    /// [`Run::resume`] goes on with it. [`Error::Refused`] as of [`Storage::open`].
+    /// # Errors
     ///
-    /// A part takes some 0.5 KB of memory for each step that was fired, or refused at its fire, and about three parts are in
-    /// memory; a crash loses those that aren't in the file.
+    /// Those of [`RunOptions::open`].
     pub fn open(
         state: impl IntoIterator<Item = (Location, Value)>,
         path: impl AsRef<Path>,
         moves: u32,
     ) -> Result<Run, Error> {
-        let storage = Storage::open(state, moves)?;
-        let file = RunFile::create(path.as_ref(), storage.close()?.as_bytes())?;
-        let counts = Counts { parts: 1, ..Counts::default() };
-        Run::start(Core::new(storage, moves, counts), file, 0)
+        RunOptions::new().moves(moves).open(state, path)
     }
 
-    /// Goes on with the run in the file, with as many moves to a part as the last one there has room for.
+    /// Goes on with an earlier run, with parts of 100,000 moves, as [`RunOptions::resume`] does.
     ///
-    /// The file is audited, which takes its time, and the run goes on from the state that its whole parts leave. What stands
-    /// behind the last whole part, as a crash leaves it, is cut off, and [`Run::cut_off`] tells how much it was.
+    /// # Errors
     ///
-    /// [`Error::Audit`]: the file has no whole part, its run isn't legal, or it is damaged in front of a further part; it is
-    /// then left as it is. [`Error::InUse`]: another run has the file.
-    pub fn resume(path: impl AsRef<Path>) -> Result<Run, Error> {
-        let found = resume::find(path.as_ref())?;
-        let storage = Storage::open_text(&found.state, found.moves)?;
-        Run::start(Core::new(storage, found.moves, found.counts), found.file, found.cut)
+    /// Those of [`RunOptions::resume`].
+    pub fn resume(path: impl AsRef<Path>, check: Check) -> Result<Run, Error> {
+        RunOptions::new().resume(path, check)
     }
 
-    fn start(core: Core, file: RunFile, cut: u64) -> Result<Run, Error> {
-        let core = Arc::new(core);
-        let shared = Arc::clone(&core);
-        let writer =
-            Builder::new().name("folugben run".to_owned()).spawn(move || writer::write_parts(&shared, file))?;
-        Ok(Run { core, writer: Some(writer), cut })
-    }
-
-    /// Makes an agent with this number, below 256 (else [`Error::Range`]), for any one thread at a time.
+    /// Makes an agent with this number, below 256, for any one thread at a time.
     ///
-    /// [`Error::NumberTaken`]: an agent with this number is in use; once that is let go, another may be made.
+    /// # Errors
+    ///
+    /// - [`Error::Range`]: the number is above 255.
+    /// - [`Error::NumberTaken`]: an agent with this number is in use; once that is let go, another may be made.
+    /// - [`Error::Ended`], [`Error::Closed`].
     pub fn agent(&self, number: u32) -> Result<RunAgent, Error> {
         if number >= AGENTS {
             return Err(Error::Range);
@@ -153,26 +255,51 @@ impl Run {
         Ok(RunAgent { core: Arc::clone(&self.core), seat })
     }
 
-    /// Makes agents with the numbers from 0 up.
-    pub fn agents(&self, count: u32) -> Result<Vec<RunAgent>, Error> {
-        (0..count).map(|number| self.agent(number)).collect()
-    }
-
-    /// How much of the run is in the file and flushed to the disk.
-    pub fn counts(&self) -> Counts {
-        self.core.counts()
-    }
-
-    /// How many bytes [`Run::resume`] has cut off, behind the last whole part.
-    pub fn cut_off(&self) -> u64 {
-        self.cut
-    }
-
-    /// Ends the run: begins no further step, waits for those that are open in other threads, writes all parts, and answers
-    /// how much the file has. Agents needn't be let go before; their next call tells [`Error::Closed`].
+    /// Makes agents with the numbers from 0 up, all of them or none.
     ///
-    /// [`Error::Ended`]: a part couldn't be written. [`Error::InStep`]: this thread has begun a step that is still open, and
-    /// the run goes on.
+    /// # Errors
+    ///
+    /// Those of [`Run::agent`].
+    pub fn agents(&self, count: u32) -> Result<Vec<RunAgent>, Error> {
+        if count > AGENTS {
+            return Err(Error::Range);
+        }
+        let seats = self.core.seats(count)?;
+        Ok(seats.into_iter().map(|seat| RunAgent { core: Arc::clone(&self.core), seat }).collect())
+    }
+
+    /// Its folder.
+    pub fn path(&self) -> &Path {
+        &self.path
+    }
+
+    /// How much of the run is on the disk. Each move with a number up to `moves` is safe, also from a power failure.
+    pub fn saved(&self) -> Counts {
+        self.core.saved()
+    }
+
+    /// Saves all moves up to now: they are on the disk when this returns.
+    ///
+    /// It ends the part, which makes a segment, and waits for steps for 0.1 s; the call of one that lasts longer is
+    /// [`Error::Past`], and `play` begins again.
+    ///
+    /// # Errors
+    ///
+    /// - [`Error::Ended`]: a part couldn't be saved.
+    /// - [`Error::Closed`]: the run was closed.
+    /// - [`Error::TooLong`]: the state is too long for a line, so the part goes on until it is full.
+    pub fn flush(&self) -> Result<Counts, Error> {
+        self.core.flush()
+    }
+
+    /// Ends the run: gives all agents back, saves what was fired, and answers how much is on the disk.
+    ///
+    /// It waits for no step: one that goes on fires nothing once this has returned, and its next call is [`Error::Closed`], as
+    /// those of all agents are.
+    ///
+    /// # Errors
+    ///
+    /// [`Error::Ended`]: a part couldn't be saved.
     pub fn close(&self) -> Result<Counts, Error> {
         self.core.close()
     }
@@ -180,9 +307,7 @@ impl Run {
 
 impl Drop for Run {
     fn drop(&mut self) {
-        if let Err(Error::InStep(_)) = self.core.close() {
-            self.core.give_up();
-        }
+        let _ = self.core.close();
         if let Some(writer) = self.writer.take() {
             let _ = writer.join();
         }
@@ -191,156 +316,6 @@ impl Drop for Run {
 
 impl fmt::Debug for Run {
     fn fmt(&self, f: &mut fmt::Formatter<'_>) -> fmt::Result {
-        f.debug_struct("Run").field("counts", &self.counts()).finish_non_exhaustive()
-    }
-}
-
-/// Who reads the state of a [`Run`] and fires moves on it, in any one thread at a time. It goes on from part to part by
-/// itself, and is given back when it is let go.
-pub struct RunAgent {
-    core: Arc<Core>,
-    seat: Arc<Seat>,
-}
-
-impl RunAgent {
-    /// Its number among the agents of the run.
-    pub fn number(&self) -> u32 {
-        self.seat.number()
-    }
-
-    /// Looks on, and begins a step on the state that it then sees, in the next part where this one is full.
-    ///
-    /// It may wait for that part to be opened, for the writer where it is two parts behind, and for other agents to end their
-    /// steps, for some milliseconds, where stale tries have filled the memory. [`Error::Ended`]: a part couldn't be written.
-    /// [`Error::Closed`]: the run was closed. [`Error::Memory`]: the call may be made again.
-    pub fn step(&mut self) -> Result<RunStep<'_>, Error> {
-        loop {
-            let mut lent = self.lend()?;
-            let number = lent.begin()?;
-            if number == self.core.moves() {
-                self.core.go_on(&lent)?;
-            } else if lent.stays() {
-                let step = Step { agent: Holder::Lent(lent), number };
-                return Ok(RunStep { step, stays: PhantomData });
-            }
-        }
-    }
-
-    /// The agent, for a step; it is in the current part, or in one that was over since.
-    fn lend(&self) -> Result<Lent<'_>, Error> {
-        let player = match self.seat.take(&self.core) {
-            Some(player) => player,
-            None => self.core.enter(&self.seat)?,
-        };
-        Ok(Lent::new(&self.core, &self.seat, player))
-    }
-
-    /// Plays the rule until it fires, as [`Agent::play`](crate::Agent::play) does, and answers the number of the fired move
-    /// among all moves of the run, from 1 up, with what the rule told.
-    pub fn play<T, E: From<Error>>(
-        &mut self,
-        mut rule: impl FnMut(&mut Step<'_>) -> Result<T, E>,
-    ) -> Result<(u64, T), E> {
-        let mut tries = 0;
-        loop {
-            let mut step = self.step()?;
-            let told = rule(&mut step)?;
-            match step.fire() {
-                Ok(number) => return Ok((number, told)),
-                Err(error) if error.begins_anew() => back_off(tries),
-                Err(error) => return Err(error.into()),
-            }
-            tries += 1;
-        }
-    }
-
-    /// Lets the agent go without giving it back. If it is in a part in which it fired a move, the run ends there, with
-    /// [`EndCause::Missing`](crate::EndCause::Missing); where the part is over, it was given back already.
-    pub fn abandon(self) {
-        self.seat.abandon(&self.core);
-    }
-}
-
-impl Drop for RunAgent {
-    fn drop(&mut self) {
-        self.seat.clear(&self.core);
-        self.core.release(self.seat.number());
-    }
-}
-
-impl fmt::Debug for RunAgent {
-    fn fmt(&self, f: &mut fmt::Formatter<'_>) -> fmt::Result {
-        f.debug_struct("RunAgent").field("number", &self.number()).finish_non_exhaustive()
-    }
-}
-
-/// A [`Step`] of a run's agent: its calls are those of a step, and rules take both.
-///
-/// It stays in the thread that began it, so that [`Run::close`] tells a step of its own thread, for which it can't wait:
-///
-/// ```compile_fail
-/// fn goes_to_threads<T: Send>() {}
-/// goes_to_threads::<folugben::RunStep<'static>>();
-/// ```
-///
-/// Agents go from thread to thread:
-///
-/// ```
-/// fn goes_to_threads<T: Send>() {}
-/// goes_to_threads::<folugben::RunAgent>();
-/// goes_to_threads::<folugben::Step<'static>>();
-/// ```
-#[must_use = "a step does nothing until it is fired"]
-pub struct RunStep<'a> {
-    step: Step<'a>,
-    /// Of a type that isn't Send.
-    stays: PhantomData<*const ()>,
-}
-
-impl RunStep<'_> {
-    /// The number of the part in which it began, as an audit of the file counts parts.
-    pub fn part(&self) -> u64 {
-        match &self.step.agent {
-            Holder::Lent(lent) => lent.part().number,
-            Holder::Own(_) => 0,
-        }
-    }
-
-    /// Fires as [`Step::fire`] does, and answers the move's number among all moves of the run, from 1 up.
-    ///
-    /// After [`Error::PartFull`] too the step is to be begun anew. [`Error::Ended`]: a part couldn't be written, and nothing
-    /// was fired.
-    #[must_use = "a stale step has fired nothing"]
-    pub fn fire(self) -> Result<u64, Error> {
-        let RunStep { step, .. } = self;
-        let before = match &step.agent {
-            Holder::Lent(lent) => lent.before_fire()?,
-            Holder::Own(_) => 0,
-        };
-        match step.fire() {
-            Ok(number) => Ok(before + u64::from(number)),
-            Err(Error::Full) => Err(Error::PartFull),
-            Err(error) => Err(error),
-        }
-    }
-}
-
-impl<'a> Deref for RunStep<'a> {
-    type Target = Step<'a>;
-
-    fn deref(&self) -> &Step<'a> {
-        &self.step
-    }
-}
-
-impl<'a> DerefMut for RunStep<'a> {
-    fn deref_mut(&mut self) -> &mut Step<'a> {
-        &mut self.step
-    }
-}
-
-impl fmt::Debug for RunStep<'_> {
-    fn fmt(&self, f: &mut fmt::Formatter<'_>) -> fmt::Result {
-        self.step.fmt(f)
+        f.debug_struct("Run").field("path", &self.path).field("saved", &self.saved()).finish_non_exhaustive()
     }
 }

@@ -9,7 +9,6 @@ use crate::run::Lent;
 use crate::sys;
 use crate::value::{Element, Location, Value};
 use std::fmt;
-use std::ops::Deref;
 use std::slice;
 
 /// The agent that a step works with: one that it borrows, or one that a run has lent it.
@@ -18,13 +17,26 @@ pub(crate) enum Holder<'a> {
     Lent(Lent<'a>),
 }
 
-impl Deref for Holder<'_> {
-    type Target = Agent;
-
-    fn deref(&self) -> &Agent {
+impl Holder<'_> {
+    fn number(&self) -> u32 {
         match self {
-            Holder::Own(agent) => agent,
-            Holder::Lent(lent) => lent.agent(),
+            Holder::Own(agent) => agent.number(),
+            Holder::Lent(lent) => lent.number(),
+        }
+    }
+
+    /// Calls the agent, which a run may have taken back.
+    fn with<T>(&self, call: impl FnOnce(&Agent) -> Result<T, Error>) -> Result<T, Error> {
+        match self {
+            Holder::Own(agent) => call(agent),
+            Holder::Lent(lent) => lent.with(call),
+        }
+    }
+
+    /// Counts bytes of what the step has pushed and got, which a line of a run's journal may have.
+    fn count(&self, size: usize) {
+        if let Holder::Lent(lent) = self {
+            lent.count(size);
         }
     }
 }
@@ -56,34 +68,41 @@ impl Step<'_> {
 
     /// As [`Step::get`], of each of the locations.
     pub fn get_each(&self, places: &[Location]) -> Result<Vec<Value>, Error> {
-        let text = places.json();
-        let (code, told) = told(|out, room, written| unsafe {
-            let step = self.agent.step.at();
-            sys::asm_get(self.agent.slot.at(), step, text.as_ptr(), text.len(), out, room, written)
-        });
-        done_with(code, sys::FORM_LOCATIONS, &text)?;
-        Ok(answer(&told, Reading::of)?.values)
+        self.look(sys::asm_get, places)
     }
 
     /// What [`Step::get_each`] tells, but the step doesn't rest on it: it is fired though another agent has written there
     /// since. So it is for what is told or shown, and for what the step doesn't go by. Any number of locations is seen.
     pub fn see(&self, places: &[Location]) -> Result<Vec<Value>, Error> {
+        self.look(sys::asm_see, places)
+    }
+
+    fn look(&self, call: ByText, places: &[Location]) -> Result<Vec<Value>, Error> {
         let text = places.json();
-        let (code, told) = told(|out, room, written| unsafe {
-            let step = self.agent.step.at();
-            sys::asm_see(self.agent.slot.at(), step, text.as_ptr(), text.len(), out, room, written)
-        });
+        let (code, told) = self.told(|slot, step, out, room, written| unsafe {
+            call(slot, step, text.as_ptr(), text.len(), out, room, written)
+        })?;
+        self.agent.count(text.len());
         done_with(code, sys::FORM_LOCATIONS, &text)?;
         Ok(answer(&told, Reading::of)?.values)
+    }
+
+    /// Makes a call with the slots of the agent and the step that writes a text: its code and the text.
+    fn told(
+        &self,
+        mut call: impl FnMut(*mut sys::Slot, *mut sys::Slot, *mut u8, usize, *mut usize) -> i32,
+    ) -> Result<(i32, Vec<u8>), Error> {
+        self.agent
+            .with(|agent| Ok(told(|out, room, written| call(agent.slot.at(), agent.step.at(), out, room, written))))
     }
 
     /// As [`Step::get`], of a prepared location, and quicker.
     pub fn get_at(&self, at: &Prepared) -> Result<Value, Error> {
         let mut head = sys::Value::default();
-        let (code, bytes) = told(|out, room, written| unsafe {
-            let step = self.agent.step.at();
-            sys::asm_get_at(self.agent.slot.at(), step, at.slot.at(), &mut head, out, room, written)
-        });
+        let (code, bytes) = self.told(|slot, step, out, room, written| unsafe {
+            sys::asm_get_at(slot, step, at.slot.at(), &mut head, out, room, written)
+        })?;
+        self.agent.count(at.size);
         done(code)?;
         value_of(&head, bytes)
     }
@@ -92,10 +111,9 @@ impl Step<'_> {
     /// any location of it, be it one that had no value, makes the commit stale. [`Error::Many`]: it would rest on more than
     /// 256 locations and functions; one function counts as one, however many locations it has.
     pub fn get_all(&self, name: &str) -> Result<Vec<(Location, Value)>, Error> {
-        let (code, text) = told(|out, room, written| unsafe {
-            let step = self.agent.step.at();
-            sys::asm_get_all(self.agent.slot.at(), step, name.as_ptr(), name.len(), out, room, written)
-        });
+        let (code, text) = self.told(|slot, step, out, room, written| unsafe {
+            sys::asm_get_all(slot, step, name.as_ptr(), name.len(), out, room, written)
+        })?;
         done(code)?;
         answer(&text, Json::pairs)
     }
@@ -113,11 +131,12 @@ impl Step<'_> {
         self.grow(sys::asm_extend, instructions.instructions())
     }
 
-    fn grow(&mut self, call: GrowByText, instructions: &[Instruction]) -> Result<(), Error> {
+    fn grow(&mut self, call: ByText, instructions: &[Instruction]) -> Result<(), Error> {
         let text = instructions.json();
-        let (code, told) = told(|out, room, written| unsafe {
-            call(self.agent.slot.at(), self.agent.step.at(), text.as_ptr(), text.len(), out, room, written)
-        });
+        let (code, told) = self.told(|slot, step, out, room, written| unsafe {
+            call(slot, step, text.as_ptr(), text.len(), out, room, written)
+        })?;
+        self.agent.count(text.len());
         match code {
             sys::NOT_JSON | sys::SHAPE => {
                 let call = format!("{{\"fire\":{text},\"reads\":[]}}");
@@ -137,19 +156,15 @@ impl Step<'_> {
         self.grow_prepared(sys::asm_extend_move, sys::asm_extend, instructions)
     }
 
-    fn grow_prepared(
-        &mut self,
-        call: GrowByMove,
-        by_text: GrowByText,
-        instructions: &PreparedMove,
-    ) -> Result<(), Error> {
+    fn grow_prepared(&mut self, call: ByMove, by_text: ByText, instructions: &PreparedMove) -> Result<(), Error> {
         // An empty slot holds no move, not one of no instructions.
         if instructions.is_empty() {
             return self.grow(by_text, &[]);
         }
-        let (code, told) = told(|out, room, written| unsafe {
-            call(self.agent.slot.at(), self.agent.step.at(), instructions.slot.at(), out, room, written)
-        });
+        let (code, told) = self.told(|slot, step, out, room, written| unsafe {
+            call(slot, step, instructions.slot.at(), out, room, written)
+        })?;
+        self.agent.count(instructions.size);
         done_or_told(code, &told)
     }
 
@@ -175,10 +190,10 @@ impl Step<'_> {
 
     /// Takes the move away that was pushed last, with those that joined it. [`Error::NoMove`]: none is pushed.
     pub fn pop(&mut self) -> Result<(), Error> {
-        match unsafe { sys::asm_pop(self.agent.step.at()) } {
+        self.agent.with(|agent| match unsafe { sys::asm_pop(agent.step.at()) } {
             sys::NONE => Err(Error::NoMove),
             code => done(code),
-        }
+        })
     }
 
     /// As [`Step::pop`], and answers the one move that does what the popped ones do in turn, which
@@ -187,24 +202,23 @@ impl Step<'_> {
     /// A move that nothing joined is as it was pushed. [`Error::Many`]: the one move would have more than 4,096
     /// instructions; nothing is popped then.
     pub fn pop_move(&mut self) -> Result<PreparedMove, Error> {
-        PreparedMove::put_by(|slot| match unsafe { sys::asm_pop_move(self.agent.step.at(), slot) } {
-            sys::NONE => Err(Error::NoMove),
-            code => done(code),
+        PreparedMove::put_by(|slot| {
+            self.agent.with(|agent| match unsafe { sys::asm_pop_move(agent.step.at(), slot) } {
+                sys::NONE => Err(Error::NoMove),
+                code => done(code),
+            })
         })
     }
 
     /// What [`Step::fire`] would offer by now: the one move, and each location that it would name with its number, which
     /// [`Agent::try_fire`] takes. A fire of the step rests besides on the functions of [`Step::get_all`], which aren't told.
     pub fn offer(&self) -> Result<(Move, Vec<(Location, u32)>), Error> {
-        let (code, text) =
-            told(|out, room, written| unsafe { sys::asm_offer(self.agent.step.at(), out, room, written) });
-        done(code)?;
-        answer(&text, Json::offer)
+        answer(&self.agent.with(offer_text)?, Json::offer)
     }
 
     /// How many moves are pushed.
     pub fn depth(&self) -> u32 {
-        unsafe { sys::asm_depth(self.agent.step.at()) }
+        self.agent.with(|agent| Ok(unsafe { sys::asm_depth(agent.step.at()) })).unwrap_or(0)
     }
 
     /// Fires one move that does what the pushed ones do in turn, unless something was written since that the step rests on,
@@ -214,26 +228,41 @@ impl Step<'_> {
     /// [`Agent::play`](crate::Agent::play) does. [`Error::Full`]: the storage has no room for a further move.
     #[must_use = "a stale step has fired nothing"]
     pub fn fire(self) -> Result<u32, Error> {
-        let mut numbers = sys::Numbers::default();
-        let code = unsafe { sys::asm_commit(self.agent.slot.at(), self.agent.step.at(), &mut numbers) };
-        match code {
-            sys::STALE | sys::CLASH => Err(of_text(code, &self.agent.last_answer()?)),
-            code => {
-                done(code)?;
-                Ok(numbers.fired)
-            }
+        match &self.agent {
+            Holder::Own(agent) => commit(agent),
+            Holder::Lent(lent) => lent.fire(),
         }
     }
 }
 
-type GrowByText =
-    unsafe extern "C" fn(*mut sys::Slot, *mut sys::Slot, *const u8, usize, *mut u8, usize, *mut usize) -> i32;
-type GrowByMove =
-    unsafe extern "C" fn(*mut sys::Slot, *mut sys::Slot, *mut sys::Slot, *mut u8, usize, *mut usize) -> i32;
+/// Fires what the agent's step has pushed.
+pub(crate) fn commit(agent: &Agent) -> Result<u32, Error> {
+    let mut numbers = sys::Numbers::default();
+    let code = unsafe { sys::asm_commit(agent.slot.at(), agent.step.at(), &mut numbers) };
+    match code {
+        sys::STALE | sys::CLASH => Err(of_text(code, &agent.last_answer()?)),
+        code => {
+            done(code)?;
+            Ok(numbers.fired)
+        }
+    }
+}
+
+/// The text of what the agent's step would fire by now.
+pub(crate) fn offer_text(agent: &Agent) -> Result<Vec<u8>, Error> {
+    let (code, text) = told(|out, room, written| unsafe { sys::asm_offer(agent.step.at(), out, room, written) });
+    done(code)?;
+    Ok(text)
+}
+
+type ByText = unsafe extern "C" fn(*mut sys::Slot, *mut sys::Slot, *const u8, usize, *mut u8, usize, *mut usize) -> i32;
+type ByMove = unsafe extern "C" fn(*mut sys::Slot, *mut sys::Slot, *mut sys::Slot, *mut u8, usize, *mut usize) -> i32;
 
 impl Drop for Step<'_> {
     fn drop(&mut self) {
-        self.agent.step.free();
+        if let Holder::Own(agent) = &self.agent {
+            agent.step.free();
+        }
     }
 }
 

@@ -30,6 +30,20 @@ pub(crate) struct AuditNumbers {
     pub(crate) moves: u64,
 }
 
+/// A set of signals, as glibc on x86-64 has it.
+#[repr(C)]
+#[derive(Default)]
+pub(crate) struct SignalSet([u64; 16]);
+
+pub(crate) const SIGXFSZ: i32 = 25;
+pub(crate) const SIG_BLOCK: i32 = 0;
+
+unsafe extern "C" {
+    pub(crate) fn sigemptyset(set: *mut SignalSet) -> i32;
+    pub(crate) fn sigaddset(set: *mut SignalSet, signal: i32) -> i32;
+    pub(crate) fn pthread_sigmask(how: i32, set: *const SignalSet, before: *mut SignalSet) -> i32;
+}
+
 unsafe extern "C" {
     pub(crate) fn asm_error_text(code: i32, out: *mut u8, room: usize, written: *mut usize) -> i32;
     pub(crate) fn asm_version() -> u32;

@@ -1,20 +1,16 @@
-//! Runs that are resumed: after a close, after a crash, and what is refused.
+//! Runs that are resumed: after a close, and what is refused; and runs of version 0.2 that are imported.
 mod common;
 
 use common::{Room, add_one, count, numbers, open};
-use folugben::{AuditError, EndCause, Error, JournalError, Run, Value};
-use std::env;
+use folugben::{
+    AuditError, Check, EndCause, Error, JournalError, Run, RunOptions, Storage, Value, audit_run, import_run,
+};
 use std::fs;
 use std::io::ErrorKind;
-use std::path::Path;
-use std::process::{Child, Command, Stdio};
-use std::thread;
-use std::time::{Duration, Instant};
+use std::os::unix::fs::{MetadataExt, symlink};
+use std::process::Command;
 
-/// The name of the variable by which a test tells its child what to do, and at which path.
-const TASK: &str = "FOLUGBEN_TEST_TASK";
-
-/// The file of a run of 3 parts, of which the last has 5 moves.
+/// A run of 3 segments, of which the last has 5 moves.
 fn played(room: &Room) -> Vec<u8> {
     let run = open(room, 5);
     let mut agent = run.agent(0).unwrap();
@@ -26,209 +22,227 @@ fn played(room: &Room) -> Vec<u8> {
     room.bytes()
 }
 
-/// Where the last part of the run begins.
-fn last_part(run: &[u8]) -> usize {
-    let header = b"\n{\"agents\":";
-    run.windows(header.len()).rposition(|it| it == header).unwrap() + 1
-}
-
 #[test]
 fn a_resumed_run_goes_on_where_it_was_closed() {
-    let room = Room::new("resumed");
-    let before = played(&room);
-    let run = Run::resume(room.path()).unwrap();
-    assert_eq!((numbers(run.counts()), run.cut_off()), ((3, 10, 10), 0));
-    let mut agent = run.agent(0).unwrap();
-    let step = agent.step().unwrap();
-    assert_eq!((step.part(), step.get(&count()).unwrap()), (3, Value::from(10)));
-    drop(step);
-    for number in 11..=16 {
-        assert_eq!(add_one(&mut agent), Ok(number));
-    }
-    assert_eq!(agent.step().unwrap().part(), 4);
-    assert_eq!(run.close().map(numbers), Ok((5, 16, 16)));
-    assert!(room.bytes().starts_with(&before));
-    assert_eq!(room.audited().1, [(count(), 16.into())]);
-    // Where nothing is played, nothing is written.
-    let before = room.bytes();
-    Run::resume(room.path()).unwrap().close().unwrap();
-    assert_eq!(room.bytes(), before);
-}
-
-#[test]
-fn what_a_crash_leaves_of_the_last_part_is_cut_off() {
-    let room = Room::new("cut");
-    let whole = played(&room);
-    let end = last_part(&whole);
-    let zeros = [&whole[..end], &[0; 5000]].concat();
-    let garbage = [&whole[..end + 100], b"\n\n\0\n{}\n"].concat();
-    let shapes = [&whole[..end], b"{}\n"].concat();
-    let cuts = (end + 1..whole.len())
-        .step_by(13)
-        .chain([whole.len() - 1])
-        .map(|it| whole[..it].to_vec())
-        .chain([zeros, garbage, shapes]);
-    for cut in cuts {
-        fs::write(room.path(), &cut).unwrap();
-        let run = Run::resume(room.path()).unwrap();
-        assert_eq!(run.cut_off(), (cut.len() - end) as u64);
-        assert_eq!((numbers(run.counts()), room.bytes().len()), ((2, 5, 5), end));
+    for check in [Check::All, Check::Last] {
+        let room = Room::new(&format!("resumed-{check:?}"));
+        let before = played(&room);
+        let run = RunOptions::new().moves(5).resume(room.path(), check).unwrap();
+        assert_eq!((numbers(run.saved()), run.path()), ((3, 10, 10), room.path().canonicalize().unwrap().as_path()));
         let mut agent = run.agent(0).unwrap();
-        assert_eq!(add_one(&mut agent), Ok(6));
-        run.close().unwrap();
-        assert_eq!(numbers(room.audited().0), (3, 6, 6));
-        assert_eq!(room.audited().1, [(count(), 6.into())]);
-    }
-}
-
-#[test]
-fn what_no_crash_leaves_is_refused_and_stays() {
-    let room = Room::new("damaged");
-    let whole = String::from_utf8(played(&room)).unwrap();
-    let end = last_part(whole.as_bytes());
-    let journal = |part, fault| AuditError::Journal { part, fault };
-    let damages = [
-        (whole.replacen("\"fired\":2", "\"fired\":3", 1), AuditError::Illegal { part: 1, call: 1 }),
-        (whole.replacen("\"agent\":", "\"agend\":", 1), journal(1, JournalError::Shape(2))),
-        (whole.replacen("\"agent\":", "\"agent\"", 1), journal(1, JournalError::NotJson(2))),
-        (whole.clone() + &whole, AuditError::Apart { part: 3 }),
-        (whole[end..].replace("\"fired\":2", "\"fired\":3"), AuditError::Illegal { part: 0, call: 1 }),
-        (String::new(), journal(0, JournalError::Cut)),
-        (whole[..9].to_owned(), journal(0, JournalError::NotJson(1))),
-    ];
-    for (damaged, fault) in damages {
-        fs::write(room.path(), &damaged).unwrap();
-        assert_eq!(Run::resume(room.path()).err(), Some(Error::Audit(fault)), "{damaged}");
-        assert_eq!(room.bytes(), damaged.as_bytes());
-    }
-    let missing = Run::resume(Path::new("/no/such/folder/run")).unwrap_err();
-    assert!(matches!(missing, Error::File { kind: ErrorKind::NotFound, .. }), "{missing}");
-    assert!(missing.to_string().starts_with("/no/such/folder/run: "), "{missing}");
-}
-
-#[test]
-fn journals_of_storages_are_resumed() {
-    let room = Room::new("journal");
-    let storage = folugben::Storage::open([(count(), 3.into())], 77).unwrap();
-    let mut agent = storage.agent(9).unwrap();
-    agent.play(|step| step.inc(count(), 1)).unwrap();
-    drop(agent);
-    let journal = storage.close().unwrap();
-    // White space, as another program may write it.
-    let spaced = String::from_utf8(journal.as_bytes().to_vec()).unwrap().replace(",\"capacity\"", " , \"capacity\"");
-    for text in [journal.as_bytes(), spaced.as_bytes()] {
-        fs::write(room.path(), text).unwrap();
-        let run = Run::resume(room.path()).unwrap();
-        let mut agent = run.agent(0).unwrap();
-        for number in 2..=79 {
+        let step = agent.step().unwrap();
+        assert_eq!((step.part(), step.get(&count()).unwrap()), (3, Value::from(10)));
+        drop(step);
+        for number in 11..=16 {
             assert_eq!(add_one(&mut agent), Ok(number));
         }
-        let part = agent.step().unwrap().part();
-        assert_eq!(part, if text == journal.as_bytes() { 2 } else { 1 });
-        run.close().unwrap();
-        assert_eq!(room.audited().1, [(count(), 82.into())]);
+        assert_eq!(agent.step().unwrap().part(), 4);
+        assert_eq!(run.close().map(numbers), Ok((5, 16, 16)));
+        assert!(room.bytes().starts_with(&before));
+        assert_eq!(room.audited().1, [(count(), 16.into())]);
+        // Where nothing is played, nothing is saved.
+        let before = room.segments();
+        Run::resume(room.path(), check).unwrap().close().unwrap();
+        assert_eq!(room.segments(), before);
     }
 }
 
 #[test]
-fn a_path_has_one_run_at_a_time() {
+fn files_are_their_owner_s_and_what_was_left_is_removed() {
+    let room = Room::new("owner");
+    let played = played(&room);
+    let modes = |name: &str| fs::metadata(room.path().join(name)).unwrap().mode() & 0o777;
+    assert_eq!((modes("."), modes("lock")), (0o700, 0o600));
+    assert!(room.segments().iter().all(|it| fs::metadata(it).unwrap().mode() & 0o777 == 0o600));
+    fs::write(room.path().join("new"), &played[..100]).unwrap();
+    Run::resume(room.path(), Check::Last).unwrap().close().unwrap();
+    let mut names: Vec<_> = fs::read_dir(room.path()).unwrap().map(|it| it.unwrap().file_name()).collect();
+    names.retain(|it| it != "lock");
+    assert_eq!(names.len(), 3);
+    assert_eq!(room.bytes(), played);
+}
+
+#[test]
+fn a_folder_has_one_run_at_a_time() {
     let room = Room::new("lock");
     let run = open(&room, 5);
-    assert_eq!(Run::resume(room.path()).err(), Some(Error::InUse));
+    let link = room.path().with_extension("link");
+    symlink(room.path(), &link).unwrap();
+    assert_eq!(Run::resume(room.path(), Check::All).err(), Some(Error::InUse));
+    assert_eq!(Run::resume(&link, Check::Last).err(), Some(Error::InUse));
     let opened = Run::open([], room.path(), 5).unwrap_err();
     assert!(matches!(opened, Error::File { kind: ErrorKind::AlreadyExists, .. }), "{opened}");
     assert!(opened.to_string().contains("Run::resume"), "{opened}");
-    assert!(start_child("is_refused", room.path()).wait().unwrap().success());
     add_one(&mut run.agent(0).unwrap()).unwrap();
     run.close().unwrap();
-    assert_eq!(numbers(Run::resume(room.path()).unwrap().counts()), (2, 1, 1));
+    assert_eq!(numbers(Run::resume(&link, Check::All).unwrap().saved()), (2, 1, 1));
+    fs::remove_file(link).unwrap();
+}
+
+#[test]
+fn what_is_no_run_is_refused_and_stays() {
+    let room = Room::new("none");
+    let kind = |error: Option<Error>| match error {
+        Some(Error::File { kind, why }) => (kind, why),
+        other => panic!("{other:?}"),
+    };
+    let missing = kind(Run::resume("/no/such/folder/run", Check::All).err());
+    assert_eq!(missing.0, ErrorKind::NotFound);
+    assert!(missing.1.starts_with("/no/such/folder/run: "), "{}", missing.1);
+    assert_eq!(kind(Run::resume(room.path(), Check::All).err()).0, ErrorKind::NotFound);
+    fs::write(room.path(), "a file").unwrap();
+    let file = kind(Run::resume(room.path(), Check::All).err());
+    assert!(file.0 == ErrorKind::NotADirectory && file.1.contains("import_run"), "{file:?}");
+    assert_eq!(kind(Run::open([], room.path(), 5).err()).0, ErrorKind::AlreadyExists);
+    fs::remove_file(room.path()).unwrap();
+
+    fs::create_dir(room.path()).unwrap();
+    assert_eq!(kind(Run::resume(room.path(), Check::All).err()).0, ErrorKind::NotFound);
+    assert_eq!(fs::read_dir(room.path()).unwrap().count(), 0);
+    fs::write(room.path().join("notes"), "").unwrap();
+    assert_eq!(kind(Run::open([], room.path(), 5).err()).0, ErrorKind::AlreadyExists);
+    fs::remove_file(room.path().join("notes")).unwrap();
+    // What a run leaves that was killed as it was made is none.
+    fs::write(room.path().join("new"), "[").unwrap();
+    fs::write(room.path().join("lock"), "").unwrap();
+    assert_eq!(kind(Run::resume(room.path(), Check::All).err()).0, ErrorKind::NotFound);
+    open(&room, 5).close().unwrap();
+
     assert_eq!(Run::open([], "/no/such/folder/run", 0).err(), Some(Error::Range));
-    assert!(matches!(Run::open([], "/no/such/folder/run", 1), Err(Error::File { kind: ErrorKind::NotFound, .. })));
+    assert_eq!(kind(Run::open([], "/no/such/folder/run", 1).err()).0, ErrorKind::NotFound);
     assert!(matches!(Run::open([(" ".into(), 1.into())], "/no/such/folder/run", 1), Err(Error::Refused(_))));
+    assert_eq!(RunOptions::new().moves(0).resume(room.path(), Check::All).err(), Some(Error::Range));
+}
+
+/// Has a text of these numbers, with a right digest, in the place of the last segment, as only a program can do it.
+fn resume_with(room: &Room, text: &str, calls: u64, moves: u64) -> [Option<Error>; 2] {
+    let last = room.segments().pop().unwrap();
+    let name = last.file_name().unwrap().to_str().unwrap();
+    let before = room.segments()[1].file_name().unwrap().to_str().unwrap()[13..77].to_owned();
+    let line = format!("{before} 2 5 {moves} {calls} {}\n", text.len());
+    fs::write(room.path().join("both"), line + text).unwrap();
+    let told = Command::new("sha256sum").arg(room.path().join("both")).output().unwrap();
+    let digest = String::from_utf8(told.stdout).unwrap()[..64].to_owned();
+    fs::remove_file(&last).unwrap();
+    fs::write(last.with_file_name(format!("{}{moves}-{calls}-{digest}.journal", &name[..9])), text).unwrap();
+    [Check::All, Check::Last].map(|check| Run::resume(room.path(), check).err())
 }
 
 #[test]
-fn a_run_that_is_killed_is_resumed() {
-    let room = Room::new("killed");
-    let mut moves = 0;
-    drop(open(&room, 50));
-    for round in 0..10 {
-        let before = room.bytes().len();
-        let mut child = start_child("plays", room.path());
-        let begun = Instant::now();
-        while room.bytes().len() == before {
-            assert!(begun.elapsed() < Duration::from_secs(60), "the child writes nothing");
-            thread::sleep(Duration::from_millis(1));
-        }
-        thread::sleep(Duration::from_micros(3_100 * round));
-        child.kill().unwrap();
-        child.wait().unwrap();
-        let run = Run::resume(room.path()).unwrap();
-        assert!(run.counts().moves >= moves);
-        moves = run.counts().moves;
-        run.close().unwrap();
-        let (counts, state) = room.audited();
-        assert_eq!(state, [(count(), Value::from(i64::try_from(moves).unwrap()))]);
-        assert_eq!(counts.moves, moves);
+fn a_segment_that_is_illegal_is_told_with_its_number() {
+    let room = Room::new("illegal");
+    played(&room);
+    let text = fs::read_to_string(room.segments().pop().unwrap()).unwrap();
+    let illegal = Some(Error::Audit(AuditError::Illegal { part: 2, call: 1 }));
+    assert_eq!(resume_with(&room, &text.replace("\"fired\":2", "\"fired\":3"), 5, 5), [illegal.clone(), illegal]);
+    let shape = Some(Error::Audit(AuditError::Journal { part: 2, fault: JournalError::Shape(2) }));
+    assert_eq!(resume_with(&room, &text.replacen("\"agent\":", "\"agend\":", 1), 5, 5), [shape.clone(), shape]);
+    let cut = &text[..text[..text.len() - 1].rfind('\n').unwrap() + 1];
+    let told = Some(Error::Audit(AuditError::Journal { part: 2, fault: JournalError::Cut }));
+    assert_eq!(resume_with(&room, cut, 4, 4), [told.clone(), told]);
+    let why = "its text has other numbers of moves or events than its name".to_owned();
+    let numbers = Some(Error::Damaged { segment: 2, why });
+    assert_eq!(resume_with(&room, &text, 5, 4), [numbers.clone(), numbers]);
+    assert_eq!(resume_with(&room, &text, 5, 5), [None, None]);
+}
+
+#[test]
+fn too_long_lines_are_refused_and_nothing_is_lost() {
+    let room = Room::new("long");
+    let (half, long) = ("x".repeat(9_000_000), "x".repeat(16_777_216));
+    assert_eq!(Run::open([(count(), long.as_str().into())], room.path(), 5).err(), Some(Error::TooLong));
+    let run = open(&room, 3);
+    let mut agent = run.agent(0).unwrap();
+    assert_eq!(agent.play(|step| step.put("a", long.as_str())), Err(Error::TooLong));
+    assert_eq!(agent.play(|step| step.put("a", half.as_str())), Ok((1, ())));
+    assert_eq!(run.flush().unwrap().moves, 1);
+    assert_eq!(agent.play(|step| step.put("b", half.as_str())), Ok((2, ())));
+    // Its part goes on until it is full, as no further one can open.
+    assert_eq!(run.flush(), Err(Error::TooLong));
+    assert_eq!(add_one(&mut agent), Ok(3));
+    assert_eq!(run.flush(), Err(Error::TooLong));
+    assert_eq!(add_one(&mut agent), Ok(4));
+    assert_eq!((agent.step().err(), add_one(&mut agent)), (Some(Error::TooLong), Err(Error::TooLong)));
+    assert_eq!(run.close().map(|it| it.moves), Ok(4));
+    assert_eq!(audit_run(room.path()).unwrap().moves, 4);
+    assert_eq!(Run::resume(room.path(), Check::Last).err(), Some(Error::TooLong));
+}
+
+/// A run of version 0.2: one file.
+fn old_file(room: &Room) -> (Vec<u8>, usize) {
+    let (first, second) = (Room::new("old-1"), Storage::open([(count(), 3.into())], 2).unwrap());
+    let mut agent = second.agent(7).unwrap();
+    for _ in 0..2 {
+        agent.play(|step| step.inc(count(), 1)).unwrap();
     }
-    assert!(moves > 0);
+    agent.follow().unwrap();
+    let third = agent.go_on(9).unwrap();
+    drop(agent);
+    third.agent(1).unwrap().play(|step| step.inc(count(), 1)).unwrap();
+    let parts = [second.close().unwrap(), third.close().unwrap()].map(folugben::Journal::into_bytes);
+    drop(first);
+    fs::write(room.path(), parts.concat()).unwrap();
+    (parts.concat(), parts[0].len())
 }
 
 #[test]
-fn a_write_that_fails_ends_the_run_and_what_was_whole_stays() {
+fn a_run_of_one_file_is_imported() {
+    let (file, room) = (Room::new("old"), Room::new("imported"));
+    let (whole, end) = old_file(&file);
+    // What an import leaves that was killed is no hindrance.
+    let left = room.path().with_file_name(format!(".{}.import", room.path().file_name().unwrap().to_str().unwrap()));
+    Run::open([], &left, 5).unwrap().close().unwrap();
+    let (counts, cut) = import_run(file.path(), room.path()).unwrap();
+    assert_eq!((numbers(counts), cut, left.exists()), ((3, 3, 3), 0, false));
+    assert_eq!(room.audited().1, [(count(), 6.into())]);
+    assert!(room.bytes().ends_with(&whole));
+    assert!(matches!(import_run(file.path(), room.path()), Err(Error::File { kind: ErrorKind::AlreadyExists, .. })));
+    let run = Run::resume(room.path(), Check::All).unwrap();
+    assert_eq!(add_one(&mut run.agent(0).unwrap()), Ok(4));
+    run.close().unwrap();
+
+    for cut in [end + 1, end + 100, whole.len() - 1] {
+        fs::remove_dir_all(room.path()).unwrap();
+        fs::write(file.path(), &whole[..cut]).unwrap();
+        let (counts, left) = import_run(file.path(), room.path()).unwrap();
+        assert_eq!((numbers(counts), left), ((2, 2, 2), (cut - end) as u64));
+        assert_eq!(fs::read(file.path()).unwrap(), &whole[..cut]);
+    }
+    fs::remove_dir_all(room.path()).unwrap();
+    let text = String::from_utf8(whole.clone()).unwrap();
+    for (damaged, part) in [
+        (text.replacen("\"fired\":2", "\"fired\":3", 1), 0),
+        (text.replacen("\"agent\":", "\"agend\":", 1), 0),
+        (text.clone() + &text, 2),
+        (text[..30].to_owned(), 0),
+    ] {
+        fs::write(file.path(), damaged).unwrap();
+        let told = import_run(file.path(), room.path()).unwrap_err();
+        assert!(
+            matches!(told, Error::Audit(AuditError::Illegal { part: at, .. } | AuditError::Journal { part: at, .. }
+            | AuditError::Apart { part: at }) if at == part),
+            "{told}"
+        );
+        assert!(!room.path().exists() && !left.exists());
+    }
+}
+
+#[test]
+fn a_folder_that_cannot_be_written_ends_the_run_and_what_was_saved_stays() {
     let room = Room::new("full");
-    let task = format!("fills:{}", room.path().display());
-    // No file of the child may have more than 64 KiB, and a write beyond that is refused.
-    let limits = "ulimit -f 64; trap '' XFSZ; exec \"$0\" --exact child --nocapture";
-    let told = Command::new("bash").args(["-c", limits]).arg(env::current_exe().unwrap()).env(TASK, task).output();
-    let told = told.unwrap();
-    assert!(told.status.success(), "{}", String::from_utf8_lossy(&told.stdout));
-    let (counts, state) = room.audited();
-    assert!(counts.moves > 100);
-    assert_eq!(state, [(count(), Value::from(i64::try_from(counts.moves).unwrap()))]);
-    assert_eq!(Run::resume(room.path()).unwrap().cut_off(), 0);
-}
-
-fn start_child(task: &str, path: &Path) -> Child {
-    let mut command = Command::new(env::current_exe().unwrap());
-    command.args(["--exact", "child", "--nocapture"]).env(TASK, format!("{task}:{}", path.display()));
-    command.stdout(Stdio::null()).spawn().unwrap()
-}
-
-/// What the child of another test does.
-#[test]
-fn child() {
-    let Ok(task) = env::var(TASK) else { return };
-    let (task, path) = task.split_once(':').unwrap();
-    match task {
-        "is_refused" => assert_eq!(Run::resume(path).err(), Some(Error::InUse)),
-        "plays" => {
-            let run = Run::resume(path).unwrap();
-            thread::scope(|threads| {
-                for mut agent in run.agents(3).unwrap() {
-                    threads.spawn(move || while add_one(&mut agent).is_ok() {});
-                }
-            });
-        }
-        "fills" => {
-            let run = Run::open([(count(), 0.into())], path, 100).unwrap();
-            let ended = thread::scope(|threads| {
-                let works = run.agents(3).unwrap().into_iter().map(|mut agent| {
-                    threads.spawn(move || {
-                        loop {
-                            if let Err(error) = add_one(&mut agent) {
-                                return error;
-                            }
-                        }
-                    })
-                });
-                works.collect::<Vec<_>>().into_iter().map(|it| it.join().unwrap()).collect::<Vec<_>>()
-            });
-            let Err(Error::Ended(why)) = run.close() else { panic!("not ended") };
-            assert_eq!(ended, vec![Error::Ended(why.clone()); 3]);
-            assert!(matches!(why.cause, EndCause::Write { kind: ErrorKind::FileTooLarge, .. }), "{why}");
-            assert_eq!(why.part, run.counts().parts);
-        }
-        other => panic!("{other}"),
+    let run = open(&room, 3);
+    let mut agent = run.agent(0).unwrap();
+    for _ in 0..3 {
+        add_one(&mut agent).unwrap();
     }
+    assert_eq!(run.flush().unwrap().moves, 3);
+    // A folder is in the place where the next file is made.
+    fs::create_dir(room.path().join("new")).unwrap();
+    add_one(&mut agent).unwrap();
+    let Err(Error::Ended(why)) = run.flush() else { panic!("not ended") };
+    assert!(matches!(why.cause, EndCause::Write { .. }) && why.part == 2, "{why}");
+    assert_eq!((agent.step().err(), run.close().err()), (Some(Error::Ended(why.clone())), Some(Error::Ended(why))));
+    assert_eq!(numbers(run.saved()), (2, 3, 3));
+    fs::remove_dir(room.path().join("new")).unwrap();
+    assert_eq!(numbers(room.audited().0), (2, 3, 3));
 }

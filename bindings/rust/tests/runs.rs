@@ -1,8 +1,8 @@
 //! Runs: from part to part, at rest, closed, and ended.
 mod common;
 
-use common::{Room, add_one, count, numbers, open};
-use folugben::{EndCause, Ended, Error, Location, Move, Run, RunAgent, Value};
+use common::{Draw, Room, add_one, count, numbers, open};
+use folugben::{Check, EndCause, Ended, Error, Location, Move, Run, RunAgent, RunOptions, Value};
 use std::thread;
 use std::time::{Duration, Instant};
 
@@ -10,11 +10,11 @@ fn account(number: i64) -> Location {
     Location::new("account").arg(number)
 }
 
-/// Waits until the run has so many parts in its file.
+/// Waits until the run has so many parts on the disk.
 fn has_parts(run: &Run, parts: u64) {
     let begun = Instant::now();
-    while run.counts().parts < parts {
-        assert!(begun.elapsed() < Duration::from_secs(60), "{} parts", run.counts().parts);
+    while run.saved().parts < parts {
+        assert!(begun.elapsed() < Duration::from_secs(60), "{} parts", run.saved().parts);
         thread::sleep(Duration::from_millis(1));
     }
 }
@@ -42,7 +42,7 @@ fn threads_go_on_from_part_to_part_as_one_run() {
             works.into_iter().flat_map(|it| it.join().unwrap()).collect()
         });
         let told = run.close().unwrap();
-        assert_eq!(told, run.counts());
+        assert_eq!(told, run.saved());
         all.sort_unstable();
         let fired = u64::from(AGENTS) * each;
         assert!(all.iter().copied().eq(1..=fired), "each move has a number of its own");
@@ -84,10 +84,10 @@ fn a_sum_stays_in_each_state_of_a_run() {
 }
 
 #[test]
-fn the_file_has_each_part_whole_and_in_order() {
+fn the_folder_has_each_part_whole_and_in_order() {
     let room = Room::new("parts");
     let run = open(&room, 5);
-    assert_eq!(numbers(run.counts()), (1, 0, 0));
+    assert_eq!(numbers(run.saved()), (1, 0, 0));
     assert_eq!(numbers(room.audited().0), (1, 0, 0));
     let mut agent = run.agent(3).unwrap();
     for number in 1..=12 {
@@ -110,7 +110,7 @@ fn three_parts_are_in_memory_at_most() {
     let mut agent = run.agent(0).unwrap();
     for _ in 0..2_000 {
         let fired = add_one(&mut agent).unwrap();
-        assert!(fired <= run.counts().moves + 3 * 20);
+        assert!(fired <= run.saved().moves + 3 * 20);
     }
 }
 
@@ -136,25 +136,59 @@ fn an_open_step_holds_no_agent_up_and_is_begun_again() {
     let run = open(&room, 3);
     let (mut slow, mut quick) = (run.agent(0).unwrap(), run.agent(1).unwrap());
     let mut step = slow.step().unwrap();
-    assert_eq!(step.get(&count()), Ok(0.into()));
-    for _ in 0..30 {
-        add_one(&mut quick).unwrap();
-    }
-    step.put("other", 1).unwrap();
-    // Its part waits for it, and so do those behind.
-    assert_eq!(numbers(run.counts()), (1, 0, 0));
-    let error = step.fire().unwrap_err();
-    assert!(error.is_retry(), "{error}");
-    assert_eq!(slow.play(|step| step.put("other", 1)), Ok((31, ())));
-    let mut step = slow.step().unwrap();
-    step.put("other", 2).unwrap();
     for _ in 0..3 {
         add_one(&mut quick).unwrap();
     }
-    assert_eq!(step.fire(), Err(Error::PartFull));
+    assert_eq!(quick.step().unwrap().part(), 2);
+    // It goes on in its part for a while, and fires nothing there.
+    assert_eq!(step.put("other", 1), Ok(()));
+    assert_eq!(step.fire(), Err(Error::Past));
+    assert_eq!(slow.play(|step| step.put("other", 1)), Ok((4, ())));
+
+    let step = slow.step().unwrap();
+    for _ in 0..30 {
+        add_one(&mut quick).unwrap();
+    }
+    has_parts(&run, 10);
+    let told = step.get(&count()).unwrap_err();
+    assert!(told == Error::Past && told.is_retry());
+    assert_eq!((step.depth(), step.fire()), (0, Err(Error::Past)));
     drop((slow, quick));
     assert_eq!(run.close().unwrap().moves, 34);
     assert_eq!(room.audited().1, [(count(), 33.into()), (Location::new("other"), 1.into())]);
+}
+
+#[test]
+fn a_rule_that_takes_too_long_is_played_again() {
+    let room = Room::new("late");
+    let run = open(&room, 3);
+    let (mut slow, mut quick) = (run.agent(0).unwrap(), run.agent(1).unwrap());
+    let mut tries = 0;
+    let told = slow.play(|step| {
+        tries += 1;
+        for _ in 0..if tries == 1 { 9 } else { 0 } {
+            add_one(&mut quick)?;
+        }
+        if tries == 1 {
+            has_parts(&run, 3);
+        }
+        step.put("other", step.get(&count())?)
+    });
+    assert_eq!((told, tries), (Ok((10, ())), 2));
+}
+
+#[test]
+fn an_agent_that_stays_in_a_step_stops_no_saving() {
+    let room = Room::new("stays");
+    let run = open(&room, 20);
+    let (mut slow, mut quick) = (run.agent(0).unwrap(), run.agent(1).unwrap());
+    let step = slow.step().unwrap();
+    for _ in 0..2_000 {
+        let fired = add_one(&mut quick).unwrap();
+        assert!(fired <= run.saved().moves + 3 * 20);
+    }
+    assert!(run.saved().moves >= 1_940);
+    assert_eq!(step.get(&count()), Err(Error::Past));
 }
 
 /// Has each of the agents begin a step that rests on the count, then the last one raise it, and then the others fire in vain.
@@ -176,7 +210,7 @@ fn stale_tries(agents: &mut [RunAgent], last: &mut RunAgent) -> Result<u64, Erro
 #[test]
 fn a_part_of_many_stale_tries_ends_at_rest_before_it_is_full() {
     let room = Room::new("rest");
-    let run = open(&room, 100);
+    let run = RunOptions::new().moves(100).receipts(400).open([(count(), 0.into())], room.path()).unwrap();
     let mut agents = run.agents(9).unwrap();
     let mut last = agents.pop().unwrap();
     for round in 1..=200 {
@@ -185,44 +219,71 @@ fn a_part_of_many_stale_tries_ends_at_rest_before_it_is_full() {
     let told = run.close().unwrap();
     assert_eq!(told.moves, 200);
     // A round leaves 9 receipts, and a part ends with 400 of them and some.
-    assert!(told.parts >= 5, "{told}");
+    assert!((5..=7).contains(&told.parts), "{told}");
     assert_eq!(room.audited(), (told, vec![(count(), 200.into())]));
 }
 
 #[test]
-fn a_rest_that_does_not_come_is_given_up() {
-    let room = Room::new("no-rest");
-    let run = open(&room, 50);
-    let mut agents = run.agents(9).unwrap();
-    let (mut open, mut last) = (agents.pop().unwrap(), agents.pop().unwrap());
-    let mut step = open.step().unwrap();
-    for round in 1..=40 {
-        assert_eq!(stale_tries(&mut agents, &mut last), Ok(round));
+fn parts_end_by_time_and_by_flushes() {
+    let room = Room::new("time");
+    let run = RunOptions::new().every(Duration::from_millis(30)).open([(count(), 0.into())], room.path()).unwrap();
+    let (mut agent, mut other) = (run.agent(0).unwrap(), run.agent(1).unwrap());
+    assert_eq!(numbers(run.flush().unwrap()), (1, 0, 0));
+    let begun = Instant::now();
+    add_one(&mut agent).unwrap();
+    has_parts(&run, 2);
+    assert!(begun.elapsed() >= Duration::from_millis(30));
+    assert_eq!(numbers(run.close().unwrap()), (2, 1, 1));
+
+    let run = Run::resume(room.path(), Check::All).unwrap();
+    let mut agent = run.agent(0).unwrap();
+    for number in 2..=5 {
+        assert_eq!(add_one(&mut agent), Ok(number));
+        assert_eq!(run.flush().unwrap().moves, number);
+        assert_eq!(room.audited().0.moves, number);
     }
-    assert_eq!(last.step().unwrap().part(), 1);
-    step.put("other", 1).unwrap();
-    assert_eq!(step.fire(), Ok(41));
-    // Now all are at rest.
-    assert_eq!(stale_tries(&mut agents, &mut last), Ok(42));
-    assert_eq!(run.close().unwrap().moves, 42);
-    assert_eq!(room.audited().0.moves, 42);
+    assert!(other.step().is_err());
+    // A step that goes on fires while the part comes to rest, and is begun again after that.
+    let mut other = run.agent(1).unwrap();
+    let step = agent.step().unwrap();
+    add_one(&mut other).unwrap();
+    assert_eq!(run.flush().unwrap().moves, 6);
+    assert_eq!(step.fire(), Err(Error::Past));
+    assert_eq!(add_one(&mut agent), Ok(7));
+    assert_eq!(run.close().unwrap().moves, 7);
+    assert_eq!(run.flush().err(), Some(Error::Closed));
+}
+
+#[test]
+fn a_flush_of_many_threads_saves_all_that_was_answered() {
+    let room = Room::new("flushes");
+    let run = open(&room, 1_000);
+    thread::scope(|threads| {
+        for mut agent in run.agents(4).unwrap() {
+            let run = &run;
+            threads.spawn(move || {
+                for _ in 0..25 {
+                    let number = add_one(&mut agent).unwrap();
+                    assert!(run.flush().unwrap().moves >= number);
+                }
+            });
+        }
+    });
+    assert_eq!(run.saved().moves, 100);
+    run.close().unwrap();
+    assert_eq!(room.audited().1, [(count(), 100.into())]);
 }
 
 #[test]
 fn a_lost_agent_is_told_where_a_part_ends_at_rest_too() {
     let room = Room::new("lost-at-rest");
     let run = open(&room, 20);
-    let mut agents = run.agents(10).unwrap();
-    let (mut lost, mut last) = (agents.pop().unwrap(), agents.pop().unwrap());
+    let mut lost = run.agent(9).unwrap();
     for _ in 0..21 {
         add_one(&mut lost).unwrap();
     }
     lost.abandon();
-    let ended = loop {
-        if let Err(error) = stale_tries(&mut agents, &mut last) {
-            break error;
-        }
-    };
+    let ended = run.flush().unwrap_err();
     let Error::Ended(Ended { part, cause, .. }) = &ended else { panic!("{ended}") };
     assert_eq!((*part, cause), (2, &EndCause::Missing(1)));
     assert_eq!(run.close(), Err(ended));
@@ -230,27 +291,23 @@ fn a_lost_agent_is_told_where_a_part_ends_at_rest_too() {
 }
 
 #[test]
-fn a_lost_agent_ends_the_run_and_what_was_whole_stays() {
+fn a_lost_agent_ends_the_run_and_what_was_saved_stays() {
     let room = Room::new("lost");
     let run = open(&room, 5);
     let agent = |number| run.agent(number).unwrap();
-    let (mut lost, mut left, mut slow, mut late) = (agent(0), agent(1), agent(2), agent(3));
+    let (mut lost, mut left, mut slow) = (agent(0), agent(1), agent(2));
     for _ in 0..6 {
         add_one(&mut left).unwrap();
     }
     assert_eq!(add_one(&mut lost), Ok(7));
     lost.abandon();
-    // While this step is open, its part isn't written.
-    let open = slow.step().unwrap();
-    for _ in 0..4 {
+    let mut step = slow.step().unwrap();
+    step.put(count(), 0).unwrap();
+    for _ in 0..3 {
         add_one(&mut left).unwrap();
     }
-    let mut step = late.step().unwrap();
-    assert_eq!((open.part(), step.part()), (2, 3));
-    step.put(count(), 0).unwrap();
-    drop(open);
     let ended = loop {
-        match run.agent(9) {
+        match add_one(&mut left) {
             Ok(_) => thread::sleep(Duration::from_millis(1)),
             Err(error) => break error,
         }
@@ -259,13 +316,13 @@ fn a_lost_agent_ends_the_run_and_what_was_whole_stays() {
     assert_eq!((why.part, &why.cause), (2, &EndCause::Missing(2)));
     assert_eq!(ended.to_string(), "the run ended at part 2: the agent that fired its move 2 is lost");
     assert_eq!(step.fire(), Err(ended.clone()));
-    for agent in [&mut left, &mut slow, &mut late] {
+    for agent in [&mut left, &mut slow] {
         assert_eq!(agent.step().err(), Some(ended.clone()));
         assert_eq!(add_one(agent), Err(ended.clone()));
     }
-    assert_eq!(run.close(), Err(ended.clone()));
-    assert_eq!(run.close(), Err(ended));
-    assert_eq!(numbers(run.counts()), (2, 5, 5));
+    assert_eq!(run.agent(9).err(), Some(ended.clone()));
+    assert_eq!((run.close(), run.flush()), (Err(ended.clone()), Err(ended)));
+    assert_eq!(numbers(run.saved()), (2, 5, 5));
     drop(run);
     assert_eq!(numbers(room.audited().0), (2, 5, 5));
 }
@@ -285,21 +342,20 @@ fn an_abandoned_agent_that_fired_nothing_in_its_part_is_not_missed() {
 }
 
 #[test]
-fn a_forgotten_step_loses_its_agent() {
+fn steps_that_are_forgotten_lose_nothing() {
     let room = Room::new("forgotten");
     let run = open(&room, 3);
     let (mut one, mut other) = (run.agent(0).unwrap(), run.agent(1).unwrap());
     add_one(&mut one).unwrap();
     std::mem::forget(one.step().unwrap());
-    assert_eq!(one.step().err(), Some(Error::NotGiven(0)));
-    let ended = loop {
-        match add_one(&mut other) {
-            Ok(_) => thread::sleep(Duration::from_millis(1)),
-            Err(error) => break error,
-        }
-    };
-    let Error::Ended(Ended { part, cause, .. }) = ended else { panic!("{ended}") };
-    assert_eq!((part, cause), (1, EndCause::Missing(1)));
+    assert_eq!(add_one(&mut one), Ok(2));
+    std::mem::forget(one.step().unwrap());
+    for number in 3..=20 {
+        assert_eq!(add_one(&mut other), Ok(number));
+    }
+    std::mem::forget(other.step().unwrap());
+    assert_eq!(run.close().unwrap().moves, 20);
+    assert_eq!(one.step().err(), Some(Error::Closed));
 }
 
 #[test]
@@ -328,13 +384,15 @@ fn a_number_has_one_agent_at_a_time() {
     let run = open(&room, 10);
     let mut agent = run.agent(7).unwrap();
     assert_eq!(run.agent(7).err(), Some(Error::NumberTaken(7)));
-    assert_eq!(run.agent(256).err(), Some(Error::Range));
+    assert_eq!((run.agent(256).err(), run.agents(257).err()), (Some(Error::Range), Some(Error::Range)));
     assert_eq!(add_one(&mut agent), Ok(1));
     drop(agent);
     let mut agent = run.agent(7).unwrap();
     assert_eq!(add_one(&mut agent), Ok(2));
     assert_eq!(agent.step().unwrap().part(), 1);
+    // No number is taken where one is in use.
     assert_eq!((agent.number(), run.agents(8).err()), (7, Some(Error::NumberTaken(7))));
+    assert_eq!(run.agents(7).unwrap().len(), 7);
     assert_eq!(run.close().map(numbers), Ok((2, 2, 2)));
 }
 
@@ -345,34 +403,56 @@ fn a_closed_run_begins_no_step() {
     let mut agent = run.agent(0).unwrap();
     add_one(&mut agent).unwrap();
     let mut step = agent.step().unwrap();
-    assert_eq!(run.close(), Err(Error::InStep(0)));
     step.put(count(), 5).unwrap();
-    assert_eq!(step.fire(), Ok(2));
-    assert_eq!(run.close().map(numbers), Ok((2, 2, 2)));
+    // It waits for no step, of its own thread either.
+    assert_eq!(run.close().map(numbers), Ok((2, 1, 1)));
+    assert_eq!((step.get(&count()), step.fire()), (Err(Error::Closed), Err(Error::Closed)));
     assert_eq!(agent.step().err(), Some(Error::Closed));
     assert_eq!(add_one(&mut agent), Err(Error::Closed));
+    assert_eq!((agent.follow(), agent.scan("count").err()), (Err(Error::Closed), Some(Error::Closed)));
     assert_eq!(run.agent(1).err(), Some(Error::Closed));
     drop(run);
     assert_eq!(agent.step().err(), Some(Error::Closed));
-    assert_eq!(room.audited().1, [(count(), 5.into())]);
+    assert_eq!(room.audited().1, [(count(), 1.into())]);
 }
 
 #[test]
-fn closing_waits_for_open_steps_of_other_threads() {
+fn closing_waits_for_no_step_of_another_thread() {
     let room = Room::new("waits");
     let run = open(&room, 10);
     let mut agent = run.agent(0).unwrap();
     let (begun, told) = std::sync::mpsc::channel();
+    let (closed, ended) = std::sync::mpsc::channel::<()>();
     let other = thread::spawn(move || {
         let mut step = agent.step().unwrap();
-        begun.send(()).unwrap();
-        thread::sleep(Duration::from_millis(50));
         step.put(count(), 9).unwrap();
+        begun.send(()).unwrap();
+        ended.recv().unwrap();
         (step.fire(), agent.step().err())
     });
     told.recv().unwrap();
-    assert_eq!(run.close().map(numbers), Ok((2, 1, 1)));
-    assert_eq!(other.join().unwrap(), (Ok(1), Some(Error::Closed)));
+    assert_eq!(run.close().map(numbers), Ok((1, 0, 0)));
+    closed.send(()).unwrap();
+    assert_eq!(other.join().unwrap(), (Err(Error::Closed), Some(Error::Closed)));
+}
+
+#[test]
+fn steps_that_went_to_other_threads_hang_no_close() {
+    let room = Room::new("moved");
+    let run = open(&room, 10);
+    let mut agents = run.agents(2).unwrap();
+    thread::scope(|threads| {
+        let mut steps = agents.iter_mut().map(|it| it.step().unwrap());
+        let (mut step, kept) = (steps.next().unwrap(), steps.next().unwrap());
+        let fired = threads.spawn(move || {
+            step.put(count(), 3).unwrap();
+            step.fire()
+        });
+        assert_eq!(fired.join().unwrap(), Ok(1));
+        let forgotten = threads.spawn(move || std::mem::forget(kept));
+        forgotten.join().unwrap();
+        assert_eq!(run.close().map(numbers), Ok((2, 1, 1)));
+    });
 }
 
 #[test]
@@ -381,25 +461,57 @@ fn a_run_that_is_let_go_is_closed() {
     let run = open(&room, 10);
     let mut agent = run.agent(0).unwrap();
     add_one(&mut agent).unwrap();
+    let step = agent.step().unwrap();
     drop(run);
     assert_eq!(numbers(room.audited().0), (2, 1, 1));
+    assert_eq!(step.fire(), Err(Error::Closed));
     assert_eq!(add_one(&mut agent), Err(Error::Closed));
+}
 
-    // Where a step is open in the same thread, what is in front of its part is written.
-    let run = Run::resume(room.path()).unwrap();
-    let (mut agent, mut other) = (run.agent(0).unwrap(), run.agent(1).unwrap());
-    for _ in 0..25 {
-        add_one(&mut agent).unwrap();
-    }
-    let mut step = agent.step().unwrap();
-    step.put(count(), 5).unwrap();
-    for _ in 0..15 {
+#[test]
+fn agents_tell_their_own_state() {
+    let room = Room::new("own");
+    let run = open(&room, 3);
+    let (mut one, mut other) = (run.agent(0).unwrap(), run.agent(1).unwrap());
+    assert_eq!(one.peek(&[count()]), Ok((0, vec![0.into()])));
+    add_one(&mut other).unwrap();
+    assert_eq!(one.peek(&[count()]), Ok((0, vec![0.into()])));
+    assert_eq!((one.follow(), one.peek(&[count(), "none".into()])), (Ok(1), Ok((1, vec![1.into(), Value::UNDEF]))));
+    for _ in 0..7 {
         add_one(&mut other).unwrap();
     }
-    drop(run);
-    assert!(matches!(step.fire(), Err(Error::Ended(Ended { part: 4, cause: EndCause::Dropped, .. }))));
-    assert!(matches!(add_one(&mut other), Err(Error::Ended(Ended { part: 4, .. }))));
-    assert_eq!(numbers(room.audited().0), (4, 21, 21));
+    // Its part has ended, so it is at the beginning of the newest one.
+    assert_eq!(one.scan("count"), Ok((6, vec![(count(), 6.into())])));
+    assert_eq!((one.follow(), one.state()), (Ok(8), Ok((8, vec![(count(), 8.into())]))));
+    add_one(&mut other).unwrap();
+    assert_eq!((one.follow(), one.state()), (Ok(9), Ok((9, vec![(count(), 9.into())]))));
+    assert!(matches!(one.peek(&["no name".into()]), Err(Error::Refused(_))));
+    assert_eq!(run.close().unwrap().moves, 9);
+}
+
+/// Calls of all kinds, as a thread's locals end.
+struct Late(std::sync::mpsc::Sender<(Result<u64, Error>, Result<u64, Error>)>, RunAgent, Run);
+
+impl Drop for Late {
+    fn drop(&mut self) {
+        let Late(told, agent, run) = self;
+        let _ = told.send((add_one(agent), run.close().map(|it| it.moves)));
+    }
+}
+
+thread_local! {
+    static LATE: std::cell::RefCell<Option<Late>> = const { std::cell::RefCell::new(None) };
+}
+
+#[test]
+fn runs_are_played_and_closed_where_the_locals_of_a_thread_end() {
+    let room = Room::new("locals");
+    let run = open(&room, 3);
+    let agent = run.agent(0).unwrap();
+    let (told, ended) = std::sync::mpsc::channel();
+    thread::spawn(move || LATE.set(Some(Late(told, agent, run)))).join().unwrap();
+    assert_eq!(ended.recv().unwrap(), (Ok(1), Ok(1)));
+    assert_eq!(room.audited().1, [(count(), 1.into())]);
 }
 
 #[test]
@@ -419,18 +531,6 @@ fn rules_take_steps_of_runs_and_of_storages() {
     assert_eq!(run.close().map(numbers), Ok((2, 1, 1)));
 }
 
-/// Draws numbers, the same ones for the same seed.
-struct Draw(u64);
-
-impl Draw {
-    fn below(&mut self, most: u64) -> u64 {
-        self.0 ^= self.0 << 13;
-        self.0 ^= self.0 >> 7;
-        self.0 ^= self.0 << 17;
-        self.0 % most
-    }
-}
-
 /// Plays, abandons steps, holds them open, is let go and made again, until the run is closed: the numbers of its moves.
 fn come_and_go(run: &Run, mut agent: RunAgent, mut draw: Draw) -> Vec<u64> {
     let (number, mut fired) = (agent.number(), Vec::new());
@@ -442,6 +542,8 @@ fn come_and_go(run: &Run, mut agent: RunAgent, mut draw: Draw) -> Vec<u64> {
                 thread::sleep(Duration::from_micros(draw.below(2_000)));
                 step.fire().map(|number| fired.push(number))
             }),
+            3 => run.flush().map(drop),
+            4 => agent.step().map(std::mem::forget),
             2 => {
                 drop(agent);
                 match run.agent(number) {
@@ -464,7 +566,7 @@ fn come_and_go(run: &Run, mut agent: RunAgent, mut draw: Draw) -> Vec<u64> {
 }
 
 #[test]
-fn agents_come_and_go_and_each_move_that_was_told_is_in_the_file() {
+fn agents_come_and_go_and_each_move_that_was_told_is_saved() {
     for round in 1..=6 {
         let room = Room::new(&format!("come-and-go-{round}"));
         let run = open(&room, [1, 3, 20, 150][round as usize % 4]);
@@ -481,7 +583,7 @@ fn agents_come_and_go_and_each_move_that_was_told_is_in_the_file() {
         });
         all.sort_unstable();
         let told = room.audited().0;
-        assert_eq!(told, run.counts());
+        assert_eq!(told, run.saved());
         assert!(all.iter().copied().eq(1..=told.moves), "{told}: {} were told", all.len());
     }
 }

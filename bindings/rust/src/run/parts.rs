@@ -1,16 +1,20 @@
-//! The parts of a run that aren't in its file yet, and its agents.
+//! The parts of a run that aren't on the disk yet.
+use crate::agent::Agent;
 use crate::audit::Counts;
 use crate::error::{EndCause, Ended, Error};
-use crate::journal::Journal;
-use crate::run::seat::{Player, Seat};
+use crate::run::lines::expect_state;
+use crate::run::seat::Seat;
 use crate::storage::Storage;
-use std::collections::btree_map::BTreeMap;
+use std::collections::btree_map::{BTreeMap, Entry};
 use std::collections::vec_deque::VecDeque;
-use std::sync::Arc;
 use std::sync::atomic::{AtomicBool, AtomicU64, Ordering};
+use std::sync::{Arc, Condvar, Mutex, MutexGuard, OnceLock, PoisonError};
+use std::time::{Duration, Instant};
 
-/// With so many receipts for each move that it has room for, a part is to end at rest before it is full.
-const HEAVY: u64 = 4;
+/// So many parts that have ended may wait for the writer before a further one is opened.
+const WAITING: usize = 2;
+/// How long a part that has ended waits for an agent in a step.
+const PATIENCE: Duration = Duration::from_millis(100);
 
 /// A storage of the run.
 pub(crate) struct Part {
@@ -18,103 +22,63 @@ pub(crate) struct Part {
     /// How many moves the parts before have.
     pub(crate) before: u64,
     pub(crate) storage: Storage,
-    /// No step is to begin in it: its agents are given back once they are idle.
-    over: AtomicBool,
+    /// No step begins in it any more.
+    has_ended: AtomicBool,
     receipts: AtomicU64,
-    /// From so many receipts on it is to come to rest.
-    heavy: AtomicU64,
+    first_move: OnceLock<Instant>,
 }
 
 impl Part {
-    fn new(number: u64, before: u64, storage: Storage, moves: u32) -> Part {
-        let (over, receipts) = (AtomicBool::new(false), AtomicU64::new(0));
-        Part { number, before, storage, over, receipts, heavy: AtomicU64::new(HEAVY * u64::from(moves)) }
+    fn new(number: u64, before: u64, storage: Storage) -> Part {
+        let (has_ended, receipts) = (AtomicBool::new(false), AtomicU64::new(0));
+        Part { number, before, storage, has_ended, receipts, first_move: OnceLock::new() }
     }
 
-    pub(crate) fn is_over(&self) -> bool {
-        self.over.load(Ordering::Acquire)
-    }
-
-    pub(crate) fn set_over(&self, is_over: bool) {
-        self.over.store(is_over, Ordering::Release);
+    pub(crate) fn has_ended(&self) -> bool {
+        self.has_ended.load(Ordering::Acquire)
     }
 
     pub(crate) fn count_receipt(&self) {
         self.receipts.fetch_add(1, Ordering::Relaxed);
     }
-
-    /// It has too many receipts when it has so many more.
-    pub(crate) fn raise_heavy(&self, moves: u32) {
-        let receipts = self.receipts.load(Ordering::Relaxed);
-        self.heavy.store(receipts + HEAVY * u64::from(moves), Ordering::Relaxed);
-    }
-
-    pub(crate) fn is_heavy(&self) -> bool {
-        self.receipts.load(Ordering::Relaxed) >= self.heavy.load(Ordering::Relaxed)
-    }
 }
 
-/// A part that isn't written yet.
-pub(crate) struct Unwritten {
-    pub(crate) part: Arc<Part>,
-    /// How many agents were made or taken in it and haven't come back.
-    pub(crate) out: u32,
-    pub(crate) made: Made,
+/// A part with what is known of it under the lock.
+struct Unsaved {
+    part: Arc<Part>,
+    /// How many agents are out in it.
+    out: u32,
+    /// When it ended.
+    ended: Option<Instant>,
+    /// All its moves were fired.
+    is_full: bool,
+    /// Its state is too long to open a further part before it is full.
+    is_long: bool,
 }
 
-/// How far the journal of a part is.
-pub(crate) enum Made {
-    Not,
-    /// Some thread makes it.
-    Now,
-    Whole(Journal),
-    /// Another thread than the writer tried it, which is for the writer to tell.
-    InVain,
-}
-
-/// What the writer takes.
-pub(crate) struct Next {
-    pub(crate) part: Arc<Part>,
-    pub(crate) journal: Option<Journal>,
-    pub(crate) is_last: bool,
+/// How a run's parts end.
+#[derive(Clone, Copy)]
+pub(crate) struct Limits {
+    pub(crate) moves: u32,
+    pub(crate) receipts: u64,
+    pub(crate) every: Option<Duration>,
 }
 
 /// All of a run that changes.
-pub(crate) struct State {
-    pub(crate) parts: VecDeque<Unwritten>,
+struct State {
+    /// The oldest first; steps begin in the last one.
+    parts: VecDeque<Unsaved>,
     /// The agents in use.
-    pub(crate) seats: BTreeMap<u32, Arc<Seat>>,
-    /// The last part is to end at rest.
-    pub(crate) is_resting: bool,
-    /// The last part lacks a move, which the writer tells when it comes there.
-    pub(crate) is_lacking: bool,
-    pub(crate) is_closing: bool,
+    seats: BTreeMap<u32, Arc<Seat>>,
+    is_closing: bool,
     /// The writer has ended.
-    pub(crate) is_done: bool,
-    pub(crate) ended: Option<Ended>,
-    /// What is in the file.
-    pub(crate) counts: Counts,
+    is_done: bool,
+    ended: Option<Ended>,
+    saved: Counts,
 }
 
 impl State {
-    /// A run whose file has these parts, and whose first further one is the storage.
-    pub(crate) fn new(storage: Storage, moves: u32, counts: Counts) -> State {
-        let mut state = State {
-            parts: VecDeque::new(),
-            seats: BTreeMap::new(),
-            is_resting: false,
-            is_lacking: false,
-            is_closing: false,
-            is_done: false,
-            ended: None,
-            counts,
-        };
-        state.push(storage, counts.moves, moves);
-        state
-    }
-
-    /// Whether the run goes on.
-    pub(crate) fn goes_on(&self) -> Result<(), Error> {
+    fn goes_on(&self) -> Result<(), Error> {
         match &self.ended {
             Some(ended) => Err(Error::Ended(ended.clone())),
             None if self.is_closing => Err(Error::Closed),
@@ -122,91 +86,322 @@ impl State {
         }
     }
 
-    pub(crate) fn is_last(&self, part: &Part) -> bool {
-        self.parts.back().is_some_and(|it| it.part.number == part.number)
+    fn push(&mut self, storage: Storage, before: u64) {
+        let number = self.parts.back().map_or(self.saved.parts, |it| it.part.number + 1);
+        self.end_newest();
+        let part = Arc::new(Part::new(number, before, storage));
+        self.parts.push_back(Unsaved { part, out: 0, ended: None, is_full: false, is_long: false });
     }
 
-    /// How many of the parts are over.
-    pub(crate) fn over(&self) -> usize {
-        let is_last_over = self.is_closing || self.is_lacking;
-        self.parts.len().saturating_sub(usize::from(!is_last_over))
-    }
-
-    /// Whether the first part is over and all its agents came back, so that the writer has or takes it.
-    pub(crate) fn is_first_back(&self) -> bool {
-        self.over() > 0 && self.parts.front().is_some_and(|it| it.out == 0)
-    }
-
-    /// A part whose journal may be made and isn't, to make it.
-    pub(crate) fn claim(&mut self) -> Option<Arc<Part>> {
-        let over = self.over();
-        let mut parts = self.parts.iter_mut().take(over);
-        let it = parts.find(|it| it.out == 0 && matches!(it.made, Made::Not))?;
-        it.made = Made::Now;
-        Some(Arc::clone(&it.part))
-    }
-
-    pub(crate) fn set_made(&mut self, part: u64, made: Made) {
-        if let Some(it) = self.parts.iter_mut().find(|it| it.part.number == part) {
-            it.made = made;
+    /// Has no further step begin in the newest part.
+    fn end_newest(&mut self) {
+        if let Some(last) = self.parts.back_mut() {
+            last.part.has_ended.store(true, Ordering::Release);
+            last.ended.get_or_insert_with(Instant::now);
         }
     }
+}
 
-    pub(crate) fn came_back(&mut self, part: u64) {
-        if let Some(it) = self.parts.iter_mut().find(|it| it.part.number == part) {
-            it.out -= 1;
-        }
-    }
+/// What the agents of a run and its writer share.
+pub(crate) struct Core {
+    limits: Limits,
+    state: Mutex<State>,
+    changed: Condvar,
+}
 
-    /// Gives back all idle agents of parts that are over.
-    pub(crate) fn sweep(&mut self) {
-        let idle: Vec<Player> = self.seats.values().filter_map(|seat| seat.vacate()).collect();
-        for player in idle {
-            let part = player.part.number;
-            drop(player);
-            self.came_back(part);
-        }
-    }
+type Guard<'a> = MutexGuard<'a, State>;
 
-    /// Makes or takes the agent with this number in the last part.
-    pub(crate) fn make(&mut self, number: u32) -> Result<Player, Error> {
-        let Some(last) = self.parts.back_mut() else {
-            return Err(Error::Closed);
+impl Core {
+    /// A run of which so much is saved, and whose first further part is the storage.
+    pub(crate) fn new(storage: Storage, limits: Limits, saved: Counts) -> Core {
+        let mut state = State {
+            parts: VecDeque::new(),
+            seats: BTreeMap::new(),
+            is_closing: false,
+            is_done: false,
+            ended: None,
+            saved,
         };
-        let agent = match last.part.storage.agent(number) {
-            Err(Error::NumberTaken(_)) => last.part.storage.take(number)?,
-            made => made?,
+        state.push(storage, saved.moves);
+        Core { limits, state: Mutex::new(state), changed: Condvar::new() }
+    }
+
+    fn lock(&self) -> Guard<'_> {
+        self.state.lock().unwrap_or_else(PoisonError::into_inner)
+    }
+
+    fn wait<'a>(&'a self, state: Guard<'a>, most: Option<Duration>) -> Guard<'a> {
+        match most {
+            Some(most) => self.changed.wait_timeout(state, most).unwrap_or_else(PoisonError::into_inner).0,
+            None => self.changed.wait(state).unwrap_or_else(PoisonError::into_inner),
+        }
+    }
+
+    /// How many moves a part has room for.
+    pub(crate) fn moves(&self) -> u32 {
+        self.limits.moves
+    }
+
+    pub(crate) fn saved(&self) -> Counts {
+        self.lock().saved
+    }
+
+    pub(crate) fn goes_on(&self) -> Result<(), Error> {
+        self.lock().goes_on()
+    }
+
+    // What agents do. Who has the lock of a seat takes that of the state, and never the other way round.
+
+    /// A seat with this number, which no agent in use has.
+    pub(crate) fn seat(&self, number: u32) -> Result<Arc<Seat>, Error> {
+        let mut state = self.lock();
+        state.goes_on()?;
+        match state.seats.entry(number) {
+            Entry::Occupied(_) => Err(Error::NumberTaken(number)),
+            Entry::Vacant(free) => Ok(Arc::clone(free.insert(Arc::new(Seat::new(number))))),
+        }
+    }
+
+    /// Seats with the numbers from 0 up, all of them or none.
+    pub(crate) fn seats(&self, count: u32) -> Result<Vec<Arc<Seat>>, Error> {
+        let mut state = self.lock();
+        state.goes_on()?;
+        if let Some((taken, _)) = state.seats.range(..count).next() {
+            return Err(Error::NumberTaken(*taken));
+        }
+        let seats: Vec<_> = (0..count).map(|number| Arc::new(Seat::new(number))).collect();
+        state.seats.extend((0..count).zip(seats.iter().cloned()));
+        Ok(seats)
+    }
+
+    pub(crate) fn release(&self, number: u32) {
+        self.lock().seats.remove(&number);
+    }
+
+    /// An agent in the newest part; none where that has ended.
+    pub(crate) fn enter(&self, number: u32) -> Result<Option<(Agent, Arc<Part>)>, Error> {
+        let mut state = self.lock();
+        state.goes_on()?;
+        let Some(last) = state.parts.back_mut().filter(|it| !it.part.has_ended()) else {
+            return Ok(None);
+        };
+        let agent = match last.part.storage.take(number) {
+            Err(Error::NotGiven(_)) => last.part.storage.agent(number)?,
+            taken => taken?,
         };
         last.out += 1;
-        Ok(Player { agent, part: Arc::clone(&last.part) })
+        Ok(Some((agent, Arc::clone(&last.part))))
     }
 
-    /// The storage goes on where the last part ends, which is then over.
-    pub(crate) fn push(&mut self, storage: Storage, before: u64, moves: u32) {
-        let number = self.parts.back().map_or(self.counts.parts, |it| it.part.number + 1);
-        if let Some(last) = self.parts.back() {
-            last.part.set_over(true);
+    /// An agent of the part has come back, or is lost.
+    pub(crate) fn came_back(&self, part: &Part) {
+        let mut state = self.lock();
+        if let Some(it) = state.parts.iter_mut().find(|it| it.part.number == part.number) {
+            it.out -= 1;
         }
-        let part = Arc::new(Part::new(number, before, storage, moves));
-        self.parts.push_back(Unwritten { part, out: 0, made: Made::Not });
-        self.is_resting = false;
-        self.sweep();
+        drop(state);
+        self.changed.notify_all();
     }
 
-    /// No further step begins, and all agents come back that are idle.
-    pub(crate) fn shut(&mut self) {
-        self.is_resting = false;
-        for it in &self.parts {
-            it.part.set_over(true);
+    /// Has the part end where it has too many receipts.
+    pub(crate) fn end_heavy(&self, part: &Part) {
+        if part.receipts.load(Ordering::Relaxed) <= self.limits.receipts {
+            return;
         }
-        self.sweep();
+        let mut state = self.lock();
+        if state.parts.back().is_some_and(|it| it.part.number == part.number && !it.is_long) {
+            state.end_newest();
+            self.changed.notify_all();
+        }
     }
 
-    pub(crate) fn end(&mut self, part: u64, cause: EndCause) {
-        if self.ended.is_none() {
-            self.ended = Some(Ended { part, cause });
+    /// Notices that a move was fired in the part.
+    pub(crate) fn fired(&self, part: &Part) {
+        if self.limits.every.is_some() && part.first_move.set(Instant::now()).is_ok() {
+            drop(self.lock());
+            self.changed.notify_all();
         }
-        self.shut();
-        self.parts.clear();
+    }
+
+    /// Opens a part behind the agent's own, which is full, unless too many wait for the writer.
+    pub(crate) fn go_on(&self, agent: &Agent, part: &Part) -> Result<(), Error> {
+        let mut state = self.lock();
+        let is_behind = state.parts.len() > WAITING;
+        let Some(last) = state.parts.back_mut().filter(|it| it.part.number == part.number && !part.has_ended()) else {
+            return Ok(());
+        };
+        last.is_full = true;
+        if is_behind {
+            return Ok(());
+        }
+        let next = agent.go_on(self.limits.moves)?;
+        expect_state(&next)?;
+        state.push(next, part.before + u64::from(self.limits.moves));
+        self.changed.notify_all();
+        Ok(())
+    }
+
+    /// Waits until a step may begin in the newest part, or a further one may be opened behind it.
+    pub(crate) fn await_part(&self) -> Result<(), Error> {
+        let mut state = self.lock();
+        loop {
+            state.goes_on()?;
+            let is_behind = state.parts.len() > WAITING;
+            if state.parts.back().is_some_and(|it| !(it.part.has_ended() || it.is_full && is_behind)) {
+                return Ok(());
+            }
+            state = self.wait(state, None);
+        }
+    }
+
+    // What the run does.
+
+    /// Ends the newest part, if it has moves, and waits until all up to it are on the disk.
+    pub(crate) fn flush(&self) -> Result<Counts, Error> {
+        let mut state = self.lock();
+        state.goes_on()?;
+        let newest = state.parts.back().map(|it| Arc::clone(&it.part));
+        let Some(newest) = newest else { return Ok(state.saved) };
+        let is_empty = newest.storage.moves() == 0;
+        let wanted = newest.number + u64::from(!is_empty);
+        if !is_empty {
+            state.end_newest();
+            self.changed.notify_all();
+        }
+        loop {
+            if let Some(ended) = &state.ended {
+                return Err(Error::Ended(ended.clone()));
+            }
+            if state.saved.parts >= wanted || state.is_done {
+                return Ok(state.saved);
+            }
+            if !is_empty && !newest.has_ended() {
+                return Err(Error::TooLong);
+            }
+            state = self.wait(state, None);
+        }
+    }
+
+    /// Has all be saved, and waits for that.
+    pub(crate) fn close(&self) -> Result<Counts, Error> {
+        let mut state = self.lock();
+        state.is_closing = true;
+        self.changed.notify_all();
+        while !state.is_done {
+            state = self.wait(state, None);
+        }
+        match &state.ended {
+            Some(ended) => Err(Error::Ended(ended.clone())),
+            None => Ok(state.saved),
+        }
+    }
+
+    // What the writer does.
+
+    /// The oldest part, once it has ended and all its agents came back.
+    pub(crate) fn due(&self) -> Option<Arc<Part>> {
+        let mut state = self.lock();
+        loop {
+            let mut most = self.end_by_time(&mut state);
+            if state.is_closing {
+                state.end_newest();
+            }
+            let is_closing = state.is_closing;
+            let first = state.parts.front_mut()?;
+            let part = Arc::clone(&first.part);
+            if part.has_ended() {
+                let left = PATIENCE.saturating_sub(first.ended.map_or(PATIENCE, |it| it.elapsed()));
+                let is_late = is_closing || left.is_zero();
+                if first.out > 0 {
+                    state = self.take_back(state, &part, is_late);
+                }
+                if state.parts.front().is_some_and(|it| it.out == 0) {
+                    return Some(part);
+                }
+                most = most.into_iter().chain((!is_late).then_some(left)).min();
+            }
+            state = self.wait(state, most);
+        }
+    }
+
+    /// Ends the newest part if its first move was fired long enough ago; how long that will take.
+    fn end_by_time(&self, state: &mut State) -> Option<Duration> {
+        let every = self.limits.every?;
+        let last = state.parts.back().filter(|it| !it.is_long && !it.part.has_ended())?;
+        let left = every.saturating_sub(last.part.first_move.get()?.elapsed());
+        if left.is_zero() {
+            state.end_newest();
+            return None;
+        }
+        Some(left)
+    }
+
+    /// Gives the agents back that are in the part, and in no step or for too long in one.
+    fn take_back<'a>(&'a self, state: Guard<'a>, part: &Part, is_late: bool) -> Guard<'a> {
+        let seats: Vec<_> = state.seats.values().cloned().collect();
+        drop(state);
+        for seat in seats {
+            seat.take_back(self, part, is_late);
+        }
+        self.lock()
+    }
+
+    /// Opens a part behind one that has ended at rest and whose journal was closed; whether it is the last one. None where the
+    /// state is too long, so that the part goes on until it is full.
+    pub(crate) fn go_on_at_rest(&self, part: &Part) -> Result<Option<bool>, Error> {
+        let mut state = self.lock();
+        let is_closing = state.is_closing;
+        let Some(last) = state.parts.back_mut().filter(|it| it.part.number == part.number) else {
+            return Ok(Some(false));
+        };
+        if is_closing {
+            return Ok(Some(true));
+        }
+        let next = part.storage.next(self.limits.moves)?;
+        if let Err(error) = expect_state(&next) {
+            if error != Error::TooLong {
+                return Err(error);
+            }
+            (last.is_long, last.ended) = (true, None);
+            part.has_ended.store(false, Ordering::Release);
+            self.changed.notify_all();
+            return Ok(None);
+        }
+        state.push(next, part.before + u64::from(part.storage.moves()));
+        self.changed.notify_all();
+        Ok(Some(false))
+    }
+
+    /// The oldest part is on the disk.
+    pub(crate) fn is_saved(&self, saved: Counts) {
+        let mut state = self.lock();
+        let first = state.parts.pop_front();
+        state.saved = saved;
+        drop(state);
+        self.changed.notify_all();
+        drop(first);
+    }
+
+    /// Ends the run, as its oldest part can't be saved.
+    pub(crate) fn end(&self, cause: EndCause) {
+        let mut state = self.lock();
+        let part = state.saved.parts;
+        state.ended.get_or_insert(Ended { part, cause });
+        state.end_newest();
+        drop(state);
+        self.changed.notify_all();
+    }
+
+    /// The writer has ended, and has the folder no more.
+    pub(crate) fn done(&self) {
+        let mut state = self.lock();
+        let parts: Vec<_> = state.parts.iter().map(|it| Arc::clone(&it.part)).collect();
+        for part in &parts {
+            state = self.take_back(state, part, true);
+        }
+        state.parts.clear();
+        state.is_done = true;
+        drop(state);
+        self.changed.notify_all();
     }
 }

@@ -1,178 +1,219 @@
-//! Where the agents of a run are: in their seats between steps, or lent to a step.
+//! Where the agents of a run are.
 use crate::agent::Agent;
 use crate::error::Error;
-use crate::run::parts::Part;
-use crate::run::shared::Core;
-use std::mem::{self, ManuallyDrop};
+use crate::run::lines::{SHORT, expect_call};
+use crate::run::parts::{Core, Part};
+use crate::step::{commit, offer_text};
+use std::cell::Cell;
+use std::mem;
 use std::sync::{Arc, Mutex, MutexGuard, PoisonError};
-use std::thread::{self, ThreadId};
 
 /// An agent in a part of the run.
-pub(crate) struct Player {
-    pub(crate) agent: Agent,
-    pub(crate) part: Arc<Part>,
+struct Player {
+    agent: Agent,
+    part: Arc<Part>,
 }
 
-enum Place {
-    /// Between steps. Its part isn't over, or whoever said so hasn't come to this seat yet.
-    Idle(Player),
-    /// Lent to a step that this thread began, in this part once it is in one.
-    InStep { thread: ThreadId, part: Option<u64> },
-    /// Not made yet, or given back.
-    Away,
-}
-
-/// What a run knows of one of its agents.
+/// An agent of a run, which a step of its own thread and the writer take in turn.
 pub(crate) struct Seat {
     number: u32,
     place: Mutex<Place>,
 }
 
+struct Place {
+    player: Option<Player>,
+    /// How many steps were begun, which is the number of the last one.
+    steps: u64,
+    is_in_step: bool,
+}
+
+/// A step that was begun.
+pub(crate) struct Begun {
+    pub(crate) number: u32,
+    pub(crate) part: Arc<Part>,
+    step: u64,
+}
+
 impl Seat {
     pub(crate) fn new(number: u32) -> Seat {
-        Seat { number, place: Mutex::new(Place::Away) }
+        Seat { number, place: Mutex::new(Place { player: None, steps: 0, is_in_step: false }) }
     }
 
     pub(crate) fn number(&self) -> u32 {
         self.number
     }
 
-    fn place(&self) -> MutexGuard<'_, Place> {
+    fn lock(&self) -> MutexGuard<'_, Place> {
         self.place.lock().unwrap_or_else(PoisonError::into_inner)
     }
 
-    /// Takes the agent for a step of this thread; none if it has to enter the current part first.
-    pub(crate) fn take(&self, core: &Core) -> Option<Player> {
-        let mut place = self.place();
-        let part = match &*place {
-            Place::Idle(player) => Some(player.part.number),
-            _ => None,
-        };
-        let before = mem::replace(&mut *place, Place::InStep { thread: thread::current().id(), part });
-        drop(place);
-        match before {
-            Place::Idle(player) => Some(player),
-            // No other step can be open, so it was forgotten, and its agent is lost.
-            Place::InStep { part: Some(part), .. } => {
-                core.came_back(part);
-                None
-            }
-            Place::InStep { part: None, .. } | Place::Away => None,
+    /// Begins a step in the newest part; none where that has ended, or is full. A step that was forgotten ends.
+    pub(crate) fn begin(&self, core: &Core) -> Result<Option<Begun>, Error> {
+        let mut place = self.lock();
+        place.end_step(core);
+        let Some(player) = self.come_in(&mut place, core)? else { return Ok(None) };
+        let number = player.agent.begin()?;
+        let part = Arc::clone(&player.part);
+        if number == core.moves() {
+            player.agent.step.free();
+            core.go_on(&player.agent, &part)?;
+            return Ok(None);
         }
+        core.end_heavy(&part);
+        if part.has_ended() {
+            player.agent.step.free();
+            return Ok(None);
+        }
+        place.steps += 1;
+        place.is_in_step = true;
+        Ok(Some(Begun { number, part, step: place.steps }))
     }
 
-    /// The agent that was taken is now in this part; in none where it couldn't enter one.
-    pub(crate) fn entered(&self, part: Option<u64>) {
-        let mut place = self.place();
-        match (&mut *place, part) {
-            (Place::InStep { part, .. }, Some(number)) => *part = Some(number),
-            (place, _) => *place = Place::Away,
+    /// Looks on: how many moves of the run it has then seen; none where the newest part has ended, or is full.
+    pub(crate) fn follow(&self, core: &Core) -> Result<Option<u64>, Error> {
+        let mut place = self.lock();
+        place.end_step(core);
+        let Some(player) = self.come_in(&mut place, core)? else { return Ok(None) };
+        let number = player.agent.follow()?;
+        if number == core.moves() {
+            core.go_on(&player.agent, &player.part)?;
+            return Ok(None);
         }
+        Ok(Some(player.part.before + u64::from(number)))
     }
 
-    /// Takes the agent out, to give it back, if it is idle in a part that is over.
-    pub(crate) fn vacate(&self) -> Option<Player> {
-        let mut place = self.place();
-        match &*place {
-            Place::Idle(player) if player.part.is_over() => {}
-            _ => return None,
-        }
-        match mem::replace(&mut *place, Place::Away) {
-            Place::Idle(player) => Some(player),
-            _ => None,
-        }
+    /// What the call tells of the agent's own state, in the newest part, with the number of moves before that; none where that
+    /// has ended.
+    pub(crate) fn tell<T>(
+        &self,
+        core: &Core,
+        call: impl FnOnce(&Agent) -> Result<T, Error>,
+    ) -> Result<Option<(u64, T)>, Error> {
+        let mut place = self.lock();
+        place.end_step(core);
+        let Some(player) = self.come_in(&mut place, core)? else { return Ok(None) };
+        Ok(Some((player.part.before, call(&player.agent)?)))
     }
 
-    /// Puts the agent back that a step had, or gives it back if its part is over.
-    fn put(&self, core: &Core, player: Player) {
-        let mut place = self.place();
-        if !player.part.is_over() {
-            *place = Place::Idle(player);
-            return;
+    /// The agent, in a part that hasn't ended; one in a part that has ended is given back.
+    fn come_in<'a>(&self, place: &'a mut Place, core: &Core) -> Result<Option<&'a mut Player>, Error> {
+        core.goes_on()?;
+        if place.player.as_ref().is_some_and(|it| it.part.has_ended()) {
+            place.give_back(core);
         }
-        *place = Place::Away;
-        drop(place);
-        core.give(player);
+        if place.player.is_none() {
+            place.player = core.enter(self.number)?.map(|(agent, part)| Player { agent, part });
+        }
+        Ok(place.player.as_mut())
     }
 
-    /// Whether a step is open that this thread began.
-    pub(crate) fn is_in_step_of(&self, thread: ThreadId) -> bool {
-        matches!(&*self.place(), Place::InStep { thread: of, .. } if *of == thread)
-    }
-
-    fn leave(&self) -> Place {
-        mem::replace(&mut *self.place(), Place::Away)
+    /// Gives the agent back, if it is in the part, and in no step unless that has taken too long.
+    pub(crate) fn take_back(&self, core: &Core, part: &Part, is_late: bool) {
+        let mut place = self.lock();
+        let is_there = place.player.as_ref().is_some_and(|it| it.part.number == part.number);
+        if is_there && (is_late || !place.is_in_step) {
+            place.give_back(core);
+        }
     }
 
     /// Gives the agent back, if it is in a part.
     pub(crate) fn clear(&self, core: &Core) {
-        match self.leave() {
-            Place::Idle(player) => core.give(player),
-            Place::InStep { part: Some(part), .. } => core.came_back(part),
-            Place::InStep { part: None, .. } | Place::Away => {}
-        }
+        self.lock().give_back(core);
     }
 
     /// Frees the agent, if it is in a part, without giving it back.
     pub(crate) fn abandon(&self, core: &Core) {
-        match self.leave() {
-            Place::Idle(Player { agent, part }) => {
-                agent.abandon();
-                core.came_back(part.number);
-            }
-            Place::InStep { part: Some(part), .. } => core.came_back(part),
-            Place::InStep { part: None, .. } | Place::Away => {}
+        let mut place = self.lock();
+        if let Some(Player { agent, part }) = place.player.take() {
+            agent.abandon();
+            core.came_back(&part);
         }
     }
 }
 
-/// The agent of a seat, for as long as a step is open.
+impl Place {
+    /// Ends the step, if there is one; where its part has ended, its agent is given back.
+    fn end_step(&mut self, core: &Core) {
+        if !mem::take(&mut self.is_in_step) {
+            return;
+        }
+        if let Some(player) = &self.player {
+            player.agent.step.free();
+            if player.part.has_ended() {
+                self.give_back(core);
+            }
+        }
+    }
+
+    fn give_back(&mut self, core: &Core) {
+        if let Some(Player { agent, part }) = self.player.take() {
+            drop(agent);
+            core.came_back(&part);
+        }
+    }
+}
+
+/// The agent of a seat, for as long as a step goes on.
 pub(crate) struct Lent<'a> {
     core: &'a Core,
     seat: &'a Seat,
-    player: ManuallyDrop<Player>,
+    begun: Begun,
+    /// How many bytes of text it has pushed and got, about.
+    size: Cell<usize>,
 }
 
 impl<'a> Lent<'a> {
-    pub(crate) fn new(core: &'a Core, seat: &'a Seat, player: Player) -> Lent<'a> {
-        Lent { core, seat, player: ManuallyDrop::new(player) }
+    pub(crate) fn new(core: &'a Core, seat: &'a Seat, begun: Begun) -> Lent<'a> {
+        Lent { core, seat, begun, size: Cell::new(0) }
     }
 
-    pub(crate) fn agent(&self) -> &Agent {
-        &self.player.agent
+    pub(crate) fn number(&self) -> u32 {
+        self.seat.number
     }
 
     pub(crate) fn part(&self) -> &Part {
-        &self.player.part
+        &self.begun.part
     }
 
-    pub(crate) fn begin(&mut self) -> Result<u32, Error> {
-        self.player.agent.begin()
-    }
-
-    /// Whether a step may begin in its part. A part with too many receipts is asked to come to rest.
-    pub(crate) fn stays(&self) -> bool {
-        if self.part().is_heavy() {
-            self.core.ask_rest(self.part());
+    /// Calls the agent; [`Error::Past`] where it was given back since.
+    pub(crate) fn with<T>(&self, call: impl FnOnce(&Agent) -> Result<T, Error>) -> Result<T, Error> {
+        let place = self.seat.lock();
+        match &place.player {
+            Some(player) if place.is_in_step && place.steps == self.begun.step => call(&player.agent),
+            _ => Err(self.core.goes_on().err().unwrap_or(Error::Past)),
         }
-        !self.part().is_over()
     }
 
-    /// How many moves the parts before have. A fire is about to be tried, which the part counts; where the run has ended,
-    /// that is told in its place.
-    pub(crate) fn before_fire(&self) -> Result<u64, Error> {
-        if self.part().is_over() {
-            self.core.stands()?;
+    pub(crate) fn count(&self, size: usize) {
+        self.size.set(self.size.get() + size);
+    }
+
+    /// Fires in its part.
+    pub(crate) fn fire(&self) -> Result<u32, Error> {
+        let part = self.part();
+        let told = self.with(|agent| {
+            if self.size.get() >= SHORT {
+                expect_call(&offer_text(agent)?)?;
+            }
+            part.count_receipt();
+            commit(agent)
+        });
+        match told {
+            Ok(number) => {
+                self.core.fired(part);
+                Ok(number)
+            }
+            Err(Error::Full) => Err(Error::Past),
+            Err(error) => Err(error),
         }
-        self.part().count_receipt();
-        Ok(self.part().before)
     }
 }
 
 impl Drop for Lent<'_> {
     fn drop(&mut self) {
-        // It isn't used again: nothing comes after the drop.
-        let player = unsafe { ManuallyDrop::take(&mut self.player) };
-        self.seat.put(self.core, player);
+        let mut place = self.seat.lock();
+        if place.steps == self.begun.step {
+            place.end_step(self.core);
+        }
     }
 }

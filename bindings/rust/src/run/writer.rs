@@ -1,11 +1,13 @@
-//! The thread that writes the parts of a run.
+//! The thread that saves the parts of a run.
 use crate::audit::Counts;
 use crate::error::{EndCause, Error};
-use crate::journal::Journal;
-use crate::run::file::RunFile;
-use crate::run::parts::{Next, Part};
-use crate::run::shared::Core;
+use crate::run::folder::RunFolder;
+use crate::run::lines::events;
+use crate::run::parts::{Core, Part};
+use crate::sys;
 use std::io;
+use std::panic::resume_unwind;
+use std::ptr;
 use std::thread;
 
 /// Tells the run that its writer has ended, however it ends.
@@ -14,45 +16,67 @@ struct Writer<'a>(&'a Core);
 impl Drop for Writer<'_> {
     fn drop(&mut self) {
         if thread::panicking() {
-            let why = "the thread that writes has panicked".to_owned();
-            self.0.end(self.0.counts().parts, EndCause::Write { kind: io::ErrorKind::Other, why });
+            self.0.end(EndCause::Write {
+                kind: io::ErrorKind::Other,
+                why: "the thread that writes has panicked".to_owned(),
+            });
         }
         self.0.done();
     }
 }
 
-/// Writes each part of the run, in their order, until the run is closed or has ended.
-pub(crate) fn write_parts(core: &Core, file: RunFile) {
+/// Saves each part of the run, in their order, until the run is closed or has ended.
+pub(crate) fn save_parts(core: &Core, folder: RunFolder) {
+    hold_size_signal();
     let _writer = Writer(core);
     // It is closed before the run is told that this thread has ended.
-    let mut file = file;
-    while let Some(Next { part, journal, is_last }) = core.next_part() {
-        match write(&part, journal, is_last, &mut file) {
-            Ok(more) => core.written(more),
-            Err(cause) => return core.end(part.number, cause),
+    let mut folder = folder;
+    while let Some(part) = core.due() {
+        match save(core, &part, &mut folder) {
+            Ok(true) => core.is_saved(folder.counts()),
+            Ok(false) => {}
+            Err(error) => return core.end(cause(error)),
         }
     }
 }
 
-/// Writes the part, unless it is the last one and has no call.
-fn write(part: &Part, journal: Option<Journal>, is_last: bool, file: &mut RunFile) -> Result<Counts, EndCause> {
-    let journal = match journal {
-        Some(journal) => journal,
-        None => part.storage.close().map_err(cause)?,
-    };
-    // A line for each call is behind the header, and no text has a line feed of its own.
-    let calls = journal.as_bytes().iter().filter(|it| **it == b'\n').count().saturating_sub(1) as u64;
-    if is_last && calls == 0 {
-        return Ok(Counts::default());
+/// Saves the part, unless it is the last one and nothing was called in it; false where it goes on.
+fn save(core: &Core, part: &Part, folder: &mut RunFolder) -> Result<bool, Error> {
+    let journal = part.storage.close()?;
+    let calls = events(journal.as_bytes())?;
+    let Some(is_last) = core.go_on_at_rest(part)? else { return Ok(false) };
+    if !is_last || calls > 0 {
+        folder.save(journal.as_bytes(), Counts { parts: 1, calls, moves: part.storage.moves().into() })?;
     }
-    let failed = |error: io::Error| EndCause::Write { kind: error.kind(), why: error.to_string() };
-    file.append(journal.as_bytes()).map_err(failed)?;
-    Ok(Counts { parts: 1, calls, moves: part.storage.moves().into() })
+    Ok(true)
 }
 
 fn cause(error: Error) -> EndCause {
     match error {
         Error::Missing(number) => EndCause::Missing(number),
+        Error::File { kind, why } => EndCause::Write { kind, why },
+        Error::Damaged { segment, why } => EndCause::Damaged { segment, why },
+        Error::TooLong => EndCause::TooLong,
         _ => EndCause::Memory,
+    }
+}
+
+/// Does what writes files in a thread of its own, in which a file that becomes too large is an error and kills nobody.
+pub(crate) fn apart<T: Send>(work: impl FnOnce() -> T + Send) -> T {
+    let work = || {
+        hold_size_signal();
+        work()
+    };
+    thread::scope(|threads| threads.spawn(work).join()).unwrap_or_else(|panic| resume_unwind(panic))
+}
+
+/// Has this thread never get SIGXFSZ, which kills the process where a file becomes larger than the system's limit.
+fn hold_size_signal() {
+    let mut signals = sys::SignalSet::default();
+    // SAFETY: the set is as large as the system's, and no other thread has it.
+    unsafe {
+        sys::sigemptyset(&mut signals);
+        sys::sigaddset(&mut signals, sys::SIGXFSZ);
+        sys::pthread_sigmask(sys::SIG_BLOCK, &signals, ptr::null_mut());
     }
 }

@@ -1,5 +1,6 @@
 //! What the tests of runs share.
-use folugben::{Auditor, Counts, Error, Location, Run, RunAgent, Value};
+#![allow(dead_code, reason = "each test uses some of it")]
+use folugben::{Auditor, Counts, Error, Location, Run, RunAgent, Value, audit_run};
 use std::fs;
 use std::io::Write;
 use std::path::{Path, PathBuf};
@@ -10,29 +11,46 @@ pub struct Room(PathBuf);
 impl Room {
     pub fn new(name: &str) -> Room {
         let path = Path::new(env!("CARGO_TARGET_TMPDIR")).join(format!("{name}-{}", std::process::id()));
-        let _ = fs::remove_file(&path);
-        Room(path)
+        let room = Room(path);
+        room.remove();
+        room
     }
 
     pub fn path(&self) -> &Path {
         &self.0
     }
 
-    pub fn bytes(&self) -> Vec<u8> {
-        fs::read(&self.0).unwrap()
+    fn remove(&self) {
+        let _ = fs::remove_dir_all(&self.0);
+        let _ = fs::remove_file(&self.0);
     }
 
-    /// What an audit of the file tells, and the state that it leaves.
+    /// The names of the segments, in their order.
+    pub fn segments(&self) -> Vec<PathBuf> {
+        let mut all: Vec<_> = fs::read_dir(&self.0).unwrap().map(|it| it.unwrap().path()).collect();
+        all.retain(|it| it.extension().is_some_and(|it| it == "journal"));
+        all.sort();
+        all
+    }
+
+    /// The texts of all segments, one behind the other.
+    pub fn bytes(&self) -> Vec<u8> {
+        self.segments().iter().flat_map(|it| fs::read(it).unwrap()).collect()
+    }
+
+    /// What an audit of the folder tells, and the state that the run leaves.
     pub fn audited(&self) -> (Counts, Vec<(Location, Value)>) {
         let mut auditor = Auditor::new();
         auditor.write_all(&self.bytes()).unwrap();
-        (auditor.finish().unwrap(), auditor.state().unwrap().unwrap())
+        let counts = auditor.finish().unwrap();
+        assert_eq!(audit_run(&self.0), Ok(counts));
+        (counts, auditor.state().unwrap().unwrap())
     }
 }
 
 impl Drop for Room {
     fn drop(&mut self) {
-        let _ = fs::remove_file(&self.0);
+        self.remove();
     }
 }
 
@@ -53,4 +71,17 @@ pub fn add_one(agent: &mut RunAgent) -> Result<u64, Error> {
 /// The parts, calls and moves.
 pub fn numbers(it: Counts) -> (u64, u64, u64) {
     (it.parts, it.calls, it.moves)
+}
+
+/// Draws numbers, the same ones for the same seed.
+pub struct Draw(pub u64);
+
+impl Draw {
+    /// A number below the most.
+    pub fn below(&mut self, most: u64) -> u64 {
+        self.0 ^= self.0 << 13;
+        self.0 ^= self.0 >> 7;
+        self.0 ^= self.0 << 17;
+        self.0 % most
+    }
 }

@@ -1,0 +1,208 @@
+//! The agents of runs, and their steps.
+use crate::agent::{Agent, back_off};
+use crate::error::Error;
+use crate::run::parts::Core;
+use crate::run::seat::{Lent, Seat};
+use crate::step::{Holder, Step};
+use crate::value::{Location, Value};
+use std::fmt;
+use std::ops::{Deref, DerefMut};
+use std::sync::Arc;
+
+/// Who reads the state of a [`Run`](crate::Run) and fires moves on it, in any one thread at a time. It goes on from part to
+/// part by itself, and is given back when it is let go.
+pub struct RunAgent {
+    pub(crate) core: Arc<Core>,
+    pub(crate) seat: Arc<Seat>,
+}
+
+impl RunAgent {
+    /// Its number among the agents of the run.
+    pub fn number(&self) -> u32 {
+        self.seat.number()
+    }
+
+    /// Looks on, and begins a step on the state that it then sees, in the newest part.
+    ///
+    /// It waits while two parts that have ended wait for the disk, and for 0.1 s at most while a part comes to rest.
+    ///
+    /// # Errors
+    ///
+    /// - [`Error::Ended`]: a part couldn't be saved.
+    /// - [`Error::Closed`]: the run was closed.
+    /// - [`Error::TooLong`]: the part is full, and the state too long to open a further one.
+    /// - [`Error::Memory`]: the call may be made again.
+    pub fn step(&mut self) -> Result<RunStep<'_>, Error> {
+        let begun = loop {
+            if let Some(begun) = self.seat.begin(&self.core)? {
+                break begun;
+            }
+            self.core.await_part()?;
+        };
+        let number = begun.number;
+        Ok(RunStep { step: Step { agent: Holder::Lent(Lent::new(&self.core, &self.seat, begun)), number } })
+    }
+
+    /// Plays the rule until it fires, as [`Agent::play`](crate::Agent::play) does, and answers the number of the fired move
+    /// among all moves of the run, from 1 up, with what the rule told.
+    ///
+    /// A rule that is refused by [`Error::Past`] has to pass that on.
+    pub fn play<T, E: From<Error>>(
+        &mut self,
+        mut rule: impl FnMut(&mut Step<'_>) -> Result<T, E>,
+    ) -> Result<(u64, T), E> {
+        let mut tries = 0;
+        loop {
+            let mut step = self.step()?;
+            match rule(&mut step) {
+                Ok(told) => match step.fire() {
+                    Ok(number) => return Ok((number, told)),
+                    Err(error) if error.begins_anew() => {}
+                    Err(error) => return Err(error.into()),
+                },
+                // Its agent was given back meanwhile, whatever the rule makes of that.
+                Err(_) if step.is_past() => {}
+                Err(error) => return Err(error),
+            }
+            back_off(tries);
+            tries += 1;
+        }
+    }
+
+    /// Looks on, and answers how many moves of the run it has then seen.
+    ///
+    /// # Errors
+    ///
+    /// Those of [`RunAgent::step`].
+    pub fn follow(&mut self) -> Result<u64, Error> {
+        loop {
+            if let Some(number) = self.seat.follow(&self.core)? {
+                return Ok(number);
+            }
+            self.core.await_part()?;
+        }
+    }
+
+    /// The values of the locations in its own state, with the number of moves of the run at which that stands.
+    ///
+    /// It doesn't look on. Where its part has ended since, while it was in no step, its state is that at the beginning of the
+    /// newest part.
+    ///
+    /// # Errors
+    ///
+    /// - [`Error::Refused`]: a location is against the rules.
+    /// - [`Error::Ended`], [`Error::Closed`], [`Error::Memory`].
+    pub fn peek(&mut self, places: &[Location]) -> Result<(u64, Vec<Value>), Error> {
+        let (before, told) = self.tell(|agent| agent.peek(places))?;
+        Ok((before + u64::from(told.number), told.values))
+    }
+
+    /// All locations of a function, as [`RunAgent::peek`] tells some.
+    ///
+    /// # Errors
+    ///
+    /// [`Error::Ended`], [`Error::Closed`], [`Error::Memory`].
+    pub fn scan(&mut self, name: &str) -> Result<(u64, Vec<(Location, Value)>), Error> {
+        let (before, (number, told)) = self.tell(|agent| agent.scan(name))?;
+        Ok((before + u64::from(number), told))
+    }
+
+    /// All locations that have a value, as [`RunAgent::peek`] tells some.
+    ///
+    /// # Errors
+    ///
+    /// [`Error::Ended`], [`Error::Closed`], [`Error::Memory`].
+    pub fn state(&mut self) -> Result<(u64, Vec<(Location, Value)>), Error> {
+        let (before, (number, told)) = self.tell(Agent::state)?;
+        Ok((before + u64::from(number), told))
+    }
+
+    fn tell<T>(&mut self, call: impl Fn(&Agent) -> Result<T, Error>) -> Result<(u64, T), Error> {
+        loop {
+            if let Some(told) = self.seat.tell(&self.core, &call)? {
+                return Ok(told);
+            }
+            self.core.await_part()?;
+        }
+    }
+
+    /// Lets the agent go without giving it back. If it fired a move in its part, the run ends there, with
+    /// [`EndCause::Missing`](crate::EndCause::Missing).
+    pub fn abandon(self) {
+        self.seat.abandon(&self.core);
+    }
+}
+
+impl Drop for RunAgent {
+    fn drop(&mut self) {
+        self.seat.clear(&self.core);
+        self.core.release(self.seat.number());
+    }
+}
+
+impl fmt::Debug for RunAgent {
+    fn fmt(&self, f: &mut fmt::Formatter<'_>) -> fmt::Result {
+        f.debug_struct("RunAgent").field("number", &self.number()).finish_non_exhaustive()
+    }
+}
+
+/// A [`Step`] of a run's agent: its calls are those of a step, and rules take both.
+///
+/// It goes on in its part when that has ended, for 0.1 s. Then its agent is given back, and each call tells [`Error::Past`].
+#[must_use = "a step does nothing until it is fired"]
+pub struct RunStep<'a> {
+    step: Step<'a>,
+}
+
+impl RunStep<'_> {
+    fn lent(&self) -> Option<&Lent<'_>> {
+        match &self.step.agent {
+            Holder::Lent(lent) => Some(lent),
+            Holder::Own(_) => None,
+        }
+    }
+
+    /// The number of the part in which it began, which is that of its segment.
+    pub fn part(&self) -> u64 {
+        self.lent().map_or(0, |it| it.part().number)
+    }
+
+    /// Whether its agent was given back, as its part has ended.
+    fn is_past(&self) -> bool {
+        self.lent().is_some_and(|it| it.with(|_| Ok(())) == Err(Error::Past))
+    }
+
+    /// Fires as [`Step::fire`] does, and answers the move's number among all moves of the run, from 1 up.
+    ///
+    /// # Errors
+    ///
+    /// - Those of [`Step::fire`] but [`Error::Full`].
+    /// - [`Error::Past`]: the part has ended, so begin again.
+    /// - [`Error::TooLong`]: the line of the move would be longer than an audit reads.
+    /// - [`Error::Ended`], [`Error::Closed`]: nothing was fired.
+    #[must_use = "a stale step has fired nothing"]
+    pub fn fire(self) -> Result<u64, Error> {
+        let before = self.lent().map_or(0, |it| it.part().before);
+        self.step.fire().map(|number| before + u64::from(number))
+    }
+}
+
+impl<'a> Deref for RunStep<'a> {
+    type Target = Step<'a>;
+
+    fn deref(&self) -> &Step<'a> {
+        &self.step
+    }
+}
+
+impl<'a> DerefMut for RunStep<'a> {
+    fn deref_mut(&mut self) -> &mut Step<'a> {
+        &mut self.step
+    }
+}
+
+impl fmt::Debug for RunStep<'_> {
+    fn fmt(&self, f: &mut fmt::Formatter<'_>) -> fmt::Result {
+        self.step.fmt(f)
+    }
+}

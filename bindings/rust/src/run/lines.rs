@@ -1,0 +1,39 @@
+//! How long the lines of a run's segments may be, so that an audit reads each of them.
+use crate::error::{Error, answer};
+use crate::json::{Json, ToJson};
+use crate::storage::Storage;
+
+/// How many bytes a line may have, its line feed apart.
+const LINE: usize = 16_777_216;
+/// What a line has at most besides its call and the location of its reply.
+const ROOM: usize = 120;
+/// A call of fewer bytes is never written longer than a line may be, whatever its characters are escaped to.
+pub(crate) const SHORT: usize = LINE / 16;
+
+/// Expects that a segment may open with the state of the storage, in which nothing was done.
+pub(crate) fn expect_state(storage: &Storage) -> Result<(), Error> {
+    events(storage.close()?.as_bytes()).map(drop)
+}
+
+/// How many events a journal has, which are the lines behind its header.
+pub(crate) fn events(journal: &[u8]) -> Result<u64, Error> {
+    let mut lines = 0;
+    for line in journal.split_inclusive(|it| *it == b'\n') {
+        if line.len() > LINE + 1 {
+            return Err(Error::TooLong);
+        }
+        lines += 1;
+    }
+    Ok(lines - 1)
+}
+
+/// Expects that the line of a fire of this offer is short enough, whatever its reply is.
+pub(crate) fn expect_call(offer: &[u8]) -> Result<(), Error> {
+    if 2 * offer.len() + ROOM <= LINE {
+        return Ok(());
+    }
+    let (instructions, reads) = answer(offer, Json::offer)?;
+    let places = instructions.instructions().iter().map(|it| it.at()).chain(reads.iter().map(|(at, _)| at));
+    let longest = places.map(|it| it.json().len()).max().unwrap_or(0);
+    if offer.len() + longest + ROOM <= LINE { Ok(()) } else { Err(Error::TooLong) }
+}

@@ -1,0 +1,205 @@
+//! The segments of a run: text files of its folder, whose names hold a chain of digests.
+use crate::audit::{AuditError, Auditor, Counts};
+use crate::error::Error;
+use crate::run::sha256::Sha256;
+use std::fs::{self, File};
+use std::io::{self, Read, Write};
+use std::os::unix::fs::OpenOptionsExt;
+use std::path::Path;
+
+/// The flag of Linux on x86-64 by which a symbolic link isn't followed.
+pub(crate) const NO_FOLLOW: i32 = 0o400_000;
+const SUFFIX: &str = ".journal";
+const PIECE: usize = 1 << 16;
+
+/// Where the first segments of a run end.
+#[derive(Clone)]
+pub(crate) struct End {
+    pub(crate) counts: Counts,
+    digest: String,
+}
+
+impl End {
+    /// Where no segment is yet.
+    pub(crate) fn start() -> End {
+        End { counts: Counts::default(), digest: "0".repeat(64) }
+    }
+
+    /// The segment that comes next, with this text.
+    pub(crate) fn following(&self, more: Counts, text: &[u8]) -> Segment {
+        let mut digest = self.begun(more, text.len() as u64);
+        digest.update(text);
+        Segment { before: self.clone(), more, digest: digest.hex() }
+    }
+
+    /// The digest of all that comes before the text of the next segment.
+    fn begun(&self, more: Counts, length: u64) -> Sha256 {
+        let (End { counts, digest: before }, Counts { moves, calls, .. }) = (self, more);
+        let mut digest = Sha256::new();
+        digest.update(format!("{before} {} {} {moves} {calls} {length}\n", counts.parts, counts.moves).as_bytes());
+        digest
+    }
+
+    /// The segment behind this end, whose file has the name.
+    fn named(&self, name: &str) -> Result<Segment, Error> {
+        let next = self.counts.parts;
+        let Some((number, more, digest)) = parsed(name) else {
+            return Err(damaged(next, format!("{name:?} is no name of a segment")));
+        };
+        if number != next {
+            let is_twice = number + 1 == next;
+            let why = if is_twice {
+                format!("another file has this number too: {name}")
+            } else {
+                "its file is missing".to_owned()
+            };
+            return Err(damaged(number.min(next), why));
+        }
+        if number == 0 && (more.moves, more.calls) != (0, 0) {
+            return Err(damaged(0, "the opening segment has no event".to_owned()));
+        }
+        Ok(Segment { before: self.clone(), more, digest: digest.to_owned() })
+    }
+}
+
+/// A complete segment.
+#[derive(Clone)]
+pub(crate) struct Segment {
+    before: End,
+    more: Counts,
+    digest: String,
+}
+
+impl Segment {
+    pub(crate) fn number(&self) -> u64 {
+        self.before.counts.parts
+    }
+
+    /// The name of its file.
+    pub(crate) fn name(&self) -> String {
+        let Counts { moves, calls, .. } = self.more;
+        format!("{:08}-{moves}-{calls}-{}{SUFFIX}", self.number(), self.digest)
+    }
+
+    pub(crate) fn end(&self) -> End {
+        let mut counts = self.before.counts;
+        counts.add(self.more);
+        End { counts, digest: self.digest.clone() }
+    }
+
+    /// Audits the segment of the folder, behind what the auditor has audited.
+    pub(crate) fn audit(&self, folder: &Path, auditor: &mut Auditor) -> Result<(), Error> {
+        self.read(folder, &mut io::sink())?; // the digest comes first
+        let mut wanted = auditor.counts();
+        wanted.add(self.more);
+        let told = self.read(folder, auditor).and_then(|()| Ok(auditor.finish()?));
+        match told {
+            Ok(counts) if counts == wanted => Ok(()),
+            Ok(_) => {
+                Err(damaged(self.number(), "its text has other numbers of moves or events than its name".to_owned()))
+            }
+            Err(Error::Audit(error)) => Err(Error::Audit(error.of_part(self.number()))),
+            Err(error) => Err(error),
+        }
+    }
+
+    /// Writes the text to the output; it is the one that was saved, at its end at the latest.
+    fn read(&self, folder: &Path, output: &mut dyn Write) -> Result<(), Error> {
+        let opened = File::options().read(true).custom_flags(NO_FOLLOW).open(folder.join(self.name()));
+        let mut file = opened.map_err(|error| match error.kind() {
+            io::ErrorKind::NotFound => damaged(self.number(), "its file is gone".to_owned()),
+            _ => error.into(),
+        })?;
+        let mut digest = self.before.begun(self.more, file.metadata()?.len());
+        let mut piece = vec![0; PIECE];
+        loop {
+            let length = file.read(&mut piece)?;
+            if length == 0 {
+                break;
+            }
+            digest.update(&piece[..length]);
+            output.write_all(&piece[..length])?;
+        }
+        match digest.hex() == self.digest {
+            true => Ok(()),
+            false => Err(damaged(self.number(), "its text isn't the one that was saved".to_owned())),
+        }
+    }
+}
+
+/// The segments that are in the folder now, of which no text is read.
+pub(crate) fn segments(folder: &Path) -> Result<Vec<Segment>, Error> {
+    let mut names = Vec::new();
+    for entry in fs::read_dir(folder)? {
+        let name = entry?.file_name().to_string_lossy().into_owned();
+        if is_name(&name) {
+            names.push(name);
+        }
+    }
+    names.sort();
+    let (mut all, mut end) = (Vec::new(), End::start());
+    for name in names {
+        let segment = end.named(&name)?;
+        end = segment.end();
+        all.push(segment);
+    }
+    match all.is_empty() {
+        true => Err(io::Error::new(io::ErrorKind::NotFound, "the folder has no run").into()),
+        false => Ok(all),
+    }
+}
+
+/// Whether a file with this name would be a segment.
+pub(crate) fn is_name(name: &str) -> bool {
+    name.ends_with(SUFFIX)
+}
+
+/// The number of a segment, how much it has, and the digest.
+fn parsed(name: &str) -> Option<(u64, Counts, &str)> {
+    let mut words = name.strip_suffix(SUFFIX)?.split('-');
+    let [number, moves, calls, digest] = [words.next()?, words.next()?, words.next()?, words.next()?];
+    let is_digest = digest.len() == 64 && digest.bytes().all(|it| matches!(it, b'0'..=b'9' | b'a'..=b'f'));
+    let is_number = number.len() == 8 && number.bytes().all(|it| it.is_ascii_digit());
+    if words.next().is_some() || !is_digest || !is_number {
+        return None;
+    }
+    Some((number.parse().ok()?, Counts { parts: 1, calls: whole(calls)?, moves: whole(moves)? }, digest))
+}
+
+/// The number that is written so.
+fn whole(text: &str) -> Option<u64> {
+    let number: u64 = text.parse().ok()?;
+    (number.to_string() == text).then_some(number)
+}
+
+pub(crate) fn damaged(segment: u64, why: String) -> Error {
+    Error::Damaged { segment, why }
+}
+
+/// Audits the run in a folder, also while it goes on: how much of it is saved.
+///
+/// # Errors
+///
+/// - [`Error::Damaged`]: a segment is missing, or isn't the one that was saved.
+/// - [`Error::Audit`]: a segment isn't legal.
+/// - [`Error::File`]: there is no run, or it can't be read.
+pub fn audit_run(folder: impl AsRef<Path>) -> Result<Counts, Error> {
+    let mut auditor = Auditor::new();
+    for segment in segments(folder.as_ref())? {
+        segment.audit(folder.as_ref(), &mut auditor)?;
+    }
+    Ok(auditor.counts())
+}
+
+impl AuditError {
+    /// The same, of another part.
+    fn of_part(self, number: u64) -> AuditError {
+        match self {
+            AuditError::Illegal { call, .. } => AuditError::Illegal { part: number, call },
+            AuditError::Journal { fault, .. } => AuditError::Journal { part: number, fault },
+            AuditError::Apart { .. } => AuditError::Apart { part: number },
+            AuditError::LongLine { .. } => AuditError::LongLine { part: number },
+            AuditError::Memory => AuditError::Memory,
+        }
+    }
+}

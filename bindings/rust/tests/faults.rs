@@ -1,0 +1,390 @@
+//! What happens to a run and its folder: kills, power failures, damage, a full disk. Each for a moment; with `--ignored` for long.
+mod common;
+#[path = "common/crashes.rs"]
+mod crashes;
+
+use common::{Draw, Room, add_one, count, numbers, open};
+use folugben::{Check, EndCause, Error, Run, RunOptions, Value, audit_run};
+use std::env;
+use std::fs;
+use std::io::{BufRead, BufReader, ErrorKind};
+use std::path::{Path, PathBuf};
+use std::process::{Command, Stdio};
+use std::sync::OnceLock;
+use std::thread;
+use std::time::Duration;
+
+/// The name of the variable by which a test tells its child what to do, and in which folder.
+const TASK: &str = "FOLUGBEN_TEST_TASK";
+
+/// The library that notes calls and has them fail.
+fn shim() -> &'static Path {
+    static MADE: OnceLock<PathBuf> = OnceLock::new();
+    MADE.get_or_init(|| {
+        let (source, made) = (concat!(env!("CARGO_MANIFEST_DIR"), "/tests/common/shim.c"), env!("CARGO_TARGET_TMPDIR"));
+        let made = Path::new(made).join("shim.so");
+        let told =
+            Command::new("cc").args(["-shared", "-fPIC", "-O1", "-o"]).arg(&made).args([source, "-ldl"]).status();
+        assert!(told.unwrap().success());
+        made
+    })
+}
+
+/// This program again, to do a task in a folder.
+fn child(task: &str, folder: &Path) -> Command {
+    let mut command = Command::new(env::current_exe().unwrap());
+    command.args(["--exact", "is_child", "--nocapture"]).env(TASK, format!("{task}:{}", folder.display()));
+    command
+}
+
+fn with_shim(mut command: Command, folder: &Path, log: &Path) -> Command {
+    command.env("LD_PRELOAD", shim()).env("SHIM_ROOT", folder).env("SHIM_LOG", log).stdout(Stdio::null());
+    command
+}
+
+/// What the child of another test does.
+#[test]
+fn is_child() {
+    let Ok(task) = env::var(TASK) else { return };
+    let (task, path) = task.split_once(':').unwrap();
+    match task {
+        "plays" => plays(Path::new(path)),
+        "notes" => notes(Path::new(path)),
+        "fails" => fails(Path::new(path)),
+        "fails_at_once" => {
+            let told = Run::open([], path, 100).unwrap_err();
+            assert!(told.to_string().contains("os error 5"), "{told}");
+        }
+        "fills" => fills(Path::new(path)),
+        other => panic!("{other}"),
+    }
+}
+
+fn opened(path: &Path) -> Run {
+    let options = RunOptions::new().moves(50);
+    options.resume(path, Check::Last).or_else(|_| options.open([(count(), 0.into())], path)).unwrap()
+}
+
+/// Plays until it is killed, and prints each number of moves that is saved.
+fn plays(path: &Path) {
+    let run = opened(path);
+    println!("saved {}", run.saved().moves);
+    thread::scope(|threads| {
+        for mut agent in run.agents(3).unwrap() {
+            let run = &run;
+            threads.spawn(move || {
+                while let Ok(number) = add_one(&mut agent) {
+                    if number % 7 == 0 {
+                        println!("saved {}", run.flush().unwrap().moves);
+                    }
+                }
+            });
+        }
+    });
+}
+
+/// Kills a process so often, and goes on with its run: the moves that there are in the end.
+fn kill(times: u64) -> u64 {
+    let room = Room::new("killed");
+    let (mut draw, mut moves) = (Draw(77), 0);
+    for round in 0..times {
+        let mut child = child("plays", room.path()).stdout(Stdio::piped()).spawn().unwrap();
+        let lines = BufReader::new(child.stdout.take().unwrap()).lines();
+        let killer = thread::spawn({
+            let wait = Duration::from_micros(2_000 + draw.below(60_000));
+            move || {
+                thread::sleep(wait);
+                child.kill().unwrap();
+                child.wait().unwrap();
+            }
+        });
+        let saved = lines.filter_map(|it| it.ok()?.strip_prefix("saved ")?.parse::<u64>().ok()).max().unwrap_or(0);
+        killer.join().unwrap();
+        let check = if round % 2 == 0 { Check::All } else { Check::Last };
+        match Run::resume(room.path(), check) {
+            Ok(run) => {
+                assert!(run.saved().moves >= saved.max(moves), "{saved} were saved, and {}", run.saved());
+                moves = run.saved().moves;
+                assert!(!room.path().join("new").exists());
+            }
+            Err(Error::File { kind: ErrorKind::NotFound, .. }) => assert_eq!((moves, saved), (0, 0)),
+            Err(error) => panic!("{error}"),
+        }
+    }
+    let (counts, state) = room.audited();
+    assert_eq!(state, [(count(), Value::from(i64::try_from(moves).unwrap()))]);
+    assert_eq!(counts.moves, moves);
+    moves
+}
+
+#[test]
+fn a_run_that_is_killed_is_resumed() {
+    kill(10);
+}
+
+#[test]
+#[ignore = "it takes minutes"]
+fn a_run_that_is_killed_300_times_is_resumed() {
+    println!("{} moves", kill(300));
+}
+
+/// Saves some segments, and notes how many are told to be saved.
+fn notes(path: &Path) {
+    let tell = |parts: u64| {
+        use std::io::Write;
+        let mut log = fs::File::options().append(true).create(true).open(env::var("SHIM_LOG").unwrap()).unwrap();
+        log.write_all(format!("told {parts} \n").as_bytes()).unwrap();
+    };
+    let run = opened(path);
+    tell(run.saved().parts);
+    let mut agent = run.agent(0).unwrap();
+    for _ in 0..6 {
+        for _ in 0..3 {
+            add_one(&mut agent).unwrap();
+        }
+        tell(run.flush().unwrap().parts);
+    }
+}
+
+/// Resumes from so many states that a power failure may leave: how many of them lost what was told to be saved.
+fn fail(times: u64, notes_folder: bool) -> u64 {
+    let (mut draw, mut lost, mut tried) = (Draw(4), 0, 0);
+    while tried < times {
+        let (room, log, copy) = (Room::new("failure"), Room::new("failure-log"), Room::new("failure-copy"));
+        for life in 0..3 {
+            let mut command = with_shim(child("notes", room.path()), room.path(), log.path());
+            if life < 2 {
+                command.env("SHIM_DIE", (1 + draw.below(30)).to_string());
+            }
+            let _ = command.stderr(Stdio::null()).status().unwrap();
+        }
+        let log = fs::read_to_string(log.path()).unwrap();
+        let calls: Vec<_> = log.lines().collect();
+        assert!(calls.last().unwrap().starts_with("told "), "{log}");
+        for _ in 0..30 {
+            let at = draw.below(calls.len() as u64 + 1) as usize;
+            let left = crashes::crashed(&calls[..at], room.path(), notes_folder, &mut draw);
+            lost += u64::from(!is_whole(&left, copy.path()));
+            tried += 1;
+        }
+    }
+    lost
+}
+
+/// Whether a run goes on with all that was told to be saved.
+fn is_whole(left: &crashes::Left, path: &Path) -> bool {
+    let _ = fs::remove_dir_all(path);
+    if let Some(files) = &left.files {
+        fs::create_dir(path).unwrap();
+        files.iter().for_each(|(name, text)| fs::write(path.join(name), text).unwrap());
+    }
+    let resumed = Run::resume(path, Check::All);
+    let is_none = matches!(&resumed, Err(Error::File { kind: ErrorKind::NotFound, .. }));
+    if is_none && left.told == 0 {
+        return Run::open([], path, 5).is_ok();
+    }
+    resumed.is_ok_and(|run| {
+        let parts = run.saved().parts;
+        let fired = add_one(&mut run.agent(0).unwrap()).unwrap();
+        parts >= left.told && run.close().unwrap().moves == fired && audit_run(path).is_ok()
+    })
+}
+
+#[test]
+fn a_power_failure_loses_nothing_that_was_saved() {
+    assert_eq!(fail(30, true), 0);
+    // It would, if the folder weren't flushed.
+    assert!(fail(60, false) > 0);
+}
+
+#[test]
+#[ignore = "it takes minutes"]
+fn power_failures_at_300_moments_lose_nothing_that_was_saved() {
+    assert_eq!(fail(300, true), 0);
+    println!("{} of 120 are lost where no folder is flushed", fail(120, false));
+}
+
+/// The run's folder fails to be flushed.
+fn fails(path: &Path) {
+    let run = Run::open([(count(), 0.into())], path, 100).unwrap();
+    let mut agent = run.agent(0).unwrap();
+    add_one(&mut agent).unwrap();
+    let saved = run.saved();
+    let Err(Error::Ended(why)) = run.flush() else { panic!("not ended") };
+    assert!(matches!(&why.cause, EndCause::Write { why, .. } if why.contains("os error 5")) && why.part == 1, "{why}");
+    assert_eq!((run.saved(), run.close()), (saved, Err(Error::Ended(why))));
+}
+
+#[test]
+fn a_folder_that_is_not_flushed_is_told() {
+    let (room, log) = (Room::new("unflushed"), Room::new("unflushed-log"));
+    let mut command = with_shim(child("fails", room.path()), room.path(), log.path());
+    // One flush is that of its opening, and one that of its first segment.
+    let told = command.env("SHIM_FAIL", "3").output().unwrap();
+    assert!(told.status.success(), "{}", String::from_utf8_lossy(&told.stderr));
+    let room = Room::new("unopened");
+    let mut command = with_shim(child("fails_at_once", room.path()), room.path(), log.path());
+    assert!(command.env("SHIM_FAIL", "1").status().unwrap().success());
+    assert!(room.segments().is_empty());
+}
+
+/// No file may have more than 64 KiB.
+fn fills(path: &Path) {
+    let long = [(count(), "x".repeat(70_000).into())];
+    let told = Run::open(long, path, 100).unwrap_err();
+    assert!(matches!(told, Error::File { kind: ErrorKind::FileTooLarge, .. }), "{told}");
+    let run = Run::open([(count(), 0.into())], path, 2_000).unwrap();
+    let mut agent = run.agent(0).unwrap();
+    add_one(&mut agent).unwrap();
+    run.flush().unwrap();
+    let ended = loop {
+        if let Err(error) = add_one(&mut agent) {
+            break error;
+        }
+    };
+    let Err(Error::Ended(why)) = run.close() else { panic!("not ended") };
+    assert!(matches!(why.cause, EndCause::Write { kind: ErrorKind::FileTooLarge, .. }), "{why}");
+    assert_eq!((ended, why.part, run.saved().moves), (Error::Ended(why.clone()), 2, 1));
+}
+
+#[test]
+fn a_file_that_becomes_too_large_kills_nobody() {
+    let room = Room::new("large");
+    let mut command = Command::new("bash");
+    command.args(["-c", "ulimit -f 64; exec \"$0\" --exact is_child --nocapture"]).arg(env::current_exe().unwrap());
+    let told = command.env(TASK, format!("fills:{}", room.path().display())).output().unwrap();
+    assert!(told.status.success(), "{}", String::from_utf8_lossy(&told.stdout));
+    assert_eq!((numbers(room.audited().0), room.path().join("new").exists()), ((2, 1, 1), false));
+}
+
+/// A run of 5 segments, of which the last has 2 moves.
+fn played(room: &Room) {
+    let run = open(room, 4);
+    let mut agent = run.agent(0).unwrap();
+    for _ in 0..14 {
+        add_one(&mut agent).unwrap();
+    }
+    assert_eq!(run.close().map(numbers), Ok((5, 14, 14)));
+}
+
+/// Each call refuses the run for this segment, and nothing in it is changed.
+fn assert_refused(room: &Room, segment: u64, checks: &[Check]) {
+    let all = |path: &Path| {
+        let mut all: Vec<_> = fs::read_dir(path).unwrap().map(|it| it.unwrap().path()).collect();
+        all.sort();
+        all.into_iter().map(|it| (fs::read(&it).unwrap(), it)).collect::<Vec<_>>()
+    };
+    let before = all(room.path());
+    let told = checks.iter().map(|check| Run::resume(room.path(), *check).err());
+    for told in told.chain([audit_run(room.path()).err()]) {
+        assert!(
+            matches!(&told, Some(Error::Damaged { segment: at, .. }) if *at == segment),
+            "{told:?}, and not {segment}"
+        );
+    }
+    assert_eq!(all(room.path()), before);
+}
+
+/// Alters so many bits and lengths of segments.
+fn flip(times: u64) {
+    let room = Room::new("flipped");
+    played(&room);
+    let (segments, mut draw) = (room.segments(), Draw(5));
+    for _ in 0..times {
+        let number = draw.below(5);
+        let file = &segments[number as usize];
+        let whole = fs::read(file).unwrap();
+        let (mut altered, length) = (whole.clone(), whole.len() as u64);
+        match draw.below(10) {
+            0..6 => altered[draw.below(length) as usize] ^= 1 << draw.below(8),
+            6..9 => altered.truncate(draw.below(length) as usize),
+            _ => altered.extend_from_slice(&whole[..1 + draw.below(length) as usize]),
+        }
+        fs::write(file, altered).unwrap();
+        assert_refused(&room, number, if number == 4 { &[Check::All, Check::Last] } else { &[Check::All] });
+        fs::write(file, whole).unwrap();
+    }
+    assert_eq!(audit_run(room.path()).map(numbers), Ok((5, 14, 14)));
+}
+
+#[test]
+fn flipped_bits_and_cut_files_are_found() {
+    flip(60);
+}
+
+#[test]
+#[ignore = "it takes minutes"]
+fn flipped_bits_and_cut_files_are_found_3000_times() {
+    flip(3_000);
+}
+
+#[test]
+fn names_of_segments_are_checked() {
+    let room = Room::new("names");
+    played(&room);
+    let both = &[Check::All, Check::Last];
+    let segments = room.segments();
+    let name =
+        |number: usize, from: &str, to: &str| PathBuf::from(segments[number].to_str().unwrap().replacen(from, to, 1));
+    for (from, to, segment) in [
+        (2, room.path().join("gone"), 2),
+        (2, room.path().join("00000009-4-4-00.journal"), 2),
+        (0, room.path().join("gone"), 0),
+        (0, name(0, "-0-0-", "-1-1-"), 0),
+        (1, name(1, "-4-4-", "-04-4-"), 1),
+        (1, name(1, "-4-4-", "-+4-4-"), 1),
+        (3, name(3, "00000003", "00000002"), 2),
+        (4, name(4, "00000004", "00000005"), 4),
+    ] {
+        fs::rename(&segments[from], &to).unwrap();
+        assert_refused(&room, segment, both);
+        fs::rename(&to, &segments[from]).unwrap();
+    }
+    // What a copy or an editor leaves beside them doesn't matter, nor that the last segments were removed.
+    fs::write(room.path().join("notes"), "").unwrap();
+    fs::remove_file(&segments[4]).unwrap();
+    assert_eq!(audit_run(room.path()).map(numbers), Ok((4, 12, 12)));
+}
+
+#[test]
+fn what_is_moved_removed_or_replaced_meanwhile_is_noticed() {
+    type Alter = fn(&Room);
+    let alters: [(&str, Alter, &str); 7] = [
+        ("move", |it| fs::rename(it.path(), it.path().with_extension("moved")).unwrap(), "was removed"),
+        ("remove", |it| fs::remove_dir_all(it.path()).unwrap(), "was removed"),
+        (
+            "replace",
+            |it| {
+                fs::rename(it.path(), it.path().with_extension("moved")).unwrap();
+                fs::create_dir(it.path()).unwrap();
+            },
+            "moved or replaced",
+        ),
+        ("lock", |it| fs::remove_file(it.path().join("lock")).unwrap(), "was removed"),
+        (
+            "other-lock",
+            |it| {
+                fs::remove_file(it.path().join("lock")).unwrap();
+                fs::write(it.path().join("lock"), "").unwrap();
+            },
+            "the lock in",
+        ),
+        ("last", |it| fs::remove_file(&it.segments()[1]).unwrap(), "was removed"),
+        ("cut", |it| fs::write(&it.segments()[1], "x").unwrap(), "another size"),
+    ];
+    for (name, alter, said) in alters {
+        let room = Room::new(&format!("at-work-{name}"));
+        let run = open(&room, 4);
+        let mut agent = run.agent(0).unwrap();
+        for _ in 0..4 {
+            add_one(&mut agent).unwrap();
+        }
+        assert_eq!(run.flush().unwrap().moves, 4);
+        add_one(&mut agent).unwrap();
+        alter(&room);
+        let Err(Error::Ended(why)) = run.flush() else { panic!("{name}: not ended") };
+        assert!(matches!(why.cause, EndCause::Damaged { .. }) && why.to_string().contains(said), "{name}: {why}");
+        assert_eq!((why.part, run.saved().moves, add_one(&mut agent)), (2, 4, Err(Error::Ended(why.clone()))));
+        let _ = fs::remove_dir_all(room.path().with_extension("moved"));
+    }
+}
