@@ -5,16 +5,17 @@ export const MOST_COUNT = 2 ** 32 - 1;
 const LEAST_SUM = -(2n ** 63n), MOST_SUM = 2n ** 63n - 1n, SAFE = BigInt(Number.MAX_SAFE_INTEGER);
 const FAMILY = { add: ofSet, remove: ofSet, bagadd: ofBag, bagremove: ofBag, inc: ofNumber };
 
-// What doesn't agree in an event, before its updates are taken in: null, or the answer that a storage gives there. A fire gets its
-// `effects`: for each location the cause of a clash, or whether a change of it is the one that the instructions make.
-export function doubtOf(event, run) {
-  if (event.fire && (event.kind === "fired" || !isStaleRight(event, run))) event.effects = effectsOf(event);
-  const answer = event.right ?? event.reply, right = event.read ? rightRead(event, answer) : rightFire(event, answer, run);
+// What a fire makes of each location that it writes: the cause of a clash, or whether a change of it is the one that the instructions
+// make. Null where that decides nothing.
+export const effectsFor = (event, run) => event.fire && (event.kind === "fired" || !isStaleRight(event, run)) ? effectsOf(event) : null;
+// What doesn't agree in an event, before its updates are taken in: null, or the answer that a storage gives there.
+export function doubtOf(event, effects, run) {
+  const answer = event.right ?? event.reply, right = event.read ? rightRead(event, answer) : rightFire(event, effects, answer, run);
   if (right !== null) return { right };
   return event.isWrong && isSame(event.right, event.reply) ? { isRepeated: true } : null;
 }
 // Whether the updates that were taken in are those of the instructions.
-export function isDone({ effects, writes }) {
+export function isDone({ writes }, effects) {
   if (effects.isClash) return writes.length === 0;
   return writes.length === effects.size && writes.every(write => effects.has(write.location) && effects.get(write.location).fits(write));
 }
@@ -24,11 +25,11 @@ function rightRead(event, answer) {
   if (answer.number === event.before && event.read.every((it, i) => it.content.equals(answer.values[i]))) return null;
   return { number: event.before, values: event.read.map(it => it.content.whole()) };
 }
-function rightFire(event, answer, run) {
+function rightFire(event, effects, answer, run) {
   const stale = knownStale(event);
   if (answer.stale && isStaleRight(event, run)) return null;
   if (stale) return { stale: stale.at };
-  const clash = event.effects?.isClash ? clashOf(event.effects) : null;
+  const clash = effects?.isClash ? clashOf(effects) : null;
   if (clash) return answer.clash && isSame(answer.clash, clash) ? null : { clash };
   if (answer === "full" && run.ends.has(event.before)) return null;
   if (event.before >= run.capacity) return answer === "full" ? null : "full";

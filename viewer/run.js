@@ -1,7 +1,7 @@
 // The run that a trace tells: its events, its locations, and the value of each at any move.
 import { Content } from "./content.js";
 import { Fault, readJson } from "./exact.js";
-import { doubtOf, isDone } from "./judge.js";
+import { doubtOf, effectsFor, isDone } from "./judge.js";
 import { checkEvent, checkHeader } from "./shape.js";
 import { byElement, byLocation, firstFrom, isSame, keyOf, locationText } from "./terms.js";
 
@@ -137,11 +137,10 @@ export class Run {
   }
   // Takes in what the event changes; `doubt` is what doesn't agree with what the trace has so far.
   judge(event, updates) {
-    const doubt = doubtOf(event, this);
+    const effects = effectsFor(event, this), doubt = doubtOf(event, effects, this);
     if (event.kind === "fired") this.fire(event, updates);
     if (doubt) event.doubt = doubt;
-    else if (event.kind === "fired" && !isDone(event)) event.doubt = { isChange: true };
-    delete event.effects;
+    else if (event.kind === "fired" && !isDone(event, effects)) event.doubt = { isChange: true };
   }
   fire(event, updates) {
     this.moves.push(event.number);

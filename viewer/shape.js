@@ -66,6 +66,7 @@ function listOf(list, most, check, what) {
 function ascending(list, by, what) {
   for (let i = 1; i < list.length; i++) if (by(list[i - 1], list[i]) >= 0) throw new Fault(`${what} aren't in ascending order`);
 }
+const firstOf = it => it[0];
 
 function checkCall(call) {
   need(isObject(call), "its `call` is no call");
@@ -119,10 +120,11 @@ function checkChange(change) {
       checkCount(it[1], 0);
       checkCount(it[2], 0);
     }, "`counts`");
-    return ascending(told.counts.map(it => it[0]), byElement, "the elements of `counts`");
+    return told.counts.length > 1 ? ascending(told.counts.map(firstOf), byElement, "the elements of `counts`") : undefined;
   }
   members(told, ["added", "removed"], "a change");
-  for (const side of ["added", "removed"]) checkElements(told[side], `\`${side}\``);
+  checkElements(told.added, "`added`");
+  checkElements(told.removed, "`removed`");
 }
 
 function checkPair(pair) {
@@ -146,9 +148,10 @@ function checkValue(value) {
   ascending(value.bag.map(it => it[0]), byElement, "the elements of a bag");
 }
 function checkElements(list, what) {
-  listOf(list, Infinity, it => checkElement(it), what);
-  ascending(list, byElement, `the elements of ${what}`);
+  listOf(list, Infinity, checkOne, what);
+  if (list.length > 1) ascending(list, byElement, `the elements of ${what}`);
 }
+const checkOne = it => checkElement(it);
 function checkElement(x, depth = 0) {
   if (x === null || typeof x === "boolean" || typeof x === "string") return;
   if (!isObject(x)) return checkNumber(x);
