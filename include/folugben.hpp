@@ -1,76 +1,111 @@
 // folugben.hpp: the abstract storage of a CoreASM engine, for C++20, over folugben.h.
 //
-// Each class owns a slot on the heap, which is released with it; it can be moved, and not copied. What was moved from is empty:
-// each further call on it answers or throws ASM_EMPTY. An agent is given back to its storage when it is destroyed, so that its
-// moves are in the next journal. What folugben.h says of threads holds: an object is used in one thread at a time, but for a
-// storage, which has a lock of its own. A storage that is copied is one storage, which two objects share.
+// An element, a set, a bag and a value are values of their own. Each other class owns a slot on the heap, which is released with
+// it; it can be moved, and not copied. What was moved from is empty: a call on it throws code::empty, and a `try_` call answers
+// that. An agent is given back to its storage when it is destroyed, so that its moves are in the next journal. What folugben.h
+// says of threads holds: an object is used in one thread at a time, but for a storage, which has a lock of its own. A storage
+// that is copied is one storage, which two objects share.
 //
-// Each call comes twice: `fire` throws an error of its own kind, and `try_fire`, which is noexcept, answers the code of
-// folugben.h. A step goes on with its agent wherever that moves, and is refused with ASM_EMPTY once that is given back.
+// The calls whose name begins with `try_` are noexcept, and answer a code; those beside them throw an error in its place. A
+// `conflict` alone means that a step is to be begun again. A step goes on with its agent wherever that moves, and is refused
+// with code::empty once that is given back.
 //
 //    folugben::storage storage(R"([[["count"],0]])", 1000);
 //    folugben::agent agent = storage.make_agent(0);
-//    folugben::location count(R"(["count"])");
-//    auto number = agent.play([&](folugben::step &step) {
+//    folugben::location count("count");
+//    auto played = agent.play([&](folugben::step &step) {
+//        auto next = step.get(count).number() + 1;
 //        folugben::instructions move;
-//        step.push(move.put(count, step.get(count).number() + 1));
+//        step.push(move.put(count, next));
+//        return next;
 //    });
+//    // played.number is that of the move, and played.result is next
 #ifndef FOLUGBEN_HPP
 #define FOLUGBEN_HPP
 
 #include <folugben.h>
 
+#include <array>
+#include <charconv>
 #include <chrono>
+#include <compare>
 #include <concepts>
 #include <cstdint>
+#include <map>
 #include <memory>
 #include <mutex>
 #include <new>
+#include <set>
 #include <span>
 #include <stdexcept>
 #include <string>
 #include <string_view>
 #include <thread>
+#include <type_traits>
 #include <utility>
+#include <variant>
 #include <vector>
 
 namespace folugben {
 
+// What calls answer, as folugben.h says.
+enum class [[nodiscard]] code : std::int32_t {
+    done = ASM_DONE,
+    stale = ASM_STALE,
+    clash = ASM_CLASH,
+    memory = ASM_MEMORY,
+    full = ASM_FULL,
+    empty = ASM_EMPTY,
+    range = ASM_RANGE,
+    small = ASM_SMALL,
+    busy = ASM_BUSY,
+    many = ASM_MANY,
+    none = ASM_NONE,
+    taken = ASM_TAKEN,
+    number = ASM_NUMBER,
+    missing = ASM_MISSING,
+    other = ASM_OTHER,
+    illegal = ASM_ILLEGAL,
+    not_json = ASM_NOT_JSON,
+    shape = ASM_SHAPE,
+    version = ASM_VERSION,
+    cut = ASM_CUT,
+    large = ASM_LARGE,
+    moved = ASM_MOVED,
+    deep = ASM_DEEP,
+    apart = ASM_APART,
+};
+
 // What a code means, in a line of English.
-inline std::string meaning(std::int32_t code) {
-    std::uint8_t text[256];
+inline std::string meaning(code of) {
+    std::array<std::uint8_t, 256> text;
     std::size_t written = 0;
-    if (asm_error_text(code, text, sizeof text, &written) != ASM_DONE) return "code " + std::to_string(code);
-    return {reinterpret_cast<const char *>(text), written};
+    const auto number = static_cast<std::int32_t>(of);
+    if (asm_error_text(number, text.data(), text.size(), &written) != ASM_DONE) return "code " + std::to_string(number);
+    return {reinterpret_cast<const char *>(text.data()), written};
 }
 
 // Why a call wasn't done: its code, and the text of its answer where there is one, such as {"stale":["count"]}. Nothing was
 // fired or lost.
 class error : public std::runtime_error {
   public:
-    error(std::int32_t code, std::string text)
-        : std::runtime_error(text.empty() ? meaning(code) : meaning(code) + ": " + text), code_(code), text_(std::move(text)) {}
-    std::int32_t code() const noexcept { return code_; }
+    error(folugben::code why, std::string text)
+        : std::runtime_error(text.empty() ? meaning(why) : meaning(why) + ": " + text), code_(why), text_(std::move(text)) {}
+    folugben::code code() const noexcept { return code_; }
     const std::string &text() const noexcept { return text_; }
 
   private:
-    std::int32_t code_;
+    folugben::code code_;
     std::string text_;
 };
 
-// Errors after which a step is begun anew, as `play` does.
-class retry : public error {
+// A fire of a step that met another agent's moves (code::stale, code::clash or code::busy): the step is to be begun again, as
+// `play` does.
+class conflict : public error {
   public:
     using error::error;
 };
-class stale : public retry {
-  public:
-    using retry::retry;
-};
-class busy : public retry {
-  public:
-    using retry::retry;
-};
+// A push whose updates clash on what the step sees; and a fire of a move without a step, which would clash again.
 class clash : public error {
   public:
     using error::error;
@@ -82,25 +117,25 @@ class full : public error {
 // A move, whose number `number()` tells, was fired by an agent that wasn't given back.
 class missing : public error {
   public:
-    explicit missing(std::uint32_t number) : error(ASM_MISSING, "move " + std::to_string(number)), number_(number) {}
+    explicit missing(std::uint32_t number) : error(folugben::code::missing, "move " + std::to_string(number)), number_(number) {}
     std::uint32_t number() const noexcept { return number_; }
 
   private:
     std::uint32_t number_;
 };
-// The first thing that is wrong with a run: in which part, and at which call of it (ASM_ILLEGAL, both from 0 up), or at which
-// line of it (ASM_NOT_JSON and ASM_SHAPE, from 1 up; else 0).
+// The first thing that is wrong with a run: in which part, and at which call of it (code::illegal, both from 0 up), or at
+// which line of it (code::not_json and code::shape, from 1 up; else 0).
 class audit_error : public error {
   public:
-    audit_error(std::int32_t code, const asm_audit_numbers &told) : error(code, place(code, told)), told_(told) {}
+    audit_error(folugben::code why, const asm_audit_numbers &told) : error(why, place(why, told)), told_(told) {}
     std::uint64_t part() const noexcept { return told_.parts; }
-    std::uint64_t call() const noexcept { return code() == ASM_ILLEGAL ? told_.calls : 0; }
-    std::uint64_t line() const noexcept { return code() == ASM_ILLEGAL ? 0 : told_.calls; }
+    std::uint64_t call() const noexcept { return code() == folugben::code::illegal ? told_.calls : 0; }
+    std::uint64_t line() const noexcept { return code() == folugben::code::illegal ? 0 : told_.calls; }
 
   private:
-    static std::string place(std::int32_t code, const asm_audit_numbers &told) {
+    static std::string place(folugben::code why, const asm_audit_numbers &told) {
         std::string text = "part " + std::to_string(told.parts);
-        if (code == ASM_ILLEGAL) return text + " call " + std::to_string(told.calls);
+        if (why == folugben::code::illegal) return text + " call " + std::to_string(told.calls);
         return told.calls == 0 ? text : text + " line " + std::to_string(told.calls);
     }
     asm_audit_numbers told_;
@@ -110,16 +145,19 @@ namespace detail {
 
 inline const std::uint8_t *bytes(std::string_view text) noexcept { return reinterpret_cast<const std::uint8_t *>(text.data()); }
 
-[[noreturn]] inline void fail(std::int32_t code, std::string text) {
-    switch (code) {
-    case ASM_STALE: throw stale(code, std::move(text));
-    case ASM_BUSY: throw busy(code, std::move(text));
-    case ASM_CLASH: throw clash(code, std::move(text));
-    case ASM_FULL: throw full(code, std::move(text));
-    case ASM_MEMORY: throw std::bad_alloc();
-    default: throw error(code, std::move(text));
+[[noreturn]] inline void fail(code why, std::string text) {
+    switch (why) {
+    case code::stale:
+    case code::busy: throw conflict(why, std::move(text));
+    case code::clash: throw clash(why, std::move(text));
+    case code::full: throw full(why, std::move(text));
+    case code::memory: throw std::bad_alloc();
+    default: throw error(why, std::move(text));
     }
 }
+
+// Whether a fire of a step with this code is to be begun again.
+constexpr bool is_conflict(code it) noexcept { return it == code::stale || it == code::busy || it == code::clash; }
 
 // The slot of what was moved from, which is empty: calls that would fill it aren't made.
 inline asm_slot *nothing() noexcept {
@@ -146,20 +184,24 @@ class held {
 };
 
 // Makes a call that writes a text, again with more room where there is too little. The text is then the call's, with any code.
-template <class Call> std::int32_t told(Call call, std::string &text) {
+template <class Call> code told(Call call, std::string &text) {
     text.resize(256);
     for (;;) {
         std::size_t written = 0;
-        std::int32_t code = call(reinterpret_cast<std::uint8_t *>(text.data()), text.size(), &written);
+        const code it{call(reinterpret_cast<std::uint8_t *>(text.data()), text.size(), &written)};
         text.resize(written);
-        if (code != ASM_SMALL) return code;
+        if (it != code::small) return it;
     }
 }
 
+inline bool is_refused(code it) noexcept { return it == code::not_json || it == code::shape; }
+
 inline std::string explained(std::int32_t form, std::string_view refused) {
     std::string text;
-    told([&](auto *out, auto room, auto *written) { return asm_explain(form, bytes(refused), refused.size(), out, room, written); },
-         text);
+    auto call = [&](auto *out, auto room, auto *written) {
+        return asm_explain(form, bytes(refused), refused.size(), out, room, written);
+    };
+    if (told(call, text) == code::memory) throw std::bad_alloc();
     return text;
 }
 
@@ -170,9 +212,235 @@ inline std::string within(std::string_view before, std::string_view text, std::s
     return whole.append(before).append(text).append(behind);
 }
 
-inline void done(std::int32_t code, std::string text = {}) {
-    if (code != ASM_DONE) fail(code, std::move(text));
+inline void done(code it, std::string text = {}) {
+    if (it != code::done) fail(it, std::move(text));
 }
+inline void done(std::int32_t it) { done(code{it}); }
+
+} // namespace detail
+
+namespace detail {
+
+template <class It>
+concept whole = std::is_integral_v<It> && !std::is_same_v<It, bool> && sizeof(It) <= 8 && (std::is_signed_v<It> || sizeof(It) < 8);
+
+inline void write_text(std::string &out, std::string_view text) {
+    constexpr std::string_view digits = "0123456789abcdef";
+    out += '"';
+    for (char it : text) {
+        const auto byte = static_cast<unsigned char>(it);
+        if (byte < 0x20) {
+            out.append("\\u00").append(1, digits[byte >> 4]).append(1, digits[byte & 15]);
+            continue;
+        }
+        if (it == '"' || it == '\\') out += '\\';
+        out += it;
+    }
+    out += '"';
+}
+
+// Writes the items between brackets.
+template <class Items, class Write> void write_items(std::string &out, const Items &items, Write write) {
+    char before = '[';
+    for (const auto &it : items) {
+        out += before;
+        write(it);
+        before = ',';
+    }
+    out.append(before == '[' ? "[" : "").append("]");
+}
+
+} // namespace detail
+
+// What arguments of locations, lists, sets and bags are made of: undef, a boolean, a number, a text or a list. Elements are in the
+// storage's order.
+class element {
+  public:
+    element(std::nullptr_t = nullptr) noexcept {}
+    template <std::same_as<bool> Truth> element(Truth is_true) noexcept : it_(is_true) {}
+    template <detail::whole Whole> element(Whole number) noexcept : it_(static_cast<std::int64_t>(number)) {}
+    element(std::string text) noexcept : it_(std::move(text)) {}
+    element(std::string_view text) : it_(std::string(text)) {}
+    element(const char *text) : it_(std::string(text)) {}
+    element(std::vector<element> items) noexcept : it_(std::move(items)) {}
+
+    asm_kind kind() const noexcept { return static_cast<asm_kind>(it_.index()); }
+    bool is_undef() const noexcept { return it_.index() == 0; }
+    bool is_true() const noexcept { return it_ == decltype(it_)(true); }
+    // The number; `otherwise` where it is none.
+    std::int64_t number(std::int64_t otherwise = 0) const noexcept {
+        const auto *it = std::get_if<std::int64_t>(&it_);
+        return it ? *it : otherwise;
+    }
+    // The text and the list; empty where it is none.
+    const std::string &text() const noexcept {
+        static const std::string none;
+        const auto *it = std::get_if<std::string>(&it_);
+        return it ? *it : none;
+    }
+    const std::vector<element> &items() const noexcept {
+        static const std::vector<element> none;
+        const auto *it = std::get_if<std::vector<element>>(&it_);
+        return it ? *it : none;
+    }
+    void write_json(std::string &out) const {
+        switch (kind()) {
+        case ASM_KIND_BOOL: out += is_true() ? "true" : "false"; break;
+        case ASM_KIND_NUM: out += std::to_string(number()); break;
+        case ASM_KIND_TEXT: detail::write_text(out, text()); break;
+        case ASM_KIND_LIST:
+            out += "{\"list\":";
+            detail::write_items(out, items(), [&](const element &it) { it.write_json(out); });
+            out += '}';
+            break;
+        default: out += "null";
+        }
+    }
+    // undef, false, true, numbers, texts by their bytes, and lists, of which a shorter one comes first.
+    friend std::strong_ordering operator<=>(const element &one, const element &other) noexcept {
+        if (auto by_kind = one.it_.index() <=> other.it_.index(); by_kind != 0 || one.is_undef()) return by_kind;
+        if (one.kind() == ASM_KIND_BOOL) return one.is_true() <=> other.is_true();
+        if (one.kind() == ASM_KIND_NUM) return one.number() <=> other.number();
+        if (one.kind() == ASM_KIND_TEXT) return one.text().compare(other.text()) <=> 0;
+        if (auto by_size = one.items().size() <=> other.items().size(); by_size != 0) return by_size;
+        for (std::size_t i = 0; i < one.items().size(); ++i)
+            if (auto by_item = one.items()[i] <=> other.items()[i]; by_item != 0) return by_item;
+        return std::strong_ordering::equal;
+    }
+    friend bool operator==(const element &one, const element &other) noexcept { return (one <=> other) == 0; }
+
+  private:
+    std::variant<std::monostate, bool, std::int64_t, std::string, std::vector<element>> it_;
+};
+static_assert(ASM_KIND_UNDEF == 0 && ASM_KIND_BOOL == 1 && ASM_KIND_NUM == 2 && ASM_KIND_TEXT == 3 && ASM_KIND_LIST == 4);
+
+using list = std::vector<element>;
+using set = std::set<element>;
+// How often each element is there, which is at least once.
+using bag = std::map<element, std::uint32_t>;
+
+namespace detail {
+
+inline std::string json_of(const list &items) {
+    std::string text;
+    element(items).write_json(text);
+    return text;
+}
+inline std::string json_of(const set &elements) {
+    std::string text = "{\"set\":";
+    write_items(text, elements, [&](const element &it) { it.write_json(text); });
+    return text += '}';
+}
+inline std::string json_of(const bag &counts) {
+    std::string text = "{\"bag\":";
+    write_items(text, counts, [&](const auto &it) {
+        text += '[';
+        it.first.write_json(text);
+        text.append(",").append(std::to_string(it.second)).append("]");
+    });
+    return text += '}';
+}
+inline std::string json_of(std::string_view name, const list &args) {
+    std::string text = "[";
+    write_text(text, name);
+    for (const element &it : args) it.write_json(text += ',');
+    return text += ']';
+}
+
+// Reads a text that the library wrote, which has no white space.
+class reader {
+  public:
+    explicit reader(std::string_view text) noexcept : left_(text) {}
+
+    std::string_view left() const noexcept { return left_; }
+    bool skip(std::string_view wanted) noexcept {
+        if (!left_.starts_with(wanted)) return false;
+        left_.remove_prefix(wanted.size());
+        return true;
+    }
+    void expect(std::string_view wanted) {
+        if (!skip(wanted)) fail(code::shape, "an answer of another form: " + std::string(left_.substr(0, 40)));
+    }
+    // Reads items between brackets, each by the call.
+    template <class Item> void items(Item item) {
+        expect("[");
+        if (skip("]")) return;
+        do item();
+        while (skip(","));
+        expect("]");
+    }
+    template <class Number> Number number() {
+        Number it{};
+        const auto told = std::from_chars(left_.data(), left_.data() + left_.size(), it);
+        if (told.ec != std::errc()) expect("a number");
+        left_.remove_prefix(static_cast<std::size_t>(told.ptr - left_.data()));
+        return it;
+    }
+    std::string text() {
+        std::string it;
+        expect("\"");
+        while (!skip("\"")) {
+            if (left_.empty()) expect("\"");
+            if (skip("\\")) {
+                escaped(it);
+            } else {
+                it += left_.front();
+                left_.remove_prefix(1);
+            }
+        }
+        return it;
+    }
+    folugben::element element() {
+        if (skip("null")) return nullptr;
+        if (skip("true")) return true;
+        if (skip("false")) return false;
+        if (left_.starts_with('"')) return text();
+        if (!skip("{\"list\":")) return number<std::int64_t>();
+        list all;
+        items([&] { all.push_back(element()); });
+        expect("}");
+        return all;
+    }
+    folugben::set set() {
+        folugben::set all;
+        expect("{\"set\":");
+        items([&] { all.insert(element()); });
+        expect("}");
+        return all;
+    }
+    folugben::bag bag() {
+        folugben::bag all;
+        expect("{\"bag\":");
+        items([&] {
+            expect("[");
+            auto it = element();
+            expect(",");
+            all.emplace(std::move(it), number<std::uint32_t>());
+            expect("]");
+        });
+        expect("}");
+        return all;
+    }
+
+  private:
+    // Which characters the library escapes: control characters, quotes and backslashes.
+    void escaped(std::string &out) {
+        constexpr std::string_view letters = "\"\\/bfnrt", meant = "\"\\/\b\f\n\r\t";
+        if (skip("u00")) {
+            unsigned it = 0;
+            const auto told = std::from_chars(left_.data(), left_.data() + (left_.size() < 2 ? left_.size() : 2), it, 16);
+            if (told.ptr != left_.data() + 2 || it > 0x7f) expect("two digits");
+            left_.remove_prefix(2);
+            out += static_cast<char>(it);
+            return;
+        }
+        const auto at = left_.empty() ? std::string_view::npos : letters.find(left_.front());
+        if (at == std::string_view::npos) expect("an escape");
+        out += meant[at];
+        left_.remove_prefix(1);
+    }
+    std::string_view left_;
+};
 
 } // namespace detail
 
@@ -180,7 +448,7 @@ inline void done(std::int32_t code, std::string text = {}) {
 class value {
   public:
     value() = default;
-    value(asm_value head, std::string bytes) : head_(head), bytes_(std::move(bytes)) {}
+    value(asm_value head, std::string bytes) noexcept : head_(head), bytes_(std::move(bytes)) {}
     asm_kind kind() const noexcept { return static_cast<asm_kind>(head_.kind); }
     bool is_undef() const noexcept { return head_.kind == ASM_KIND_UNDEF; }
     bool is_true() const noexcept { return head_.kind == ASM_KIND_BOOL && head_.number == 1; }
@@ -190,46 +458,121 @@ class value {
     }
     // The text of a text, or the JSON of a list, a set or a bag; else empty.
     const std::string &text() const noexcept { return bytes_; }
+    // The same as an element, a set and a bag; of any other kind code::shape.
+    folugben::element as_element() const {
+        switch (kind()) {
+        case ASM_KIND_UNDEF: return nullptr;
+        case ASM_KIND_BOOL: return is_true();
+        case ASM_KIND_NUM: return head_.number;
+        case ASM_KIND_TEXT: return bytes_;
+        default: return detail::reader(bytes_).element();
+        }
+    }
+    folugben::set as_set() const { return of_kind(ASM_KIND_SET).set(); }
+    folugben::bag as_bag() const { return of_kind(ASM_KIND_BAG).bag(); }
     friend bool operator==(const value &one, const value &other) noexcept {
         return one.head_.kind == other.head_.kind && one.head_.number == other.head_.number && one.bytes_ == other.bytes_;
     }
 
   private:
     friend class operand;
+    detail::reader of_kind(asm_kind wanted) const {
+        if (kind() != wanted) detail::fail(code::shape, wanted == ASM_KIND_SET ? "no set is there" : "no bag is there");
+        return detail::reader(bytes_);
+    }
     asm_value head_{ASM_KIND_UNDEF, 0};
     std::string bytes_;
 };
 
-// A location that is prepared once from its JSON, such as ["account","anna",7], for agents of any storage.
+// A location with its value, as scans tell it.
+struct entry {
+    std::string name;
+    list args;
+    folugben::value value;
+};
+
+namespace detail {
+
+inline value read_value(reader &from) {
+    const std::string_view text = from.left();
+    const bool is_set = text.starts_with("{\"set\":"), is_bag = text.starts_with("{\"bag\":");
+    if (!is_set && !is_bag) {
+        const element it = from.element();
+        if (it.kind() != ASM_KIND_LIST) return value({it.kind(), it.is_true() ? 1 : it.number()}, it.text());
+    } else if (is_set) {
+        (void)from.set();
+    } else {
+        (void)from.bag();
+    }
+    const std::int32_t kind = is_set ? ASM_KIND_SET : is_bag ? ASM_KIND_BAG : ASM_KIND_LIST;
+    return value({kind, 0}, std::string(text.substr(0, text.size() - from.left().size())));
+}
+
+// The entries of a text [PAIR, ..].
+inline std::vector<entry> entries(std::string_view text) {
+    std::vector<entry> all;
+    reader from(text);
+    from.items([&] {
+        entry it;
+        from.expect("[[");
+        it.name = from.text();
+        while (from.skip(",")) it.args.push_back(from.element());
+        from.expect("],");
+        it.value = read_value(from);
+        from.expect("]");
+        all.push_back(std::move(it));
+    });
+    return all;
+}
+
+} // namespace detail
+
+// A location that is prepared once, for agents of any storage: a function name with its arguments, such as
+// location("account", "anna", 7).
 class location {
   public:
-    explicit location(std::string_view json) {
-        std::int32_t code = asm_location(detail::bytes(json), json.size(), slot_.get());
-        if (code == ASM_NOT_JSON || code == ASM_SHAPE)
-            detail::fail(code, detail::explained(ASM_FORM_LOCATIONS, detail::within("[", json, "]")));
-        detail::done(code);
+    template <class... Args>
+        requires(std::is_constructible_v<element, const Args &> && ...)
+    explicit location(std::string_view name, const Args &...args) {
+        prepare(detail::json_of(name, list{element(args)...}));
+    }
+    location(std::string_view name, const list &args) { prepare(detail::json_of(name, args)); }
+    // Of its JSON, such as ["account","anna",7].
+    static location of_json(std::string_view json) {
+        location it;
+        it.prepare(json);
+        return it;
     }
     asm_slot *get() const noexcept { return slot_.get(); }
 
   private:
+    location() = default;
+    void prepare(std::string_view json) {
+        const code it{asm_location(detail::bytes(json), json.size(), slot_.get())};
+        if (detail::is_refused(it)) detail::fail(it, detail::explained(ASM_FORM_LOCATIONS, detail::within("[", json, "]")));
+        detail::done(it);
+    }
     detail::held slot_;
 };
 
-// An operand of an instruction: null, a boolean, a number, a text, what was told of a location, or the JSON of a list, a set or a
-// bag. It has no copy of the text.
+// An operand of an instruction: an element, what was told of a location, a set or a bag; sets and bags can be put alone. It has no
+// copy of a text.
 class operand {
   public:
     operand(std::nullptr_t) noexcept {}
     template <std::same_as<bool> Truth> operand(Truth is_true) noexcept : kind_(ASM_KIND_BOOL), number_(is_true) {}
-    template <class Whole>
-        requires(std::is_integral_v<Whole> && !std::is_same_v<Whole, bool> && sizeof(Whole) <= 8 &&
-                 (std::is_signed_v<Whole> || sizeof(Whole) < 8))
-    operand(Whole number) noexcept : kind_(ASM_KIND_NUM), number_(number) {}
+    template <detail::whole Whole> operand(Whole number) noexcept : kind_(ASM_KIND_NUM), number_(number) {}
     operand(std::string_view text) noexcept : kind_(ASM_KIND_TEXT), text_(text) {}
     operand(const char *text) noexcept : operand(std::string_view(text)) {}
     operand(const std::string &text) noexcept : operand(std::string_view(text)) {}
     operand(const value &told) noexcept : kind_(told.head_.kind), number_(told.head_.number), text_(told.bytes_) {}
-    // A list, a set or a bag, as the kind says, such as {"set":[1,2]}; sets and bags can be put alone.
+    operand(const element &it) : kind_(it.kind()), number_(it.is_true() ? 1 : it.number()), text_(it.text()) {
+        if (kind_ == ASM_KIND_LIST) own_ = detail::json_of(it.items());
+    }
+    operand(const list &items) : kind_(ASM_KIND_LIST), own_(detail::json_of(items)) {}
+    operand(const set &elements) : kind_(ASM_KIND_SET), own_(detail::json_of(elements)) {}
+    operand(const bag &counts) : kind_(ASM_KIND_BAG), own_(detail::json_of(counts)) {}
+    // A list, a set or a bag, as the kind says, such as {"set":[1,2]}.
     static operand of_json(asm_kind kind, std::string_view json) noexcept {
         operand it;
         it.kind_ = kind;
@@ -239,28 +582,30 @@ class operand {
     // Where and why the JSON is refused.
     std::string refusal() const {
         if (kind_ < ASM_KIND_LIST) return {};
-        return detail::explained(ASM_FORM_MOVE, detail::within("{\"fire\":[[\"put\",[\"at\"],", text_, "]],\"reads\":[]}"));
+        return detail::explained(ASM_FORM_MOVE, detail::within("{\"fire\":[[\"put\",[\"at\"],", text(), "]],\"reads\":[]}"));
     }
-    std::int32_t into(asm_slot *move, const location &at, asm_verb verb, std::uint32_t amount) const noexcept {
-        return asm_instruct(move, at.get(), verb, kind_, number_, detail::bytes(text_), text_.size(), amount);
+    code into(asm_slot *move, const location &at, asm_verb verb, std::uint32_t amount) const noexcept {
+        return code{asm_instruct(move, at.get(), verb, kind_, number_, detail::bytes(text()), text().size(), amount)};
     }
 
   private:
     operand() noexcept = default;
+    std::string_view text() const noexcept { return own_.empty() ? text_ : std::string_view(own_); }
     std::int32_t kind_ = ASM_KIND_UNDEF;
     std::int64_t number_ = 0;
     std::string_view text_;
+    std::string own_; // of a list, a set or a bag
 };
 
 // A move, gathered instruction by instruction. A refused instruction leaves it as it was. What is popped into it counts as one
 // instruction, and more can be gathered behind that.
 class instructions {
   public:
-    std::int32_t try_instruct(asm_verb verb, const location &at, const operand &what, std::uint32_t amount = 0) noexcept {
-        if (!slot_) return ASM_EMPTY;
-        std::int32_t code = what.into(slot_.get(), at, verb, amount);
-        size_ += code == ASM_DONE;
-        return code;
+    [[nodiscard]] code try_instruct(asm_verb verb, const location &at, const operand &what, std::uint32_t amount = 0) noexcept {
+        if (!slot_) return code::empty;
+        const code it = what.into(slot_.get(), at, verb, amount);
+        size_ += it == code::done;
+        return it;
     }
     instructions &put(const location &at, const operand &what) { return with(ASM_PUT, at, what); }
     instructions &add(const location &at, const operand &what) { return with(ASM_ADD, at, what); }
@@ -279,8 +624,8 @@ class instructions {
   private:
     friend class step;
     instructions &with(asm_verb verb, const location &at, const operand &what, std::uint32_t amount = 0) {
-        std::int32_t code = try_instruct(verb, at, what, amount);
-        detail::done(code, code == ASM_NOT_JSON || code == ASM_SHAPE ? what.refusal() : std::string());
+        const code it = try_instruct(verb, at, what, amount);
+        detail::done(it, detail::is_refused(it) ? what.refusal() : std::string());
         return *this;
     }
     detail::held slot_;
@@ -302,13 +647,13 @@ struct shared {
         std::lock_guard<std::mutex> guard(lock);
         if (asm_give(storage.get(), agent.get()) != ASM_DONE) waiting.push_back(std::move(agent));
     }
-    std::int32_t give_waiting() noexcept {
+    code give_waiting() noexcept {
         while (!waiting.empty()) {
-            std::int32_t code = asm_give(storage.get(), waiting.back().get());
-            if (code != ASM_DONE) return code;
+            const code it{asm_give(storage.get(), waiting.back().get())};
+            if (it != code::done) return it;
             waiting.pop_back();
         }
-        return ASM_DONE;
+        return code::done;
     }
 };
 
@@ -343,39 +688,41 @@ class step {
     std::uint32_t number() const noexcept { return number_; }
     std::uint32_t depth() const noexcept { return asm_depth(slot_.get()); }
 
-    std::int32_t try_get(const location &at, value &what) noexcept;
+    [[nodiscard]] code try_get(const location &at, value &what) noexcept;
     value get(const location &at);
     // {"number":N,"values":[VALUE, ..]} of locations [LOC, ..].
     std::string get_json(std::string_view locations);
     // The same, but nothing is got: a fire is done though another agent has written there since.
     std::string see_json(std::string_view locations);
-    // [PAIR, ..]: all locations of a function, which is scanned: the step rests on it whole.
+    // All locations of a function with their values, ascending. It is scanned: the step rests on it whole.
+    std::vector<entry> get_all(std::string_view name) { return detail::entries(get_all_json(name)); }
+    // The same as [PAIR, ..].
     std::string get_all_json(std::string_view name);
 
     // `text` is that of a refusal, such as {"clash":[LOC,CAUSE]}.
-    std::int32_t try_push(const instructions &move, std::string &text);
+    [[nodiscard]] code try_push(const instructions &move, std::string &text) noexcept;
     void push(const instructions &move) {
         std::string text;
-        std::int32_t code = try_push(move, text);
-        detail::done(code, std::move(text));
+        const code it = try_push(move, text);
+        detail::done(it, std::move(text));
     }
-    std::int32_t try_extend(const instructions &move, std::string &text);
+    [[nodiscard]] code try_extend(const instructions &move, std::string &text) noexcept;
     void extend(const instructions &move) {
         std::string text;
-        std::int32_t code = try_extend(move, text);
-        detail::done(code, std::move(text));
+        const code it = try_extend(move, text);
+        detail::done(it, std::move(text));
     }
     // The moves [INSTR, ..], with sets, bags and lists.
     void push_json(std::string_view move);
     void extend_json(std::string_view move);
-    std::int32_t try_pop() noexcept { return asm_pop(slot_.get()); }
+    [[nodiscard]] code try_pop() noexcept { return code{asm_pop(slot_.get())}; }
     void pop() { detail::done(try_pop()); }
     // The same, and the one move that does what the popped ones do in turn, in the place of what `move` has.
-    std::int32_t try_pop_move(instructions &move) noexcept {
-        if (!move.slot_) return ASM_EMPTY;
-        std::int32_t code = asm_pop_move(slot_.get(), move.get());
-        if (code == ASM_DONE) move.size_ = 1;
-        return code;
+    [[nodiscard]] code try_pop_move(instructions &move) noexcept {
+        if (!move.slot_) return code::empty;
+        const code it{asm_pop_move(slot_.get(), move.get())};
+        if (it == code::done) move.size_ = 1;
+        return it;
     }
     instructions pop_move() {
         instructions move;
@@ -387,8 +734,9 @@ class step {
     // functions that were scanned aren't in it.
     std::string offer_json();
 
-    // Fires one move that does what the pushed ones do in turn. With ASM_DONE the step is over.
-    [[nodiscard]] std::int32_t try_fire(asm_numbers &numbers) noexcept;
+    // Fires one move that does what the pushed ones do in turn. With code::done the step is over. `fire` throws `conflict` where
+    // the step is to be begun again.
+    [[nodiscard]] code try_fire(asm_numbers &numbers) noexcept;
     std::uint32_t fire();
 
     asm_slot *get_slot() const noexcept { return slot_.get(); }
@@ -397,12 +745,23 @@ class step {
     friend class agent;
     explicit step(std::shared_ptr<detail::seat> seat) : seat_(std::move(seat)) {}
     asm_slot *get_agent() const noexcept { return seat_ ? seat_->slot.get() : detail::nothing(); }
-    template <class Call, class ByText> std::int32_t grow(Call call, ByText by_text, const instructions &move, std::string &text);
+    template <class Call, class ByText> code grow(Call call, ByText by_text, const instructions &move, std::string &text) noexcept;
     template <class Call> void grow_json(Call call, std::string_view move);
     template <class Call> std::string tell_json(Call call, std::string_view locations);
     std::shared_ptr<detail::seat> seat_;
     detail::held slot_;
     std::uint32_t number_ = 0;
+};
+
+// What a play has done: the number of the fired move, how often it was begun again, and what the rule returned.
+template <class Result> struct played {
+    std::uint32_t number;
+    unsigned retries;
+    Result result;
+};
+template <> struct played<void> {
+    std::uint32_t number;
+    unsigned retries;
 };
 
 // Reads the state and fires moves on it, in one thread at a time.
@@ -422,11 +781,11 @@ class agent {
     std::uint32_t won() const noexcept { return asm_won(get()); }
     std::uint64_t misses() const noexcept { return asm_misses(get()); }
 
-    std::int32_t try_begin(step &it) noexcept {
-        if (!it.slot_) return ASM_EMPTY;
-        std::int32_t code = asm_begin(get(), it.slot_.get(), &it.number_);
-        if (code == ASM_DONE) it.seat_ = seat_;
-        return code;
+    [[nodiscard]] code try_begin(step &it) noexcept {
+        if (!it.slot_) return code::empty;
+        const code begun{asm_begin(get(), it.slot_.get(), &it.number_)};
+        if (begun == code::done) it.seat_ = seat_;
+        return begun;
     }
     step begin() {
         step it(seat_);
@@ -434,19 +793,18 @@ class agent {
         return it;
     }
 
-    // Begins a step, hands it to the rule and fires it, and begins anew where it was stale, busy, or clashed with what was
-    // written since; the number of the fired move. What the rule throws ends it, and nothing is fired.
-    template <class Rule> std::uint32_t play(Rule &&rule) {
+    // Begins a step, hands it to the rule and fires it, and begins again where that is a conflict. What the rule throws ends it,
+    // and nothing is fired.
+    template <class Rule> auto play(Rule &&rule) -> played<std::invoke_result_t<Rule &, step &>> {
+        using result = std::invoke_result_t<Rule &, step &>;
         for (unsigned tries = 0;; ++tries) {
             step it = begin();
-            rule(it);
-            asm_numbers numbers{};
-            switch (std::int32_t code = it.try_fire(numbers)) {
-            case ASM_DONE: return numbers.fired;
-            case ASM_STALE:
-            case ASM_BUSY:
-            case ASM_CLASH: back_off(tries); break;
-            default: detail::fail(code, {});
+            if constexpr (std::is_void_v<result>) {
+                rule(it);
+                if (const std::uint32_t number = fired(it, tries)) return {number, tries};
+            } else {
+                result told = rule(it);
+                if (const std::uint32_t number = fired(it, tries)) return {number, tries, std::forward<result>(told)};
             }
         }
     }
@@ -457,7 +815,7 @@ class agent {
         detail::done(asm_follow(get(), &number));
         return number;
     }
-    std::int32_t try_peek(const location &at, std::uint32_t &number, value &what) noexcept {
+    [[nodiscard]] code try_peek(const location &at, std::uint32_t &number, value &what) noexcept {
         return told_value(
             [&](asm_value *head, auto *out, auto room, auto *written) {
                 return asm_peek_at(get(), at.get(), &number, head, out, room, written);
@@ -470,7 +828,8 @@ class agent {
         detail::done(try_peek(at, number, what));
         return what;
     }
-    // Its own state [PAIR, ..].
+    // Its own state, ascending by locations; and the same as [PAIR, ..].
+    std::vector<entry> state() { return detail::entries(state_json()); }
     std::string state_json() {
         std::string text;
         std::uint32_t number = 0;
@@ -479,6 +838,7 @@ class agent {
         return text;
     }
     // The same of one function alone, with the number of moves at which its state stands, under which a fire rests on the scan.
+    std::vector<entry> scan(std::string_view name, std::uint32_t &number) { return detail::entries(scan_json(name, number)); }
     std::string scan_json(std::string_view name, std::uint32_t &number) {
         std::string text;
         detail::done(detail::told(
@@ -492,34 +852,37 @@ class agent {
     // The answer to a read of [LOC, ..], and to a fire of {"fire":[INSTR, ..],"reads":[NAMED, ..]}, which may rest on the whole
     // functions of [[NAME,NUMBER], ..] too.
     std::string read_json(std::string_view locations) {
-        std::int32_t code = asm_read(get(), detail::bytes(locations), locations.size());
-        if (code == ASM_NOT_JSON || code == ASM_SHAPE) detail::fail(code, detail::explained(ASM_FORM_LOCATIONS, locations));
-        detail::done(code);
+        const code it{asm_read(get(), detail::bytes(locations), locations.size())};
+        if (detail::is_refused(it)) detail::fail(it, detail::explained(ASM_FORM_LOCATIONS, locations));
+        detail::done(it);
         return answer();
     }
-    [[nodiscard]] std::int32_t try_fire_json(std::string_view call, asm_numbers &numbers) noexcept {
-        return asm_try_fire(get(), detail::bytes(call), call.size(), &numbers);
+    [[nodiscard]] code try_fire_json(std::string_view call, asm_numbers &numbers) noexcept {
+        return code{asm_try_fire(get(), detail::bytes(call), call.size(), &numbers)};
     }
-    [[nodiscard]] std::int32_t try_fire_json(std::string_view call, std::string_view scans, asm_numbers &numbers) noexcept {
-        return asm_try_fire_over(get(), detail::bytes(call), call.size(), detail::bytes(scans), scans.size(), &numbers);
+    [[nodiscard]] code try_fire_json(std::string_view call, std::string_view scans, asm_numbers &numbers) noexcept {
+        return code{asm_try_fire_over(get(), detail::bytes(call), call.size(), detail::bytes(scans), scans.size(), &numbers)};
     }
     std::uint32_t fire_json(std::string_view call, std::string_view scans = "[]") {
         asm_numbers numbers{};
-        std::int32_t code = try_fire_json(call, scans, numbers);
-        if (code == ASM_NOT_JSON || code == ASM_SHAPE) detail::fail(code, detail::explained(ASM_FORM_MOVE, call));
-        if (code == ASM_STALE || code == ASM_CLASH) detail::fail(code, answer());
-        detail::done(code);
+        const code it = try_fire_json(call, scans, numbers);
+        if (detail::is_refused(it)) detail::fail(it, detail::explained(ASM_FORM_MOVE, call));
+        if (it == code::stale || it == code::clash) detail::fail(it, answer());
+        detail::done(it);
         return numbers.fired;
     }
     // What the last answered call was answered.
     std::string answer() { return detail::answer(get()); }
 
     // Takes in what the other agent of the same storage has seen.
-    void learn(agent &other) { detail::done(get_of() == other.get_of() ? asm_learn(get(), other.get()) : ASM_OTHER); }
+    void learn(agent &other) {
+        if (get_of() != other.get_of()) detail::fail(code::other, {});
+        detail::done(asm_learn(get(), other.get()));
+    }
 
     // A storage for 1 to 1,048,576 moves that goes on where the agent's own is full and the agent has looked on to its end, as
     // `follow` does: it opens with what all moves leave, and its agents and numbers begin anew. No other agent waits. Else it is
-    // ASM_NONE.
+    // code::none.
     storage go_on(std::uint32_t capacity);
 
     // Lets the agent go without giving it back: what it fired is missing in each journal.
@@ -536,15 +899,25 @@ class agent {
         if (seat_) seat_->give();
         seat_.reset();
     }
-    template <class Call> static std::int32_t told_value(Call call, value &what) noexcept try {
+    template <class Call> static code told_value(Call call, value &what) noexcept try {
         std::string bytes;
         asm_value head{};
-        std::int32_t code =
-            detail::told([&](auto *out, auto room, auto *written) { return call(&head, out, room, written); }, bytes);
-        if (code == ASM_DONE) what = value(head, std::move(bytes));
-        return code;
+        const code it = detail::told([&](auto *out, auto room, auto *written) { return call(&head, out, room, written); }, bytes);
+        if (it == code::done) what = value(head, std::move(bytes));
+        return it;
     } catch (const std::bad_alloc &) {
-        return ASM_MEMORY;
+        return code::memory;
+    }
+    // The number of the move that a play's step fires; 0 where it is to be begun again.
+    static std::uint32_t fired(step &it, unsigned tries) {
+        asm_numbers numbers{};
+        const code told = it.try_fire(numbers);
+        if (!detail::is_conflict(told)) {
+            detail::done(told);
+            return numbers.fired;
+        }
+        back_off(tries);
+        return 0;
     }
     static void back_off(unsigned tries) {
         if (tries < 8) return std::this_thread::yield();
@@ -554,7 +927,7 @@ class agent {
     std::shared_ptr<detail::seat> seat_;
 };
 
-inline std::int32_t step::try_get(const location &at, value &what) noexcept {
+inline code step::try_get(const location &at, value &what) noexcept {
     return agent::told_value(
         [&](asm_value *head, auto *out, auto room, auto *written) {
             return asm_get_at(get_agent(), slot_.get(), at.get(), head, out, room, written);
@@ -570,13 +943,13 @@ inline value step::get(const location &at) {
 
 template <class Call> std::string step::tell_json(Call call, std::string_view locations) {
     std::string text;
-    std::int32_t code = detail::told(
+    const code it = detail::told(
         [&](auto *out, auto room, auto *written) {
             return call(get_agent(), slot_.get(), detail::bytes(locations), locations.size(), out, room, written);
         },
         text);
-    if (code == ASM_NOT_JSON || code == ASM_SHAPE) detail::fail(code, detail::explained(ASM_FORM_LOCATIONS, locations));
-    detail::done(code);
+    if (detail::is_refused(it)) detail::fail(it, detail::explained(ASM_FORM_LOCATIONS, locations));
+    detail::done(it);
     return text;
 }
 
@@ -601,7 +974,7 @@ inline std::string step::get_all_json(std::string_view name) {
 }
 
 template <class Call, class ByText>
-std::int32_t step::grow(Call call, ByText by_text, const instructions &move, std::string &text) {
+code step::grow(Call call, ByText by_text, const instructions &move, std::string &text) noexcept try {
     // A move without instructions has no slot that holds it.
     const std::string_view none = "[]";
     return detail::told(
@@ -611,37 +984,40 @@ std::int32_t step::grow(Call call, ByText by_text, const instructions &move, std
                        : call(get_agent(), slot_.get(), move.get(), out, room, written);
         },
         text);
+} catch (const std::bad_alloc &) {
+    return code::memory;
 }
 
-inline std::int32_t step::try_push(const instructions &move, std::string &text) { return grow(asm_push_move, asm_push, move, text); }
-inline std::int32_t step::try_extend(const instructions &move, std::string &text) {
+inline code step::try_push(const instructions &move, std::string &text) noexcept {
+    return grow(asm_push_move, asm_push, move, text);
+}
+inline code step::try_extend(const instructions &move, std::string &text) noexcept {
     return grow(asm_extend_move, asm_extend, move, text);
 }
 
 template <class Call> void step::grow_json(Call call, std::string_view move) {
     std::string text;
-    std::int32_t code = detail::told(
+    const code it = detail::told(
         [&](auto *out, auto room, auto *written) {
             return call(get_agent(), slot_.get(), detail::bytes(move), move.size(), out, room, written);
         },
         text);
-    if (code == ASM_NOT_JSON || code == ASM_SHAPE)
+    if (detail::is_refused(it))
         text = detail::explained(ASM_FORM_MOVE, detail::within("{\"fire\":", move, ",\"reads\":[]}"));
-    detail::done(code, std::move(text));
+    detail::done(it, std::move(text));
 }
 
 inline void step::push_json(std::string_view move) { grow_json(asm_push, move); }
 inline void step::extend_json(std::string_view move) { grow_json(asm_extend, move); }
 
-inline std::int32_t step::try_fire(asm_numbers &numbers) noexcept {
-    return asm_commit(get_agent(), slot_.get(), &numbers);
-}
+inline code step::try_fire(asm_numbers &numbers) noexcept { return code{asm_commit(get_agent(), slot_.get(), &numbers)}; }
 
 inline std::uint32_t step::fire() {
     asm_numbers numbers{};
-    std::int32_t code = try_fire(numbers);
-    if (code == ASM_STALE || code == ASM_CLASH) detail::fail(code, detail::answer(get_agent()));
-    detail::done(code);
+    const code it = try_fire(numbers);
+    if (it == code::busy) throw conflict(it, {});
+    if (detail::is_conflict(it)) throw conflict(it, detail::answer(get_agent()));
+    detail::done(it);
     return numbers.fired;
 }
 
@@ -654,10 +1030,9 @@ struct legality {
 
 inline legality check(std::string_view journal) {
     legality told{};
-    std::int32_t code = asm_check(detail::bytes(journal), journal.size(), &told.calls, &told.moves);
-    if (code != ASM_DONE && code != ASM_ILLEGAL)
-        detail::fail(code, code == ASM_NOT_JSON || code == ASM_SHAPE ? "line " + std::to_string(told.calls) : "");
-    told.is_legal = code == ASM_DONE;
+    const code it{asm_check(detail::bytes(journal), journal.size(), &told.calls, &told.moves)};
+    if (it != code::done && it != code::illegal) detail::fail(it, detail::is_refused(it) ? "line " + std::to_string(told.calls) : "");
+    told.is_legal = it == code::done;
     return told;
 }
 
@@ -666,9 +1041,9 @@ class storage {
   public:
     // Opens a storage with the state [PAIR, ..], for 1 to 1,048,576 moves.
     storage(std::string_view init, std::uint32_t capacity) : shared_(std::make_shared<detail::shared>()) {
-        std::int32_t code = asm_open(detail::bytes(init), init.size(), capacity, shared_->storage.get());
-        if (code == ASM_NOT_JSON || code == ASM_SHAPE) detail::fail(code, detail::explained(ASM_FORM_STATE, init));
-        detail::done(code);
+        const code it{asm_open(detail::bytes(init), init.size(), capacity, shared_->storage.get())};
+        if (detail::is_refused(it)) detail::fail(it, detail::explained(ASM_FORM_STATE, init));
+        detail::done(it);
     }
 
     // A storage makes one agent of each number, 0 to 255.
@@ -679,7 +1054,7 @@ class storage {
         return agent(std::move(seat));
     }
 
-    // The agent with this number that was given back, to go on where it was; ASM_NONE where none was, or it was taken since. The
+    // The agent with this number that was given back, to go on where it was; code::none where none was, or it was taken since. The
     // journal of an earlier `close` is discarded.
     agent take(std::uint32_t number) {
         auto seat = std::make_shared<detail::seat>(shared_);
@@ -702,9 +1077,9 @@ class storage {
         std::string text;
         std::lock_guard<std::mutex> guard(own().lock);
         detail::done(own().give_waiting());
-        std::int32_t code = asm_close(own().storage.get(), &number);
-        if (code == ASM_MISSING) throw missing(number);
-        detail::done(code);
+        const code it{asm_close(own().storage.get(), &number)};
+        if (it == code::missing) throw missing(number);
+        detail::done(it);
         detail::done(detail::told(
             [&](auto *out, auto room, auto *written) { return asm_journal(own().storage.get(), out, room, written); }, text));
         return text;
@@ -721,7 +1096,7 @@ class storage {
   private:
     friend class agent;
     detail::shared &own() const {
-        if (!shared_) detail::fail(ASM_EMPTY, {});
+        if (!shared_) detail::fail(code::empty, {});
         return *shared_;
     }
     storage() : shared_(std::make_shared<detail::shared>()) {}
@@ -739,17 +1114,17 @@ inline storage agent::go_on(std::uint32_t capacity) {
 // line feed of its line, and again by each further call.
 class auditor {
   public:
-    // Takes the bytes, all of them with ASM_DONE; with any other code `taken` of them. `told` has the numbers so far, or those of
-    // the fault. After ASM_MEMORY the bytes that weren't taken may be passed again.
-    [[nodiscard]] std::int32_t try_feed(std::span<const std::uint8_t> bytes, std::size_t &taken, asm_audit_numbers &told) noexcept {
+    // Takes the bytes, all of them with code::done; with any other code `taken` of them. `told` has the numbers so far, or those
+    // of the fault. After code::memory the bytes that weren't taken may be passed again.
+    [[nodiscard]] code try_feed(std::span<const std::uint8_t> bytes, std::size_t &taken, asm_audit_numbers &told) noexcept {
         taken = 0;
-        if (!slot_) return ASM_EMPTY;
-        if (fault_ == ASM_DONE) {
-            std::int32_t code = asm_audit(slot_.get(), bytes.data(), bytes.size(), &taken, &told);
-            if (code == ASM_DONE || code == ASM_MEMORY) return code;
-            fault_ = code;
+        if (!slot_) return code::empty;
+        if (fault_ == code::done) {
+            const code it{asm_audit(slot_.get(), bytes.data(), bytes.size(), &taken, &told)};
+            if (it == code::done || it == code::memory) return it;
+            fault_ = it;
             at_ = told;
-            if (code == ASM_LARGE) at_.parts = whole_parts(); // which comes without numbers
+            if (it == code::large) at_.parts = whole_parts(); // which comes without numbers
         }
         told = at_;
         return fault_;
@@ -764,7 +1139,7 @@ class auditor {
 
     // How many parts are whole, how many calls were judged right, and how many moves they fired, in front of a fault too.
     asm_audit_numbers counts() {
-        if (!slot_) detail::fail(ASM_EMPTY, {});
+        if (!slot_) detail::fail(code::empty, {});
         std::size_t taken = 0;
         asm_audit_numbers told{};
         detail::done(asm_audit(slot_.get(), nullptr, 0, &taken, &told));
@@ -773,19 +1148,20 @@ class auditor {
     // The same of a run that ends here; throws `audit_error` where its last part or line isn't whole. More may be fed.
     asm_audit_numbers end() {
         asm_audit_numbers told{};
-        if (!slot_) detail::fail(ASM_EMPTY, {});
-        if (fault_ != ASM_DONE) judge(fault_, at_);
-        std::int32_t code = asm_audited(slot_.get(), &told);
-        judge(code == ASM_EMPTY ? std::int32_t(ASM_CUT) : code, told);
+        if (!slot_) detail::fail(code::empty, {});
+        if (fault_ != code::done) judge(fault_, at_);
+        const code it{asm_audited(slot_.get(), &told)};
+        judge(it == code::empty ? code::cut : it, told);
         return told;
     }
-    // The state [PAIR, ..] that the moves so far leave; ASM_NONE before a part has begun.
+    // The state that the moves so far leave, and the same as [PAIR, ..]; code::none before a part has begun.
+    std::vector<entry> state() { return detail::entries(state_json()); }
     std::string state_json() {
-        if (!slot_) detail::fail(ASM_EMPTY, {});
+        if (!slot_) detail::fail(code::empty, {});
         std::string text;
         auto call = [&](auto *out, auto room, auto *written) { return asm_audit_state(slot_.get(), out, room, written); };
-        std::int32_t code = detail::told(call, text);
-        detail::done(code == ASM_EMPTY ? std::int32_t(ASM_NONE) : code);
+        const code it = detail::told(call, text);
+        detail::done(it == code::empty ? code::none : it);
         return text;
     }
 
@@ -795,12 +1171,12 @@ class auditor {
         asm_audit_numbers told{};
         return asm_audit(slot_.get(), nullptr, 0, &taken, &told) == ASM_DONE ? told.parts : 0;
     }
-    static void judge(std::int32_t code, const asm_audit_numbers &told) {
-        if (code == ASM_MEMORY) throw std::bad_alloc();
-        if (code != ASM_DONE) throw audit_error(code, told);
+    static void judge(code it, const asm_audit_numbers &told) {
+        if (it == code::memory) throw std::bad_alloc();
+        if (it != code::done) throw audit_error(it, told);
     }
     detail::held slot_;
-    std::int32_t fault_ = ASM_DONE;
+    code fault_ = code::done;
     asm_audit_numbers at_{};
 };
 

@@ -8,13 +8,13 @@
 
 namespace {
 
-constexpr int ACCOUNTS = 10;
-constexpr int AGENTS = 8;
-constexpr int TRANSFERS = 300;
+constexpr std::size_t ACCOUNTS = 10;
+constexpr std::uint32_t AGENTS = 8;
+constexpr std::uint32_t TRANSFERS = 300;
 
 std::vector<folugben::location> accounts() {
     std::vector<folugben::location> all;
-    for (int i = 0; i < ACCOUNTS; ++i) all.emplace_back("[\"account\"," + std::to_string(i) + "]");
+    for (std::uint32_t i = 0; i < ACCOUNTS; ++i) all.emplace_back("account", i);
     return all;
 }
 
@@ -26,10 +26,10 @@ void transfer(folugben::agent &agent, const folugben::location &from, const folu
     });
 }
 
-void work(folugben::agent agent, int number) {
+void work(folugben::agent agent, std::uint32_t number) {
     const auto all = accounts();
-    for (int i = 0; i < TRANSFERS; ++i) {
-        int from = (i * 3 + number) % ACCOUNTS;
+    for (std::uint32_t i = 0; i < TRANSFERS; ++i) {
+        const std::size_t from = (i * 3 + number) % ACCOUNTS;
         transfer(agent, all[from], all[(from + 1 + i % 4) % ACCOUNTS]);
     }
 }
@@ -38,10 +38,10 @@ void work(folugben::agent agent, int number) {
 
 int main() {
     std::string init = "[";
-    for (int i = 0; i < ACCOUNTS; ++i) init += (i ? ",[[\"account\"," : "[[\"account\",") + std::to_string(i) + "],100]";
+    for (std::size_t i = 0; i < ACCOUNTS; ++i) init += (i ? ",[[\"account\"," : "[[\"account\",") + std::to_string(i) + "],100]";
     folugben::storage storage(init + "]", 100000);
     std::vector<std::thread> threads;
-    for (int i = 0; i < AGENTS; ++i) threads.emplace_back(work, storage.make_agent(i), i);
+    for (std::uint32_t i = 0; i < AGENTS; ++i) threads.emplace_back(work, storage.make_agent(i), i);
     for (auto &thread : threads) thread.join();
 
     auto told = folugben::check(storage.close());

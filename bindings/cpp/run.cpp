@@ -15,7 +15,7 @@ constexpr int PARTS = 6;
 
 // Counts up until the storage is full.
 void work(folugben::agent agent) {
-    folugben::location count(R"(["count"])");
+    folugben::location count("count");
     folugben::instructions move;
     try {
         for (;;) agent.play([&](folugben::step &step) { step.push(move.clear().put(count, step.get(count).number() + 1)); });
