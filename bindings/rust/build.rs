@@ -1,4 +1,4 @@
-//! Finds libfolugben.a: in the folder that FOLUGBEN_LIB_DIR names, beside the crate as the files of a release have it, where
+//! Finds libfolugben.a: in the folder that `FOLUGBEN_LIB_DIR` names, beside the crate as the files of a release have it, where
 //! `./build_c` leaves it in a checkout, or by pkg-config.
 use std::path::PathBuf;
 use std::process::Command;

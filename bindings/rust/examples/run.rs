@@ -7,7 +7,7 @@ use std::thread;
 use std::time::{Duration, Instant};
 
 const ACCOUNTS: i64 = 10;
-const AGENTS: u32 = 4;
+const AGENTS: usize = 4;
 const MOVES: u32 = 10_000;
 
 fn account(number: i64) -> Location {
@@ -17,7 +17,7 @@ fn account(number: i64) -> Location {
 /// Moves money until then.
 fn work(agent: &mut RunAgent, end: Instant) -> Result<(), Error> {
     let all: Vec<Location> = (0..ACCOUNTS).map(account).collect();
-    for i in (agent.number() as usize..).take_while(|_| Instant::now() < end) {
+    for i in (usize::from(agent.number())..).take_while(|_| Instant::now() < end) {
         let (from, to) = (&all[i % all.len()], &all[(i + 1 + i % 4) % all.len()]);
         agent.play(|step| {
             let moved = step.get(from)?.as_num().unwrap_or(0).min(7);
@@ -33,15 +33,16 @@ fn main() -> Result<(), Error> {
     let path = PathBuf::from(words.next().unwrap_or_else(|| "bank.run".to_owned()));
     let seconds = words.next().and_then(|it| it.parse().ok()).unwrap_or(1);
     let options = RunOptions::new().moves(MOVES);
-    let run = match path.exists() {
-        true => options.resume(&path, Check::Last)?,
-        false => options.open((0..ACCOUNTS).map(|i| (account(i), 100.into())), &path)?,
+    let run = if path.exists() {
+        options.resume(&path, Check::Last)?
+    } else {
+        options.open((0..ACCOUNTS).map(|i| (account(i), 100.into())), &path)?
     };
     let end = Instant::now() + Duration::from_secs(seconds);
     thread::scope(|threads| {
-        let works = run.agents(AGENTS)?.into_iter().map(|mut agent| threads.spawn(move || work(&mut agent, end)));
-        let works: Vec<_> = works.collect();
-        works.into_iter().try_for_each(|it| it.join().expect("no thread panics"))
+        let agents = run.agents(AGENTS)?.into_iter();
+        let begun: Vec<_> = agents.map(|mut agent| threads.spawn(move || work(&mut agent, end))).collect();
+        begun.into_iter().try_for_each(|it| it.join().expect("no thread panics"))
     })?;
     let counts = run.close()?;
     assert_eq!(audit_run(&path)?, counts);

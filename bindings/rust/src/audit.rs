@@ -155,19 +155,24 @@ pub struct Auditor {
 
 impl Auditor {
     /// An auditor that has read nothing.
+    #[must_use] 
     pub fn new() -> Auditor {
         Auditor { slot: Held::empty(), counts: Counts::default(), fault: None }
     }
 
     /// How much was found right so far.
+    #[must_use] 
     pub fn counts(&self) -> Counts {
         self.counts
     }
 
-    /// What is told if nothing more is written: how much of the run there is, where it is whole and legal.
+    /// What is told if nothing more is written: how much of the run there is, where it is whole and legal. More may be written
+    /// after that.
     ///
-    /// [`AuditError::Journal`] with `Cut` or `NotJson` where the last part or line isn't whole, and else the fault that was
-    /// told before. The audit is as it was, and more may be written.
+    /// # Errors
+    ///
+    /// - [`AuditError::Journal`] with `Cut` or `NotJson`: the last part or line isn't whole.
+    /// - The fault that was told before.
     pub fn finish(&self) -> Result<Counts, AuditError> {
         if let Some(fault) = self.fault {
             return Err(fault);
@@ -176,18 +181,24 @@ impl Auditor {
             return Err(AuditError::Journal { part: 0, fault: JournalError::Cut });
         }
         let mut numbers = sys::AuditNumbers::default();
-        match unsafe { sys::asm_audited(self.slot.at(), &mut numbers) } {
+        // SAFETY: the slot is held by this auditor, and the bytes and numbers outlive the call.
+        match unsafe { sys::asm_audited(self.slot.at(), &raw mut numbers) } {
             sys::DONE => Ok(Counts::of(numbers)),
             code => Err(AuditError::of(code, numbers)),
         }
     }
 
     /// The state that the moves so far leave, in ascending order of locations; none before a part has begun.
+    ///
+    /// # Errors
+    ///
+    /// [`Error::Memory`].
     pub fn state(&self) -> Result<Option<Vec<(Location, Value)>>, Error> {
         self.state_text()?.map(|text| answer(&text, Json::pairs)).transpose()
     }
 
     pub(crate) fn state_text(&self) -> Result<Option<Vec<u8>>, Error> {
+        // SAFETY: the slot is held by this auditor, and the bytes and numbers outlive the call.
         let (code, text) =
             told(|out, room, written| unsafe { sys::asm_audit_state(self.slot.at(), out, room, written) });
         match code {
@@ -200,7 +211,8 @@ impl Auditor {
     /// Passes the bytes on: the code, and how many were taken.
     fn feed(&mut self, bytes: &[u8]) -> (i32, usize, sys::AuditNumbers) {
         let (mut taken, mut numbers) = (0, sys::AuditNumbers::default());
-        let code = unsafe { sys::asm_audit(self.slot.at(), bytes.as_ptr(), bytes.len(), &mut taken, &mut numbers) };
+        // SAFETY: the slot is held by this auditor, and the bytes and numbers outlive the call.
+        let code = unsafe { sys::asm_audit(self.slot.at(), bytes.as_ptr(), bytes.len(), &raw mut taken, &raw mut numbers) };
         (code, taken, numbers)
     }
 }
@@ -251,8 +263,11 @@ impl fmt::Debug for Auditor {
     }
 }
 
-/// Audits what the reader has, up to its end or the first fault, as an [`Auditor`] does. The error holds an [`AuditError`]
-/// where it isn't one of the reader.
+/// Audits what the reader has, up to its end or the first fault, as an [`Auditor`] does.
+///
+/// # Errors
+///
+/// Those of the reader, and an error that holds an [`AuditError`].
 ///
 /// ```no_run
 /// use folugben::AuditError;

@@ -2,6 +2,7 @@
 use crate::audit::AuditError;
 use crate::held::told;
 use crate::json::{Json, read};
+use crate::number::MoveNumber;
 use crate::sys;
 use crate::value::Location;
 use std::{fmt, io};
@@ -72,7 +73,7 @@ pub struct Ended {
 #[non_exhaustive]
 pub enum EndCause {
     /// The part's move with this number was fired by an agent that is lost.
-    Missing(u32),
+    Missing(MoveNumber),
     /// A file couldn't be written or flushed to the disk.
     Write {
         /// What kind of failure it was.
@@ -95,8 +96,13 @@ pub enum EndCause {
 
 impl fmt::Display for Ended {
     fn fmt(&self, f: &mut fmt::Formatter<'_>) -> fmt::Result {
-        write!(f, "the run ended at part {}: ", self.part)?;
-        match &self.cause {
+        write!(f, "the run ended at part {}: {}", self.part, self.cause)
+    }
+}
+
+impl fmt::Display for EndCause {
+    fn fmt(&self, f: &mut fmt::Formatter<'_>) -> fmt::Result {
+        match self {
             EndCause::Missing(number) => write!(f, "the agent that fired its move {number} is lost"),
             EndCause::Write { why, .. } => f.write_str(why),
             EndCause::Damaged { segment, why } => write!(f, "segment {segment}: {why}"),
@@ -106,26 +112,53 @@ impl fmt::Display for Ended {
     }
 }
 
-/// Why a call wasn't done. Nothing was fired or lost, but for [`Error::Ended`].
+/// How a step met another agent's moves: begin it again, as [`Agent::play`](crate::Agent::play) does.
 #[derive(Clone, Debug, PartialEq, Eq)]
 #[non_exhaustive]
-pub enum Error {
-    /// The location was written since the number at which it is named, or since the step began: begin again.
+pub enum Conflict {
+    /// The location was written since the step began, or since the number at which it is named.
     Stale(Location),
-    /// The updates clash at the location. At [`Step::fire`](crate::Step::fire) something was written since that the
-    /// step's moves don't fit: begin again.
+    /// Something was written since that the step's moves don't fit.
     Clash {
         /// The least location whose updates clash.
         at: Location,
         /// Why they do.
         cause: Cause,
     },
-    /// 64 offers in a row were lost to other agents: begin again.
+    /// 64 offers in a row were lost to other agents.
     Busy,
+    /// The part of a run in which the step began has ended.
+    Past,
+}
+
+impl fmt::Display for Conflict {
+    fn fmt(&self, f: &mut fmt::Formatter<'_>) -> fmt::Result {
+        match self {
+            Conflict::Stale(at) => write!(f, "{at} was written since"),
+            Conflict::Clash { at, cause } => write!(f, "the updates clash at {at} by now: {cause}"),
+            Conflict::Busy => f.write_str("64 offers in a row were lost to other agents"),
+            Conflict::Past => f.write_str("the part of the run has ended, so begin another step"),
+        }
+    }
+}
+
+impl std::error::Error for Conflict {}
+
+/// Why a call wasn't done. Nothing was fired or lost, but for [`Error::Ended`].
+#[derive(Clone, Debug, PartialEq, Eq)]
+#[non_exhaustive]
+pub enum Error {
+    /// Another agent was quicker: begin again.
+    Conflict(Conflict),
+    /// The updates clash at the location: those of a push on what the step sees, or those of a fire without a step.
+    Clash {
+        /// The least location whose updates clash.
+        at: Location,
+        /// Why they do.
+        cause: Cause,
+    },
     /// As many moves were fired as the storage's capacity.
     Full,
-    /// The part of a run in which the step began has ended: begin again, in the newest one.
-    Past,
     /// A move or a state would make a line of a run's journal longer than the 16,777,216 bytes that an audit reads.
     TooLong,
     /// The agent hasn't looked on to the end of a full storage.
@@ -138,20 +171,20 @@ pub enum Error {
     Deep,
     /// An amount or a sum is too large, at this location.
     Large(Location),
-    /// No move is pushed.
+    /// No move is pushed: there is none to pop, and nothing was fired.
     NoMove,
     /// No journal was made since an agent was given back.
     NoJournal,
-    /// A capacity outside 1 to 1,048,576, an agent's number above 255, a verb's amount, or a location that is named at a
-    /// number above what the agent has seen.
+    /// A capacity outside 1 to 1,048,576, more than 256 agents, a verb's amount, or a location that is named at a number
+    /// above what the agent has seen.
     Range,
     /// An agent with this number was made before.
-    NumberTaken(u32),
+    NumberTaken(u8),
     /// No agent with this number was given back, or another one has it.
-    NotGiven(u32),
+    NotGiven(u8),
     /// The move with this number has no receipt among the agents that were given back; the agent that fired it was
     /// abandoned, or isn't given back yet.
-    Missing(u32),
+    Missing(MoveNumber),
     /// The agent, or the mark of what it has seen, is of another storage.
     OtherStorage,
     /// The run was closed.
@@ -184,24 +217,26 @@ pub enum Error {
 
 impl Error {
     /// Whether what was tried is to be begun again, on what other agents have written since.
+    #[must_use]
     pub fn is_retry(&self) -> bool {
-        matches!(self, Error::Stale(_) | Error::Busy | Error::Past)
+        matches!(self, Error::Conflict(_))
     }
 
-    /// Whether a step that was refused so at its fire is to be begun anew, as a play does.
-    pub(crate) fn begins_anew(&self) -> bool {
-        self.is_retry() || matches!(self, Error::Clash { .. })
+    /// Of a step's fire: a clash is one with what was written since.
+    pub(crate) fn of_fire(self) -> Error {
+        match self {
+            Error::Clash { at, cause } => Error::Conflict(Conflict::Clash { at, cause }),
+            error => error,
+        }
     }
 }
 
 impl fmt::Display for Error {
     fn fmt(&self, f: &mut fmt::Formatter<'_>) -> fmt::Result {
         match self {
-            Error::Stale(at) => write!(f, "{at} was written since"),
+            Error::Conflict(conflict) => conflict.fmt(f),
             Error::Clash { at, cause } => write!(f, "the updates clash at {at}: {cause}"),
-            Error::Busy => f.write_str("64 offers in a row were lost to other agents"),
             Error::Full => f.write_str("as many moves were fired as the storage has room for"),
-            Error::Past => f.write_str("the part of the run has ended, so begin another step"),
             Error::TooLong => f.write_str(TOO_LONG),
             Error::NotFull => f.write_str("the agent hasn't looked on to the end of a full storage"),
             Error::Memory => f.write_str("out of memory"),
@@ -221,15 +256,37 @@ impl fmt::Display for Error {
             Error::Ended(ended) => ended.fmt(f),
             Error::InUse => f.write_str("another run is at work in the folder"),
             Error::Damaged { segment, why } => write!(f, "segment {segment}: {why}"),
-            Error::File { why, .. } => f.write_str(why),
             Error::Audit(error) => error.fmt(f),
-            Error::Refused(why) => f.write_str(why),
+            Error::File { why, .. } | Error::Refused(why) => f.write_str(why),
             Error::Unknown(code) => f.write_str(&code_text(*code)),
         }
     }
 }
 
-impl std::error::Error for Error {}
+impl std::error::Error for Error {
+    fn source(&self) -> Option<&(dyn std::error::Error + 'static)> {
+        match self {
+            Error::Conflict(conflict) => Some(conflict),
+            Error::Ended(ended) => Some(ended),
+            Error::Audit(error) => Some(error),
+            _ => None,
+        }
+    }
+}
+
+impl std::error::Error for Ended {
+    fn source(&self) -> Option<&(dyn std::error::Error + 'static)> {
+        Some(&self.cause)
+    }
+}
+
+impl std::error::Error for EndCause {}
+
+impl From<Conflict> for Error {
+    fn from(conflict: Conflict) -> Error {
+        Error::Conflict(conflict)
+    }
+}
 
 /// What an audit told through a reader or a writer is [`Error::Audit`] again; else it is [`Error::File`].
 impl From<io::Error> for Error {
@@ -251,12 +308,14 @@ impl From<AuditError> for Error {
 }
 
 fn code_text(code: i32) -> String {
+    // SAFETY: the text outlives the call, and no slot is passed.
     let (_, text) = told(|out, room, written| unsafe { sys::asm_error_text(code, out, room, written) });
     String::from_utf8_lossy(&text).into_owned()
 }
 
 /// Why a text of the form is refused.
 fn explained(form: i32, text: &[u8]) -> Error {
+    // SAFETY: the text outlives the call, and no slot is passed.
     let (code, why) =
         told(|out, room, written| unsafe { sys::asm_explain(form, text.as_ptr(), text.len(), out, room, written) });
     match code {
@@ -270,7 +329,7 @@ pub(crate) fn plain(code: i32) -> Error {
     match code {
         sys::MEMORY => Error::Memory,
         sys::FULL => Error::Full,
-        sys::BUSY => Error::Busy,
+        sys::BUSY => Conflict::Busy.into(),
         sys::MANY => Error::Many,
         sys::DEEP => Error::Deep,
         sys::RANGE => Error::Range,
@@ -303,7 +362,7 @@ pub(crate) fn answer<T>(text: &[u8], form: impl FnOnce(Json) -> Option<T>) -> Re
 /// The error that the text of an answer tells: {"stale":LOC}, {"clash":[LOC,CAUSE]} or {"large":LOC}.
 pub(crate) fn of_text(code: i32, text: &[u8]) -> Error {
     let told = answer(text, |it| match code {
-        sys::STALE => it.member("stale")?.location().map(Error::Stale),
+        sys::STALE => it.member("stale")?.location().map(|at| Conflict::Stale(at).into()),
         sys::LARGE => it.member("large")?.location().map(Error::Large),
         _ => {
             let [at, cause] = it.member("clash")?.tuple()?;

@@ -11,7 +11,7 @@ const KEPT_ROOM: usize = 64 * FIRST_ROOM;
 /// A slot that never moves, and is freed when it is let go.
 pub(crate) struct Held(Box<UnsafeCell<sys::Slot>>);
 
-// A slot goes from one thread to another with what holds it; it isn't Sync, so no two threads call with it at once.
+// SAFETY: A slot goes from one thread to another with what holds it; it isn't Sync, so no two threads call with it at once.
 unsafe impl Send for Held {}
 
 impl Held {
@@ -25,11 +25,12 @@ impl Held {
     }
 
     pub(crate) fn is_full(&self) -> bool {
-        // No call is at work on the slot: those of this thread have returned, and no other thread has it.
+        // SAFETY: No call is at work on the slot: those of this thread have returned, and no other thread has it.
         unsafe { (*self.0.get()).full }
     }
 
     pub(crate) fn free(&self) {
+        // SAFETY: the slot never moves, and this thread alone has it.
         unsafe { sys::asm_free(self.at()) }
     }
 }
@@ -52,7 +53,7 @@ pub(crate) fn told(mut call: impl FnMut(*mut u8, usize, *mut usize) -> i32) -> (
     }
     loop {
         let mut written = 0;
-        let code = call(text.as_mut_ptr(), text.len(), &mut written);
+        let code = call(text.as_mut_ptr(), text.len(), &raw mut written);
         if code != sys::SMALL {
             if text.len() > KEPT_ROOM {
                 text.truncate(written);

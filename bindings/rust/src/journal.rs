@@ -27,6 +27,7 @@ pub enum Legality {
 
 impl Legality {
     /// Whether each answer is right.
+    #[must_use] 
     pub fn is_legal(self) -> bool {
         matches!(self, Legality::Legal { .. })
     }
@@ -90,24 +91,35 @@ pub struct Journal {
 
 impl Journal {
     /// The text.
+    #[must_use] 
     pub fn as_bytes(&self) -> &[u8] {
         &self.text
     }
 
     /// The text.
+    #[must_use] 
     pub fn into_bytes(self) -> Vec<u8> {
         self.text
     }
 
     /// Writes the whole text.
+    ///
+    /// # Errors
+    ///
+    /// Those of the output.
     pub fn write_to(&self, mut output: impl io::Write) -> io::Result<()> {
         output.write_all(&self.text)
     }
 
     /// Whether each answer is the one that a storage of one thread gives there.
+    ///
+    /// # Errors
+    ///
+    /// It is no journal, or there is no memory.
     pub fn check(&self) -> Result<Legality, JournalError> {
         let (mut calls, mut moves) = (0, 0);
-        match unsafe { sys::asm_check(self.text.as_ptr(), self.text.len(), &mut calls, &mut moves) } {
+        // SAFETY: the texts and numbers outlive the call, and no slot is passed.
+        match unsafe { sys::asm_check(self.text.as_ptr(), self.text.len(), &raw mut calls, &raw mut moves) } {
             sys::DONE => Ok(Legality::Legal { calls, moves }),
             sys::ILLEGAL => Ok(Legality::Illegal { call: calls }),
             code => Err(refused(code, calls)),
@@ -115,10 +127,15 @@ impl Journal {
     }
 
     /// The state that its moves leave, in ascending order of locations. The journal isn't checked.
+    ///
+    /// # Errors
+    ///
+    /// Those of [`Journal::check`].
     pub fn replay(&self) -> Result<Vec<(Location, Value)>, JournalError> {
         let mut line = 0;
+        // SAFETY: the texts and numbers outlive the call, and no slot is passed.
         let (code, text) = told(|out, room, written| unsafe {
-            sys::asm_replay(self.text.as_ptr(), self.text.len(), out, room, written, &mut line)
+            sys::asm_replay(self.text.as_ptr(), self.text.len(), out, room, written, &raw mut line)
         });
         match code {
             sys::DONE => answer(&text, Json::pairs).map_err(|_| JournalError::Memory),
@@ -127,10 +144,15 @@ impl Journal {
     }
 
     /// Its trace, legal or not: what each of its calls did, in the form that a viewer takes.
+    ///
+    /// # Errors
+    ///
+    /// Those of [`Journal::check`].
     pub fn trace(&self) -> Result<Vec<u8>, JournalError> {
         let mut line = 0;
+        // SAFETY: the texts and numbers outlive the call, and no slot is passed.
         let (code, text) = told(|out, room, written| unsafe {
-            sys::asm_trace(self.text.as_ptr(), self.text.len(), out, room, written, &mut line)
+            sys::asm_trace(self.text.as_ptr(), self.text.len(), out, room, written, &raw mut line)
         });
         match code {
             sys::DONE => Ok(text),
@@ -172,9 +194,15 @@ fn is_ok(code: i32, told: &[u8], instructions: &[&Move]) -> Result<(), Error> {
 }
 
 /// The updates of the move on the state, in ascending order of locations; the state needs the locations of partial updates
-/// alone. [`Error::Clash`] tells the least location that clashes.
+/// alone.
+///
+/// # Errors
+///
+/// - [`Error::Clash`]: the smallest location that clashes.
+/// - [`Error::Large`], [`Error::Many`], [`Error::Refused`], [`Error::Memory`].
 pub fn aggregate(state: &[(Location, Value)], instructions: &Move) -> Result<Vec<(Location, Value)>, Error> {
     let (state, text) = (state.json(), instructions.instructions().json());
+    // SAFETY: the texts and numbers outlive the call, and no slot is passed.
     let (code, told) = told(|out, room, written| unsafe {
         sys::asm_aggregate(state.as_ptr(), state.len(), text.as_ptr(), text.len(), out, room, written)
     });
@@ -182,10 +210,16 @@ pub fn aggregate(state: &[(Location, Value)], instructions: &Move) -> Result<Vec
     answer(&told, Json::pairs)
 }
 
-/// One move that does what the first and then the second do. [`Error::Clash`] and [`Error::Large`] come where on no state
-/// both fire, [`Error::Many`] where it would have more than 4,096 instructions.
+/// One move that does what the first and then the second do.
+///
+/// # Errors
+///
+/// - [`Error::Clash`], [`Error::Large`]: on no state both fire.
+/// - [`Error::Many`]: it would have more than 4,096 instructions.
+/// - [`Error::Refused`], [`Error::Memory`].
 pub fn compose(first: &Move, second: &Move) -> Result<Move, Error> {
     let (one, other) = (first.instructions().json(), second.instructions().json());
+    // SAFETY: the texts and numbers outlive the call, and no slot is passed.
     let (code, told) = told(|out, room, written| unsafe {
         sys::asm_compose(one.as_ptr(), one.len(), other.as_ptr(), other.len(), out, room, written)
     });
@@ -197,6 +231,8 @@ pub fn compose(first: &Move, second: &Move) -> Result<Move, Error> {
 }
 
 /// The version of the library: a million for each major version, a thousand for each minor one.
+#[must_use] 
 pub fn version() -> u32 {
+    // SAFETY: the texts and numbers outlive the call, and no slot is passed.
     unsafe { sys::asm_version() }
 }

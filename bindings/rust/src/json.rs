@@ -1,5 +1,6 @@
 //! The JSON forms of the library's texts: what is passed is written, and what is answered is read.
 use crate::instruction::{Instruction, Move};
+use crate::number::MoveNumber;
 use crate::value::{Element, Location, Value};
 use std::collections::{BTreeMap, BTreeSet};
 use std::fmt::Write;
@@ -55,6 +56,12 @@ impl ToJson for str {
 }
 
 impl ToJson for u32 {
+    fn write(&self, out: &mut String) {
+        let _ = write!(out, "{self}");
+    }
+}
+
+impl ToJson for MoveNumber {
     fn write(&self, out: &mut String) {
         let _ = write!(out, "{self}");
     }
@@ -346,14 +353,14 @@ impl Json {
     }
 
     /// A move, and the locations that it names with their numbers.
-    pub(crate) fn offer(self) -> Option<(Move, Vec<(Location, u32)>)> {
+    pub(crate) fn offer(self) -> Option<(Move, Vec<(Location, MoveNumber)>)> {
         let Json::Object(mut members) = self else {
             return None;
         };
         let instructions = members.remove("fire")?.list()?.into_iter().map(Json::instruction);
         let reads = members.remove("reads")?.list()?.into_iter().map(|read| {
             let [at, number] = read.tuple()?;
-            Some((at.location()?, number.number()?))
+            Some((at.location()?, MoveNumber::new(number.number()?)))
         });
         Some((instructions.collect::<Option<Move>>()?, reads.collect::<Option<_>>()?))
     }

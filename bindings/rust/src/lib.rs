@@ -1,4 +1,4 @@
-//! The abstract storage of a CoreASM engine: a state in memory that the agents of many threads read, and fire moves on, at
+//! The abstract storage of a `CoreASM` engine: a state in memory that the agents of many threads read, and fire moves on, at
 //! once and without locks. A fire that rests on an old read is refused, so no update is lost; all answered calls are one
 //! history, which can be checked again.
 //!
@@ -9,21 +9,21 @@
 //! one move. [`Agent::play`] begins anew where another agent wrote first:
 //!
 //! ```
-//! use folugben::{Error, Location, Storage, Value};
+//! use folugben::{Error, Location, MoveNumber, Storage, Value};
 //!
 //! fn main() -> Result<(), Error> {
 //!     let balance = |name: &str| Location::new("balance").arg(name);
 //!     let storage = Storage::open([(balance("anna"), 100.into()), (balance("ben"), 0.into())], 1_000)?;
 //!     let mut teller = storage.agent(0)?;
 //!
-//!     let (number, moved) = teller.play(|step| {
-//!         let there = step.get(&balance("anna"))?.as_num().unwrap_or(0);
+//!     let played = teller.play(|step| {
+//!         let there = step.get(balance("anna"))?.as_num().unwrap_or(0);
 //!         let moved = there.min(30);
-//!         step.inc(&balance("anna"), -moved)?;
-//!         step.inc(&balance("ben"), moved)?;
+//!         step.inc(balance("anna"), -moved)?;
+//!         step.inc(balance("ben"), moved)?;
 //!         Ok::<_, Error>(moved)
 //!     })?;
-//!     assert_eq!((number, moved), (1, 30));
+//!     assert_eq!((played.number, played.result), (Some(MoveNumber::new(1)), 30));
 //!
 //!     drop(teller); // it is given back
 //!     let journal = storage.close()?;
@@ -52,7 +52,6 @@
 //!
 //! But for the threads that write the files of a run, no thread is begun; a storage ends with its last agent, and nothing is
 //! kept elsewhere. Don't use any of this in the child of a fork of a process with threads.
-#![warn(clippy::all)]
 
 mod agent;
 mod audit;
@@ -61,6 +60,8 @@ mod held;
 mod instruction;
 mod journal;
 mod json;
+mod number;
+mod play;
 mod prepared;
 mod run;
 mod step;
@@ -70,9 +71,11 @@ mod value;
 
 pub use agent::{Agent, Reading};
 pub use audit::{AuditError, Auditor, Counts, audit};
-pub use error::{Cause, EndCause, Ended, Error};
+pub use error::{Cause, Conflict, EndCause, Ended, Error};
 pub use instruction::{Instruction, Move};
 pub use journal::{Journal, JournalError, Legality, aggregate, compose, version};
+pub use number::MoveNumber;
+pub use play::{Patience, Played};
 pub use prepared::{Prepared, PreparedMove};
 pub use run::{Check, Run, RunAgent, RunOptions, RunStep, audit_run, import_run};
 pub use step::Step;

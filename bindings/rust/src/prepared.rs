@@ -16,10 +16,15 @@ pub struct Prepared {
 }
 
 impl Prepared {
-    /// Prepares the location. [`Error::Refused`]: it is against the rules of locations.
+    /// Prepares the location.
+    ///
+    /// # Errors
+    ///
+    /// [`Error::Refused`]: it is against the rules of locations. [`Error::Memory`].
     pub fn new(location: &Location) -> Result<Prepared, Error> {
         let text = location.json();
         let slot = Held::empty();
+        // SAFETY: the slots are held by this thread, and the texts outlive the call.
         match unsafe { sys::asm_location(text.as_ptr(), text.len(), slot.at()) } {
             code @ (sys::NOT_JSON | sys::SHAPE) => {
                 done_with(code, sys::FORM_LOCATIONS, &format!("[{text}]"))?;
@@ -30,6 +35,7 @@ impl Prepared {
     }
 
     /// The location.
+    #[must_use] 
     pub fn location(&self) -> &Location {
         &self.location
     }
@@ -42,13 +48,13 @@ impl fmt::Debug for Prepared {
 }
 
 /// The value that a call told by its kind, its number and its bytes.
-pub(crate) fn value_of(head: &sys::Value, bytes: Vec<u8>) -> Result<Value, Error> {
+pub(crate) fn value_of(head: &sys::Value, bytes: &[u8]) -> Result<Value, Error> {
     Ok(match head.kind {
         sys::KIND_UNDEF => Value::UNDEF,
         sys::KIND_BOOL => Value::from(head.number == 1),
         sys::KIND_NUM => Value::from(head.number),
-        sys::KIND_TEXT => Value::from(String::from_utf8_lossy(&bytes).into_owned()),
-        _ => answer(&bytes, Json::value)?,
+        sys::KIND_TEXT => Value::from(String::from_utf8_lossy(bytes).into_owned()),
+        _ => answer(bytes, Json::value)?,
     })
 }
 
@@ -64,6 +70,7 @@ pub struct PreparedMove {
 
 impl PreparedMove {
     /// The move without instructions.
+    #[must_use] 
     pub fn new() -> PreparedMove {
         PreparedMove { len: 0, size: 0, slot: Held::empty() }
     }
@@ -76,11 +83,13 @@ impl PreparedMove {
     }
 
     /// How many instructions it has; what was popped into it is one of them.
+    #[must_use] 
     pub fn len(&self) -> usize {
         self.len
     }
 
     /// Whether it has none.
+    #[must_use] 
     pub fn is_empty(&self) -> bool {
         self.len == 0
     }
@@ -102,6 +111,7 @@ impl PreparedMove {
             set @ Value::Set(_) => (sys::KIND_SET, 0, set.json()),
             bag @ Value::Bag(_) => (sys::KIND_BAG, 0, bag.json()),
         };
+        // SAFETY: the slots are held by this thread, and the texts outlive the call.
         let code = unsafe {
             let (slot, place) = (self.slot.at(), at.slot.at());
             sys::asm_instruct(slot, place, verb, kind, number, bytes.as_ptr(), bytes.len(), amount)
@@ -118,23 +128,42 @@ impl PreparedMove {
         Ok(self)
     }
 
-    /// The location gets the value. After an error the move is as it was, here and below; [`Error::Many`]: it has 4,096
-    /// instructions; [`Error::Refused`]: a list, a set or a bag is against the rules of values.
+    /// The location gets the value.
+    ///
+    /// # Errors
+    ///
+    /// The move is unchanged then, here and below.
+    ///
+    /// - [`Error::Many`]: it has 4,096 instructions.
+    /// - [`Error::Refused`]: a list, a set or a bag is against the rules of values.
+    /// - [`Error::Memory`].
     pub fn put(&mut self, at: &Prepared, value: impl Into<Value>) -> Result<&mut PreparedMove, Error> {
         self.instruct(0, at, value.into(), 0)
     }
 
     /// The set there gets the element.
+    ///
+    /// # Errors
+    ///
+    /// Those of [`PreparedMove::put`].
     pub fn add(&mut self, at: &Prepared, element: impl Into<Element>) -> Result<&mut PreparedMove, Error> {
         self.instruct(1, at, Value::Plain(element.into()), 0)
     }
 
     /// The set there loses the element.
+    ///
+    /// # Errors
+    ///
+    /// Those of [`PreparedMove::put`].
     pub fn remove(&mut self, at: &Prepared, element: impl Into<Element>) -> Result<&mut PreparedMove, Error> {
         self.instruct(2, at, Value::Plain(element.into()), 0)
     }
 
-    /// The bag there gets the element so many times; [`Error::Range`] for 0.
+    /// The bag there gets the element so many times.
+    ///
+    /// # Errors
+    ///
+    /// Those of [`PreparedMove::put`], and [`Error::Range`] of 0 times.
     pub fn bag_add(
         &mut self,
         at: &Prepared,
@@ -144,7 +173,11 @@ impl PreparedMove {
         self.instruct(3, at, Value::Plain(element.into()), amount)
     }
 
-    /// The bag there loses the element so many times; [`Error::Range`] for 0.
+    /// The bag there loses the element so many times.
+    ///
+    /// # Errors
+    ///
+    /// Those of [`PreparedMove::put`], and [`Error::Range`] of 0 times.
     pub fn bag_remove(
         &mut self,
         at: &Prepared,
@@ -155,6 +188,10 @@ impl PreparedMove {
     }
 
     /// The number there grows by so much.
+    ///
+    /// # Errors
+    ///
+    /// Those of [`PreparedMove::put`].
     pub fn inc(&mut self, at: &Prepared, by: i64) -> Result<&mut PreparedMove, Error> {
         self.instruct(5, at, Value::from(by), 0)
     }

@@ -48,7 +48,7 @@ use std::thread::{Builder, JoinHandle};
 use std::time::Duration;
 
 /// How many agents a run has at most.
-const AGENTS: u32 = 256;
+const AGENTS: usize = 256;
 /// How many moves a part has room for, where nothing else is said.
 const MOVES: u32 = 100_000;
 
@@ -240,17 +240,13 @@ impl Run {
         RunOptions::new().resume(path, check)
     }
 
-    /// Makes an agent with this number, below 256, for any one thread at a time.
+    /// Makes an agent with this number, for any one thread at a time.
     ///
     /// # Errors
     ///
-    /// - [`Error::Range`]: the number is above 255.
     /// - [`Error::NumberTaken`]: an agent with this number is in use; once that is let go, another may be made.
     /// - [`Error::Ended`], [`Error::Closed`].
-    pub fn agent(&self, number: u32) -> Result<RunAgent, Error> {
-        if number >= AGENTS {
-            return Err(Error::Range);
-        }
+    pub fn agent(&self, number: u8) -> Result<RunAgent, Error> {
         let seat = self.core.seat(number)?;
         Ok(RunAgent { core: Arc::clone(&self.core), seat })
     }
@@ -259,8 +255,8 @@ impl Run {
     ///
     /// # Errors
     ///
-    /// Those of [`Run::agent`].
-    pub fn agents(&self, count: u32) -> Result<Vec<RunAgent>, Error> {
+    /// Those of [`Run::agent`], and [`Error::Range`] of more than 256.
+    pub fn agents(&self, count: usize) -> Result<Vec<RunAgent>, Error> {
         if count > AGENTS {
             return Err(Error::Range);
         }
@@ -269,19 +265,21 @@ impl Run {
     }
 
     /// Its folder.
+    #[must_use] 
     pub fn path(&self) -> &Path {
         &self.path
     }
 
     /// How much of the run is on the disk. Each move with a number up to `moves` is safe, also from a power failure.
+    #[must_use] 
     pub fn saved(&self) -> Counts {
         self.core.saved()
     }
 
     /// Saves all moves up to now: they are on the disk when this returns.
     ///
-    /// It ends the part, which makes a segment, and waits for steps for 0.1 s; the call of one that lasts longer is
-    /// [`Error::Past`], and `play` begins again.
+    /// It ends the part, which makes a segment, and waits for steps for 0.1 s; one that lasts longer is in conflict
+    /// ([`Conflict::Past`](crate::Conflict::Past)), and `play` begins again.
     ///
     /// # Errors
     ///

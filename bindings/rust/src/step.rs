@@ -4,6 +4,7 @@ use crate::error::{Error, answer, done, done_or_told, done_with, of_text};
 use crate::held::told;
 use crate::instruction::{Instruction, Move};
 use crate::json::{Json, ToJson};
+use crate::number::MoveNumber;
 use crate::prepared::{Prepared, PreparedMove, value_of};
 use crate::run::Lent;
 use crate::sys;
@@ -18,10 +19,18 @@ pub(crate) enum Holder<'a> {
 }
 
 impl Holder<'_> {
-    fn number(&self) -> u32 {
+    fn number(&self) -> u8 {
         match self {
             Holder::Own(agent) => agent.number(),
             Holder::Lent(lent) => lent.number(),
+        }
+    }
+
+    /// How many moves the parts of a run before that of the step have.
+    fn before(&self) -> u64 {
+        match self {
+            Holder::Own(_) => 0,
+            Holder::Lent(lent) => lent.part().before,
         }
     }
 
@@ -53,32 +62,48 @@ pub struct Step<'a> {
 
 impl Step<'_> {
     /// The number of moves at which it began.
-    pub fn number(&self) -> u32 {
-        self.number
+    pub fn number(&self) -> MoveNumber {
+        MoveNumber::from(self.number).behind(self.agent.before())
     }
 
     /// What is seen at the location through the pushed moves.
     ///
-    /// The step then rests on the location, if what is told is made from the state that it began on; [`Error::Many`]: it
-    /// would rest on more than 256.
-    pub fn get(&self, at: &Location) -> Result<Value, Error> {
-        let mut values = self.get_each(slice::from_ref(at))?;
+    /// The step then rests on the location, if what is told is made from the state that it began on.
+    ///
+    /// # Errors
+    ///
+    /// - [`Error::Many`]: it would rest on more than 256 locations and functions.
+    /// - [`Error::Refused`]: the location is against the rules.
+    /// - [`Error::Memory`].
+    /// - Of a step of a run [`Error::Conflict`] with [`Past`](crate::Conflict::Past), [`Error::Ended`] and [`Error::Closed`], here
+    ///   and below.
+    pub fn get(&self, at: impl Into<Location>) -> Result<Value, Error> {
+        let mut values = self.get_each(slice::from_ref(&at.into()))?;
         values.pop().ok_or(Error::Unknown(sys::DONE))
     }
 
     /// As [`Step::get`], of each of the locations.
+    ///
+    /// # Errors
+    ///
+    /// Those of [`Step::get`].
     pub fn get_each(&self, places: &[Location]) -> Result<Vec<Value>, Error> {
         self.look(sys::asm_get, places)
     }
 
     /// What [`Step::get_each`] tells, but the step doesn't rest on it: it is fired though another agent has written there
     /// since. So it is for what is told or shown, and for what the step doesn't go by. Any number of locations is seen.
+    ///
+    /// # Errors
+    ///
+    /// [`Error::Refused`], [`Error::Memory`].
     pub fn see(&self, places: &[Location]) -> Result<Vec<Value>, Error> {
         self.look(sys::asm_see, places)
     }
 
     fn look(&self, call: ByText, places: &[Location]) -> Result<Vec<Value>, Error> {
         let text = places.json();
+        // SAFETY: the slots are of one agent and its step, which this thread alone has, and the texts and numbers outlive the call.
         let (code, told) = self.told(|slot, step, out, room, written| unsafe {
             call(slot, step, text.as_ptr(), text.len(), out, room, written)
         })?;
@@ -97,20 +122,30 @@ impl Step<'_> {
     }
 
     /// As [`Step::get`], of a prepared location, and quicker.
+    ///
+    /// # Errors
+    ///
+    /// [`Error::Many`], [`Error::Memory`].
     pub fn get_at(&self, at: &Prepared) -> Result<Value, Error> {
         let mut head = sys::Value::default();
+        // SAFETY: the slots are of one agent and its step, which this thread alone has, and the texts and numbers outlive the call.
         let (code, bytes) = self.told(|slot, step, out, room, written| unsafe {
-            sys::asm_get_at(slot, step, at.slot.at(), &mut head, out, room, written)
+            sys::asm_get_at(slot, step, at.slot.at(), &raw mut head, out, room, written)
         })?;
         self.agent.count(at.size);
         done(code)?;
-        value_of(&head, bytes)
+        value_of(&head, &bytes)
     }
 
     /// What is seen at all locations of a function, in ascending order. The step then rests on the whole function: a write to
-    /// any location of it, be it one that had no value, makes the commit stale. [`Error::Many`]: it would rest on more than
-    /// 256 locations and functions; one function counts as one, however many locations it has.
+    /// any location of it, including one that had no value, makes the fire stale. It counts as one of 256, however many
+    /// locations it has.
+    ///
+    /// # Errors
+    ///
+    /// [`Error::Many`], [`Error::Memory`].
     pub fn get_all(&self, name: &str) -> Result<Vec<(Location, Value)>, Error> {
+        // SAFETY: the slots are of one agent and its step, which this thread alone has, and the texts and numbers outlive the call.
         let (code, text) = self.told(|slot, step, out, room, written| unsafe {
             sys::asm_get_all(slot, step, name.as_ptr(), name.len(), out, room, written)
         })?;
@@ -120,19 +155,30 @@ impl Step<'_> {
 
     /// Pushes the move: what comes after it sees what it leaves.
     ///
-    /// A refused one leaves the step as it was: [`Error::Clash`] on what is seen, [`Error::Deep`] behind 64 pushed moves,
-    /// [`Error::Many`] where the one move of all would have more than 4,096 instructions.
+    /// # Errors
+    ///
+    /// A refused move leaves what is pushed unchanged.
+    ///
+    /// - [`Error::Clash`]: its updates clash on what is seen.
+    /// - [`Error::Deep`]: 64 moves are pushed already.
+    /// - [`Error::Many`]: the one move of all would have more than 4,096 instructions, or the step rest on more than 256 places.
+    /// - [`Error::Large`], [`Error::Refused`], [`Error::Memory`].
     pub fn push(&mut self, instructions: &Move) -> Result<(), Error> {
         self.grow(sys::asm_push, instructions.instructions())
     }
 
     /// The same, but the move joins the one that was pushed last, and is popped with it; so it is never too deep.
+    ///
+    /// # Errors
+    ///
+    /// Those of [`Step::push`] but [`Error::Deep`].
     pub fn extend(&mut self, instructions: &Move) -> Result<(), Error> {
         self.grow(sys::asm_extend, instructions.instructions())
     }
 
     fn grow(&mut self, call: ByText, instructions: &[Instruction]) -> Result<(), Error> {
         let text = instructions.json();
+        // SAFETY: the slots are of one agent and its step, which this thread alone has, and the texts and numbers outlive the call.
         let (code, told) = self.told(|slot, step, out, room, written| unsafe {
             call(slot, step, text.as_ptr(), text.len(), out, room, written)
         })?;
@@ -147,11 +193,19 @@ impl Step<'_> {
     }
 
     /// As [`Step::push`], of a move that was gathered without text.
+    ///
+    /// # Errors
+    ///
+    /// Those of [`Step::push`].
     pub fn push_prepared(&mut self, instructions: &PreparedMove) -> Result<(), Error> {
         self.grow_prepared(sys::asm_push_move, sys::asm_push, instructions)
     }
 
     /// As [`Step::extend`], of a move that was gathered without text.
+    ///
+    /// # Errors
+    ///
+    /// Those of [`Step::extend`].
     pub fn extend_prepared(&mut self, instructions: &PreparedMove) -> Result<(), Error> {
         self.grow_prepared(sys::asm_extend_move, sys::asm_extend, instructions)
     }
@@ -161,6 +215,7 @@ impl Step<'_> {
         if instructions.is_empty() {
             return self.grow(by_text, &[]);
         }
+        // SAFETY: the slots are of one agent and its step, which this thread alone has, and the texts and numbers outlive the call.
         let (code, told) = self.told(|slot, step, out, room, written| unsafe {
             call(slot, step, instructions.slot.at(), out, room, written)
         })?;
@@ -169,27 +224,72 @@ impl Step<'_> {
     }
 
     /// Puts the value, in a move that joins what was pushed last.
+    ///
+    /// # Errors
+    ///
+    /// Those of [`Step::extend`].
     pub fn put(&mut self, at: impl Into<Location>, value: impl Into<Value>) -> Result<(), Error> {
         self.extend(&Move::new().put(at, value))
     }
 
     /// Adds the element to the set there, in a move that joins what was pushed last.
+    ///
+    /// # Errors
+    ///
+    /// Those of [`Step::extend`].
     pub fn add(&mut self, at: impl Into<Location>, element: impl Into<Element>) -> Result<(), Error> {
         self.extend(&Move::new().add(at, element))
     }
 
     /// Removes the element from the set there, in a move that joins what was pushed last.
+    ///
+    /// # Errors
+    ///
+    /// Those of [`Step::extend`].
     pub fn remove(&mut self, at: impl Into<Location>, element: impl Into<Element>) -> Result<(), Error> {
         self.extend(&Move::new().remove(at, element))
     }
 
+    /// Adds the element to the bag there so many times, in a move that joins what was pushed last.
+    ///
+    /// # Errors
+    ///
+    /// Those of [`Step::extend`].
+    pub fn bag_add(&mut self, at: impl Into<Location>, element: impl Into<Element>, amount: u32) -> Result<(), Error> {
+        self.extend(&Move::new().bag_add(at, element, amount))
+    }
+
+    /// Removes the element from the bag there so many times, in a move that joins what was pushed last.
+    ///
+    /// # Errors
+    ///
+    /// Those of [`Step::extend`].
+    pub fn bag_remove(
+        &mut self,
+        at: impl Into<Location>,
+        element: impl Into<Element>,
+        amount: u32,
+    ) -> Result<(), Error> {
+        self.extend(&Move::new().bag_remove(at, element, amount))
+    }
+
     /// Adds to the number there, in a move that joins what was pushed last.
+    ///
+    /// # Errors
+    ///
+    /// Those of [`Step::extend`].
     pub fn inc(&mut self, at: impl Into<Location>, by: i64) -> Result<(), Error> {
         self.extend(&Move::new().inc(at, by))
     }
 
-    /// Takes the move away that was pushed last, with those that joined it. [`Error::NoMove`]: none is pushed.
+    /// Takes the move away that was pushed last, with those that joined it.
+    ///
+    /// # Errors
+    ///
+    /// - [`Error::NoMove`]: none is pushed.
+    /// - [`Error::Many`], [`Error::Memory`].
     pub fn pop(&mut self) -> Result<(), Error> {
+        // SAFETY: the slots are of one agent and its step, which this thread alone has, and the texts and numbers outlive the call.
         self.agent.with(|agent| match unsafe { sys::asm_pop(agent.step.at()) } {
             sys::NONE => Err(Error::NoMove),
             code => done(code),
@@ -199,10 +299,16 @@ impl Step<'_> {
     /// As [`Step::pop`], and answers the one move that does what the popped ones do in turn, which
     /// [`Step::push_prepared`] and [`Step::extend_prepared`] take, of any step.
     ///
-    /// A move that nothing joined is as it was pushed. [`Error::Many`]: the one move would have more than 4,096
-    /// instructions; nothing is popped then.
+    /// A move that nothing joined is as it was pushed.
+    ///
+    /// # Errors
+    ///
+    /// - [`Error::NoMove`]: none is pushed.
+    /// - [`Error::Many`]: the one move would have more than 4,096 instructions; nothing is popped.
+    /// - [`Error::Memory`].
     pub fn pop_move(&mut self) -> Result<PreparedMove, Error> {
         PreparedMove::put_by(|slot| {
+            // SAFETY: the slots are of one agent and its step, which this thread alone has, and the texts and numbers outlive the call.
             self.agent.with(|agent| match unsafe { sys::asm_pop_move(agent.step.at(), slot) } {
                 sys::NONE => Err(Error::NoMove),
                 code => done(code),
@@ -212,35 +318,53 @@ impl Step<'_> {
 
     /// What [`Step::fire`] would offer by now: the one move, and each location that it would name with its number, which
     /// [`Agent::try_fire`] takes. A fire of the step rests besides on the functions of [`Step::get_all`], which aren't told.
-    pub fn offer(&self) -> Result<(Move, Vec<(Location, u32)>), Error> {
-        answer(&self.agent.with(offer_text)?, Json::offer)
+    ///
+    /// # Errors
+    ///
+    /// [`Error::Many`], [`Error::Memory`].
+    pub fn offer(&self) -> Result<(Move, Vec<(Location, MoveNumber)>), Error> {
+        let (instructions, mut reads) = answer(&self.agent.with(offer_text)?, Json::offer)?;
+        reads.iter_mut().for_each(|(_, number)| *number = number.behind(self.agent.before()));
+        Ok((instructions, reads))
     }
 
     /// How many moves are pushed.
     pub fn depth(&self) -> u32 {
+        // SAFETY: the slots are of one agent and its step, which this thread alone has, and the texts and numbers outlive the call.
         self.agent.with(|agent| Ok(unsafe { sys::asm_depth(agent.step.at()) })).unwrap_or(0)
     }
 
     /// Fires one move that does what the pushed ones do in turn, unless something was written since that the step rests on,
     /// and answers the move's number.
     ///
-    /// After [`Error::Stale`], [`Error::Busy`] and [`Error::Clash`] the step is to be begun anew, as
-    /// [`Agent::play`](crate::Agent::play) does. [`Error::Full`]: the storage has no room for a further move.
+    /// # Errors
+    ///
+    /// - [`Error::Conflict`]: another agent was quicker, so begin again, as [`Agent::play`](crate::Agent::play) does.
+    /// - [`Error::NoMove`]: nothing is pushed, so nothing was fired.
+    /// - [`Error::Full`]: the storage has no room for a further move. Of a step of a run that is a conflict too.
+    /// - [`Error::Many`], [`Error::Memory`].
+    /// - Of a step of a run [`Error::TooLong`]: the line of the move would be longer than an audit reads.
     #[must_use = "a stale step has fired nothing"]
-    pub fn fire(self) -> Result<u32, Error> {
-        match &self.agent {
+    pub fn fire(self) -> Result<MoveNumber, Error> {
+        let fired = match &self.agent {
             Holder::Own(agent) => commit(agent),
             Holder::Lent(lent) => lent.fire(),
-        }
+        };
+        fired.map(|number| MoveNumber::from(number).behind(self.agent.before()))
     }
 }
 
 /// Fires what the agent's step has pushed.
 pub(crate) fn commit(agent: &Agent) -> Result<u32, Error> {
+    // SAFETY: the slots are of one agent and its step, which this thread alone has, and the texts and numbers outlive the call.
+    if unsafe { sys::asm_depth(agent.step.at()) } == 0 {
+        return Err(Error::NoMove);
+    }
     let mut numbers = sys::Numbers::default();
-    let code = unsafe { sys::asm_commit(agent.slot.at(), agent.step.at(), &mut numbers) };
+    // SAFETY: the slots are of one agent and its step, which this thread alone has, and the texts and numbers outlive the call.
+    let code = unsafe { sys::asm_commit(agent.slot.at(), agent.step.at(), &raw mut numbers) };
     match code {
-        sys::STALE | sys::CLASH => Err(of_text(code, &agent.last_answer()?)),
+        sys::STALE | sys::CLASH => Err(of_text(code, &agent.last_answer()?).of_fire()),
         code => {
             done(code)?;
             Ok(numbers.fired)
@@ -250,6 +374,7 @@ pub(crate) fn commit(agent: &Agent) -> Result<u32, Error> {
 
 /// The text of what the agent's step would fire by now.
 pub(crate) fn offer_text(agent: &Agent) -> Result<Vec<u8>, Error> {
+    // SAFETY: the slots are of one agent and its step, which this thread alone has, and the texts and numbers outlive the call.
     let (code, text) = told(|out, room, written| unsafe { sys::asm_offer(agent.step.at(), out, room, written) });
     done(code)?;
     Ok(text)

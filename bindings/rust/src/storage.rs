@@ -35,6 +35,7 @@ impl Shared {
     /// Gives the agent back, or keeps it until there is memory.
     pub(crate) fn give(&self, agent: Held) {
         let mut slots = self.slots();
+        // SAFETY: the storage is held under its lock, the agent by this thread, and the texts and numbers outlive the call.
         if unsafe { sys::asm_give(slots.storage.at(), agent.at()) } != sys::DONE {
             slots.waiting.push(agent);
         }
@@ -42,11 +43,12 @@ impl Shared {
 }
 
 impl Slots {
-    fn make(&mut self, number: u32) -> Result<Held, Error> {
+    fn make(&mut self, number: u8) -> Result<Held, Error> {
         let agent = Held::empty();
-        match unsafe { sys::asm_agent(self.storage.at(), number, agent.at()) } {
+        // SAFETY: the storage is held under its lock, the agent by this thread, and the texts and numbers outlive the call.
+        match unsafe { sys::asm_agent(self.storage.at(), number.into(), agent.at()) } {
             sys::DONE => {
-                self.made[number as usize] = true;
+                self.made[usize::from(number)] = true;
                 Ok(agent)
             }
             sys::NUMBER => Err(Error::NumberTaken(number)),
@@ -56,6 +58,7 @@ impl Slots {
 
     fn give_waiting(&mut self) -> Result<(), Error> {
         while let Some(agent) = self.waiting.last() {
+            // SAFETY: the storage is held under its lock, the agent by this thread, and the texts and numbers outlive the call.
             done(unsafe { sys::asm_give(self.storage.at(), agent.at()) })?;
             self.waiting.pop();
         }
@@ -93,13 +96,18 @@ pub struct Storage {
 }
 
 impl Storage {
-    /// Opens a storage with this state, for `capacity` moves, which is 1 to 1,048,576 (else [`Error::Range`]).
+    /// Opens a storage with this state, for `capacity` moves.
     ///
-    /// A location that stands twice, or one against the rules of locations and values, is [`Error::Refused`].
+    /// # Errors
+    ///
+    /// - [`Error::Range`]: the capacity is outside 1 to 1,048,576.
+    /// - [`Error::Refused`]: a location is there twice, or something is against the rules of locations and values.
+    /// - [`Error::Memory`].
     pub fn open(state: impl IntoIterator<Item = (Location, Value)>, capacity: u32) -> Result<Storage, Error> {
         let state: Vec<_> = state.into_iter().collect();
         let text = state.as_slice().json();
         let storage = Held::empty();
+        // SAFETY: the storage is held under its lock, the agent by this thread, and the texts and numbers outlive the call.
         let code = unsafe { sys::asm_open(text.as_ptr(), text.len(), capacity, storage.at()) };
         done_with(code, sys::FORM_STATE, &text)?;
         Storage::of(storage)
@@ -108,6 +116,7 @@ impl Storage {
     /// Opens a storage with the state that the text `[PAIR, ..]` of the library tells.
     pub(crate) fn open_text(state: &[u8], capacity: u32) -> Result<Storage, Error> {
         let storage = Held::empty();
+        // SAFETY: the storage is held under its lock, the agent by this thread, and the texts and numbers outlive the call.
         done(unsafe { sys::asm_open(state.as_ptr(), state.len(), capacity, storage.at()) })?;
         Storage::of(storage)
     }
@@ -121,27 +130,36 @@ impl Storage {
         })
     }
 
-    /// Makes an agent with this number, below 256 (else [`Error::Range`]). A storage has one agent of each number for its
-    /// whole life, so a second one is [`Error::NumberTaken`].
-    pub fn agent(&self, number: u32) -> Result<Agent, Error> {
+    /// Makes an agent with this number. A storage has one agent of each number for its whole life.
+    ///
+    /// # Errors
+    ///
+    /// [`Error::NumberTaken`], [`Error::Memory`].
+    pub fn agent(&self, number: u8) -> Result<Agent, Error> {
         let agent = self.shared.slots().make(number)?;
         Ok(self.holder(agent, number))
     }
 
-    fn holder(&self, agent: Held, number: u32) -> Agent {
+    fn holder(&self, agent: Held, number: u8) -> Agent {
         let slot = ManuallyDrop::new(agent);
         Agent { slot, step: Held::empty(), shared: Arc::clone(&self.shared), number }
     }
 
     /// Takes the agent with this number out again, which was given back: it goes on where it was, with what it was
-    /// answered. [`Error::NotGiven`]: no agent with this number was given back, or it was taken since.
+    /// answered.
     ///
     /// A journal that was made before is discarded, so [`Storage::next`] needs a further [`Storage::close`].
-    pub fn take(&self, number: u32) -> Result<Agent, Error> {
+    ///
+    /// # Errors
+    ///
+    /// - [`Error::NotGiven`]: no agent with this number was given back, or it was taken since.
+    /// - [`Error::Memory`].
+    pub fn take(&self, number: u8) -> Result<Agent, Error> {
         let agent = Held::empty();
         let mut slots = self.shared.slots();
         slots.give_waiting()?;
-        match unsafe { sys::asm_take(slots.storage.at(), number, agent.at()) } {
+        // SAFETY: the storage is held under its lock, the agent by this thread, and the texts and numbers outlive the call.
+        match unsafe { sys::asm_take(slots.storage.at(), number.into(), agent.at()) } {
             sys::DONE => Ok(self.holder(agent, number)),
             sys::NONE => Err(Error::NotGiven(number)),
             code => Err(plain(code)),
@@ -150,40 +168,49 @@ impl Storage {
 
     /// Makes agents with the numbers from 0 up.
     ///
-    /// [`Error::Range`]: more than 256. [`Error::NumberTaken`]: an agent with one of the numbers was made before. None is made
-    /// then. [`Error::Memory`]: some of them were made.
-    pub fn agents(&self, count: u32) -> Result<Vec<Agent>, Error> {
+    /// # Errors
+    ///
+    /// - [`Error::Range`]: more than 256. None is made.
+    /// - [`Error::NumberTaken`]: an agent with one of the numbers was made before. None is made.
+    /// - [`Error::Memory`]: some of them were made.
+    pub fn agents(&self, count: usize) -> Result<Vec<Agent>, Error> {
         let mut slots = self.shared.slots();
-        let wanted = slots.made.get(..count as usize).ok_or(Error::Range)?;
-        if let Some(taken) = (0..count).zip(wanted).find_map(|(number, is_made)| is_made.then_some(number)) {
+        let wanted = slots.made.get(..count).ok_or(Error::Range)?;
+        if let Some((taken, _)) = (0..=u8::MAX).zip(wanted).find(|(_, is_made)| **is_made) {
             return Err(Error::NumberTaken(taken));
         }
-        let made = (0..count).map(|number| slots.make(number)).collect::<Result<Vec<_>, _>>()?;
+        let numbers = (0..=u8::MAX).take(count);
+        let made = numbers.clone().map(|number| slots.make(number)).collect::<Result<Vec<_>, _>>()?;
         drop(slots);
-        Ok((0..count).zip(made).map(|(number, agent)| self.holder(agent, number)).collect())
+        Ok(numbers.zip(made).map(|(number, agent)| self.holder(agent, number)).collect())
     }
 
     /// How many moves were fired. It looks along all of them.
+    #[must_use] 
     pub fn moves(&self) -> u32 {
         let mut moves = 0;
         let slots = self.shared.slots();
-        // The slot has a storage, so no other code comes.
-        let _ = unsafe { sys::asm_moves(slots.storage.at(), &mut moves) };
+        // SAFETY: the storage is held under its lock. It is there, so no other code comes.
+        let _ = unsafe { sys::asm_moves(slots.storage.at(), &raw mut moves) };
         moves
     }
 
-    /// Makes the journal of the agents that were given back.
+    /// Makes the journal of the agents that were given back. It may be made again, when more agents have come back.
     ///
-    /// [`Error::Missing`] tells a move whose agent wasn't given back, and an abandoned agent's moves are missing for good.
-    /// It may be made again, when more agents have come back.
+    /// # Errors
+    ///
+    /// - [`Error::Missing`]: a move whose agent wasn't given back. An abandoned agent's moves are missing for good.
+    /// - [`Error::Memory`].
     pub fn close(&self) -> Result<Journal, Error> {
         let mut slots = self.shared.slots();
         slots.give_waiting()?;
         let mut number = 0;
-        match unsafe { sys::asm_close(slots.storage.at(), &mut number) } {
-            sys::MISSING => return Err(Error::Missing(number)),
+        // SAFETY: the storage is held under its lock, the agent by this thread, and the texts and numbers outlive the call.
+        match unsafe { sys::asm_close(slots.storage.at(), &raw mut number) } {
+            sys::MISSING => return Err(Error::Missing(number.into())),
             code => done(code)?,
         }
+        // SAFETY: the storage is held under its lock, the agent by this thread, and the texts and numbers outlive the call.
         let (code, text) =
             told(|out, room, written| unsafe { sys::asm_journal(slots.storage.at(), out, room, written) });
         done(code)?;
@@ -191,11 +218,18 @@ impl Storage {
     }
 
     /// Opens a storage that goes on where this one was closed: its opening state is what the moves of the journal leave, its
-    /// agents and numbers begin anew. [`Error::NoJournal`]: none was made since an agent was given back.
+    /// agents and numbers begin anew.
     ///
     /// Moves that were fired after `close` are in neither journal.
+    ///
+    /// # Errors
+    ///
+    /// - [`Error::NoJournal`]: none was made since an agent was given back.
+    /// - [`Error::Range`]: the capacity is outside 1 to 1,048,576.
+    /// - [`Error::Memory`].
     pub fn next(&self, capacity: u32) -> Result<Storage, Error> {
         let next = Held::empty();
+        // SAFETY: the storage is held under its lock, the agent by this thread, and the texts and numbers outlive the call.
         let code = unsafe { sys::asm_next(self.shared.slots().storage.at(), capacity, next.at()) };
         match code {
             sys::NONE => Err(Error::NoJournal),
@@ -210,7 +244,11 @@ impl Storage {
         Arc::ptr_eq(&self.shared, &agent.shared)
     }
 
-    /// Gives the agent back, as letting it go does, and refuses one of another storage, which it hands back.
+    /// Gives the agent back, as letting it go does.
+    ///
+    /// # Errors
+    ///
+    /// An agent of another storage is handed back.
     pub fn give(&self, agent: Agent) -> Result<(), Agent> {
         if self.is_of(&agent) { Ok(()) } else { Err(agent) }
     }

@@ -70,11 +70,13 @@ impl Value {
     pub const UNDEF: Value = Value::Plain(Element::Undef);
 
     /// Whether it is undef.
+    #[must_use] 
     pub fn is_undef(&self) -> bool {
         *self == Value::UNDEF
     }
 
     /// The number, if it is one.
+    #[must_use] 
     pub fn as_num(&self) -> Option<i64> {
         match self {
             Value::Plain(Element::Num(number)) => Some(*number),
@@ -83,6 +85,7 @@ impl Value {
     }
 
     /// The boolean, if it is one.
+    #[must_use] 
     pub fn as_bool(&self) -> Option<bool> {
         match self {
             Value::Plain(Element::Bool(is_true)) => Some(*is_true),
@@ -91,6 +94,7 @@ impl Value {
     }
 
     /// The text, if it is one.
+    #[must_use] 
     pub fn as_text(&self) -> Option<&str> {
         match self {
             Value::Plain(Element::Text(text)) => Some(text),
@@ -98,7 +102,17 @@ impl Value {
         }
     }
 
+    /// The list, if it is one.
+    #[must_use] 
+    pub fn as_list(&self) -> Option<&[Element]> {
+        match self {
+            Value::Plain(Element::List(items)) => Some(items),
+            _ => None,
+        }
+    }
+
     /// The set, if it is one.
+    #[must_use] 
     pub fn as_set(&self) -> Option<&BTreeSet<Element>> {
         match self {
             Value::Set(elements) => Some(elements),
@@ -107,6 +121,7 @@ impl Value {
     }
 
     /// The bag, if it is one.
+    #[must_use] 
     pub fn as_bag(&self) -> Option<&BTreeMap<Element, u32>> {
         match self {
             Value::Bag(counts) => Some(counts),
@@ -141,7 +156,11 @@ from_plain! {
     bool, it => Element::Bool(it);
     i64, it => Element::Num(it);
     i32, it => Element::Num(it.into());
+    i16, it => Element::Num(it.into());
+    i8, it => Element::Num(it.into());
     u32, it => Element::Num(it.into());
+    u16, it => Element::Num(it.into());
+    u8, it => Element::Num(it.into());
     &str, it => Element::Text(it.to_owned());
     String, it => Element::Text(it);
     Vec<Element>, it => Element::List(it);
@@ -150,6 +169,20 @@ from_plain! {
 impl From<Element> for Value {
     fn from(element: Element) -> Value {
         Value::Plain(element)
+    }
+}
+
+/// None is undef.
+impl<T: Into<Element>> From<Option<T>> for Element {
+    fn from(it: Option<T>) -> Element {
+        it.map_or(Element::Undef, Into::into)
+    }
+}
+
+/// None is undef.
+impl<T: Into<Value>> From<Option<T>> for Value {
+    fn from(it: Option<T>) -> Value {
+        it.map_or(Value::UNDEF, Into::into)
     }
 }
 
@@ -202,11 +235,13 @@ impl Location {
     }
 
     /// The function's name.
+    #[must_use] 
     pub fn name(&self) -> &str {
         &self.name
     }
 
     /// The arguments.
+    #[must_use] 
     pub fn args(&self) -> &[Element] {
         &self.args
     }

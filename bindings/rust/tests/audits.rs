@@ -1,4 +1,5 @@
 //! Audits: pieces of any size, each fault, and what stands on the way.
+#![allow(clippy::cast_possible_truncation, reason = "no test has so many")]
 use folugben::{AuditError, Auditor, JournalError, Location, Storage, Value, audit};
 use std::io::{self, Read, Write};
 

@@ -1,4 +1,5 @@
 //! What happens to a run and its folder: kills, power failures, damage, a full disk. Each for a moment; with `--ignored` for long.
+#![allow(clippy::cast_possible_truncation, reason = "no test has so many")]
 mod common;
 #[path = "common/crashes.rs"]
 mod crashes;
@@ -298,7 +299,7 @@ fn flip(times: u64) {
         match draw.below(10) {
             0..6 => altered[draw.below(length) as usize] ^= 1 << draw.below(8),
             6..9 => altered.truncate(draw.below(length) as usize),
-            _ => altered.extend_from_slice(&whole[..1 + draw.below(length) as usize]),
+            _ => altered.extend_from_slice(&whole[..=(draw.below(length) as usize)]),
         }
         fs::write(file, altered).unwrap();
         assert_refused(&room, number, if number == 4 { &[Check::All, Check::Last] } else { &[Check::All] });

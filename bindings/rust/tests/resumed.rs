@@ -1,7 +1,7 @@
 //! Runs that are resumed: after a close, and what is refused; and runs of version 0.2 that are imported.
 mod common;
 
-use common::{Room, add_one, count, numbers, open};
+use common::{Room, add_one, count, fired, numbers, open};
 use folugben::{
     AuditError, Check, EndCause, Error, JournalError, Run, RunOptions, Storage, Value, audit_run, import_run,
 };
@@ -31,7 +31,7 @@ fn a_resumed_run_goes_on_where_it_was_closed() {
         assert_eq!((numbers(run.saved()), run.path()), ((3, 10, 10), room.path().canonicalize().unwrap().as_path()));
         let mut agent = run.agent(0).unwrap();
         let step = agent.step().unwrap();
-        assert_eq!((step.part(), step.get(&count()).unwrap()), (3, Value::from(10)));
+        assert_eq!((step.part(), step.get(count()).unwrap()), (3, Value::from(10)));
         drop(step);
         for number in 11..=16 {
             assert_eq!(add_one(&mut agent), Ok(number));
@@ -137,7 +137,7 @@ fn a_segment_that_is_illegal_is_told_with_its_number() {
     assert_eq!(resume_with(&room, &text.replace("\"fired\":2", "\"fired\":3"), 5, 5), [illegal.clone(), illegal]);
     let shape = Some(Error::Audit(AuditError::Journal { part: 2, fault: JournalError::Shape(2) }));
     assert_eq!(resume_with(&room, &text.replacen("\"agent\":", "\"agend\":", 1), 5, 5), [shape.clone(), shape]);
-    let cut = &text[..text[..text.len() - 1].rfind('\n').unwrap() + 1];
+    let cut = &text[..=text[..text.len() - 1].rfind('\n').unwrap()];
     let told = Some(Error::Audit(AuditError::Journal { part: 2, fault: JournalError::Cut }));
     assert_eq!(resume_with(&room, cut, 4, 4), [told.clone(), told]);
     let why = "its text has other numbers of moves or events than its name".to_owned();
@@ -154,9 +154,9 @@ fn too_long_lines_are_refused_and_nothing_is_lost() {
     let run = open(&room, 3);
     let mut agent = run.agent(0).unwrap();
     assert_eq!(agent.play(|step| step.put("a", long.as_str())), Err(Error::TooLong));
-    assert_eq!(agent.play(|step| step.put("a", half.as_str())), Ok((1, ())));
+    assert_eq!(agent.play(|step| step.put("a", half.as_str())).map(fired), Ok(1));
     assert_eq!(run.flush().unwrap().moves, 1);
-    assert_eq!(agent.play(|step| step.put("b", half.as_str())), Ok((2, ())));
+    assert_eq!(agent.play(|step| step.put("b", half.as_str())).map(fired), Ok(2));
     // Its part goes on until it is full, as no further one can open.
     assert_eq!(run.flush(), Err(Error::TooLong));
     assert_eq!(add_one(&mut agent), Ok(3));

@@ -1,8 +1,9 @@
 //! Runs: from part to part, at rest, closed, and ended.
+#![allow(clippy::cast_possible_truncation, reason = "no test has so many")]
 mod common;
 
-use common::{Draw, Room, add_one, count, numbers, open};
-use folugben::{Check, EndCause, Ended, Error, Location, Move, Run, RunAgent, RunOptions, Value};
+use common::{Draw, PAST, Room, add_one, count, fired, numbers, open};
+use folugben::{Check, EndCause, Ended, Error, Location, Move, MoveNumber, Run, RunAgent, RunOptions, Value};
 use std::thread;
 use std::time::{Duration, Instant};
 
@@ -30,12 +31,12 @@ fn agents_and_runs_go_between_threads() {
 
 #[test]
 fn threads_go_on_from_part_to_part_as_one_run() {
-    const AGENTS: u32 = 8;
+    const AGENTS: u8 = 8;
     for (moves, each) in [(1, 20), (7, 100), (64, 300)] {
         let room = Room::new(&format!("threads-{moves}"));
         let run = open(&room, moves);
         let mut all: Vec<u64> = thread::scope(|threads| {
-            let works = run.agents(AGENTS).unwrap().into_iter().map(|mut agent| {
+            let works = run.agents(AGENTS.into()).unwrap().into_iter().map(|mut agent| {
                 threads.spawn(move || (0..each).map(|_| add_one(&mut agent).unwrap()).collect::<Vec<_>>())
             });
             let works: Vec<_> = works.collect();
@@ -99,7 +100,7 @@ fn the_folder_has_each_part_whole_and_in_order() {
     drop(agent);
     assert_eq!(numbers(run.close().unwrap()), (4, 12, 12));
     assert_eq!(run.close().map(numbers), Ok((4, 12, 12)));
-    let lines = room.bytes().iter().filter(|it| **it == b'\n').count();
+    let lines = String::from_utf8(room.bytes()).unwrap().lines().count();
     assert_eq!((lines, room.audited().1), (4 + 12, vec![(count(), 12.into())]));
 }
 
@@ -109,8 +110,8 @@ fn three_parts_are_in_memory_at_most() {
     let run = open(&room, 20);
     let mut agent = run.agent(0).unwrap();
     for _ in 0..2_000 {
-        let fired = add_one(&mut agent).unwrap();
-        assert!(fired <= run.saved().moves + 3 * 20);
+        let number = add_one(&mut agent).unwrap();
+        assert!(number <= run.saved().moves + 3 * 20);
     }
 }
 
@@ -126,7 +127,7 @@ fn an_agent_that_is_idle_holds_no_part_up() {
     // The last move has filled the tenth part, which is over once an agent goes on.
     assert_eq!(busy.step().unwrap().part(), 11);
     has_parts(&run, 11);
-    assert_eq!(idle.step().unwrap().get(&count()), Ok(40.into()));
+    assert_eq!(idle.step().unwrap().get(count()), Ok(40.into()));
     assert_eq!(add_one(&mut idle), Ok(41));
 }
 
@@ -142,17 +143,17 @@ fn an_open_step_holds_no_agent_up_and_is_begun_again() {
     assert_eq!(quick.step().unwrap().part(), 2);
     // It goes on in its part for a while, and fires nothing there.
     assert_eq!(step.put("other", 1), Ok(()));
-    assert_eq!(step.fire(), Err(Error::Past));
-    assert_eq!(slow.play(|step| step.put("other", 1)), Ok((4, ())));
+    assert_eq!(step.fire(), Err(PAST));
+    assert_eq!(slow.play(|step| step.put("other", 1)).map(fired), Ok(4));
 
     let step = slow.step().unwrap();
     for _ in 0..30 {
         add_one(&mut quick).unwrap();
     }
     has_parts(&run, 10);
-    let told = step.get(&count()).unwrap_err();
-    assert!(told == Error::Past && told.is_retry());
-    assert_eq!((step.depth(), step.fire()), (0, Err(Error::Past)));
+    let told = step.get(count()).unwrap_err();
+    assert!(told == PAST && told.is_retry());
+    assert_eq!((step.depth(), step.fire()), (0, Err(PAST)));
     drop((slow, quick));
     assert_eq!(run.close().unwrap().moves, 34);
     assert_eq!(room.audited().1, [(count(), 33.into()), (Location::new("other"), 1.into())]);
@@ -172,9 +173,10 @@ fn a_rule_that_takes_too_long_is_played_again() {
         if tries == 1 {
             has_parts(&run, 3);
         }
-        step.put("other", step.get(&count())?)
+        step.put("other", step.get(count())?)
     });
-    assert_eq!((told, tries), (Ok((10, ())), 2));
+    let told = told.unwrap();
+    assert_eq!((told.retries, fired(told), tries), (1, 10, 2));
 }
 
 #[test]
@@ -184,11 +186,11 @@ fn an_agent_that_stays_in_a_step_stops_no_saving() {
     let (mut slow, mut quick) = (run.agent(0).unwrap(), run.agent(1).unwrap());
     let step = slow.step().unwrap();
     for _ in 0..2_000 {
-        let fired = add_one(&mut quick).unwrap();
-        assert!(fired <= run.saved().moves + 3 * 20);
+        let number = add_one(&mut quick).unwrap();
+        assert!(number <= run.saved().moves + 3 * 20);
     }
     assert!(run.saved().moves >= 1_940);
-    assert_eq!(step.get(&count()), Err(Error::Past));
+    assert_eq!(step.get(count()), Err(PAST));
 }
 
 /// Has each of the agents begin a step that rests on the count, then the last one raise it, and then the others fire in vain.
@@ -196,7 +198,7 @@ fn stale_tries(agents: &mut [RunAgent], last: &mut RunAgent) -> Result<u64, Erro
     let mut steps = Vec::new();
     for agent in agents {
         let mut step = agent.step()?;
-        step.get(&count())?;
+        step.get(count())?;
         step.put(count(), -1)?;
         steps.push(step);
     }
@@ -248,7 +250,7 @@ fn parts_end_by_time_and_by_flushes() {
     let step = agent.step().unwrap();
     add_one(&mut other).unwrap();
     assert_eq!(run.flush().unwrap().moves, 6);
-    assert_eq!(step.fire(), Err(Error::Past));
+    assert_eq!(step.fire(), Err(PAST));
     assert_eq!(add_one(&mut agent), Ok(7));
     assert_eq!(run.close().unwrap().moves, 7);
     assert_eq!(run.flush().err(), Some(Error::Closed));
@@ -285,7 +287,7 @@ fn a_lost_agent_is_told_where_a_part_ends_at_rest_too() {
     lost.abandon();
     let ended = run.flush().unwrap_err();
     let Error::Ended(Ended { part, cause, .. }) = &ended else { panic!("{ended}") };
-    assert_eq!((*part, cause), (2, &EndCause::Missing(1)));
+    assert_eq!((*part, cause), (2, &EndCause::Missing(MoveNumber::new(1))));
     assert_eq!(run.close(), Err(ended));
     assert_eq!(numbers(room.audited().0), (2, 20, 20));
 }
@@ -313,7 +315,7 @@ fn a_lost_agent_ends_the_run_and_what_was_saved_stays() {
         }
     };
     let Error::Ended(why) = &ended else { panic!("{ended}") };
-    assert_eq!((why.part, &why.cause), (2, &EndCause::Missing(2)));
+    assert_eq!((why.part, &why.cause), (2, &EndCause::Missing(MoveNumber::new(2))));
     assert_eq!(ended.to_string(), "the run ended at part 2: the agent that fired its move 2 is lost");
     assert_eq!(step.fire(), Err(ended.clone()));
     for agent in [&mut left, &mut slow] {
@@ -367,9 +369,7 @@ fn a_thread_that_panics_in_a_step_gives_its_agent_back() {
     let ended = thread::spawn(move || {
         let told = agent.play(|step| {
             step.put(count(), 7)?;
-            if step.depth() == 1 {
-                panic!("on purpose");
-            }
+            assert_ne!(step.depth(), 1, "on purpose");
             Ok::<(), Error>(())
         });
         drop((told, agent));
@@ -384,7 +384,7 @@ fn a_number_has_one_agent_at_a_time() {
     let run = open(&room, 10);
     let mut agent = run.agent(7).unwrap();
     assert_eq!(run.agent(7).err(), Some(Error::NumberTaken(7)));
-    assert_eq!((run.agent(256).err(), run.agents(257).err()), (Some(Error::Range), Some(Error::Range)));
+    assert_eq!(run.agents(257).err(), Some(Error::Range));
     assert_eq!(add_one(&mut agent), Ok(1));
     drop(agent);
     let mut agent = run.agent(7).unwrap();
@@ -406,7 +406,7 @@ fn a_closed_run_begins_no_step() {
     step.put(count(), 5).unwrap();
     // It waits for no step, of its own thread either.
     assert_eq!(run.close().map(numbers), Ok((2, 1, 1)));
-    assert_eq!((step.get(&count()), step.fire()), (Err(Error::Closed), Err(Error::Closed)));
+    assert_eq!((step.get(count()), step.fire()), (Err(Error::Closed), Err(Error::Closed)));
     assert_eq!(agent.step().err(), Some(Error::Closed));
     assert_eq!(add_one(&mut agent), Err(Error::Closed));
     assert_eq!((agent.follow(), agent.scan("count").err()), (Err(Error::Closed), Some(Error::Closed)));
@@ -448,7 +448,7 @@ fn steps_that_went_to_other_threads_hang_no_close() {
             step.put(count(), 3).unwrap();
             step.fire()
         });
-        assert_eq!(fired.join().unwrap(), Ok(1));
+        assert_eq!(fired.join().unwrap().unwrap(), 1);
         let forgotten = threads.spawn(move || std::mem::forget(kept));
         forgotten.join().unwrap();
         assert_eq!(run.close().map(numbers), Ok((2, 1, 1)));
@@ -473,18 +473,20 @@ fn agents_tell_their_own_state() {
     let room = Room::new("own");
     let run = open(&room, 3);
     let (mut one, mut other) = (run.agent(0).unwrap(), run.agent(1).unwrap());
-    assert_eq!(one.peek(&[count()]), Ok((0, vec![0.into()])));
+    let n = MoveNumber::new;
+    let peek = |one: &mut RunAgent| one.peek(&[count(), "none".into()]).map(|it| (it.number, it.values)).unwrap();
+    assert_eq!(peek(&mut one), (n(0), vec![0.into(), Value::UNDEF]));
     add_one(&mut other).unwrap();
-    assert_eq!(one.peek(&[count()]), Ok((0, vec![0.into()])));
-    assert_eq!((one.follow(), one.peek(&[count(), "none".into()])), (Ok(1), Ok((1, vec![1.into(), Value::UNDEF]))));
+    assert_eq!(peek(&mut one), (n(0), vec![0.into(), Value::UNDEF]));
+    assert_eq!((one.follow(), peek(&mut one)), (Ok(n(1)), (n(1), vec![1.into(), Value::UNDEF])));
     for _ in 0..7 {
         add_one(&mut other).unwrap();
     }
     // Its part has ended, so it is at the beginning of the newest one.
-    assert_eq!(one.scan("count"), Ok((6, vec![(count(), 6.into())])));
-    assert_eq!((one.follow(), one.state()), (Ok(8), Ok((8, vec![(count(), 8.into())]))));
+    assert_eq!(one.scan("count"), Ok((n(6), vec![(count(), 6.into())])));
+    assert_eq!((one.follow(), one.state()), (Ok(n(8)), Ok((n(8), vec![(count(), 8.into())]))));
     add_one(&mut other).unwrap();
-    assert_eq!((one.follow(), one.state()), (Ok(9), Ok((9, vec![(count(), 9.into())]))));
+    assert_eq!((one.follow(), one.state()), (Ok(n(9)), Ok((n(9), vec![(count(), 9.into())]))));
     assert!(matches!(one.peek(&["no name".into()]), Err(Error::Refused(_))));
     assert_eq!(run.close().unwrap().moves, 9);
 }
@@ -517,15 +519,15 @@ fn runs_are_played_and_closed_where_the_locals_of_a_thread_end() {
 #[test]
 fn rules_take_steps_of_runs_and_of_storages() {
     fn rule(step: &mut folugben::Step<'_>) -> Result<i64, Error> {
-        let seen = step.get(&count())?.as_num().unwrap_or(0);
+        let seen = step.get(count())?.as_num().unwrap_or(0);
         step.put(count(), seen + 2)?;
         Ok(seen)
     }
     let room = Room::new("rules");
     let run = open(&room, 10);
     let storage = folugben::Storage::open([], 10).unwrap();
-    assert_eq!(run.agent(0).unwrap().play(rule), Ok((1, 0)));
-    assert_eq!(storage.agent(0).unwrap().play(rule), Ok((1, 0)));
+    assert_eq!(run.agent(0).unwrap().play(rule).map(fired), Ok(1));
+    assert_eq!(storage.agent(0).unwrap().play(rule).map(fired), Ok(1));
     let clash = run.agent(1).unwrap().play(|step| step.push(&Move::new().put("x", 1).put("x", 2)));
     assert!(matches!(clash, Err(Error::Clash { .. })));
     assert_eq!(run.close().map(numbers), Ok((2, 1, 1)));
@@ -536,11 +538,11 @@ fn come_and_go(run: &Run, mut agent: RunAgent, mut draw: Draw) -> Vec<u64> {
     let (number, mut fired) = (agent.number(), Vec::new());
     loop {
         let told = match draw.below(20) {
-            0 => agent.step().map(|step| drop(step.get(&count()))),
+            0 => agent.step().map(|step| drop(step.get(count()))),
             1 => agent.step().and_then(|mut step| {
                 step.put(account(number.into()), 1)?;
                 thread::sleep(Duration::from_micros(draw.below(2_000)));
-                step.fire().map(|number| fired.push(number))
+                step.fire().map(|number| fired.push(number.get()))
             }),
             3 => run.flush().map(drop),
             4 => agent.step().map(std::mem::forget),

@@ -1,5 +1,7 @@
 //! Steps, plays and fires of one thread and of several.
-use folugben::{Cause, Element, Error, Location, Move, Prepared, PreparedMove, Storage, Value};
+use folugben::{
+    Cause, Conflict, Element, Error, Location, Move, MoveNumber, Patience, Prepared, PreparedMove, Storage, Value,
+};
 use std::collections::{BTreeMap, BTreeSet};
 
 fn count() -> Location {
@@ -8,6 +10,14 @@ fn count() -> Location {
 
 fn open(state: &[(Location, Value)]) -> Storage {
     Storage::open(state.iter().cloned(), 1_000).expect("a state")
+}
+
+fn n(number: u64) -> MoveNumber {
+    MoveNumber::new(number)
+}
+
+fn stale(at: Location) -> Error {
+    Conflict::Stale(at).into()
 }
 
 fn is_send<T: Send>() {}
@@ -31,17 +41,17 @@ fn a_step_sees_what_it_pushed_and_fires_as_one_move() {
     let mut agent = storage.agent(3).unwrap();
     assert_eq!(agent.number(), 3);
     let mut step = agent.step().unwrap();
-    assert_eq!(step.get(&count()).unwrap().as_num(), Some(7));
+    assert_eq!(step.get(count()).unwrap().as_num(), Some(7));
     step.push(&Move::new().put(count(), 8)).unwrap();
     step.push(&Move::new().inc(count(), 2)).unwrap();
     assert_eq!(step.depth(), 2);
-    assert_eq!(step.get(&count()).unwrap(), Value::from(10));
+    assert_eq!(step.get(count()).unwrap(), Value::from(10));
     step.pop().unwrap();
-    assert_eq!(step.get(&count()).unwrap(), Value::from(8));
+    assert_eq!(step.get(count()).unwrap(), Value::from(8));
     assert_eq!(step.fire().unwrap(), 1);
     assert_eq!(agent.follow().unwrap(), 1);
-    assert_eq!(agent.state().unwrap(), (1, vec![(count(), Value::from(8))]));
-    assert_eq!((agent.seen(), agent.won()), (1, 1));
+    assert_eq!(agent.state().unwrap(), (n(1), vec![(count(), Value::from(8))]));
+    assert_eq!((agent.seen(), agent.won()), (n(1), 1));
 }
 
 #[test]
@@ -49,15 +59,15 @@ fn a_stale_step_is_told_with_its_location_and_played_again() {
     let storage = open(&[(count(), 0.into())]);
     let (mut one, mut other) = (storage.agent(0).unwrap(), storage.agent(1).unwrap());
     let mut step = one.step().unwrap();
-    let seen = step.get(&count()).unwrap().as_num().unwrap();
+    let seen = step.get(count()).unwrap().as_num().unwrap();
     other.play(|step| step.put(count(), 5)).unwrap();
     step.put(count(), seen + 1).unwrap();
-    assert_eq!(step.fire(), Err(Error::Stale(count())));
+    assert_eq!(step.fire(), Err(stale(count())));
 
     let mut tries = 0;
-    let (number, told) = one
+    let told = one
         .play(|step| {
-            let seen = step.get(&count())?.as_num().unwrap_or(0);
+            let seen = step.get(count())?.as_num().unwrap_or(0);
             tries += 1;
             if tries == 1 {
                 other.play(|step| step.put(count(), 20))?;
@@ -66,7 +76,7 @@ fn a_stale_step_is_told_with_its_location_and_played_again() {
             Ok::<_, Error>(seen)
         })
         .unwrap();
-    assert_eq!((number, told, tries), (3, 20, 2));
+    assert_eq!((told.number, told.result, told.retries, tries), (Some(n(3)), 20, 1, 2));
 }
 
 #[test]
@@ -104,7 +114,8 @@ fn a_removal_that_is_short_by_now_is_played_again() {
     let mut step = one.step().unwrap();
     step.push(&take).unwrap();
     other.play(|step| step.push(&take)).unwrap();
-    assert_eq!(step.fire(), Err(Error::Clash { at: shelf.clone(), cause: Cause::Short }));
+    // A clash of the fire is a conflict, and one of a push is none.
+    assert_eq!(step.fire(), Err(Conflict::Clash { at: shelf.clone(), cause: Cause::Short }.into()));
     let again = one.play(|step| step.push(&take));
     assert_eq!(again.unwrap_err(), Error::Clash { at: shelf, cause: Cause::Short });
 }
@@ -114,17 +125,18 @@ fn a_fire_rests_on_the_functions_that_were_scanned() {
     let task = |n: i64| Location::new("task").arg(n);
     let storage = open(&[(task(1), 7.into())]);
     let (mut one, mut other) = (storage.agent(0).unwrap(), storage.agent(1).unwrap());
-    let count_all = |tasks: usize| Move::new().put(count(), tasks as i64);
+    let count_all = |tasks: usize| Move::new().put(count(), i64::try_from(tasks).unwrap());
     let (number, tasks) = one.scan("task").unwrap();
-    assert_eq!(one.try_fire_over(&count_all(tasks.len()), &[], &[("task", number), ("none", 0)]), Ok(1));
+    assert_eq!(one.try_fire_over(&count_all(tasks.len()), &[], &[("task", number), ("none", n(0))]), Ok(n(1)));
     other.play(|step| step.put(task(2), 8)).unwrap();
-    assert_eq!(one.try_fire(&count_all(1), &[(task(1), 0)]), Ok(3));
-    assert_eq!(one.try_fire_over(&count_all(1), &[], &[("task", number)]), Err(Error::Stale(task(2))));
-    assert_eq!(one.try_fire_over(&count_all(1), &[], &[("task", 4)]), Err(Error::Range));
+    assert_eq!(one.try_fire(&count_all(1), &[(task(1), n(0))]), Ok(n(3)));
+    assert_eq!(one.try_fire_over(&count_all(1), &[], &[("task", number)]), Err(stale(task(2))));
+    assert_eq!(one.try_fire_over(&count_all(1), &[], &[("task", n(4))]), Err(Error::Range));
+    assert_eq!(one.try_fire_over(&count_all(1), &[], &[("task", n(1 << 32))]), Err(Error::Range));
     let (number, tasks) = one.scan("task").unwrap();
-    assert_eq!((number, tasks.len()), (3, 2));
-    assert_eq!(one.try_fire_over(&count_all(2), &[(count(), number)], &[("task", number)]), Ok(4));
-    assert_eq!(one.try_fire_over(&count_all(2), &[], &[("task", 0); 257]), Err(Error::Many));
+    assert_eq!((number, tasks.len()), (n(3), 2));
+    assert_eq!(one.try_fire_over(&count_all(2), &[(count(), number)], &[("task", number)]), Ok(n(4)));
+    assert_eq!(one.try_fire_over(&count_all(2), &[], &[("task", n(0)); 257]), Err(Error::Many));
 }
 
 #[test]
@@ -177,7 +189,8 @@ fn prepared_moves_do_what_moves_do() {
     agent.play(|step| step.push_prepared(&gathered)).unwrap();
     gathered.clear().remove(&s, 1).unwrap().bag_remove(&b, true, 1).unwrap();
     agent.play(|step| step.extend_prepared(&gathered)).unwrap();
-    agent.play(|step| step.push_prepared(gathered.clear())).unwrap();
+    // A move of no instructions is pushed and fired too.
+    assert_eq!(agent.play(|step| step.extend_prepared(gathered.clear())).unwrap().number, Some(MoveNumber::new(3)));
     agent.follow().unwrap();
     let mut step = agent.step().unwrap();
     for depth in 1..3 {
@@ -188,7 +201,10 @@ fn prepared_moves_do_what_moves_do() {
     drop(step);
     let values = agent.peek(&places).unwrap();
     let bag = Value::Bag(BTreeMap::from([(true.into(), 2)]));
-    assert_eq!((values.number, values.values), (3, vec![(-3).into(), Value::Set(BTreeSet::new()), bag, "text".into()]));
+    assert_eq!(
+        (values.number, values.values),
+        (MoveNumber::new(3), vec![(-3).into(), Value::Set(BTreeSet::new()), bag, "text".into()])
+    );
 }
 
 #[test]
@@ -232,13 +248,13 @@ fn a_popped_move_is_pushed_elsewhere() {
     step.push(&Move::new().inc(count(), 1)).unwrap();
     step.extend(&Move::new().inc(count(), 2)).unwrap();
     let mut popped = step.pop_move().unwrap();
-    assert_eq!((popped.len(), step.depth(), step.get(&count()).unwrap()), (1, 1, Value::from(5)));
+    assert_eq!((popped.len(), step.depth(), step.get(count()).unwrap()), (1, 1, Value::from(5)));
     step.push_prepared(popped.inc(&at, 10).unwrap()).unwrap();
-    assert_eq!((popped.len(), step.get(&count()).unwrap()), (2, Value::from(18)));
+    assert_eq!((popped.len(), step.get(count()).unwrap()), (2, Value::from(18)));
     step.fire().unwrap();
     other.play(|step| step.extend_prepared(&popped)).unwrap();
     other.follow().unwrap();
-    assert_eq!(other.peek_at(&at).unwrap(), (2, Value::from(31)));
+    assert_eq!(other.peek_at(&at).unwrap(), (n(2), Value::from(31)));
     let mut step = one.step().unwrap();
     step.put(count(), Value::Set(BTreeSet::new())).unwrap();
     let adds = |from: i64| (from..from + 3000).fold(Move::new(), |adds, i| adds.add(count(), i));
@@ -259,12 +275,12 @@ fn what_is_seen_is_not_named_and_an_offer_tells_what_is() {
     assert!(step.see(&[Location::new("1")]).is_err());
     step.get(&other_place).unwrap();
     let (instructions, reads) = step.offer().unwrap();
-    assert_eq!((&instructions, &reads), (&Move::new().inc(count(), 2), &vec![(other_place.clone(), 0)]));
+    assert_eq!((&instructions, &reads), (&Move::new().inc(count(), 2), &vec![(other_place.clone(), n(0))]));
     other.play(|step| step.put(count(), 10)).unwrap();
-    assert_eq!(step.fire(), Ok(2));
-    assert_eq!(one.try_fire(&instructions, &reads), Ok(3));
+    assert_eq!(step.fire(), Ok(n(2)));
+    assert_eq!(one.try_fire(&instructions, &reads), Ok(n(3)));
     other.play(|step| step.put(&other_place, 1)).unwrap();
-    assert_eq!(one.try_fire(&instructions, &reads), Err(Error::Stale(other_place)));
+    assert_eq!(one.try_fire(&instructions, &reads), Err(stale(other_place)));
 }
 
 #[test]
@@ -272,14 +288,101 @@ fn reads_and_fires_by_name_work_without_steps() {
     let storage = open(&[(count(), 1.into())]);
     let (mut one, mut other) = (storage.agent(0).unwrap(), storage.agent(1).unwrap());
     let reading = one.read(&[count()]).unwrap();
-    assert_eq!((reading.number, &reading.values[..]), (0, &[Value::from(1)][..]));
-    assert_eq!(other.try_fire(&Move::new().put(count(), 2), &[]), Ok(1));
-    assert_eq!(one.stands(&[(count(), 0)]), Err(Error::Stale(count())));
-    assert_eq!(one.try_fire(&Move::new().inc(count(), 1), &[(count(), 0)]), Err(Error::Stale(count())));
-    assert_eq!(one.try_fire(&Move::new().inc(count(), 1), &[(count(), 9)]), Err(Error::Range));
-    assert_eq!(one.try_fire(&Move::new().inc(count(), 1), &[(count(), 1)]), Ok(2));
+    assert_eq!((reading.number, &reading.values[..]), (n(0), &[Value::from(1)][..]));
+    assert_eq!(other.try_fire(&Move::new().put(count(), 2), &[]), Ok(n(1)));
+    assert_eq!(one.stands(&[(count(), n(0))]), Err(stale(count())));
+    assert_eq!(one.stands(&[(count(), n(1 << 32))]), Err(Error::Range));
+    assert_eq!(one.try_fire(&Move::new().inc(count(), 1), &[(count(), n(0))]), Err(stale(count())));
+    assert_eq!(one.try_fire(&Move::new().inc(count(), 1), &[(count(), n(9))]), Err(Error::Range));
+    assert_eq!(one.try_fire(&Move::new().inc(count(), 1), &[(count(), n(1))]), Ok(n(2)));
     other.learn(&mut one).unwrap();
     assert_eq!(other.seen(), 2);
     let elsewhere = open(&[]);
     assert_eq!(elsewhere.agent(0).unwrap().learn(&mut one), Err(Error::OtherStorage));
+}
+
+#[test]
+fn a_rule_that_pushes_nothing_fires_nothing_and_says_so() {
+    let storage = open(&[(count(), 1.into())]);
+    let mut agent = storage.agent(0).unwrap();
+    let told = agent.play(|step| step.get(count())).unwrap();
+    assert_eq!((told.number, told.result, told.retries), (None, 1.into(), 0));
+    assert_eq!(agent.step().unwrap().fire(), Err(Error::NoMove));
+    let told = agent.play(|step| {
+        step.put(count(), 2)?;
+        step.pop()
+    });
+    assert_eq!((told.unwrap().number, storage.moves()), (None, 0));
+    assert_eq!(agent.play(|step| step.push(&Move::new())).unwrap().number, Some(n(1)));
+    drop(agent);
+    assert_eq!(storage.close().unwrap().check().unwrap(), folugben::Legality::Legal { calls: 1, moves: 1 });
+}
+
+#[test]
+fn a_play_ends_with_its_patience() {
+    let storage = open(&[(count(), 0.into())]);
+    let (mut one, mut other) = (storage.agent(0).unwrap(), storage.agent(1).unwrap());
+    let mut tries = 0;
+    let mut hopeless = |step: &mut folugben::Step<'_>| {
+        let seen = step.get(count())?;
+        tries += 1;
+        other.play(|step| step.inc(count(), 1))?;
+        step.put("seen", seen)
+    };
+    assert_eq!(one.play_with(Patience::new().tries(3), &mut hopeless), Err(stale(count())));
+    assert_eq!(one.play_with(Patience::new().tries(0), &mut hopeless), Err(stale(count())));
+    let begun = std::time::Instant::now();
+    let timeout = std::time::Duration::from_millis(20);
+    assert_eq!(one.play_with(Patience::new().timeout(timeout), &mut hopeless), Err(stale(count())));
+    assert!(begun.elapsed() >= timeout && tries > 4);
+    assert_eq!(u64::from(storage.moves()), tries);
+    let told = one.play_with(Patience::new().tries(1), |step| step.put("seen", step.get(count())?)).unwrap();
+    assert_eq!((told.number, told.retries), (Some(n(tries + 1)), 0));
+}
+
+#[test]
+fn a_loop_by_hand_begins_again_at_conflicts() {
+    let storage = open(&[(count(), 0.into())]);
+    std::thread::scope(|threads| {
+        for mut agent in storage.agents(4).unwrap() {
+            threads.spawn(move || {
+                for _ in 0..50 {
+                    loop {
+                        let mut step = agent.step().unwrap();
+                        let seen = step.get("count").unwrap().as_num().unwrap();
+                        step.put("count", seen + 1).unwrap();
+                        match step.fire() {
+                            Ok(_) => break,
+                            Err(error) => assert!(error.is_retry(), "{error}"),
+                        }
+                    }
+                }
+            });
+        }
+    });
+    assert_eq!(storage.close().unwrap().replay().unwrap(), [(count(), 200.into())]);
+}
+
+#[test]
+fn values_are_made_of_plain_ones_and_read() {
+    let [a, b, c, d] = [Value::from(7_u8), Value::from(-7_i8), 300_u16.into(), (-300_i16).into()];
+    assert_eq!([a, b, c, d].map(|it| it.as_num()), [7, -7, 300, -300].map(Some));
+    assert_eq!((Value::from(None::<bool>), Element::from(Some("x"))), (Value::UNDEF, Element::from("x")));
+    assert_eq!(Value::from(vec![Element::from(1)]).as_list(), Some(&[Element::Num(1)][..]));
+    assert_eq!(Value::from(1).as_list(), None);
+    let storage = open(&[]);
+    let mut agent = storage.agent(0).unwrap();
+    let mut step = agent.step().unwrap();
+    step.put("bag", BTreeMap::from([(Element::from(1), 2)])).unwrap();
+    step.bag_add("bag", "x", 3).unwrap();
+    step.bag_remove("bag", 1, 2).unwrap();
+    assert_eq!(step.get("bag").unwrap().as_bag(), Some(&BTreeMap::from([("x".into(), 3)])));
+}
+
+#[test]
+fn errors_have_sources() {
+    let error = stale(count());
+    let source = std::error::Error::source(&error).unwrap();
+    assert_eq!(source.downcast_ref(), Some(&Conflict::Stale(count())));
+    assert!(std::error::Error::source(&Error::Full).is_none());
 }

@@ -1,5 +1,7 @@
 //! Storages: how agents come back, what is refused, and journals.
-use folugben::{Agent, Error, Journal, JournalError, Legality, Location, Move, Storage, Value, aggregate, compose};
+use folugben::{
+    Agent, Error, Journal, JournalError, Legality, Location, Move, MoveNumber, Storage, Value, aggregate, compose,
+};
 use std::cell::RefCell;
 use std::thread;
 
@@ -7,12 +9,16 @@ fn count() -> Location {
     Location::new("count")
 }
 
+fn n(number: u64) -> MoveNumber {
+    MoveNumber::new(number)
+}
+
 #[test]
 fn agents_come_back_when_they_are_let_go_also_by_a_panic() {
     let storage = Storage::open([(count(), 0.into())], 10).unwrap();
     let mut agent = storage.agent(0).unwrap();
     agent.play(|step| step.inc(count(), 1)).unwrap();
-    assert_eq!(storage.close(), Err(Error::Missing(1)));
+    assert_eq!(storage.close(), Err(Error::Missing(n(1))));
     let ended = std::thread::spawn(move || {
         agent.play(|step| step.inc(count(), 1)).unwrap();
         panic!("on purpose");
@@ -31,7 +37,7 @@ fn what_an_abandoned_agent_fired_is_missing() {
     let mut agent = storage.agent(0).unwrap();
     agent.play(|step| step.put(count(), 1)).unwrap();
     agent.abandon();
-    assert_eq!(storage.close(), Err(Error::Missing(1)));
+    assert_eq!(storage.close(), Err(Error::Missing(n(1))));
     let mut unused = storage.agent(1).unwrap();
     unused.follow().unwrap();
     unused.abandon();
@@ -71,9 +77,8 @@ fn refusals_say_what_is_wrong() {
     let twice = Storage::open([(count(), 1.into()), (count(), 2.into())], 1).unwrap_err();
     assert!(matches!(&twice, Error::Refused(why) if !why.is_empty()), "{twice}");
     let storage = Storage::open([], 10).unwrap();
-    assert_eq!(storage.agent(256).err(), Some(Error::Range));
     let mut agent = storage.agent(0).unwrap();
-    let named = agent.step().unwrap().get(&Location::new("no name")).unwrap_err();
+    let named = agent.step().unwrap().get("no name").unwrap_err();
     assert!(matches!(&named, Error::Refused(why) if why.contains("name")), "{named}");
     let moved = agent.step().unwrap().push(&Move::new().put(Location::new(""), 1)).unwrap_err();
     assert!(matches!(&moved, Error::Refused(why) if !why.is_empty()), "{moved}");
@@ -124,17 +129,17 @@ fn a_storage_goes_on_from_an_agent_that_has_seen_its_full_end() {
     let (mut one, other) = (storage.agent(0).unwrap(), storage.agent(1).unwrap());
     for number in 1..=2 {
         assert_eq!(one.go_on(5).err(), Some(Error::NotFull));
-        assert_eq!(one.play(|step| step.inc(count(), 1)), Ok((number, ())));
+        assert_eq!(one.play(|step| step.inc(count(), 1)).unwrap().number, Some(n(number)));
     }
     assert_eq!(one.go_on(5).err(), Some(Error::NotFull));
-    assert_eq!(one.follow(), Ok(2));
+    assert_eq!(one.follow(), Ok(n(2)));
     assert_eq!(other.go_on(5).err(), Some(Error::NotFull));
     assert_eq!(one.go_on(0).err(), Some(Error::Range));
     let next = one.go_on(5).unwrap();
     let mut agent = next.agent(0).unwrap();
     assert_eq!(agent.read(&[count()]).unwrap().values, [Value::from(3)]);
-    assert_eq!(agent.play(|step| step.inc(count(), 1)), Ok((1, ())));
-    assert_eq!((one.seen(), storage.moves(), next.moves()), (2, 2, 1));
+    assert_eq!(agent.play(|step| step.inc(count(), 1)).unwrap().number, Some(n(1)));
+    assert_eq!((one.seen(), storage.moves(), next.moves()), (n(2), 2, 1));
 }
 
 #[test]
@@ -149,7 +154,7 @@ fn an_agent_that_was_given_back_is_taken_and_goes_on() {
     let mut agent = storage.take(3).unwrap();
     assert_eq!((agent.number(), agent.won()), (3, 1));
     assert_eq!(storage.next(5).err(), Some(Error::NoJournal));
-    assert_eq!(storage.close().err(), Some(Error::Missing(1)));
+    assert_eq!(storage.close().err(), Some(Error::Missing(n(1))));
     agent.play(|step| step.inc(count(), 1)).unwrap();
     assert_eq!(storage.agent(3).err(), Some(Error::NumberTaken(3)));
     drop(agent);
@@ -172,7 +177,7 @@ fn agents_are_all_made_or_none() {
 }
 
 fn raise(agent: &mut Agent) {
-    agent.play(|step| step.put(&count(), step.get(&count())?.as_num().unwrap_or(0) + 1)).unwrap();
+    agent.play(|step| step.put(count(), step.get(count())?.as_num().unwrap_or(0) + 1)).unwrap();
 }
 
 /// Calls are made in the destructors of a thread's locals too, in whichever order these are run.

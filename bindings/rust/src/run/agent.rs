@@ -1,6 +1,8 @@
 //! The agents of runs, and their steps.
-use crate::agent::{Agent, back_off};
-use crate::error::Error;
+use crate::agent::{Agent, Reading};
+use crate::error::{Conflict, Error};
+use crate::number::MoveNumber;
+use crate::play::{Attempt, Patience, Played};
 use crate::run::parts::Core;
 use crate::run::seat::{Lent, Seat};
 use crate::step::{Holder, Step};
@@ -18,7 +20,8 @@ pub struct RunAgent {
 
 impl RunAgent {
     /// Its number among the agents of the run.
-    pub fn number(&self) -> u32 {
+    #[must_use] 
+    pub fn number(&self) -> u8 {
         self.seat.number()
     }
 
@@ -43,30 +46,36 @@ impl RunAgent {
         Ok(RunStep { step: Step { agent: Holder::Lent(Lent::new(&self.core, &self.seat, begun)), number } })
     }
 
-    /// Plays the rule until it fires, as [`Agent::play`](crate::Agent::play) does, and answers the number of the fired move
-    /// among all moves of the run, from 1 up, with what the rule told.
+    /// Plays the rule until it fires, as [`Agent::play`](crate::Agent::play) does. The number of the move is that among all moves
+    /// of the run, from 1 up.
     ///
-    /// A rule that is refused by [`Error::Past`] has to pass that on.
-    pub fn play<T, E: From<Error>>(
+    /// # Errors
+    ///
+    /// - An error of the rule ends the play, and nothing is fired, unless its part has ended meanwhile.
+    /// - Those of [`RunAgent::step`] and [`Step::fire`].
+    pub fn play<T, E: From<Error>>(&mut self, rule: impl FnMut(&mut Step<'_>) -> Result<T, E>) -> Result<Played<T>, E> {
+        self.play_with(Patience::new(), rule)
+    }
+
+    /// The same, as long as the patience lasts.
+    ///
+    /// # Errors
+    ///
+    /// Those of [`RunAgent::play`], and the last [`Error::Conflict`] once the patience has ended.
+    pub fn play_with<T, E: From<Error>>(
         &mut self,
+        patience: Patience,
         mut rule: impl FnMut(&mut Step<'_>) -> Result<T, E>,
-    ) -> Result<(u64, T), E> {
-        let mut tries = 0;
-        loop {
+    ) -> Result<Played<T>, E> {
+        patience.play(|| {
             let mut step = self.step()?;
             match rule(&mut step) {
-                Ok(told) => match step.fire() {
-                    Ok(number) => return Ok((number, told)),
-                    Err(error) if error.begins_anew() => {}
-                    Err(error) => return Err(error.into()),
-                },
+                Ok(result) => Ok(Attempt::of(result, step.fire())?),
                 // Its agent was given back meanwhile, whatever the rule makes of that.
-                Err(_) if step.is_past() => {}
-                Err(error) => return Err(error),
+                Err(_) if step.is_past() => Ok(Attempt::Vain(Conflict::Past.into())),
+                Err(error) => Err(error),
             }
-            back_off(tries);
-            tries += 1;
-        }
+        })
     }
 
     /// Looks on, and answers how many moves of the run it has then seen.
@@ -74,16 +83,16 @@ impl RunAgent {
     /// # Errors
     ///
     /// Those of [`RunAgent::step`].
-    pub fn follow(&mut self) -> Result<u64, Error> {
+    pub fn follow(&mut self) -> Result<MoveNumber, Error> {
         loop {
             if let Some(number) = self.seat.follow(&self.core)? {
-                return Ok(number);
+                return Ok(MoveNumber::new(number));
             }
             self.core.await_part()?;
         }
     }
 
-    /// The values of the locations in its own state, with the number of moves of the run at which that stands.
+    /// The values of the locations in its own state, with the number of moves of the run up to that.
     ///
     /// It doesn't look on. Where its part has ended since, while it was in no step, its state is that at the beginning of the
     /// newest part.
@@ -92,9 +101,9 @@ impl RunAgent {
     ///
     /// - [`Error::Refused`]: a location is against the rules.
     /// - [`Error::Ended`], [`Error::Closed`], [`Error::Memory`].
-    pub fn peek(&mut self, places: &[Location]) -> Result<(u64, Vec<Value>), Error> {
+    pub fn peek(&mut self, places: &[Location]) -> Result<Reading, Error> {
         let (before, told) = self.tell(|agent| agent.peek(places))?;
-        Ok((before + u64::from(told.number), told.values))
+        Ok(Reading { number: told.number.behind(before), ..told })
     }
 
     /// All locations of a function, as [`RunAgent::peek`] tells some.
@@ -102,9 +111,9 @@ impl RunAgent {
     /// # Errors
     ///
     /// [`Error::Ended`], [`Error::Closed`], [`Error::Memory`].
-    pub fn scan(&mut self, name: &str) -> Result<(u64, Vec<(Location, Value)>), Error> {
+    pub fn scan(&mut self, name: &str) -> Result<(MoveNumber, Vec<(Location, Value)>), Error> {
         let (before, (number, told)) = self.tell(|agent| agent.scan(name))?;
-        Ok((before + u64::from(number), told))
+        Ok((number.behind(before), told))
     }
 
     /// All locations that have a value, as [`RunAgent::peek`] tells some.
@@ -112,9 +121,9 @@ impl RunAgent {
     /// # Errors
     ///
     /// [`Error::Ended`], [`Error::Closed`], [`Error::Memory`].
-    pub fn state(&mut self) -> Result<(u64, Vec<(Location, Value)>), Error> {
+    pub fn state(&mut self) -> Result<(MoveNumber, Vec<(Location, Value)>), Error> {
         let (before, (number, told)) = self.tell(Agent::state)?;
-        Ok((before + u64::from(number), told))
+        Ok((number.behind(before), told))
     }
 
     fn tell<T>(&mut self, call: impl Fn(&Agent) -> Result<T, Error>) -> Result<(u64, T), Error> {
@@ -148,7 +157,8 @@ impl fmt::Debug for RunAgent {
 
 /// A [`Step`] of a run's agent: its calls are those of a step, and rules take both.
 ///
-/// It goes on in its part when that has ended, for 0.1 s. Then its agent is given back, and each call tells [`Error::Past`].
+/// It goes on in its part when that has ended, for 0.1 s. Then its agent is given back, and each call is an [`Error::Conflict`]
+/// with [`Conflict::Past`].
 #[must_use = "a step does nothing until it is fired"]
 pub struct RunStep<'a> {
     step: Step<'a>,
@@ -169,21 +179,17 @@ impl RunStep<'_> {
 
     /// Whether its agent was given back, as its part has ended.
     fn is_past(&self) -> bool {
-        self.lent().is_some_and(|it| it.with(|_| Ok(())) == Err(Error::Past))
+        self.lent().is_some_and(|it| it.with(|_| Ok(())) == Err(Conflict::Past.into()))
     }
 
-    /// Fires as [`Step::fire`] does, and answers the move's number among all moves of the run, from 1 up.
+    /// Fires as [`Step::fire`] does. The number is that among all moves of the run, from 1 up.
     ///
     /// # Errors
     ///
-    /// - Those of [`Step::fire`] but [`Error::Full`].
-    /// - [`Error::Past`]: the part has ended, so begin again.
-    /// - [`Error::TooLong`]: the line of the move would be longer than an audit reads.
-    /// - [`Error::Ended`], [`Error::Closed`]: nothing was fired.
+    /// Those of [`Step::fire`].
     #[must_use = "a stale step has fired nothing"]
-    pub fn fire(self) -> Result<u64, Error> {
-        let before = self.lent().map_or(0, |it| it.part().before);
-        self.step.fire().map(|number| before + u64::from(number))
+    pub fn fire(self) -> Result<MoveNumber, Error> {
+        self.step.fire()
     }
 }
 

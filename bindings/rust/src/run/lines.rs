@@ -1,5 +1,6 @@
 //! How long the lines of a run's segments may be, so that an audit reads each of them.
 use crate::error::{Error, answer};
+use crate::instruction::Instruction;
 use crate::json::{Json, ToJson};
 use crate::storage::Storage;
 
@@ -33,7 +34,7 @@ pub(crate) fn expect_call(offer: &[u8]) -> Result<(), Error> {
         return Ok(());
     }
     let (instructions, reads) = answer(offer, Json::offer)?;
-    let places = instructions.instructions().iter().map(|it| it.at()).chain(reads.iter().map(|(at, _)| at));
+    let places = instructions.instructions().iter().map(Instruction::at).chain(reads.iter().map(|(at, _)| at));
     let longest = places.map(|it| it.json().len()).max().unwrap_or(0);
     if offer.len() + longest + ROOM <= LINE { Ok(()) } else { Err(Error::TooLong) }
 }

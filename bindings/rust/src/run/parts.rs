@@ -69,7 +69,7 @@ struct State {
     /// The oldest first; steps begin in the last one.
     parts: VecDeque<Unsaved>,
     /// The agents in use.
-    seats: BTreeMap<u32, Arc<Seat>>,
+    seats: BTreeMap<u8, Arc<Seat>>,
     is_closing: bool,
     /// The writer has ended.
     is_done: bool,
@@ -153,7 +153,7 @@ impl Core {
     // What agents do. Who has the lock of a seat takes that of the state, and never the other way round.
 
     /// A seat with this number, which no agent in use has.
-    pub(crate) fn seat(&self, number: u32) -> Result<Arc<Seat>, Error> {
+    pub(crate) fn seat(&self, number: u8) -> Result<Arc<Seat>, Error> {
         let mut state = self.lock();
         state.goes_on()?;
         match state.seats.entry(number) {
@@ -163,23 +163,23 @@ impl Core {
     }
 
     /// Seats with the numbers from 0 up, all of them or none.
-    pub(crate) fn seats(&self, count: u32) -> Result<Vec<Arc<Seat>>, Error> {
+    pub(crate) fn seats(&self, count: usize) -> Result<Vec<Arc<Seat>>, Error> {
         let mut state = self.lock();
         state.goes_on()?;
-        if let Some((taken, _)) = state.seats.range(..count).next() {
+        if let Some((taken, _)) = state.seats.iter().find(|(number, _)| usize::from(**number) < count) {
             return Err(Error::NumberTaken(*taken));
         }
-        let seats: Vec<_> = (0..count).map(|number| Arc::new(Seat::new(number))).collect();
-        state.seats.extend((0..count).zip(seats.iter().cloned()));
+        let seats: Vec<_> = (0..=u8::MAX).take(count).map(|number| Arc::new(Seat::new(number))).collect();
+        state.seats.extend(seats.iter().map(|it| (it.number(), Arc::clone(it))));
         Ok(seats)
     }
 
-    pub(crate) fn release(&self, number: u32) {
+    pub(crate) fn release(&self, number: u8) {
         self.lock().seats.remove(&number);
     }
 
     /// An agent in the newest part; none where that has ended.
-    pub(crate) fn enter(&self, number: u32) -> Result<Option<(Agent, Arc<Part>)>, Error> {
+    pub(crate) fn enter(&self, number: u8) -> Result<Option<(Agent, Arc<Part>)>, Error> {
         let mut state = self.lock();
         state.goes_on()?;
         let Some(last) = state.parts.back_mut().filter(|it| !it.part.has_ended()) else {

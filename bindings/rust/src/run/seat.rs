@@ -1,6 +1,6 @@
 //! Where the agents of a run are.
 use crate::agent::Agent;
-use crate::error::Error;
+use crate::error::{Conflict, Error};
 use crate::run::lines::{SHORT, expect_call};
 use crate::run::parts::{Core, Part};
 use crate::step::{commit, offer_text};
@@ -16,7 +16,7 @@ struct Player {
 
 /// An agent of a run, which a step of its own thread and the writer take in turn.
 pub(crate) struct Seat {
-    number: u32,
+    number: u8,
     place: Mutex<Place>,
 }
 
@@ -35,11 +35,11 @@ pub(crate) struct Begun {
 }
 
 impl Seat {
-    pub(crate) fn new(number: u32) -> Seat {
+    pub(crate) fn new(number: u8) -> Seat {
         Seat { number, place: Mutex::new(Place { player: None, steps: 0, is_in_step: false }) }
     }
 
-    pub(crate) fn number(&self) -> u32 {
+    pub(crate) fn number(&self) -> u8 {
         self.number
     }
 
@@ -74,7 +74,7 @@ impl Seat {
         let mut place = self.lock();
         place.end_step(core);
         let Some(player) = self.come_in(&mut place, core)? else { return Ok(None) };
-        let number = player.agent.follow()?;
+        let number = player.agent.looked()?;
         if number == core.moves() {
             core.go_on(&player.agent, &player.part)?;
             return Ok(None);
@@ -167,7 +167,7 @@ impl<'a> Lent<'a> {
         Lent { core, seat, begun, size: Cell::new(0) }
     }
 
-    pub(crate) fn number(&self) -> u32 {
+    pub(crate) fn number(&self) -> u8 {
         self.seat.number
     }
 
@@ -175,12 +175,12 @@ impl<'a> Lent<'a> {
         &self.begun.part
     }
 
-    /// Calls the agent; [`Error::Past`] where it was given back since.
+    /// Calls the agent; [`Conflict::Past`] where it was given back since.
     pub(crate) fn with<T>(&self, call: impl FnOnce(&Agent) -> Result<T, Error>) -> Result<T, Error> {
         let place = self.seat.lock();
         match &place.player {
             Some(player) if place.is_in_step && place.steps == self.begun.step => call(&player.agent),
-            _ => Err(self.core.goes_on().err().unwrap_or(Error::Past)),
+            _ => Err(self.core.goes_on().err().unwrap_or(Conflict::Past.into())),
         }
     }
 
@@ -203,7 +203,7 @@ impl<'a> Lent<'a> {
                 self.core.fired(part);
                 Ok(number)
             }
-            Err(Error::Full) => Err(Error::Past),
+            Err(Error::Full) => Err(Conflict::Past.into()),
             Err(error) => Err(error),
         }
     }

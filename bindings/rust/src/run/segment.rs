@@ -120,10 +120,10 @@ impl Segment {
             digest.update(&piece[..length]);
             output.write_all(&piece[..length])?;
         }
-        match digest.hex() == self.digest {
-            true => Ok(()),
-            false => Err(damaged(self.number(), "its text isn't the one that was saved".to_owned())),
+        if digest.hex() != self.digest {
+            return Err(damaged(self.number(), "its text isn't the one that was saved".to_owned()));
         }
+        Ok(())
     }
 }
 
@@ -143,10 +143,10 @@ pub(crate) fn segments(folder: &Path) -> Result<Vec<Segment>, Error> {
         end = segment.end();
         all.push(segment);
     }
-    match all.is_empty() {
-        true => Err(io::Error::new(io::ErrorKind::NotFound, "the folder has no run").into()),
-        false => Ok(all),
+    if all.is_empty() {
+        return Err(io::Error::new(io::ErrorKind::NotFound, "the folder has no run").into());
     }
+    Ok(all)
 }
 
 /// Whether a file with this name would be a segment.

@@ -1,5 +1,6 @@
 //! SHA-256 (FIPS 180-4), as std has none and the crate has no dependency.
 
+#[expect(clippy::unreadable_literal, reason = "they are written as the standard writes them")]
 const ROUNDS: [u32; 64] = [
     0x428a2f98, 0x71374491, 0xb5c0fbcf, 0xe9b5dba5, 0x3956c25b, 0x59f111f1, 0x923f82a4, 0xab1c5ed5, 0xd807aa98,
     0x12835b01, 0x243185be, 0x550c7dc3, 0x72be5d74, 0x80deb1fe, 0x9bdc06a7, 0xc19bf174, 0xe49b69c1, 0xefbe4786,
@@ -21,6 +22,7 @@ pub(crate) struct Sha256 {
 }
 
 impl Sha256 {
+    #[expect(clippy::unreadable_literal, reason = "they are written as the standard writes them")]
     pub(crate) fn new() -> Sha256 {
         let state = [0x6a09e667, 0xbb67ae85, 0x3c6ef372, 0xa54ff53a, 0x510e527f, 0x9b05688c, 0x1f83d9ab, 0x5be0cd19];
         Sha256 { state, rest: Vec::with_capacity(BLOCK), length: 0 }
@@ -51,9 +53,10 @@ impl Sha256 {
         end.resize(1 + zeros, 0);
         end.extend_from_slice(&bits.to_be_bytes());
         self.update(&end);
-        self.state.iter().map(|it| format!("{it:08x}")).collect()
+        self.state.iter().fold(String::new(), |hex, it| hex + &format!("{it:08x}"))
     }
 
+    #[expect(clippy::many_single_char_names, reason = "the standard has these names")]
     fn compress(&mut self, block: &[u8]) {
         let mut words = [0; 64];
         for (word, bytes) in words.iter_mut().zip(block.chunks_exact(4)) {
@@ -99,7 +102,7 @@ mod tests {
                 b"abcdbcdecdefdefgefghfghighijhijkijkljklmklmnlmnomnopnopq",
                 "248d6a61d20638b8e5c026930c3e6039a33ce45964ff2167f6ecedd419db06c1",
             ),
-            (&[b'a'; 1_000_000], "cdc76e5c9914fb9281a1c7e284d73e67f1809a48a497200e046d39ccc7112cd0"),
+            (&b"a".repeat(1_000_000), "cdc76e5c9914fb9281a1c7e284d73e67f1809a48a497200e046d39ccc7112cd0"),
         ];
         for (text, wanted) in vectors {
             assert_eq!(digest(&[text]), wanted);

@@ -75,8 +75,8 @@ fn hold_size_signal() {
     let mut signals = sys::SignalSet::default();
     // SAFETY: the set is as large as the system's, and no other thread has it.
     unsafe {
-        sys::sigemptyset(&mut signals);
-        sys::sigaddset(&mut signals, sys::SIGXFSZ);
-        sys::pthread_sigmask(sys::SIG_BLOCK, &signals, ptr::null_mut());
+        sys::sigemptyset(&raw mut signals);
+        sys::sigaddset(&raw mut signals, sys::SIGXFSZ);
+        sys::pthread_sigmask(sys::SIG_BLOCK, &raw const signals, ptr::null_mut());
     }
 }

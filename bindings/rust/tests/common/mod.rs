@@ -1,6 +1,6 @@
 //! What the tests of runs share.
 #![allow(dead_code, reason = "each test uses some of it")]
-use folugben::{Auditor, Counts, Error, Location, Run, RunAgent, Value, audit_run};
+use folugben::{Auditor, Conflict, Counts, Error, Location, Played, Run, RunAgent, Value, audit_run};
 use std::fs;
 use std::io::Write;
 use std::path::{Path, PathBuf};
@@ -64,9 +64,17 @@ pub fn open(room: &Room, moves: u32) -> Run {
 
 /// Adds 1 to the count, by a step that rests on it: the move's number.
 pub fn add_one(agent: &mut RunAgent) -> Result<u64, Error> {
-    let (number, ()) = agent.play(|step| step.put(count(), step.get(&count())?.as_num().unwrap() + 1))?;
-    Ok(number)
+    agent.play(|step| step.put(count(), step.get(count())?.as_num().unwrap() + 1)).map(fired)
 }
+
+/// The number of the move that was fired.
+#[expect(clippy::needless_pass_by_value, reason = "it is passed by `map`")]
+pub fn fired<T>(played: Played<T>) -> u64 {
+    played.number.unwrap().get()
+}
+
+/// A step's part has ended.
+pub const PAST: Error = Error::Conflict(Conflict::Past);
 
 /// The parts, calls and moves.
 pub fn numbers(it: Counts) -> (u64, u64, u64) {

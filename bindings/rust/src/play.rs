@@ -1,0 +1,118 @@
+//! Rules that are played until they fire.
+use crate::error::Error;
+use crate::number::MoveNumber;
+use std::thread;
+use std::time::{Duration, Instant};
+
+/// After so many tries in vain an agent sleeps between them.
+const TRIES_WITHOUT_SLEEP: u32 = 8;
+/// An agent sleeps for 2 to this power microseconds at most.
+const LONGEST_SLEEP: u32 = 10;
+
+/// What a play has done.
+#[derive(Clone, Debug, PartialEq, Eq)]
+#[non_exhaustive]
+pub struct Played<T> {
+    /// The number of the move that was fired; none where the rule pushed nothing, so that nothing was fired.
+    pub number: Option<MoveNumber>,
+    /// What the rule returned.
+    pub result: T,
+    /// How often the rule was played in vain before.
+    pub retries: u32,
+}
+
+/// How long a play begins again after conflicts: for ever, unless something else is said.
+///
+/// ```
+/// use folugben::{Error, Patience, Storage};
+/// use std::time::Duration;
+/// # fn main() -> Result<(), Error> {
+/// let storage = Storage::open([("n".into(), 1.into())], 10)?;
+/// let (mut agent, mut other) = (storage.agent(0)?, storage.agent(1)?);
+/// let patience = Patience::new().tries(3).timeout(Duration::from_secs(1));
+/// let told = agent.play_with(patience, |step| {
+///     let n = step.get("n")?.as_num().unwrap_or(0);
+///     other.play(|step| step.inc("n", 1))?; // it is always quicker
+///     step.put("n", n)
+/// });
+/// assert!(matches!(told, Err(Error::Conflict(_))));
+/// assert_eq!(storage.moves(), 3);
+/// # Ok(())
+/// # }
+/// ```
+#[derive(Clone, Copy, Debug, Default)]
+pub struct Patience {
+    tries: Option<u32>,
+    timeout: Option<Duration>,
+}
+
+impl Patience {
+    /// Without an end.
+    #[must_use]
+    pub fn new() -> Patience {
+        Patience::default()
+    }
+
+    /// The same, but the rule is played so many times at most, and once at least.
+    #[must_use]
+    pub fn tries(self, tries: u32) -> Patience {
+        Patience { tries: Some(tries), ..self }
+    }
+
+    /// The same, but the rule isn't played again once that has passed.
+    #[must_use]
+    pub fn timeout(self, timeout: Duration) -> Patience {
+        Patience { timeout: Some(timeout), ..self }
+    }
+
+    /// Has the call try until it fires or refuses: it tells the number of the move, and what the rule returned.
+    pub(crate) fn play<T, E: From<Error>>(
+        self,
+        mut attempt: impl FnMut() -> Result<Attempt<T>, E>,
+    ) -> Result<Played<T>, E> {
+        let begun = Instant::now();
+        let mut retries = 0;
+        loop {
+            let error = match attempt()? {
+                Attempt::Fired(number, result) => return Ok(Played { number: Some(number), result, retries }),
+                Attempt::Unfired(result) => return Ok(Played { number: None, result, retries }),
+                Attempt::Vain(error) => error,
+            };
+            let is_late = self.timeout.is_some_and(|it| begun.elapsed() >= it);
+            if is_late || self.tries.is_some_and(|it| retries + 1 >= it) {
+                return Err(error.into());
+            }
+            back_off(retries);
+            retries = retries.saturating_add(1);
+        }
+    }
+}
+
+/// What one try of a play came to.
+pub(crate) enum Attempt<T> {
+    Fired(MoveNumber, T),
+    /// Nothing was pushed.
+    Unfired(T),
+    /// It is to be begun again.
+    Vain(Error),
+}
+
+impl<T> Attempt<T> {
+    /// What the rule returned, and what its step's fire answered.
+    pub(crate) fn of(result: T, fired: Result<MoveNumber, Error>) -> Result<Attempt<T>, Error> {
+        match fired {
+            Ok(number) => Ok(Attempt::Fired(number, result)),
+            Err(Error::NoMove) => Ok(Attempt::Unfired(result)),
+            Err(error) if error.is_retry() => Ok(Attempt::Vain(error)),
+            Err(error) => Err(error),
+        }
+    }
+}
+
+/// Lets other threads run, the longer the more tries were in vain.
+fn back_off(tries: u32) {
+    match tries.checked_sub(TRIES_WITHOUT_SLEEP) {
+        None => thread::yield_now(),
+        Some(more) => thread::sleep(Duration::from_micros(1 << more.min(LONGEST_SLEEP))),
+    }
+}
