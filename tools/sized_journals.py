@@ -80,6 +80,15 @@ def growing(n: int) -> Iterator[Case]:
         yield Case(f"trace_of_{n}_additions_to_a_{name}", ("trace",), journal.encode(), (head + "".join(traced)).encode())
 
 
+def misread(n: int) -> Iterator[Case]:
+    """A location that holds a text of n bytes is read 256 times at once, wrongly: the trace doesn't repeat what it holds."""
+    init = [[X, "x" * n]]
+    told = event(text({"read": [X] * 256}), text({"number": 1, "values": [None] * 256}))
+    head = text({"agents": 1, "capacity": 1048576, "events": 1, "init": init, "trace": 1}) + "\n"
+    line = told.replace(',"reply"', ',"event":0,"reply"')[:-2] + f',"right":{text({"differs": list(range(256)), "number": 0})}}}\n'
+    yield Case(f"trace_of_256_wrong_reads_of_{n}_bytes", ("trace",), (header(1, init=init) + told).encode(), (head + line).encode())
+
+
 def calls_of(n: int) -> Iterator[Case]:
     """A read of n locations, and fires of n named reads and of n instructions: they are written as they are read, or too
     long."""
@@ -211,4 +220,4 @@ def judged(name: str, journal: str, line: str, at: int) -> Iterator[Case]:
 def journals() -> list[Case]:
     found = [it for n in (4097, 16385, 65537) for make in (raises, plain) for it in make(n)]
     found += [it for n in (255, 256, 257, 4095, 4096, 4097) for it in calls_of(n)]
-    return [*found, *default(), *long(35000), *growing(400), *parts(120000), *windows(1000), *windows(120000), *lines(), *cut(), *placed()]
+    return [*found, *default(), *long(35000), *growing(400), *misread(1_000_000), *parts(120000), *windows(1000), *windows(120000), *lines(), *cut(), *placed()]

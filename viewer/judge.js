@@ -12,7 +12,12 @@ export const effectsFor = (event, run) => event.fire && (event.kind === "fired" 
 export function doubtOf(event, effects, run) {
   const answer = event.right ?? event.reply, right = event.read ? rightRead(event, answer) : rightFire(event, effects, answer, run);
   if (right !== null) return { right };
-  return event.isWrong && isSame(event.right, event.reply) ? { isRepeated: true } : null;
+  return event.isWrong && isRepeated(event) ? { isRepeated: true } : null;
+}
+// Whether the answer that is called right is the given one, also at one of the positions where it says that they differ.
+function isRepeated({ read, reply, right }) {
+  if (!read) return isSame(right, reply);
+  return right.number === reply.number && !right.differs.length || right.differs.some(i => isSame(right.values[i], reply.values[i]));
 }
 // Whether the updates that were taken in are those of the instructions.
 export function isDone({ writes }, effects) {

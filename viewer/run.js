@@ -11,6 +11,16 @@ export const kindOf = reply => reply === "full" ? "full" : KINDS.find(it => it i
 // Whether the event's answer is wrong, or something in it doesn't agree with the trace.
 export const isBad = event => event.isWrong || !!event.doubt;
 
+// The right answer to a read, with its values: those of the state where the trace says that they differ.
+function rightValues({ read, reply }, { differs, number }) {
+  const values = [...reply.values], made = new Map();
+  for (const i of differs) {
+    if (!made.has(read[i])) made.set(read[i], read[i].content.whole());
+    values[i] = made.get(read[i]);
+  }
+  return { number, values, differs };
+}
+
 // So many items may be told as changes after a whole value, however small that is.
 const FEW = 64;
 
@@ -120,15 +130,17 @@ export class Run {
     const number = this.events.length;
     checkEvent(line, this.from + number, this.agents);
     if (number === this.told) throw new Fault(`the header tells of ${number} events, and this is one more`);
-    const { agent, call, reply, right } = line;
-    const event = { number, ordinal: line.event, agent, kind: kindOf(reply), reply, right, isWrong: "right" in line, before: this.movesBefore + this.moves.length };
-    if ("read" in call) event.read = call.read.map(at => this.location(at));
-    else {
+    const { agent, call, reply } = line;
+    const event = { number, ordinal: line.event, agent, kind: kindOf(reply), reply, right: line.right, isWrong: "right" in line, before: this.movesBefore + this.moves.length };
+    if ("read" in call) {
+      event.read = call.read.map(at => this.location(at));
+      if (event.isWrong) event.right = rightValues(event, line.right);
+    } else {
       event.fire = call.fire;
       event.targets = call.fire.map(it => this.location(it[1]));
       event.named = call.reads.map(([at, number]) => ({ location: this.location(at), number }));
     }
-    for (const answer of event.isWrong ? [reply, right] : [reply]) {
+    for (const answer of event.isWrong ? [reply, event.right] : [reply]) {
       const at = answer.stale ?? answer.clash?.[0];
       if (at) this.location(at);
     }

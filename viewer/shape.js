@@ -44,7 +44,7 @@ export function checkEvent(line, number, agents) {
   if (!isWithin(line.agent, 0, agents - 1)) throw new Fault(`its \`agent\` isn't one of the ${agents} of the header, which are counted from 0`);
   checkCall(line.call);
   checkReply(line.call, line.reply, "`reply`");
-  if ("right" in line) checkReply(line.call, line.right, "`right`");
+  if ("right" in line) checkRight(line);
   const isFired = isObject(line.reply) && "fired" in line.reply;
   need(isFired === "updates" in line, isFired ? "it is fired and has no `updates`" : "it isn't fired and has `updates`");
   if (isFired) {
@@ -81,6 +81,15 @@ function checkCall(call) {
     checkLocation(named[0]);
     need(isWithin(named[1], 0, MOST.number), "one of its `reads` has no number");
   }, "`reads`");
+}
+// The right answer to a read has the positions of the values that differ, and no values.
+function checkRight({ call, right }) {
+  if (!("read" in call)) return checkReply(call, right, "`right`");
+  need(isObject(right), "`right` isn't one of a read");
+  members(right, ["differs", "number"], "`right`");
+  need(isWithin(right.number, 0, MOST.number), "`right` has no number");
+  listOf(right.differs, MOST.reads, it => need(isWithin(it, 0, call.read.length - 1), "`right` has a position that the read hasn't"), "the positions of `right`");
+  need(right.differs.every((it, i, all) => i === 0 || all[i - 1] < it), "the positions of `right` don't ascend");
 }
 function checkReply(call, reply, what) {
   if ("read" in call) {

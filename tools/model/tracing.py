@@ -1,7 +1,7 @@
 """Traces: what each call of a history did, and whether a text tells it, from the page on formats in docs/."""
 
 import jsontext
-from journal import Event, Fire, Fired, History, Storage, event_json, first_illegal, reply_json
+from journal import Event, Fire, Fired, History, Reply, Storage, Values, event_json, first_illegal, reply_json
 from jsontext import Json
 from moves import Clash, Move, updates_on
 from values import (
@@ -45,12 +45,20 @@ def event_line(storage: Storage, number: int, event: Event) -> dict[str, Json]:
     line = event_json(event) | {"event": number}
     right = storage.judged(event.call)
     if type(right) is not type(event.reply) or right != event.reply:
-        line["right"] = reply_json(right)
+        line["right"] = _right_json(event.reply, right)
     if isinstance(event.reply, Fired):
         assert isinstance(event.call, Fire)
         line["updates"] = [_change_json(*it) for it in _changes(storage, event.call.move)]
         storage.follow(event.call.move)
     return line
+
+
+def _right_json(given: Reply, right: Reply) -> Json:
+    """Answers the right reply beside the given one; of a read the positions of the values that differ stand for them."""
+    if not (isinstance(given, Values) and isinstance(right, Values)):
+        return reply_json(right)
+    differs = [i for i, value in enumerate(right.values) if given.values[i : i + 1] != [value]]
+    return {"differs": differs, "number": right.number}
 
 
 def _changes(storage: Storage, move: Move) -> list[tuple[Location, Value, Value]]:

@@ -115,8 +115,9 @@ def forged() -> dict[str, tuple[str, str, int]]:
         "another count": ('["e",1,3]', '["e",1,4]', 4),
         "a change that isn't there": (',[["x"],2,5]', "", 4),
         "a full storage with room": ('"reply":{"clash":[["x"],"Two"]}', '"reply":"full"', 3),
-        "a right answer that is told wrong": ('"reply":{"number":0,"values":[1]}', '"reply":{"number":0,"values":[4]},"right":{"number":0,"values":[4]}', 0),
-        "a right answer that isn't": ('"reply":{"number":0,"values":[1]}', '"reply":{"number":0,"values":[4]},"right":{"number":0,"values":[3]}', 0),
+        "a right answer that is told wrong": ('"reply":{"number":0,"values":[1]}', '"reply":{"number":0,"values":[4]},"right":{"differs":[],"number":0}', 0),
+        "a right answer that isn't": ('"reply":{"number":0,"values":[1]}', '"reply":{"number":0,"values":[4]},"right":{"differs":[],"number":1}', 0),
+        "a position that doesn't differ": ('"reply":{"number":0,"values":[1]}', '"reply":{"number":1,"values":[1]},"right":{"differs":[0],"number":0}', 0),
     }
 
 

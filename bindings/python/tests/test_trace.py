@@ -37,10 +37,10 @@ class Traces(unittest.TestCase):
         self.assertEqual([event["event"] for event in events], [0, 1, 2])
         self.assertFalse(any("right" in event for event in events))
 
-    def test_a_wrong_answer_has_the_right_one_beside_it(self):
+    def test_a_wrong_read_has_the_positions_that_differ_beside_it(self):
         wrong = self.journal.replace(b'"values":[7]', b'"values":[6]')
         events = list(trace(wrong))[1:]
-        self.assertEqual([event["right"] for event in events if "right" in event], [{"number": 0, "values": [7]}])
+        self.assertEqual([event["right"] for event in events if "right" in event], [{"differs": [0], "number": 0}])
 
     def test_it_is_what_the_model_writes(self):
         told = [json.dumps(line, separators=(",", ":")).encode() for line in trace(self.journal)]

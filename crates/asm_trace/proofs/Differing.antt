@@ -1,8 +1,11 @@
 -- What differs between two sets, or two bags, one element at a time.
-use Rattle.std.proofs.Common.{◌≡◌, ◌≢◌, ℕ, Bool, true, false, cond, not, ◌&&◌, ◌||◌, List, [], ◌∷◌, ◌++◌, map, refl, sym, ap, ◌∙◌, append_assoc}
+use Rattle.std.proofs.Common.{◌≡◌, ◌≢◌, ◌<◌, ◌+◌, take, length, get_or, ℕ, Bool, true, false, cond, not, ◌&&◌, ◌||◌, List, [], ◌∷◌, ◌++◌, map, refl, sym, ap, ◌∙◌, append_assoc, arith}
 use Rattle.std.specs.Prelude.{Option, Some, None, is_some, filter, nat_eq}
 use Rattle.std.proofs.lemmas.Bool.{eqb-true, eq-eqb}
-use Rattle.std.specs.List.{list_any}
+use Rattle.std.specs.List.{list_any, range_with_len}
+use Rattle.std.proofs.lemmas.List.{take_more, map-append}
+use Rattle.std.proofs.lemmas.List.Elements.{filter-append}
+use Rattle.std.proofs.lemmas.List.FromFn.{length-range_with_len, get_or-range_with_len}
 use Rattle.std.specs.FinMap as finite
 use Rattle.std.specs.Ordering.{eq_by_cmp}
 use Rattle.std.proofs.lemmas.List.Folds.{list_any-append}
@@ -39,6 +42,20 @@ left_passing f p done new all x rest left step so_far added =
           map f (cond b (x ∷ []) []) ++ map f (filter p rest) ≡ map f (cond b (x ∷ filter p rest) (filter p rest))
       by_test true = refl
       by_test false = refl
+
+-- one more of the numbers below n is told, if it passes the test
+pub positions_more : (f : ℕ → Data) (p : ℕ → Bool) (i n : ℕ) (old new : List Data) → i < n →
+    old ≡ map f (filter p (take i (range_with_len 0 n))) → new ≡ old ++ map f (filter p (i ∷ [])) →
+    new ≡ map f (filter p (take (i + 1) (range_with_len 0 n)))
+positions_more f p i n old new within so_far added =
+    let xs = range_with_len 0 n in
+    let inside : i < length xs = rw (length-range_with_len 0 n) within in
+    let here : 0 + i ≡ i = omega arith in
+    let more : take (i + 1) xs ≡ take i xs ++ i ∷ [] =
+    take_more xs i i inside ∙ ap (λ y. take i xs ++ y ∷ []) (get_or-range_with_len 0 n i i within ∙ here) in
+    added ∙ ap (λ o. o ++ map f (filter p (i ∷ []))) so_far
+    ∙ sym (ap (λ l. map f (filter p l)) more ∙ ap (map f) (filter-append p (take i xs) (i ∷ []))
+    ∙ map-append f (filter p (take i xs)) (filter p (i ∷ [])))
 
 -- ---- bags
 

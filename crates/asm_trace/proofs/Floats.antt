@@ -6,14 +6,15 @@ use Rattle.serde_json.specs.Written.{has_float}
 use Rattle.asm_element.specs.Place.{Place}
 use Rattle.asm_element.specs.declared.element.Element.{Element}
 use Rattle.asm_storage.specs.declared.call.Answer.{Answer}
+use Rattle.asm_storage.specs.declared.call.Answer.TheVariants as answer
 use Rattle.asm_storage.specs.declared.history.Event.{Event}
 use Rattle.asm_storage.specs.declared.history.History.{History}
 use Rattle.asm_journal.specs.Element.{element_json_of}
-use Rattle.asm_journal.specs.Event.{answer_json_of}
+use Rattle.asm_journal.specs.Shape.{number_json_of}
 use Rattle.asm_journal.specs.Value.{pair_json_of}
 use Rattle.asm_journal.proofs.Floats.{list_no_float, element_no_float, location_no_float, value_no_float, pair_no_float, call_no_float, answer_no_float}
 use Rattle.asm_trace.specs.Change.{Change, OfSet, OfBag, OfValue, Recount}
-use Rattle.asm_trace.specs.Text.{elements_json_of, recount_json_of, change_json_of, changes_json_of, event_with, header_of}
+use Rattle.asm_trace.specs.Text.{elements_json_of, recount_json_of, change_json_of, changes_json_of, event_with, header_of, right_json_of, differing_positions}
 
 elements_no_float : (es : List Element) → has_float (elements_json_of es) ≡ false
 elements_no_float es = list_no_float element_json_of element_no_float es
@@ -37,9 +38,16 @@ pub some_changes_no_float : (o : Option (List (Place × Change))) → HasNoFloat
 some_changes_no_float None = tt
 some_changes_no_float (Some cs) = changes_no_float cs
 
-pub some_answer_no_float : (o : Option Answer) → HasNoFloat (option_map answer_json_of o)
-some_answer_no_float None = tt
-some_answer_no_float (Some a) = answer_no_float a
+right_no_float : (given right : Answer) → has_float (right_json_of given right) ≡ false
+right_no_float (answer.Read n given) (answer.Read number right) =
+    rw (list_no_float number_json_of (λ _. refl) (differing_positions given right)) refl
+right_no_float (answer.Read n given) (answer.Fire r) = answer_no_float (answer.Fire r)
+right_no_float (answer.Fire r) (answer.Read number right) = answer_no_float (answer.Read number right)
+right_no_float (answer.Fire r) (answer.Fire q) = answer_no_float (answer.Fire q)
+
+pub some_right_no_float : (given : Answer) (o : Option Answer) → HasNoFloat (option_map (right_json_of given) o)
+some_right_no_float given None = tt
+some_right_no_float given (Some right) = right_no_float given right
 
 pub event_no_float : (n : ℕ) (e : Event) (right changes : Option Data) → HasNoFloat right → HasNoFloat changes →
     has_float (event_with n e right changes) ≡ false

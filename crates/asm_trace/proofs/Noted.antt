@@ -18,11 +18,10 @@ use Rattle.asm_storage.specs.declared.history.Event.{Event}
 use Rattle.asm_storage.specs.declared.history.History.{History}
 use Rattle.asm_storage.proofs.Legal.{fired_moves-append}
 use Rattle.asm_journal.specs.Check.{machine, machine_of, moves_with}
-use Rattle.asm_journal.specs.Event.{answer_json_of}
 use Rattle.asm_journal.specs.Text.{line}
 use Rattle.asm_trace.specs.Change.{changes_of}
 use Rattle.asm_trace.specs.Note.{Note, IsNoteOf, AreNotesOf, IsJudged}
-use Rattle.asm_trace.specs.Text.{note_json_of, notes_text, event_with, header_of, changes_json_of, IsNoted}
+use Rattle.asm_trace.specs.Text.{note_json_of, notes_text, event_with, header_of, changes_json_of, right_json_of, IsNoted}
 
 -- ---- the moves of events, one at a time
 
@@ -66,7 +65,7 @@ text_more (y ∷ xs) x =
 pub noted_step : (part : Part) (capacity n : ℕ) (e : Event) (old new : StateView) (told : Option Answer)
     (changes : Option Data) (d : Data) (before after : List ℕ) → IsJudged part capacity e old new told →
     changes ≡ option_map changes_json_of (option_map (changes_of part (value_at old)) (move_of e)) →
-    d ≡ event_with n e (option_map answer_json_of told) changes →
+    d ≡ event_with n e (option_map (right_json_of e.answer) told) changes →
     after ≡ before ++ line d → IsNoted part capacity n e old new before after
 noted_step part capacity n e old new told changes d before after judged changed is appended = λ init q stands.
     let done = judged init q stands in
@@ -79,7 +78,7 @@ noted_step part capacity n e old new told changes d before after judged changed 
     } in
     let here = changed
     ∙ ap (λ (o : Old). option_map changes_json_of (option_map (changes_of part o) (move_of e))) (same_old part init q old stands) in
-    let written : d ≡ note_json_of x = is ∙ ap (event_with n e (option_map answer_json_of told)) here in
+    let written : d ≡ note_json_of x = is ∙ ap (event_with n e (option_map (right_json_of e.answer) told)) here in
     ((x, record { number = refl; event = refl; right = done.0; changes = refl }, appended ∙ ap (λ j. before ++ line j) written), done.1)
 
 -- ---- the loop of the trace

@@ -1,14 +1,18 @@
 -- The text of a trace.
-use Rattle.std.specs.Prelude.{◌≡◌, ℕ, List, [], ◌∷◌, ◌++◌, length, map, codes, Option, None, Some, option_map}
-use Rattle.std.specs.List.{flat_map}
+use Rattle.std.specs.Prelude.{◌≡◌, ℕ, Bool, true, false, not, List, [], ◌∷◌, ◌++◌, length, map, filter, slice_get, codes, Option, None, Some, option_map}
+use Rattle.std.specs.List.{flat_map, range_with_len}
 use Rattle.serde_json.specs.Data.{Data, object, Members, member, no_members, put}
 use Rattle.asm_element.specs.Place.{Place}
 use Rattle.asm_element.specs.declared.element.Element.{Element}
+use Rattle.asm_element.specs.declared.value.Value.{Value}
+use Rattle.asm_element.specs.Value.{value_eq}
 use Rattle.asm_update.specs.Move.{Move}
 use Rattle.asm_update.specs.State.{State}
 use Rattle.asm_update.specs.Fire.{Part}
 use Rattle.asm_state.specs.Stands.{Stands}
 use Rattle.asm_state.specs.View.{StateView}
+use Rattle.asm_storage.specs.declared.call.Answer.{Answer}
+use Rattle.asm_storage.specs.declared.call.Answer.TheVariants as answer
 use Rattle.asm_storage.specs.declared.history.Event.{Event}
 use Rattle.asm_storage.specs.declared.history.History.{History}
 use Rattle.asm_journal.specs.Check.{machine, machine_of, moves_with}
@@ -61,9 +65,31 @@ event_with n e right updates =
     (member (codes "event") (number_json_of n) (member (codes "reply") (answer_json_of e.answer)
     (some_member (codes "right") right (some_member (codes "updates") updates no_members))))))
 
+-- whether a value that was answered is missing, or another than the right one
+abbrev pub is_other : Option Value → Option Value → Bool
+is_other (Some given) (Some right) = not (value_eq given right)
+is_other None (Some right) = true
+is_other given None = false
+
+-- whether the right value at a position was not answered
+abbrev pub is_other_at : List Value → List Value → ℕ → Bool
+is_other_at given right i = is_other (slice_get given i) (slice_get right i)
+
+-- the positions of the right values that were not answered, ascending
+abbrev pub differing_positions : List Value → List Value → List ℕ
+differing_positions given right = filter (is_other_at given right) (range_with_len 0 (length right))
+
+-- the right answer beside the given one: of two reads {"differs":[N, ..],"number":N}, the positions of the values that
+-- differ and the right number; else the whole right answer
+abbrev pub right_json_of : Answer → Answer → Data
+right_json_of (answer.Read n given) (answer.Read number right) =
+    two_of (codes "differs") (list_of (map number_json_of (differing_positions given right))) (codes "number") (number_json_of number)
+right_json_of given right = answer_json_of right
+
 -- the JSON of a note
 abbrev pub note_json_of : Note → Data
-note_json_of x = event_with x.number x.event (option_map answer_json_of x.right) (option_map changes_json_of x.changes)
+note_json_of x =
+    event_with x.number x.event (option_map (right_json_of x.event.answer) x.right) (option_map changes_json_of x.changes)
 
 -- ---- the text
 

@@ -64,6 +64,21 @@ pub(crate) fn added_and_removed(
     Ok(Json::Object(members))
 }
 
+/// An object with the members `differs` and `number` alone.
+pub(crate) fn differs_and_number(
+    alloc: Global,
+    differs: Json,
+    number: Json,
+) -> Result<Json, AllocError>
+    ensures { IfOk result (λ json. view json
+        ≡ two_of (codes "differs") (view differs) (codes "number") (view number)) }
+{
+    let mut members = Map::new(alloc);
+    serde_json::put(&mut members, alloc, "differs", differs)?;
+    serde_json::put(&mut members, alloc, "number", number)?;
+    Ok(Json::Object(members))
+}
+
 /// Puts a member into an object, if there is a value for it.
 pub(crate) fn put_some(
     alloc: Global,

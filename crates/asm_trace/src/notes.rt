@@ -1,5 +1,5 @@
 //! Events, judged and noted one by one.
-ghost use Rattle.std.specs.Prelude.{◌≡◌, ◌<◌, true, List, IfOk, OnOk, map, option_map, string_bytes};
+ghost use Rattle.std.specs.Prelude.{◌≡◌, ◌<◌, ◌++◌, ◌∷◌, [], true, List, IfOk, OnOk, filter, map, option_map, string_bytes};
 ghost use Rattle.serde_json.specs.View.{view};
 ghost use Rattle.asm_update.specs.State as plain;
 ghost use Rattle.asm_update.specs.Move.{Move};
@@ -8,13 +8,13 @@ ghost use Rattle.asm_state.specs.Stands.{Stands};
 ghost use Rattle.asm_storage.specs.Limits.{events_limit};
 ghost use Rattle.asm_storage.specs.Machine.{reply_to};
 ghost use Rattle.asm_journal.specs.Check.{machine, judged_reply, moves_with};
-ghost use Rattle.asm_journal.specs.Event.{answer_json_of};
+ghost use Rattle.asm_journal.specs.Shape.{list_of, number_json_of};
 ghost use Rattle.asm_trace.specs.Local.{IsLocal};
 ghost use Rattle.asm_trace.specs.Note.{IsJudged};
-ghost use Rattle.asm_trace.specs.Text.{event_with, IsNoted};
+ghost use Rattle.asm_trace.specs.Text.{differing_positions, event_with, is_other_at, right_json_of, IsNoted};
 
 use crate::changes::event_changes;
-use crate::json::put_some;
+use crate::json::{array_of, differs_and_number, put_some};
 use asm_element::{Items, Location, Value};
 use asm_journal::{ToJson, judge_event, push_line};
 use asm_state::{Objection, State};
@@ -120,12 +120,69 @@ fn other_answer<A: Aggregator>(
     Ok(Some(right))
 }
 
-/// The JSON of an answer, if there is one.
-fn some_answer_json(alloc: Global, answer: &Option<Answer>) -> Result<Option<Json>, AllocError>
-    ensures { IfOk result (λ o. option_map view o ≡ option_map answer_json_of answer.now) }
+/// Whether the right value at this position was not answered.
+fn differs_at(given: &[Value], right: &[Value], i: usize) -> bool
+    ensures { result ≡ is_other_at given.now right.now i }
 {
-    match answer {
-        Some(answer) => Ok(Some(answer.to_json(alloc)?)),
+    match (given.get(i), right.get(i)) {
+        (Some(given), Some(right)) => given != right,
+        (None, Some(_)) => true,
+        _ => false,
+    }
+}
+
+/// Adds the position, where the right value was not answered.
+fn push_other(
+    alloc: Global,
+    list: &mut Vec<Json>,
+    given: &[Value],
+    right: &[Value],
+    i: usize,
+) -> Result<(), AllocError>
+    ensures { OnOk result (map view list.new.items
+        ≡ map view list.old.items ++ map number_json_of (filter (is_other_at given.now right.now) (i ∷ []))) }
+{
+    if differs_at(given, right, i) {
+        list.push(Json::from(i as u64))?;
+    }
+    Ok(())
+}
+
+/// The JSON of the positions of the right values that were not answered.
+fn positions_json(alloc: Global, given: &[Value], right: &[Value]) -> Result<Json, AllocError>
+    ensures { IfOk result (λ json. view json
+        ≡ list_of (map number_json_of (differing_positions given.now right.now))) }
+{
+    let mut list = Vec::new(alloc);
+    for i in 0..right.len() {
+        push_other(alloc, &mut list, given, right, i)?;
+    }
+    Ok(array_of(list))
+}
+
+/// The JSON of the right answer beside the given one.
+fn right_json(alloc: Global, given: &Answer, right: &Answer) -> Result<Json, AllocError>
+    ensures { IfOk result (λ json. view json ≡ right_json_of given.now right.now) }
+{
+    match (given, right) {
+        (Answer::Read { values: given, .. }, Answer::Read { number, values }) => {
+            let positions = positions_json(alloc, given.as_slice(), values.as_slice())?;
+            differs_and_number(alloc, positions, Json::from(*number))
+        }
+        _ => right.to_json(alloc),
+    }
+}
+
+/// The JSON of the right answer beside the given one, if there is one.
+fn some_right_json(
+    alloc: Global,
+    given: &Answer,
+    right: &Option<Answer>,
+) -> Result<Option<Json>, AllocError>
+    ensures { IfOk result (λ o. option_map view o ≡ option_map (right_json_of given.now) right.now) }
+{
+    match right {
+        Some(right) => Ok(Some(right_json(alloc, given, right)?)),
         None => Ok(None),
     }
 }
@@ -140,9 +197,9 @@ fn note_json(
     changes: Option<Json>,
 ) -> Result<Json, AllocError>
     ensures { IfOk result (λ json. view json
-        ≡ event_with number event.now (option_map answer_json_of right.now) (option_map view changes)) }
+        ≡ event_with number event.now (option_map (right_json_of event.now.answer) right.now) (option_map view changes)) }
 {
-    let right = some_answer_json(alloc, right)?;
+    let right = some_right_json(alloc, &event.answer, right)?;
     let mut members = Map::new(alloc);
     serde_json::put(&mut members, alloc, "agent", Json::from(event.agent))?;
     serde_json::put(&mut members, alloc, "call", event.call.to_json(alloc)?)?;

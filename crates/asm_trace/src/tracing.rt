@@ -59,8 +59,9 @@ fn traced<A: Aggregator>(
 /// Writes what each event of a history did, as a trace of version 1: a header line, and for each event a line with its
 /// call and its reply. A fired move has each location that it writes, in ascending order, with what differs there: of a
 /// set the elements that come and those that go, of a bag the counts that differ, else the value before and the new one,
-/// which may be the same. Where a reply isn't the one that the storage of one thread gives there, the line has that reply
-/// too, as `right`.
+/// which may be the same. Where a reply isn't the one that a sequential storage gives there, the line has that reply too,
+/// as `right`; of a read it has the right number and the positions of the values that differ, so that a location that is
+/// read again and again doesn't have its value written as often.
 ///
 /// The history may be illegal: each move that it tells fired is fired, and one that clashes changes nothing. It must be
 /// within the limits of a journal, which `History::fits` tests. A move costs as much as the sets and bags have elements

@@ -3,9 +3,9 @@ use Rattle.std.proofs.lemmas.Result.{on_ok_weaker}
 use Rattle.serde_json.specs.View.{view}
 use Rattle.asm_state.specs.View.{value_at}
 use Rattle.asm_storage.specs.History.{move_of}
-use Rattle.asm_journal.specs.Event.{answer_json_of}
 use Rattle.asm_trace.specs.Change.{changes_of}
-use Rattle.asm_trace.proofs.Floats.{HasNoFloat, event_no_float, some_answer_no_float, some_changes_no_float}
+use Rattle.asm_trace.specs.Text.{right_json_of}
+use Rattle.asm_trace.proofs.Floats.{HasNoFloat, event_no_float, some_right_no_float, some_changes_no_float}
 use Rattle.asm_trace.proofs.Noted.{noted_step}
 use Rattle.asm_trace.proofs.notes.push_note.Goals as goal
 
@@ -16,7 +16,7 @@ push_line-requires g c =
     let told = c.in_ok-right.right in
     let changes = option_map view c.in_ok-changes.changes in
     let plain = subst HasNoFloat (sym c.in_ok-changes.ensures) (some_changes_no_float (option_map (changes_of part (value_at c.args.state.now)) (move_of e))) in
-    rw c.in_ok-json.ensures (event_no_float c.args.number e (option_map answer_json_of told) changes (some_answer_no_float told) plain)
+    rw c.in_ok-json.ensures (event_no_float c.args.number e (option_map (right_json_of e.answer) told) changes (some_right_no_float e.answer told) plain)
 
 pub returns : goal.returns
 returns g c =

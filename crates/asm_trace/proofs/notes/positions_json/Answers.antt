@@ -1,0 +1,26 @@
+use Rattle.std.proofs.Common.{◌≡◌, map, take, length, ap, refl, ◌∙◌}
+use Rattle.std.proofs.lemmas.List.{take_all}
+use Rattle.std.proofs.lemmas.List.FromFn.{length-range_with_len}
+use Rattle.std.specs.List.{filter, range_with_len}
+use Rattle.serde_json.specs.View.{view}
+use Rattle.asm_journal.specs.Shape.{list_of, number_json_of}
+use Rattle.asm_trace.specs.Text.{is_other_at}
+use Rattle.asm_trace.proofs.Differing.{positions_more}
+use Rattle.asm_trace.proofs.notes.positions_json.Goals as goal
+
+pub loop-i-init : goal.loop-i-init
+loop-i-init c = rw c.new-list.ensures.items refl
+
+pub loop-i-preserved : goal.loop-i-preserved
+loop-i-preserved c =
+    let l = c.loop-i in
+    positions_more number_json_of (is_other_at c.args.given.now c.args.right.now) l.i (length c.args.right.now) (map view l.list.items) (map view c.push_other.new.list.items)
+    c.loop-i-test.true l.invariant c.in_ok-push_other.ensures
+
+pub returns : goal.returns
+returns c =
+    let l = c.loop-i in
+    let xs = range_with_len 0 (length c.args.right.now) in
+    let all : take l.i xs ≡ xs = take_all l.i xs (rw (length-range_with_len 0 (length c.args.right.now)) c.loop-i-test.false) in
+    c.array_of.ensures
+    ∙ ap list_of (l.invariant ∙ ap (λ is. map number_json_of (filter (is_other_at c.args.given.now c.args.right.now) is)) all)
