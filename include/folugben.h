@@ -25,11 +25,12 @@
  *    asm_free(NULL) isn't allowed either.
  *  - Buffers. A buffer is at least `room` bytes long. The bytes passed, the buffer and the numbers
  *    that a call writes overlap neither one another nor a slot. No text has a zero byte at its end.
- *  - Storages. asm_learn takes two agents of one storage, and asm_give an agent of the storage. A
- *    step goes with agents of the storage that it began on; with one of another storage, what is got
- *    and committed has no meaning, and no code tells so.
- *    ASM_OTHER reports a mistake, except possibly while other threads are in asm_learn or asm_give
- *    on both storages. The behaviour is undefined where a mistake isn't reported.
+ *  - Storages. asm_learn and asm_take_state take two agents of one storage, and asm_give an agent of
+ *    the storage. A step goes with agents of the storage that it began on; with one of another
+ *    storage, what is got and committed has no meaning, and no code tells so.
+ *    ASM_OTHER reports a mistake, except possibly while other threads are in asm_learn,
+ *    asm_take_state or asm_give on both storages. The behaviour is undefined where a mistake isn't
+ *    reported.
  *  - Stack. A call without text took less than 16 KiB of its thread's stack, and one with texts up to
  *    84 KiB, that of a text which is nested as deep as any is read; both were measured. So a thread
  *    that makes calls with texts has 128 KiB or more.
@@ -241,11 +242,21 @@ FOLUGBEN_NODISCARD int32_t asm_answer(asm_slot *agent, uint8_t *out, size_t room
  * call. ASM_EMPTY (one of the slots), ASM_OTHER. */
 FOLUGBEN_NODISCARD int32_t asm_learn(asm_slot *agent, asm_slot *other);
 
+/* Takes in what the other agent of the same storage has seen, as asm_learn does, and exchanges the
+ * states of the two where the other's stands at more moves. For agents that one thread plays by turns:
+ * the one that is about to act calls it on the one that acted last, and then asm_begin or asm_read. So
+ * each move is followed about once, and not once for each agent. It polls nothing and takes no memory;
+ * the receipts and the counts of both are unchanged. A step of the other agent is ASM_MOVED while that
+ * agent's state stands at another number. Neither slot may be in another call. ASM_EMPTY (one of the
+ * slots, or they are one), ASM_OTHER. */
+FOLUGBEN_NODISCARD int32_t asm_take_state(asm_slot *agent, asm_slot *other);
+
 /* AN AGENT'S OWN STATE stands at one number of moves, and moves on only in asm_follow, asm_stands,
- * asm_begin, asm_read, asm_try_fire, asm_try_fire_over and asm_commit; a move that the agent fired
- * itself is taken in by its next look, as asm_follow makes one. What asm_peek, asm_state and asm_scan
- * tell is of that state: no look is made and no receipt. A later fire may name each location, and
- * rest on each function that was scanned, with the number that they tell. */
+ * asm_begin, asm_read, asm_try_fire, asm_try_fire_over and asm_commit; asm_take_state exchanges it.
+ * A move that the agent fired itself is taken in by its next look, as asm_follow makes one. What
+ * asm_peek, asm_state and asm_scan tell is of that state: no look is made and no receipt. A later fire
+ * may name each location, and rest on each function that was scanned, with the number that they
+ * tell. */
 
 /* Looks on until nothing more is found, and has the agent's own state follow: `*number` is then how
  * many moves it has seen. ASM_EMPTY, ASM_MEMORY. */
@@ -304,7 +315,8 @@ FOLUGBEN_NODISCARD int32_t asm_stands(asm_slot *agent, const uint8_t *reads, siz
  * function, however many locations it has. A location that is told by a scan alone isn't got.
  *
  * ASM_MOVED: the agent's own state has moved on since the step began, which is to be begun again; or
- * it is that of a second agent, which hasn't come so far and has to follow. */
+ * it is that of a second agent, which hasn't come so far and has to follow, as an agent has whose state
+ * another one took (asm_take_state). */
 
 /* Follows, and begins a step at `*number` moves, in a slot that is empty or holds a step, which is
  * dropped. ASM_TAKEN (`step` holds something else), ASM_EMPTY (`agent`), ASM_MEMORY. */
@@ -442,6 +454,13 @@ FOLUGBEN_NODISCARD int32_t asm_get_at(asm_slot *agent, asm_slot *step, asm_slot 
  * them is answered. */
 FOLUGBEN_NODISCARD int32_t asm_instruct(asm_slot *move, asm_slot *at, int32_t verb, int32_t kind,
     int64_t number, const uint8_t *bytes, size_t len, uint32_t amount);
+
+/* Appends the instructions of the other move to those of `move`: it is then the move that does what
+ * both do at once, as the agents of a block in parallel do. Instructions that occur in both count twice.
+ * An empty slot is the move of no instructions, so `move` holds a move afterwards. ASM_TAKEN (`move`
+ * holds something else), before all others; ASM_EMPTY (`other` holds something else, or the two slots
+ * are one); ASM_MANY (the two have more than 4,096 instructions together); ASM_MEMORY. */
+FOLUGBEN_NODISCARD int32_t asm_unite(asm_slot *move, asm_slot *other);
 
 /* As asm_push and asm_extend, with the move in a slot, which stays there until asm_free. ASM_EMPTY:
  * one of the slots; an empty one has no move, not one of no instructions. */

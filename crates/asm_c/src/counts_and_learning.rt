@@ -1,12 +1,13 @@
-//! What an agent has seen and counted, and what it learns from another.
+//! What an agent has seen and counted, and what it learns and takes from another.
 ghost use Rattle.std.specs.Prelude.{◌≡◌, ◌≢◌, ◌⊎◌, ◌∷◌, [], length};
 ghost use Rattle.asm_slots.specs.AgentCalls.{Learns};
 ghost use Rattle.asm_slots.specs.Codes.{IsOneOf, ASM_DONE, ASM_EMPTY, ASM_OTHER};
+ghost use Rattle.asm_slots.specs.OwnState.{TakesState};
 ghost use Rattle.asm_slots.specs.Slots.{AreOfOneStorage, HoldsNoAgent, IfHolds, content_of};
 
-use asm_slots::codes::{DONE, EMPTY, OTHER};
-use asm_slots::take_and_put::{put_agent, put_shell, take_agent, take_shell};
-use asm_slots::{Content, Slot, are_one};
+use asm_slots::codes::DONE;
+use asm_slots::take_and_put::{TwoAgents, put_agent, put_shell, take_agents, take_shell};
+use asm_slots::{Content, Slot};
 use std::alloc::Global;
 
 /// How many moves the agent has seen; 0 for a slot with no agent.
@@ -79,20 +80,47 @@ pub extern "C" fn asm_learn(alloc: Global, agent: &mut Slot, other: &mut Slot) -
     ensures empty { result ≡ ASM_EMPTY →
         HoldsNoAgent (content_of agent.old) ⊎ HoldsNoAgent (content_of other.old) }
 {
-    let Some((other_shell, theirs)) = take_agent(alloc, other) else {
-        return EMPTY;
+    let both = match take_agents(alloc, agent, other) {
+        Ok(both) => both,
+        Err(code) => return code,
     };
-    let Some((shell, inner)) = take_agent(alloc, agent) else {
-        put_agent(other, other_shell, theirs);
-        return EMPTY;
+    let (theirs, mark) = both.other.mark(alloc);
+    put_agent(other, both.other_shell, theirs);
+    put_agent(agent, both.shell, both.agent.learn(alloc, &mark));
+    DONE
+}
+
+/// Takes in what the other agent of the same storage has seen, and exchanges the states of the two where the other's
+/// stands at more moves.
+///
+/// So agents that one thread plays by turns follow each move about once: the one that is about to act takes the state of
+/// the one that acted last. It makes no look and takes no memory; receipts and counts stay as they were. A step at the
+/// number at which a state stood that was given away is `ASM_MOVED` until its agent's state stands there again.
+/// `ASM_EMPTY`: one of the slots has no agent, or the two are one. `ASM_OTHER`: the agents are of two storages. After each
+/// of these both slots are as they were. That the agents are of one storage is owed, as of `asm_learn`.
+#[unsafe(no_mangle)]
+pub extern "C" fn asm_take_state(alloc: Global, agent: &mut Slot, other: &mut Slot) -> i32
+    requires { AreOfOneStorage (content_of agent.old) (content_of other.old) }
+    ensures codes { IsOneOf (ASM_DONE ∷ ASM_EMPTY ∷ ASM_OTHER ∷ []) result }
+    ensures taken { result ≡ ASM_DONE → TakesState (content_of agent.old) (content_of other.old)
+        (content_of agent.new) (content_of other.new) }
+    ensures kept { result ≢ ASM_DONE → content_of agent.new ≡ content_of agent.old }
+    ensures theirs { result ≢ ASM_DONE → content_of other.new ≡ content_of other.old }
+    ensures empty { result ≡ ASM_EMPTY →
+        HoldsNoAgent (content_of agent.old) ⊎ HoldsNoAgent (content_of other.old) }
+{
+    let mut both = match take_agents(alloc, agent, other) {
+        Ok(both) => both,
+        Err(code) => return code,
     };
-    if !are_one(theirs.shared(), inner.shared()) {
-        put_agent(other, other_shell, theirs);
-        put_agent(agent, shell, inner);
-        return OTHER;
-    }
-    let (theirs, mark) = theirs.mark(alloc);
+    both.agent.take_state(&mut both.other);
+    let TwoAgents {
+        shell,
+        agent: inner,
+        other_shell,
+        other: theirs,
+    } = both;
     put_agent(other, other_shell, theirs);
-    put_agent(agent, shell, inner.learn(alloc, &mark));
+    put_agent(agent, shell, inner);
     DONE
 }

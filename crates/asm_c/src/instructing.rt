@@ -1,5 +1,5 @@
 //! Moves that are gathered in slots.
-ghost use Rattle.std.specs.Prelude.{◌≡◌, ◌≢◌, ◌↔◌, ◌∷◌, [], length};
+ghost use Rattle.std.specs.Prelude.{◌≡◌, ◌≢◌, ◌≤◌, ◌<◌, ◌+◌, ◌↔◌, ◌∷◌, ◌++◌, [], length};
 ghost use Rattle.asm_update.specs.Limits.{instructions_limit};
 ghost use Rattle.asm_explain.specs.Bytes.{IsNoJson};
 ghost use Rattle.asm_slots.specs.Codes.{IsOneOf, ASM_DONE, ASM_MEMORY, ASM_EMPTY, ASM_RANGE, ASM_MANY};
@@ -8,8 +8,8 @@ ghost use Rattle.asm_slots.specs.Kinds.{IsByJson, IsInstructed, IsMisshapen, IsN
 ghost use Rattle.asm_slots.specs.Slots.{HasRoomForMove, HoldsLocation, HoldsMove, HoldsNoLocation};
 ghost use Rattle.asm_slots.specs.Slots.{content_of, move_of};
 
-use asm_slots::codes::TAKEN;
-use asm_slots::instructing::{instruct_first, instruct_in};
+use asm_slots::codes::{EMPTY, TAKEN};
+use asm_slots::instructing::{instruct_first, instruct_in, unite_first, unite_in};
 use asm_slots::take_and_put::{put_shell, take_shell};
 use asm_slots::{Content, Slot};
 use std::alloc::Global;
@@ -55,6 +55,44 @@ pub extern "C" fn asm_instruct(
             instruct_in(alloc, gathered, at, verb, kind, number, bytes, amount)
         }
         _ => TAKEN,
+    };
+    put_shell(instrs, shell);
+    code
+}
+
+/// Puts the instructions of the move in the other slot behind those of the move in the first one, which then fires as both
+/// at once. An empty slot is the move of no instructions.
+///
+/// `ASM_TAKEN`: the first slot holds something else than a move. `ASM_EMPTY`: the second does, or the two are one.
+/// `ASM_MANY`: the two have more than 4,096 instructions. `ASM_MEMORY`. After each of these the first slot is as it was;
+/// the second one always is.
+#[unsafe(no_mangle)]
+pub extern "C" fn asm_unite(alloc: Global, instrs: &mut Slot, other: &mut Slot) -> i32
+    ensures codes { IsOneOf (ASM_DONE ∷ ASM_MEMORY ∷ ASM_EMPTY ∷ ASM_MANY ∷ ASM_TAKEN ∷ []) result }
+    ensures done { result ≡ ASM_DONE → HoldsMove (content_of instrs.new)
+        (λ united. united ≡ move_of (content_of instrs.old) ++ move_of (content_of other.old)) }
+    ensures taken { (result ≡ ASM_TAKEN) ↔ ¬ HasRoomForMove (content_of instrs.old) }
+    ensures empty { result ≡ ASM_EMPTY → ¬ HasRoomForMove (content_of other.old) }
+    ensures room { IsOneOf (ASM_DONE ∷ ASM_MEMORY ∷ ASM_MANY ∷ []) result → HasRoomForMove (content_of other.old) }
+    ensures many { result ≡ ASM_MANY →
+        instructions_limit < length (move_of (content_of instrs.old)) + length (move_of (content_of other.old)) }
+    ensures few { IsOneOf (ASM_DONE ∷ ASM_MEMORY ∷ []) result →
+        length (move_of (content_of instrs.old)) + length (move_of (content_of other.old)) ≤ instructions_limit }
+    ensures kept { result ≢ ASM_DONE → content_of instrs.new ≡ content_of instrs.old }
+    ensures held { content_of other.new ≡ content_of other.old }
+{
+    let was_full = other.is_full();
+    let Some(mut shell) = take_shell(alloc, instrs) else {
+        return unite_first(alloc, instrs, other);
+    };
+    // A slot that C passes twice is empty now.
+    let code = if other.is_full() != was_full {
+        EMPTY
+    } else {
+        match &mut *shell {
+            Content::Move(gathered) => unite_in(alloc, gathered, other),
+            _ => TAKEN,
+        }
     };
     put_shell(instrs, shell);
     code

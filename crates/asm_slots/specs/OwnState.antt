@@ -1,5 +1,5 @@
 -- What an agent's own state tells, which stands at one number of the moves that the agent has seen.
-use Rattle.std.specs.Prelude.{◌≡◌, ◌≤◌, if◌then◌else◌, nat_eq, ℕ, ℤ, List, length, map, take, Some, None}
+use Rattle.std.specs.Prelude.{◌≡◌, ◌≤◌, if◌then◌else◌, nat_eq, ℕ, ℤ, List, length, map, take, Option, Some, None}
 use Rattle.std.specs.Cmp.Lexicographic.{pointwise}
 use Rattle.serde_json.specs.Written.{compact_text}
 use Rattle.asm_element.specs.Place.{Place}
@@ -10,6 +10,7 @@ use Rattle.asm_state.specs.declared.named.Named.{Named}
 use Rattle.asm_storage.specs.Agents.{moves_seen}
 use Rattle.asm_storage.specs.Calls.{IsStaleRead}
 use Rattle.asm_storage.specs.Storage.{AgentAt, last_look, Missed}
+use Rattle.asm_storage.specs.Taken.{HasTaken}
 use Rattle.asm_storage.specs.declared.call.Answer.TheVariants as answer
 use Rattle.asm_storage.specs.declared.call.Reply.TheVariants as reply
 use Rattle.asm_journal.specs.Event.{answer_json_of, reply_json_of}
@@ -17,7 +18,10 @@ use Rattle.asm_journal.specs.Text.{state_json_of}
 use Rattle.asm_slots.specs.Bytes.{ReadAsLocations, ReadAsReads}
 use Rattle.asm_slots.specs.AgentCalls.{HasLooked}
 use Rattle.asm_slots.specs.Kinds.{IsTold, bytes_of}
+use Rattle.asm_slots.specs.Slots.{Holds}
 use Rattle.asm_slots.specs.Standard.{Standard, meaning, part}
+use Rattle.asm_slots.specs.declared.content.Content.{Content}
+use Rattle.asm_slots.specs.declared.content.Content.TheVariants as content
 
 -- the state that the first so many moves leave, of those that the agent has seen
 abbrev pub state_at : AgentAt Standard → ℕ → State
@@ -84,3 +88,8 @@ abbrev pub IsStaleOf : List ℕ → AgentAt Standard → List ℕ → Type 0
 IsStaleOf bytes a text =
     (reads : List Named) × (l : Place) × ReadAsReads bytes reads × IsStaleRead meaning a reads (Some l)
     × IsStaleText l text
+
+-- the one agent has learnt what the other has seen, and the two have exchanged their states where that of the other was ahead
+abbrev pub TakesState : Option Content → Option Content → Option Content → Option Content → Type 0
+TakesState (Some (content.Agent a)) (Some (content.Agent b)) new left = Holds new (λ c. Holds left (HasTaken a b c))
+TakesState _ _ new left = ⊥

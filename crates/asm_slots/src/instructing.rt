@@ -1,12 +1,12 @@
 //! Moves that are gathered in slots, instruction by instruction.
-ghost use Rattle.std.specs.Prelude.{◌≡◌, ◌≢◌, ◌∷◌, ◌++◌, [], OnErr, OnOk, Some, length};
+ghost use Rattle.std.specs.Prelude.{◌≡◌, ◌≢◌, ◌↔◌, ◌<◌, ◌+◌, ◌∷◌, ◌++◌, [], OnErr, OnOk, Some, length};
 ghost use Rattle.asm_update.specs.Limits.{instructions_limit};
 ghost use Rattle.asm_slots.specs.Codes.{IsOneOf, ASM_DONE, ASM_MEMORY, ASM_EMPTY, ASM_RANGE, ASM_MANY};
 ghost use Rattle.asm_explain.specs.Bytes.{IsNoJson};
 ghost use Rattle.asm_slots.specs.Codes.{ASM_NOT_JSON, ASM_SHAPE};
 ghost use Rattle.asm_slots.specs.Kinds.{IsByJson, IsInstructed, IsMisshapen, IsNoAction};
-ghost use Rattle.asm_slots.specs.Slots.{HoldsLocation, HoldsMove, HoldsNoLocation};
-ghost use Rattle.asm_slots.specs.Slots.{content_of};
+ghost use Rattle.asm_slots.specs.Slots.{HasRoomForMove, HoldsLocation, HoldsMove, HoldsNoLocation};
+ghost use Rattle.asm_slots.specs.Slots.{content_of, move_of};
 ghost use Rattle.asm_slots.specs.declared.content.Content.TheVariants as content;
 
 use crate::codes::{DONE, EMPTY, MANY, MEMORY};
@@ -135,4 +135,65 @@ pub fn instruct_first(
         Ok(()) => DONE,
         Err(AllocError) => MEMORY,
     }
+}
+
+// Puts the instructions of the other move behind those of the move.
+fn append_all(gathered: &mut Instructions, other: &Instructions) -> i32
+    ensures codes { IsOneOf (ASM_DONE ∷ ASM_MEMORY ∷ ASM_MANY ∷ []) result }
+    ensures done { result ≡ ASM_DONE → gathered.new ≡ gathered.old ++ other.now }
+    ensures many { (result ≡ ASM_MANY) ↔ (instructions_limit < length gathered.old + length other.now) }
+    ensures kept { result ≢ ASM_DONE → gathered.new ≡ gathered.old }
+{
+    match gathered.append(other) {
+        Ok(()) => DONE,
+        Err(InstructionsError::ManyInstructions) => MANY,
+        Err(InstructionsError::Memory) => MEMORY,
+    }
+}
+
+/// Puts the instructions of the move in the other slot behind those of the move; an empty slot has none.
+pub fn unite_in(alloc: Global, gathered: &mut Instructions, other: &mut Slot) -> i32
+    ensures codes { IsOneOf (ASM_DONE ∷ ASM_MEMORY ∷ ASM_EMPTY ∷ ASM_MANY ∷ []) result }
+    ensures done { result ≡ ASM_DONE → gathered.new ≡ gathered.old ++ move_of (content_of other.old) }
+    ensures empty { (result ≡ ASM_EMPTY) ↔ ¬ HasRoomForMove (content_of other.old) }
+    ensures many { (result ≡ ASM_MANY) ↔
+        (instructions_limit < length gathered.old + length (move_of (content_of other.old))) }
+    ensures kept { result ≢ ASM_DONE → gathered.new ≡ gathered.old }
+    ensures held { content_of other.new ≡ content_of other.old }
+{
+    let Some(shell) = take_shell(alloc, other) else {
+        return DONE;
+    };
+    let code = match &*shell {
+        Content::Move(added) => append_all(gathered, added),
+        _ => EMPTY,
+    };
+    put_shell(other, shell);
+    code
+}
+
+/// Puts a copy of the move in the other slot into an empty slot, or the move of no instructions where the other is empty too.
+pub fn unite_first(alloc: Global, instrs: &mut Slot, other: &mut Slot) -> i32
+    ensures codes { IsOneOf (ASM_DONE ∷ ASM_MEMORY ∷ ASM_EMPTY ∷ []) result }
+    ensures done { result ≡ ASM_DONE →
+        HoldsMove (content_of instrs.new) (λ united. united ≡ move_of (content_of other.old)) }
+    ensures empty { (result ≡ ASM_EMPTY) ↔ ¬ HasRoomForMove (content_of other.old) }
+    ensures kept { result ≢ ASM_DONE → content_of instrs.new ≡ content_of instrs.old }
+    ensures held { content_of other.new ≡ content_of other.old }
+{
+    let mut gathered = Instructions::new(alloc);
+    let code = unite_in(alloc, &mut gathered, other);
+    if code != DONE {
+        return code;
+    }
+    let was_full = other.is_full();
+    if let Err(AllocError) = hold(alloc, instrs, gathered) {
+        return MEMORY;
+    }
+    // An empty slot that C passes twice is full now.
+    if other.is_full() != was_full {
+        *instrs = Slot::empty(alloc);
+        return EMPTY;
+    }
+    DONE
 }

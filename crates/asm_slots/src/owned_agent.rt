@@ -13,6 +13,7 @@ ghost use Rattle.asm_storage.specs.Part.{IsFollowing};
 ghost use Rattle.asm_storage.specs.Storage.{at_start, last_look, machine_of, IsSameAgent, Missed};
 ghost use Rattle.asm_storage.specs.Calls.{HasLookedFor, IsReplied, IsBusy, IsCoherentReply, IsRead};
 ghost use Rattle.asm_storage.specs.Calls.{IsStaleRead, MadeOffers};
+ghost use Rattle.asm_storage.specs.Taken.{HasTaken};
 ghost use Rattle.asm_slots.specs.Standard.{meaning};
 ghost use Rattle.asm_slots.specs.FireOver.{is_any_over};
 ghost use Rattle.asm_slots.specs.NumbersAhead.{is_any_above};
@@ -270,6 +271,14 @@ impl OwnedAgent {
         agent.learn(alloc, mark).unwrap();
         let part = agent.into_part();
         OwnedAgent { shared, part }
+    }
+
+    /// Learns what another agent of the storage has seen, and exchanges the states of the two where the other's is ahead.
+    pub fn take_state(&mut self, other: &mut OwnedAgent)
+        requires { other.old.storage ≡ self.old.storage }
+        ensures { HasTaken self.old other.old self.new other.new }
+    {
+        self.part.take_state(&self.shared.storage, &mut other.part);
     }
 
     /// The text of the answer to its last answered call.

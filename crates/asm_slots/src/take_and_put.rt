@@ -1,13 +1,16 @@
 //! Taking what slots hold out of them, in its box or out of it, and putting it back.
-ghost use Rattle.std.specs.Prelude.{◌≡◌, IfNone, IfSome, None, Some};
+ghost use Rattle.std.specs.Prelude.{◌≡◌, ◌⊎◌, ◌∷◌, [], IfErr, IfNone, IfOk, IfSome, None, OnErr, Some};
 ghost use denote.Param.Send.{IsSend};
-ghost use Rattle.asm_slots.specs.Slots.{HoldsNoAgent, HoldsNoAudit, HoldsNoStore, LacksOne, content_of};
+ghost use Rattle.asm_slots.specs.Codes.{IsOneOf, ASM_EMPTY, ASM_OTHER};
+ghost use Rattle.asm_slots.specs.Slots.{AreOfOneStorage, HoldsNoAgent, HoldsNoAudit, HoldsNoStore, LacksOne, content_of};
 ghost use Rattle.asm_slots.specs.contracts.content.Content.{the_row as content_row};
 ghost use Rattle.asm_slots.specs.declared.content.Content.TheVariants as content;
 
 use crate::audit::Audit;
+use crate::codes::{EMPTY, OTHER};
 use crate::content::Content;
 use crate::owned_agent::OwnedAgent;
+use crate::shared::are_one;
 use crate::slot::Slot;
 use crate::store::Store;
 use std::alloc::Global;
@@ -84,6 +87,47 @@ pub fn put_agent(slot: &mut Slot, mut shell: Box<Content>, agent: OwnedAgent)
 {
     *shell = Content::Agent(agent);
     put_shell(slot, shell);
+}
+
+/// Two agents of one storage and their boxes, taken out of their slots.
+#[derive(Drop)]
+pub struct TwoAgents {
+    pub shell: Box<Content>,
+    pub agent: OwnedAgent,
+    pub other_shell: Box<Content>,
+    pub other: OwnedAgent,
+}
+
+/// The agents of two slots and their boxes, taken out of them.
+pub fn take_agents(alloc: Global, agent: &mut Slot, other: &mut Slot) -> Result<TwoAgents, i32>
+    requires { AreOfOneStorage (content_of agent.old) (content_of other.old) }
+    ensures agent { IfOk result (λ both. content_of agent.old ≡ Some (content.Agent both.agent)) }
+    ensures other { IfOk result (λ both. content_of other.old ≡ Some (content.Agent both.other)) }
+    ensures one { IfOk result (λ both. both.agent.storage ≡ both.other.storage) }
+    ensures codes { IfErr result (IsOneOf (ASM_EMPTY ∷ ASM_OTHER ∷ [])) }
+    ensures kept { OnErr result (content_of agent.new ≡ content_of agent.old) }
+    ensures theirs { OnErr result (content_of other.new ≡ content_of other.old) }
+    ensures empty { IfErr result (λ code. code ≡ ASM_EMPTY →
+        HoldsNoAgent (content_of agent.old) ⊎ HoldsNoAgent (content_of other.old)) }
+{
+    let Some((other_shell, theirs)) = take_agent(alloc, other) else {
+        return Err(EMPTY);
+    };
+    let Some((shell, inner)) = take_agent(alloc, agent) else {
+        put_agent(other, other_shell, theirs);
+        return Err(EMPTY);
+    };
+    if !are_one(theirs.shared(), inner.shared()) {
+        put_agent(other, other_shell, theirs);
+        put_agent(agent, shell, inner);
+        return Err(OTHER);
+    }
+    Ok(TwoAgents {
+        shell,
+        agent: inner,
+        other_shell,
+        other: theirs,
+    })
 }
 
 /// The storage of the slot and its box, taken out of it.
