@@ -85,14 +85,11 @@ pub extern "C" fn asm_unite(alloc: Global, instrs: &mut Slot, other: &mut Slot) 
     let Some(mut shell) = take_shell(alloc, instrs) else {
         return unite_first(alloc, instrs, other);
     };
-    // A slot that C passes twice is empty now.
-    let code = if other.is_full() != was_full {
-        EMPTY
-    } else {
-        match &mut *shell {
-            Content::Move(gathered) => unite_in(alloc, gathered, other),
-            _ => TAKEN,
-        }
+    let code = match &mut *shell {
+        // A slot that C passes twice is empty now.
+        Content::Move(_) if other.is_full() != was_full => EMPTY,
+        Content::Move(gathered) => unite_in(alloc, gathered, other),
+        _ => TAKEN,
     };
     put_shell(instrs, shell);
     code
