@@ -214,10 +214,7 @@ static void answers(unsigned at) {
 }
 
 static void learns(unsigned at, unsigned from) {
-    int32_t wanted = at == from || accounts[at].kind != AGENT || accounts[from].kind != AGENT
-                         ? ASM_EMPTY
-                     : accounts[at].storage != accounts[from].storage ? ASM_OTHER
-                                                                      : ASM_DONE;
+    int32_t wanted = code_of_two(at, from);
     REQUIRE(asm_learn(&slots[at], &slots[from]) == wanted);
     REQUIRE(wanted != ASM_DONE || asm_seen(&slots[at]) >= asm_seen(&slots[from]));
 }

@@ -25,9 +25,10 @@ typedef struct world {
 } world;
 
 /* What a move that is gathered does: how often it raises x, whether it puts y, which values it puts
- * at v, by their bits, and whether it adds 1 to s and removes 2 from it. */
+ * at v, by their bits, and whether it adds 1 to s and removes 2 from it. It has at most so many
+ * instructions. */
 typedef struct gathered {
-    unsigned raises, values;
+    unsigned raises, values, size;
     bool puts, adds, removes;
 } gathered;
 
@@ -157,6 +158,9 @@ bool have_meaning(unsigned at, unsigned of_step);
 
 /* A slot with a step of the agent's storage, if there is one; at times the slot itself. */
 unsigned fitting(unsigned at, unsigned of_step);
+
+/* The code of a call with two agents of one storage. */
+int32_t code_of_two(unsigned at, unsigned from);
 
 /* Releases what the slot holds. */
 void frees(unsigned at);

@@ -148,11 +148,53 @@ static void instructs(unsigned at, unsigned of_place) {
     if (wanted != ASM_DONE)
         return;
     m->kind = MOVE;
+    m->move.size++;
     m->move.raises += l->place == X_PLACE;
     m->move.puts |= l->place == Y_PLACE;
     m->move.values |= (l->place == V_PLACE) << instructions[i].value;
     m->move.adds |= instructions[i].verb == ASM_ADD;
     m->move.removes |= instructions[i].verb == ASM_REMOVE;
+}
+
+/* Appends the other move, unless the two are large. */
+static void unites(unsigned at, unsigned from) {
+    account *m = &accounts[at];
+    const account *other = &accounts[from];
+    bool has_room = m->kind == NOTHING || m->kind == MOVE;
+    bool has_move = other->kind == NOTHING || other->kind == MOVE;
+    int32_t wanted = !has_room ? ASM_TAKEN : !has_move || at == from ? ASM_EMPTY : ASM_DONE;
+    if (wanted == ASM_DONE && m->move.size + other->move.size > 64)
+        return;
+    REQUIRE(asm_unite(&slots[at], &slots[from]) == wanted);
+    if (wanted != ASM_DONE)
+        return;
+    m->kind = MOVE;
+    m->move.size += other->move.size;
+    m->move.raises += other->move.raises;
+    m->move.values |= other->move.values;
+    m->move.puts |= other->move.puts;
+    m->move.adds |= other->move.adds;
+    m->move.removes |= other->move.removes;
+}
+
+int32_t code_of_two(unsigned at, unsigned from) {
+    const account *a = &accounts[at], *b = &accounts[from];
+    return at == from || a->kind != AGENT || b->kind != AGENT ? ASM_EMPTY
+           : a->storage != b->storage                        ? ASM_OTHER
+                                                              : ASM_DONE;
+}
+
+/* The one agent takes the other's state where that stands at more moves. */
+static void takes_state(unsigned at, unsigned from) {
+    account *a = &accounts[at], *b = &accounts[from];
+    int32_t wanted = code_of_two(at, from);
+    unsigned stood = a->stood;
+    REQUIRE(asm_take_state(&slots[at], &slots[from]) == wanted);
+    if (wanted != ASM_DONE || b->stood <= stood)
+        return;
+    a->stood = b->stood;
+    b->stood = stood;
+    REQUIRE(asm_seen(&slots[at]) >= a->stood);
 }
 
 /* Does the move on what is seen: the text of a clash, if there is one. */
@@ -177,6 +219,7 @@ static const char *is_done(const gathered *move, layer *on) {
     on->changing += changes;
     on->adds |= move->adds;
     on->removes |= move->removes;
+    on->own.size += move->size;
     on->own.raises += move->raises;
     on->own.puts |= move->puts;
     on->own.values = move->values ? move->values : on->own.values;
@@ -247,7 +290,13 @@ void calls_any_plain(unsigned at, unsigned other) {
     unsigned of_step = fitting(at, other);
     at = below(4) ? some(AGENT, at) : at;
     of_step = below(4) ? fitting(at, of_step) : of_step;
-    switch (below(9)) {
+    switch (below(11)) {
+    case 10:
+        unites(some(MOVE, other), below(2) ? other : some(MOVE, at));
+        break;
+    case 9:
+        takes_state(at, some(AGENT, other));
+        break;
     case 8:
         pops_into(of_step, below(2) ? other : some(MOVE, other));
         break;

@@ -191,6 +191,7 @@ static void grows(unsigned at, unsigned of_step, bool is_push) {
             next.own = (gathered){0};
         next.own.raises += t->does == RAISE_X;
         next.own.puts |= t->does == PUT_Y;
+        next.own.size += t->does != NO_CHANGE;
         next.raises += t->does == RAISE_X;
         next.raising += t->does == RAISE_X;
         next.puts |= t->does == PUT_Y;

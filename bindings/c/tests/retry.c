@@ -74,7 +74,9 @@ static void play(void) {
     REQUIRE(AGAIN(asm_try_fire(&agents[1], TEXT(move), &numbers)) == ASM_STALE);
     REQUIRE(numbers.fired == 0 && asm_won(&agents[1]) == 0);
     REQUIRE(answers(&agents[1], "{'stale':['x']}"));
-    REQUIRE(AGAIN(asm_learn(&agents[2], &agents[0])) == ASM_DONE);
+    /* Neither asks for memory. */
+    REQUIRE(asm_learn(&agents[2], &agents[0]) == ASM_DONE);
+    REQUIRE(asm_take_state(&agents[2], &agents[1]) == ASM_DONE);
     REQUIRE(AGAIN(asm_read(&agents[2], TEXT(locations))) == ASM_DONE);
     REQUIRE(answers(&agents[2], "{'number':1,'values':[8,{'set':[1,3,'two']}]}"));
 }
@@ -175,6 +177,40 @@ static void instruct(asm_slot *place, int32_t verb, int32_t kind, int64_t number
     REQUIRE(last_code == ASM_DONE && move.full);
 }
 
+/* Appends the move to another, which is as it was where there was no memory, and has both then. */
+static void unite(asm_slot *of) {
+    asm_slot was = *of;
+    if (again(asm_unite(of, &move))) {
+        REQUIRE(is_same(*of, was));
+        last_code = asm_unite(of, &move);
+    }
+    REQUIRE(last_code == ASM_DONE && of->full);
+}
+
+/* A move is united with itself by a copy, and with one that has grown; and none with none. */
+static void run_united(void) {
+    uint8_t out[ROOM];
+    size_t written;
+    asm_slot both = {0}, none = {0};
+    instruct(&at[0], ASM_INC, ASM_KIND_NUM, 2, "");
+    unite(&both);
+    unite(&both);
+    instruct(&at[1], ASM_PUT, ASM_KIND_TEXT, 0, "text");
+    unite(&both);
+    REQUIRE(ON_STEP(asm_push_move(&agents[0], &step, &both, out, sizeof out, &written)) ==
+            ASM_DONE);
+    depth = 1;
+    seen = "{'number':1,'values':[14,{'set':[1,3,'two']}]}";
+    is_as_it_was();
+    REQUIRE(AGAIN(asm_pop(&step)) == ASM_DONE);
+    depth = 0;
+    seen = "{'number':1,'values':[8,{'set':[1,3,'two']}]}";
+    asm_free(&move);
+    unite(&none);
+    asm_free(&none);
+    asm_free(&both);
+}
+
 /* Pops what was pushed last into the move; both are as they were where there was no memory. */
 static void pop_move(const char *left) {
     asm_slot was = move;
@@ -227,8 +263,9 @@ static void run_plain(void) {
     REQUIRE(AGAIN(asm_peek_at(&agents[0], &at[0], &number, &value, out, sizeof out, &written)) ==
             ASM_DONE);
     REQUIRE(number == 1 && value.kind == ASM_KIND_NUM && value.number == 8);
-    asm_free(&step);
     asm_free(&move);
+    run_united();
+    asm_free(&step);
     asm_free(&at[0]);
     asm_free(&at[1]);
 }

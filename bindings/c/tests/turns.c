@@ -10,12 +10,12 @@ static asm_slot storage, agents[AGENTS], steps[AGENTS], at[PLACES], move;
 
 /* What the model knows: the values that each number of moves leaves, and the last move that wrote
  * each location; how many moves an agent has seen and fired, at which number its state stands, and
- * at which its step began, if it has one. */
+ * at which its step began, if it has one, and what that has got. */
 static int64_t values[MOVES + 1][PLACES];
 static uint32_t moves, written_at[PLACES], answered;
 static struct view {
     uint32_t seen, won, stood, begun;
-    bool has_step;
+    bool has_step, has_got[PLACES];
 } views[AGENTS];
 
 static void begin_all(void) {
@@ -92,16 +92,18 @@ static void begins(size_t agent) {
     REQUIRE(asm_begin(&agents[agent], &steps[agent], &number) == ASM_DONE && number == moves);
     a->seen = a->stood = a->begun = moves;
     a->has_step = true;
+    memset(a->has_got, 0, sizeof a->has_got);
     is_as_modelled(agent);
 }
 
 /* What the step sees at the location, or that the agent's state stands elsewhere. */
 static bool sees(size_t agent, size_t place, asm_value *value) {
-    const struct view *a = &views[agent];
+    struct view *a = &views[agent];
     size_t written;
     int32_t code = asm_get_at(&agents[agent], &steps[agent], &at[place], value, NULL, 0, &written);
     REQUIRE(code == (a->stood == a->begun ? ASM_DONE : ASM_MOVED));
     REQUIRE(code == ASM_MOVED || value->number == values[a->begun][place]);
+    a->has_got[place] |= code == ASM_DONE;
     return code == ASM_DONE;
 }
 
@@ -124,7 +126,7 @@ static void is_answered(size_t agent) {
     is_as_modelled(agent);
 }
 
-/* The step fires what it got at the location and one more, unless that was written since. */
+/* The step fires what it got at the location and one more, unless what it got was written since. */
 static void commits(size_t agent, size_t place) {
     asm_value value = {9, 9};
     asm_numbers numbers;
@@ -135,7 +137,9 @@ static void commits(size_t agent, size_t place) {
             ASM_DONE);
     REQUIRE(asm_push_move(&agents[agent], &steps[agent], &move, NULL, 0, &written) == ASM_DONE);
     asm_free(&move);
-    bool is_stale = written_at[place] > views[agent].begun;
+    bool is_stale = false;
+    for (size_t i = 0; i < PLACES; i++)
+        is_stale |= views[agent].has_got[i] && written_at[i] > views[agent].begun;
     REQUIRE(asm_commit(&agents[agent], &steps[agent], &numbers) ==
             (is_stale ? ASM_STALE : ASM_DONE));
     if (!is_stale)

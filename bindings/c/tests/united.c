@@ -42,7 +42,10 @@ static void both_are_done(void) {
     gets(T, ASM_KIND_NUM, 5, "");
     /* The other is its own move still, and grows alone. */
     also(X, ASM_INC, 100);
-    REQUIRE(asm_push_move(&agents[0], &step, &other, NULL, 0, &(size_t){0}) == ASM_CLASH);
+    REQUIRE(grows(true) == ASM_DONE);
+    gets(X, ASM_KIND_NUM, 51, "");
+    ANSWERS(ASM_DONE, asm_push_move(&agents[0], &step, &other, OUT));
+    gets(X, ASM_KIND_NUM, 172, "");
     end_both();
 }
 
