@@ -76,8 +76,6 @@ pub extern "C" fn asm_unite(alloc: Global, instrs: &mut Slot, other: &mut Slot) 
     ensures room { IsOneOf (ASM_DONE ∷ ASM_MEMORY ∷ ASM_MANY ∷ []) result → HasRoomForMove (content_of other.old) }
     ensures many { result ≡ ASM_MANY →
         instructions_limit < length (move_of (content_of instrs.old)) + length (move_of (content_of other.old)) }
-    ensures few { IsOneOf (ASM_DONE ∷ ASM_MEMORY ∷ []) result →
-        length (move_of (content_of instrs.old)) + length (move_of (content_of other.old)) ≤ instructions_limit }
     ensures kept { result ≢ ASM_DONE → content_of instrs.new ≡ content_of instrs.old }
     ensures held { content_of other.new ≡ content_of other.old }
 {

@@ -1,5 +1,5 @@
 -- What the calls of an agent's part do is done by the agent of its owner.
-use Rattle.std.proofs.Common.{◌≡◌, [], List, Result, Ok, Err, IfOk, subst, sym}
+use Rattle.std.proofs.Common.{◌≡◌, [], List, Result, Ok, Err, IfOk, subst, sym, ap, ◌∙◌}
 use Rattle.asm_update.specs.Move.{Move}
 use Rattle.asm_state.specs.declared.named.Named.{Named}
 use Rattle.asm_state.specs.declared.scanned.Scanned.{Scanned}
@@ -17,6 +17,14 @@ use Rattle.asm_slots.specs.declared.shared.Shared.{Shared}
 -- a part of what is shared is one of what is lent of it
 pub lent : (x y : Shared) (p : AgentPart) → y ≡ x → IsPartOf meaning x.storage p → IsPartOf meaning y.storage p
 lent x y p same is = subst (λ (z : Shared). IsPartOf meaning z.storage p) (sym same) is
+
+-- and so is a part of another share of the same storage
+pub lent_other : (x y z : Shared) (mine theirs : AgentPart) (a b : AgentAt Standard) → y ≡ x → agent_of x.storage mine ≡ a →
+    agent_of z.storage theirs ≡ b → b.storage ≡ a.storage → IsPartOf meaning z.storage theirs → IsPartOf meaning y.storage theirs
+lent_other x y z mine theirs a b same is_mine is_theirs one is =
+    let storage : AgentAt Standard → StorageView Standard = λ v. v.storage in
+    subst (λ (s : StorageView Standard). IsPartOf meaning s theirs)
+    (ap storage is_theirs ∙ one ∙ sym (ap storage is_mine) ∙ ap (λ (v : Shared). v.storage) (sym same)) is
 
 -- a fire of the part, on the storage of which its owner has a share
 pub part_fires_over : (s t : StorageView Standard) (old new : AgentPart) (a : AgentAt Standard) (reads : List Named)

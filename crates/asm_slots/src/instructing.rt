@@ -1,5 +1,5 @@
 //! Moves that are gathered in slots, instruction by instruction.
-ghost use Rattle.std.specs.Prelude.{◌≡◌, ◌≢◌, ◌↔◌, ◌<◌, ◌+◌, ◌∷◌, ◌++◌, [], OnErr, OnOk, Some, length};
+ghost use Rattle.std.specs.Prelude.{◌≡◌, ◌≢◌, ◌↔◌, ◌≤◌, ◌<◌, ◌+◌, ◌∷◌, ◌++◌, [], OnErr, OnOk, Some, length};
 ghost use Rattle.asm_update.specs.Limits.{instructions_limit};
 ghost use Rattle.asm_slots.specs.Codes.{IsOneOf, ASM_DONE, ASM_MEMORY, ASM_EMPTY, ASM_RANGE, ASM_MANY};
 ghost use Rattle.asm_explain.specs.Bytes.{IsNoJson};
@@ -156,8 +156,10 @@ pub fn unite_in(alloc: Global, gathered: &mut Instructions, other: &mut Slot) ->
     ensures codes { IsOneOf (ASM_DONE ∷ ASM_MEMORY ∷ ASM_EMPTY ∷ ASM_MANY ∷ []) result }
     ensures done { result ≡ ASM_DONE → gathered.new ≡ gathered.old ++ move_of (content_of other.old) }
     ensures empty { (result ≡ ASM_EMPTY) ↔ ¬ HasRoomForMove (content_of other.old) }
-    ensures many { (result ≡ ASM_MANY) ↔
-        (instructions_limit < length gathered.old + length (move_of (content_of other.old))) }
+    ensures many { result ≡ ASM_MANY →
+        instructions_limit < length gathered.old + length (move_of (content_of other.old)) }
+    ensures few { result ≡ ASM_MEMORY →
+        length gathered.old + length (move_of (content_of other.old)) ≤ instructions_limit }
     ensures kept { result ≢ ASM_DONE → gathered.new ≡ gathered.old }
     ensures held { content_of other.new ≡ content_of other.old }
 {
@@ -174,10 +176,11 @@ pub fn unite_in(alloc: Global, gathered: &mut Instructions, other: &mut Slot) ->
 
 /// Puts a copy of the move in the other slot into an empty slot, or the move of no instructions where the other is empty too.
 pub fn unite_first(alloc: Global, instrs: &mut Slot, other: &mut Slot) -> i32
-    ensures codes { IsOneOf (ASM_DONE ∷ ASM_MEMORY ∷ ASM_EMPTY ∷ []) result }
+    ensures codes { IsOneOf (ASM_DONE ∷ ASM_MEMORY ∷ ASM_EMPTY ∷ ASM_MANY ∷ []) result }
     ensures done { result ≡ ASM_DONE →
         HoldsMove (content_of instrs.new) (λ united. united ≡ move_of (content_of other.old)) }
     ensures empty { (result ≡ ASM_EMPTY) ↔ ¬ HasRoomForMove (content_of other.old) }
+    ensures many { result ≡ ASM_MANY → instructions_limit < length (move_of (content_of other.old)) }
     ensures kept { result ≢ ASM_DONE → content_of instrs.new ≡ content_of instrs.old }
     ensures held { content_of other.new ≡ content_of other.old }
 {
